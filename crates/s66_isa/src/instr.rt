@@ -1,0 +1,299 @@
+ghost use Rattle.std.specs.Prelude.{◌≡◌, ◌+◌, ◌<◌, ◌≤◌, ◌++◌, [], ◌∷◌, ℕ, map};
+ghost use Rattle.arrayvec.specs.ArrayVec.{array_vec_len};
+ghost use Rattle.s66_isa.specs.Table.{joined, same_kind, memory_pair};
+
+use crate::profile::Profile;
+use crate::reg::{Bank, Reg, has_register, is_zero_register};
+use arrayvec::ArrayVec;
+
+/// A kind of functional unit. The tenth unit of the machine, Branch, is not used.
+#[derive(Clone, Copy, Debug, PartialEq, Eq)]
+pub enum Kind {
+    Boolean,
+    Shift,
+    Add,
+    LongAdd,
+    Multiply,
+    Divide,
+    Increment,
+}
+
+/// How an instruction references memory.
+#[derive(Clone, Copy, Debug, PartialEq, Eq)]
+pub enum Memory {
+    None,
+    Load,
+    Store,
+}
+
+/// Which registers the operand of an operation names, by the digits i, j and k of the instruction.
+#[derive(Clone, Copy, Debug)]
+pub enum Operands {
+    Constant,
+    Xi,
+    Xj,
+    Xk,
+    Aj,
+    Bj,
+    XjXk,
+    BjXk,
+    XjBk,
+    AjBk,
+    BjBk,
+}
+
+/// Whether the two are one kind.
+pub fn is_same_kind(a: Kind, b: Kind) -> bool
+    ensures { result ≡ same_kind a b }
+{
+    a == b
+}
+
+/// Whether two references to memory must keep their order: both reference it, and one of them is a store.
+pub fn is_memory_conflict(a: Memory, b: Memory) -> bool
+    ensures { result ≡ memory_pair a b }
+{
+    match (a, b) {
+        (Memory::None, _) | (_, Memory::None) => false,
+        (Memory::Load, Memory::Load) => false,
+        _ => true,
+    }
+}
+
+/// An operation, by its octal code: 0o10 to 0o77.
+#[derive(Clone, Copy, Debug, Default, PartialEq, Eq)]
+pub struct Op {
+    pub code: u8,
+}
+
+/// An instruction: its operation and its octal digits i, j and k; a digit that its form lacks is 0.
+///
+/// What each operation reads, writes and uses is the table of instructions of the CDC 6400/6500/6600 Computer Systems
+/// Reference Manual, publication 60100000. Two instructions are equal where operation and registers agree; the value of
+/// a constant is not kept.
+#[derive(Clone, Copy, Debug, Default, PartialEq, Eq)]
+pub struct Instr {
+    pub op: Op,
+    pub i: u8,
+    pub j: u8,
+    pub k: u8,
+}
+
+impl Instr {
+    ghost use Rattle.s66_isa.specs.Words.{greatest};
+    ghost use Rattle.s66_isa.specs.Table.{kind_of, parcels_of, memory_of, shape_of, operand_registers, stored_registers, reads_of, hold_of, held_registers, loaded_registers, writes_of};
+
+    /// The kind of unit that executes it.
+    pub fn kind(&self) -> Kind
+        ensures { result ≡ kind_of self.now.op.code }
+    {
+        match self.op.code {
+            0..0o20 => Kind::Boolean,
+            0o20..0o30 | 0o43 => Kind::Shift,
+            0o30..0o36 => Kind::Add,
+            0o36..0o40 => Kind::LongAdd,
+            0o40..0o43 => Kind::Multiply,
+            0o44..0o50 => Kind::Divide,
+            _ => Kind::Increment,
+        }
+    }
+
+    /// How many parcels of 15 bits it takes: 2 where a constant of 18 bits stands in it, else 1.
+    pub fn parcels(&self) -> u32
+        ensures value { result ≡ parcels_of self.now.op.code }
+        ensures at_least { 1 ≤ result }
+        ensures at_most { result ≤ 2 }
+    {
+        if self.op.code >= 0o50 && self.op.code % 8 < 3 {
+            2
+        } else {
+            1
+        }
+    }
+
+    /// Whether it loads, stores, or leaves memory alone: `SA1` to `SA5` load, `SA6` and `SA7` store.
+    pub fn memory(&self) -> Memory
+        ensures { result ≡ memory_of self.now }
+    {
+        if self.op.code < 0o50 || self.op.code >= 0o60 || self.i == 0 {
+            Memory::None
+        } else if self.i < 6 {
+            Memory::Load
+        } else {
+            Memory::Store
+        }
+    }
+
+    /// Which registers its operand names.
+    fn operands(&self) -> Operands
+        ensures { result ≡ shape_of self.now.op.code }
+    {
+        match self.op.code {
+            0o10 => Operands::Xj,
+            0o14 | 0o47 | 0o24..0o27 => Operands::Xk,
+            0..0o20 => Operands::XjXk,
+            0o20 | 0o21 => Operands::Xi,
+            0o22 | 0o23 | 0o27 => Operands::BjXk,
+            0o43 => Operands::Constant,
+            0o30..0o50 => Operands::XjXk,
+            _ => match self.op.code % 8 {
+                0 => Operands::Aj,
+                1 => Operands::Bj,
+                2 => Operands::Xj,
+                3 => Operands::XjBk,
+                4 | 5 => Operands::AjBk,
+                _ => Operands::BjBk,
+            },
+        }
+    }
+
+    /// The registers that it reads, each once and B0 never; a store also reads what it stores.
+    pub fn reads(&self) -> ArrayVec<Reg, 4>
+        ensures { result.items ≡ reads_of self.now }
+    {
+        let mut registers = ArrayVec::new();
+        match self.operands() {
+            Operands::Constant => {}
+            Operands::Xi => join(&mut registers, x(self.i)),
+            Operands::Xj => join(&mut registers, x(self.j)),
+            Operands::Xk => join(&mut registers, x(self.k)),
+            Operands::Aj => join(&mut registers, a(self.j)),
+            Operands::Bj => join(&mut registers, b(self.j)),
+            Operands::XjXk => {
+                join(&mut registers, x(self.j));
+                join(&mut registers, x(self.k));
+            }
+            Operands::BjXk => {
+                join(&mut registers, b(self.j));
+                join(&mut registers, x(self.k));
+            }
+            Operands::XjBk => {
+                join(&mut registers, x(self.j));
+                join(&mut registers, b(self.k));
+            }
+            Operands::AjBk => {
+                join(&mut registers, a(self.j));
+                join(&mut registers, b(self.k));
+            }
+            Operands::BjBk => {
+                join(&mut registers, b(self.j));
+                join(&mut registers, b(self.k));
+            }
+        }
+        if let Memory::Store = self.memory() {
+            join(&mut registers, x(self.i));
+        }
+        registers
+    }
+
+    /// How many minor cycles of 100 ns its unit works.
+    pub fn hold(&self, profile: &Profile) -> u32
+        ensures value { result ≡ hold_of profile.now self.now.op.code }
+        ensures at_least { 1 ≤ result }
+        ensures at_most { result ≤ 100 }
+    {
+        match self.op.code {
+            0..0o20 => profile.boolean,
+            0o24 | 0o25 => profile.normalise,
+            0o20..0o30 | 0o43 => profile.shift,
+            0o30..0o36 => profile.add,
+            0o36..0o40 => profile.longadd,
+            0o40..0o43 => profile.multiply,
+            0o47 => profile.population,
+            0o44..0o50 => profile.divide,
+            _ => profile.increment,
+        }
+    }
+
+    /// The results that its unit holds: all but the X result of a load, B0 never.
+    pub fn held(&self) -> ArrayVec<Reg, 2>
+        ensures { result.items ≡ held_registers self.now }
+    {
+        let mut registers = ArrayVec::new();
+        match self.op.code {
+            0..0o50 => {
+                registers.push(x(self.i));
+                if self.op.code >= 0o24 && self.op.code < 0o27 && self.j != 0 {
+                    registers.push(b(self.j));
+                }
+            }
+            0o50..0o60 => registers.push(a(self.i)),
+            0o60..0o70 => {
+                if self.i != 0 {
+                    registers.push(b(self.i));
+                }
+            }
+            _ => registers.push(x(self.i)),
+        }
+        registers
+    }
+
+    /// The registers that it writes, each with its latency in minor cycles: its hold, but the time of a load for the X
+    /// result of a load. B0 is never among them.
+    pub fn writes(&self, profile: &Profile) -> ArrayVec<(Reg, u32), 2>
+        ensures value { result.items ≡ writes_of profile.now self.now }
+        ensures at_most { greatest (λ w. w.1) result.items ≤ 100 }
+    {
+        let hold = self.hold(profile);
+        let mut results = ArrayVec::new();
+        match self.op.code {
+            0..0o50 => {
+                results.push((x(self.i), hold));
+                if self.op.code >= 0o24 && self.op.code < 0o27 && self.j != 0 {
+                    results.push((b(self.j), hold));
+                }
+            }
+            0o50..0o60 => {
+                results.push((a(self.i), hold));
+                if let Memory::Load = self.memory() {
+                    results.push((x(self.i), profile.load));
+                }
+            }
+            0o60..0o70 => {
+                if self.i != 0 {
+                    results.push((b(self.i), hold));
+                }
+            }
+            _ => results.push((x(self.i), hold)),
+        }
+        results
+    }
+}
+
+fn x(digit: u8) -> Reg
+    ensures { result ≡ record { bank = Bank.X; digit = digit } }
+{
+    Reg {
+        bank: Bank::X,
+        digit,
+    }
+}
+
+fn a(digit: u8) -> Reg
+    ensures { result ≡ record { bank = Bank.A; digit = digit } }
+{
+    Reg {
+        bank: Bank::A,
+        digit,
+    }
+}
+
+fn b(digit: u8) -> Reg
+    ensures { result ≡ record { bank = Bank.B; digit = digit } }
+{
+    Reg {
+        bank: Bank::B,
+        digit,
+    }
+}
+
+/// A register joins a set: B0 never does, and none stands there twice.
+fn join(registers: &mut ArrayVec<Reg, 4>, register: Reg)
+    requires { array_vec_len registers.old < 4 }
+    ensures items { registers.new.items ≡ joined registers.old.items register }
+    ensures len { array_vec_len registers.new ≤ array_vec_len registers.old + 1 }
+{
+    if !is_zero_register(register) && !has_register(registers.as_slice(), register) {
+        registers.push(register);
+    }
+}

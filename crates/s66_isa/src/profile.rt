@@ -1,0 +1,78 @@
+ghost use Rattle.std.specs.Prelude.{◌≡◌, ◌≤◌};
+
+use crate::instr::Kind;
+
+/// A timing profile: execution times in minor cycles of 100 ns, and how many units there are of each kind; each 1 to 100.
+///
+/// `normalise` is for 0o24 and 0o25, `population` for 0o47, `load` for the X result of a load; every other time is that
+/// of its kind.
+#[derive(Clone, Copy, Debug, PartialEq, Eq)]
+pub struct Profile {
+    pub boolean: u32,
+    pub shift: u32,
+    pub normalise: u32,
+    pub add: u32,
+    pub longadd: u32,
+    pub multiply: u32,
+    pub divide: u32,
+    pub population: u32,
+    pub increment: u32,
+    pub load: u32,
+    pub units_boolean: u32,
+    pub units_shift: u32,
+    pub units_add: u32,
+    pub units_longadd: u32,
+    pub units_multiply: u32,
+    pub units_divide: u32,
+    pub units_increment: u32,
+    ghost least: { (1 ≤ boolean) × (1 ≤ shift) × (1 ≤ normalise) × (1 ≤ add) × (1 ≤ longadd) × (1 ≤ multiply) × (1 ≤ divide) × (1 ≤ population) × (1 ≤ increment) × (1 ≤ load) },
+    ghost greatest: { (boolean ≤ 100) × (shift ≤ 100) × (normalise ≤ 100) × (add ≤ 100) × (longadd ≤ 100) × (multiply ≤ 100) × (divide ≤ 100) × (population ≤ 100) × (increment ≤ 100) × (load ≤ 100) },
+    ghost units: { (1 ≤ units_boolean) × (1 ≤ units_shift) × (1 ≤ units_add) × (1 ≤ units_longadd) × (1 ≤ units_multiply) × (1 ≤ units_divide) × (1 ≤ units_increment) },
+    ghost few: { (units_boolean ≤ 100) × (units_shift ≤ 100) × (units_add ≤ 100) × (units_longadd ≤ 100) × (units_multiply ≤ 100) × (units_divide ≤ 100) × (units_increment ≤ 100) },
+}
+
+impl Profile {
+    ghost use Rattle.s66_isa.specs.Table.{copies_of, standard};
+
+    /// The standard profile of the 6600.
+    pub fn standard() -> Profile
+        ensures { result ≡ standard }
+    {
+        Profile {
+            boolean: 3,
+            shift: 3,
+            normalise: 4,
+            add: 4,
+            longadd: 3,
+            multiply: 10,
+            divide: 29,
+            population: 8,
+            increment: 3,
+            load: 8,
+            units_boolean: 1,
+            units_shift: 1,
+            units_add: 1,
+            units_longadd: 1,
+            units_multiply: 2,
+            units_divide: 1,
+            units_increment: 2,
+        }
+    }
+
+    /// How many units there are of a kind.
+    pub fn copies(&self, kind: Kind) -> u32
+        ensures value { result ≡ copies_of self.now kind }
+        ensures at_least { 1 ≤ result }
+        ensures at_most { result ≤ 100 }
+    {
+        match kind {
+            Kind::Boolean => self.units_boolean,
+            Kind::Shift => self.units_shift,
+            Kind::Add => self.units_add,
+            Kind::LongAdd => self.units_longadd,
+            Kind::Multiply => self.units_multiply,
+            Kind::Divide => self.units_divide,
+            Kind::Increment => self.units_increment,
+        }
+    }
+}

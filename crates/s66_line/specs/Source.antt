@@ -1,0 +1,169 @@
+-- The classes of lines, the blocks of a source, and its least refused line.
+use Rattle.std.specs.Prelude.{◌≡◌, ◌&&◌, ◌||◌, ◌==◌, if◌then◌else◌, ℕ, zero, suc, Bool, true, false, not, List, [], ◌∷◌, ◌++◌, ◌+◌, ◌-◌, ◌%◌, Option, None, Some, Result, Ok, Err, nat_lt, length, map}
+use Rattle.std.specs.List.{filter}
+use Rattle.s66_isa.specs.declared.instr.Instr.{Instr}
+use Rattle.s66_isa.specs.Table.{no_instr}
+use Rattle.s66_line.specs.Fields.{lines_of, upper, body, is_comment, location, operation, operand, continues}
+use Rattle.s66_line.specs.Operand.{instr_of, is_operation}
+use Rattle.s66_line.specs.declared.class.Class.{Class}
+use Rattle.s66_line.specs.declared.class.Class.TheVariants.{Comment, Other, Refused, Pad, Instruction}
+use Rattle.s66_line.specs.declared.entry.Entry.{Entry}
+use Rattle.s66_line.specs.declared.error.SourceError.{SourceError}
+use Rattle.s66_line.specs.declared.error.SourceError.TheVariants.{BadOperand, LineTooLong, TooLarge}
+
+-- CLASSES
+
+abbrev pub decoded : Bool → Option Instr → Class
+decoded located None = Refused
+decoded located (Some n) = Instruction located n
+
+abbrev pub is_pad : List ℕ → Bool
+is_pad (n ∷ o ∷ []) = n == 78 && o == 79
+is_pad word = false
+
+abbrev pub is_located : List ℕ → Bool
+is_located line = nat_lt 0 (length (location line))
+
+-- the operation, in upper case, decides
+abbrev pub by_operation : Bool → List ℕ → List ℕ → Class
+by_operation located operation operand =
+    if is_pad operation then Pad located
+    else (if is_operation operation then decoded located (instr_of operation operand) else Other)
+
+-- after: the line directly before is an Instruction or a Pad, so that a comma in column 1 would continue it
+abbrev pub class_of : Bool → List ℕ → Class
+class_of after line =
+    if is_comment (body line) then Comment
+    else (if continues (body line) then (if after then Refused else Other)
+    else by_operation (is_located (body line)) (upper (operation (body line))) (upper (operand (body line))))
+
+abbrev pub is_instruction : Class → Bool
+is_instruction (Instruction located n) = true
+is_instruction Comment = false
+is_instruction Other = false
+is_instruction Refused = false
+is_instruction (Pad located) = false
+
+abbrev pub is_code : Class → Bool
+is_code (Instruction located n) = true
+is_code (Pad located) = true
+is_code Comment = false
+is_code Other = false
+is_code Refused = false
+
+-- an Instruction or Pad with a location field begins a run
+abbrev pub begins_run : Class → Bool
+begins_run (Instruction located n) = located
+begins_run (Pad located) = located
+begins_run Comment = false
+begins_run Other = false
+begins_run Refused = false
+
+-- an Other line ends one
+abbrev pub ends_run : Class → Bool
+ends_run Other = true
+ends_run Comment = false
+ends_run Refused = false
+ends_run (Pad located) = false
+ends_run (Instruction located n) = false
+
+-- LINES with their numbers, from 1, classes and runs
+
+pub record Line : Type 0 where
+  pub number : ℕ
+  pub bytes : List ℕ
+  pub class : Class
+  -- two lines stand in one run where none from the one to the other begins or ends one
+  pub run : ℕ
+  -- how many instructions of its run stand before it
+  pub place : ℕ
+
+abbrev pub run_at : ℕ → Class → ℕ
+run_at run c = if begins_run c then suc run else run
+
+abbrev pub run_after : ℕ → Class → ℕ
+run_after run c = if ends_run c then suc (run_at run c) else run_at run c
+
+abbrev pub place_at : ℕ → Class → ℕ
+place_at place c = if begins_run c then 0 else place
+
+abbrev pub place_after : ℕ → Class → ℕ
+place_after place c = if ends_run c then 0 else (if is_instruction c then suc (place_at place c) else place_at place c)
+
+abbrev pub classed : ℕ → ℕ → ℕ → Bool → List (List ℕ) → List Line
+classed number run place after [] = []
+classed number run place after (line ∷ lines) =
+    record {
+      number = number;
+      bytes = line;
+      class = class_of after line;
+      run = run_at run (class_of after line);
+      place = place_at place (class_of after line);
+    }
+    ∷ classed (suc number) (run_after run (class_of after line)) (place_after place (class_of after line)) (is_code (class_of after line)) lines
+
+abbrev pub classed_lines : List ℕ → List Line
+classed_lines text = classed 1 0 0 false (lines_of text)
+
+-- THE LEAST REFUSED LINE: too long, then too many lines, then a bad operand
+
+abbrev pub operand_refusal : ℕ → Class → Option SourceError
+operand_refusal number Refused = Some (BadOperand number)
+operand_refusal number Comment = None
+operand_refusal number Other = None
+operand_refusal number (Pad located) = None
+operand_refusal number (Instruction located n) = None
+
+abbrev pub refusal_at : Line → Option SourceError
+refusal_at line =
+    if nat_lt 200 (length line.bytes) then Some (LineTooLong line.number)
+    else (if nat_lt 20000 line.number then Some TooLarge else operand_refusal line.number line.class)
+
+abbrev pub or_else : Option SourceError → Option SourceError → Option SourceError
+or_else (Some e) f = Some e
+or_else None f = f
+
+abbrev pub refusal : List Line → Option SourceError
+refusal [] = None
+refusal (line ∷ lines) = or_else (refusal_at line) (refusal lines)
+
+-- BLOCKS: the instructions of a run, cut after each 64th
+
+abbrev pub instructions : List Line → List Line
+instructions lines = filter (λ l. is_instruction l.class) lines
+
+-- of an instruction: it is the first of its run, or comes after a 64th
+abbrev pub begins_block : Line → Bool
+begins_block line = line.place % 64 == 0
+
+-- a line before the first of these blocks: it joins that block, or is one where that block begins anew
+abbrev pub put_before : Line → List (List Line) → List (List Line)
+put_before line [] = (line ∷ []) ∷ []
+put_before line ([] ∷ blocks) = (line ∷ []) ∷ blocks
+put_before line ((next ∷ more) ∷ blocks) =
+    if begins_block next then (line ∷ []) ∷ (next ∷ more) ∷ blocks else (line ∷ next ∷ more) ∷ blocks
+
+abbrev pub parted : List Line → List (List Line)
+parted [] = []
+parted (line ∷ lines) = put_before line (parted lines)
+
+abbrev pub instr_in : Class → Instr
+instr_in (Instruction located n) = n
+instr_in Comment = no_instr
+instr_in Other = no_instr
+instr_in Refused = no_instr
+instr_in (Pad located) = no_instr
+
+abbrev pub entry_of : Line → Entry
+entry_of line = record { instr = instr_in line.class; line = line.number }
+
+abbrev pub blocks_of : List Line → List (List Entry)
+blocks_of lines = map (map entry_of) (parted (instructions lines))
+
+abbrev pub unless_refused : Option SourceError → List (List Entry) → Result (List (List Entry)) SourceError
+unless_refused None blocks = Ok blocks
+unless_refused (Some e) blocks = Err e
+
+-- the blocks of a text, or its least refused line
+abbrev pub source_of : List ℕ → Result (List (List Entry)) SourceError
+source_of text = unless_refused (refusal (classed_lines text)) (blocks_of (classed_lines text))

@@ -1,0 +1,40 @@
+ghost use Rattle.std.specs.Prelude.{◌≡◌};
+ghost use Rattle.s66_line.specs.declared.error.SourceError.TheVariants.{OutOfMemory};
+
+use std::alloc::{AllocError, AllocFailed};
+use thiserror::Error;
+
+/// Why a source was refused; lines count from 1, and the least refused line is told.
+///
+/// On one line `LineTooLong` goes before `TooLarge`, and that before `BadOperand`. `OutOfMemory` is answered only where
+/// a growth was refused in the call, and may stand in the place of any other answer.
+#[derive(Clone, Copy, Debug, Drop, Error, PartialEq, Eq)]
+pub enum SourceError {
+    /// An operation of the table with an operand that it does not take, or a continuation of such a line.
+    #[error("LINE {line} BAD OPERAND")]
+    BadOperand { line: u32 },
+    /// A line of more than 200 bytes, its newline not counted.
+    #[error("LINE {line} TOO LONG")]
+    LineTooLong { line: u32 },
+    /// A line past the 20,000th.
+    #[error("TOO MANY LINES")]
+    TooLarge,
+    #[error("OUT OF MEMORY")]
+    OutOfMemory,
+}
+
+impl From<AllocError> for SourceError {
+    ghost from_gives = { λ _ e. e ≡ OutOfMemory };
+
+    fn from(_e: AllocError) -> SourceError {
+        SourceError::OutOfMemory
+    }
+}
+
+impl<T: Drop> From<AllocFailed<T>> for SourceError {
+    ghost from_gives = { λ _ e. e ≡ OutOfMemory };
+
+    fn from(_e: AllocFailed<T>) -> SourceError {
+        SourceError::OutOfMemory
+    }
+}

@@ -1,0 +1,6 @@
+pub mod Packing
+pub mod Timing
+pub mod Dependence
+pub mod LegalOrder
+pub use Rattle.s66_isa.specs.Words
+pub use Rattle.s66_isa.specs.Table
