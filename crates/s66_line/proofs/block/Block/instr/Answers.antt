@@ -1,8 +1,10 @@
-use Rattle.std.proofs.Common.{rules, ◌≡◌, ◌≤◌, ◌<◌, length, ℕ, ◌+◌, ◌-◌, Bool, true, false, List, [], ◌∷◌, ◌++◌}
+use Rattle.std.proofs.Common.{rules, ◌≡◌, ◌≤◌, ◌<◌, length, ℕ, ◌+◌, ◌-◌, Bool, true, false, List, [], ◌∷◌, ◌++◌, get_or}
 use Rattle.s66_isa.specs.Table.{instr_at}
 use Rattle.s66_line.specs.Block.{instrs_of, line_of}
 use Rattle.s66_line.proofs.Entries.{instr_at-entry}
 use Rattle.s66_line.proofs.block.Block.instr.Goals as goal
 
 pub returns : goal.returns
-returns c = instr_at-entry c.args.self.now c.args.number c.index.result.now c.requires.first c.requires.last c.index.ensures
+returns c =
+    let here : c.index.result.now ≡ get_or c.args.self.now (c.args.number - 1) c.index.result.now = rw (← c.self.view_is) c.index.ensures in
+    instr_at-entry c.args.self.now c.args.number c.index.result.now c.requires.first c.requires.last here
