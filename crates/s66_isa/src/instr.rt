@@ -66,11 +66,11 @@ pub struct Op {
     pub code: u8,
 }
 
-/// An instruction: its operation and its octal digits i, j and k; a digit that its form lacks is 0.
+/// An instruction: its operation and its octal digits i, j and k, each 0 to 7.
 ///
 /// What each operation reads, writes and uses is the table of instructions of the CDC 6400/6500/6600 Computer Systems
-/// Reference Manual, publication 60100000. Two instructions are equal where operation and registers agree; the value of
-/// a constant is not kept.
+/// Reference Manual, publication 60100000. The value of a constant is not kept, and a digit that the form lacks is 0 in
+/// what is read from a source, so there two instructions are equal where operation and registers agree.
 #[derive(Clone, Copy, Debug, Default, PartialEq, Eq)]
 pub struct Instr {
     pub op: Op,

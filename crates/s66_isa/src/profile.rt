@@ -34,7 +34,7 @@ pub struct Profile {
 impl Profile {
     ghost use Rattle.s66_isa.specs.Table.{copies_of, standard};
 
-    /// The standard profile of the 6600.
+    /// The standard profile: the copies are those of the 6600, the times are this project's.
     pub fn standard() -> Profile
         ensures { result ≡ standard }
     {

@@ -44,6 +44,7 @@ is_instruction Other = false
 is_instruction Refused = false
 is_instruction (Pad located) = false
 
+-- an Instruction or a Pad
 abbrev pub is_code : Class → Bool
 is_code (Instruction located n) = true
 is_code (Pad located) = true
@@ -73,9 +74,9 @@ pub record Line : Type 0 where
   pub number : ℕ
   pub bytes : List ℕ
   pub class : Class
-  -- two lines stand in one run where none from the one to the other begins or ends one
+  -- two lines of code stand in one run where none after the first, up to and with the second, begins a run, and no Other line stands between
   pub run : ℕ
-  -- how many instructions of its run stand before it
+  -- of an instruction: how many instructions of its run stand before it
   pub place : ℕ
 
 abbrev pub run_at : ℕ → Class → ℕ
@@ -143,6 +144,7 @@ put_before line ([] ∷ blocks) = (line ∷ []) ∷ blocks
 put_before line ((next ∷ more) ∷ blocks) =
     if begins_block next then (line ∷ []) ∷ (next ∷ more) ∷ blocks else (line ∷ next ∷ more) ∷ blocks
 
+-- instruction lines, cut where a block begins
 abbrev pub parted : List Line → List (List Line)
 parted [] = []
 parted (line ∷ lines) = put_before line (parted lines)

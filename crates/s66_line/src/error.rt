@@ -10,7 +10,8 @@ use thiserror::Error;
 /// a growth was refused in the call, and may stand in the place of any other answer.
 #[derive(Clone, Copy, Debug, Drop, Error, PartialEq, Eq)]
 pub enum SourceError {
-    /// An operation of the table with an operand that it does not take, or a continuation of such a line.
+    /// An operation of the table with an operand that it does not take, or a line with a comma in column 1 directly after
+    /// an instruction or a `NO`.
     #[error("LINE {line} BAD OPERAND")]
     BadOperand { line: u32 },
     /// A line of more than 200 bytes, its newline not counted.
