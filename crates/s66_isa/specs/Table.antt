@@ -1,9 +1,8 @@
 -- The table of instructions and the standard profile: CDC 6400/6500/6600 Computer Systems Reference Manual, publication 60100000, registers, instruction forms and functional units. The execution times are this project's.
-use Rattle.std.specs.Prelude.{◌≡◌, ◌&&◌, ◌||◌, ◌==◌, if◌then◌else◌, ℕ, zero, suc, Bool, true, false, List, [], ◌∷◌, ◌++◌, ◌%◌, nat_le, nat_lt, map, get_or, length}
+use Rattle.std.specs.Prelude.{◌&&◌, ◌||◌, ◌==◌, if◌then◌else◌, ℕ, zero, suc, Bool, true, false, List, [], ◌∷◌, ◌++◌, ◌%◌, nat_le, nat_lt, map, get_or, length}
 use Rattle.std.proofs.Common.{lit≤}
 use Rattle.s66_isa.specs.Words.{rising}
 use Rattle.s66_isa.specs.declared.instr.Instr.{Instr}
-use Rattle.s66_isa.specs.declared.instr.Op.{Op}
 use Rattle.s66_isa.specs.declared.reg.Reg.{Reg}
 use Rattle.s66_isa.specs.declared.reg.Bank.{Bank}
 use Rattle.s66_isa.specs.declared.reg.Bank.TheVariants.{A, B, X}
@@ -234,6 +233,9 @@ pub record Write : Type 0 where
   pub reg : Reg
   pub latency : ℕ
   pub held : Bool
+
+abbrev pub register_latency : Write → Reg × ℕ
+register_latency w = (w.reg, w.latency)
 
 pub record Row : Type 0 where
   pub kind : Kind

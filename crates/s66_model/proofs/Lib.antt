@@ -4,3 +4,4 @@ pub mod Packed
 pub mod GoodRows
 pub mod LegalOrders
 pub mod Beginnings
+pub mod Growth

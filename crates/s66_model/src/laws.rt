@@ -1,21 +1,23 @@
 //! Laws of the definitions, each the contract of a function that does nothing.
 
-ghost use Rattle.std.specs.Prelude.{ℕ, List, map, reverse, ◌≡◌, ◌↔◌};
+ghost use Rattle.std.specs.Prelude.{ℕ, List, length, map, reverse, ◌*◌, ◌≡◌, ◌≤◌, ◌↔◌};
 ghost use Rattle.s66_isa.specs.declared.instr.Instr.{Instr};
 ghost use Rattle.s66_isa.specs.declared.profile.Profile.{Profile};
-ghost use Rattle.s66_isa.specs.Table.{Row, row, numbers};
+ghost use Rattle.s66_isa.specs.Table.{Row, row, register_latency, writes_of, numbers};
 ghost use Rattle.s66_model.specs.Packing.{packed, len_at};
-ghost use Rattle.s66_model.specs.Timing.{Problem, Point, IsGood, IsIssue, issue_of, points_of};
+ghost use Rattle.s66_model.specs.Timing.{Problem, Point, IsGood, IsIssue, issue_of, points_of, total_of};
 ghost use Rattle.s66_model.specs.LegalOrder.{IsLegal, IsOrder, IsFront, IsBeginning};
 
 /// The issue of an instruction is the least time, at least its slot, at which a unit is free and no result is to come.
 pub fn issue_law()
-    ensures { (b : Problem) (s : List Point) (r : Row) → IsIssue b s r (issue_of b s r) }
+    ensures { (b : Problem) (s : List Point) (r : Row) (t : ℕ) → IsIssue b s r t ↔ (t ≡ issue_of b s r) }
 {}
 
-/// Of every instruction under every profile: 1 or 2 parcels, times of 1 to 100, and a unit that holds a result for its whole hold.
+/// Of every instruction under every profile: 1 or 2 parcels, times of 1 to 100, and a unit that holds a result for its
+/// whole hold; and what timing sees of its results are those of the table.
 pub fn row_law()
-    ensures { (p : Profile) (n : Instr) → IsGood (row p n) }
+    ensures good { (p : Profile) (n : Instr) → IsGood (row p n) }
+    ensures writes { (p : Profile) (n : Instr) → map register_latency (row p n).writes ≡ writes_of p n }
 {}
 
 /// A permutation that keeps each dependent pair in order is a list of numbers each of which is ready when it comes.
@@ -36,4 +38,9 @@ pub fn packing_law()
 /// The source order of every block is legal.
 pub fn source_law()
     ensures { (block : List Instr) → IsLegal block (numbers block) }
+{}
+
+/// An order takes at most 104 minor cycles for each of its numbers.
+pub fn total_law()
+    ensures { (b : Problem) (order : List ℕ) → total_of b order ≤ 104 * length order }
 {}

@@ -3,5 +3,7 @@
 #![tactic(auto)]
 
 mod laws;
+mod rows;
 
-pub use laws::{beginning_law, issue_law, order_law, packing_law, row_law, source_law};
+pub use laws::{beginning_law, issue_law, order_law, packing_law, row_law, source_law, total_law};
+pub use rows::{dependence_rows, order_rows, packing_rows, table_rows, timing_rows};
