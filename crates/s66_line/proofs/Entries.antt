@@ -1,7 +1,6 @@
 -- The instruction of a number stands in its entry.
-use Rattle.std.proofs.Common.{ℕ, zero, suc, ◌+◌, ◌-◌, ◌≤◌, ◌<◌, ◌≡◌, List, [], ◌∷◌, refl, sym, ap, arith, get_or, map, length, ◌∙◌}
+use Rattle.std.proofs.Common.{ℕ, zero, suc, ◌-◌, ◌≤◌, ◌≡◌, List, sym, ap, arith, get_or, length, ◌∙◌}
 use Rattle.std.proofs.lemmas.List.{get_or-map, length-map}
-use Rattle.s66_isa.specs.declared.instr.Instr.{Instr}
 use Rattle.s66_isa.specs.Table.{instr_at, no_instr}
 use Rattle.s66_line.specs.declared.entry.Entry.{Entry}
 use Rattle.s66_line.specs.Block.{instrs_of}

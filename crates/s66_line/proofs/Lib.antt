@@ -1,2 +1,9 @@
 pub mod Bytes
 pub mod Entries
+pub mod LineFields
+pub mod LineCuts
+pub mod Gathered
+pub mod Cuts
+pub mod Expression
+pub mod ReaderBlocks
+pub mod PartsLaw

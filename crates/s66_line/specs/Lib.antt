@@ -1,6 +1,9 @@
 pub mod Fields
 pub mod Operand
+pub mod Terms
 pub mod Source
 pub mod Parts
 pub mod Block
 pub mod Gives
+pub mod Reader
+pub mod ReaderState

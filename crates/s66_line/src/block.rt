@@ -21,7 +21,9 @@ impl Model for Block {
 
 impl Block {
     ghost use Rattle.std.specs.Prelude.{◌≡◌, ◌≤◌, ◌<◌, length};
-    ghost use Rattle.s66_isa.specs.Table.{instr_at};
+    ghost use Rattle.s66_isa.specs.Words.{weigh};
+    ghost use Rattle.s66_isa.specs.Table.{instr_at, parcels_of};
+    ghost use Rattle.s66_isa.specs.declared.instr.Instr.{Instr};
     ghost use Rattle.s66_line.specs.Block.{instrs_of, line_of};
 
     pub(crate) fn new(entries: Vec<Entry>) -> Block
@@ -57,5 +59,17 @@ impl Block {
         ensures { result ≡ line_of self.now number }
     {
         self.entries[number - 1].line
+    }
+
+    /// The parcels of 15 bits of its instructions, NOs not counted: at most 128.
+    pub fn parcels(&self) -> u32
+        ensures value { result ≡ weigh (λ (n : Instr). parcels_of n.op.code) (instrs_of self.now) }
+        ensures at_most { result ≤ 128 }
+    {
+        let mut sum = 0;
+        for entry in &self.entries {
+            sum += entry.instr.parcels();
+        }
+        sum
     }
 }

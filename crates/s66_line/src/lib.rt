@@ -6,11 +6,22 @@ mod class;
 mod device;
 mod entry;
 mod error;
+mod fields;
+mod laws;
+mod operand;
+mod operation;
+mod reader;
+mod set_operand;
 mod source;
+mod terms;
 
 pub use block::Block;
 pub use class::Class;
 pub use device::{Failed, Feed, OverRead, OverWrite, Sink, WriteError, write_all};
 pub use entry::Entry;
 pub use error::SourceError;
+pub use laws::parts_law;
 pub use source::{Source, read_source};
+
+#[cfg(test)]
+mod tests;

@@ -1,9 +1,9 @@
-ghost use Rattle.std.specs.Prelude.{◌≡◌, List, length};
 ghost use Rattle.s66_line.specs.Source.{source_of};
 ghost use Rattle.s66_line.specs.Gives.{Gives};
 
 use crate::block::Block;
 use crate::error::SourceError;
+use crate::reader::Reader;
 use std::alloc::Global;
 use std::marker::Model;
 
@@ -34,8 +34,22 @@ impl Source {
 }
 
 /// Reads a source in one pass: its blocks, or its least refused line.
-pub fn read_source(_alloc: Global, _text: &[u8]) -> Result<Source, SourceError>
-    ensures { Gives (λ s. s) result (source_of _text.now) }
+pub fn read_source(alloc: Global, text: &[u8]) -> Result<Source, SourceError>
+    ensures { Gives (λ s. s) result (source_of text.now) }
 {
-    Err(SourceError::OutOfMemory)
+    let mut reader = Reader {
+        blocks: Vec::new(alloc),
+        entries: Vec::new(alloc),
+        lines: 0,
+        after_code: false,
+    };
+    reader.take_all(alloc, text)?;
+    reader.end_block(alloc)?;
+    let Reader {
+        blocks,
+        entries: _,
+        lines: _,
+        after_code: _,
+    } = reader;
+    Ok(Source { blocks })
 }

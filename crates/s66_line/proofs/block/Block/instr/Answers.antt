@@ -1,6 +1,4 @@
-use Rattle.std.proofs.Common.{rules, ◌≡◌, ◌≤◌, ◌<◌, length, ℕ, ◌+◌, ◌-◌, Bool, true, false, List, [], ◌∷◌, ◌++◌, get_or}
-use Rattle.s66_isa.specs.Table.{instr_at}
-use Rattle.s66_line.specs.Block.{instrs_of, line_of}
+use Rattle.std.proofs.Common.{◌≡◌, ◌-◌, get_or}
 use Rattle.s66_line.proofs.Entries.{instr_at-entry}
 use Rattle.s66_line.proofs.block.Block.instr.Goals as goal
 

@@ -1,0 +1,96 @@
+-- Words and blanks at the front of a line by their lengths, and a line without the end that passes.
+use Rattle.std.proofs.Common.{◌≡◌, ℕ, zero, suc, ◌+◌, ◌-◌, ◌≤◌, ◌<◌, Bool, true, false, not, cond, List, [], ◌∷◌, ◌++◌, length, take, drop, refl, sym, ap, ◌∙◌, arith, length-drop, get_or, eq-eqb}
+use Rattle.std.proofs.Math.Seq.{take-suc}
+use Rattle.std.specs.Prelude.{◌&&◌}
+use Rattle.std.specs.List.{prefix_len}
+use Rattle.s66_isa.specs.Words.{every}
+use Rattle.s66_line.specs.Fields.{is_blank, skip_blanks, word, after_word, trim, is_return}
+use Rattle.std.proofs.lemmas.List.{take_rest}
+use Rattle.std.proofs.lemmas.List.Sums.{prefix_len-le-length}
+
+pub skip_blanks-drop : (bytes : List ℕ) → skip_blanks bytes ≡ drop (prefix_len is_blank bytes) bytes
+skip_blanks-drop [] = refl
+skip_blanks-drop (b ∷ bytes) =
+    elim (is_blank b) as (λ t. cond t (skip_blanks bytes) (b ∷ bytes) ≡ drop (cond t (1 + prefix_len is_blank bytes) 0) (b ∷ bytes))
+    [ true ↦ (let h = skip_blanks-drop bytes in let one : 1 + prefix_len is_blank bytes ≡ suc (prefix_len is_blank bytes) = omega arith in rw one h) | false ↦ refl ]
+
+pub word-take : (bytes : List ℕ) → word bytes ≡ take (prefix_len (λ b. not (is_blank b)) bytes) bytes
+word-take [] = refl
+word-take (b ∷ bytes) =
+    let n = prefix_len (λ b. not (is_blank b)) bytes in
+    elim (is_blank b) as (λ t. cond t [] (b ∷ word bytes) ≡ take (cond (not t) (1 + n) 0) (b ∷ bytes))
+    [ true ↦ refl | false ↦ (let one : 1 + n ≡ suc n = omega arith in rw one (ap (λ w. b ∷ w) (word-take bytes))) ]
+
+pub after_word-drop : (bytes : List ℕ) → after_word bytes ≡ drop (prefix_len (λ b. not (is_blank b)) bytes) bytes
+after_word-drop [] = refl
+after_word-drop (b ∷ bytes) =
+    let n = prefix_len (λ b. not (is_blank b)) bytes in
+    elim (is_blank b) as (λ t. cond t (b ∷ bytes) (after_word bytes) ≡ drop (cond (not t) (1 + n) 0) (b ∷ bytes))
+    [ true ↦ refl | false ↦ (let one : 1 + n ≡ suc n = omega arith in rw one (after_word-drop bytes)) ]
+
+pub blanks-length : (bytes : List ℕ) → length bytes - length (skip_blanks bytes) ≡ prefix_len is_blank bytes
+blanks-length bytes =
+    let h = prefix_len-le-length is_blank bytes in
+    let l = length-drop (prefix_len is_blank bytes) bytes in
+    rw (skip_blanks-drop bytes) (omega (arith, h, l))
+
+pub skip_blanks-rest : (bytes : List ℕ) → skip_blanks bytes ≡ take (length bytes - prefix_len is_blank bytes) (drop (prefix_len is_blank bytes) bytes)
+skip_blanks-rest bytes = skip_blanks-drop bytes ∙ sym (take_rest bytes (prefix_len is_blank bytes))
+
+pub after_word-rest : (bytes : List ℕ) →
+    after_word bytes ≡ take (length bytes - prefix_len (λ b. not (is_blank b)) bytes) (drop (prefix_len (λ b. not (is_blank b)) bytes) bytes)
+after_word-rest bytes = after_word-drop bytes ∙ sym (take_rest bytes (prefix_len (λ b. not (is_blank b)) bytes))
+
+pub ruleset word_steps = (skip_blanks-rest, word-take, after_word-rest, blanks-length)
+
+-- THE END OF A LINE
+
+and-true : (t : Bool) → (t && true) ≡ t
+and-true true = refl
+and-true false = refl
+
+and-false : (t : Bool) → (t && false) ≡ false
+and-false true = refl
+and-false false = refl
+
+every-push : (test : ℕ → Bool) (bytes : List ℕ) (b : ℕ) → every test (bytes ++ b ∷ []) ≡ (every test bytes && test b)
+every-push test [] b = and-true (test b)
+every-push test (a ∷ bytes) b =
+    elim (test a) as (λ t. (t && every test (bytes ++ b ∷ [])) ≡ ((t && every test bytes) && test b))
+    [ true ↦ every-push test bytes b | false ↦ refl ]
+
+-- a byte at the end that passes falls away
+pub trim-push_yes : (test : ℕ → Bool) (bytes : List ℕ) (b : ℕ) → test b ≡ true → trim test (bytes ++ b ∷ []) ≡ trim test bytes
+trim-push_yes test [] b passes = rw passes refl
+trim-push_yes test (a ∷ bytes) b passes =
+    let h = trim-push_yes test bytes b passes in
+    let e : every test (bytes ++ b ∷ []) ≡ every test bytes = every-push test bytes b ∙ (rw passes (and-true (every test bytes))) in
+    rw (e, h) refl
+
+-- and one that does not stays, with all before it
+pub trim-push_no : (test : ℕ → Bool) (bytes : List ℕ) (b : ℕ) → test b ≡ false → trim test (bytes ++ b ∷ []) ≡ bytes ++ b ∷ []
+trim-push_no test [] b fails = rw fails refl
+trim-push_no test (a ∷ bytes) b fails =
+    let h = trim-push_no test bytes b fails in
+    let e : every test (bytes ++ b ∷ []) ≡ false = every-push test bytes b ∙ (rw fails (and-false (every test bytes))) in
+    rw (e, h, and-false (test a)) refl
+
+-- A LINE'S BODY, found from the end
+
+pub body-cut : (line : List ℕ) (end : ℕ) → 0 < end → end ≤ length line → get_or line (end - 1) 0 ≡ 13 → trim is_return (take (end - 1) line) ≡ trim is_return (take end line)
+body-cut line zero some within return = absurd (omega (arith, some))
+body-cut line (suc n) some within return =
+    let less : suc n - 1 ≡ n = omega arith in
+    let here : get_or line n 0 ≡ 13 = rw (← less) return in
+    rw (less, take-suc line n 0 (omega (arith, within))) (sym (trim-push_yes is_return (take n line) (get_or line n 0) (eq-eqb (get_or line n 0) 13 here)))
+
+pub body-none : (line : List ℕ) (end : ℕ) → end ≤ 0 → trim is_return (take end line) ≡ take end line
+body-none line zero none = refl
+body-none line (suc n) none = absurd (omega (arith, none))
+
+pub body-end : (line : List ℕ) (end : ℕ) → 0 < end → end ≤ length line → (get_or line (end - 1) 0 ≡ 13 → ⊥) → trim is_return (take end line) ≡ take end line
+body-end line zero some within other = absurd (omega (arith, some))
+body-end line (suc n) some within other =
+    let less : suc n - 1 ≡ n = omega arith in
+    let here : get_or line n 0 ≡ 13 → ⊥ = rw (← less) other in
+    rw (take-suc line n 0 (omega (arith, within))) (trim-push_no is_return (take n line) (get_or line n 0) (grind (arith, here)))

@@ -1,0 +1,138 @@
+ghost use Rattle.std.specs.Prelude.{◌≡◌, ◌≤◌, ◌==◌, ◌||◌, nat_le, not, length};
+ghost use Rattle.std.specs.List.{prefix_len};
+ghost use Rattle.s66_line.specs.Fields.{is_blank, upper_byte, upper, body, skip_blanks, word, after_word, blanks, is_comment, location, operation, operand, continues};
+
+use arrayvec::ArrayVec;
+
+/// The fields of a line that is no comment; a field that is not there is empty.
+#[derive(Clone, Copy, Debug)]
+pub struct Fields<'a> {
+    pub location: &'a [u8],
+    pub operation: &'a [u8],
+    pub operand: &'a [u8],
+}
+
+fn is_blank_byte(byte: u8) -> bool
+    ensures { result ≡ is_blank byte }
+{
+    byte == b' ' || byte == b'\t'
+}
+
+/// How many blanks stand in front.
+fn blanks_in_front(bytes: &[u8]) -> usize
+    ensures value { result ≡ prefix_len is_blank bytes.now }
+    ensures within { result ≤ length bytes.now }
+{
+    bytes.iter().take_while(|b| is_blank_byte(**b)).count()
+}
+
+/// How many bytes stand before the first blank.
+fn word_length(bytes: &[u8]) -> usize
+    ensures value { result ≡ prefix_len (λ b. not (is_blank b)) bytes.now }
+    ensures within { result ≤ length bytes.now }
+{
+    bytes.iter().take_while(|b| !is_blank_byte(**b)).count()
+}
+
+/// The bytes before the first blank, and those from it on.
+#[tactic(auto, using(crate::proofs::LineFields::word_steps))]
+fn split_word(bytes: &[u8]) -> (&[u8], &[u8])
+    ensures word { result.0.now ≡ word bytes.now }
+    ensures rest { result.1.now ≡ after_word bytes.now }
+    ensures word_within { length result.0.now ≤ length bytes.now }
+    ensures rest_within { length result.1.now ≤ length bytes.now }
+{
+    let end = word_length(bytes);
+    (&bytes[..end], &bytes[end..])
+}
+
+/// The bytes from the first that is no blank on.
+#[tactic(auto, using(crate::proofs::LineFields::word_steps))]
+fn without_blanks(bytes: &[u8]) -> &[u8]
+    ensures value { result.now ≡ skip_blanks bytes.now }
+    ensures within { length result.now ≤ length bytes.now }
+{
+    &bytes[blanks_in_front(bytes)..]
+}
+
+/// A line without the carriage returns at its end.
+pub(crate) fn body_of(line: &[u8]) -> &[u8]
+    ensures value { result.now ≡ body line.now }
+    ensures within { length result.now ≤ length line.now }
+{
+    let mut end = line.len();
+    while end > 0 && line[end - 1] == b'\r' {
+        end -= 1;
+    }
+    &line[..end]
+}
+
+/// Whether there are blanks alone, or 29 blanks in front.
+#[tactic(auto, using(crate::proofs::LineFields::word_steps))]
+fn is_indented_away(line: &[u8]) -> bool
+    ensures { result ≡ (blanks line.now == length line.now || nat_le 29 (blanks line.now)) }
+{
+    let count = blanks_in_front(line);
+    count == line.len() || count >= 29
+}
+
+/// Whether a body is a comment: a star in column 1, blanks alone, or 29 blanks in front.
+pub(crate) fn is_comment_line(line: &[u8]) -> bool
+    ensures { result ≡ is_comment line.now }
+{
+    match line {
+        [] => true,
+        [first, ..] => *first == b'*' || is_indented_away(line),
+    }
+}
+
+/// Whether a body continues the line before it: a comma in column 1.
+pub(crate) fn is_continuation(line: &[u8]) -> bool
+    ensures { result ≡ continues line.now }
+{
+    matches!(line, [b',', ..])
+}
+
+/// The fields of a body.
+pub(crate) fn fields_of(line: &[u8]) -> Fields<'_>
+    ensures location { result.location.now ≡ location line.now }
+    ensures operation { result.operation.now ≡ operation line.now }
+    ensures operand { result.operand.now ≡ operand line.now }
+    ensures operation_within { length result.operation.now ≤ length line.now }
+    ensures operand_within { length result.operand.now ≤ length line.now }
+{
+    let begin = match line {
+        [b' ', rest @ ..] => rest,
+        _ => line,
+    };
+    let (location, rest) = split_word(begin);
+    let (operation, rest) = split_word(without_blanks(rest));
+    let (operand, _) = split_word(without_blanks(rest));
+    Fields {
+        location,
+        operation,
+        operand,
+    }
+}
+
+fn upper_case_byte(byte: u8) -> u8
+    ensures { result ≡ upper_byte byte }
+{
+    if byte >= b'a' && byte <= b'z' {
+        byte - 32
+    } else {
+        byte
+    }
+}
+
+/// The bytes, each letter in upper case.
+pub(crate) fn upper_case(bytes: &[u8]) -> ArrayVec<u8, 200>
+    requires { length bytes.now ≤ 200 }
+    ensures { result.items ≡ upper bytes.now }
+{
+    let mut letters = ArrayVec::new();
+    for byte in bytes {
+        letters.push(upper_case_byte(*byte));
+    }
+    letters
+}

@@ -1,0 +1,133 @@
+ghost use Rattle.std.specs.Prelude.{◌≡◌};
+ghost use Rattle.s66_line.specs.Operand.{form_of, decode, is_operation, instr_of};
+
+use crate::operand::{arithmetic, boolean, is_octal_digit, mask, normalise, population, shift};
+use crate::set_operand::set;
+use s66_isa::{Bank, Instr};
+
+/// Which operands an operation takes, with the octal codes that they choose from.
+#[derive(Clone, Copy, Debug)]
+pub(crate) enum Form {
+    Boolean,
+    /// Shifted by a constant, or by a B register.
+    Shift {
+        by_constant: u8,
+        by_register: u8,
+    },
+    /// An X register with a B register: normalise, unpack, pack.
+    Normalise {
+        code: u8,
+    },
+    /// Two X registers round an operator; not all have a product and a quotient.
+    Arithmetic {
+        sum: u8,
+        difference: u8,
+        product: Option<u8>,
+        quotient: Option<u8>,
+    },
+    Mask,
+    Population,
+    /// Sets a register of this bank.
+    Set {
+        bank: Bank,
+    },
+}
+
+/// The form of an operation by its two letters.
+fn form_of(first: u8, second: u8) -> Option<Form>
+    ensures { result ≡ form_of first second }
+{
+    match (first, second) {
+        (b'B', b'X') => Some(Form::Boolean),
+        (b'L', b'X') => Some(Form::Shift {
+            by_constant: 0o20,
+            by_register: 0o22,
+        }),
+        (b'A', b'X') => Some(Form::Shift {
+            by_constant: 0o21,
+            by_register: 0o23,
+        }),
+        (b'N', b'X') => Some(Form::Normalise { code: 0o24 }),
+        (b'Z', b'X') => Some(Form::Normalise { code: 0o25 }),
+        (b'U', b'X') => Some(Form::Normalise { code: 0o26 }),
+        (b'P', b'X') => Some(Form::Normalise { code: 0o27 }),
+        (b'F', b'X') => Some(Form::Arithmetic {
+            sum: 0o30,
+            difference: 0o31,
+            product: Some(0o40),
+            quotient: Some(0o44),
+        }),
+        (b'D', b'X') => Some(Form::Arithmetic {
+            sum: 0o32,
+            difference: 0o33,
+            product: Some(0o42),
+            quotient: None,
+        }),
+        (b'R', b'X') => Some(Form::Arithmetic {
+            sum: 0o34,
+            difference: 0o35,
+            product: Some(0o41),
+            quotient: Some(0o45),
+        }),
+        (b'I', b'X') => Some(Form::Arithmetic {
+            sum: 0o36,
+            difference: 0o37,
+            product: None,
+            quotient: None,
+        }),
+        (b'M', b'X') => Some(Form::Mask),
+        (b'C', b'X') => Some(Form::Population),
+        (b'S', b'X') => Some(Form::Set { bank: Bank::X }),
+        (b'S', b'A') => Some(Form::Set { bank: Bank::A }),
+        (b'S', b'B') => Some(Form::Set { bank: Bank::B }),
+        _ => None,
+    }
+}
+
+/// Whether it is an operation of the table: two letters and a digit 0 to 7, in upper case.
+pub(crate) fn is_operation_name(operation: &[u8]) -> bool
+    ensures { result ≡ is_operation operation.now }
+{
+    match operation {
+        [first, second, digit] => form_of(*first, *second).is_some() && is_octal_digit(*digit),
+        _ => false,
+    }
+}
+
+fn decode(form: Form, i: u8, operand: &[u8]) -> Option<Instr>
+    ensures { result ≡ decode form i operand.now }
+{
+    match form {
+        Form::Boolean => boolean(i, operand),
+        Form::Shift {
+            by_constant,
+            by_register,
+        } => shift(by_constant, by_register, i, operand),
+        Form::Normalise { code } => normalise(code, i, operand),
+        Form::Arithmetic {
+            sum,
+            difference,
+            product,
+            quotient,
+        } => arithmetic(sum, difference, product, quotient, i, operand),
+        Form::Mask => mask(i, operand),
+        Form::Population => population(i, operand),
+        Form::Set { bank } => set(bank, i, operand),
+    }
+}
+
+/// The instruction that an operation and its operand spell, both in upper case, if they spell one.
+pub(crate) fn instruction_of(operation: &[u8], operand: &[u8]) -> Option<Instr>
+    ensures { result ≡ instr_of operation.now operand.now }
+{
+    match operation {
+        [first, second, digit] => {
+            if !is_octal_digit(*digit) {
+                return None;
+            }
+            let form = form_of(*first, *second)?;
+            decode(form, *digit - b'0', operand)
+        }
+        _ => None,
+    }
+}

@@ -1,0 +1,148 @@
+use crate::operation::{instruction_of, is_operation_name};
+use s66_isa::Instr;
+
+/// An operation, spellings of its operand with blanks between, and the instruction as octal digits: code, i, j, k.
+const ACCEPTED: [(&str, &str, u32); 66] = [
+    ("BX1", "X2", 0o10120),
+    ("BX1", "X2*X3", 0o11123),
+    ("BX1", "X2+X3", 0o12123),
+    ("BX1", "X2-X3", 0o13123),
+    ("BX1", "-X2", 0o14102),
+    ("BX1", "-X2*X3", 0o15132),
+    ("BX1", "-X2+X3", 0o16132),
+    ("BX1", "-X2-X3", 0o17132),
+    ("LX1", "X2*X3 B8 +5 -100 5", 0o20100),
+    ("AX1", "5 N-5", 0o21100),
+    ("LX1", "B1,X2 X2,B1", 0o22112),
+    ("LX1", "B1", 0o22111),
+    ("LX1", "X2 B0,X2 X2,B0", 0o22102),
+    ("AX1", "B1,X2 X2,B1", 0o23112),
+    ("NX1", "B1,X2 X2,B1", 0o24112),
+    ("NX1", "X2 B0,X2", 0o24102),
+    ("ZX1", "B1", 0o25111),
+    ("UX1", "B1,X2", 0o26112),
+    ("PX1", "X2", 0o27102),
+    ("FX1", "X2+X3", 0o30123),
+    ("FX1", "X2-X3 -X3+X2", 0o31123),
+    ("DX1", "X2+X3", 0o32123),
+    ("DX1", "X2-X3 -X3+X2", 0o33123),
+    ("RX1", "X2+X3", 0o34123),
+    ("RX1", "X2-X3 -X3+X2", 0o35123),
+    ("IX1", "X2+X3", 0o36123),
+    ("IX1", "X2-X3 -X3+X2", 0o37123),
+    ("FX1", "X2*X3", 0o40123),
+    ("RX1", "X2*X3", 0o41123),
+    ("DX1", "X2*X3", 0o42123),
+    ("MX1", "= . =1.0 =. .. .*. -5 2*N/3", 0o43100),
+    ("FX1", "X2/X3", 0o44123),
+    ("RX1", "X2/X3", 0o45123),
+    ("CX1", "X2", 0o47102),
+    ("SA1", "A1+0 0+A1 A1-0 A1+2*N-3 -3+A1", 0o50110),
+    ("SA1", "5 -5 +5 N-5 B0+5 5+B0", 0o51100),
+    ("SA1", "A1*2 2*X1 B1/B2 X2*X3", 0o51100),
+    ("SA1", "A8 X10 X1X A B X A1. =X.I .A. 1X.I AX.I", 0o51100),
+    ("SA1", "B1+5 5+B1", 0o51110),
+    ("SA1", "X1+5 5+X1 X1-5", 0o52110),
+    ("SA1", "X1 +X1 X1+B0", 0o53110),
+    ("SA1", "B1+X2 X2+B1", 0o53121),
+    ("SA1", "A1 +A1 A1+B0", 0o54110),
+    ("SA1", "B1+A2 A2+B1", 0o54121),
+    ("SA1", "-B1+A2 A2-B1", 0o55121),
+    ("SA1", "B1", 0o56110),
+    ("SA1", "B1+B2", 0o56112),
+    ("SA1", "B0 B0+B0", 0o56100),
+    ("SA1", "-B1 B0-B1", 0o57101),
+    ("SA1", "-B0 B0-B0", 0o57100),
+    ("SA1", "-B1+B2 B2-B1", 0o57121),
+    ("SA6", "5", 0o51600),
+    ("SA0", "A1", 0o54010),
+    ("SB1", "A2+5", 0o60120),
+    ("SB0", "5", 0o61000),
+    ("SB1", "X2-5", 0o62120),
+    ("SB1", "+B2", 0o66120),
+    ("SB2", "B3-B4", 0o67234),
+    ("SX1", "A2-N", 0o70120),
+    ("SX1", "X2*X3", 0o71100),
+    ("SX1", "X2+1", 0o72120),
+    ("SX7", "X6+B5", 0o73765),
+    ("SX1", "A2", 0o74120),
+    ("SX1", "A2-B3", 0o75123),
+    ("SX3", "B0", 0o76300),
+    ("SX1", "-B2", 0o77102),
+];
+
+/// An operation, and operands that it does not take.
+const REFUSED: [(&str, &str); 16] = [
+    ("BX1", "+X2 +X2*X3 X2*-X3 X2/X3 X8 A2 B2 X2, X2+ 5"),
+    ("LX1", ",X2 B1, X1,X2 B1,B2 B1,X2,B3 B1+X2 A1 -B1 +X1 A1,B1"),
+    ("AX1", "5+ B1-5 X1,5 *"),
+    ("NX1", "5 A1 B1, ,B1 X1+B1 NORMALISE"),
+    ("FX1", "+X2+X3 -X2-X3 -X2*X3 -X2/X3 X2 X2+B3 X2+5"),
+    ("DX1", "X2/X3"),
+    ("IX1", "X2*X3 X2/X3"),
+    ("MX1", "B1 2*=3 =*2 2**3 N*/2 * *+2 2* / $ A. B.1 X.I"),
+    ("CX1", "-X2 B2 X2+X3 5"),
+    ("SA1", "A. B.1 X.I A1+X.I"),
+    ("SA1", "+ - 5+ 5--3 A1+-5 ++5 A1+* A1,B1"),
+    ("SA1", "-A1 -X1 5-A1 5-X1 X1-B2 X1-B0 -B2+X1 -B1-B2"),
+    ("SA1", "5-B1 -B1+5 -B0+5 A1+A2 A1+X1 X1+X2"),
+    ("SA1", "A1+B0+5 5+A1+B0 B1+B2+B3 X1+B0+B0 A1+B1+B2-B3"),
+    ("SB1", "X1-B2 X1+B1+5"),
+    ("SX1", "X1-B2 A1+A2"),
+];
+
+fn parcel_of(instr: Instr) -> u32 {
+    let digits = u32::from(instr.i) * 64 + u32::from(instr.j) * 8 + u32::from(instr.k);
+    u32::from(instr.op.code) * 512 + digits
+}
+
+fn spelled(operation: &str, operand: &str) -> Option<u32> {
+    match instruction_of(operation.as_bytes(), operand.as_bytes()) {
+        Some(instr) => Some(parcel_of(instr)),
+        None => None,
+    }
+}
+
+#[test]
+fn takes_operands(rt: HostRuntime) {
+    for (operation, operands, parcel) in ACCEPTED {
+        for operand in operands.split(' ') {
+            assert_eq!(rt;
+                spelled(operation, operand),
+                Some(parcel),
+                "{operation} {operand}"
+            );
+        }
+    }
+}
+
+#[test]
+fn refuses_operands(rt: HostRuntime) {
+    for (operation, operands) in REFUSED {
+        for operand in operands.split(' ') {
+            assert_eq!(rt; spelled(operation, operand), None, "{operation} {operand}");
+        }
+    }
+}
+
+#[test]
+fn reads_absent_operands(rt: HostRuntime) {
+    for operation in ["BX1", "FX1", "SA1", "CX1", "LX1", "AX1", "MX1"] {
+        assert_eq!(rt; spelled(operation, ""), None, "{operation}");
+    }
+    assert_eq!(rt; spelled("NX1", ""), Some(0o24101));
+    assert_eq!(rt; spelled("PX7", ""), Some(0o27707));
+}
+
+#[test]
+fn knows_operations(rt: HostRuntime) {
+    for word in ["BX0", "LX7", "SA1", "SB0", "SX7", "CX3"] {
+        assert!(rt; is_operation_name(word.as_bytes()), "{word}");
+    }
+    for word in [
+        "BX8", "BX", "BX11", "EX1", "NO1", "XS1", "SC1", "AB1", "NO", "",
+    ] {
+        assert!(rt; !is_operation_name(word.as_bytes()), "{word}");
+        assert_eq!(rt; spelled(word, "X2"), None, "{word}");
+    }
+}
