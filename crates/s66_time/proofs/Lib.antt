@@ -1,0 +1,7 @@
+pub mod Loops
+pub mod Growth
+pub mod History
+pub mod Writes
+pub mod Free
+pub mod Numbers
+pub mod Points

@@ -1,0 +1,4 @@
+pub mod Ordered
+pub mod TimedOrder
+pub mod Seen
+pub mod Kept
