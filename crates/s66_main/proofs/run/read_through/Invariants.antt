@@ -1,0 +1,10 @@
+use Rattle.std.proofs.Common.{◌≡◌, ◌≤◌, length}
+use Rattle.std.specs.Io.KnownBytes.{Consumes}
+use Rattle.s66_main.proofs.run.read_through.Given as goal
+
+abbrev pub invariant-calls : goal.invariant-calls
+invariant-calls g l = record {
+  taken : Consumes (g.F.Feed.bytes l.fn.reader) (g.F.Feed.bytes l.reader) l.input.items;
+  same : g.F.Feed.failures l.reader ≡ g.F.Feed.failures l.fn.reader;
+  some : l.counter ≤ length l.input.items;
+}

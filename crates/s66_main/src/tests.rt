@@ -1,0 +1,336 @@
+ghost use Rattle.std.specs.Prelude.{None, Some};
+
+use crate::command::Command;
+use crate::outcome::{Fault, Status};
+use crate::run::run_command;
+use crate::usage::command_of;
+use arrayvec::ArrayVec;
+use s66_line::{Failed, Feed, OverRead, OverWrite, Sink, SourceError};
+use std::alloc::AllocError;
+use std::process::Abort;
+use std::test::Fail;
+
+const TIME: Command = Command::Time { trace: false };
+
+/// The lines of code, each with two blanks in front and a newline after it.
+fn source_of<R: AllocGlobal>(rt: &R, code: &str) -> Result<String, AllocError> {
+    let mut source = String::new(rt.alloc());
+    for line in code.split('\n') {
+        if !line.is_empty() {
+            source.push_str("  ")?;
+            source.push_str(line)?;
+            source.push('\n')?;
+        }
+    }
+    Ok(source)
+}
+
+/// The result of `time` at a source, and what it wrote.
+fn run_time<R: AllocGlobal>(rt: &R, source: &[u8]) -> (Result<Status, Fault>, Vec<u8>) {
+    let mut reader = OverRead::new(source);
+    let mut writer = OverWrite::new(Vec::new(rt.alloc()));
+    let result = run_command(rt, TIME, &mut reader, &mut writer);
+    (result, writer.into_inner())
+}
+
+/// Checks what `time` writes for the lines of code.
+fn check_row<R: AllocGlobal + Abort>(
+    rt: &R,
+    name: &str,
+    code: &str,
+    text: &str,
+) -> Result<(), Fail> {
+    let source = source_of(rt, code)?;
+    let (result, written) = run_time(rt, source.as_bytes());
+    assert_eq!(rt; result, Ok(Status::Done), "{name}");
+    assert_eq!(rt; written.as_slice(), text.as_bytes(), "{name}");
+    Ok(())
+}
+
+/// Checks that `time` refuses a source, and writes nothing.
+fn check_refused<R: AllocGlobal + Abort>(rt: &R, name: &str, source: &[u8], refusal: SourceError) {
+    let (result, written) = run_time(rt, source);
+    assert_eq!(rt; result, Err(Fault::Source(refusal)), "{name}");
+    assert!(rt; written.is_empty(), "{name}");
+}
+
+#[test]
+fn times_single_units(rt: HostRuntime) -> Result<(), Fail> {
+    let rows = [
+        ("empty input", "", ""),
+        (
+            "one Boolean",
+            "BX1 X2+X3",
+            "BLOCK 1 LINE 1 COUNT 1 PARCELS 1 NO 0 TIME 4\n",
+        ),
+        (
+            "two Booleans",
+            "BX1 X2\nBX3 X4",
+            "BLOCK 1 LINE 1 COUNT 2 PARCELS 2 NO 0 TIME 8\n",
+        ),
+        (
+            "one load",
+            "SA1 A1+B1\nBX6 X1\nBX7 X2",
+            "BLOCK 1 LINE 1 COUNT 3 PARCELS 3 NO 0 TIME 16\n",
+        ),
+        (
+            "three multiplies",
+            "FX1 X2*X3\nFX4 X5*X6\nFX0 X7*X7",
+            "BLOCK 1 LINE 1 COUNT 3 PARCELS 3 NO 0 TIME 22\n",
+        ),
+        (
+            "packing gap",
+            "BX7 X2\nLX3 1\nIX4 X5+X6\nSA1 A1+100",
+            "BLOCK 1 LINE 1 COUNT 4 PARCELS 5 NO 1 TIME 12\n",
+        ),
+        (
+            "B0",
+            "NX1 B0,X2\nSB0 5\nSX3 B0",
+            "BLOCK 1 LINE 1 COUNT 3 PARCELS 4 NO 0 TIME 7\n",
+        ),
+    ];
+    for (name, code, text) in rows {
+        check_row(&rt, name, code, text)?;
+    }
+    Ok(())
+}
+
+#[test]
+fn times_conflicts(rt: HostRuntime) -> Result<(), Fail> {
+    let rows = [
+        (
+            "first order",
+            "FX1 X2*X3\nBX1 X4",
+            "BLOCK 1 LINE 1 COUNT 2 PARCELS 2 NO 0 TIME 14\n",
+        ),
+        (
+            "third order",
+            "FX1 X2/X3\nBX4 X1*X5\nSX5 B1",
+            "BLOCK 1 LINE 1 COUNT 3 PARCELS 3 NO 0 TIME 33\n",
+        ),
+        (
+            "held until 30",
+            "FX1 X2/X3\nBX4 X1*X5\nFX5 X6+X7",
+            "BLOCK 1 LINE 1 COUNT 3 PARCELS 3 NO 0 TIME 33\n",
+        ),
+        (
+            "store then load",
+            "SA6 A6+B1\nSA1 A2+B2",
+            "BLOCK 1 LINE 1 COUNT 2 PARCELS 2 NO 0 TIME 9\n",
+        ),
+        (
+            "load twice",
+            "SA1 A1+B1\nSA1 A1+B1",
+            "BLOCK 1 LINE 1 COUNT 2 PARCELS 2 NO 0 TIME 16\n",
+        ),
+        (
+            "unpack, then shift",
+            "UX1 B1,X1\nLX1 B1",
+            "BLOCK 1 LINE 1 COUNT 2 PARCELS 2 NO 0 TIME 8\n",
+        ),
+        (
+            "population, then divide",
+            "CX1 X2\nFX3 X4/X5",
+            "BLOCK 1 LINE 1 COUNT 2 PARCELS 2 NO 0 TIME 39\n",
+        ),
+    ];
+    for (name, code, text) in rows {
+        check_row(&rt, name, code, text)?;
+    }
+    Ok(())
+}
+
+#[test]
+fn cuts_blocks(rt: HostRuntime) -> Result<(), Fail> {
+    check_row(
+        &rt,
+        "branch between",
+        "BX1 X2\nEQ B1,B2,L\nFX1 X2+X3",
+        "BLOCK 1 LINE 1 COUNT 1 PARCELS 1 NO 0 TIME 4\nBLOCK 2 LINE 3 COUNT 1 PARCELS 1 NO 0 TIME 5\n",
+    )?;
+    let full = "BX0 X0\n".repeat(rt.alloc(), 64)?;
+    check_row(
+        &rt,
+        "sixty-four",
+        full.as_str(),
+        "BLOCK 1 LINE 1 COUNT 64 PARCELS 64 NO 0 TIME 256\n",
+    )?;
+    let over = "BX0 X0\n".repeat(rt.alloc(), 65)?;
+    check_row(
+        &rt,
+        "sixty-five",
+        over.as_str(),
+        "BLOCK 1 LINE 1 COUNT 64 PARCELS 64 NO 0 TIME 256\nBLOCK 2 LINE 65 COUNT 1 PARCELS 1 NO 0 TIME 4\n",
+    )
+}
+
+#[test]
+fn refuses_operands(rt: HostRuntime) -> Result<(), Fail> {
+    let rows = [
+        "BX1 X2\nSA1 A1+B1+5",
+        "BX1 X2\nSA1 *+2",
+        "BX1 X2\nSX1 X2-B3",
+        "BX1 X2\nSX1 X.I",
+        "BX1 X2\nIX1 X2*X3",
+    ];
+    for code in rows {
+        let source = source_of(&rt, code)?;
+        check_refused(
+            &rt,
+            code,
+            source.as_bytes(),
+            SourceError::BadOperand { line: 2 },
+        );
+    }
+    Ok(())
+}
+
+#[test]
+fn keeps_limits(rt: HostRuntime) -> Result<(), Fail> {
+    let long = "*".repeat(rt.alloc(), 201)?;
+    check_refused(
+        &rt,
+        "201 bytes",
+        long.as_bytes(),
+        SourceError::LineTooLong { line: 1 },
+    );
+    let many = "*\n".repeat(rt.alloc(), 20001)?;
+    check_refused(&rt, "20,001 lines", many.as_bytes(), SourceError::TooLarge);
+    let most = "*\n".repeat(rt.alloc(), 20000)?;
+    let (result, written) = run_time(&rt, most.as_bytes());
+    assert_eq!(rt; result, Ok(Status::Done));
+    assert!(rt; written.is_empty());
+    Ok(())
+}
+
+/// A reader that gives a byte of a comment, and then fails.
+#[derive(Drop)]
+struct FailsSecond {
+    called: bool,
+    failed: u64,
+}
+
+impl Feed for FailsSecond {
+    ghost bytes = { λ _. None };
+
+    ghost failures = { λ s. s.failed };
+
+    fn feed(&mut self, buffer: &mut [u8]) -> Result<usize, Failed> {
+        if self.called || buffer.is_empty() {
+            self.failed += 1;
+            return Err(Failed);
+        }
+        self.called = true;
+        buffer[0] = b'*';
+        Ok(1)
+    }
+}
+
+/// A writer that takes a byte a call, and fails when it has no room.
+#[derive(Drop)]
+struct TakesFew {
+    room: usize,
+    taken: ArrayVec<u8, 8>,
+    failed: u64,
+}
+
+impl Sink for TakesFew {
+    ghost bytes = { λ s. Some s.taken.items };
+
+    ghost failures = { λ s. s.failed };
+
+    fn sink(&mut self, text: &[u8]) -> Result<usize, Failed> {
+        if text.is_empty() {
+            return Ok(0);
+        }
+        if self.taken.len() >= self.room || self.taken.is_full() {
+            self.failed += 1;
+            return Err(Failed);
+        }
+        self.taken.push(text[0]);
+        Ok(1)
+    }
+}
+
+#[test]
+fn tells_read_fault(rt: HostRuntime) {
+    let mut reader = FailsSecond {
+        called: false,
+        failed: 0,
+    };
+    let mut writer = OverWrite::new(Vec::new(rt.alloc()));
+    let result = run_command(&rt, TIME, &mut reader, &mut writer);
+    assert_eq!(rt; result, Err(Fault::Read));
+    assert!(rt; writer.into_inner().is_empty());
+}
+
+/// Runs `time` on a source of one block over a writer with room for so many bytes, 8 at most.
+fn run_into<R: AllocGlobal>(rt: &R, room: usize) -> (Result<Status, Fault>, ArrayVec<u8, 8>) {
+    let mut reader = OverRead::new(b"  BX1 X2+X3\n".as_slice());
+    let mut writer = TakesFew {
+        room,
+        taken: ArrayVec::new(),
+        failed: 0,
+    };
+    let result = run_command(rt, TIME, &mut reader, &mut writer);
+    let TakesFew {
+        room: _,
+        taken,
+        failed: _,
+    } = writer;
+    (result, taken)
+}
+
+#[test]
+fn tells_write_fault(rt: HostRuntime) {
+    let (result, taken) = run_into(&rt, 0);
+    assert_eq!(rt; result, Err(Fault::Write));
+    assert!(rt; taken.is_empty());
+    let (result, taken) = run_into(&rt, 5);
+    assert_eq!(rt; result, Err(Fault::Write));
+    assert_eq!(rt; taken.as_slice(), b"BLOCK".as_slice());
+}
+
+#[test]
+fn shows_faults(rt: HostRuntime) -> Result<(), Fail> {
+    let rows = [
+        (
+            Fault::Source(SourceError::BadOperand { line: 2 }),
+            "LINE 2 BAD OPERAND",
+        ),
+        (
+            Fault::Source(SourceError::LineTooLong { line: 1 }),
+            "LINE 1 TOO LONG",
+        ),
+        (Fault::Source(SourceError::TooLarge), "TOO MANY LINES"),
+        (Fault::Memory, "OUT OF MEMORY"),
+        (Fault::Read, "READ FAILED"),
+        (Fault::Write, "WRITE FAILED"),
+    ];
+    for (fault, text) in rows {
+        let shown = format!(in rt.alloc(); "{fault}")?;
+        assert_eq!(rt; shown.as_str(), text);
+    }
+    Ok(())
+}
+
+/// The status of words that are no command.
+fn usage_code<R: AllocGlobal>(rt: &R, words: &[&str]) -> Option<u8> {
+    match command_of(rt.alloc(), words) {
+        Ok(_) => None,
+        Err(usage) => Some(usage.code()),
+    }
+}
+
+#[test]
+fn reads_words(rt: HostRuntime) -> Result<(), Fail> {
+    assert_eq!(rt; command_of(rt.alloc(), &["s66", "time"])?, TIME);
+    assert_eq!(rt; usage_code(&rt, &["s66"]), Some(2));
+    assert_eq!(rt; usage_code(&rt, &["s66", "time", "--nodes", "5"]), Some(2));
+    assert_eq!(rt; usage_code(&rt, &["s66", "time", "--trace"]), Some(2));
+    assert_eq!(rt; usage_code(&rt, &["s66", "order"]), Some(2));
+    assert_eq!(rt; usage_code(&rt, &["s66", "nonsense"]), Some(2));
+    assert_eq!(rt; usage_code(&rt, &["s66", "--help"]), Some(0));
+    assert_eq!(rt; usage_code(&rt, &["s66", "help"]), Some(0));
+    Ok(())
+}
