@@ -26,7 +26,7 @@ impl Order {
     ghost use Rattle.s66_line.specs.Block.{instrs_of};
     ghost use Rattle.s66_model.specs.LegalOrder.{IsLegal};
 
-    /// The source order.
+    /// The source order; the time is that of its length.
     pub fn source(block: &Block) -> Order
         ensures block { result.block ≡ instrs_of block.now }
         ensures numbers { result.numbers ≡ numbers (instrs_of block.now) }
@@ -60,7 +60,7 @@ impl Order {
         }
     }
 
-    /// Whether it is an order of this block.
+    /// Whether it is an order of this block; the time is that of its length.
     pub(crate) fn is_of(&self, block: &Block) -> bool
         ensures { IsTrue result ↔ (self.now.block ≡ instrs_of block.now) }
     {

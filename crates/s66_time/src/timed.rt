@@ -63,7 +63,7 @@ impl Timed {
         self.end
     }
 
-    /// Whether this block was timed under this profile.
+    /// Whether this block was timed under this profile; the time is that of the block's length.
     pub fn is_of(&self, block: &Block, profile: &Profile) -> bool
         ensures { IsTrue result ↔ (self.now.problem ≡ record { block = instrs_of block.now; profile = profile.now }) }
     {
