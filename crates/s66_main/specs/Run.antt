@@ -18,7 +18,7 @@ pub record Device : Type 0 where
 
 -- what a command writes for what it reads, or why it refuses it
 abbrev pub output_of : Command → List ℕ → Result (List ℕ) SourceError
-output_of (Time trace) input = time_text input
+output_of (Time trace) input = time_text trace input
 
 -- input was read, and it was all
 abbrev pub ReadsAll : Device → Device → List ℕ → Type 0

@@ -1,5 +1,5 @@
--- The text of `time`: a line for each block.
-use Rattle.std.specs.Prelude.{ℕ, ◌+◌, List, [], ◌∷◌, ◌++◌, length, map, codes, decimal, Result, Ok, Err}
+-- The text of `time`: a line for each block and, with its trace, a line for each instruction.
+use Rattle.std.specs.Prelude.{ℕ, ◌+◌, Bool, if◌then◌else◌, List, [], ◌∷◌, ◌++◌, length, map, codes, decimal, Result, Ok, Err}
 use Rattle.s66_isa.specs.declared.instr.Instr.{Instr}
 use Rattle.s66_isa.specs.Words.{weigh}
 use Rattle.s66_isa.specs.Table.{parcels_of, numbers, standard}
@@ -9,6 +9,11 @@ use Rattle.s66_line.specs.declared.entry.Entry.{Entry}
 use Rattle.s66_line.specs.declared.error.SourceError.{SourceError}
 use Rattle.s66_line.specs.Block.{instrs_of, line_of}
 use Rattle.s66_line.specs.Source.{source_of}
+use Rattle.s66_time.specs.TimedOrder.{TimedOrder, point_at, latest_result}
+
+-- a block as it was written, under the standard profile
+abbrev pub as_written : List Instr → TimedOrder
+as_written block = record { problem = record { block = block; profile = standard }; numbers = numbers block }
 
 -- the parcels of the instructions, no NO among them
 abbrev pub parcels_in : List Instr → ℕ
@@ -18,26 +23,41 @@ parcels_in block = weigh (λ (n : Instr). parcels_of n.op.code) block
 abbrev pub pads_in : List Instr → ℕ
 pads_in block = length (pads 0 (map (len_at block) (numbers block)))
 
--- the total of a block as it was written, under the standard profile
-abbrev pub standard_total : List Instr → ℕ
-standard_total block = total_of (record { block = block; profile = standard }) (numbers block)
+-- the total of a timed order
+abbrev pub total_time : TimedOrder → ℕ
+total_time t = total_of t.problem t.numbers
 
 -- the line of the n-th block, from 1
 abbrev pub time_line : ℕ → List Entry → List ℕ
 time_line n block =
     codes "BLOCK " ++ decimal n ++ codes " LINE " ++ decimal (line_of block 1) ++ codes " COUNT " ++ decimal (length (instrs_of block))
     ++ codes " PARCELS " ++ decimal (parcels_in (instrs_of block)) ++ codes " NO " ++ decimal (pads_in (instrs_of block))
-    ++ codes " TIME " ++ decimal (standard_total (instrs_of block)) ++ codes "\n"
+    ++ codes " TIME " ++ decimal (total_time (as_written (instrs_of block))) ++ codes "\n"
+
+-- the line of the instruction of this number, which stands at a position, from 0
+abbrev pub trace_line : TimedOrder → ℕ → ℕ → List ℕ
+trace_line t position number =
+    codes "I " ++ decimal number ++ codes " PARCEL " ++ decimal (point_at t position).parcel ++ codes " ISSUE " ++ decimal (point_at t position).issue
+    ++ codes " START " ++ decimal (point_at t position).start ++ codes " DONE " ++ decimal (latest_result (point_at t position))
+    ++ codes " FREE " ++ decimal (point_at t position).free ++ codes "\n"
+
+-- the lines of the instructions of these numbers, before which so many stand
+abbrev pub trace_lines : TimedOrder → ℕ → List ℕ → List ℕ
+trace_lines t position [] = []
+trace_lines t position (n ∷ ns) = trace_line t position n ++ trace_lines t (position + 1) ns
+
+abbrev pub block_lines : Bool → ℕ → List Entry → List ℕ
+block_lines trace n block = time_line n block ++ (if trace then trace_lines (as_written (instrs_of block)) 0 (numbers (instrs_of block)) else [])
 
 -- the lines of these blocks, before which n blocks stand
-abbrev pub time_lines : ℕ → List (List Entry) → List ℕ
-time_lines n [] = []
-time_lines n (block ∷ blocks) = time_line (n + 1) block ++ time_lines (n + 1) blocks
+abbrev pub time_lines : Bool → ℕ → List (List Entry) → List ℕ
+time_lines trace n [] = []
+time_lines trace n (block ∷ blocks) = block_lines trace (n + 1) block ++ time_lines trace (n + 1) blocks
 
-abbrev pub time_output : Result (List (List Entry)) SourceError → Result (List ℕ) SourceError
-time_output (Ok blocks) = Ok (time_lines 0 blocks)
-time_output (Err e) = Err e
+abbrev pub time_output : Bool → Result (List (List Entry)) SourceError → Result (List ℕ) SourceError
+time_output trace (Ok blocks) = Ok (time_lines trace 0 blocks)
+time_output trace (Err e) = Err e
 
 -- what `time` writes for a source, or the source's refusal
-abbrev pub time_text : List ℕ → Result (List ℕ) SourceError
-time_text source = time_output (source_of source)
+abbrev pub time_text : Bool → List ℕ → Result (List ℕ) SourceError
+time_text trace source = time_output trace (source_of source)

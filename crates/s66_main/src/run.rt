@@ -57,11 +57,11 @@ fn read_all<F: Feed>(alloc: Global, reader: &mut F) -> Result<Vec<u8>, Fault>
 }
 
 /// What `time` writes for a source, or the source's refusal.
-fn time_text_of(alloc: Global, source: &[u8]) -> Result<Vec<u8>, SourceError>
-    ensures { Gives (λ text. text.items) result (time_text source.now) }
+fn time_text_of(alloc: Global, trace: bool, source: &[u8]) -> Result<Vec<u8>, SourceError>
+    ensures { Gives (λ text. text.items) result (time_text trace source.now) }
 {
     let source = read_source(alloc, source)?;
-    Ok(lines_of_blocks(alloc, source.blocks())?)
+    Ok(lines_of_blocks(alloc, trace, source.blocks())?)
 }
 
 /// What a command writes for its input, or the input's refusal.
@@ -69,7 +69,7 @@ fn text_of(alloc: Global, command: Command, input: &[u8]) -> Result<Vec<u8>, Sou
     ensures { Gives (λ text. text.items) result (output_of command input.now) }
 {
     match command {
-        Command::Time { trace: _ } => time_text_of(alloc, input),
+        Command::Time { trace } => time_text_of(alloc, trace, input),
     }
 }
 

@@ -1,11 +1,11 @@
-ghost use Rattle.std.specs.Prelude.{◌≡◌, ◌++◌, decimal, length, OnOk, IfOk};
+ghost use Rattle.std.specs.Prelude.{◌≡◌, ◌<◌, ◌++◌, decimal, length, OnOk, IfOk};
 ghost use Rattle.s66_line.specs.Block.{instrs_of};
-ghost use Rattle.s66_main.specs.Text.{pads_in, standard_total, time_line, time_lines};
+ghost use Rattle.s66_main.specs.Text.{as_written, pads_in, total_time, time_line, trace_line, trace_lines, block_lines, time_lines};
 
 use itoa::Buffer;
 use s66_isa::Profile;
 use s66_line::Block;
-use s66_time::{Order, pack, time_of};
+use s66_time::{Order, Timed, pack, time_of};
 use std::alloc::{AllocError, Global};
 
 fn push_number(out: &mut Vec<u8>, number: usize) -> Result<(), AllocError>
@@ -23,22 +23,16 @@ fn push_field(out: &mut Vec<u8>, name: &[u8], number: usize) -> Result<(), Alloc
     push_number(out, number)
 }
 
-/// How many `NO`s fill up the words of a block as it was written.
-fn pads_of(block: &Block) -> usize
-    ensures { result ≡ pads_in (instrs_of block.now) }
-{
-    pack(block, &Order::source(block)).pads.len()
-}
-
-/// The total of a block as it was written, in minor cycles.
-fn total_of_block(block: &Block) -> u32
-    ensures { result ≡ standard_total (instrs_of block.now) }
-{
-    time_of(block, &Profile::standard(), &Order::source(block)).total()
-}
-
 /// The line of a block, whose number is from 1.
-fn push_line(out: &mut Vec<u8>, number: usize, block: &Block) -> Result<(), AllocError>
+fn push_time_line(
+    out: &mut Vec<u8>,
+    number: usize,
+    block: &Block,
+    pads: usize,
+    total: u32,
+) -> Result<(), AllocError>
+    requires pads { pads ≡ pads_in (instrs_of block.now) }
+    requires total { total ≡ total_time (as_written (instrs_of block.now)) }
     ensures { OnOk result (out.new.items ≡ out.old.items ++ time_line number block.now) }
 {
     let count = block.count();
@@ -46,18 +40,67 @@ fn push_line(out: &mut Vec<u8>, number: usize, block: &Block) -> Result<(), Allo
     push_field(out, b" LINE ", block.line(1) as usize)?;
     push_field(out, b" COUNT ", count)?;
     push_field(out, b" PARCELS ", block.parcels() as usize)?;
-    push_field(out, b" NO ", pads_of(block))?;
-    push_field(out, b" TIME ", total_of_block(block) as usize)?;
+    push_field(out, b" NO ", pads)?;
+    push_field(out, b" TIME ", total as usize)?;
     out.extend_from_slice(b"\n")
 }
 
-/// A line for each block.
-pub fn lines_of_blocks(alloc: Global, blocks: &[Block]) -> Result<Vec<u8>, AllocError>
-    ensures { IfOk result (λ text. text.items ≡ time_lines 0 blocks.now) }
+/// The line of the instruction of this number, which stands at a position.
+fn push_trace_line(
+    out: &mut Vec<u8>,
+    timed: &Timed,
+    position: usize,
+    number: u8,
+) -> Result<(), AllocError>
+    requires { position < length timed.now.numbers }
+    ensures { OnOk result (out.new.items ≡ out.old.items ++ trace_line timed.now position number) }
+{
+    let place = timed.at(position);
+    push_field(out, b"I ", number as usize)?;
+    push_field(out, b" PARCEL ", place.parcel as usize)?;
+    push_field(out, b" ISSUE ", place.issue as usize)?;
+    push_field(out, b" START ", place.start as usize)?;
+    push_field(out, b" DONE ", place.done as usize)?;
+    push_field(out, b" FREE ", place.free as usize)?;
+    out.extend_from_slice(b"\n")
+}
+
+/// A line for each instruction of an order.
+fn push_trace(out: &mut Vec<u8>, timed: &Timed) -> Result<(), AllocError>
+    ensures { OnOk result (out.new.items ≡ out.old.items ++ trace_lines timed.now 0 timed.now.numbers) }
+{
+    for (position, number) in timed.order().numbers().iter().enumerate() {
+        push_trace_line(out, timed, position, *number)?;
+    }
+    Ok(())
+}
+
+/// The lines of a block, whose number is from 1.
+fn push_block(
+    out: &mut Vec<u8>,
+    trace: bool,
+    number: usize,
+    block: &Block,
+) -> Result<(), AllocError>
+    ensures { OnOk result (out.new.items ≡ out.old.items ++ block_lines trace number block.now) }
+{
+    let order = Order::source(block);
+    let pads = pack(block, &order).pads.len();
+    let timed = time_of(block, &Profile::standard(), &order);
+    push_time_line(out, number, block, pads, timed.total())?;
+    if trace {
+        push_trace(out, &timed)?;
+    }
+    Ok(())
+}
+
+/// The lines of each block.
+pub fn lines_of_blocks(alloc: Global, trace: bool, blocks: &[Block]) -> Result<Vec<u8>, AllocError>
+    ensures { IfOk result (λ text. text.items ≡ time_lines trace 0 blocks.now) }
 {
     let mut out = Vec::new(alloc);
     for (i, block) in blocks.iter().enumerate() {
-        push_line(&mut out, i + 1, block)?;
+        push_block(&mut out, trace, i + 1, block)?;
     }
     Ok(out)
 }
