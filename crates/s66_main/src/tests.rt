@@ -10,6 +10,9 @@ use std::alloc::AllocError;
 use std::process::Abort;
 use std::test::Fail;
 
+mod lines;
+mod trace;
+
 const TIME: Command = Command::Time { trace: false };
 
 /// The lines of code, each with two blanks in front and a newline after it.
@@ -25,12 +28,29 @@ fn source_of<R: AllocGlobal>(rt: &R, code: &str) -> Result<String, AllocError> {
     Ok(source)
 }
 
-/// The result of `time` at a source, and what it wrote.
-fn run_time<R: AllocGlobal>(rt: &R, source: &[u8]) -> (Result<Status, Fault>, Vec<u8>) {
+/// The result of a command at a source, and what it wrote.
+fn run<R: AllocGlobal>(
+    rt: &R,
+    command: Command,
+    source: &[u8],
+) -> (Result<Status, Fault>, Vec<u8>) {
     let mut reader = OverRead::new(source);
     let mut writer = OverWrite::new(Vec::new(rt.alloc()));
-    let result = run_command(rt, TIME, &mut reader, &mut writer);
+    let result = run_command(rt, command, &mut reader, &mut writer);
     (result, writer.into_inner())
+}
+
+/// Checks what a command writes for a source.
+fn check_text<R: AllocGlobal + Abort>(
+    rt: &R,
+    command: Command,
+    name: &str,
+    source: &[u8],
+    text: &str,
+) {
+    let (result, written) = run(rt, command, source);
+    assert_eq!(rt; result, Ok(Status::Done), "{name}");
+    assert_eq!(rt; written.as_slice(), text.as_bytes(), "{name}");
 }
 
 /// Checks what `time` writes for the lines of code.
@@ -41,15 +61,13 @@ fn check_row<R: AllocGlobal + Abort>(
     text: &str,
 ) -> Result<(), Fail> {
     let source = source_of(rt, code)?;
-    let (result, written) = run_time(rt, source.as_bytes());
-    assert_eq!(rt; result, Ok(Status::Done), "{name}");
-    assert_eq!(rt; written.as_slice(), text.as_bytes(), "{name}");
+    check_text(rt, TIME, name, source.as_bytes(), text);
     Ok(())
 }
 
 /// Checks that `time` refuses a source, and writes nothing.
 fn check_refused<R: AllocGlobal + Abort>(rt: &R, name: &str, source: &[u8], refusal: SourceError) {
-    let (result, written) = run_time(rt, source);
+    let (result, written) = run(rt, TIME, source);
     assert_eq!(rt; result, Err(Fault::Source(refusal)), "{name}");
     assert!(rt; written.is_empty(), "{name}");
 }
@@ -197,7 +215,7 @@ fn keeps_limits(rt: HostRuntime) -> Result<(), Fail> {
     let many = "*\n".repeat(rt.alloc(), 20001)?;
     check_refused(&rt, "20,001 lines", many.as_bytes(), SourceError::TooLarge);
     let most = "*\n".repeat(rt.alloc(), 20000)?;
-    let (result, written) = run_time(&rt, most.as_bytes());
+    let (result, written) = run(&rt, TIME, most.as_bytes());
     assert_eq!(rt; result, Ok(Status::Done));
     assert!(rt; written.is_empty());
     Ok(())
