@@ -1,2 +1,3 @@
 pub mod Consumed
 pub mod Named
+pub mod TraceFlag

@@ -1,16 +1,21 @@
--- Words that clap takes name the subcommand `time`.
+-- Words that clap takes name the subcommand `time`, and give its flag or not.
 use Rattle.std.proofs.Common.{◌≡◌, ◌⊎◌, inl, inr, ℕ, Bool, cond, true, false, List, [], ◌∷◌, Option, Some, None, refl, sym, ap, ◌∙◌, subst, Box, box_value, codes, fold, drop, is_some, option_map, bytes_eq}
-use Rattle.clap.specs.Words.{App, HasMatchesOf, Kinds, Rule, Text, is_simple_and_free, subcommand_name_of}
-use Rattle.clap.specs.Simple.{subcommand_rows}
+use Rattle.std.specs.Prelude.{unwrap_or}
+use Rattle.std.specs.Option.{option_map_or}
+use Rattle.clap.specs.Words.{App, HasMatchesOf, Kinds, Rule, Text, is_simple_and_free, one_text, rows_of, subcommand_name_of, subcommand_of, subcommand_rows, subcommand_rows_of}
+use Rattle.clap.specs.Takes.{is_given}
 use Rattle.clap.specs.declared.parser.matches.ArgMatches.{ArgMatches}
 use Rattle.clap.specs.declared.parser.matches.ArgMatches.TheViews.{out-ArgMatches, out-SubCommand}
 use Rattle.clap.specs.declared.parser.matches.SubCommand.{SubCommand}
 use Rattle.clap.specs.Kinds.{or_else}
-use Rattle.clap.specs.Walk.{Held, Names, Outcome, done, waits, plain, refused, Row, Step, next, trailing, subcommand, value, Waiting, idle, option, positional, Walk, after_flag, after_step, answers_to, arg_by_index, arg_by_long, bundle, finished, settled, long_met, long_or_other, nothing_held, plain_word, short_or_plain, subcommand_met, subcommand_or_other, to_positional, walk, walk_from, walked, walked_from, word_met}
+use Rattle.clap.specs.Walk.{Held, Names, Outcome, done, waits, plain, refused, Row, Step, next, trailing, subcommand, value, Waiting, idle, option, positional, Walk, after_flag, after_step, answers_to, arg_by_index, arg_by_long, bundle, finished, settled, long_met, long_or_other, nothing_held, plain_word, rows_after, short_or_plain, subcommand_met, subcommand_or_other, to_positional, walk, walk_from, walked, walked_from, word_met}
 use Rattle.clap.specs.Lexer.{long_of, short_of}
 use Rattle.clap.specs.Simple.{Shape, built, entered, names_of}
 use Rattle.clap.specs.Faults.{check_fault, defaults_fault, entered_fault, fault_of, settle_fault, other_fault, turn_fault, walk_fault, word_fault}
-use Rattle.s66_main.specs.Usage.{s66_app, subcommand_name}
+use Rattle.clap.specs.declared.parser.matches.Found.{Found}
+use Rattle.clap.proofs.WalkLemmas.{one_text-rows}
+use Rattle.s66_main.specs.Usage.{has_option, s66_app}
+use Rattle.s66_main.proofs.TraceFlag.{flag-is, rules}
 
 -- ONLY A SUBCOMMAND'S NAME STOPS A WALK
 
@@ -124,13 +129,16 @@ walk-time (word ∷ rest) w good none = walk-time rest (walked top.rules names w
 
 -- A PARSE WITHOUT A FAULT ENTERS `time`
 
-entered-time : (stop : Option (Text × List Text)) (rows : List Row) → IsTime stop → check_fault top rows (is_some (entered (built s66_app) stop)) ≡ [] →
-    option_map (λ s. s.0) (entered (built s66_app) stop) ≡ Some (codes "time")
-entered-time None rows good none = absurd (full _ _ none)
-entered-time (Some (name, rest)) rows good none =
-    subst (λ n. option_map (λ s. s.0) (entered (built s66_app) (Some (n, rest))) ≡ Some (codes "time")) (sym good) refl
+-- the subcommand is `time`, with its matches on some words
+abbrev IsEntered : Option (Text × List Row) → Type 0
+IsEntered met = (rest : List Text) × (met ≡ Some (codes "time", rows_after rules [] rest))
 
-pub named : (words : List Text) → fault_of s66_app words ≡ [] → subcommand_name words ≡ Some (codes "time")
+entered-time : (stop : Option (Text × List Text)) (rows : List Row) → IsTime stop → check_fault top rows (is_some (entered (built s66_app) stop)) ≡ [] →
+    IsEntered (entered (built s66_app) stop)
+entered-time None rows good none = absurd (full _ _ none)
+entered-time (Some (name, rest)) rows good none = subst (λ n. IsEntered (entered (built s66_app) (Some (n, rest)))) (sym good) (rest, refl)
+
+pub named : (words : List Text) → fault_of s66_app words ≡ [] → IsEntered (subcommand_of s66_app words)
 named words none =
     let words-after = drop 1 words in
     let end = walk top.rules names nothing_held words-after in
@@ -141,16 +149,34 @@ named words none =
     (second-none (entered_fault (built s66_app) end.stopped) _
     (second-none (walk_fault top names (walk_from nothing_held) words-after) _ none))))
 
-name-at : {Z : Type 0} (met : Option (Box SubCommand Z)) → option_map (λ b. (out-SubCommand (box_value b)).name.now) met ≡ option_map (λ s. s.0) (subcommand_rows met)
-name-at None = refl
-name-at (Some b) = refl
+-- WHAT CLAP ANSWERED
 
 -- the words of a parse that clap answered
 pub faultless : (a : App) (words : List Text) → a ≡ s66_app → (is_simple_and_free a ≡ true → fault_of a words ≡ []) → fault_of s66_app words ≡ []
 faultless a words is kinds = subst (λ (b : App). is_simple_and_free b ≡ true → fault_of b words ≡ []) is kinds refl
 
-pub named-in : (m : ArgMatches) (a : App) (words : List Text) → a ≡ s66_app → (is_simple_and_free a ≡ true → fault_of a words ≡ []) → HasMatchesOf a words m →
+pub met : (m : ArgMatches) (a : App) (words : List Text) → a ≡ s66_app → HasMatchesOf a words m → subcommand_rows_of m ≡ subcommand_of s66_app words
+met m a words is matches = (subst (λ (b : App). HasMatchesOf b words m) is matches refl).1
+
+name-at : {Z : Type 0} (met : Option (Box SubCommand Z)) → option_map (λ b. (out-SubCommand (box_value b)).name.now) met ≡ option_map (λ s. s.0) (subcommand_rows met)
+name-at None = refl
+name-at (Some b) = refl
+
+pub named-in : (m : ArgMatches) (words : List Text) → fault_of s66_app words ≡ [] → subcommand_rows_of m ≡ subcommand_of s66_app words →
     subcommand_name_of m ≡ Some (codes "time")
-named-in m a words is kinds matches =
-    let met = subst (λ (b : App). HasMatchesOf b words m) is matches in
-    name-at (out-ArgMatches m).subcommand ∙ ap (λ p. option_map (λ s. s.0) p) (met refl).1 ∙ named words (faultless a words is kinds)
+named-in m words none is =
+    name-at (out-ArgMatches m).subcommand ∙ ap (λ p. option_map (λ s. s.0) p) (is ∙ (named words none).1)
+
+-- the flag, as it was read of what was found for `time`
+pub traced : (m : ArgMatches) (words : List Text) (found : Found) (flag : Bool) → fault_of s66_app words ≡ [] →
+    subcommand_rows_of m ≡ subcommand_of s66_app words →
+    Some (rows_of found) ≡ option_map (λ p. p.1) (subcommand_rows_of m) →
+    (one_text found (codes "trace") ≡ Some (codes "true") → flag ≡ true) →
+    (one_text found (codes "trace") ≡ Some (codes "false") → flag ≡ false) →
+    flag ≡ has_option (codes "trace") words
+traced m words found flag none is rows when-true when-false =
+    let at = named words none in
+    let is-rows : Some (rows_of found) ≡ Some (rows_after rules [] at.0) = rows ∙ ap (λ o. option_map (λ p. p.1) o) (is ∙ at.1) in
+    let same : rows_of found ≡ rows_after rules [] at.0 = ap (λ o. unwrap_or o []) is-rows in
+    flag-is at.0 (rows_of found) (one_text found (codes "trace")) flag same (one_text-rows found (codes "trace")) when-true when-false
+    ∙ ap (is_given (codes "trace")) same ∙ sym (ap (λ o. option_map_or (λ s. is_given (codes "trace") s.1) o false) at.1)

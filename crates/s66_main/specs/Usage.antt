@@ -1,8 +1,9 @@
--- The command line, by clap's rules: one subcommand, `time`, without options.
-use Rattle.std.specs.Prelude.{◌≡◌, ◌≢◌, ◌⊎◌, ℕ, List, [], false, true, Option, Some, codes}
-use Rattle.std.specs.Option.{option_map}
-use Rattle.clap.specs.Words.{App, IsAmong, Text, fault_of, kind_of, new_app, subcommand_of, with_subcommand}
-use Rattle.clap.specs.Simple.{new_shape}
+-- The command line, by clap's rules: one subcommand, `time`, with the flag `--trace`.
+use Rattle.std.specs.Prelude.{◌≡◌, ◌≢◌, ◌⊎◌, ℕ, Bool, List, [], false, true, Option, Some, codes}
+use Rattle.std.specs.Option.{option_map, option_map_or}
+use Rattle.clap.specs.Words.{App, IsAmong, Rule, Text, fault_of, kind_of, new_app, new_rule, subcommand_of, with_rule, with_subcommand}
+use Rattle.clap.specs.Takes.{is_given}
+use Rattle.clap.specs.declared.builder.action.ArgAction.TheVariants.{SetTrue}
 use Rattle.clap.specs.declared.error.Error.{Error}
 use Rattle.clap.specs.declared.error.kind.ErrorKind.TheVariants as kind
 use Rattle.s66_main.specs.declared.command.Command.{Command}
@@ -10,18 +11,29 @@ use Rattle.s66_main.specs.declared.command.Command.TheVariants.{Time}
 use Rattle.s66_main.specs.declared.usage.Usage.{Usage}
 use Rattle.s66_main.specs.declared.usage.Usage.TheVariants.{Help, Bad, OutOfMemory}
 
+abbrev pub trace_rule : Rule
+trace_rule = record (new_rule (codes "trace")) { long = Some (codes "trace"); action = Some SetTrue }
+
+abbrev pub time_app : App
+time_app = with_rule (new_app (codes "time")) trace_rule
+
 abbrev pub s66_app : App
 s66_app =
-    let a = with_subcommand (new_app (codes "s66")) (new_shape (codes "time")) in
+    let a = with_subcommand (new_app (codes "s66")) time_app.top in
     record a { top = record a.top { subcommand_required = true } }
 
 -- the subcommand that the words name
 abbrev pub subcommand_name : List Text → Option Text
 subcommand_name words = option_map (λ s. s.0) (subcommand_of s66_app words)
 
+-- the words give the subcommand this option
+abbrev pub has_option : Text → List Text → Bool
+has_option id words = option_map_or (λ s. is_given id s.1) (subcommand_of s66_app words) false
+
 -- the words, of which the first is the program's name, have no fault and ask for the command
 abbrev pub Asks : List Text → Command → Type 0
-Asks words (Time trace) = (fault_of s66_app words ≡ []) × (subcommand_name words ≡ Some (codes "time")) × (trace ≡ false)
+Asks words (Time trace) =
+    (fault_of s66_app words ≡ []) × (subcommand_name words ≡ Some (codes "time")) × (trace ≡ has_option (codes "trace") words)
 
 -- help, or a mistake that is none of help and want of memory
 abbrev pub IsUsageOf : Error → Usage → Type 0

@@ -343,12 +343,23 @@ fn usage_code<R: AllocGlobal>(rt: &R, words: &[&str]) -> Option<u8> {
 #[test]
 fn reads_words(rt: HostRuntime) -> Result<(), Fail> {
     assert_eq!(rt; command_of(rt.alloc(), &["s66", "time"])?, TIME);
+    let traced = Command::Time { trace: true };
+    assert_eq!(rt;
+        command_of(rt.alloc(), &["s66", "time", "--trace"])?,
+        traced
+    );
     assert_eq!(rt; usage_code(&rt, &["s66"]), Some(2));
     assert_eq!(rt; usage_code(&rt, &["s66", "time", "--nodes", "5"]), Some(2));
-    assert_eq!(rt; usage_code(&rt, &["s66", "time", "--trace"]), Some(2));
+    assert_eq!(rt; usage_code(&rt, &["s66", "--trace", "time"]), Some(2));
+    assert_eq!(rt; usage_code(&rt, &["s66", "time", "--trace=1"]), Some(2));
+    assert_eq!(rt;
+        usage_code(&rt, &["s66", "time", "--trace", "--trace"]),
+        Some(2)
+    );
     assert_eq!(rt; usage_code(&rt, &["s66", "order"]), Some(2));
     assert_eq!(rt; usage_code(&rt, &["s66", "nonsense"]), Some(2));
     assert_eq!(rt; usage_code(&rt, &["s66", "--help"]), Some(0));
     assert_eq!(rt; usage_code(&rt, &["s66", "help"]), Some(0));
+    assert_eq!(rt; usage_code(&rt, &["s66", "time", "--help"]), Some(0));
     Ok(())
 }

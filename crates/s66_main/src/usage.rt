@@ -5,7 +5,7 @@ ghost use Rattle.s66_main.specs.declared.usage.Usage.TheVariants.{OutOfMemory};
 
 use crate::command::Command as Asked;
 use clap::error::ErrorKind;
-use clap::{Command, Error};
+use clap::{Arg, ArgAction, Command, Error};
 use std::alloc::{AllocError, Global};
 use std::convert::AsStr;
 
@@ -59,8 +59,15 @@ impl Usage {
 fn program<'a>(alloc: Global) -> Result<Command<'a>, AllocError>
     ensures { IfOk result (λ c. app_of c ≡ s66_app) }
 {
-    let time = Command::new(alloc, "time");
+    let trace = Arg::new(alloc, "trace")
+        .long("trace")
+        .help("Tells each instruction")
+        .action(ArgAction::SetTrue);
+    let time = Command::new(alloc, "time")
+        .about("Times each block of a source as it was written")
+        .arg(trace)?;
     Command::new(alloc, "s66")
+        .about("Times straight-line blocks of COMPASS code for the CDC 6600")
         .subcommand_required(true)
         .subcommand(time)
 }
@@ -71,8 +78,10 @@ pub fn command_of<'a, S: AsStr>(alloc: Global, words: &'a [S]) -> Result<Asked, 
     ensures err { IfErr result (λ usage. Refuses (map S.text words.entry.now) usage) }
 {
     let matches = program(alloc)?.try_get_matches_from(words)?;
-    match matches.subcommand_name() {
-        Some("time") => Ok(Asked::Time { trace: false }),
+    match matches.subcommand() {
+        Some(("time", time)) => Ok(Asked::Time {
+            trace: time.get_flag("trace"),
+        }),
         _ => unreachable!(),
     }
 }
