@@ -7,3 +7,10 @@ pub mod Cuts
 pub mod Expression
 pub mod ReaderBlocks
 pub mod PartsLaw
+pub mod Digits
+pub mod SetForms
+pub mod Choices
+pub mod FormLaw
+pub mod SetFormLaw
+pub mod UpperCase
+pub mod CaseLaw

@@ -1,5 +1,6 @@
 pub mod Fields
 pub mod Operand
+pub mod Spelling
 pub mod Terms
 pub mod Source
 pub mod Parts

@@ -1,0 +1,83 @@
+-- What is spelled is in the table.
+use Rattle.std.proofs.Common.{◌≡◌, ◌<◌, ◌+◌, ◌-◌, ◌==◌, ℕ, zero, suc, true, List, [], ◌∷◌, length, get_or, None, Some, IfSome, refl, sym, ap, ◌∙◌, subst, inl, inr, arith, eqb-true, lit<}
+use Rattle.std.proofs.lemmas.Option.{IfSome_then}
+use Rattle.s66_isa.specs.declared.instr.Instr.{Instr}
+use Rattle.s66_isa.specs.declared.reg.Bank.TheVariants.{A, B, X}
+use Rattle.s66_isa.specs.Words.{Among}
+use Rattle.s66_line.specs.Operand.{is_octal, form_of, decode, instr_of}
+use Rattle.s66_line.specs.Spelling.{operations, CanMean}
+use Rattle.s66_line.specs.declared.operation.Form.{Form}
+use Rattle.s66_line.specs.declared.operation.Form.TheVariants.{Boolean, Shift, Normalise, Arithmetic, Mask, Population, Set}
+use Rattle.s66_line.proofs.Digits.{either, made, octal-few, octal-written}
+use Rattle.s66_line.proofs.Choices.{choices, Chosen, chosen}
+
+-- A ROW OF THE TABLE
+
+among-at : {X : Type 0} (xs : List X) (n : ℕ) (d : X) → n < length xs → Among (get_or xs n d) xs
+among-at [] n d h = absurd (omega (arith, h))
+among-at (x ∷ xs) zero d h = inl refl
+among-at (x ∷ xs) (suc n) d h = inr (among-at xs n d (omega (arith, h)))
+
+at_row : (n : ℕ) → n < 16 → Among (get_or operations n ([], [])) operations
+at_row n h = among-at operations n ([], []) h
+
+-- these two letters and the choices of their form are a row of the table
+abbrev Listed : ℕ → ℕ → Form → Type 0
+Listed p q form = Among (p ∷ q ∷ [], choices form) operations
+
+listed : (p q a b : ℕ) (form : Form) → Listed a b form → (p == a) ≡ true → (q == b) ≡ true → Listed p q form
+listed p q a b form h e f = rw (eqb-true p a e, eqb-true q b f) h
+
+all-listed : (p q : ℕ) → IfSome (form_of p q) (Listed p q)
+all-listed p q =
+    either _ (q == 88) _ _
+    (λ x. either _ (p == 66) _ _ (λ e. listed p q 66 88 Boolean (at_row 0 (lit< tt)) e x)
+    (λ e. either _ (p == 76) _ _ (λ e. listed p q 76 88 (Shift 0o20 0o22) (at_row 1 (lit< tt)) e x)
+    (λ e. either _ (p == 65) _ _ (λ e. listed p q 65 88 (Shift 0o21 0o23) (at_row 2 (lit< tt)) e x)
+    (λ e. either _ (p == 78) _ _ (λ e. listed p q 78 88 (Normalise 0o24) (at_row 3 (lit< tt)) e x)
+    (λ e. either _ (p == 90) _ _ (λ e. listed p q 90 88 (Normalise 0o25) (at_row 4 (lit< tt)) e x)
+    (λ e. either _ (p == 85) _ _ (λ e. listed p q 85 88 (Normalise 0o26) (at_row 5 (lit< tt)) e x)
+    (λ e. either _ (p == 80) _ _ (λ e. listed p q 80 88 (Normalise 0o27) (at_row 6 (lit< tt)) e x)
+    (λ e. either _ (p == 70) _ _ (λ e. listed p q 70 88 (Arithmetic 0o30 0o31 (Some 0o40) (Some 0o44)) (at_row 7 (lit< tt)) e x)
+    (λ e. either _ (p == 68) _ _ (λ e. listed p q 68 88 (Arithmetic 0o32 0o33 (Some 0o42) None) (at_row 8 (lit< tt)) e x)
+    (λ e. either _ (p == 82) _ _ (λ e. listed p q 82 88 (Arithmetic 0o34 0o35 (Some 0o41) (Some 0o45)) (at_row 9 (lit< tt)) e x)
+    (λ e. either _ (p == 73) _ _ (λ e. listed p q 73 88 (Arithmetic 0o36 0o37 None None) (at_row 10 (lit< tt)) e x)
+    (λ e. either _ (p == 77) _ _ (λ e. listed p q 77 88 Mask (at_row 11 (lit< tt)) e x)
+    (λ e. either _ (p == 67) _ _ (λ e. listed p q 67 88 Population (at_row 12 (lit< tt)) e x)
+    (λ e. either _ (p == 83) _ _ (λ e. listed p q 83 88 (Set X) (at_row 15 (lit< tt)) e x)
+    (λ e. tt)))))))))))))))
+    (λ x. either _ (p == 83) _ _
+    (λ s. either _ (q == 65) _ _ (λ e. listed p q 83 65 (Set A) (at_row 13 (lit< tt)) s e)
+    (λ e. either _ (q == 66) _ _ (λ e. listed p q 83 66 (Set B) (at_row 14 (lit< tt)) s e)
+    (λ e. tt)))
+    (λ s. tt))
+
+-- WHAT IT CAN MEAN
+
+can_mean : (p q d : ℕ) (form : Form) (n : Instr) → is_octal d ≡ true → Listed p q form → Chosen (choices form) (d - 48) n → CanMean (p ∷ q ∷ d ∷ []) n
+can_mean p q d form n e row h =
+    record {
+      letters = p ∷ q ∷ [];
+      meanings = choices form;
+      listed = row;
+      written = ap (λ c. p ∷ q ∷ c ∷ []) (octal-written d e ∙ ap (λ i. 48 + i) (sym h.1));
+      code = h.0;
+      digits = (rw h.1 (octal-few d e), h.2, h.3);
+    }
+
+each-meaning : (p q d : ℕ) (text : List ℕ) → IfSome (instr_of (p ∷ q ∷ d ∷ []) text) (CanMean (p ∷ q ∷ d ∷ []))
+each-meaning p q d text =
+    either _ (is_octal d) _ _
+    (λ e. made (Listed p q) _ _ _ (all-listed p q)
+    (λ form row. IfSome_then (decode form (d - 48) text) (chosen form (d - 48) text (octal-few d e)) (λ n h. can_mean p q d form n e row h)))
+    (λ e. tt)
+
+meaning : (operation text : List ℕ) → IfSome (instr_of operation text) (CanMean operation)
+meaning [] text = tt
+meaning (p ∷ []) text = tt
+meaning (p ∷ q ∷ []) text = tt
+meaning (p ∷ q ∷ d ∷ []) text = each-meaning p q d text
+meaning (p ∷ q ∷ d ∷ e ∷ more) text = tt
+
+pub form : (operation text : List ℕ) (n : Instr) → instr_of operation text ≡ Some n → CanMean operation n
+form operation text n e = subst (λ o. IfSome o (CanMean operation)) e (meaning operation text)
