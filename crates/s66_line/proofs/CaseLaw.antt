@@ -1,10 +1,12 @@
 -- Letters in upper case leave the classes of lines, and so the blocks of a source, as they are.
-use Rattle.std.proofs.Common.{◌≡◌, ◌==◌, ℕ, suc, Bool, true, false, cond, if◌then◌else◌, List, [], ◌∷◌, ◌++◌, map, refl, sym, ap, ap₂, ◌∙◌, lit<}
-use Rattle.s66_line.specs.Fields.{last_line, lines_from, lines_of, upper, body, is_comment, operation, operand, continues}
-use Rattle.s66_line.specs.Source.{Line, by_operation, is_located, class_of, is_instruction, is_code, run_after, place_after, classed, classed_lines, refusal_at, refusal, instructions, begins_block, put_before, parted, entry_of, blocks_of, unless_refused, source_of}
+use Rattle.std.proofs.Common.{◌≡◌, ◌==◌, ℕ, suc, Bool, true, false, cond, if◌then◌else◌, List, [], ◌∷◌, ◌++◌, map, refl, sym, ap, ap₂, ◌∙◌, lit<, Option, None, Some}
+use Rattle.s66_line.specs.Fields.{last_line, lines_from, lines_of, upper, body, is_comment, operation, operand, from_operation, label_bytes, continues}
+use Rattle.s66_line.specs.Source.{Line, Entry, Block, by_operation, is_located, class_of, is_instruction, is_code, begins_run, ends_run, run_at, run_after, place_at, place_after, label_at, label_after, classed, classed_lines, refusal_at, refusal, instructions, begins_block, put_before, parted, instr_in, entry_of, label_in, block_of, blocks_of, unless_refused, source_of}
+use Rattle.s66_line.specs.Spelling.{upper_entry, upper_block, upper_read}
+use Rattle.s66_line.specs.declared.error.SourceError.{SourceError}
 use Rattle.s66_line.specs.declared.class.Class.{Class}
 use Rattle.s66_line.specs.declared.class.Class.TheVariants.{Comment, Other, Refused}
-use Rattle.s66_line.proofs.UpperCase.{kept, upper-append, length-upper, upper-trim, same-location, same-operation, same-operand, same-comment, same-continues}
+use Rattle.s66_line.proofs.UpperCase.{kept, upper-append, length-upper, upper-trim, upper-if, upper-from_operation, upper-label_bytes, same-location, same-operation, same-operand, same-comment, same-continues}
 
 -- CLASSES
 
@@ -35,17 +37,35 @@ upper-lines line [] = upper-last line
 upper-lines line (b ∷ text) =
     rw (map-if (b == 10) (line ∷ lines_from [] text) (lines_from (line ++ b ∷ []) text), kept b 10 (lit< tt), ← upper-lines [] text, ← upper-lines (line ++ b ∷ []) text, upper-append line (b ∷ [])) refl
 
--- a line with its bytes in upper case
+-- a line with its bytes and its label in upper case
 abbrev upper_line : Line → Line
-upper_line l = record { number = l.number; bytes = upper l.bytes; class = l.class; run = l.run; place = l.place }
+upper_line l = record { number = l.number; bytes = upper l.bytes; class = l.class; run = l.run; place = l.place; label = upper l.label }
 
-upper-classed : (lines : List (List ℕ)) (number run place : ℕ) (after : Bool) →
-    classed number run place after (map upper lines) ≡ map upper_line (classed number run place after lines)
-upper-classed [] number run place after = refl
-upper-classed (line ∷ lines) number run place after =
+same-label_at : (label : List ℕ) (c : Class) (line : List ℕ) → label_at (upper label) c (upper line) ≡ upper (label_at label c line)
+same-label_at label c line =
+    ap (λ bytes. if begins_run c then bytes else upper label) (ap label_bytes (upper-trim line) ∙ upper-label_bytes (body line))
+    ∙ sym (upper-if (begins_run c) (label_bytes (body line)) label)
+
+same-label_after : (label : List ℕ) (c : Class) (line : List ℕ) → label_after (upper label) c (upper line) ≡ upper (label_after label c line)
+same-label_after label c line =
+    ap (λ bytes. if ends_run c then [] else bytes) (same-label_at label c line) ∙ sym (upper-if (ends_run c) [] (label_at label c line))
+
+-- a classed line, and those after it
+abbrev before_lines : ℕ → ℕ → ℕ → List ℕ → List (List ℕ) → Class → List ℕ → List ℕ → List Line
+before_lines number run place line lines c label after_label =
+    record { number = number; bytes = line; class = c; run = run_at run c; place = place_at place c; label = label }
+    ∷ classed (suc number) (run_after run c) (place_after place c) after_label (is_code c) lines
+
+upper-classed : (lines : List (List ℕ)) (number run place : ℕ) (label : List ℕ) (after : Bool) →
+    classed number run place (upper label) after (map upper lines) ≡ map upper_line (classed number run place label after lines)
+upper-classed [] number run place label after = refl
+upper-classed (line ∷ lines) number run place label after =
     let c : Class = class_of after line in
-    let h = upper-classed lines (suc number) (run_after run c) (place_after place c) (is_code c) in
-    rw (same-class after line, h) refl
+    let classes = ap (λ d. before_lines number run place (upper line) (map upper lines) d (label_at (upper label) d (upper line)) (label_after (upper label) d (upper line))) (same-class after line) in
+    let labels = ap₂ (before_lines number run place (upper line) (map upper lines) c) (same-label_at label c line) (same-label_after label c line) in
+    let rest = ap (λ ls. upper_line (record { number = number; bytes = line; class = c; run = run_at run c; place = place_at place c; label = label_at label c line }) ∷ ls)
+    (upper-classed lines (suc number) (run_after run c) (place_after place c) (label_after label c line) (is_code c)) in
+    classes ∙ labels ∙ rest
 
 -- WHAT IS MADE OF THEM
 
@@ -75,27 +95,50 @@ same-parted : (lines : List Line) → parted (map upper_line lines) ≡ map (map
 same-parted [] = refl
 same-parted (l ∷ lines) = ap (put_before (upper_line l)) (same-parted lines) ∙ same-put l (parted lines)
 
-same-entries : (lines : List Line) → map entry_of (map upper_line lines) ≡ map entry_of lines
+abbrev with_bytes : Line → List ℕ → Entry
+with_bytes l bytes = record { instr = instr_in l.class; line = l.number; bytes = bytes }
+
+abbrev with_label : List ℕ → List Entry → Block
+with_label label entries = record { label = label; entries = entries }
+
+same-entry : (l : Line) → entry_of (upper_line l) ≡ upper_entry (entry_of l)
+same-entry l =
+    let same : from_operation (body (upper l.bytes)) ≡ upper (from_operation (body l.bytes)) = ap from_operation (upper-trim l.bytes) ∙ upper-from_operation (body l.bytes) in
+    ap (with_bytes l) same
+
+same-entries : (lines : List Line) → map entry_of (map upper_line lines) ≡ map upper_entry (map entry_of lines)
 same-entries [] = refl
-same-entries (l ∷ lines) = ap (λ es. entry_of l ∷ es) (same-entries lines)
+same-entries (l ∷ lines) = ap₂ (λ e es. e ∷ es) (same-entry l) (same-entries lines)
 
-same-all_entries : (parts : List (List Line)) → map (map entry_of) (map (map upper_line) parts) ≡ map (map entry_of) parts
-same-all_entries [] = refl
-same-all_entries (part ∷ parts) = ap₂ (λ es rest. es ∷ rest) (same-entries part) (same-all_entries parts)
+same-label_in : (part : List Line) → label_in (map upper_line part) ≡ upper (label_in part)
+same-label_in [] = refl
+same-label_in (l ∷ lines) = sym (upper-if (l.place == 0) l.label [])
 
-same-blocks : (lines : List Line) → blocks_of (map upper_line lines) ≡ blocks_of lines
+same-block : (part : List Line) → block_of (map upper_line part) ≡ upper_block (block_of part)
+same-block part = ap₂ with_label (same-label_in part) (same-entries part)
+
+same-each : (parts : List (List Line)) → map block_of (map (map upper_line) parts) ≡ map upper_block (map block_of parts)
+same-each [] = refl
+same-each (part ∷ parts) = ap₂ (λ b bs. b ∷ bs) (same-block part) (same-each parts)
+
+same-blocks : (lines : List Line) → blocks_of (map upper_line lines) ≡ map upper_block (blocks_of lines)
 same-blocks lines =
-    ap (λ ls. map (map entry_of) (parted ls)) (same-instructions lines)
-    ∙ ap (map (map entry_of)) (same-parted (instructions lines))
-    ∙ same-all_entries (parted (instructions lines))
+    ap (λ ls. map block_of (parted ls)) (same-instructions lines)
+    ∙ ap (map block_of) (same-parted (instructions lines))
+    ∙ same-each (parted (instructions lines))
 
 same-lines : (text : List ℕ) → classed_lines (upper text) ≡ map upper_line (classed_lines text)
-same-lines text = ap (classed 1 0 0 false) (upper-lines [] text) ∙ upper-classed (lines_of text) 1 0 0 false
+same-lines text = ap (classed 1 0 0 [] false) (upper-lines [] text) ∙ upper-classed (lines_of text) 1 0 0 [] false
 
-same-source : (text : List ℕ) → source_of (upper text) ≡ source_of text
+same-read : (e : Option SourceError) (blocks : List Block) → unless_refused e (map upper_block blocks) ≡ upper_read (unless_refused e blocks)
+same-read None blocks = refl
+same-read (Some e) blocks = refl
+
+same-source : (text : List ℕ) → source_of (upper text) ≡ upper_read (source_of text)
 same-source text =
     ap (λ ls. unless_refused (refusal ls) (blocks_of ls)) (same-lines text)
     ∙ ap₂ unless_refused (same-refusal (classed_lines text)) (same-blocks (classed_lines text))
+    ∙ same-read (refusal (classed_lines text)) (blocks_of (classed_lines text))
 
-pub either_case : (text other : List ℕ) → upper text ≡ upper other → source_of text ≡ source_of other
+pub either_case : (text other : List ℕ) → upper text ≡ upper other → upper_read (source_of text) ≡ upper_read (source_of other)
 either_case text other e = sym (same-source text) ∙ ap source_of e ∙ same-source other

@@ -1,10 +1,12 @@
 -- Words and blanks at the front of a line by their lengths, and a line without the end that passes.
-use Rattle.std.proofs.Common.{◌≡◌, ℕ, zero, suc, ◌+◌, ◌-◌, ◌≤◌, ◌<◌, Bool, true, false, not, cond, List, [], ◌∷◌, ◌++◌, length, take, drop, refl, sym, ap, ◌∙◌, arith, length-drop, get_or, eq-eqb}
+use Rattle.std.proofs.Common.{◌≡◌, ℕ, zero, suc, ◌+◌, ◌-◌, ◌≤◌, ◌<◌, Bool, true, false, not, cond, List, [], ◌∷◌, ◌++◌, length, take, drop, refl, sym, ap, ◌∙◌, arith, length-drop, get_or, eq-eqb, append_assoc}
+use Rattle.std.proofs.lemmas.Bool.{eqb-true}
 use Rattle.std.proofs.Math.Seq.{take-suc}
-use Rattle.std.specs.Prelude.{◌&&◌}
+use Rattle.std.specs.Prelude.{◌&&◌, ◌==◌}
 use Rattle.std.specs.List.{prefix_len}
 use Rattle.s66_isa.specs.Words.{every}
-use Rattle.s66_line.specs.Fields.{is_blank, skip_blanks, word, after_word, trim, is_return}
+use Rattle.s66_line.specs.Fields.{is_blank, skip_blanks, word, after_word, trim, is_return, upper, from_location, label_bytes}
+use Rattle.s66_line.specs.Block.{spelling}
 use Rattle.std.proofs.lemmas.List.{take_rest}
 use Rattle.std.proofs.lemmas.List.Sums.{prefix_len-le-length}
 
@@ -42,6 +44,85 @@ pub after_word-rest : (bytes : List ℕ) →
 after_word-rest bytes = after_word-drop bytes ∙ sym (take_rest bytes (prefix_len (λ b. not (is_blank b)) bytes))
 
 pub ruleset word_steps = (skip_blanks-rest, word-take, after_word-rest, blanks-length)
+
+-- THE LABEL of a line
+
+word-length : (bytes : List ℕ) → length (word bytes) ≤ length bytes
+word-length [] = omega arith
+word-length (b ∷ bytes) =
+    elim (is_blank b) as (λ t. length (cond t [] (b ∷ word bytes)) ≤ suc (length bytes))
+    [ true ↦ omega arith | false ↦ (let h = word-length bytes in omega (arith, h)) ]
+
+take-word : (bytes : List ℕ) → take (length (word bytes)) bytes ≡ word bytes
+take-word [] = refl
+take-word (b ∷ bytes) =
+    elim (is_blank b) as (λ t. take (length (cond t [] (b ∷ word bytes))) (b ∷ bytes) ≡ cond t [] (b ∷ word bytes))
+    [ true ↦ refl | false ↦ ap (λ w. b ∷ w) (take-word bytes) ]
+
+from_location-yes : (b : ℕ) (bytes : List ℕ) → (b == 32) ≡ true → from_location (b ∷ bytes) ≡ bytes
+from_location-yes b bytes space = rw space refl
+
+from_location-no : (b : ℕ) (bytes : List ℕ) → (b == 32) ≡ false → from_location (b ∷ bytes) ≡ b ∷ bytes
+from_location-no b bytes other = rw other refl
+
+label-yes : (b : ℕ) (bytes : List ℕ) → (b == 32) ≡ true → label_bytes (b ∷ bytes) ≡ 32 ∷ word bytes
+label-yes b bytes space = rw space refl
+
+label-no : (b : ℕ) (bytes : List ℕ) → (b == 32) ≡ false → label_bytes (b ∷ bytes) ≡ word (b ∷ bytes)
+label-no b bytes other = rw other refl
+
+-- the columns before the location field, and the field
+label-cut-by : (t : Bool) (b : ℕ) (bytes : List ℕ) → (b == 32) ≡ t →
+    take (length (b ∷ bytes) - length (from_location (b ∷ bytes)) + length (word (from_location (b ∷ bytes)))) (b ∷ bytes) ≡ label_bytes (b ∷ bytes)
+label-cut-by true b bytes told =
+    let one : suc (length bytes) - length bytes + length (word bytes) ≡ suc (length (word bytes)) = omega arith in
+    let here : b ≡ 32 = eqb-true b 32 told in
+    rw (from_location-yes b bytes told, label-yes b bytes told, one, take-word bytes, here) refl
+label-cut-by false b bytes told =
+    let none : suc (length bytes) - suc (length bytes) + length (word (b ∷ bytes)) ≡ length (word (b ∷ bytes)) = omega arith in
+    rw (from_location-no b bytes told, label-no b bytes told, none) (take-word (b ∷ bytes))
+
+pub label-cut : (line : List ℕ) → take (length line - length (from_location line) + length (word (from_location line))) line ≡ label_bytes line
+label-cut [] = refl
+label-cut (b ∷ bytes) = label-cut-by (b == 32) b bytes refl
+
+-- THE SPELLING of a line
+
+pub upper-length : (bytes : List ℕ) → length (upper bytes) ≡ length bytes
+upper-length [] = refl
+upper-length (b ∷ bytes) = ap suc (upper-length bytes)
+
+skip_blanks-length : (bytes : List ℕ) → length (skip_blanks bytes) ≤ length bytes
+skip_blanks-length [] = omega arith
+skip_blanks-length (b ∷ bytes) =
+    elim (is_blank b) as (λ t. length (cond t (skip_blanks bytes) (b ∷ bytes)) ≤ suc (length bytes))
+    [ true ↦ (let h = skip_blanks-length bytes in omega (arith, h)) | false ↦ omega arith ]
+
+skip_blanks-yes : (b : ℕ) (bytes : List ℕ) → is_blank b ≡ true → skip_blanks (b ∷ bytes) ≡ skip_blanks bytes
+skip_blanks-yes b bytes blank = rw blank refl
+
+fits-from : (blank : Bool) (b : ℕ) (bytes : List ℕ) → is_blank b ≡ blank →
+    (0 < length (word (skip_blanks (after_word bytes))) → length (word bytes) + length (word (skip_blanks (after_word bytes))) < length bytes) →
+    0 < length (word (skip_blanks (cond blank (b ∷ bytes) (after_word bytes)))) →
+    length (cond blank [] (b ∷ word bytes)) + length (word (skip_blanks (cond blank (b ∷ bytes) (after_word bytes)))) < suc (length bytes)
+fits-from true b bytes told ih h =
+    let w = word-length (skip_blanks bytes) in
+    let s = skip_blanks-length bytes in
+    rw (skip_blanks-yes b bytes told) (omega (arith, w, s))
+fits-from false b bytes told ih h = let rest = ih h in omega (arith, rest)
+
+-- operation, a blank and operand are no longer than the bytes that they come from
+pub spelling-fits : (bytes : List ℕ) → 0 < length (word (skip_blanks (after_word bytes))) → length (word bytes) + length (word (skip_blanks (after_word bytes))) < length bytes
+spelling-fits [] h = h
+spelling-fits (b ∷ bytes) h = fits-from (is_blank b) b bytes refl (spelling-fits bytes) h
+
+pub spelling-filled : (operation operand : List ℕ) → 0 < length operand → (operation ++ 32 ∷ []) ++ upper operand ≡ spelling operation (upper operand)
+spelling-filled operation [] h = absurd (omega (arith, h))
+spelling-filled operation (b ∷ operand) h = append_assoc operation (32 ∷ []) (upper (b ∷ operand))
+
+pub spelling-none : (operation operand : List ℕ) → length operand ≡ 0 → operation ≡ spelling operation (upper operand)
+spelling-none operation [] h = refl
+spelling-none operation (b ∷ operand) h = absurd (omega (arith, h))
 
 -- THE END OF A LINE
 

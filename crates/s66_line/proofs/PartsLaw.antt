@@ -6,7 +6,7 @@ use Rattle.std.proofs.lemmas.Bool.{eqb-false, eqb-true, cases_lt}
 use Rattle.std.proofs.Math.Nat.{suc-mod, mod-eq_of_lt}
 use Rattle.s66_isa.specs.Words.{Among}
 use Rattle.s66_line.specs.Fields.{lines_of}
-use Rattle.s66_line.specs.Source.{Line, class_of, is_code, run_at, run_after, place_at, place_after, classed, classed_lines, instructions, begins_block, put_before, parted}
+use Rattle.s66_line.specs.Source.{Line, class_of, is_code, run_at, run_after, place_at, place_after, label_at, label_after, classed, classed_lines, instructions, begins_block, put_before, parted}
 use Rattle.s66_line.specs.Parts.{all_of, AreFull, AreParts}
 use Rattle.s66_line.specs.declared.class.Class.{Class}
 use Rattle.s66_line.specs.declared.class.Class.TheVariants.{Comment, Other, Refused, Pad, Instruction}
@@ -41,21 +41,22 @@ Follow-later run place [] h = tt
 Follow-later run place (l ∷ lines) h = (After-later run place l h.0, h.1)
 
 abbrev Followed : List (List ℕ) → Type 0
-Followed lines = (number run place : ℕ) (after : Bool) → Follow run place (instructions (classed number run place after lines))
+Followed lines = (number run place : ℕ) (label : List ℕ) (after : Bool) → Follow run place (instructions (classed number run place label after lines))
 
-follow-class : (c : Class) (number run place : ℕ) (line : List ℕ) (lines : List (List ℕ)) → Followed lines →
-    Follow run place (instructions (record { number = number; bytes = line; class = c; run = run_at run c; place = place_at place c } ∷ classed (suc number) (run_after run c) (place_after place c) (is_code c) lines))
-follow-class Comment number run place line lines ih = ih (suc number) run place false
-follow-class Other number run place line lines ih = Follow-later run place _ (ih (suc number) (suc run) 0 false)
-follow-class Refused number run place line lines ih = ih (suc number) run place false
-follow-class (Pad true) number run place line lines ih = Follow-later run place _ (ih (suc number) (suc run) 0 true)
-follow-class (Pad false) number run place line lines ih = ih (suc number) run place true
-follow-class (Instruction true n) number run place line lines ih = (inr (omega arith, refl), ih (suc number) (suc run) 1 true)
-follow-class (Instruction false n) number run place line lines ih = (inl (refl, refl), ih (suc number) run (suc place) true)
+follow-class : (c : Class) (number run place : ℕ) (label line : List ℕ) (lines : List (List ℕ)) → Followed lines →
+    Follow run place (instructions (record { number = number; bytes = line; class = c; run = run_at run c; place = place_at place c; label = label_at label c line }
+    ∷ classed (suc number) (run_after run c) (place_after place c) (label_after label c line) (is_code c) lines))
+follow-class Comment number run place label line lines ih = ih (suc number) run place _ false
+follow-class Other number run place label line lines ih = Follow-later run place _ (ih (suc number) (suc run) 0 _ false)
+follow-class Refused number run place label line lines ih = ih (suc number) run place _ false
+follow-class (Pad true) number run place label line lines ih = Follow-later run place _ (ih (suc number) (suc run) 0 _ true)
+follow-class (Pad false) number run place label line lines ih = ih (suc number) run place _ true
+follow-class (Instruction true n) number run place label line lines ih = (inr (omega arith, refl), ih (suc number) (suc run) 1 _ true)
+follow-class (Instruction false n) number run place label line lines ih = (inl (refl, refl), ih (suc number) run (suc place) _ true)
 
 follow : (lines : List (List ℕ)) → Followed lines
-follow [] number run place after = tt
-follow (line ∷ lines) number run place after = follow-class (class_of after line) number run place line lines (follow lines)
+follow [] number run place label after = tt
+follow (line ∷ lines) number run place label after = follow-class (class_of after line) number run place label line lines (follow lines)
 
 -- PARTS: each of one run, its places in order, at most to the next 64th
 
@@ -192,7 +193,7 @@ cut-full ((a ∷ more) ∷ ((b ∷ others) ∷ parts)) zeroth cut =
 
 pub parts : (text : List ℕ) → AreParts (classed_lines text) (parted (instructions (classed_lines text)))
 parts text =
-    let cut = cut-parted 0 0 (instructions (classed_lines text)) (follow (lines_of text) 1 0 0 false) in
+    let cut = cut-parted 0 0 (instructions (classed_lines text)) (follow (lines_of text) 1 0 0 [] false) in
     record {
       whole = all_of-parted (instructions (classed_lines text));
       sizes = cut-sizes (parted (instructions (classed_lines text))) cut.1;

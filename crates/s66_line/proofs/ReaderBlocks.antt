@@ -1,27 +1,26 @@
 -- Reading line by line gives the blocks of the definition, or its least refused line.
 use Rattle.std.proofs.Common.{◌≡◌, ◌<◌, ◌%◌, ℕ, suc, Bool, true, false, List, [], ◌∷◌, ◌++◌, length, map, refl, sym, ap, ◌∙◌, arith, append_assoc, eqb, eq-eqb}
-use Rattle.std.specs.Prelude.{Result, Ok, Err, Some, if◌then◌else◌, nat_lt, nat_le}
+use Rattle.std.specs.Prelude.{Option, None, Result, Ok, Err, Some, if◌then◌else◌, nat_lt, nat_le}
 use Rattle.std.proofs.lemmas.List.{append-nil}
 use Rattle.std.proofs.lemmas.Nat.{mod_below}
-use Rattle.std.proofs.lemmas.Bool.{ne_eqb, eqb-false, eqb-true}
-use Rattle.std.proofs.Math.Dec.{leb-suc-suc}
+use Rattle.std.proofs.lemmas.Bool.{ne_eqb, eqb-false, eqb-true, true≢false}
+use Rattle.std.proofs.Math.Dec.{leb-suc-suc, eqb-suc-suc, eqb-suc-zero}
 use Rattle.std.proofs.Math.Nat.{suc-mod, mod-eq_of_lt}
 use Rattle.s66_isa.specs.declared.instr.Instr.{Instr}
-use Rattle.s66_line.specs.Fields.{lines_of}
-use Rattle.s66_line.specs.Source.{Line, class_of, is_code, run_at, run_after, place_at, place_after, classed, operand_refusal, or_else, refusal, instructions, begins_block, put_before, parted, entry_of, unless_refused, source_of}
+use Rattle.s66_line.specs.Fields.{lines_of, body, from_operation, label_bytes}
+use Rattle.s66_line.specs.Source.{Line, Entry, Block, class_of, is_code, run_at, run_after, place_at, place_after, label_at, label_after, classed, classed_lines, operand_refusal, or_else, refusal, instructions, begins_block, put_before, parted, entry_of, label_in, block_of, blocks_of, unless_refused, source_of}
 use Rattle.s66_line.specs.Gives.{Gives}
 use Rattle.s66_line.specs.Reader.{State, Steps, start, ended, with_open, counted, by_class, line_step, lines_step, and_then, read_from}
 use Rattle.s66_line.specs.declared.class.Class.{Class}
 use Rattle.s66_line.specs.declared.class.Class.TheVariants.{Comment, Other, Refused, Pad, Instruction}
-use Rattle.s66_line.specs.declared.entry.Entry.{Entry}
 use Rattle.s66_line.specs.declared.error.SourceError.{SourceError}
 use Rattle.s66_line.specs.declared.error.SourceError.TheVariants.{BadOperand, LineTooLong, TooLarge, OutOfMemory}
 
 -- the lines from one on, of this class
-abbrev from_class : ℕ → ℕ → ℕ → Class → List ℕ → List (List ℕ) → List Line
-from_class number run place c line lines =
-    record { number = number; bytes = line; class = c; run = run_at run c; place = place_at place c }
-    ∷ classed (suc number) (run_after run c) (place_after place c) (is_code c) lines
+abbrev from_class : ℕ → ℕ → ℕ → List ℕ → Class → List ℕ → List (List ℕ) → List Line
+from_class number run place run_label c line lines =
+    record { number = number; bytes = line; class = c; run = run_at run c; place = place_at place c; label = label_at run_label c line }
+    ∷ classed (suc number) (run_after run c) (place_after place c) (label_after run_label c line) (is_code c) lines
 
 -- THE FIRST BLOCK of the lines to come begins there
 
@@ -37,94 +36,104 @@ Begins-put l ((next ∷ more) ∷ parts) h =
     elim (begins_block next) as (λ t. Begins (if t then (l ∷ []) ∷ (next ∷ more) ∷ parts else (l ∷ next ∷ more) ∷ parts)) [ true ↦ h | false ↦ h ]
 
 abbrev Fresh : List (List ℕ) → Type 0
-Fresh lines = (number run place : ℕ) (after : Bool) → place % 64 ≡ 0 → Begins (parted (instructions (classed number run place after lines)))
+Fresh lines = (number run place : ℕ) (run_label : List ℕ) (after : Bool) → place % 64 ≡ 0 → Begins (parted (instructions (classed number run place run_label after lines)))
 
-fresh-class : (c : Class) (number run place : ℕ) (line : List ℕ) (lines : List (List ℕ)) → Fresh lines → place % 64 ≡ 0 → Begins (parted (instructions (from_class number run place c line lines)))
-fresh-class Comment number run place line lines ih h = ih (suc number) run place false h
-fresh-class Other number run place line lines ih h = ih (suc number) (suc run) 0 false refl
-fresh-class Refused number run place line lines ih h = ih (suc number) run place false h
-fresh-class (Pad true) number run place line lines ih h = ih (suc number) (suc run) 0 true refl
-fresh-class (Pad false) number run place line lines ih h = ih (suc number) run place true h
-fresh-class (Instruction true n) number run place line lines ih h =
-    Begins-put (record { number = number; bytes = line; class = Instruction true n; run = suc run; place = 0 }) (parted (instructions (classed (suc number) (suc run) 1 true lines))) refl
-fresh-class (Instruction false n) number run place line lines ih h =
-    Begins-put (record { number = number; bytes = line; class = Instruction false n; run = run; place = place }) (parted (instructions (classed (suc number) run (suc place) true lines))) (eq-eqb (place % 64) 0 h)
+fresh-class : (c : Class) (number run place : ℕ) (run_label line : List ℕ) (lines : List (List ℕ)) → Fresh lines → place % 64 ≡ 0 →
+    Begins (parted (instructions (from_class number run place run_label c line lines)))
+fresh-class Comment number run place run_label line lines ih h = ih (suc number) run place run_label false h
+fresh-class Other number run place run_label line lines ih h = ih (suc number) (suc run) 0 [] false refl
+fresh-class Refused number run place run_label line lines ih h = ih (suc number) run place run_label false h
+fresh-class (Pad true) number run place run_label line lines ih h = ih (suc number) (suc run) 0 (label_bytes (body line)) true refl
+fresh-class (Pad false) number run place run_label line lines ih h = ih (suc number) run place run_label true h
+fresh-class (Instruction true n) number run place run_label line lines ih h =
+    Begins-put (record { number = number; bytes = line; class = Instruction true n; run = suc run; place = 0; label = label_bytes (body line) })
+    (parted (instructions (classed (suc number) (suc run) 1 (label_bytes (body line)) true lines))) refl
+fresh-class (Instruction false n) number run place run_label line lines ih h =
+    Begins-put (record { number = number; bytes = line; class = Instruction false n; run = run; place = place; label = run_label })
+    (parted (instructions (classed (suc number) run (suc place) run_label true lines))) (eq-eqb (place % 64) 0 h)
 
 fresh : (lines : List (List ℕ)) → Fresh lines
-fresh [] number run place after h = tt
-fresh (line ∷ lines) number run place after h = fresh-class (class_of after line) number run place line lines (fresh lines) h
+fresh [] number run place run_label after h = tt
+fresh (line ∷ lines) number run place run_label after h = fresh-class (class_of after line) number run place run_label line lines (fresh lines) h
 
 -- THE OPEN BLOCK, and the lines to come
 
-abbrev entries_of : List (List Line) → List (List Entry)
-entries_of parts = map (map entry_of) parts
+abbrev labelled : List ℕ → List Entry → Block
+labelled label entries = record { label = label; entries = entries }
 
 -- the open block goes on with the first part, or ends before it
-abbrev attach : List Entry → List (List Line) → List (List Entry)
-attach entries [] = entries ∷ []
-attach entries ([] ∷ parts) = entries ∷ entries_of parts
-attach entries ((l ∷ more) ∷ parts) =
-    if begins_block l then entries ∷ entries_of ((l ∷ more) ∷ parts) else (entries ++ map entry_of (l ∷ more)) ∷ entries_of parts
+abbrev attach : List ℕ → List Entry → List (List Line) → List Block
+attach label entries [] = labelled label entries ∷ []
+attach label entries ([] ∷ parts) = labelled label entries ∷ map block_of parts
+attach label entries ((l ∷ more) ∷ parts) =
+    if begins_block l then labelled label entries ∷ map block_of ((l ∷ more) ∷ parts) else labelled label (entries ++ map entry_of (l ∷ more)) ∷ map block_of parts
 
-abbrev resumed : List Entry → List (List Line) → List (List Entry)
-resumed [] parts = entries_of parts
-resumed (e ∷ es) parts = attach (e ∷ es) parts
+abbrev resumed : List ℕ → List Entry → List (List Line) → List Block
+resumed label [] parts = map block_of parts
+resumed label (e ∷ es) parts = attach label (e ∷ es) parts
 
-attach-begins : (entries : List Entry) (parts : List (List Line)) → Begins parts → attach entries parts ≡ entries ∷ entries_of parts
-attach-begins entries [] h = refl
-attach-begins entries ([] ∷ parts) h = absurd h
-attach-begins entries ((l ∷ more) ∷ parts) h = rw h refl
+attach-begins : (label : List ℕ) (entries : List Entry) (parts : List (List Line)) → Begins parts → attach label entries parts ≡ labelled label entries ∷ map block_of parts
+attach-begins label entries [] h = refl
+attach-begins label entries ([] ∷ parts) h = absurd h
+attach-begins label entries ((l ∷ more) ∷ parts) h = rw h refl
 
--- ending the open block, and then the parts
-ended-resumed : (blocks : List (List Entry)) (entries : List Entry) (parts : List (List Line)) → Begins parts → with_open blocks entries ++ entries_of parts ≡ blocks ++ resumed entries parts
-ended-resumed blocks [] parts h = refl
-ended-resumed blocks (e ∷ es) parts h = rw (attach-begins (e ∷ es) parts h) (append_assoc blocks ((e ∷ es) ∷ []) (entries_of parts))
+-- ending the open block, and then the parts; the label of a run to come is its line's
+ended-resumed : (blocks : List Block) (label later : List ℕ) (entries : List Entry) (parts : List (List Line)) → Begins parts →
+    with_open blocks label entries ++ resumed later [] parts ≡ blocks ++ resumed label entries parts
+ended-resumed blocks label later [] parts h = refl
+ended-resumed blocks label later (e ∷ es) parts h = rw (attach-begins label (e ∷ es) parts h) (append_assoc blocks (labelled label (e ∷ es) ∷ []) (map block_of parts))
 
-attach-put : (entries : List Entry) (l : Line) (parts : List (List Line)) → begins_block l ≡ false → attach entries (put_before l parts) ≡ attach (entries ++ entry_of l ∷ []) parts
-attach-put entries l [] h = rw h refl
-attach-put entries l ([] ∷ parts) h = rw h refl
-attach-put entries l ((next ∷ more) ∷ parts) h =
-    elim (begins_block next) as (λ t. attach entries (if t then (l ∷ []) ∷ (next ∷ more) ∷ parts else (l ∷ next ∷ more) ∷ parts)
-    ≡ (if t then (entries ++ entry_of l ∷ []) ∷ entries_of ((next ∷ more) ∷ parts) else ((entries ++ entry_of l ∷ []) ++ map entry_of (next ∷ more)) ∷ entries_of parts))
+attach-put : (label : List ℕ) (entries : List Entry) (l : Line) (parts : List (List Line)) → begins_block l ≡ false →
+    attach label entries (put_before l parts) ≡ attach label (entries ++ entry_of l ∷ []) parts
+attach-put label entries l [] h = rw h refl
+attach-put label entries l ([] ∷ parts) h = rw h refl
+attach-put label entries l ((next ∷ more) ∷ parts) h =
+    elim (begins_block next) as (λ t. attach label entries (if t then (l ∷ []) ∷ (next ∷ more) ∷ parts else (l ∷ next ∷ more) ∷ parts)
+    ≡ (if t then labelled label (entries ++ entry_of l ∷ []) ∷ map block_of ((next ∷ more) ∷ parts)
+    else labelled label ((entries ++ entry_of l ∷ []) ++ map entry_of (next ∷ more)) ∷ map block_of parts))
     [ true ↦ rw h refl | false ↦ rw (h, append_assoc entries (entry_of l ∷ []) (map entry_of (next ∷ more))) refl ]
 
-entries-put : (l : Line) (parts : List (List Line)) → entries_of (put_before l parts) ≡ attach (entry_of l ∷ []) parts
-entries-put l [] = refl
-entries-put l ([] ∷ parts) = refl
-entries-put l ((next ∷ more) ∷ parts) =
-    elim (begins_block next) as (λ t. entries_of (if t then (l ∷ []) ∷ (next ∷ more) ∷ parts else (l ∷ next ∷ more) ∷ parts)
-    ≡ (if t then (entry_of l ∷ []) ∷ entries_of ((next ∷ more) ∷ parts) else (entry_of l ∷ map entry_of (next ∷ more)) ∷ entries_of parts))
+blocks-put : (l : Line) (parts : List (List Line)) → map block_of (put_before l parts) ≡ attach (label_in (l ∷ [])) (entry_of l ∷ []) parts
+blocks-put l [] = refl
+blocks-put l ([] ∷ parts) = refl
+blocks-put l ((next ∷ more) ∷ parts) =
+    elim (begins_block next) as (λ t. map block_of (if t then (l ∷ []) ∷ (next ∷ more) ∷ parts else (l ∷ next ∷ more) ∷ parts)
+    ≡ (if t then labelled (label_in (l ∷ [])) (entry_of l ∷ []) ∷ map block_of ((next ∷ more) ∷ parts)
+    else labelled (label_in (l ∷ [])) (entry_of l ∷ map entry_of (next ∷ more)) ∷ map block_of parts))
     [ true ↦ refl | false ↦ refl ]
 
+-- the label that is left for the open block: the run's, where no instruction of the run stands before the block's
+abbrev left_label : List ℕ → ℕ → ℕ → List ℕ
+left_label run_label place count = if eqb place count then run_label else []
+
 -- one more instruction of the open block
-resumed-put : (entries : List Entry) (l : Line) (parts : List (List Line)) → l.place % 64 ≡ length entries → resumed entries (put_before l parts) ≡ attach (entries ++ entry_of l ∷ []) parts
-resumed-put [] l parts h = entries-put l parts
-resumed-put (e ∷ es) l parts h = attach-put (e ∷ es) l parts (ne_eqb (l.place % 64) 0 (λ z. absurd (omega (arith, z, h))))
+resumed-put : (label : List ℕ) (entries : List Entry) (l : Line) (parts : List (List Line)) → l.place % 64 ≡ length entries → label ≡ left_label l.label l.place (length entries) →
+    resumed label entries (put_before l parts) ≡ attach label (entries ++ entry_of l ∷ []) parts
+resumed-put label [] l parts h left = blocks-put l parts ∙ ap (λ n. attach n (entry_of l ∷ []) parts) (sym left)
+resumed-put label (e ∷ es) l parts h left = attach-put label (e ∷ es) l parts (ne_eqb (l.place % 64) 0 (λ z. absurd (omega (arith, z, h))))
 
-resumed-push : (entries : List Entry) (e : Entry) (parts : List (List Line)) → resumed (entries ++ e ∷ []) parts ≡ attach (entries ++ e ∷ []) parts
-resumed-push [] e parts = refl
-resumed-push (a ∷ es) e parts = refl
-
-with_open-push : (blocks : List (List Entry)) (entries : List Entry) (e : Entry) → with_open blocks (entries ++ e ∷ []) ≡ blocks ++ (entries ++ e ∷ []) ∷ []
-with_open-push blocks [] e = refl
-with_open-push blocks (a ∷ es) e = refl
+resumed-push : (label : List ℕ) (entries : List Entry) (e : Entry) (parts : List (List Line)) → resumed label (entries ++ e ∷ []) parts ≡ attach label (entries ++ e ∷ []) parts
+resumed-push label [] e parts = refl
+resumed-push label (a ∷ es) e parts = refl
 
 -- ALL LINES
 
+-- what is read is unlike the definition in no point, whatever was read before
 abbrev Read : List (List ℕ) → Type 0
-Read lines = (blocks : List (List Entry)) (entries : List Entry) (count run place : ℕ) (after : Bool) → place % 64 ≡ length entries →
-    read_from (record { blocks = blocks; entries = entries; count = count; after = after }) lines
-    ≡ unless_refused (refusal (classed (suc count) run place after lines)) (blocks ++ resumed entries (parted (instructions (classed (suc count) run place after lines))))
+Read lines = (blocks : List Block) (label : List ℕ) (entries : List Entry) (count run place : ℕ) (run_label : List ℕ) (after : Bool) →
+    place % 64 ≡ length entries → label ≡ left_label run_label place (length entries) →
+    read_from (record { blocks = blocks; label = label; entries = entries; count = count; after = after }) lines
+    ≡ unless_refused (refusal (classed (suc count) run place run_label after lines)) (blocks ++ resumed label entries (parted (instructions (classed (suc count) run place run_label after lines))))
 
 -- reading a line of this class, and then the rest
-abbrev read_class : State → Class → List (List ℕ) → Result (List (List Entry)) SourceError
-read_class s c lines = and_then (by_class s c) (λ t. read_from t lines)
+abbrev read_class : State → Class → List ℕ → List (List ℕ) → Result (List Block) SourceError
+read_class s c line lines = and_then (by_class s c (label_bytes (body line)) (from_operation (body line))) (λ t. read_from t lines)
 
 -- the definition's answer for it
-abbrev class_answer : List (List Entry) → List Entry → ℕ → ℕ → ℕ → Class → List ℕ → List (List ℕ) → Result (List (List Entry)) SourceError
-class_answer blocks entries count run place c line lines =
-    unless_refused (or_else (operand_refusal (suc count) c) (refusal (classed (suc (suc count)) (run_after run c) (place_after place c) (is_code c) lines)))
-    (blocks ++ resumed entries (parted (instructions (from_class (suc count) run place c line lines))))
+abbrev class_answer : List Block → List ℕ → List Entry → ℕ → ℕ → ℕ → List ℕ → Class → List ℕ → List (List ℕ) → Result (List Block) SourceError
+class_answer blocks label entries count run place run_label c line lines =
+    unless_refused (or_else (operand_refusal (suc count) c) (refusal (classed (suc (suc count)) (run_after run c) (place_after place c) (label_after run_label c line) (is_code c) lines)))
+    (blocks ++ resumed label entries (parted (instructions (from_class (suc count) run place run_label c line lines))))
 
 next-place : (place n : ℕ) → place % 64 ≡ n → (suc n ≡ 64 → ⊥) → suc place % 64 ≡ suc n
 next-place place n h more =
@@ -138,110 +147,144 @@ length-push : (entries : List Entry) (e : Entry) → length (entries ++ e ∷ []
 length-push [] e = refl
 length-push (a ∷ entries) e = ap suc (length-push entries e)
 
+-- one more instruction leaves it the same label
+left-push : (label run_label : List ℕ) (place : ℕ) (entries : List Entry) (e : Entry) → label ≡ left_label run_label place (length entries) →
+    label ≡ left_label run_label (suc place) (length (entries ++ e ∷ []))
+left-push label run_label place entries e left =
+    rw (length-push entries e) (left ∙ ap (λ t. if t then run_label else []) (sym (eqb-suc-suc place (length entries))))
+
+abbrev entry_at_line : Instr → List ℕ → ℕ → Entry
+entry_at_line n line count = record { instr = n; line = suc count; bytes = from_operation (body line) }
+
 -- the instruction goes to the open block, and ends it where it is the 64th
-put-full : (full : Bool) (n : Instr) (line : List ℕ) (lines : List (List ℕ)) → Read lines → (blocks : List (List Entry)) (entries : List Entry) (count run place : ℕ) (after : Bool) → place % 64 ≡ length entries →
-    eqb (length (entries ++ record { instr = n; line = suc count } ∷ [])) 64 ≡ full →
+put-full : (full : Bool) (n : Instr) (line : List ℕ) (lines : List (List ℕ)) → Read lines →
+    (blocks : List Block) (label : List ℕ) (entries : List Entry) (count run place : ℕ) (run_label : List ℕ) (after : Bool) →
+    place % 64 ≡ length entries → label ≡ left_label run_label place (length entries) →
+    eqb (length (entries ++ entry_at_line n line count ∷ [])) 64 ≡ full →
     read_from (counted true (if full
-    then record { blocks = with_open blocks (entries ++ record { instr = n; line = suc count } ∷ []); entries = []; count = count; after = after }
-    else record { blocks = blocks; entries = entries ++ record { instr = n; line = suc count } ∷ []; count = count; after = after })) lines
-    ≡ class_answer blocks entries count run place (Instruction false n) line lines
-put-full true n line lines ih blocks entries count run place after h full =
-    let e : Entry = record { instr = n; line = suc count } in
-    let l : Line = record { number = suc count; bytes = line; class = Instruction false n; run = run; place = place } in
-    let rest = classed (suc (suc count)) run (suc place) true lines in
+    then record { blocks = with_open blocks label (entries ++ entry_at_line n line count ∷ []); label = []; entries = []; count = count; after = after }
+    else record { blocks = blocks; label = label; entries = entries ++ entry_at_line n line count ∷ []; count = count; after = after })) lines
+    ≡ class_answer blocks label entries count run place run_label (Instruction false n) line lines
+put-full true n line lines ih blocks label entries count run place run_label after h left full =
+    let e : Entry = entry_at_line n line count in
+    let l : Line = record { number = suc count; bytes = line; class = Instruction false n; run = run; place = place; label = run_label } in
+    let rest = classed (suc (suc count)) run (suc place) run_label true lines in
     let many : suc (length entries) ≡ 64 = sym (length-push entries e) ∙ eqb-true (length (entries ++ e ∷ [])) 64 full in
     let begins : suc place % 64 ≡ 0 = full-place place (length entries) h many in
-    ih (with_open blocks (entries ++ e ∷ [])) [] (suc count) run (suc place) true begins
+    ih (with_open blocks label (entries ++ e ∷ [])) [] [] (suc count) run (suc place) run_label true begins (sym (ap (λ t. if t then run_label else []) (eqb-suc-zero place)))
     ∙ ap (unless_refused (refusal rest))
-    (ended-resumed blocks (entries ++ e ∷ []) (parted (instructions rest)) (fresh lines (suc (suc count)) run (suc place) true begins)
-    ∙ ap (λ open_parts. blocks ++ open_parts) (resumed-push entries e (parted (instructions rest)) ∙ sym (resumed-put entries l (parted (instructions rest)) h)))
-put-full false n line lines ih blocks entries count run place after h full =
-    let e : Entry = record { instr = n; line = suc count } in
-    let l : Line = record { number = suc count; bytes = line; class = Instruction false n; run = run; place = place } in
-    let rest = classed (suc (suc count)) run (suc place) true lines in
+    (ended-resumed blocks label [] (entries ++ e ∷ []) (parted (instructions rest)) (fresh lines (suc (suc count)) run (suc place) run_label true begins)
+    ∙ ap (λ open_parts. blocks ++ open_parts) (resumed-push label entries e (parted (instructions rest)) ∙ sym (resumed-put label entries l (parted (instructions rest)) h left)))
+put-full false n line lines ih blocks label entries count run place run_label after h left full =
+    let e : Entry = entry_at_line n line count in
+    let l : Line = record { number = suc count; bytes = line; class = Instruction false n; run = run; place = place; label = run_label } in
+    let rest = classed (suc (suc count)) run (suc place) run_label true lines in
     let few : suc (length entries) ≡ 64 → ⊥ = λ many. eqb-false (length (entries ++ e ∷ [])) 64 full (length-push entries e ∙ many) in
-    ih blocks (entries ++ e ∷ []) (suc count) run (suc place) true (next-place place (length entries) h few ∙ sym (length-push entries e))
-    ∙ ap (λ open_parts. unless_refused (refusal rest) (blocks ++ open_parts)) (resumed-push entries e (parted (instructions rest)) ∙ sym (resumed-put entries l (parted (instructions rest)) h))
+    ih blocks label (entries ++ e ∷ []) (suc count) run (suc place) run_label true (next-place place (length entries) h few ∙ sym (length-push entries e)) (left-push label run_label place entries e left)
+    ∙ ap (λ open_parts. unless_refused (refusal rest) (blocks ++ open_parts)) (resumed-push label entries e (parted (instructions rest)) ∙ sym (resumed-put label entries l (parted (instructions rest)) h left))
 
 -- an instruction that begins no run
-read-put : (n : Instr) (line : List ℕ) (lines : List (List ℕ)) → Read lines → (blocks : List (List Entry)) (entries : List Entry) (count run place : ℕ) (after : Bool) → place % 64 ≡ length entries →
-    read_class (record { blocks = blocks; entries = entries; count = count; after = after }) (Instruction false n) lines ≡ class_answer blocks entries count run place (Instruction false n) line lines
-read-put n line lines ih blocks entries count run place after h =
-    put-full (eqb (length (entries ++ record { instr = n; line = suc count } ∷ [])) 64) n line lines ih blocks entries count run place after h refl
+read-put : (n : Instr) (line : List ℕ) (lines : List (List ℕ)) → Read lines →
+    (blocks : List Block) (label : List ℕ) (entries : List Entry) (count run place : ℕ) (run_label : List ℕ) (after : Bool) →
+    place % 64 ≡ length entries → label ≡ left_label run_label place (length entries) →
+    read_class (record { blocks = blocks; label = label; entries = entries; count = count; after = after }) (Instruction false n) line lines
+    ≡ class_answer blocks label entries count run place run_label (Instruction false n) line lines
+read-put n line lines ih blocks label entries count run place run_label after h left =
+    put-full (eqb (length (entries ++ entry_at_line n line count ∷ [])) 64) n line lines ih blocks label entries count run place run_label after h left refl
 
 -- one that begins a run
-read-begin : (n : Instr) (line : List ℕ) (lines : List (List ℕ)) → Read lines → (blocks : List (List Entry)) (entries : List Entry) (count run place : ℕ) (after : Bool) →
-    read_class (record { blocks = blocks; entries = entries; count = count; after = after }) (Instruction true n) lines ≡ class_answer blocks entries count run place (Instruction true n) line lines
-read-begin n line lines ih blocks entries count run place after =
-    let e : Entry = record { instr = n; line = suc count } in
-    let l : Line = record { number = suc count; bytes = line; class = Instruction true n; run = suc run; place = 0 } in
-    let rest = classed (suc (suc count)) (suc run) 1 true lines in
-    ih (with_open blocks entries) (e ∷ []) (suc count) (suc run) 1 true refl
+read-begin : (n : Instr) (line : List ℕ) (lines : List (List ℕ)) → Read lines →
+    (blocks : List Block) (label : List ℕ) (entries : List Entry) (count run place : ℕ) (run_label : List ℕ) (after : Bool) →
+    read_class (record { blocks = blocks; label = label; entries = entries; count = count; after = after }) (Instruction true n) line lines
+    ≡ class_answer blocks label entries count run place run_label (Instruction true n) line lines
+read-begin n line lines ih blocks label entries count run place run_label after =
+    let new : List ℕ = label_bytes (body line) in
+    let e : Entry = entry_at_line n line count in
+    let l : Line = record { number = suc count; bytes = line; class = Instruction true n; run = suc run; place = 0; label = new } in
+    let rest = classed (suc (suc count)) (suc run) 1 new true lines in
+    ih (with_open blocks label entries) new (e ∷ []) (suc count) (suc run) 1 new true refl refl
     ∙ ap (unless_refused (refusal rest))
-    (ap (λ parts. with_open blocks entries ++ parts) (sym (entries-put l (parted (instructions rest))))
-    ∙ ended-resumed blocks entries (put_before l (parted (instructions rest))) (Begins-put l (parted (instructions rest)) refl))
+    (ap (λ parts. with_open blocks label entries ++ parts) (sym (blocks-put l (parted (instructions rest))))
+    ∙ ended-resumed blocks label [] entries (put_before l (parted (instructions rest))) (Begins-put l (parted (instructions rest)) refl))
 
--- a line that ends the open block
-read-end : (lines : List (List ℕ)) → Read lines → (blocks : List (List Entry)) (entries : List Entry) (count run : ℕ) (after : Bool) →
-    read_from (record { blocks = with_open blocks entries; entries = []; count = suc count; after = after }) lines
-    ≡ unless_refused (refusal (classed (suc (suc count)) (suc run) 0 after lines)) (blocks ++ resumed entries (parted (instructions (classed (suc (suc count)) (suc run) 0 after lines))))
-read-end lines ih blocks entries count run after =
-    ih (with_open blocks entries) [] (suc count) (suc run) 0 after refl
-    ∙ ap (unless_refused (refusal (classed (suc (suc count)) (suc run) 0 after lines)))
-    (ended-resumed blocks entries (parted (instructions (classed (suc (suc count)) (suc run) 0 after lines))) (fresh lines (suc (suc count)) (suc run) 0 after refl))
+-- a line that ends the open block, and leaves this label to the next
+read-end : (next : List ℕ) (lines : List (List ℕ)) → Read lines → (blocks : List Block) (label : List ℕ) (entries : List Entry) (count run : ℕ) (after : Bool) →
+    read_from (record { blocks = with_open blocks label entries; label = next; entries = []; count = suc count; after = after }) lines
+    ≡ unless_refused (refusal (classed (suc (suc count)) (suc run) 0 next after lines)) (blocks ++ resumed label entries (parted (instructions (classed (suc (suc count)) (suc run) 0 next after lines))))
+read-end next lines ih blocks label entries count run after =
+    ih (with_open blocks label entries) next [] (suc count) (suc run) 0 next after refl refl
+    ∙ ap (unless_refused (refusal (classed (suc (suc count)) (suc run) 0 next after lines)))
+    (ended-resumed blocks label next entries (parted (instructions (classed (suc (suc count)) (suc run) 0 next after lines))) (fresh lines (suc (suc count)) (suc run) 0 next after refl))
 
-read-class : (c : Class) (line : List ℕ) (lines : List (List ℕ)) → Read lines → (blocks : List (List Entry)) (entries : List Entry) (count run place : ℕ) (after : Bool) → place % 64 ≡ length entries →
-    read_class (record { blocks = blocks; entries = entries; count = count; after = after }) c lines ≡ class_answer blocks entries count run place c line lines
-read-class Comment line lines ih blocks entries count run place after h = ih blocks entries (suc count) run place false h
-read-class Other line lines ih blocks entries count run place after h = read-end lines ih blocks entries count run false
-read-class Refused line lines ih blocks entries count run place after h = refl
-read-class (Pad true) line lines ih blocks entries count run place after h = read-end lines ih blocks entries count run true
-read-class (Pad false) line lines ih blocks entries count run place after h = ih blocks entries (suc count) run place true h
-read-class (Instruction true n) line lines ih blocks entries count run place after h = read-begin n line lines ih blocks entries count run place after
-read-class (Instruction false n) line lines ih blocks entries count run place after h = read-put n line lines ih blocks entries count run place after h
+read-class : (c : Class) (line : List ℕ) (lines : List (List ℕ)) → Read lines →
+    (blocks : List Block) (label : List ℕ) (entries : List Entry) (count run place : ℕ) (run_label : List ℕ) (after : Bool) →
+    place % 64 ≡ length entries → label ≡ left_label run_label place (length entries) →
+    read_class (record { blocks = blocks; label = label; entries = entries; count = count; after = after }) c line lines ≡ class_answer blocks label entries count run place run_label c line lines
+read-class Comment line lines ih blocks label entries count run place run_label after h left = ih blocks label entries (suc count) run place run_label false h left
+read-class Other line lines ih blocks label entries count run place run_label after h left = read-end [] lines ih blocks label entries count run false
+read-class Refused line lines ih blocks label entries count run place run_label after h left = refl
+read-class (Pad true) line lines ih blocks label entries count run place run_label after h left = read-end (label_bytes (body line)) lines ih blocks label entries count run true
+read-class (Pad false) line lines ih blocks label entries count run place run_label after h left = ih blocks label entries (suc count) run place run_label true h left
+read-class (Instruction true n) line lines ih blocks label entries count run place run_label after h left = read-begin n line lines ih blocks label entries count run place run_label after
+read-class (Instruction false n) line lines ih blocks label entries count run place run_label after h left = read-put n line lines ih blocks label entries count run place run_label after h left
 
 -- whether the line is too long, and whether it is one too many
-read-line : (long many : Bool) (c : Class) (line : List ℕ) (lines : List (List ℕ)) → Read lines → (blocks : List (List Entry)) (entries : List Entry) (count run place : ℕ) (after : Bool) → place % 64 ≡ length entries →
-    and_then (if long then Err (LineTooLong (suc count)) else (if many then Err TooLarge else by_class (record { blocks = blocks; entries = entries; count = count; after = after }) c)) (λ t. read_from t lines)
+read-line : (long many : Bool) (c : Class) (line : List ℕ) (lines : List (List ℕ)) → Read lines →
+    (blocks : List Block) (label : List ℕ) (entries : List Entry) (count run place : ℕ) (run_label : List ℕ) (after : Bool) →
+    place % 64 ≡ length entries → label ≡ left_label run_label place (length entries) →
+    and_then (if long then Err (LineTooLong (suc count)) else (if many then Err TooLarge
+    else by_class (record { blocks = blocks; label = label; entries = entries; count = count; after = after }) c (label_bytes (body line)) (from_operation (body line)))) (λ t. read_from t lines)
     ≡ unless_refused (or_else (if long then Some (LineTooLong (suc count)) else (if many then Some TooLarge else operand_refusal (suc count) c))
-    (refusal (classed (suc (suc count)) (run_after run c) (place_after place c) (is_code c) lines)))
-    (blocks ++ resumed entries (parted (instructions (from_class (suc count) run place c line lines))))
-read-line true many c line lines ih blocks entries count run place after h = refl
-read-line false true c line lines ih blocks entries count run place after h = refl
-read-line false false c line lines ih blocks entries count run place after h = read-class c line lines ih blocks entries count run place after h
+    (refusal (classed (suc (suc count)) (run_after run c) (place_after place c) (label_after run_label c line) (is_code c) lines)))
+    (blocks ++ resumed label entries (parted (instructions (from_class (suc count) run place run_label c line lines))))
+read-line true many c line lines ih blocks label entries count run place run_label after h left = refl
+read-line false true c line lines ih blocks label entries count run place run_label after h left = refl
+read-line false false c line lines ih blocks label entries count run place run_label after h left = read-class c line lines ih blocks label entries count run place run_label after h left
 
 then-then : {A B C : Type 0} (r : Result A SourceError) (f : A → Result B SourceError) (g : B → Result C SourceError) → and_then (and_then r f) g ≡ and_then r (λ x. and_then (f x) g)
 then-then (Ok x) f g = refl
 then-then (Err e) f g = refl
 
-last-open : (blocks : List (List Entry)) (entries : List Entry) → with_open blocks entries ≡ blocks ++ resumed entries []
-last-open blocks [] = sym (append-nil blocks)
-last-open blocks (e ∷ es) = refl
+last-open : (blocks : List Block) (label : List ℕ) (entries : List Entry) → with_open blocks label entries ≡ blocks ++ resumed label entries []
+last-open blocks label [] = sym (append-nil blocks)
+last-open blocks label (e ∷ es) = refl
 
 too-many : (count : ℕ) → nat_lt 20000 (suc count) ≡ nat_le 20000 count
 too-many count = leb-suc-suc 20000 count
 
 read-all : (lines : List (List ℕ)) → Read lines
-read-all [] blocks entries count run place after h = ap Ok (last-open blocks entries)
-read-all (line ∷ lines) blocks entries count run place after h =
-    then-then (line_step (record { blocks = blocks; entries = entries; count = count; after = after }) line) (λ t. lines_step t lines) (λ t. Ok (with_open t.blocks t.entries))
-    ∙ rw (too-many count) (read-line (nat_lt 200 (length line)) (nat_le 20000 count) (class_of after line) line lines (read-all lines) blocks entries count run place after h)
+read-all [] blocks label entries count run place run_label after h left = ap Ok (last-open blocks label entries)
+read-all (line ∷ lines) blocks label entries count run place run_label after h left =
+    then-then (line_step (record { blocks = blocks; label = label; entries = entries; count = count; after = after }) line) (λ t. lines_step t lines) (λ t. Ok (with_open t.blocks t.label t.entries))
+    ∙ rw (too-many count) (read-line (nat_lt 200 (length line)) (nat_le 20000 count) (class_of after line) line lines (read-all lines) blocks label entries count run place run_label after h left)
 
 -- reading from the start is the definition
 pub read_from-start : (text : List ℕ) → read_from start (lines_of text) ≡ source_of text
-read_from-start text = read-all (lines_of text) [] [] 0 0 0 false refl
+read_from-start text = read-all (lines_of text) [] [] [] 0 0 0 [] false refl refl
 
 -- the blocks at the end
-pub Gives-source : (text : List ℕ) (s r t : State) → s ≡ start → lines_step s (lines_of text) ≡ Ok r → t ≡ ended r → source_of text ≡ Ok t.blocks
-Gives-source text s r t begun read closed =
-    sym (read_from-start text) ∙ ap (λ u. read_from u (lines_of text)) (sym begun) ∙ ap (λ made. and_then made (λ u. Ok (with_open u.blocks u.entries))) read ∙ ap (λ u. Ok u.blocks) (sym closed)
+pub source-blocks : (text : List ℕ) (s r t : State) → s ≡ start → lines_step s (lines_of text) ≡ Ok r → t ≡ ended r → source_of text ≡ Ok t.blocks
+source-blocks text s r t begun read closed =
+    sym (read_from-start text) ∙ ap (λ u. read_from u (lines_of text)) (sym begun) ∙ ap (λ made. and_then made (λ u. Ok (with_open u.blocks u.label u.entries))) read ∙ ap (λ u. Ok u.blocks) (sym closed)
+
+abbrev is_accepted : Result (List Block) SourceError → Bool
+is_accepted (Ok blocks) = true
+is_accepted (Err e) = false
+
+accepted-blocks : (refused : Option SourceError) (found blocks : List Block) → unless_refused refused found ≡ Ok blocks → unless_refused refused found ≡ Ok found
+accepted-blocks None found blocks h = refl
+accepted-blocks (Some e) found blocks h = absurd (true≢false (sym (ap is_accepted h)))
+
+-- a text that is accepted has the blocks of its lines
+pub Gives-accepted : (text : List ℕ) (blocks : List Block) → source_of text ≡ Ok blocks → source_of text ≡ Ok (blocks_of (classed_lines text))
+Gives-accepted text blocks h = accepted-blocks (refusal (classed_lines text)) (blocks_of (classed_lines text)) blocks h
 
 -- the refusal
-pub Gives-refusal : {X : Type 0} (view : X → List (List Entry)) (e : SourceError) (text : List ℕ) (s new : State) → s ≡ start → Steps new (Err e) (lines_step s (lines_of text)) → Gives view (Err e) (source_of text)
+pub Gives-refusal : {X : Type 0} (view : X → List Block) (e : SourceError) (text : List ℕ) (s new : State) → s ≡ start → Steps new (Err e) (lines_step s (lines_of text)) → Gives view (Err e) (source_of text)
 Gives-refusal view OutOfMemory text s new begun read = tt
 Gives-refusal view (BadOperand n) text s new begun read =
-    sym (read_from-start text) ∙ ap (λ u. read_from u (lines_of text)) (sym begun) ∙ ap (λ made. and_then made (λ u. Ok (with_open u.blocks u.entries))) read
+    sym (read_from-start text) ∙ ap (λ u. read_from u (lines_of text)) (sym begun) ∙ ap (λ made. and_then made (λ u. Ok (with_open u.blocks u.label u.entries))) read
 Gives-refusal view (LineTooLong n) text s new begun read =
-    sym (read_from-start text) ∙ ap (λ u. read_from u (lines_of text)) (sym begun) ∙ ap (λ made. and_then made (λ u. Ok (with_open u.blocks u.entries))) read
+    sym (read_from-start text) ∙ ap (λ u. read_from u (lines_of text)) (sym begun) ∙ ap (λ made. and_then made (λ u. Ok (with_open u.blocks u.label u.entries))) read
 Gives-refusal view TooLarge text s new begun read =
-    sym (read_from-start text) ∙ ap (λ u. read_from u (lines_of text)) (sym begun) ∙ ap (λ made. and_then made (λ u. Ok (with_open u.blocks u.entries))) read
+    sym (read_from-start text) ∙ ap (λ u. read_from u (lines_of text)) (sym begun) ∙ ap (λ made. and_then made (λ u. Ok (with_open u.blocks u.label u.entries))) read

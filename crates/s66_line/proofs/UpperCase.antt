@@ -2,7 +2,7 @@
 use Rattle.std.proofs.Common.{◌≡◌, ◌≤◌, ◌<◌, ◌-◌, ◌==◌, ◌&&◌, ◌||◌, ℕ, suc, Bool, true, false, if◌then◌else◌, List, [], ◌∷◌, ◌++◌, length, refl, sym, ap, ap₂, ◌∙◌, arith, eqb, nat_le, ne_eqb, leb-true, lit<}
 use Rattle.std.proofs.lemmas.Bool.{and_parts, and_left, cond_both, lt-leb}
 use Rattle.s66_isa.specs.Words.{every}
-use Rattle.s66_line.specs.Fields.{is_blank, is_return, upper_byte, upper, trim, skip_blanks, word, after_word, blanks, is_comment, from_location, location, from_operation, operation, operand, continues}
+use Rattle.s66_line.specs.Fields.{is_blank, is_return, upper_byte, upper, trim, skip_blanks, word, after_word, blanks, is_comment, from_location, location, from_operation, operation, operand, label_bytes, continues}
 use Rattle.s66_line.specs.Source.{is_located}
 
 -- BYTES
@@ -42,7 +42,7 @@ pub upper-append : (text more : List ℕ) → upper (text ++ more) ≡ upper tex
 upper-append [] more = refl
 upper-append (b ∷ text) more = ap (λ bytes. upper_byte b ∷ bytes) (upper-append text more)
 
-upper-if : (t : Bool) (text more : List ℕ) → upper (if t then text else more) ≡ (if t then upper text else upper more)
+pub upper-if : (t : Bool) (text more : List ℕ) → upper (if t then text else more) ≡ (if t then upper text else upper more)
 upper-if true text more = refl
 upper-if false text more = refl
 
@@ -79,7 +79,7 @@ upper-from_location : (line : List ℕ) → from_location (upper line) ≡ upper
 upper-from_location [] = refl
 upper-from_location (b ∷ line) = rw (upper-if (b == 32) line (b ∷ line), kept b 32 (lit< tt)) refl
 
-upper-from_operation : (line : List ℕ) → from_operation (upper line) ≡ upper (from_operation line)
+pub upper-from_operation : (line : List ℕ) → from_operation (upper line) ≡ upper (from_operation line)
 upper-from_operation line =
     ap (λ l. skip_blanks (after_word l)) (upper-from_location line) ∙ ap skip_blanks (upper-after_word (from_location line)) ∙ upper-skip_blanks (after_word (from_location line))
 
@@ -116,3 +116,10 @@ same-comment (b ∷ line) =
 pub same-continues : (line : List ℕ) → continues (upper line) ≡ continues line
 same-continues [] = refl
 same-continues (b ∷ line) = kept b 44 (lit< tt)
+
+pub upper-label_bytes : (line : List ℕ) → label_bytes (upper line) ≡ upper (label_bytes line)
+upper-label_bytes [] = refl
+upper-label_bytes (b ∷ bytes) =
+    ap (λ t. if t then 32 ∷ word (upper bytes) else word (upper (b ∷ bytes))) (kept b 32 (lit< tt))
+    ∙ ap₂ (λ xs ys. if b == 32 then 32 ∷ xs else ys) (upper-word bytes) (upper-word (b ∷ bytes))
+    ∙ sym (upper-if (b == 32) (32 ∷ word bytes) (word (b ∷ bytes)))

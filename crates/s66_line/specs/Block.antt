@@ -1,16 +1,38 @@
--- What a block shows.
-use Rattle.std.specs.Prelude.{ℕ, zero, suc, List, map, Option, None, Some, slice_get}
+-- What a block shows, by the numbers of its instructions, from 1.
+use Rattle.std.specs.Prelude.{ℕ, zero, suc, List, [], ◌∷◌, ◌++◌, map, Option, None, Some, slice_get}
 use Rattle.s66_isa.specs.declared.instr.Instr.{Instr}
-use Rattle.s66_line.specs.declared.entry.Entry.{Entry}
+use Rattle.s66_line.specs.Fields.{upper, word, skip_blanks, after_word}
+use Rattle.s66_line.specs.Source.{Entry, Block}
 
-abbrev pub instrs_of : List Entry → List Instr
-instrs_of block = map (λ e. e.instr) block
+abbrev pub instrs_of : Block → List Instr
+instrs_of block = map (λ (e : Entry). e.instr) block.entries
 
--- the line of an instruction by its number, from 1; 0 of any other number
-abbrev pub line_of : List Entry → ℕ → ℕ
-line_of block zero = 0
-line_of block (suc n) = line (slice_get block n)
+-- the entry of a number, or no entry
+abbrev pub entry_at : Block → ℕ → Option Entry
+entry_at block zero = None
+entry_at block (suc n) = slice_get block.entries n
+
+-- the line of an instruction; 0 of any other number
+abbrev pub line_of : Block → ℕ → ℕ
+line_of block n = line (entry_at block n)
   where
     line : Option Entry → ℕ
     line None = 0
     line (Some e) = e.line
+
+-- the bytes of its line from its operation on; none of any other number
+abbrev pub bytes_of : Block → ℕ → List ℕ
+bytes_of block n = bytes (entry_at block n)
+  where
+    bytes : Option Entry → List ℕ
+    bytes None = []
+    bytes (Some e) = e.bytes
+
+-- operation and operand, one blank between them where there is an operand
+abbrev pub spelling : List ℕ → List ℕ → List ℕ
+spelling operation [] = operation
+spelling operation (b ∷ operand) = operation ++ 32 ∷ b ∷ operand
+
+-- its operation and its operand in upper case
+abbrev pub text_of : Block → ℕ → List ℕ
+text_of block n = spelling (upper (word (bytes_of block n))) (upper (word (skip_blanks (after_word (bytes_of block n)))))

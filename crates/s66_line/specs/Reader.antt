@@ -1,15 +1,17 @@
 -- A source read line by line: the blocks so far, and the instructions of the open one.
 use Rattle.std.specs.Prelude.{◌≡◌, ◌==◌, if◌then◌else◌, ℕ, suc, Bool, true, false, List, [], ◌∷◌, ◌++◌, Result, Ok, Err, nat_lt, nat_le, length}
 use Rattle.s66_isa.specs.declared.instr.Instr.{Instr}
-use Rattle.s66_line.specs.Source.{class_of}
+use Rattle.s66_line.specs.Fields.{body, from_operation, label_bytes}
+use Rattle.s66_line.specs.Source.{Block, Entry, class_of}
 use Rattle.s66_line.specs.declared.class.Class.{Class}
 use Rattle.s66_line.specs.declared.class.Class.TheVariants.{Comment, Other, Refused, Pad, Instruction}
-use Rattle.s66_line.specs.declared.entry.Entry.{Entry}
 use Rattle.s66_line.specs.declared.error.SourceError.{SourceError}
 use Rattle.s66_line.specs.declared.error.SourceError.TheVariants.{BadOperand, LineTooLong, TooLarge, OutOfMemory}
 
 pub record State : Type 0 where
-  pub blocks : List (List Entry)
+  pub blocks : List Block
+  -- the label of the run until its first block is ended; none from then on
+  pub label : List ℕ
   -- the instructions of the block that is not ended, at most 63
   pub entries : List Entry
   -- how many lines were read
@@ -18,41 +20,52 @@ pub record State : Type 0 where
   pub after : Bool
 
 abbrev pub start : State
-start = record { blocks = []; entries = []; count = 0; after = false }
+start = record { blocks = []; label = []; entries = []; count = 0; after = false }
 
 -- the blocks, and then the open one where it has an instruction
-abbrev pub with_open : List (List Entry) → List Entry → List (List Entry)
-with_open blocks [] = blocks
-with_open blocks (e ∷ es) = blocks ++ (e ∷ es) ∷ []
+abbrev pub with_open : List Block → List ℕ → List Entry → List Block
+with_open blocks label [] = blocks
+with_open blocks label (e ∷ es) = blocks ++ record { label = label; entries = e ∷ es } ∷ []
 
 abbrev pub ended : State → State
-ended s = record { blocks = with_open s.blocks s.entries; entries = []; count = s.count; after = s.after }
+ended s = record { blocks = with_open s.blocks s.label s.entries; label = []; entries = []; count = s.count; after = s.after }
 
--- the open block ends where a run begins
-abbrev pub ended_if : Bool → State → State
-ended_if located s = if located then ended s else s
+-- the open block ends, and a run with this label begins
+abbrev pub begun : List ℕ → State → State
+begun label s = record { blocks = with_open s.blocks s.label s.entries; label = label; entries = []; count = s.count; after = s.after }
+
+abbrev pub begun_if : Bool → List ℕ → State → State
+begun_if located label s = if located then begun label s else s
 
 -- it ends with its 64th instruction too
 abbrev pub ended_if_full : State → State
 ended_if_full s = if length s.entries == 64 then ended s else s
 
-abbrev pub with_entry : Instr → State → State
-with_entry n s = ended_if_full (record { blocks = s.blocks; entries = s.entries ++ record { instr = n; line = suc s.count } ∷ []; count = s.count; after = s.after })
+abbrev pub with_entry : Instr → List ℕ → State → State
+with_entry n bytes s =
+    ended_if_full (record {
+      blocks = s.blocks;
+      label = s.label;
+      entries = s.entries ++ record { instr = n; line = suc s.count; bytes = bytes } ∷ [];
+      count = s.count;
+      after = s.after;
+    })
 
 abbrev pub counted : Bool → State → State
-counted after s = record { blocks = s.blocks; entries = s.entries; count = suc s.count; after = after }
+counted after s = record { blocks = s.blocks; label = s.label; entries = s.entries; count = suc s.count; after = after }
 
-abbrev pub by_class : State → Class → Result State SourceError
-by_class s Comment = Ok (counted false s)
-by_class s Other = Ok (counted false (ended s))
-by_class s Refused = Err (BadOperand (suc s.count))
-by_class s (Pad located) = Ok (counted true (ended_if located s))
-by_class s (Instruction located n) = Ok (counted true (with_entry n (ended_if located s)))
+-- the next line is of this class, with its label and its bytes from the operation on
+abbrev pub by_class : State → Class → List ℕ → List ℕ → Result State SourceError
+by_class s Comment label bytes = Ok (counted false s)
+by_class s Other label bytes = Ok (counted false (ended s))
+by_class s Refused label bytes = Err (BadOperand (suc s.count))
+by_class s (Pad located) label bytes = Ok (counted true (begun_if located label s))
+by_class s (Instruction located n) label bytes = Ok (counted true (with_entry n bytes (begun_if located label s)))
 
 abbrev pub line_step : State → List ℕ → Result State SourceError
 line_step s line =
     if nat_lt 200 (length line) then Err (LineTooLong (suc s.count))
-    else (if nat_le 20000 s.count then Err TooLarge else by_class s (class_of s.after line))
+    else (if nat_le 20000 s.count then Err TooLarge else by_class s (class_of s.after line) (label_bytes (body line)) (from_operation (body line)))
 
 abbrev pub and_then : {A B : Type 0} → Result A SourceError → (A → Result B SourceError) → Result B SourceError
 and_then (Ok x) next = next x
@@ -63,8 +76,8 @@ lines_step s [] = Ok s
 lines_step s (line ∷ lines) = and_then (line_step s line) (λ t. lines_step t lines)
 
 -- the blocks of all lines
-abbrev pub read_from : State → List (List ℕ) → Result (List (List Entry)) SourceError
-read_from s lines = and_then (lines_step s lines) (λ t. Ok (with_open t.blocks t.entries))
+abbrev pub read_from : State → List (List ℕ) → Result (List Block) SourceError
+read_from s lines = and_then (lines_step s lines) (λ t. Ok (with_open t.blocks t.label t.entries))
 
 -- what changed is what the step makes, and a refusal is its refusal, unless memory was refused
 abbrev pub Steps : State → Result (Unit {0}) SourceError → Result State SourceError → Type 0

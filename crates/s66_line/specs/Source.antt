@@ -1,13 +1,12 @@
 -- The classes of lines, the blocks of a source, and its least refused line.
-use Rattle.std.specs.Prelude.{◌&&◌, ◌==◌, if◌then◌else◌, ℕ, suc, Bool, true, false, List, [], ◌∷◌, ◌%◌, Option, None, Some, Result, Ok, Err, nat_lt, length, map}
+use Rattle.std.specs.Prelude.{◌≡◌, ◌&&◌, ◌||◌, ◌==◌, if◌then◌else◌, ℕ, zero, suc, Bool, true, false, not, List, [], ◌∷◌, ◌++◌, ◌+◌, ◌-◌, ◌%◌, Option, None, Some, Result, Ok, Err, nat_lt, length, map}
 use Rattle.std.specs.List.{filter}
 use Rattle.s66_isa.specs.declared.instr.Instr.{Instr}
 use Rattle.s66_isa.specs.Table.{no_instr}
-use Rattle.s66_line.specs.Fields.{lines_of, upper, body, is_comment, location, operation, operand, continues}
+use Rattle.s66_line.specs.Fields.{lines_of, upper, body, is_comment, location, operation, operand, from_operation, continues, label_bytes}
 use Rattle.s66_line.specs.Operand.{instr_of, is_operation}
 use Rattle.s66_line.specs.declared.class.Class.{Class}
 use Rattle.s66_line.specs.declared.class.Class.TheVariants.{Comment, Other, Refused, Pad, Instruction}
-use Rattle.s66_line.specs.declared.entry.Entry.{Entry}
 use Rattle.s66_line.specs.declared.error.SourceError.{SourceError}
 use Rattle.s66_line.specs.declared.error.SourceError.TheVariants.{BadOperand, LineTooLong, TooLarge}
 
@@ -78,6 +77,8 @@ pub record Line : Type 0 where
   pub run : ℕ
   -- of an instruction: how many instructions of its run stand before it
   pub place : ℕ
+  -- the label of its run
+  pub label : List ℕ
 
 abbrev pub run_at : ℕ → Class → ℕ
 run_at run c = if begins_run c then suc run else run
@@ -91,20 +92,29 @@ place_at place c = if begins_run c then 0 else place
 abbrev pub place_after : ℕ → Class → ℕ
 place_after place c = if ends_run c then 0 else (if is_instruction c then suc (place_at place c) else place_at place c)
 
-abbrev pub classed : ℕ → ℕ → ℕ → Bool → List (List ℕ) → List Line
-classed number run place after [] = []
-classed number run place after (line ∷ lines) =
+-- the location field of the line that begins a run is its label
+abbrev pub label_at : List ℕ → Class → List ℕ → List ℕ
+label_at label c line = if begins_run c then label_bytes (body line) else label
+
+abbrev pub label_after : List ℕ → Class → List ℕ → List ℕ
+label_after label c line = if ends_run c then [] else label_at label c line
+
+abbrev pub classed : ℕ → ℕ → ℕ → List ℕ → Bool → List (List ℕ) → List Line
+classed number run place label after [] = []
+classed number run place label after (line ∷ lines) =
     record {
       number = number;
       bytes = line;
       class = class_of after line;
       run = run_at run (class_of after line);
       place = place_at place (class_of after line);
+      label = label_at label (class_of after line) line;
     }
-    ∷ classed (suc number) (run_after run (class_of after line)) (place_after place (class_of after line)) (is_code (class_of after line)) lines
+    ∷ classed (suc number) (run_after run (class_of after line)) (place_after place (class_of after line)) (label_after label (class_of after line) line)
+    (is_code (class_of after line)) lines
 
 abbrev pub classed_lines : List ℕ → List Line
-classed_lines text = classed 1 0 0 false (lines_of text)
+classed_lines text = classed 1 0 0 [] false (lines_of text)
 
 -- THE LEAST REFUSED LINE: too long, then too many lines, then a bad operand
 
@@ -156,16 +166,34 @@ instr_in Other = no_instr
 instr_in Refused = no_instr
 instr_in (Pad located) = no_instr
 
+-- an instruction of a block: the number of its line, and the bytes of that line from its operation on
+pub record Entry : Type 0 where
+  pub instr : Instr
+  pub line : ℕ
+  pub bytes : List ℕ
+
+pub record Block : Type 0 where
+  pub label : List ℕ
+  pub entries : List Entry
+
 abbrev pub entry_of : Line → Entry
-entry_of line = record { instr = instr_in line.class; line = line.number }
+entry_of line = record { instr = instr_in line.class; line = line.number; bytes = from_operation (body line.bytes) }
 
-abbrev pub blocks_of : List Line → List (List Entry)
-blocks_of lines = map (map entry_of) (parted (instructions lines))
+-- the first block of a run has its label
+abbrev pub label_in : List Line → List ℕ
+label_in [] = []
+label_in (line ∷ lines) = if line.place == 0 then line.label else []
 
-abbrev pub unless_refused : Option SourceError → List (List Entry) → Result (List (List Entry)) SourceError
+abbrev pub block_of : List Line → Block
+block_of part = record { label = label_in part; entries = map entry_of part }
+
+abbrev pub blocks_of : List Line → List Block
+blocks_of lines = map block_of (parted (instructions lines))
+
+abbrev pub unless_refused : Option SourceError → List Block → Result (List Block) SourceError
 unless_refused None blocks = Ok blocks
 unless_refused (Some e) blocks = Err e
 
 -- the blocks of a text, or its least refused line
-abbrev pub source_of : List ℕ → Result (List (List Entry)) SourceError
+abbrev pub source_of : List ℕ → Result (List Block) SourceError
 source_of text = unless_refused (refusal (classed_lines text)) (blocks_of (classed_lines text))

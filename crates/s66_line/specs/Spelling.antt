@@ -1,10 +1,13 @@
 -- What the letters of an operation can mean, as the manual lists it, and an operand of each form of a set instruction.
-use Rattle.std.specs.Prelude.{◌≡◌, ◌≤◌, ◌+◌, ℕ, List, [], ◌∷◌, ◌++◌, codes}
+use Rattle.std.specs.Prelude.{◌≡◌, ◌≤◌, ◌+◌, ℕ, List, [], ◌∷◌, ◌++◌, codes, map, Result, Ok, Err}
 use Rattle.s66_isa.specs.declared.instr.Instr.{Instr}
 use Rattle.s66_isa.specs.declared.reg.Bank.{Bank}
 use Rattle.s66_isa.specs.declared.reg.Bank.TheVariants.{A, B, X}
 use Rattle.s66_isa.specs.Words.{Among, rising}
+use Rattle.s66_line.specs.Fields.{upper}
 use Rattle.s66_line.specs.Operand.{spelled}
+use Rattle.s66_line.specs.Source.{Entry, Block}
+use Rattle.s66_line.specs.declared.error.SourceError.{SourceError}
 
 -- the two letters of each operation, and the octal codes that it can mean
 abbrev pub operations : List (List ℕ × List ℕ)
@@ -111,3 +114,15 @@ examples =
     ∷ (codes "SX1", codes "B2+B3", spelled 0o76 1 2 3)
     ∷ (codes "SX1", codes "B2-B3", spelled 0o77 1 2 3)
     ∷ []
+
+-- WHAT IS READ, BUT FOR THE CASE OF LETTERS: labels and bytes in upper case, instructions and lines as they are
+
+abbrev pub upper_entry : Entry → Entry
+upper_entry e = record { instr = e.instr; line = e.line; bytes = upper e.bytes }
+
+abbrev pub upper_block : Block → Block
+upper_block b = record { label = upper b.label; entries = map upper_entry b.entries }
+
+abbrev pub upper_read : Result (List Block) SourceError → Result (List Block) SourceError
+upper_read (Ok blocks) = Ok (map upper_block blocks)
+upper_read (Err e) = Err e

@@ -1,37 +1,40 @@
 use crate::entry::Entry;
+use crate::fields::spell;
+use arrayvec::ArrayVec;
 use s66_isa::Instr;
 use std::marker::Model;
 
-/// A straight-line block: 1 to 64 instructions of one run, numbered from 1 in source order.
+/// A straight-line block: 1 to 64 instructions of one run, numbered from 1 in source order; it borrows the source.
 #[derive(Debug, Drop)]
-pub struct Block {
-    entries: Vec<Entry>,
+pub struct Block<'a> {
+    label: &'a [u8],
+    entries: Vec<Entry<'a>>,
 }
 
-impl Model for Block {
-    ghost use Rattle.std.specs.Prelude.{List, ◌≤◌, ◌<◌, length};
-    ghost use Rattle.s66_line.specs.declared.entry.Entry.{Entry};
+impl<'a> Model for Block<'a> {
+    ghost use Rattle.std.specs.Prelude.{◌≤◌, ◌<◌, length};
+    ghost use Rattle.s66_line.specs.Source.{Block};
 
-    ghost Value = { List Entry };
+    ghost Value = { Block };
 
-    ghost view = { λ b. b.entries.items };
+    ghost view = { λ b. record { label = b.label.now; entries = b.entries.items } };
 
     ghost invariant = { λ b. (0 < length b.entries.items) × (length b.entries.items ≤ 64) };
 }
 
-impl Block {
+impl<'a> Block<'a> {
     ghost use Rattle.std.specs.Prelude.{◌≡◌, ◌≤◌, ◌<◌, length};
     ghost use Rattle.s66_isa.specs.Words.{weigh};
     ghost use Rattle.s66_isa.specs.Table.{instr_at, parcels_of};
     ghost use Rattle.s66_isa.specs.declared.instr.Instr.{Instr};
-    ghost use Rattle.s66_line.specs.Block.{instrs_of, line_of};
+    ghost use Rattle.s66_line.specs.Block.{instrs_of, line_of, bytes_of, text_of};
 
-    pub(crate) fn new(entries: Vec<Entry>) -> Block
+    pub(crate) fn new(label: &'a [u8], entries: Vec<Entry<'a>>) -> Block<'a>
         requires some { 0 < length entries.items }
         requires few { length entries.items ≤ 64 }
-        ensures { result ≡ entries.items }
+        ensures { result ≡ record { label = label.now; entries = entries.entry.items } }
     {
-        Block { entries }
+        Block { label, entries }
     }
 
     /// How many instructions there are, 1 to 64.
@@ -41,6 +44,14 @@ impl Block {
         ensures few { result ≤ 64 }
     {
         self.entries.len()
+    }
+
+    /// The location field of the run's first line, with the blank before it where it begins in column 2; empty in every
+    /// block of a run but its first.
+    pub fn label(&self) -> &'a [u8]
+        ensures { result.now ≡ self.now.label }
+    {
+        self.label
     }
 
     /// The instruction of a number, from 1.
@@ -59,6 +70,25 @@ impl Block {
         ensures { result ≡ line_of self.now number }
     {
         self.entries[number - 1].line
+    }
+
+    /// The bytes of an instruction's line from its operation on, without the carriage returns at its end: at most 200.
+    pub fn bytes(&self, number: usize) -> &'a [u8]
+        requires first { 1 ≤ number }
+        requires last { number ≤ length (instrs_of self.now) }
+        ensures value { result.now ≡ bytes_of self.now number }
+        ensures few { length result.now ≤ 200 }
+    {
+        self.entries[number - 1].bytes
+    }
+
+    /// An instruction's operation and operand in upper case, one blank between them where there is an operand.
+    pub fn text(&self, number: usize) -> ArrayVec<u8, 200>
+        requires first { 1 ≤ number }
+        requires last { number ≤ length (instrs_of self.now) }
+        ensures { result.items ≡ text_of self.now number }
+    {
+        spell(self.bytes(number))
     }
 
     /// The parcels of 15 bits of its instructions, NOs not counted: at most 128.

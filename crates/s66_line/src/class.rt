@@ -1,6 +1,6 @@
-ghost use Rattle.std.specs.Prelude.{◌≡◌, ◌≤◌, length};
-ghost use Rattle.s66_line.specs.Fields.{upper, operation, operand};
-ghost use Rattle.s66_line.specs.Source.{class_of, by_operation, is_located};
+ghost use Rattle.std.specs.Prelude.{◌≡◌, ◌≤◌, true, length};
+ghost use Rattle.s66_line.specs.Fields.{upper, body, operation, operand, from_operation, label_bytes};
+ghost use Rattle.s66_line.specs.Source.{class_of, by_operation, is_code, is_located};
 
 use crate::fields::{body_of, fields_of, is_comment_line, is_continuation, upper_case};
 use crate::operation::{instruction_of, is_operation_name};
@@ -38,36 +38,57 @@ fn class_by_operation(located: bool, operation: &[u8], operand: &[u8]) -> Class
     }
 }
 
-/// The class of a body that is neither a comment nor a continuation.
-fn class_by_fields(line: &[u8]) -> Class
+/// A line with its class; where that is Instruction or Pad, its label and its bytes from the operation on.
+#[derive(Clone, Copy, Debug)]
+pub(crate) struct Classified<'a> {
+    pub class: Class,
+    pub label: &'a [u8],
+    pub bytes: &'a [u8],
+}
+
+/// A body that is neither a comment nor a continuation, with its class.
+fn class_by_fields(line: &[u8]) -> Classified<'_>
     requires { length line.now ≤ 200 }
-    ensures { result ≡ by_operation (is_located line.now) (upper (operation line.now)) (upper (operand line.now)) }
+    ensures class { result.class ≡ by_operation (is_located line.now) (upper (operation line.now)) (upper (operand line.now)) }
+    ensures label { result.label.now ≡ label_bytes line.now }
+    ensures bytes { result.bytes.now ≡ from_operation line.now }
+    ensures few { length result.bytes.now ≤ 200 }
 {
     let fields = fields_of(line);
     let operation = upper_case(fields.operation);
     let operand = upper_case(fields.operand);
-    class_by_operation(
-        !fields.location.is_empty(),
-        operation.as_slice(),
-        operand.as_slice(),
-    )
+    Classified {
+        class: class_by_operation(
+            !fields.location.is_empty(),
+            operation.as_slice(),
+            operand.as_slice(),
+        ),
+        label: fields.label,
+        bytes: fields.from_operation,
+    }
 }
 
-/// What a line is, where the line directly before it is code or not.
-pub(crate) fn classify(after_code: bool, line: &[u8]) -> Class
+/// A line with its class, where the line directly before it is code or not.
+pub(crate) fn classify(after_code: bool, line: &[u8]) -> Classified<'_>
     requires { length line.now ≤ 200 }
-    ensures { result ≡ class_of after_code line.now }
+    ensures class { result.class ≡ class_of after_code line.now }
+    ensures label { is_code result.class ≡ true → result.label.now ≡ label_bytes (body line.now) }
+    ensures bytes { is_code result.class ≡ true → result.bytes.now ≡ from_operation (body line.now) }
+    ensures few { length result.bytes.now ≤ 200 }
 {
     let body = body_of(line);
-    if is_comment_line(body) {
-        return Class::Comment;
+    let class = if is_comment_line(body) {
+        Class::Comment
+    } else if !is_continuation(body) {
+        return class_by_fields(body);
+    } else if after_code {
+        Class::Refused
+    } else {
+        Class::Other
+    };
+    Classified {
+        class,
+        label: body,
+        bytes: body,
     }
-    if is_continuation(body) {
-        return if after_code {
-            Class::Refused
-        } else {
-            Class::Other
-        };
-    }
-    class_by_fields(body)
 }

@@ -1,8 +1,22 @@
 use s66_isa::Instr;
+use std::marker::Model;
 
-/// An instruction of a block, and its line in the source, from 1.
-#[derive(Clone, Copy, Debug)]
-pub struct Entry {
+/// An instruction of a block, its line in the source, from 1, and at most 200 bytes: those of the line from its operation
+/// on.
+#[derive(Debug, Drop)]
+pub struct Entry<'a> {
     pub instr: Instr,
     pub line: u32,
+    pub bytes: &'a [u8],
+}
+
+impl<'a> Model for Entry<'a> {
+    ghost use Rattle.std.specs.Prelude.{◌≤◌, length};
+    ghost use Rattle.s66_line.specs.Source.{Entry};
+
+    ghost Value = { Entry };
+
+    ghost view = { λ e. record { instr = e.instr; line = e.line; bytes = e.bytes.now } };
+
+    ghost invariant = { λ e. length e.bytes.now ≤ 200 };
 }

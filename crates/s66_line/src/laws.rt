@@ -4,7 +4,7 @@ ghost use Rattle.s66_isa.specs.declared.reg.Bank.{Bank};
 ghost use Rattle.s66_isa.specs.Words.{Among};
 ghost use Rattle.s66_line.specs.Fields.{upper};
 ghost use Rattle.s66_line.specs.Operand.{register_of, is_constant, instr_of, set_form_of, set_code};
-ghost use Rattle.s66_line.specs.Spelling.{digit, CanMean, set_letters, set_operands, examples};
+ghost use Rattle.s66_line.specs.Spelling.{digit, CanMean, set_letters, set_operands, examples, upper_read};
 ghost use Rattle.s66_line.specs.Source.{classed_lines, instructions, parted, source_of};
 ghost use Rattle.s66_line.specs.Parts.{AreParts};
 
@@ -31,10 +31,10 @@ pub fn term_law()
     ensures symbol { (letter : ℕ) (rest : List ℕ) → Among letter (codes "ABX") → is_constant (letter ∷ codes "." ++ rest) ≡ false }
 {}
 
-/// Lower case reads as upper case: texts that differ only in the case of letters have the same blocks, or the same
-/// refusal.
+/// Lower case reads as upper case: texts that differ only in the case of letters have the same blocks but for the case of
+/// letters in what is kept of their lines, or the same refusal.
 pub fn case_law()
-    ensures { (text other : List ℕ) → upper text ≡ upper other → source_of text ≡ source_of other }
+    ensures { (text other : List ℕ) → upper text ≡ upper other → upper_read (source_of text) ≡ upper_read (source_of other) }
 {}
 
 /// The blocks of a source are its instruction lines, cut into runs and these after each 64th line.

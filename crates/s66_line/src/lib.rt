@@ -18,7 +18,6 @@ mod terms;
 pub use block::Block;
 pub use class::Class;
 pub use device::{Failed, Feed, OverRead, OverWrite, Sink, WriteError, write_all};
-pub use entry::Entry;
 pub use error::SourceError;
 pub use laws::{case_law, form_law, parts_law, set_form_law, spelling_rows, term_law};
 pub use source::{Source, read_source};

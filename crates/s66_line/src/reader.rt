@@ -1,10 +1,10 @@
 ghost use Rattle.std.specs.Prelude.{◌≡◌, ◌≤◌, ◌<◌, [], length, OnOk};
 ghost use Rattle.s66_line.specs.Fields.{lines_from};
-ghost use Rattle.s66_line.specs.Reader.{Steps, ended, with_entry, by_class, line_step, lines_step};
+ghost use Rattle.s66_line.specs.Reader.{Steps, ended, begun, with_entry, by_class, line_step, lines_step};
 ghost use Rattle.s66_line.specs.ReaderState.{state};
 
 use crate::block::Block;
-use crate::class::{Class, classify};
+use crate::class::{Class, Classified, classify};
 use crate::entry::Entry;
 use crate::error::SourceError;
 use s66_isa::Instr;
@@ -13,17 +13,19 @@ use std::mem;
 
 /// What the lines of a source made so far.
 #[derive(Debug, Drop)]
-pub struct Reader {
-    pub blocks: Vec<Block>,
+pub struct Reader<'a> {
+    pub blocks: Vec<Block<'a>>,
+    /// The label of the run until its first block is ended, empty from then on.
+    pub label: &'a [u8],
     /// The instructions of the open block, fewer than 64.
-    pub entries: Vec<Entry>,
+    pub entries: Vec<Entry<'a>>,
     /// How many lines were read.
     pub lines: u32,
     /// Whether the last of them is an Instruction or a Pad.
     pub after_code: bool,
 }
 
-impl Reader {
+impl<'a> Reader<'a> {
     /// Ends the open block, where it has an instruction.
     pub(crate) fn end_block(&mut self, alloc: Global) -> Result<(), AllocError>
         requires { length self.old.entries.items ≤ 64 }
@@ -31,36 +33,49 @@ impl Reader {
     {
         if !self.entries.is_empty() {
             let entries = mem::replace(&mut self.entries, Vec::new(alloc));
-            self.blocks.push(Block::new(entries))?;
+            self.blocks.push(Block::new(self.label, entries))?;
         }
+        self.label = &[];
+        Ok(())
+    }
+
+    /// Ends the open block, and begins a run with this label.
+    fn begin_run(&mut self, alloc: Global, label: &'a [u8]) -> Result<(), AllocError>
+        requires { length self.old.entries.items ≤ 64 }
+        ensures { OnOk result (state self.new ≡ begun label.now (state self.old)) }
+    {
+        self.end_block(alloc)?;
+        self.label = label;
         Ok(())
     }
 
     /// Puts the instruction of the next line into the open block, which ends with its 64th.
-    fn put(&mut self, alloc: Global, instr: Instr) -> Result<(), AllocError>
+    fn put(&mut self, alloc: Global, instr: Instr, bytes: &'a [u8]) -> Result<(), AllocError>
         requires few { length self.old.entries.items < 64 }
         requires lines { self.old.lines < 20000 }
-        ensures step { OnOk result (state self.new ≡ with_entry instr (state self.old)) }
+        requires bytes { length bytes.now ≤ 200 }
+        ensures step { OnOk result (state self.new ≡ with_entry instr bytes.now (state self.old)) }
         ensures few { OnOk result (length self.new.entries.items < 64) }
     {
         let line = self.lines + 1;
-        self.entries.push(Entry { instr, line })?;
+        self.entries.push(Entry { instr, line, bytes })?;
         if self.entries.len() == 64 {
             self.end_block(alloc)?;
         }
         Ok(())
     }
 
-    /// Reads the next line, of this class.
-    fn take_class(&mut self, alloc: Global, class: Class) -> Result<(), SourceError>
+    /// Reads the next line, which was classified.
+    fn take_classified(&mut self, alloc: Global, line: Classified<'a>) -> Result<(), SourceError>
         requires few { length self.old.entries.items < 64 }
         requires lines { self.old.lines < 20000 }
-        ensures step { Steps (state self.new) result (by_class (state self.old) class) }
+        requires bytes { length line.bytes.now ≤ 200 }
+        ensures step { Steps (state self.new) result (by_class (state self.old) line.entry.class line.entry.label.now line.entry.bytes.now) }
         ensures few { OnOk result (length self.new.entries.items < 64) }
         ensures lines { OnOk result (self.new.lines ≤ 20000) }
     {
         let mut after_code = false;
-        match class {
+        match line.class {
             Class::Comment => {}
             Class::Other => self.end_block(alloc)?,
             Class::Refused => {
@@ -70,15 +85,15 @@ impl Reader {
             }
             Class::Pad { located } => {
                 if located {
-                    self.end_block(alloc)?;
+                    self.begin_run(alloc, line.label)?;
                 }
                 after_code = true;
             }
             Class::Instruction { located, instr } => {
                 if located {
-                    self.end_block(alloc)?;
+                    self.begin_run(alloc, line.label)?;
                 }
-                self.put(alloc, instr)?;
+                self.put(alloc, instr, line.bytes)?;
                 after_code = true;
             }
         }
@@ -88,7 +103,7 @@ impl Reader {
     }
 
     /// Reads the next line.
-    fn take_line(&mut self, alloc: Global, line: &[u8]) -> Result<(), SourceError>
+    fn take_line(&mut self, alloc: Global, line: &'a [u8]) -> Result<(), SourceError>
         requires few { length self.old.entries.items < 64 }
         requires lines { self.old.lines ≤ 20000 }
         ensures step { Steps (state self.new) result (line_step (state self.old) line.now) }
@@ -103,12 +118,11 @@ impl Reader {
         if self.lines >= 20000 {
             return Err(SourceError::TooLarge);
         }
-        let class = classify(self.after_code, line);
-        self.take_class(alloc, class)
+        self.take_classified(alloc, classify(self.after_code, line))
     }
 
     /// Reads a last line that lacks its newline, where there is one.
-    fn take_last(&mut self, alloc: Global, line: &[u8]) -> Result<(), SourceError>
+    fn take_last(&mut self, alloc: Global, line: &'a [u8]) -> Result<(), SourceError>
         requires few { length self.old.entries.items < 64 }
         requires lines { self.old.lines ≤ 20000 }
         ensures step { Steps (state self.new) result (lines_step (state self.old) (lines_from line.now [])) }
@@ -121,7 +135,7 @@ impl Reader {
     }
 
     /// Reads all lines of a text.
-    pub(crate) fn take_all(&mut self, alloc: Global, text: &[u8]) -> Result<(), SourceError>
+    pub(crate) fn take_all(&mut self, alloc: Global, text: &'a [u8]) -> Result<(), SourceError>
         requires few { length self.old.entries.items < 64 }
         requires lines { self.old.lines ≤ 20000 }
         ensures step { Steps (state self.new) result (lines_step (state self.old) (lines_from [] text.now)) }

@@ -1,5 +1,8 @@
 use crate::operation::{instruction_of, is_operation_name};
+use crate::source::read_source;
 use s66_isa::Instr;
+use std::alloc::AllocError;
+use std::test::Fail;
 
 /// An operation, spellings of its operand with blanks between, and the instruction as octal digits: code, i, j, k.
 const ACCEPTED: [(&str, &str, u32); 66] = [
@@ -145,4 +148,36 @@ fn knows_operations(rt: HostRuntime) {
         assert!(rt; !is_operation_name(word.as_bytes()), "{word}");
         assert_eq!(rt; spelled(word, "X2"), None, "{word}");
     }
+}
+
+/// A labelled NO, a comment, 65 instructions, a line that ends the run, and a labelled instruction.
+fn cut_run<R: AllocGlobal>(rt: &R) -> Result<String, AllocError> {
+    let mut text = String::new(rt.alloc());
+    text.push_str(" LOOP NO\n* NOTE\n   bx1   x2+x3   ADDS\r\n")?;
+    for _ in 0..64 {
+        text.push_str("         nx0\n")?;
+    }
+    text.push_str("         END\nFIN  SX1\tB1\n")?;
+    Ok(text)
+}
+
+#[test]
+fn keeps_labels_and_bytes(rt: HostRuntime) -> Result<(), Fail> {
+    let text = cut_run(&rt)?;
+    let source = read_source(rt.alloc(), text.as_bytes()).expect(&rt, "the source is accepted");
+    // of each block: its label, its count, and the line, bytes and text of its first instruction
+    let expected = [
+        (" LOOP", 64, 3, "bx1   x2+x3   ADDS", "BX1 X2+X3"),
+        ("", 1, 67, "nx0", "NX0"),
+        ("FIN", 1, 69, "SX1\tB1", "SX1 B1"),
+    ];
+    assert_eq!(rt; source.blocks().len(), expected.len());
+    for (block, (label, count, line, bytes, text)) in source.blocks().iter().zip(expected) {
+        assert_eq!(rt; block.label(), label.as_bytes());
+        assert_eq!(rt; block.count(), count);
+        assert_eq!(rt; block.line(1), line);
+        assert_eq!(rt; block.bytes(1), bytes.as_bytes());
+        assert_eq!(rt; block.text(1).as_slice(), text.as_bytes());
+    }
+    Ok(())
 }

@@ -5,10 +5,9 @@ use Rattle.s66_isa.specs.Words.{weigh}
 use Rattle.s66_isa.specs.Table.{parcels_of, numbers, standard}
 use Rattle.s66_model.specs.Packing.{pads, len_at}
 use Rattle.s66_model.specs.Timing.{total_of}
-use Rattle.s66_line.specs.declared.entry.Entry.{Entry}
 use Rattle.s66_line.specs.declared.error.SourceError.{SourceError}
 use Rattle.s66_line.specs.Block.{instrs_of, line_of}
-use Rattle.s66_line.specs.Source.{source_of}
+use Rattle.s66_line.specs.Source.{Block, source_of}
 use Rattle.s66_time.specs.TimedOrder.{TimedOrder, point_at, latest_result}
 
 -- a block as it was written, under the standard profile
@@ -28,7 +27,7 @@ abbrev pub total_time : TimedOrder → ℕ
 total_time t = total_of t.problem t.numbers
 
 -- the line of the n-th block, from 1
-abbrev pub time_line : ℕ → List Entry → List ℕ
+abbrev pub time_line : ℕ → Block → List ℕ
 time_line n block =
     codes "BLOCK " ++ decimal n ++ codes " LINE " ++ decimal (line_of block 1) ++ codes " COUNT " ++ decimal (length (instrs_of block))
     ++ codes " PARCELS " ++ decimal (parcels_in (instrs_of block)) ++ codes " NO " ++ decimal (pads_in (instrs_of block))
@@ -46,15 +45,15 @@ abbrev pub trace_lines : TimedOrder → ℕ → List ℕ → List ℕ
 trace_lines t position [] = []
 trace_lines t position (n ∷ ns) = trace_line t position n ++ trace_lines t (position + 1) ns
 
-abbrev pub block_lines : Bool → ℕ → List Entry → List ℕ
+abbrev pub block_lines : Bool → ℕ → Block → List ℕ
 block_lines trace n block = time_line n block ++ (if trace then trace_lines (as_written (instrs_of block)) 0 (numbers (instrs_of block)) else [])
 
 -- the lines of these blocks, before which n blocks stand
-abbrev pub time_lines : Bool → ℕ → List (List Entry) → List ℕ
+abbrev pub time_lines : Bool → ℕ → List Block → List ℕ
 time_lines trace n [] = []
 time_lines trace n (block ∷ blocks) = block_lines trace (n + 1) block ++ time_lines trace (n + 1) blocks
 
-abbrev pub time_output : Bool → Result (List (List Entry)) SourceError → Result (List ℕ) SourceError
+abbrev pub time_output : Bool → Result (List Block) SourceError → Result (List ℕ) SourceError
 time_output trace (Ok blocks) = Ok (time_lines trace 0 blocks)
 time_output trace (Err e) = Err e
 

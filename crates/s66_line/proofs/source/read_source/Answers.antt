@@ -1,15 +1,20 @@
-use Rattle.std.proofs.Common.{List, refl}
+use Rattle.std.proofs.Common.{List, ℕ, refl, ◌≡◌}
+use Rattle.std.specs.Prelude.{Ok}
 use Rattle.std.proofs.lemmas.Result.{err_from_is_err_and}
-use Rattle.s66_line.specs.declared.entry.Entry.{Entry}
 use Rattle.s66_line.specs.ReaderState.{state}
-use Rattle.s66_line.proofs.ReaderBlocks.{Gives-source, Gives-refusal}
+use Rattle.s66_line.specs.Source.{classed_lines, blocks_of}
+use Rattle.s66_line.proofs.ReaderBlocks.{source-blocks, Gives-accepted, Gives-refusal}
 use Rattle.s66_line.proofs.source.read_source.Goals as goal
 
-pub returns-in_err-take_all : goal.returns-in_err-take_all
-returns-in_err-take_all c =
+pub returns-in_err-take_all-clause-read : goal.returns-in_err-take_all-clause-read
+returns-in_err-take_all-clause-read c =
     let p = err_from_is_err_and c.from_residual.result c.from_residual.ensures.1 in
-    rw (p.1, p.2) (Gives-refusal {X = List (List Entry)} (λ s. s) c.in_err-take_all.field-0.0 c.args.text.now _ (state c.take_all.new.self) (rw (c.new.ensures.items, c.new-2.ensures.items) refl) c.in_err-take_all.ensures.step)
+    rw (p.1, p.2) (Gives-refusal {X = List ℕ} (λ source. blocks_of (classed_lines source)) c.in_err-take_all.field-0.0 c.args.text.now _ (state c.take_all.new.self) (rw (c.new.ensures.items, c.new-2.ensures.items) refl) c.in_err-take_all.ensures.step)
 
-pub returns : goal.returns
-returns c =
-    Gives-source c.args.text.now _ (state c.take_all.new.self) (state c.end_block.new.self) (rw (c.new.ensures.items, c.new-2.ensures.items) refl) c.in_ok-take_all.ensures.step c.in_ok-end_block.ensures
+pub invariant_of-result : goal.invariant_of-result
+invariant_of-result c =
+    source-blocks c.args.text.now _ (state c.take_all.new.self) (state c.end_block.new.self) (rw (c.new.ensures.items, c.new-2.ensures.items) refl) c.in_ok-take_all.ensures.step c.in_ok-end_block.ensures
+
+pub returns-clause-read : goal.returns-clause-read
+returns-clause-read c =
+    Gives-accepted c.args.text.now _ (source-blocks c.args.text.now _ (state c.take_all.new.self) (state c.end_block.new.self) (rw (c.new.ensures.items, c.new-2.ensures.items) refl) c.in_ok-take_all.ensures.step c.in_ok-end_block.ensures)

@@ -1,13 +1,14 @@
-use Rattle.std.proofs.Common.{◌≡◌, ◌≤◌, ◌+◌, ◌*◌, drop}
+use Rattle.std.proofs.Common.{◌≡◌, ◌≤◌, ◌+◌, ◌*◌, drop, map}
 use Rattle.s66_isa.specs.Words.{weigh}
 use Rattle.s66_isa.specs.Table.{parcels_of}
 use Rattle.s66_isa.specs.declared.instr.Instr.{Instr}
+use Rattle.s66_line.specs.Source.{Entry}
 use Rattle.s66_line.specs.Block.{instrs_of}
 use Rattle.s66_line.proofs.block.Block.parcels.Given as goal
 
 -- the parcels so far, and then those of the rest, are those of all
 abbrev pub invariant-loop-entry : goal.invariant-loop-entry
 invariant-loop-entry l = record {
-  rest : l.sum + weigh (λ (n : Instr). parcels_of n.op.code) (instrs_of (drop l.entry-index l.self)) ≡ weigh (λ (n : Instr). parcels_of n.op.code) (instrs_of l.self);
+  rest : l.sum + weigh (λ (n : Instr). parcels_of n.op.code) (map (λ (e : Entry). e.instr) (drop l.entry-index l.self.entries)) ≡ weigh (λ (n : Instr). parcels_of n.op.code) (instrs_of l.self);
   few : l.sum ≤ 2 * l.entry-index;
 }
