@@ -1,9 +1,9 @@
 -- What stands in the entry of a number.
-use Rattle.std.proofs.Common.{ℕ, zero, suc, ◌-◌, ◌≤◌, ◌≡◌, List, Some, sym, ap, arith, get_or, length, ◌∙◌}
+use Rattle.std.proofs.Common.{ℕ, zero, suc, ◌-◌, ◌≤◌, ◌≡◌, sym, ap, arith, get_or, length, ◌∙◌}
 use Rattle.std.proofs.lemmas.List.{get_or-map, length-map}
 use Rattle.s66_isa.specs.Table.{instr_at, no_instr}
 use Rattle.s66_line.specs.Source.{Entry, Block}
-use Rattle.s66_line.specs.Block.{instrs_of, entry_at}
+use Rattle.s66_line.specs.Block.{instrs_of}
 
 pub instr_at-entry : (block : Block) (n : ℕ) (e : Entry) → 1 ≤ n → n ≤ length (instrs_of block) → e ≡ get_or block.entries (n - 1) e → e.instr ≡ instr_at (instrs_of block) n
 instr_at-entry block zero e low high h = absurd (omega arith)

@@ -16,7 +16,6 @@ mod source;
 mod terms;
 
 pub use block::Block;
-pub use class::Class;
 pub use device::{Failed, Feed, OverRead, OverWrite, Sink, WriteError, write_all};
 pub use error::SourceError;
 pub use laws::{case_law, form_law, parts_law, set_form_law, spelling_rows, term_law};

@@ -1,5 +1,4 @@
-use Rattle.std.proofs.Common.{List, ℕ, refl, ◌≡◌}
-use Rattle.std.specs.Prelude.{Ok}
+use Rattle.std.proofs.Common.{List, ℕ, refl}
 use Rattle.std.proofs.lemmas.Result.{err_from_is_err_and}
 use Rattle.s66_line.specs.ReaderState.{state}
 use Rattle.s66_line.specs.Source.{classed_lines, blocks_of}
