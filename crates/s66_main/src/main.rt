@@ -15,17 +15,42 @@ use std::process::ExitCode;
 use std::{env, io};
 use usage::{Usage, command_of};
 
+/// The words of the command line, of which the first is the program's name.
+fn words_of(rt: &HostRuntime) -> io::Result<Vec<String>> {
+    Ok(env::args(rt)?.collect(rt.alloc())?)
+}
+
+/// Tells why there are no words, and answers the status.
+fn refuse_words(rt: &HostRuntime, error: &io::Error) -> io::Result<ExitCode> {
+    match error.kind() {
+        io::ErrorKind::OutOfMemory => {
+            eprintln!(rt; "OUT OF MEMORY")?;
+            Ok(ExitCode::from(4))
+        }
+        _ => {
+            eprintln!(rt; "error: an argument is not UTF-8")?;
+            Ok(ExitCode::from(2))
+        }
+    }
+}
+
+/// Tells why words are no command, and answers the status.
+fn refuse_usage(rt: &HostRuntime, usage: &Usage) -> io::Result<ExitCode> {
+    match usage {
+        Usage::Help(text) | Usage::Bad(text) => text.print(rt)?,
+        Usage::OutOfMemory => eprintln!(rt; "OUT OF MEMORY")?,
+    }
+    Ok(ExitCode::from(usage.code()))
+}
+
 fn main(rt: HostRuntime) -> io::Result<ExitCode> {
-    let words: Vec<String> = env::args(&rt)?.collect(rt.alloc())?;
+    let words = match words_of(&rt) {
+        Ok(words) => words,
+        Err(error) => return refuse_words(&rt, &error),
+    };
     let command = match command_of(rt.alloc(), words.as_slice()) {
         Ok(command) => command,
-        Err(usage) => {
-            match &usage {
-                Usage::Help(text) | Usage::Bad(text) => text.print(&rt)?,
-                Usage::OutOfMemory => eprintln!(rt; "OUT OF MEMORY")?,
-            }
-            return Ok(ExitCode::from(usage.code()));
-        }
+        Err(usage) => return refuse_usage(&rt, &usage),
     };
     let mut reader = OverRead::new(rt.stdin());
     let mut writer = OverWrite::new(rt.stdout());
