@@ -14,3 +14,4 @@ pub mod FormLaw
 pub mod SetFormLaw
 pub mod UpperCase
 pub mod CaseLaw
+pub mod LineLaw

@@ -5,6 +5,7 @@ pub mod Terms
 pub mod Source
 pub mod Parts
 pub mod Block
+pub mod Roles
 pub mod Gives
 pub mod Reader
 pub mod ReaderState

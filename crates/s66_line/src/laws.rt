@@ -1,12 +1,13 @@
-ghost use Rattle.std.specs.Prelude.{◌≡◌, ◌≤◌, ◌+◌, ℕ, List, ◌∷◌, ◌++◌, Option, Some, Bool, false, map, option_map, codes, get_or, []};
+ghost use Rattle.std.specs.Prelude.{◌≡◌, ◌≤◌, ◌+◌, ℕ, List, ◌∷◌, ◌++◌, Option, Some, Result, Ok, Bool, true, false, map, option_map, codes, get_or, []};
 ghost use Rattle.s66_isa.specs.declared.instr.Instr.{Instr};
 ghost use Rattle.s66_isa.specs.declared.reg.Bank.{Bank};
-ghost use Rattle.s66_isa.specs.Words.{Among};
+ghost use Rattle.s66_isa.specs.Words.{Among, tally};
 ghost use Rattle.s66_line.specs.Fields.{upper};
-ghost use Rattle.s66_line.specs.Operand.{register_of, is_constant, instr_of, set_form_of, set_code};
+ghost use Rattle.s66_line.specs.Operand.{register_of, is_constant, constant_of, instr_of, set_form_of, set_code};
 ghost use Rattle.s66_line.specs.Spelling.{digit, CanMean, set_letters, set_operands, examples, upper_read};
-ghost use Rattle.s66_line.specs.Source.{classed_lines, instructions, parted, source_of};
+ghost use Rattle.s66_line.specs.Source.{Line, Block, classed_lines, instructions, is_instruction, parted, blocks_of, source_of};
 ghost use Rattle.s66_line.specs.Parts.{AreParts};
+ghost use Rattle.s66_line.specs.Roles.{is_note, is_note_of, is_dropped, is_copied, roles, lines_that, mixed_source, outside_source};
 
 /// What is spelled is in the table: the letters of the operation can mean the instruction's code, its digit is i, and i,
 /// j and k are 0 to 7.
@@ -40,4 +41,31 @@ pub fn case_law()
 /// The blocks of a source are its instruction lines, cut into runs and these after each 64th line.
 pub fn parts_law()
     ensures { (text : List ℕ) → AreParts (classed_lines text) (parted (instructions (classed_lines text))) }
+{}
+
+/// Each line of an accepted source is exactly one of these: an instruction, a note, a `NO` that is left out, or copied; and a
+/// note is one of exactly one block.
+pub fn line_law()
+    ensures one { (text : List ℕ) (blocks : List Block) (line : Line) → source_of text ≡ Ok blocks → Among line (classed_lines text) → tally (λ is. is) (roles (classed_lines text) line) ≡ 1 }
+    ensures note { (text : List ℕ) (line : Line) → Among line (classed_lines text) → is_note (classed_lines text) line ≡ true → tally (is_note_of line) (blocks_of (classed_lines text)) ≡ 1 }
+{}
+
+/// What becomes of the lines of a small source, and of comments and a `NO` outside of blocks.
+pub fn line_rows()
+    ensures instructions { lines_that (λ lines line. is_instruction line.class) mixed_source ≡ 2 ∷ 5 ∷ 6 ∷ 8 ∷ [] }
+    ensures notes { lines_that is_note mixed_source ≡ 4 ∷ [] }
+    ensures dropped { lines_that is_dropped mixed_source ≡ 3 ∷ [] }
+    ensures copied { lines_that is_copied mixed_source ≡ 1 ∷ 7 ∷ 9 ∷ [] }
+    ensures dropped_outside { lines_that is_dropped outside_source ≡ 4 ∷ 7 ∷ [] }
+    ensures copied_outside { lines_that is_copied outside_source ≡ 1 ∷ 2 ∷ 3 ∷ 5 ∷ 8 ∷ [] }
+{}
+
+/// The texts of constants.
+pub fn constant_rows()
+    ensures in_front { constant_of 0o50 (codes "0+A1") ≡ codes "+0" }
+    ensures behind { constant_of 0o50 (codes "A1+0") ≡ codes "+0" }
+    ensures several { constant_of 0o50 (codes "A1+2*N-3") ≡ codes "+2*N-3" }
+    ensures shift_count { constant_of 0o20 (codes "-N") ≡ codes "-N" }
+    ensures registers { constant_of 0o54 (codes "A1+B1") ≡ [] }
+    ensures boolean { constant_of 0o11 (codes "X2*X3") ≡ [] }
 {}

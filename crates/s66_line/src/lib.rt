@@ -18,7 +18,10 @@ mod terms;
 pub use block::Block;
 pub use device::{Failed, Feed, OverRead, OverWrite, Sink, WriteError, write_all};
 pub use error::SourceError;
-pub use laws::{case_law, form_law, parts_law, set_form_law, spelling_rows, term_law};
+pub use laws::{
+    case_law, constant_rows, form_law, line_law, line_rows, parts_law, set_form_law, spelling_rows,
+    term_law,
+};
 pub use source::{Source, read_source};
 
 #[cfg(test)]
