@@ -80,8 +80,9 @@ pub struct Instr {
 }
 
 impl Instr {
+    ghost use Rattle.std.specs.Option.{option_to_list};
     ghost use Rattle.s66_isa.specs.Words.{greatest};
-    ghost use Rattle.s66_isa.specs.Table.{kind_of, parcels_of, memory_of, shape_of, operand_registers, stored_registers, reads_of, hold_of, held_registers, loaded_registers, writes_of};
+    ghost use Rattle.s66_isa.specs.Table.{kind_of, parcels_of, memory_of, shape_of, operand_registers, stored_registers, reads_of, hold_of, held_registers, loaded_registers, results_of, writes_of};
 
     /// The kind of unit that executes it.
     pub fn kind(&self) -> Kind
@@ -224,6 +225,27 @@ impl Instr {
                 }
             }
             _ => registers.push(x(self.i)),
+        }
+        registers
+    }
+
+    /// The X register that a load fetches.
+    pub fn loaded(&self) -> Option<Reg>
+        ensures { option_to_list result ≡ loaded_registers (memory_of self.now) self.now }
+    {
+        match self.memory() {
+            Memory::Load => Some(x(self.i)),
+            Memory::None | Memory::Store => None,
+        }
+    }
+
+    /// The registers that it writes: B0 is never among them.
+    pub fn results(&self) -> ArrayVec<Reg, 2>
+        ensures { result.items ≡ results_of self.now }
+    {
+        let mut registers = self.held();
+        if let Some(register) = self.loaded() {
+            registers.push(register);
         }
         registers
     }

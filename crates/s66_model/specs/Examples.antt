@@ -1,14 +1,13 @@
 -- Worked blocks of a few instructions, their COMPASS lines above each, and words that tell what an order of one does under the standard profile.
-use Rattle.std.specs.Prelude.{ℕ, true, false, ◌+◌, List, [], ◌∷◌, map, reverse}
-use Rattle.std.specs.List.{filter}
+use Rattle.std.specs.Prelude.{ℕ, true, false, ◌+◌, ◌≢◌, List, [], ◌∷◌, map, reverse}
 use Rattle.s66_isa.specs.declared.instr.Instr.{Instr}
 use Rattle.s66_isa.specs.declared.instr.Kind.{Kind}
 use Rattle.s66_isa.specs.declared.instr.Memory.{Memory}
 use Rattle.s66_isa.specs.declared.reg.Reg.{Reg}
 use Rattle.s66_isa.specs.Words.{greatest}
-use Rattle.s66_isa.specs.Table.{Row, Write, standard, numbers}
-use Rattle.s66_model.specs.Dependence.{depends}
+use Rattle.s66_isa.specs.Table.{Row, Write, standard, a_reg, b_reg}
 use Rattle.s66_model.specs.Packing.{packed, pads, len_at}
+use Rattle.s66_model.specs.Meaning.{Term, Initial, Computed, Terms, NoTerms, Then, Storage, meaning}
 use Rattle.s66_model.specs.Timing.{Problem, Point, ResultAt, points_of}
 
 -- an instruction by its octal code and its digits, 0 where its form has none
@@ -38,10 +37,6 @@ parcels_in block order = packed 0 (map (len_at block) order)
 abbrev pub fillers_in : List Instr → List ℕ → List ℕ
 fillers_in block order = pads 0 (map (len_at block) order)
 
--- the numbers on which each instruction depends, in source order
-abbrev pub needs_of : List Instr → List (List ℕ)
-needs_of block = map (λ n. filter (λ m. depends block m n) (numbers block)) (numbers block)
-
 -- ROWS OF THE TABLE
 
 -- a result that the unit holds
@@ -69,6 +64,14 @@ two_booleans = instr 0o10 1 2 0 ∷ instr 0o10 3 4 0 ∷ []
 -- SA1 A1+B1 / BX6 X1 / BX7 X2
 unfoldable pub one_load : List Instr
 one_load = instr 0o54 1 1 1 ∷ instr 0o10 6 1 0 ∷ instr 0o10 7 2 0 ∷ []
+
+-- SA6 A6+B1
+unfoldable pub one_store : List Instr
+one_store = instr 0o54 6 6 1 ∷ []
+
+-- UX1 B2,X1: two results
+unfoldable pub one_unpack : List Instr
+one_unpack = instr 0o26 1 2 1 ∷ []
 
 -- FX1 X2*X3 / FX4 X5*X6 / FX0 X7*X7
 unfoldable pub three_multiplies : List Instr
@@ -157,3 +160,37 @@ held_x = instr 0o44 3 4 5 ∷ instr 0o11 6 3 1 ∷ instr 0o24 1 1 2 ∷ []
 -- FX3 X4/X5 / SX6 X3+B1 / NX1 B1,X2: of the two results of the third B1 is held
 unfoldable pub held_b : List Instr
 held_b = instr 0o44 3 4 5 ∷ instr 0o73 6 3 1 ∷ instr 0o24 1 1 2 ∷ []
+
+-- WHAT ORDERS MEAN
+
+-- no instruction has a constant
+abbrev pub no_constants : ℕ → List ℕ
+no_constants n = []
+
+-- exchanged, the two instructions mean something else
+abbrev pub Differs : Instr → Instr → Type 0
+Differs a b = meaning (a ∷ b ∷ []) no_constants (2 ∷ 1 ∷ []) ≢ meaning (a ∷ b ∷ []) no_constants (1 ∷ 2 ∷ [])
+
+-- what a register holds at the end of an order, the texts of constants left out
+abbrev pub register_at_end : List Instr → List ℕ → Reg → Term
+register_at_end block order r = (meaning block no_constants order).registers r
+
+-- and what memory holds
+abbrev pub storage_at_end : List Instr → List ℕ → Storage
+storage_at_end block order = (meaning block no_constants order).storage
+
+-- operands, in order
+abbrev pub terms : List Term → Terms
+terms [] = NoTerms
+terms (t ∷ ts) = Then t (terms ts)
+
+-- what an instruction makes of its operands, by its octal code
+abbrev pub first_result : ℕ → List Term → Term
+first_result code operands = Computed code [] (terms operands) 0
+
+abbrev pub second_result : ℕ → List Term → Term
+second_result code operands = Computed code [] (terms operands) 1
+
+-- the sum of an A and a B register that hold their initial values, as an instruction of code 54 makes it
+abbrev pub a_plus_b : ℕ → ℕ → Term
+a_plus_b j k = first_result 0o54 (Initial (a_reg j) ∷ Initial (b_reg k) ∷ [])

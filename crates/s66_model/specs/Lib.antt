@@ -2,6 +2,15 @@ pub mod Packing
 pub mod Timing
 pub mod Dependence
 pub mod LegalOrder
+pub mod Meaning
+pub mod BestAndBound
+pub mod Leaves
+pub mod Floor
+pub mod Tree
+pub mod Answer
+pub mod Piece
+pub mod Ledger
+pub mod Coverage
 pub mod Examples
 pub use Rattle.s66_isa.specs.Words
 pub use Rattle.s66_isa.specs.Table

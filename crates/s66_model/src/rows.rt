@@ -1,13 +1,15 @@
 //! Worked rows: what the definitions give of small blocks under the standard profile. Each clause is a row, and the
 //! functions do nothing. Numbers count from 1, parcels from 0; times are minor cycles of 100 ns.
 
-ghost use Rattle.std.specs.Prelude.{ℕ, List, [], ◌∷◌, ◌≡◌};
+ghost use Rattle.std.specs.Prelude.{ℕ, List, [], ◌∷◌, ◌≡◌, ◌≢◌};
 ghost use Rattle.s66_isa.specs.declared.instr.Kind.{Kind};
 ghost use Rattle.s66_isa.specs.declared.instr.Memory.{Memory};
 ghost use Rattle.s66_isa.specs.Table.{standard, row, writes_of, a_reg, b_reg, x_reg};
 ghost use Rattle.s66_model.specs.Timing.{next, points_of, total_of};
+ghost use Rattle.s66_model.specs.Dependence.{all_needs};
 ghost use Rattle.s66_model.specs.LegalOrder.{IsLegal, ready, remaining, left};
-ghost use Rattle.s66_model.specs.Examples.{instr, standard_problem, times_of, parcels_in, fillers_in, needs_of, held_write, loaded_write, table_row, one_boolean, two_booleans, one_load, three_multiplies, first_order, third_order, held_result, packing_gap, two_gaps, store_then_load, load_then_store, two_stores, zero_register, load_twice, unpack_then_shift, one_divide_unit, latest_writer, late_store, late_load, two_loads, loads_then_store, two_readers, held_load, held_x, held_b};
+ghost use Rattle.s66_model.specs.Meaning.{Zero, Initial, Loaded, InitialStorage, Stored, meaning};
+ghost use Rattle.s66_model.specs.Examples.{instr, standard_problem, times_of, parcels_in, fillers_in, held_write, loaded_write, table_row, one_boolean, two_booleans, one_load, three_multiplies, first_order, third_order, held_result, packing_gap, two_gaps, store_then_load, load_then_store, two_stores, zero_register, load_twice, unpack_then_shift, one_divide_unit, latest_writer, late_store, late_load, two_loads, loads_then_store, two_readers, held_load, held_x, held_b, one_store, one_unpack, no_constants, register_at_end, storage_at_end, first_result, second_result, a_plus_b};
 
 /// When the instructions of an order issue, start and are done, and their units are free.
 pub fn timing_rows()
@@ -65,18 +67,18 @@ pub fn packing_rows()
 
 /// The numbers on which instructions 1, 2, .. depend.
 pub fn dependence_rows()
-    ensures one_load { needs_of one_load ≡ [] ∷ (1 ∷ []) ∷ [] ∷ [] }
-    ensures three_multiplies { needs_of three_multiplies ≡ [] ∷ [] ∷ [] ∷ [] }
-    ensures first_order { needs_of first_order ≡ [] ∷ (1 ∷ []) ∷ [] }
-    ensures third_order { needs_of third_order ≡ [] ∷ (1 ∷ []) ∷ (2 ∷ []) ∷ [] }
-    ensures store_then_load { needs_of store_then_load ≡ [] ∷ (1 ∷ []) ∷ [] }
-    ensures load_then_store { needs_of load_then_store ≡ [] ∷ (1 ∷ []) ∷ [] }
-    ensures two_stores { needs_of two_stores ≡ [] ∷ (1 ∷ []) ∷ [] }
-    ensures two_loads { needs_of two_loads ≡ [] ∷ (1 ∷ []) ∷ [] ∷ [] }
-    ensures zero_register { needs_of zero_register ≡ [] ∷ [] ∷ [] ∷ [] }
-    ensures load_twice { needs_of load_twice ≡ [] ∷ (1 ∷ []) ∷ [] }
-    ensures unpack_then_shift { needs_of unpack_then_shift ≡ [] ∷ (1 ∷ []) ∷ [] }
-    ensures one_divide_unit { needs_of one_divide_unit ≡ [] ∷ [] ∷ [] }
+    ensures one_load { all_needs one_load ≡ [] ∷ (1 ∷ []) ∷ [] ∷ [] }
+    ensures three_multiplies { all_needs three_multiplies ≡ [] ∷ [] ∷ [] ∷ [] }
+    ensures first_order { all_needs first_order ≡ [] ∷ (1 ∷ []) ∷ [] }
+    ensures third_order { all_needs third_order ≡ [] ∷ (1 ∷ []) ∷ (2 ∷ []) ∷ [] }
+    ensures store_then_load { all_needs store_then_load ≡ [] ∷ (1 ∷ []) ∷ [] }
+    ensures load_then_store { all_needs load_then_store ≡ [] ∷ (1 ∷ []) ∷ [] }
+    ensures two_stores { all_needs two_stores ≡ [] ∷ (1 ∷ []) ∷ [] }
+    ensures two_loads { all_needs two_loads ≡ [] ∷ (1 ∷ []) ∷ [] ∷ [] }
+    ensures zero_register { all_needs zero_register ≡ [] ∷ [] ∷ [] ∷ [] }
+    ensures load_twice { all_needs load_twice ≡ [] ∷ (1 ∷ []) ∷ [] }
+    ensures unpack_then_shift { all_needs unpack_then_shift ≡ [] ∷ (1 ∷ []) ∷ [] }
+    ensures one_divide_unit { all_needs one_divide_unit ≡ [] ∷ [] ∷ [] }
 {}
 
 /// Which orders of a block are legal, and what is ready after a beginning.
@@ -96,6 +98,21 @@ pub fn order_rows()
     ensures ready_after_all { ready one_load (1 ∷ 3 ∷ 2 ∷ []) ≡ [] }
     ensures remaining_after_1 { remaining one_load (1 ∷ []) ≡ 2 ∷ 3 ∷ [] }
     ensures left_after_1 { left one_load (1 ∷ []) (λ n. n) ≡ 5 }
+{}
+
+/// What registers and memory hold at the end of an order, as terms over what they held at first.
+pub fn meaning_rows()
+    ensures one_load_a1 { register_at_end one_load (1 ∷ 2 ∷ 3 ∷ []) (a_reg 1) ≡ a_plus_b 1 1 }
+    ensures one_load_x1 { register_at_end one_load (1 ∷ 2 ∷ 3 ∷ []) (x_reg 1) ≡ Loaded InitialStorage (a_plus_b 1 1) }
+    ensures one_load_x6 { register_at_end one_load (1 ∷ 2 ∷ 3 ∷ []) (x_reg 6) ≡ first_result 0o10 (Loaded InitialStorage (a_plus_b 1 1) ∷ []) }
+    ensures one_load_b0 { register_at_end one_load (1 ∷ 2 ∷ 3 ∷ []) (b_reg 0) ≡ Zero }
+    ensures one_load_3_1_2 { meaning one_load no_constants (3 ∷ 1 ∷ 2 ∷ []) ≡ meaning one_load no_constants (1 ∷ 2 ∷ 3 ∷ []) }
+    ensures one_load_2_1_3 { register_at_end one_load (2 ∷ 1 ∷ 3 ∷ []) (x_reg 6) ≢ register_at_end one_load (1 ∷ 2 ∷ 3 ∷ []) (x_reg 6) }
+    ensures one_unpack_x1 { register_at_end one_unpack (1 ∷ []) (x_reg 1) ≡ first_result 0o26 (Initial (x_reg 1) ∷ []) }
+    ensures one_unpack_b2 { register_at_end one_unpack (1 ∷ []) (b_reg 2) ≡ second_result 0o26 (Initial (x_reg 1) ∷ []) }
+    ensures one_store { storage_at_end one_store (1 ∷ []) ≡ Stored InitialStorage (a_plus_b 6 1) (Initial (x_reg 6)) }
+    ensures zero_register_x3 { register_at_end zero_register (1 ∷ 2 ∷ 3 ∷ []) (x_reg 3) ≡ first_result 0o76 (Zero ∷ Zero ∷ []) }
+    ensures zero_register_b0 { register_at_end zero_register (1 ∷ 2 ∷ 3 ∷ []) (b_reg 0) ≡ Zero }
 {}
 
 /// Rows of the table of instructions: kind of unit, parcels, registers read, results with their latencies, hold, memory.

@@ -1,0 +1,140 @@
+-- The prefixes of a piece that aren't split cover each legal order that begins with its own prefix once.
+use Rattle.std.proofs.Common.{ℕ, zero, suc, ◌+◌, ◌≤◌, ◌<◌, ◌≡◌, Bool, true, false, cond, ◌&&◌, List, [], ◌∷◌, ◌++◌, length, refl, sym, ap, arith, inl, inr, leb, eqb, ◌∙◌, filter, subst}
+use Rattle.std.proofs.lemmas.Bool.{and_parts, and_left, and_right, and_cases, eqb-true, eq-eqb, ne_eqb, cases_Bool, cases_eq}
+use Rattle.s66_isa.specs.Words.{tally, rising}
+use Rattle.s66_model.specs.Timing.{Problem}
+use Rattle.s66_model.specs.LegalOrder.{IsLegal, IsIncomplete, is_ready, ready, GoesOn}
+use Rattle.s66_model.specs.Leaves.{Leaf, value}
+use Rattle.s66_model.specs.Tree.{Tree, Alone, Parted, Kids, NoMore, Unsplit, Split, KidsHold, TreeHolds, kid_splits, splits}
+use Rattle.s66_model.specs.Piece.{Mark, Carries, Frontier}
+use Rattle.s66_model.specs.Ledger.{Open, Closed, is_cut, state_of, kid_nodes, root_state, new_nodes}
+use Rattle.s66_model.specs.Coverage.{begins, covers}
+use Rattle.s66_model.proofs.Lists.{tally-append, tally-none, tally-same}
+use Rattle.s66_model.proofs.LegalOrders.{legal-order, GoesOn-append, ready-parts}
+use Rattle.s66_model.proofs.Remaining.{rest-first}
+
+-- AN ORDER THAT BEGINS WITH A PREFIX
+
+pub begins-rest : (there order : List ℕ) → begins there order ≡ true → (rest : List ℕ) × (order ≡ there ++ rest)
+begins-rest [] order h = (order, refl)
+begins-rest (n ∷ there) [] h = absurd cc
+begins-rest (n ∷ there) (m ∷ ms) h =
+    let parts = and_parts (eqb n m) (begins there ms) h in
+    let (rest, e) = begins-rest there ms parts.1 in
+    let same : n ≡ m = eqb-true n m parts.0 in
+    (rest, cc)
+
+and_true : (x : Bool) → (x && true) ≡ x
+and_true true = refl
+and_true false = refl
+
+-- one number more, after the prefix
+begins-next : (there : List ℕ) (n m : ℕ) (rest : List ℕ) → begins (there ++ n ∷ []) (there ++ m ∷ rest) ≡ eqb n m
+begins-next [] n m rest = and_true (eqb n m)
+begins-next (k ∷ there) n m rest = rw (eq-eqb k k refl) (begins-next there n m rest)
+
+begins-not : (there more order : List ℕ) → begins there order ≡ false → begins (there ++ more) order ≡ false
+begins-not [] more order h = absurd cc
+begins-not (n ∷ there) more [] h = refl
+begins-not (n ∷ there) more (m ∷ ms) h =
+    elim (and_cases (eqb n m) (begins there ms) h) [
+      | inl first ↦ and_left (eqb n m) (begins (there ++ more) ms) first
+      | inr later ↦ and_right (eqb n m) (begins (there ++ more) ms) (begins-not there more ms later)
+    ]
+
+-- OF RISING NUMBERS THAT PASS, each stands there once
+
+rising-past : (test : ℕ → Bool) (m k low : ℕ) → m < low → tally (λ n. eqb n m) (filter test (rising k low)) ≡ 0
+rising-past test m zero low h = refl
+rising-past test m (suc k) low h =
+    elim (cases_Bool (test low)) [
+      | inl is ↦ rw (is, ne_eqb low m (omega arith), rising-past test m k (suc low) (omega arith)) refl
+      | inr is ↦ rw (is, rising-past test m k (suc low) (omega arith)) refl
+    ]
+
+rising-once : (test : ℕ → Bool) (m k low : ℕ) → test m ≡ true → low ≤ m → m < low + k → tally (λ n. eqb n m) (filter test (rising k low)) ≡ 1
+rising-once test m zero low passes h1 h2 = absurd (omega arith)
+rising-once test m (suc k) low passes h1 h2 =
+    elim (cases_eq low m) [
+      | inl here ↦ (let is : test low ≡ true = rw here passes in rw (is, eq-eqb low m here, rising-past test m k (suc low) (omega arith)) refl)
+      | inr past ↦
+          elim (cases_Bool (test low)) [
+            | inl is ↦ rw (is, ne_eqb low m past, rising-once test m k (suc low) passes (omega arith) (omega arith)) refl
+            | inr is ↦ rw (is, rising-once test m k (suc low) passes (omega arith) (omega arith)) refl
+          ]
+    ]
+
+-- ONCE
+
+-- a node that is open or closed
+uncut_either : (order at : List ℕ) (leaf : Leaf) (t : Bool) → covers order (record { prefix = at; state = cond t (Closed leaf) Open }) ≡ begins at order
+uncut_either order at leaf true = refl
+uncut_either order at leaf false = refl
+
+module _ (b : Problem) (order : List ℕ) (legal : IsLegal b.block order) where
+  ready-once_there : (there : List ℕ) → IsIncomplete b.block there → begins there order ≡ true → tally (λ n. begins (there ++ n ∷ []) order) (ready b.block there) ≡ cond (begins there order) 1 0
+  ready-once_there there part is =
+      let (rest, e) = begins-rest there order is in
+      let (m, more, f) = rest-first b.block there rest part (ap length (sym e) ∙ legal.whole) in
+      let whole : order ≡ there ++ m ∷ more = e ∙ ap (λ x. there ++ x) f in
+      let goes : GoesOn b.block [] (there ++ m ∷ more) = subst (λ x. GoesOn b.block [] x) whole (legal-order b.block order legal).0 in
+      let now : is_ready b.block there m ≡ true = (GoesOn-append b.block [] there (m ∷ more) goes).1.0 in
+      let (low, high, new, met) = ready-parts b.block there m now in
+      let same = tally-same (λ n. begins (there ++ n ∷ []) order) (λ n. eqb n m) (λ n. ap (begins (there ++ n ∷ [])) whole ∙ begins-next there n m more) (ready b.block there) in
+      rw is (same ∙ rising-once (is_ready b.block there) m (length b.block) 1 now low (omega (arith, high)))
+
+  -- an order that begins with an incomplete prefix goes on with exactly one of the ready numbers
+  ready-once : (there : List ℕ) → IsIncomplete b.block there → tally (λ n. begins (there ++ n ∷ []) order) (ready b.block there) ≡ cond (begins there order) 1 0
+  ready-once there part =
+      elim (cases_Bool (begins there order)) [
+        | inl is ↦ ready-once_there there part is
+        | inr is ↦ rw (is, tally-none (λ n. begins (there ++ n ∷ []) order) (λ n. begins-not there (n ∷ []) order is) (ready b.block there)) refl
+      ]
+
+  uncut : (best : ℕ) (at : List ℕ) (mark : Mark) → covers order (record { prefix = at; state = state_of b best at mark }) ≡ begins at order
+  uncut best at (Carries leaf) = uncut_either order at leaf (leb best (value b at leaf))
+  uncut best at Frontier = refl
+
+  kids-once : (best : ℕ) (Q : List ℕ → Mark → Type 0) (kids : Kids Mark) (there ns : List ℕ) → KidsHold b.block Q there ns kids → tally (covers order) (kid_nodes b best there ns kids) ≡ tally (λ n. begins (there ++ n ∷ []) order) ns
+  kids-once best Q NoMore there [] holds = refl
+  kids-once best Q NoMore there (n ∷ ns) holds = absurd holds
+  kids-once best Q (Unsplit mark kids) there [] holds = refl
+  kids-once best Q (Unsplit mark kids) there (n ∷ ns) holds =
+      rw (uncut best (there ++ n ∷ []) mark) (omega (arith, kids-once best Q kids there ns holds.1))
+  kids-once best Q (Split numbers sub kids) there [] holds = refl
+  kids-once best Q (Split numbers sub kids) there (n ∷ ns) holds =
+      let at = there ++ n ∷ [] in
+      let below : tally (covers order) (kid_nodes b best at numbers sub) ≡ tally (λ m. begins (at ++ m ∷ []) order) numbers = kids-once best Q sub at numbers holds.2 in
+      let one : tally (λ m. begins (at ++ m ∷ []) order) numbers ≡ cond (begins at order) 1 0 = rw holds.1 (ready-once at holds.0) in
+      omega (arith, below, one, kids-once best Q kids there ns holds.3, tally-append (covers order) (kid_nodes b best at numbers sub) (kid_nodes b best there ns kids))
+
+  -- the root and the new nodes together cover an order that begins with the prefix once
+  pub tree-once : (best : ℕ) (Q : List ℕ → Mark → Type 0) (there : List ℕ) (tree : Tree Mark) → TreeHolds b.block Q there tree → cond (covers order (record { prefix = there; state = root_state b best there tree })) 1 0 + tally (covers order) (new_nodes b best there tree) ≡ cond (begins there order) 1 0
+  tree-once best Q there (Alone mark) holds = rw (uncut best there mark) (omega arith)
+  tree-once best Q there (Parted numbers kids) holds =
+      let one : tally (λ m. begins (there ++ m ∷ []) order) numbers ≡ cond (begins there order) 1 0 = rw holds.1 (ready-once there holds.0) in
+      omega (arith, one, kids-once best Q kids there numbers holds.2)
+
+-- THE SPLIT NODES ARE THE SPLITS
+
+cut_either : (at : List ℕ) (leaf : Leaf) (t : Bool) → is_cut (record { prefix = at; state = cond t (Closed leaf) Open }) ≡ false
+cut_either at leaf true = refl
+cut_either at leaf false = refl
+
+cut_none : (b : Problem) (best : ℕ) (at : List ℕ) (mark : Mark) → is_cut (record { prefix = at; state = state_of b best at mark }) ≡ false
+cut_none b best at (Carries leaf) = cut_either at leaf (leb best (value b at leaf))
+cut_none b best at Frontier = refl
+
+kids-cut : (b : Problem) (best : ℕ) (Q : List ℕ → Mark → Type 0) (kids : Kids Mark) (there ns : List ℕ) → KidsHold b.block Q there ns kids → tally is_cut (kid_nodes b best there ns kids) ≡ kid_splits kids
+kids-cut b best Q NoMore there [] holds = refl
+kids-cut b best Q NoMore there (n ∷ ns) holds = absurd holds
+kids-cut b best Q (Unsplit mark kids) there [] holds = absurd holds
+kids-cut b best Q (Unsplit mark kids) there (n ∷ ns) holds =
+    rw (cut_none b best (there ++ n ∷ []) mark) (omega (arith, kids-cut b best Q kids there ns holds.1))
+kids-cut b best Q (Split numbers sub kids) there [] holds = absurd holds
+kids-cut b best Q (Split numbers sub kids) there (n ∷ ns) holds =
+    omega (arith, kids-cut b best Q sub (there ++ n ∷ []) numbers holds.2, kids-cut b best Q kids there ns holds.3, tally-append is_cut (kid_nodes b best (there ++ n ∷ []) numbers sub) (kid_nodes b best there ns kids))
+
+pub tree-cut : (b : Problem) (best : ℕ) (Q : List ℕ → Mark → Type 0) (there : List ℕ) (tree : Tree Mark) → TreeHolds b.block Q there tree → cond (is_cut (record { prefix = there; state = root_state b best there tree })) 1 0 + tally is_cut (new_nodes b best there tree) ≡ splits tree
+tree-cut b best Q there (Alone mark) holds = rw (cut_none b best there mark) (omega arith)
+tree-cut b best Q there (Parted numbers kids) holds = omega (arith, kids-cut b best Q kids there numbers holds.2)

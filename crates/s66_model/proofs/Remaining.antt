@@ -1,0 +1,124 @@
+-- What remains after a beginning, what is ready, and what a whole order goes on with.
+use Rattle.std.proofs.Common.{ℕ, zero, suc, ◌+◌, ◌≤◌, ◌<◌, ◌≡◌, Bool, true, false, true≢false, not, ◌&&◌, List, [], ◌∷◌, ◌++◌, length, refl, sym, ap, arith, inl, inr, leb, eqb, append_assoc, length-append, subst, ◌∙◌}
+use Rattle.std.proofs.lemmas.Bool.{or_left, or_right, or_parts, or_from, and_parts, and_from, not_from_false, not-true, cond_both, cases_Bool, cases_eq, le-leb, leb-true, cond-false}
+use Rattle.std.specs.List.{filter}
+use Rattle.s66_isa.specs.declared.instr.Instr.{Instr}
+use Rattle.s66_isa.specs.Words.{tally, has, rising, Among}
+use Rattle.s66_isa.specs.Table.{numbers}
+use Rattle.s66_model.specs.LegalOrder.{IsLegal, is_ready, is_remaining, ready, remaining, IsBeginning, IsIncomplete, IsOrder, Completes}
+use Rattle.s66_model.proofs.LegalOrders.{legal-order, order-legal, GoesOn-append, GoesOn-join, ready-parts}
+
+-- WHAT PASSES
+
+pub among-filter : {X : Type 0} (test : X → Bool) (x : X) (xs : List X) → Among x xs → test x ≡ true → Among x (filter test xs)
+among-filter test x [] h is = absurd h
+among-filter test x (y ∷ ys) h is =
+    cond_both (test y) (y ∷ filter test ys) (filter test ys) (λ zs. Among x zs)
+    (λ passes. elim h [
+      | inl here ↦ inl here
+      | inr past ↦ inr (among-filter test x ys past is)
+    ])
+    (λ fails. elim h [
+      | inl here ↦ absurd (true≢false (sym is ∙ (ap test here ∙ fails)))
+      | inr past ↦ among-filter test x ys past is
+    ])
+
+pub filter-among : {X : Type 0} (test : X → Bool) (x : X) (xs : List X) → Among x (filter test xs) → Among x xs × (test x ≡ true)
+filter-among test x [] h = absurd h
+filter-among test x (y ∷ ys) h =
+    cond_both (test y) (y ∷ filter test ys) (filter test ys) (λ zs. Among x zs → Among x (y ∷ ys) × (test x ≡ true))
+    (λ passes among. elim among [
+      | inl here ↦ (inl here, ap test here ∙ passes)
+      | inr past ↦ (let both = filter-among test x ys past in (inr both.0, both.1))
+    ])
+    (λ fails past. let both = filter-among test x ys past in (inr both.0, both.1))
+    h
+
+-- WHAT REMAINS
+
+pub remaining-parts : (block : List Instr) (there : List ℕ) (n : ℕ) → is_remaining block there n ≡ true → (1 ≤ n) × (n ≤ length block) × (has n there ≡ false)
+remaining-parts block there n h =
+    let both = and_parts (leb 1 n && leb n (length block)) (not (has n there)) h in
+    let range = and_parts (leb 1 n) (leb n (length block)) both.0 in
+    (leb-true 1 n range.0, leb-true n (length block) range.1, not-true (has n there) both.1)
+
+rising-among : (count low n : ℕ) → low ≤ n → n < low + count → Among n (rising count low)
+rising-among zero low n h1 h2 = absurd (omega arith)
+rising-among (suc count) low n h1 h2 =
+    elim (cases_eq n low) [
+      | inl here ↦ inl here
+      | inr past ↦ inr (rising-among count (suc low) n (omega arith) (omega arith))
+    ]
+
+pub among-remaining : (block : List Instr) (there : List ℕ) (n : ℕ) → is_remaining block there n ≡ true → Among n (remaining block there)
+among-remaining block there n h =
+    let (low, high, new) = remaining-parts block there n h in
+    among-filter (is_remaining block there) n (numbers block) (rising-among (length block) 1 n low (omega (arith, high))) h
+
+pub remaining-among : (block : List Instr) (there : List ℕ) (n : ℕ) → Among n (remaining block there) → is_remaining block there n ≡ true
+remaining-among block there n h = (filter-among (is_remaining block there) n (numbers block) h).1
+
+has-front : (n : ℕ) (xs ys : List ℕ) → has n (xs ++ ys) ≡ false → has n xs ≡ false
+has-front n [] ys h = refl
+has-front n (x ∷ xs) ys h =
+    let both = or_parts (eqb n x) (has n (xs ++ ys)) h in
+    or_from (eqb n x) (has n xs) both.0 (has-front n xs ys both.1)
+
+-- what is ready later remains
+pub later-remains : (block : List Instr) (there front : List ℕ) (n : ℕ) → is_ready block (there ++ front) n ≡ true → is_remaining block there n ≡ true
+later-remains block there front n h =
+    let (low, high, new, met) = ready-parts block (there ++ front) n h in
+    and_from (leb 1 n && leb n (length block)) (not (has n there))
+    (and_from (leb 1 n) (leb n (length block)) (le-leb 1 n low) (le-leb n (length block) high))
+    (not_from_false (has n there) (has-front n there front new))
+
+-- WHAT IS READY
+
+pub among-ready : (block : List Instr) (there : List ℕ) (n : ℕ) → is_ready block there n ≡ true → Among n (ready block there)
+among-ready block there n h =
+    let (low, high, new, met) = ready-parts block there n h in
+    among-filter (is_ready block there) n (numbers block) (rising-among (length block) 1 n low (omega (arith, high))) h
+
+pub ready-among : (block : List Instr) (there : List ℕ) (n : ℕ) → Among n (ready block there) → is_ready block there n ≡ true
+ready-among block there n h = (filter-among (is_ready block there) n (numbers block) h).1
+
+-- ONE NUMBER FURTHER
+
+pub step-begins : (block : List Instr) (there : List ℕ) (n : ℕ) → IsBeginning block there → is_ready block there n ≡ true → IsBeginning block (there ++ n ∷ [])
+step-begins block there n begins h = GoesOn-join block [] there (n ∷ []) begins (h, tt)
+
+pub step-completes : (block : List Instr) (there : List ℕ) (n : ℕ) (rest : List ℕ) → Completes block there (n ∷ rest) → Completes block (there ++ n ∷ []) rest
+step-completes block there n rest h =
+    let e : (there ++ n ∷ []) ++ rest ≡ there ++ n ∷ rest = append_assoc there (n ∷ []) rest in
+    (h.0.1, subst (λ xs. length xs ≡ length block) (sym e) h.1)
+
+-- a legal order that begins so
+pub legal-parts : (block : List Instr) (there rest : List ℕ) → IsLegal block (there ++ rest) → IsBeginning block there × Completes block there rest
+legal-parts block there rest h =
+    let order : IsOrder block (there ++ rest) = legal-order block (there ++ rest) h in
+    let both = GoesOn-append block [] there rest order.0 in
+    (both.0, (both.1, order.1))
+
+-- an incomplete beginning goes on with a number
+pub rest-first : (block : List Instr) (there rest : List ℕ) → IsIncomplete block there → length (there ++ rest) ≡ length block → (n : ℕ) × (more : List ℕ) × (rest ≡ n ∷ more)
+rest-first block there [] h e = absurd (omega (arith, length-append {A = ℕ} there []))
+rest-first block there (n ∷ rest) h e = (n, rest, refl)
+
+-- and a complete one with none
+pub rest-none : (there rest : List ℕ) (k : ℕ) → length there ≡ k → length (there ++ rest) ≡ k → rest ≡ []
+rest-none there [] k h e = refl
+rest-none there (n ∷ rest) k h e = absurd (omega (arith, length-append there (n ∷ rest)))
+
+-- AN ORDER HAS EVERY NUMBER
+
+tally-has : (n : ℕ) (ns : List ℕ) → 1 ≤ tally (λ m. eqb n m) ns → has n ns ≡ true
+tally-has n [] h = absurd (omega arith)
+tally-has n (m ∷ ns) h =
+    elim (cases_Bool (eqb n m)) [
+      | inl is ↦ or_left (eqb n m) (has n ns) is
+      | inr is ↦ or_right (eqb n m) (has n ns) (tally-has n ns (omega (arith, cond-false {A = ℕ} (eqb n m) 1 0 is)))
+    ]
+
+pub order-has : (block : List Instr) (order : List ℕ) → IsOrder block order → (n : ℕ) → 1 ≤ n → n ≤ length block → has n order ≡ true
+order-has block order legal n low high =
+    tally-has n order (omega (arith, (order-legal block order legal).once n low high))

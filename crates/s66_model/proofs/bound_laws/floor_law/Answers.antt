@@ -1,0 +1,8 @@
+use Rattle.std.proofs.Common.{subst, sym}
+use Rattle.s66_model.specs.Leaves.{floor}
+use Rattle.s66_model.specs.Floor.{IsFloor}
+use Rattle.s66_model.proofs.Floors.{floor-is, floor-only}
+use Rattle.s66_model.proofs.bound_laws.floor_law.Goals as goal
+
+pub returns : goal.returns
+returns c = λ b there leaf h. (λ is. floor-only b there leaf (floor b there) is (floor-is b there h), λ e. subst (IsFloor b there) (sym e) (floor-is b there h))

@@ -1,0 +1,25 @@
+-- Which of the leaves that may stand at a prefix is its floor.
+use Rattle.std.specs.Prelude.{ℕ, ◌≡◌, ◌<◌, ◌≤◌, ◌⊎◌, List, [], ◌∷◌}
+use Rattle.s66_isa.specs.Table.{kind_number}
+use Rattle.s66_model.specs.Timing.{Problem}
+use Rattle.s66_model.specs.Leaves.{Leaf, Whole, Chain, Load, Parcels, value, MayStand}
+
+-- the first list stands before the other in a dictionary, or is the same
+abbrev pub IsNoLater : List ℕ → List ℕ → Type 0
+IsNoLater [] ms = Unit {0}
+IsNoLater (n ∷ ns) [] = ⊥
+IsNoLater (n ∷ ns) (m ∷ ms) = (n < m) ⊎ ((n ≡ m) × IsNoLater ns ms)
+
+-- C goes before U and U before P; chains go as in a dictionary, and kinds as in the list of copies
+abbrev pub rank : Leaf → List ℕ
+rank Whole = []
+rank (Chain numbers) = 0 ∷ numbers
+rank (Load kind) = 1 ∷ kind_number kind ∷ []
+rank Parcels = 2 ∷ []
+
+pub record IsFloor (b : Problem) (there : List ℕ) (leaf : Leaf) : Type 0 where
+  pub stands : MayStand b there leaf
+  -- no other leaf that may stand there is greater
+  pub greatest : (other : Leaf) → MayStand b there other → value b there other ≤ value b there leaf
+  -- and of equal ones it goes first
+  pub first : (other : Leaf) → MayStand b there other → value b there other ≡ value b there leaf → IsNoLater (rank leaf) (rank other)

@@ -1,0 +1,233 @@
+-- The ledger of a search as a machine: nodes, events, replies, steps and runs.
+use Rattle.std.specs.Prelude.{ℕ, ◌+◌, ◌-◌, ◌≡◌, ◌<◌, ◌≤◌, Bool, true, false, if◌then◌else◌, min, List, [], ◌∷◌, ◌++◌, length, get_or, set, nat_le, Option, Some, None, replicate}
+use Rattle.s66_isa.specs.Words.{tally}
+use Rattle.s66_isa.specs.Table.{numbers}
+use Rattle.s66_model.specs.Timing.{Problem, total_of}
+use Rattle.s66_model.specs.LegalOrder.{IsLegal}
+use Rattle.s66_model.specs.Leaves.{Leaf, value}
+use Rattle.s66_model.specs.Tree.{Tree, Alone, Parted, Kids, NoMore, Unsplit, Split, splits}
+use Rattle.s66_model.specs.Piece.{Mark, Carries, Frontier, IsPiece}
+
+-- NODES
+
+pub data State : Type 0 where
+  Open : State
+  Out : State
+  Cut : State
+  Closed : Leaf → State
+
+pub record Node : Type 0 where
+  pub prefix : List ℕ
+  pub state : State
+
+abbrev pub is_cut_state : State → Bool
+is_cut_state Open = false
+is_cut_state Out = false
+is_cut_state Cut = true
+is_cut_state (Closed leaf) = false
+
+abbrev pub is_open_state : State → Bool
+is_open_state Open = true
+is_open_state Out = false
+is_open_state Cut = false
+is_open_state (Closed leaf) = false
+
+abbrev pub is_live_state : State → Bool
+is_live_state Open = true
+is_live_state Out = true
+is_live_state Cut = false
+is_live_state (Closed leaf) = false
+
+abbrev pub is_cut : Node → Bool
+is_cut node = is_cut_state node.state
+
+abbrev pub is_open : Node → Bool
+is_open node = is_open_state node.state
+
+-- open or out
+abbrev pub is_live : Node → Bool
+is_live node = is_live_state node.state
+
+-- nodes are numbered from 0 in the order of their making; any other number has one that nobody cites
+abbrev pub no_node : Node
+no_node = record { prefix = []; state = Cut }
+
+abbrev pub node_at : List Node → ℕ → Node
+node_at nodes i = get_or nodes i no_node
+
+abbrev pub with_state : List Node → ℕ → State → List Node
+with_state nodes i state = set nodes i (record { prefix = (node_at nodes i).prefix; state = state })
+
+-- THE STATE
+
+pub record Ledger : Type 0 where
+  pub nodes : List Node
+  pub best : List ℕ
+  pub left : ℕ
+  pub allowances : List ℕ
+  pub spent : ℕ
+
+abbrev pub best_time : Problem → Ledger → ℕ
+best_time b l = total_of b l.best
+
+-- workers count from 1
+abbrev pub IsWorker : Ledger → ℕ → Type 0
+IsWorker l w = (1 ≤ w) × (w ≤ length l.allowances)
+
+abbrev pub allowance : Ledger → ℕ → ℕ
+allowance l w = get_or l.allowances (w - 1) 0
+
+abbrev pub with_allowance : Ledger → ℕ → ℕ → List ℕ
+with_allowance l w splits = set l.allowances (w - 1) splits
+
+-- node 0 is the empty prefix, open; the best is the source order; nobody has an allowance
+abbrev pub opening : Problem → ℕ → ℕ → Ledger
+opening b budget workers =
+    record {
+      nodes = record { prefix = []; state = Open } ∷ [];
+      best = numbers b.block;
+      left = budget;
+      allowances = replicate workers 0;
+      spent = 0;
+    }
+
+-- EVENTS AND REPLIES
+
+-- own: the piece or the order is of this block and profile; a Graft has its tree where it was taken
+pub data Event : Type 0 where
+  Grant : (w : ℕ) → Event
+  Claim : (w : ℕ) → Event
+  Graft : (w node : ℕ) (own : Bool) (prefix : List ℕ) (splits : ℕ) (tree : Option (Tree Mark)) → Event
+  Offer : (w : ℕ) (own : Bool) (order : List ℕ) (time : ℕ) → Event
+  Back : (w node : ℕ) → Event
+  Retire : (w : ℕ) → Event
+
+pub data Reply : Type 0 where
+  Granted : ℕ → Reply
+  Claimed : Option ℕ → Reply
+  Taken : Reply
+  NotOut : Reply
+  OtherPrefix : Reply
+  OverAllowance : Reply
+  Lower : Reply
+  NotLower : ℕ → Reply
+  OtherBlock : Reply
+  Returned : Reply
+  Retired : Reply
+
+abbrev pub worker : Event → ℕ
+worker (Grant w) = w
+worker (Claim w) = w
+worker (Graft w node own prefix splits tree) = w
+worker (Offer w own order time) = w
+worker (Back w node) = w
+worker (Retire w) = w
+
+-- WHAT THE EVENTS MAKE OF A STATE
+
+abbrev pub share_of : Ledger → ℕ
+share_of l = min 64 l.left
+
+abbrev pub granted : Ledger → ℕ → Ledger
+granted l w =
+    record {
+      nodes = l.nodes;
+      best = l.best;
+      left = l.left - share_of l;
+      allowances = with_allowance l w (allowance l w + share_of l);
+      spent = l.spent;
+    }
+
+abbrev pub retired : Ledger → ℕ → Ledger
+retired l w =
+    record {
+      nodes = l.nodes;
+      best = l.best;
+      left = l.left + allowance l w;
+      allowances = with_allowance l w 0;
+      spent = l.spent;
+    }
+
+abbrev pub moved : Ledger → ℕ → State → Ledger
+moved l i state =
+    record { nodes = with_state l.nodes i state; best = l.best; left = l.left; allowances = l.allowances; spent = l.spent }
+
+abbrev pub lowered : Ledger → List ℕ → Ledger
+lowered l order =
+    record { nodes = l.nodes; best = order; left = l.left; allowances = l.allowances; spent = l.spent }
+
+-- an unsplit prefix is closed if it carries a leaf of value at least the best time, else open
+abbrev pub state_of : Problem → ℕ → List ℕ → Mark → State
+state_of b best there (Carries leaf) = if nat_le best (value b there leaf) then Closed leaf else Open
+state_of b best there Frontier = Open
+
+abbrev pub root_state : Problem → ℕ → List ℕ → Tree Mark → State
+root_state b best there (Alone mark) = state_of b best there mark
+root_state b best there (Parted numbers kids) = Cut
+
+-- the piece's other prefixes, in preorder
+abbrev pub kid_nodes : Problem → ℕ → List ℕ → List ℕ → Kids Mark → List Node
+kid_nodes b best there [] kids = []
+kid_nodes b best there (n ∷ ns) NoMore = []
+kid_nodes b best there (n ∷ ns) (Unsplit mark kids) =
+    record { prefix = there ++ n ∷ []; state = state_of b best (there ++ n ∷ []) mark } ∷ kid_nodes b best there ns kids
+kid_nodes b best there (n ∷ ns) (Split numbers sub kids) =
+    record { prefix = there ++ n ∷ []; state = Cut } ∷ (kid_nodes b best (there ++ n ∷ []) numbers sub ++ kid_nodes b best there ns kids)
+
+abbrev pub new_nodes : Problem → ℕ → List ℕ → Tree Mark → List Node
+new_nodes b best there (Alone mark) = []
+new_nodes b best there (Parted numbers kids) = kid_nodes b best there numbers kids
+
+-- its splits are spent, the node takes the state of the piece's root, its other prefixes become nodes
+abbrev pub grafted : Problem → Ledger → ℕ → ℕ → List ℕ → Tree Mark → Ledger
+grafted b l w i prefix tree =
+    record {
+      nodes = with_state l.nodes i (root_state b (best_time b l) prefix tree) ++ new_nodes b (best_time b l) prefix tree;
+      best = l.best;
+      left = l.left;
+      allowances = with_allowance l w (allowance l w - splits tree);
+      spent = l.spent + splits tree;
+    }
+
+-- STEPS
+
+abbrev pub IsOut : Ledger → ℕ → Type 0
+IsOut l i = (i < length l.nodes) × ((node_at l.nodes i).state ≡ Out)
+
+-- the piece is over the node's prefix of this block and profile
+abbrev pub IsOver : Ledger → ℕ → Bool → List ℕ → Type 0
+IsOver l i own prefix = (own ≡ true) × (prefix ≡ (node_at l.nodes i).prefix)
+
+-- the order is a legal one of this block and profile, and this is its total
+abbrev pub IsTimed : Problem → Bool → List ℕ → ℕ → Type 0
+IsTimed b own order time = (own ≡ true) × IsLegal b.block order × (time ≡ total_of b order)
+
+-- from old, the event may have this reply and lead to new
+abbrev pub Moves : Problem → Ledger → Event → Reply → Ledger → Type 0
+Moves b old (Grant w) (Granted n) new = (n ≡ share_of old) × (new ≡ granted old w)
+Moves b old (Claim w) (Claimed (Some i)) new =
+    (i < length old.nodes) × ((node_at old.nodes i).state ≡ Open) × (new ≡ moved old i Out)
+Moves b old (Claim w) (Claimed None) new = (tally is_open old.nodes ≡ 0) × (new ≡ old)
+Moves b old (Graft w i own prefix count None) NotOut new = ¬ IsOut old i × (new ≡ old)
+Moves b old (Graft w i own prefix count None) OtherPrefix new = IsOut old i × ¬ IsOver old i own prefix × (new ≡ old)
+Moves b old (Graft w i own prefix count None) OverAllowance new =
+    IsOut old i × IsOver old i own prefix × (allowance old w < count) × (new ≡ old)
+Moves b old (Graft w i own prefix count (Some tree)) Taken new =
+    IsOut old i × IsOver old i own prefix × (count ≤ allowance old w) × (count ≡ splits tree) × IsPiece b prefix tree × (new ≡ grafted b old w i prefix tree)
+Moves b old (Offer w own order time) OtherBlock new = (own ≡ false) × (new ≡ old)
+Moves b old (Offer w own order time) Lower new =
+    IsTimed b own order time × (time < best_time b old) × (new ≡ lowered old order)
+Moves b old (Offer w own order time) (NotLower least) new =
+    IsTimed b own order time × (best_time b old ≤ time) × (least ≡ best_time b old) × (new ≡ old)
+Moves b old (Back w i) NotOut new = ¬ IsOut old i × (new ≡ old)
+Moves b old (Back w i) Returned new = IsOut old i × (new ≡ moved old i Open)
+Moves b old (Retire w) Retired new = new ≡ retired old w
+Moves b old event reply new = ⊥
+
+abbrev pub Step : Problem → Ledger → Event → Reply → Ledger → Type 0
+Step b old event reply new = IsWorker old (worker event) × Moves b old event reply new
+
+-- each entry is a step from the state before
+abbrev pub Run : Problem → Ledger → List (Event × Reply) → Ledger → Type 0
+Run b old [] new = new ≡ old
+Run b old (entry ∷ entries) new = (mid : Ledger) × Step b old entry.0 entry.1 mid × Run b mid entries new
