@@ -3,9 +3,10 @@ ghost use Rattle.s66_line.specs.Block.{instrs_of};
 ghost use Rattle.s66_main.specs.Text.{as_written, pads_in, total_time, time_line, trace_line, trace_lines, block_lines, time_lines};
 
 use itoa::Buffer;
+use s66_dep::Order;
 use s66_isa::Profile;
 use s66_line::Block;
-use s66_time::{Order, Timed, pack, time_of};
+use s66_time::{Timed, pack, time_of};
 use std::alloc::{AllocError, Global};
 
 fn push_number(out: &mut Vec<u8>, number: usize) -> Result<(), AllocError>

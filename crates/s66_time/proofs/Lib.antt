@@ -3,5 +3,5 @@ pub mod Growth
 pub mod History
 pub mod Writes
 pub mod Free
-pub mod Numbers
 pub mod Points
+pub mod Kept

@@ -1,4 +1,3 @@
-pub mod Ordered
 pub mod TimedOrder
 pub mod Seen
 pub mod Kept

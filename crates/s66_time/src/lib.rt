@@ -1,8 +1,6 @@
-//! Legal orders of a block, how they are packed, and when each instruction of an order issues, starts and is done.
+//! How an order of a block is packed, and when each of its instructions issues, starts and is done.
 #![tactic(auto)]
 
-mod dependence;
-mod order;
 mod packing;
 mod place;
 mod placed;
@@ -14,8 +12,6 @@ mod timed;
 mod timeline;
 mod write;
 
-pub use dependence::depends;
-pub use order::Order;
 pub use packing::{Packing, pack};
 pub use place::Place;
 pub use time::time_of;

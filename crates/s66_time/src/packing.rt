@@ -2,8 +2,8 @@ ghost use Rattle.std.specs.Prelude.{◌≡◌, ◌+◌, ◌<◌, ◌≤◌, ◌^
 ghost use Rattle.s66_model.specs.Packing.{fits_at, packed, pads, len_at};
 ghost use Rattle.s66_line.specs.Block.{instrs_of};
 
-use crate::order::Order;
 use arrayvec::ArrayVec;
+use s66_dep::Order;
 use s66_line::Block;
 
 /// How an order is packed into words of four parcels of 15 bits, counted from 0.

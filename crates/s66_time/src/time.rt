@@ -1,9 +1,9 @@
 ghost use Rattle.std.specs.Prelude.{◌≡◌};
 ghost use Rattle.s66_line.specs.Block.{instrs_of};
 
-use crate::order::Order;
 use crate::timed::Timed;
 use crate::timeline::Timeline;
+use s66_dep::Order;
 use s66_isa::Profile;
 use s66_line::Block;
 

@@ -1,8 +1,9 @@
-use crate::order::Order;
 use crate::place::Place;
 use crate::profile::is_same_profile;
 use crate::result::latest_of;
 use crate::timeline::Timeline;
+use crate::write::longest_latency;
+use s66_dep::Order;
 use s66_isa::Profile;
 use s66_line::Block;
 use std::marker::Model;
@@ -32,7 +33,7 @@ impl Timed {
     ghost use Rattle.s66_model.specs.LegalOrder.{IsLegal};
     ghost use Rattle.s66_model.specs.Timing.{points_of, total_of};
     ghost use Rattle.s66_time.specs.Seen.{history};
-    ghost use Rattle.s66_time.specs.TimedOrder.{point_at, latest_result};
+    ghost use Rattle.s66_time.specs.TimedOrder.{point_at, latency_of, latest_result};
 
     pub(crate) fn new(order: Order, timeline: Timeline) -> Timed
         requires points { history timeline ≡ points_of (record { block = order.block; profile = timeline.profile }) order.numbers }
@@ -88,5 +89,34 @@ impl Timed {
             done: latest_of(hold_end, placed.results.as_slice()),
             free: placed.free,
         }
+    }
+
+    /// The number of the instruction at a position of the order, from 1.
+    pub fn number(&self, position: usize) -> u8
+        requires { position < length self.now.numbers }
+        ensures { result ≡ (point_at self.now position).number }
+    {
+        let placed = &self.timeline.points[position];
+        placed.number
+    }
+
+    /// The parcels of the instruction at a position: 1 or 2.
+    pub fn parcels(&self, position: usize) -> u32
+        requires { position < length self.now.numbers }
+        ensures value { result ≡ (point_at self.now position).row.parcels }
+        ensures few { result ≤ 2 }
+    {
+        let placed = &self.timeline.points[position];
+        placed.instr.parcels()
+    }
+
+    /// How many minor cycles the instruction at a position takes from its start to its last result, where no earlier reader holds
+    /// it: its greatest latency, or its hold where it writes only B0.
+    pub fn latency(&self, position: usize) -> u32
+        requires { position < length self.now.numbers }
+        ensures { result ≡ latency_of (point_at self.now position).row }
+    {
+        let placed = &self.timeline.points[position];
+        longest_latency(&placed.instr, &self.timeline.profile)
     }
 }

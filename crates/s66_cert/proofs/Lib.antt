@@ -1,0 +1,3 @@
+pub mod Instructions
+pub mod Documents
+pub mod Texts

@@ -1,0 +1,22 @@
+use Rattle.std.proofs.Common.{refl}
+use Rattle.std.specs.Fmt.{digits}
+use Rattle.s66_isa.specs.Table.{row}
+use Rattle.s66_model.specs.Timing.{issue_of, start_of, point}
+use Rattle.s66_model.specs.Examples.{instr, one_load, packing_gap, third_order}
+use Rattle.s66_chart.proofs.rows.chart_rows.Goals as goal
+
+pub returns-clause-one_load : goal.returns-clause-one_load
+unfolding instr one_load row issue_of start_of point digits
+returns-clause-one_load c = refl
+
+pub returns-clause-packing_gap : goal.returns-clause-packing_gap
+unfolding instr packing_gap row issue_of start_of point digits
+returns-clause-packing_gap c = refl
+
+pub returns-clause-third_order : goal.returns-clause-third_order
+unfolding instr third_order row issue_of start_of point digits
+returns-clause-third_order c = refl
+
+pub returns-clause-only_b0 : goal.returns-clause-only_b0
+unfolding instr row issue_of start_of point digits
+returns-clause-only_b0 c = refl

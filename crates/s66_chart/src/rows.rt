@@ -1,0 +1,27 @@
+//! Worked rows: the charts that the definition gives of small orders under the standard profile. Each clause is a chart,
+//! and the function does nothing.
+
+ghost use Rattle.std.specs.Prelude.{List, [], ◌∷◌, ◌≡◌, ◌++◌, codes};
+ghost use Rattle.s66_isa.specs.declared.instr.Instr.{Instr};
+ghost use Rattle.s66_model.specs.Examples.{instr, standard_problem, one_load, packing_gap, third_order};
+ghost use Rattle.s66_chart.specs.Chart.{chart_text};
+
+/// Each block in the order in which it is written: an instruction that waits for a load, a `NO`, a result that is held
+/// back, and an instruction that writes only B0.
+pub fn chart_rows()
+    ensures one_load { chart_text (record { problem = standard_problem one_load; numbers = 1 ∷ 2 ∷ 3 ∷ [] }) ≡
+        codes "  1 I=======........\n" ++
+        codes "  2 .IWWWWWW===.....\n" ++
+        codes "  3 ............I==.\n" }
+    ensures packing_gap { chart_text (record { problem = standard_problem packing_gap; numbers = 1 ∷ 2 ∷ 3 ∷ 4 ∷ [] }) ≡
+        codes "  1 I==.........\n" ++
+        codes "  2 .I==........\n" ++
+        codes "  3 ..I==.......\n" ++
+        codes " NO ...I........\n" ++
+        codes "  4 ....I=======\n" }
+    ensures third_order { chart_text (record { problem = standard_problem third_order; numbers = 1 ∷ 2 ∷ 3 ∷ [] }) ≡
+        codes "  1 I============================....\n" ++
+        codes "  2 .IWWWWWWWWWWWWWWWWWWWWWWWWWWW===.\n" ++
+        codes "  3 ..I==HHHHHHHHHHHHHHHHHHHHHHHHH...\n" }
+    ensures only_b0 { chart_text (record { problem = standard_problem (instr 0o61 0 0 0 ∷ []); numbers = 1 ∷ [] }) ≡ codes "  1 I==.\n" }
+{}

@@ -1,0 +1,50 @@
+ghost use Rattle.std.specs.Prelude.{ℕ, ◌≡◌, ◌≤◌, ◌==◌, ◌||◌, ◌↔◌, IsTrue, true, [], length};
+ghost use Rattle.s66_isa.specs.Words.{has};
+ghost use Rattle.s66_dep.specs.Members.{numbers_in};
+
+/// A set of instruction numbers of a block, 1 to 64, in one word.
+#[derive(Clone, Copy, Debug, Default, PartialEq, Eq)]
+pub struct Set {
+    /// Bit n - 1 tells whether n is there.
+    bits: u64,
+}
+
+impl Set {
+    /// No number.
+    pub fn empty() -> Set
+        ensures { numbers_in result ≡ [] }
+    {
+        Set { bits: 0 }
+    }
+
+    /// The numbers of this set, and n.
+    pub fn with(self, n: u8) -> Set
+        requires { (1 ≤ n) × (n ≤ 64) }
+        ensures { (m : ℕ) → has m (numbers_in result) ≡ (m == n || has m (numbers_in self)) }
+    {
+        Set {
+            bits: self.bits | (1 << (n - 1)),
+        }
+    }
+
+    /// Whether n is there.
+    pub fn has(&self, n: u8) -> bool
+        ensures { result ≡ has n (numbers_in self.now) }
+    {
+        1 <= n && n <= 64 && (self.bits >> (n - 1)) & 1 == 1
+    }
+
+    /// Whether each number of this set is in the other.
+    pub fn is_within(&self, other: &Set) -> bool
+        ensures { IsTrue result ↔ ((m : ℕ) → has m (numbers_in self.now) ≡ true → has m (numbers_in other.now) ≡ true) }
+    {
+        self.bits & other.bits == self.bits
+    }
+
+    /// How many numbers are there.
+    pub fn count(&self) -> u32
+        ensures { result ≡ length (numbers_in self.now) }
+    {
+        self.bits.count_ones()
+    }
+}
