@@ -1,7 +1,7 @@
 #!/usr/bin/env python3
-"""Measures `s66 time`: lines a second and peak memory over sources of 20,000 lines.
+"""Measures `s66 time`, `deps` and `chart`: lines read and bytes written a second, and peak memory, over sources of 20,000 lines.
 
-    bench/time.py [PROGRAM]
+    bench/speed.py [PROGRAM]
 
 PROGRAM is the built program; without it, the one that `./s66` leaves when it has built it. Each source is run ten times
 and the best run counts. The sources are the same each time: a fixed seed makes them.
@@ -45,14 +45,16 @@ def source(rng, least, most):
     return ("\n".join(lines[:LINES]) + "\n").encode()
 
 
-def measure(program, path):
+def measure(program, subcommand, path):
+    """The seconds of the best run, and the bytes that it writes."""
     best = float("inf")
     for _ in range(RUNS):
-        with open(path, "rb") as text:
+        with open(path, "rb") as text, tempfile.TemporaryFile() as out:
             begin = time.perf_counter()
-            subprocess.run([program, "time"], stdin=text, stdout=subprocess.DEVNULL, check=True)
+            subprocess.run([program, subcommand], stdin=text, stdout=out, check=True)
             best = min(best, time.perf_counter() - begin)
-    return best
+            size = os.fstat(out.fileno()).st_size
+    return best, size
 
 
 def main():
@@ -62,8 +64,12 @@ def main():
         with tempfile.NamedTemporaryFile(suffix=".s66") as file:
             file.write(text)
             file.flush()
-            best = measure(program, file.name)
-        print("%s: %d lines in %.1f ms, %.2f million lines a second" % (name, LINES, best * 1e3, LINES / best / 1e6))
+            for subcommand in ["time", "deps", "chart"]:
+                best, size = measure(program, subcommand, file.name)
+                print(
+                    "%s, %s: %d lines in %.1f ms, %.2f million lines a second, %.1f MB a second written"
+                    % (name, subcommand, LINES, best * 1e3, LINES / best / 1e6, size / best / 1e6)
+                )
     peak = resource.getrusage(resource.RUSAGE_CHILDREN).ru_maxrss
     print("peak memory: %.1f MB" % (peak / 1024))
 

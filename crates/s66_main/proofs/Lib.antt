@@ -1,3 +1,6 @@
+pub mod CommandLine
 pub mod Consumed
+pub mod Dependences
+pub mod Flags
 pub mod Named
-pub mod TraceFlag
+pub mod Refused

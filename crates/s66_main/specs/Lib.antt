@@ -1,3 +1,6 @@
-pub mod Text
+pub mod TimeText
+pub mod DepsText
+pub mod ChartText
+pub mod Output
 pub mod Run
 pub mod Usage

@@ -4,21 +4,16 @@ use Rattle.std.specs.Io.KnownBytes.{Appends, Consumes, IsAtEnd, Keeps}
 use Rattle.s66_line.specs.declared.error.SourceError.{SourceError}
 use Rattle.s66_line.specs.declared.error.SourceError.TheVariants.{OutOfMemory}
 use Rattle.s66_main.specs.declared.command.Command.{Command}
-use Rattle.s66_main.specs.declared.command.Command.TheVariants.{Time}
 use Rattle.s66_main.specs.declared.outcome.Fault.{Fault}
 use Rattle.s66_main.specs.declared.outcome.Fault.TheVariants as fault
 use Rattle.s66_main.specs.declared.outcome.Status.{Status}
 use Rattle.s66_main.specs.declared.outcome.Status.TheVariants.{Done, Denied, Bounded}
-use Rattle.s66_main.specs.Text.{time_text}
+use Rattle.s66_main.specs.Output.{output_of}
 
 -- a reader or a writer: its bytes, left or taken, where they are known, and how many of its calls have failed
 pub record Device : Type 0 where
   pub bytes : Option (List ℕ)
   pub failures : ℕ
-
--- what a command writes for what it reads, or why it refuses it
-abbrev pub output_of : Command → List ℕ → Result (List ℕ) SourceError
-output_of (Time trace) input = time_text trace input
 
 -- input was read, and it was all
 abbrev pub ReadsAll : Device → Device → List ℕ → Type 0

@@ -1,13 +1,15 @@
--- The command line, by clap's rules: one subcommand, `time`, with the flag `--trace`.
+-- The command line, by clap's rules: the subcommands `time`, with the flag `--trace`, `deps` and `chart`.
 use Rattle.std.specs.Prelude.{◌≡◌, ◌≢◌, ◌⊎◌, ℕ, Bool, List, [], false, true, Option, Some, codes}
 use Rattle.std.specs.Option.{option_map, option_map_or}
-use Rattle.clap.specs.Words.{App, IsAmong, Rule, Text, fault_of, kind_of, new_app, new_rule, subcommand_of, with_rule, with_subcommand}
+use Rattle.clap.specs.Words.{App, IsAmong, Rule, Text, app_of, fault_of, kind_of, new_app, new_rule, subcommand_of, with_rule, with_subcommand}
 use Rattle.clap.specs.Takes.{is_given}
 use Rattle.clap.specs.declared.builder.action.ArgAction.TheVariants.{SetTrue}
+use Rattle.clap.specs.declared.builder.command.Command.{Command as CommandLine}
+use Rattle.clap.specs.declared.builder.command.Command.TheViews.{out-Command}
 use Rattle.clap.specs.declared.error.Error.{Error}
 use Rattle.clap.specs.declared.error.kind.ErrorKind.TheVariants as kind
 use Rattle.s66_main.specs.declared.command.Command.{Command}
-use Rattle.s66_main.specs.declared.command.Command.TheVariants.{Time}
+use Rattle.s66_main.specs.declared.command.Command.TheVariants.{Time, Deps, Chart}
 use Rattle.s66_main.specs.declared.usage.Usage.{Usage}
 use Rattle.s66_main.specs.declared.usage.Usage.TheVariants.{Help, Bad, OutOfMemory}
 
@@ -17,10 +19,20 @@ trace_rule = record (new_rule (codes "trace")) { long = Some (codes "trace"); ac
 abbrev pub time_app : App
 time_app = with_rule (new_app (codes "time")) trace_rule
 
+abbrev pub deps_app : App
+deps_app = new_app (codes "deps")
+
+abbrev pub chart_app : App
+chart_app = new_app (codes "chart")
+
 abbrev pub s66_app : App
 s66_app =
-    let a = with_subcommand (new_app (codes "s66")) time_app.top in
+    let a = with_subcommand (with_subcommand (with_subcommand (new_app (codes "s66")) time_app.top) deps_app.top) chart_app.top in
     record a { top = record a.top { subcommand_required = true } }
+
+-- the command line is this one, and none of its options is for all subcommands
+abbrev pub IsCommandOf : App → CommandLine → Type 0
+IsCommandOf a c = (app_of c ≡ a) × ((out-Command c).has_globals ≡ false)
 
 -- the subcommand that the words name
 abbrev pub subcommand_name : List Text → Option Text
@@ -34,6 +46,8 @@ has_option id words = option_map_or (λ s. is_given id s.1) (subcommand_of s66_a
 abbrev pub Asks : List Text → Command → Type 0
 Asks words (Time trace) =
     (fault_of s66_app words ≡ []) × (subcommand_name words ≡ Some (codes "time")) × (trace ≡ has_option (codes "trace") words)
+Asks words Deps = (fault_of s66_app words ≡ []) × (subcommand_name words ≡ Some (codes "deps"))
+Asks words Chart = (fault_of s66_app words ≡ []) × (subcommand_name words ≡ Some (codes "chart"))
 
 -- help, or a mistake that is none of help and want of memory
 abbrev pub IsUsageOf : Error → Usage → Type 0

@@ -6,4 +6,8 @@ pub enum Command {
         /// Whether each instruction is told.
         trace: bool,
     },
+    /// On which instructions each instruction of a block depends.
+    Deps,
+    /// A chart of each block of a source, as it was written.
+    Chart,
 }

@@ -1,12 +1,15 @@
 //! The program: what it is asked for, what it reads, and what it writes.
 #![tactic(auto)]
 
+mod chart_text;
 mod command;
+mod deps_text;
 mod outcome;
 mod run;
 #[cfg(test)]
 mod tests;
 mod text;
+mod time_text;
 mod usage;
 
 use run::run_command;

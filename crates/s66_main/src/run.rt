@@ -1,11 +1,11 @@
 ghost use Rattle.std.specs.Prelude.{◌≡◌, ◌-◌, ◌^◌, ◌<◌, length, vec_len, IfOk, IfErr};
 ghost use Rattle.s66_line.specs.Gives.{Gives};
-ghost use Rattle.s66_main.specs.Run.{IsReadFault, Leaves, ReadsAll, output_of};
-ghost use Rattle.s66_main.specs.Text.{time_text};
+ghost use Rattle.s66_main.specs.Output.{output_of};
+ghost use Rattle.s66_main.specs.Run.{IsReadFault, Leaves, ReadsAll};
 
 use crate::command::Command;
 use crate::outcome::{Fault, Status};
-use crate::text::lines_of_blocks;
+use crate::text::text_of_blocks;
 use s66_line::{Feed, Sink, SourceError, read_source, write_all};
 use std::alloc::{AllocError, Global};
 
@@ -56,21 +56,12 @@ fn read_all<F: Feed>(alloc: Global, reader: &mut F) -> Result<Vec<u8>, Fault>
     read_through(alloc, reader, &mut buffer)
 }
 
-/// What `time` writes for a source, or the source's refusal.
-fn time_text_of(alloc: Global, trace: bool, source: &[u8]) -> Result<Vec<u8>, SourceError>
-    ensures { Gives (λ text. text.items) result (time_text trace source.now) }
+/// What a command writes for a source, or the source's refusal.
+fn text_of(alloc: Global, command: Command, source: &[u8]) -> Result<Vec<u8>, SourceError>
+    ensures { Gives (λ text. text.items) result (output_of command source.now) }
 {
     let source = read_source(alloc, source)?;
-    Ok(lines_of_blocks(alloc, trace, source.blocks())?)
-}
-
-/// What a command writes for its input, or the input's refusal.
-fn text_of(alloc: Global, command: Command, input: &[u8]) -> Result<Vec<u8>, SourceError>
-    ensures { Gives (λ text. text.items) result (output_of command input.now) }
-{
-    match command {
-        Command::Time { trace } => time_text_of(alloc, trace, input),
-    }
+    Ok(text_of_blocks(alloc, command, source.blocks())?)
 }
 
 /// Runs a command: reads to the end, builds all text, and only then writes.

@@ -10,6 +10,8 @@ use std::alloc::AllocError;
 use std::process::Abort;
 use std::test::Fail;
 
+mod chart;
+mod deps;
 mod lines;
 mod trace;
 
@@ -348,6 +350,13 @@ fn reads_words(rt: HostRuntime) -> Result<(), Fail> {
         command_of(rt.alloc(), &["s66", "time", "--trace"])?,
         traced
     );
+    assert_eq!(rt; command_of(rt.alloc(), &["s66", "deps"])?, Command::Deps);
+    assert_eq!(rt; command_of(rt.alloc(), &["s66", "chart"])?, Command::Chart);
+    Ok(())
+}
+
+#[test]
+fn refuses_words(rt: HostRuntime) -> Result<(), Fail> {
     assert_eq!(rt; usage_code(&rt, &["s66"]), Some(2));
     assert_eq!(rt; usage_code(&rt, &["s66", "time", "--nodes", "5"]), Some(2));
     assert_eq!(rt; usage_code(&rt, &["s66", "--trace", "time"]), Some(2));
@@ -356,10 +365,17 @@ fn reads_words(rt: HostRuntime) -> Result<(), Fail> {
         usage_code(&rt, &["s66", "time", "--trace", "--trace"]),
         Some(2)
     );
-    assert_eq!(rt; usage_code(&rt, &["s66", "order"]), Some(2));
-    assert_eq!(rt; usage_code(&rt, &["s66", "nonsense"]), Some(2));
+    assert_eq!(rt; usage_code(&rt, &["s66", "deps", "--trace"]), Some(2));
+    assert_eq!(rt; usage_code(&rt, &["s66", "chart", "--trace"]), Some(2));
+    assert_eq!(rt; usage_code(&rt, &["s66", "deps", "extra"]), Some(2));
+    assert_eq!(rt; usage_code(&rt, &["s66", "deps", "chart"]), Some(2));
+    for word in ["order", "prove", "check", "nonsense"] {
+        assert_eq!(rt; usage_code(&rt, &["s66", word]), Some(2), "{word}");
+    }
     assert_eq!(rt; usage_code(&rt, &["s66", "--help"]), Some(0));
     assert_eq!(rt; usage_code(&rt, &["s66", "help"]), Some(0));
     assert_eq!(rt; usage_code(&rt, &["s66", "time", "--help"]), Some(0));
+    assert_eq!(rt; usage_code(&rt, &["s66", "deps", "--help"]), Some(0));
+    assert_eq!(rt; usage_code(&rt, &["s66", "chart", "--help"]), Some(0));
     Ok(())
 }

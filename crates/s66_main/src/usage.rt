@@ -1,6 +1,6 @@
 ghost use Rattle.std.specs.Prelude.{◌≡◌, IfOk, IfErr, List, map};
 ghost use Rattle.clap.specs.Words.{app_of};
-ghost use Rattle.s66_main.specs.Usage.{Asks, IsUsageOf, Refuses, s66_app};
+ghost use Rattle.s66_main.specs.Usage.{Asks, IsCommandOf, IsUsageOf, Refuses, s66_app, time_app};
 ghost use Rattle.s66_main.specs.declared.usage.Usage.TheVariants.{OutOfMemory};
 
 use crate::command::Command as Asked;
@@ -55,21 +55,36 @@ impl Usage {
     }
 }
 
-/// The command line of the program.
-fn program<'a>(alloc: Global) -> Result<Command<'a>, AllocError>
-    ensures { IfOk result (λ c. app_of c ≡ s66_app) }
+/// The subcommand `time`.
+fn time_command<'a>(alloc: Global) -> Result<Command<'a>, AllocError>
+    ensures { IfOk result (IsCommandOf time_app) }
 {
     let trace = Arg::new(alloc, "trace")
         .long("trace")
         .help("Tells each instruction")
         .action(ArgAction::SetTrue);
-    let time = Command::new(alloc, "time")
+    Command::new(alloc, "time")
         .about("Times each block of a source as it was written")
-        .arg(trace)?;
+        .arg(trace)
+}
+
+/// The command line of the program.
+fn program<'a>(alloc: Global) -> Result<Command<'a>, AllocError>
+    ensures { IfOk result (λ c. app_of c ≡ s66_app) }
+{
+    let time = time_command(alloc)?;
+    let deps = Command::new(alloc, "deps").about(
+        "Tells on what each instruction of a block depends",
+    );
+    let chart = Command::new(alloc, "chart").about(
+        "Draws each block of a source as it was written",
+    );
     Command::new(alloc, "s66")
         .about("Times straight-line blocks of COMPASS code for the CDC 6600")
         .subcommand_required(true)
-        .subcommand(time)
+        .subcommand(time)?
+        .subcommand(deps)?
+        .subcommand(chart)
 }
 
 /// The command that the words give, of which the first is the program's name.
@@ -82,6 +97,8 @@ pub fn command_of<'a, S: AsStr>(alloc: Global, words: &'a [S]) -> Result<Asked, 
         Some(("time", time)) => Ok(Asked::Time {
             trace: time.get_flag("trace"),
         }),
+        Some(("deps", _)) => Ok(Asked::Deps),
+        Some(("chart", _)) => Ok(Asked::Chart),
         _ => unreachable!(),
     }
 }

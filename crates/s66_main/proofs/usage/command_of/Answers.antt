@@ -1,26 +1,53 @@
-use Rattle.std.proofs.Common.{rules, ◌≡◌, ◌∙◌, Some, ap, map, option_map}
-use Rattle.clap.specs.Words.{app_of, found_of, rows_of, subcommand_rows_of}
-use Rattle.s66_main.proofs.Named.{faultless, met, named, named-in, traced}
+use Rattle.std.proofs.Common.{rules, ◌∙◌, ap, codes, inl, inr, map, option_map, refl, sym}
+use Rattle.clap.specs.Words.{app_of, found_of}
+use Rattle.s66_main.proofs.Named.{asks-for, flag-of, name-known, taken}
+use Rattle.s66_main.proofs.Refused.{refused}
 use Rattle.s66_main.proofs.usage.command_of.Goals as goal
 use Rattle.s66_main.proofs.usage.command_of.Goals.{in_default-via-in-Some+in_default, in_default-via-in_default}
 
 pub unreachable-requires : goal.unreachable-requires
 unreachable-requires g c =
     let words = map g.S.AsStr.text c.args.words.now in
-    let app = app_of c.in_ok-program.field-0 in
-    let none = faultless app words c.in_ok-program.ensures c.in_ok-matches.ensures.kinds in
-    let name = named-in c.in_ok-matches.matches words none (met c.in_ok-matches.matches app words c.in_ok-program.ensures c.in_ok-matches.ensures.matches) in
-    let found = c.subcommand.ensures.name ∙ name in
-    elim c.in_default.branch [ in_default-via-in-Some+in_default w ↦ search rules | in_default-via-in_default w ↦ search rules ]
+    let m = c.in_ok-matches.matches in
+    let is = taken m (app_of c.in_ok-program.field-0) words c.in_ok-program.ensures c.in_ok-matches.ensures.kinds c.in_ok-matches.ensures.matches in
+    elim c.in_default.branch [
+      | in_default-via-in-Some+in_default w ↦
+          elim (name-known m words _ is (ap (option_map (λ p. p.0.now)) (sym w.in_default.is) ∙ c.subcommand.ensures.name)) [
+            | inl e ↦ search rules
+            | inr (inl e) ↦ search rules
+            | inr (inr (inl e)) ↦ search rules
+            | inr (inr (inr none)) ↦ none
+          ]
+      | in_default-via-in_default w ↦ name-known m words _ is (ap (option_map (λ p. p.0.now)) (sym w.in_default.is) ∙ c.subcommand.ensures.name)
+    ]
 
-pub returns-clause-ok : goal.returns-clause-ok
-returns-clause-ok g c =
+pub returns-in_err-matches-clause-err : goal.returns-in_err-matches-clause-err
+returns-in_err-matches-clause-err g c =
+    refused c.from_residual-in_err-matches.result c.in_err-matches.field-0.0 (app_of c.in_ok-program.field-0) (map g.S.AsStr.text c.args.words.now)
+    c.in_ok-program.ensures c.in_err-matches.ensures.kinds c.from_residual-in_err-matches.ensures.1
+
+pub returns-in-Some-time-default-clause-ok : goal.returns-in-Some-time-default-clause-ok
+returns-in-Some-time-default-clause-ok g c =
     let words = map g.S.AsStr.text c.args.words.now in
-    let app = app_of c.in_ok-program.field-0 in
-    let none = faultless app words c.in_ok-program.ensures c.in_ok-matches.ensures.kinds in
-    let is-met = met c.in_ok-matches.matches app words c.in_ok-program.ensures c.in_ok-matches.ensures.matches in
-    let rows : Some (rows_of (found_of c.in-Some-time-default.time.now)) ≡ option_map (λ p. p.1) (subcommand_rows_of c.in_ok-matches.matches) = search rules in (
-      none,
-      ap (λ o. option_map (λ s. s.0) o) (named words none).1,
-      traced c.in_ok-matches.matches words (found_of c.in-Some-time-default.time.now) c.get_flag.result none is-met rows c.get_flag.ensures.value c.get_flag.ensures.other,
+    let m = c.in_ok-matches.matches in
+    let is = taken m (app_of c.in_ok-program.field-0) words c.in_ok-program.ensures c.in_ok-matches.ensures.kinds c.in_ok-matches.ensures.matches in
+    let asks = asks-for m words c.in-Some-time-default.field-0-0.now (codes "time") is c.in-Some-time-default.ensures.name c.in-Some-time-default.is-time in (
+      asks.0,
+      asks.1,
+      flag-of m words (found_of c.in-Some-time-default.time.now) c.get_flag.result _ (codes "trace") (codes "trace") is asks.1 refl
+          (inl refl, (inr refl, tt)) refl c.in-Some-time-default.ensures.rows c.get_flag.ensures.value c.get_flag.ensures.other,
     )
+
+pub returns-in-Some-deps-default-clause-ok : goal.returns-in-Some-deps-default-clause-ok
+returns-in-Some-deps-default-clause-ok g c =
+    let words = map g.S.AsStr.text c.args.words.now in
+    let m = c.in_ok-matches.matches in
+    let is = taken m (app_of c.in_ok-program.field-0) words c.in_ok-program.ensures c.in_ok-matches.ensures.kinds c.in_ok-matches.ensures.matches in
+    asks-for m words c.in-Some-deps-default.field-0-0.now (codes "deps") is c.in-Some-deps-default.ensures.name c.in-Some-deps-default.is-deps
+
+pub returns-in-Some-chart-default-clause-ok : goal.returns-in-Some-chart-default-clause-ok
+returns-in-Some-chart-default-clause-ok g c =
+    let words = map g.S.AsStr.text c.args.words.now in
+    let m = c.in_ok-matches.matches in
+    let is = taken m (app_of c.in_ok-program.field-0) words c.in_ok-program.ensures c.in_ok-matches.ensures.kinds c.in_ok-matches.ensures.matches in
+    asks-for m words c.in-Some-chart-default.field-0-0.now (codes "chart") is c.in-Some-chart-default.ensures.name c.in-Some-chart-default.is-chart

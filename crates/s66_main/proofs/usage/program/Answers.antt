@@ -1,14 +1,13 @@
-use Rattle.std.proofs.Common.{rules, ◌≡◌, ◌∙◌, ap, ap₂, codes, true}
 use Rattle.std.proofs.lemmas.Result.{IfOk-weaker}
-use Rattle.clap.specs.Words.{App, app_of, new_app, rule_of, with_rule, with_subcommand}
-use Rattle.clap.specs.Simple.{app_of_fields}
-use Rattle.s66_main.specs.Usage.{time_app, trace_rule}
+use Rattle.s66_main.proofs.CommandLine.{about, wants-subcommand, with-subcommand}
 use Rattle.s66_main.proofs.usage.program.Goals as goal
 
 pub returns : goal.returns
 returns c =
-    let trace-is : rule_of c.action-trace.result ≡ trace_rule = search rules in
-    let time-is : app_of c.in_ok-time.time ≡ time_app =
-    c.in_ok-time.ensures.shape (search rules) ∙ ap₂ with_rule (ap app_of_fields c.about.ensures ∙ c.new-2.ensures.app) trace-is in
-    let top-is : app_of c.subcommand_required.result ≡ record (new_app (codes "s66")) { top = record (new_app (codes "s66")).top { subcommand_required = true } } = search rules in
-    IfOk-weaker c.subcommand.result _ _ (λ r h. h.shape (search rules) ∙ ap₂ with_subcommand top-is (ap (λ (a : App). a.top) time-is)) c.subcommand.ensures
+    let deps = about _ c.new.result c.about-deps.result _ c.new.ensures.app c.new.ensures.local c.about-deps.ensures in
+    let chart = about _ c.new-2.result c.about-chart.result _ c.new-2.ensures.app c.new-2.ensures.local c.about-chart.ensures in
+    let top = about _ c.new-3.result c.about.result _ c.new-3.ensures.app c.new-3.ensures.local c.about.ensures in
+    let wants = wants-subcommand _ _ c.subcommand_required.result top c.subcommand_required.ensures in
+    let with-time = with-subcommand _ _ _ _ _ wants c.in_ok-time.ensures c.in_ok-subcommand.ensures in
+    let with-deps = with-subcommand _ _ _ _ _ with-time deps c.in_ok-subcommand-2.ensures in
+    IfOk-weaker c.subcommand-3.result _ _ (λ r adds. (with-subcommand _ _ _ _ _ with-deps chart adds).0) c.subcommand-3.ensures

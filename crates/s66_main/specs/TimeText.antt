@@ -1,13 +1,12 @@
--- The text of `time`: a line for each block and, with its trace, a line for each instruction.
-use Rattle.std.specs.Prelude.{ℕ, ◌+◌, Bool, if◌then◌else◌, List, [], ◌∷◌, ◌++◌, length, map, codes, decimal, Result, Ok, Err}
+-- What `time` writes of a block: a line and, with its trace, a line for each instruction.
+use Rattle.std.specs.Prelude.{ℕ, ◌+◌, Bool, if◌then◌else◌, List, [], ◌∷◌, ◌++◌, length, map, codes, decimal}
 use Rattle.s66_isa.specs.declared.instr.Instr.{Instr}
 use Rattle.s66_isa.specs.Words.{weigh}
 use Rattle.s66_isa.specs.Table.{parcels_of, numbers, standard}
 use Rattle.s66_model.specs.Packing.{pads, len_at}
 use Rattle.s66_model.specs.Timing.{total_of}
-use Rattle.s66_line.specs.declared.error.SourceError.{SourceError}
 use Rattle.s66_line.specs.Block.{instrs_of, line_of}
-use Rattle.s66_line.specs.Source.{Block, source_of}
+use Rattle.s66_line.specs.Source.{Block}
 use Rattle.s66_time.specs.TimedOrder.{TimedOrder, point_at, latest_result}
 
 -- a block as it was written, under the standard profile
@@ -45,18 +44,6 @@ abbrev pub trace_lines : TimedOrder → ℕ → List ℕ → List ℕ
 trace_lines t position [] = []
 trace_lines t position (n ∷ ns) = trace_line t position n ++ trace_lines t (position + 1) ns
 
-abbrev pub block_lines : Bool → ℕ → Block → List ℕ
-block_lines trace n block = time_line n block ++ (if trace then trace_lines (as_written (instrs_of block)) 0 (numbers (instrs_of block)) else [])
-
--- the lines of these blocks, before which n blocks stand
-abbrev pub time_lines : Bool → ℕ → List Block → List ℕ
-time_lines trace n [] = []
-time_lines trace n (block ∷ blocks) = block_lines trace (n + 1) block ++ time_lines trace (n + 1) blocks
-
-abbrev pub time_output : Bool → Result (List Block) SourceError → Result (List ℕ) SourceError
-time_output trace (Ok blocks) = Ok (time_lines trace 0 blocks)
-time_output trace (Err e) = Err e
-
--- what `time` writes for a source, or the source's refusal
-abbrev pub time_text : Bool → List ℕ → Result (List ℕ) SourceError
-time_text trace source = time_output trace (source_of source)
+-- the lines of the n-th block, from 1
+abbrev pub time_lines : Bool → ℕ → Block → List ℕ
+time_lines trace n block = time_line n block ++ (if trace then trace_lines (as_written (instrs_of block)) 0 (numbers (instrs_of block)) else [])
