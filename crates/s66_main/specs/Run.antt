@@ -1,7 +1,6 @@
 -- What a command leaves of its reader and its writer, and the statuses of the program.
 use Rattle.std.specs.Prelude.{◌≡◌, ◌≢◌, ◌⊎◌, ◌+◌, ◌≤◌, ℕ, List, length, take, Option, Result, Ok, Err}
 use Rattle.std.specs.Io.KnownBytes.{Appends, Consumes, IsAtEnd, Keeps}
-use Rattle.s66_line.specs.declared.error.SourceError.{SourceError}
 use Rattle.s66_line.specs.declared.error.SourceError.TheVariants.{OutOfMemory}
 use Rattle.s66_main.specs.declared.command.Command.{Command}
 use Rattle.s66_main.specs.declared.outcome.Fault.{Fault}

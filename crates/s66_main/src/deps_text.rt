@@ -84,11 +84,7 @@ fn push_needs_lines(
 }
 
 /// The lines of a block, whose number is from 1.
-pub fn push_deps_lines(
-    out: &mut Vec<u8>,
-    number: usize,
-    block: &Block,
-) -> Result<(), AllocError>
+pub fn push_deps_lines(out: &mut Vec<u8>, number: usize, block: &Block) -> Result<(), AllocError>
     ensures { OnOk result (out.new.items ≡ out.old.items ++ deps_lines number block.now) }
 {
     let dependences = Dependences::of(block);

@@ -22,3 +22,4 @@ pub mod AnswerBound
 pub mod OnceCovered
 pub mod LedgerSteps
 pub mod LedgerRuns
+pub mod WorkedAnswers

@@ -1,6 +1,6 @@
 -- Registers: which are the same, which stand in a set, and which keep their values.
 use Rattle.std.proofs.Common.{ℕ, suc, ◌≡◌, Bool, true, false, true≢false, cond, ◌||◌, List, [], ◌∷◌, ◌++◌, map, refl, ap, sym, ◌∙◌, arith, inl, inr, eqb}
-use Rattle.std.proofs.lemmas.Bool.{cases_Bool, or_parts, or_cases, or_left, or_right, false_from_ne_true, cond-false, eqb-true, and_parts, and_from}
+use Rattle.std.proofs.lemmas.Bool.{cases_Bool, or_parts, or_cases, or_left, or_right, false_from_ne_true, cond-false, eqb-true, and_parts}
 use Rattle.std.proofs.lemmas.List.{map-append}
 use Rattle.std.proofs.Math.Bool.{or_assoc, or-false}
 use Rattle.s66_isa.specs.declared.instr.Instr.{Instr}

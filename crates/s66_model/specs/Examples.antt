@@ -1,14 +1,20 @@
--- Worked blocks of a few instructions, their COMPASS lines above each, and words that tell what an order of one does under the standard profile.
-use Rattle.std.specs.Prelude.{ℕ, true, false, ◌+◌, ◌≢◌, List, [], ◌∷◌, map, reverse}
+-- Worked blocks of a few instructions, their COMPASS lines above each, and words that tell what an order of one does under the standard profile, what leaves a prefix has, and what trees and ledgers there are of them.
+use Rattle.std.specs.Prelude.{ℕ, zero, suc, true, false, ◌+◌, ◌≢◌, List, [], ◌∷◌, map, reverse, Some, None}
 use Rattle.s66_isa.specs.declared.instr.Instr.{Instr}
 use Rattle.s66_isa.specs.declared.instr.Kind.{Kind}
+use Rattle.s66_isa.specs.declared.instr.Kind.TheVariants.{Boolean, Multiply}
 use Rattle.s66_isa.specs.declared.instr.Memory.{Memory}
 use Rattle.s66_isa.specs.declared.reg.Reg.{Reg}
 use Rattle.s66_isa.specs.Words.{greatest}
-use Rattle.s66_isa.specs.Table.{Row, Write, standard, a_reg, b_reg}
+use Rattle.s66_isa.specs.Table.{Row, Write, standard, a_reg, b_reg, all_kinds}
 use Rattle.s66_model.specs.Packing.{packed, pads, len_at}
 use Rattle.s66_model.specs.Meaning.{Term, Initial, Computed, Terms, NoTerms, Then, Storage, meaning}
-use Rattle.s66_model.specs.Timing.{Problem, Point, ResultAt, points_of}
+use Rattle.s66_model.specs.Timing.{Problem, Point, ResultAt, row_at, points_of}
+use Rattle.s66_model.specs.Leaves.{Leaf, Whole, Chain, Load, link, load, chain, longest_chain, floor, floor_value}
+use Rattle.s66_model.specs.Tree.{Tree, Parted, Kids, NoMore, Unsplit, Split}
+use Rattle.s66_model.specs.Answer.{Answer}
+use Rattle.s66_model.specs.Piece.{Mark, Carries, Frontier}
+use Rattle.s66_model.specs.Ledger.{State, Open, Out, Cut, Closed, Node, Ledger, Event, Grant, Claim, Graft, Offer, Reply, Granted, Claimed, Taken, NotOut, NotLower, Step, Run}
 
 -- an instruction by its octal code and its digits, 0 where its form has none
 unfoldable pub instr : ℕ → ℕ → ℕ → ℕ → Instr
@@ -160,6 +166,185 @@ held_x = instr 0o44 3 4 5 ∷ instr 0o11 6 3 1 ∷ instr 0o24 1 1 2 ∷ []
 -- FX3 X4/X5 / SX6 X3+B1 / NX1 B1,X2: of the two results of the third B1 is held
 unfoldable pub held_b : List Instr
 held_b = instr 0o44 3 4 5 ∷ instr 0o73 6 3 1 ∷ instr 0o24 1 1 2 ∷ []
+
+-- SA1 A1+B1 / BX6 X2 / BX7 X3: the load takes as long as both others take their unit
+unfoldable pub load_and_booleans : List Instr
+load_and_booleans = instr 0o54 1 1 1 ∷ instr 0o10 6 2 0 ∷ instr 0o10 7 3 0 ∷ []
+
+-- BX1 X2 / BX3 X4 / SX5 A1+5 / SX6 A2+5: four parcels and a tail of 4 take as long as the two Booleans
+unfoldable pub booleans_and_sets : List Instr
+booleans_and_sets = instr 0o10 1 2 0 ∷ instr 0o10 3 4 0 ∷ instr 0o70 5 1 0 ∷ instr 0o70 6 2 0 ∷ []
+
+-- LX5 1 / LX6 1 / BX1 X2 / BX3 X4
+unfoldable pub shifts_and_booleans : List Instr
+shifts_and_booleans = instr 0o20 5 0 0 ∷ instr 0o20 6 0 0 ∷ instr 0o10 1 2 0 ∷ instr 0o10 3 4 0 ∷ []
+
+-- BX1 X2 / SX3 A1+100: the second takes two parcels
+unfoldable pub boolean_and_set : List Instr
+boolean_and_set = instr 0o10 1 2 0 ∷ instr 0o70 3 1 0 ∷ []
+
+-- FX1 X2/X3 / BX4 X5
+unfoldable pub divide_and_boolean : List Instr
+divide_and_boolean = instr 0o44 1 2 3 ∷ instr 0o10 4 5 0 ∷ []
+
+-- FX1 X2*X3 / BX0 X4 / FX5 X6*X7
+unfoldable pub boolean_between : List Instr
+boolean_between = instr 0o40 1 2 3 ∷ instr 0o10 0 4 0 ∷ instr 0o40 5 6 7 ∷ []
+
+-- BX1 X2 / FX2 X3*X4: the second writes X2, which the first reads
+unfoldable pub write_behind : List Instr
+write_behind = instr 0o10 1 2 0 ∷ instr 0o40 2 3 4 ∷ []
+
+-- SA1 A1+B1 / SB2 A1 / BX6 X1: the second reads the A register of the load, and the third its X register
+unfoldable pub load_of_both : List Instr
+load_of_both = instr 0o54 1 1 1 ∷ instr 0o64 2 1 0 ∷ instr 0o10 6 1 0 ∷ []
+
+-- SA6 A6+B1 / SA1 A6+B2: the load reads the A register of the store
+unfoldable pub store_and_its_address : List Instr
+store_and_its_address = instr 0o54 6 6 1 ∷ instr 0o54 1 6 2 ∷ []
+
+-- SA1 A1+B1 / SA2 A2+B1 / BX7 X2 / BX6 X1
+unfoldable pub crossed_chains : List Instr
+crossed_chains = instr 0o54 1 1 1 ∷ instr 0o54 2 2 1 ∷ instr 0o10 7 2 0 ∷ instr 0o10 6 1 0 ∷ []
+
+-- SA1 A1+B1 / BX6 X1 / BX7 X1
+unfoldable pub forked_chain : List Instr
+forked_chain = instr 0o54 1 1 1 ∷ instr 0o10 6 1 0 ∷ instr 0o10 7 1 0 ∷ []
+
+-- SA1 A1+B1 / SA6 A6+B2 / SB3 A6: the tail of the load is as long as its links to the last and the tail of that
+unfoldable pub early_end : List Instr
+early_end = instr 0o54 1 1 1 ∷ instr 0o54 6 6 2 ∷ instr 0o64 3 6 0 ∷ []
+
+-- WHAT LEAVES A PREFIX HAS
+
+-- its floor, and the floor's value
+abbrev pub floor_in : List Instr → List ℕ → Leaf × ℕ
+floor_in block there = (floor (standard_problem block) there, floor_value (standard_problem block) there)
+
+-- the chain that is printed, and the greatest value of a chain
+abbrev pub chain_in : List Instr → List ℕ → List ℕ × ℕ
+chain_in block there = (longest_chain (standard_problem block) there, chain (standard_problem block) there)
+
+-- the load of each kind of unit, as in the list of copies
+abbrev pub loads_in : List Instr → List ℕ → List ℕ
+loads_in block there = map (load (standard_problem block) there) all_kinds
+
+-- the link from one number to a later one
+abbrev pub link_in : List Instr → ℕ → ℕ → ℕ
+link_in block m n = link (row_at (standard_problem block) m) (row_at (standard_problem block) n)
+
+-- TREES, ANSWERS AND PIECES
+
+-- the problems of three of the blocks
+abbrev pub boolean_problem : Problem
+boolean_problem = standard_problem two_booleans
+
+abbrev pub load_problem : Problem
+load_problem = standard_problem one_load
+
+abbrev pub multiply_problem : Problem
+multiply_problem = standard_problem three_multiplies
+
+-- an answer's order, time, bound, number of splits and tree
+abbrev pub answer : List ℕ → ℕ → ℕ → ℕ → Tree Leaf → Answer
+answer order time bound splits tree =
+    record { order = order; time = time; bound = bound; splits = splits; tree = tree }
+
+-- both orders of the last two numbers
+abbrev pub both_orders : {M : Type 0} → M → ℕ → ℕ → Kids M
+both_orders mark m n = Split (n ∷ []) (Unsplit mark NoMore) (Split (m ∷ []) (Unsplit mark NoMore) NoMore)
+
+-- the tree of three_multiplies that is split down to each order
+abbrev pub every_order : {M : Type 0} → M → Tree M
+every_order mark =
+    Parted (1 ∷ 2 ∷ 3 ∷ []) (Split (2 ∷ 3 ∷ []) (both_orders mark 2 3) (Split (1 ∷ 3 ∷ []) (both_orders mark 1 3) (Split (1 ∷ 2 ∷ []) (both_orders mark 1 2) NoMore)))
+
+-- the same without the last split: the floor of 3 2 stands there
+abbrev pub all_but_one : Tree Leaf
+all_but_one =
+    Parted (1 ∷ 2 ∷ 3 ∷ []) (Split (2 ∷ 3 ∷ []) (both_orders Whole 2 3) (Split (1 ∷ 3 ∷ []) (both_orders Whole 1 3) (Split (1 ∷ 2 ∷ []) (Split (2 ∷ []) (Unsplit Whole NoMore) (Unsplit (Load Multiply) NoMore)) NoMore)))
+
+-- after 1 it omits 3
+abbrev pub one_omitted : Tree Leaf
+one_omitted =
+    Parted (1 ∷ 2 ∷ 3 ∷ []) (Split (2 ∷ []) (Split (3 ∷ []) (Unsplit Whole NoMore) NoMore) (Split (1 ∷ 3 ∷ []) (both_orders Whole 1 3) (Split (1 ∷ 2 ∷ []) (both_orders Whole 1 2) NoMore)))
+
+-- a tree of one_load with three splits: its whole order 1 3 2 takes 12, which is below the floors of 1 2 and of 3
+abbrev pub load_tree : Tree Leaf
+load_tree =
+    Parted (1 ∷ 3 ∷ []) (Split (2 ∷ 3 ∷ []) (Unsplit (Load Boolean) (Split (2 ∷ []) (Unsplit Whole NoMore) NoMore)) (Unsplit (Chain (1 ∷ 2 ∷ [])) NoMore))
+
+-- the same as a piece for the best time 16: below that is the floor of 3, which is the frontier
+abbrev pub load_piece : Tree Mark
+load_piece =
+    Parted (1 ∷ 3 ∷ []) (Split (2 ∷ 3 ∷ []) (Unsplit (Carries (Load Boolean)) (Split (2 ∷ []) (Unsplit (Carries Whole) NoMore) NoMore)) (Unsplit Frontier NoMore))
+
+-- so many children that aren't split, with the same mark
+abbrev pub children : {M : Type 0} → ℕ → M → Kids M
+children zero mark = NoMore
+children (suc count) mark = Unsplit mark (children count mark)
+
+-- the empty prefix of three_multiplies split, and the same without the child 3
+abbrev pub one_split : {M : Type 0} → M → Tree M
+one_split mark = Parted (1 ∷ 2 ∷ 3 ∷ []) (children 3 mark)
+
+abbrev pub child_omitted : {M : Type 0} → M → Tree M
+child_omitted mark = Parted (1 ∷ 2 ∷ []) (children 2 mark)
+
+-- LEDGERS AND THEIR HISTORIES
+
+abbrev pub node : List ℕ → State → Node
+node prefix state = record { prefix = prefix; state = state }
+
+-- a ledger's nodes, its best order, what is left of the budget, the allowances and what is spent
+abbrev pub ledger : List Node → List ℕ → ℕ → List ℕ → ℕ → Ledger
+ledger nodes best left allowances spent =
+    record { nodes = nodes; best = best; left = left; allowances = allowances; spent = spent }
+
+-- three_multiplies with a budget of 10 and two workers, all of it granted to worker 1; node 0 alone, in this state
+abbrev pub first_node : State → Ledger
+first_node state = ledger (node [] state ∷ []) (1 ∷ 2 ∷ 3 ∷ []) 0 (10 ∷ 0 ∷ []) 0
+
+-- its root split by worker 1, and the children in these states
+abbrev pub root_split : State → State → State → Ledger
+root_split one two three =
+    ledger (node [] Cut ∷ node (1 ∷ []) one ∷ node (2 ∷ []) two ∷ node (3 ∷ []) three ∷ []) (1 ∷ 2 ∷ 3 ∷ []) 0 (9 ∷ 0 ∷ []) 1
+
+-- and the child 2 split by worker 1 too
+abbrev pub second_split : Ledger
+second_split =
+    ledger (node [] Cut ∷ node (1 ∷ []) Open ∷ node (2 ∷ []) Cut ∷ node (3 ∷ []) Open ∷ node (2 ∷ 1 ∷ []) Open ∷ node (2 ∷ 3 ∷ []) Open ∷ []) (1 ∷ 2 ∷ 3 ∷ []) 0 (8 ∷ 0 ∷ []) 2
+
+-- three_multiplies with node 0 open: so much is left, and worker 2 of two has been granted so much
+abbrev pub granted_to_2 : ℕ → ℕ → Ledger
+granted_to_2 left allowance = ledger (node [] Open ∷ []) (1 ∷ 2 ∷ 3 ∷ []) left (0 ∷ allowance ∷ []) 0
+
+-- a budget of 10 of which nothing is granted to the one worker: these nodes and this best order
+abbrev pub ungranted : List Node → List ℕ → Ledger
+ungranted nodes best = ledger nodes best 10 (0 ∷ []) 0
+
+-- a grant, a claim, a graft of one split, the same graft again, an offer, a grant of nothing, and a claim of a child
+abbrev pub ledger_events : List (Event × Reply)
+ledger_events =
+    (Grant 1, Granted 10) ∷ (Claim 1, Claimed (Some 0)) ∷ (Graft 1 0 true [] 1 (Some (one_split Frontier)), Taken) ∷ (Graft 1 0 true [] 1 None, NotOut)
+    ∷ (Offer 2 true (1 ∷ 2 ∷ 3 ∷ []) 22, NotLower 22) ∷ (Grant 2, Granted 0) ∷ (Claim 2, Claimed (Some 2)) ∷ []
+
+-- one_load with a budget of 10, of which worker 2 has three splits: node 0 is out, and this order is the best
+abbrev pub load_out : List ℕ → Ledger
+load_out best = ledger (node [] Out ∷ []) best 7 (0 ∷ 3 ∷ []) 0
+
+-- load_piece is grafted there, and its whole order takes this state
+abbrev pub load_grafted : List ℕ → State → Ledger
+load_grafted best whole =
+    ledger (node [] Cut ∷ node (1 ∷ []) Cut ∷ node (1 ∷ 2 ∷ []) (Closed (Load Boolean)) ∷ node (1 ∷ 3 ∷ []) Cut ∷ node (1 ∷ 3 ∷ 2 ∷ []) whole ∷ node (3 ∷ []) Open ∷ []) best 7 (0 ∷ 0 ∷ []) 3
+
+-- the event doesn't get this reply, whatever it leads to
+abbrev pub NeverAnswers : Problem → Ledger → Event → Reply → Type 0
+NeverAnswers b old event reply = (new : Ledger) → ¬ Step b old event reply new
+
+-- there is no such history, whatever it leads to
+abbrev pub NeverRuns : Problem → Ledger → List (Event × Reply) → Type 0
+NeverRuns b old history = (new : Ledger) → ¬ Run b old history new
 
 -- WHAT ORDERS MEAN
 
