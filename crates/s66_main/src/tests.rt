@@ -13,6 +13,7 @@ use std::test::Fail;
 mod chart;
 mod deps;
 mod lines;
+mod orders;
 mod trace;
 
 const TIME: Command = Command::Time { trace: false };

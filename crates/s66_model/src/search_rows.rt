@@ -12,7 +12,7 @@ ghost use Rattle.s66_model.specs.Answer.{source_time, IsAnswer, IsBestAnswer};
 ghost use Rattle.s66_model.specs.Piece.{Carries, Frontier, IsPiece, IsPieceFor};
 ghost use Rattle.s66_model.specs.Ledger.{Open, Out, Cut, Closed, opening, grafted, Grant, Claim, Graft, Offer, Back, Retire, Granted, Claimed, Taken, NotOut, OtherPrefix, OverAllowance, Lower, NotLower, OtherBlock, Returned, Retired, Step, Run};
 ghost use Rattle.s66_model.specs.Coverage.{begins, covers, Covers, NeverRises, live_floors, bound_of, IsFinished};
-ghost use Rattle.s66_model.specs.Examples.{standard_problem, one_boolean, two_booleans, one_load, three_multiplies, first_order, third_order, packing_gap, store_then_load, load_then_store, zero_register, load_twice, late_store, two_loads, load_and_booleans, booleans_and_sets, shifts_and_booleans, boolean_and_set, divide_and_boolean, boolean_between, write_behind, load_of_both, store_and_its_address, crossed_chains, forked_chain, early_end, floor_in, chain_in, loads_in, link_in, boolean_problem, load_problem, multiply_problem, answer, both_orders, every_order, all_but_one, one_omitted, load_tree, load_piece, children, one_split, child_omitted, node, ledger, first_node, root_split, second_split, granted_to_2, ungranted, ledger_events, load_out, load_grafted, NeverAnswers, NeverRuns};
+ghost use Rattle.s66_model.specs.Examples.{standard_problem, one_boolean, two_booleans, one_load, three_multiplies, first_order, third_order, packing_gap, store_then_load, load_then_store, zero_register, load_twice, late_store, two_loads, load_and_booleans, booleans_and_sets, shifts_and_booleans, boolean_and_set, divide_and_boolean, boolean_between, write_behind, load_of_both, store_and_its_address, crossed_chains, forked_chain, early_end, floor_in, chain_in, loads_in, link_in, boolean_problem, load_problem, multiply_problem, answer, both_orders, every_order, all_but_one, one_omitted, load_tree, load_orders, load_piece, children, one_split, child_omitted, node, ledger, first_node, root_split, second_split, granted_to_2, ungranted, ledger_events, load_out, load_grafted, NeverAnswers, NeverRuns};
 
 /// Which leaf is the floor of a prefix and what its value is, and what chains, loads, parcels and links give.
 pub fn floor_rows()
@@ -81,6 +81,7 @@ pub fn answer_rows()
     ensures one_load { IsAnswer load_problem 100000 (answer (1 ∷ 3 ∷ 2 ∷ []) 12 12 0 (Alone (Chain (1 ∷ 2 ∷ [])))) }
     ensures one_load_cut { IsAnswer load_problem 0 (answer (1 ∷ 2 ∷ 3 ∷ []) 16 12 0 (Alone (Chain (1 ∷ 2 ∷ [])))) }
     ensures one_load_split { IsAnswer load_problem 100000 (answer (1 ∷ 3 ∷ 2 ∷ []) 12 12 3 load_tree) }
+    ensures one_load_split_down { IsAnswer load_problem 6 (answer (1 ∷ 3 ∷ 2 ∷ []) 12 12 6 load_orders) }
     ensures two_booleans { IsAnswer boolean_problem 0 (answer (1 ∷ 2 ∷ []) 8 8 0 (Alone (Load Boolean))) }
     ensures three_multiplies { IsAnswer multiply_problem 10 (answer (1 ∷ 2 ∷ 3 ∷ []) 22 22 10 (every_order Whole)) }
     ensures three_multiplies_cut { IsAnswer multiply_problem 9 (answer (1 ∷ 2 ∷ 3 ∷ []) 22 17 9 all_but_one) }
@@ -131,6 +132,7 @@ pub fn answer_rows()
     ensures ten_splits { splits (every_order Whole) ≡ 10 }
     ensures no_splits { splits (Alone Whole) ≡ 0 }
     ensures prefixes_that_are_split { split_at [] load_tree ≡ [] ∷ (1 ∷ []) ∷ (1 ∷ 3 ∷ []) ∷ [] }
+    ensures values_of_whole_orders { tree_values (value load_problem) [] load_orders ≡ 16 ∷ 12 ∷ 13 ∷ [] }
     ensures values_of_leaves { tree_values (value load_problem) [] load_tree ≡ 16 ∷ 12 ∷ 13 ∷ [] }
     ensures bound_12 { IsBound load_problem 12 }
     ensures bound_11 { IsBound load_problem 11 }
@@ -206,6 +208,20 @@ pub fn ledger_rows()
     ensures offer_of_this_block { NeverAnswers load_problem (load_out (1 ∷ 2 ∷ 3 ∷ [])) (Offer 1 true (1 ∷ 3 ∷ 2 ∷ []) 12) OtherBlock }
     ensures returned_where_it_is_open { NeverAnswers multiply_problem (first_node Open) (Back 1 0) Returned }
     ensures not_out_where_it_is_out { NeverAnswers multiply_problem (first_node Out) (Back 1 0) NotOut }
+    ensures claim_of_two { ¬ Step multiply_problem (root_split Open Open Open) (Claim 1) (Claimed (Some 3)) (root_split Open Out Out) }
+    ensures none_that_opens_one { ¬ Step multiply_problem (first_node Out) (Claim 2) (Claimed None) (first_node Open) }
+    ensures graft_that_claims_a_child { ¬ Step multiply_problem (first_node Out) (Graft 1 0 true [] 1 (Some (one_split Frontier))) Taken (root_split Open Open Out) }
+    ensures not_out_that_claims { ¬ Step multiply_problem (first_node Open) (Graft 1 0 true [] 1 None) NotOut (first_node Out) }
+    ensures other_prefix_that_gives_back { ¬ Step multiply_problem (first_node Out) (Graft 1 0 true (1 ∷ []) 1 None) OtherPrefix (first_node Open) }
+    ensures over_allowance_that_gives_back { ¬ Step multiply_problem (first_node Out) (Graft 2 0 true [] 1 None) OverAllowance (first_node Open) }
+    ensures lower_to_another_order { ¬ Step load_problem (load_out (1 ∷ 2 ∷ 3 ∷ [])) (Offer 1 true (1 ∷ 3 ∷ 2 ∷ []) 12) Lower (load_out (3 ∷ 1 ∷ 2 ∷ [])) }
+    ensures not_lower_that_lowers { ¬ Step load_problem (load_out (3 ∷ 1 ∷ 2 ∷ [])) (Offer 2 true (1 ∷ 2 ∷ 3 ∷ []) 16) (NotLower 13) (load_out (1 ∷ 3 ∷ 2 ∷ [])) }
+    ensures other_block_that_lowers { ¬ Step load_problem (load_out (3 ∷ 1 ∷ 2 ∷ [])) (Offer 1 false (1 ∷ []) 4) OtherBlock (load_out (1 ∷ 3 ∷ 2 ∷ [])) }
+    ensures two_given_back { ¬ Step multiply_problem (root_split Open Out Out) (Back 1 2) Returned (root_split Open Open Open) }
+    ensures given_back_that_claims { ¬ Step multiply_problem (first_node Open) (Back 1 0) NotOut (first_node Out) }
+    ensures retired_to_another_worker { ¬ Step multiply_problem (first_node Open) (Retire 1) Retired (granted_to_2 0 10) }
+    ensures taken_without_a_tree { NeverAnswers multiply_problem (first_node Out) (Graft 1 0 true [] 1 None) Taken }
+    ensures not_out_with_a_tree { NeverAnswers multiply_problem (first_node Open) (Graft 1 0 true [] 1 (Some (one_split Frontier))) NotOut }
     ensures worker_0 { NeverAnswers multiply_problem (opening multiply_problem 10 2) (Grant 0) (Granted 10) }
     ensures worker_3 { NeverAnswers multiply_problem (opening multiply_problem 10 2) (Grant 3) (Granted 10) }
     ensures reply_to_another_event { NeverAnswers multiply_problem (opening multiply_problem 10 2) (Claim 1) (Granted 10) }

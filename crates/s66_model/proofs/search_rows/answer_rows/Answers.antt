@@ -57,6 +57,22 @@ returns-clause-one_load_split c =
       first = λ same. absurd (omega (arith, same));
     }
 
+pub returns-clause-one_load_split_down : goal.returns-clause-one_load_split_down
+unfolding instr one_load row issue_of start_of point conflict
+returns-clause-one_load_split_down c =
+    record {
+      legal = order-legal one_load (1 ∷ 3 ∷ 2 ∷ []) ((refl, (refl, (refl, tt))), refl);
+      time = refl;
+      source = omega arith;
+      wholes = (omega arith, refl, (omega arith, refl, (omega arith, refl, ((λ _. omega arith), tt), (omega arith, refl, ((λ _. omega arith), tt), tt)), (omega arith, refl, (omega arith, refl, ((λ _. omega arith), tt), tt), tt)));
+      tree = (omega arith, refl, (omega arith, refl, (omega arith, refl, (refl, tt), (omega arith, refl, (refl, tt), tt)), (omega arith, refl, (omega arith, refl, (refl, tt), tt), tt)));
+      bound = refl;
+      splits = refl;
+      within = omega arith;
+      spent = λ lower. absurd (omega (arith, lower));
+      first = λ same. absurd (omega (arith, same));
+    }
+
 pub returns-clause-two_booleans : goal.returns-clause-two_booleans
 unfolding instr two_booleans row issue_of start_of point conflict
 returns-clause-two_booleans c =
@@ -285,6 +301,10 @@ returns-clause-no_splits c = refl
 
 pub returns-clause-prefixes_that_are_split : goal.returns-clause-prefixes_that_are_split
 returns-clause-prefixes_that_are_split c = refl
+
+pub returns-clause-values_of_whole_orders : goal.returns-clause-values_of_whole_orders
+unfolding instr one_load row issue_of start_of point conflict
+returns-clause-values_of_whole_orders c = refl
 
 pub returns-clause-values_of_leaves : goal.returns-clause-values_of_leaves
 unfolding instr one_load row issue_of start_of point conflict

@@ -1,10 +1,11 @@
-use Rattle.std.proofs.Common.{ℕ, ◌≡◌, false, List, [], ◌∷◌, length, refl, sym, ap, ◌∙◌, inl, inr, true≢false, arith}
+use Rattle.std.proofs.Common.{ℕ, ◌≡◌, false, List, [], ◌∷◌, length, get_or, refl, sym, ap, ◌∙◌, inl, inr, true≢false, arith}
 use Rattle.s66_isa.specs.declared.instr.Kind.TheVariants.{Boolean, Multiply}
+use Rattle.s66_isa.specs.Words.{tally}
 use Rattle.s66_isa.specs.Table.{row}
 use Rattle.s66_model.specs.Timing.{issue_of, start_of, point}
 use Rattle.s66_model.specs.Dependence.{conflict}
 use Rattle.s66_model.specs.Leaves.{Chain, Load, Parcels}
-use Rattle.s66_model.specs.Ledger.{Ledger, Node, State, Open, Out, Cut, is_cut_state, is_open_state, allowance, node_at, share_of}
+use Rattle.s66_model.specs.Ledger.{Ledger, Node, State, Open, Out, Cut, is_open, is_cut_state, is_open_state, allowance, node_at, share_of}
 use Rattle.s66_model.specs.Examples.{instr, one_boolean, one_load, two_booleans, three_multiplies, node, first_node, root_split}
 use Rattle.s66_model.proofs.LegalOrders.{order-legal}
 use Rattle.s66_model.proofs.WorkedAnswers.{load-legal, multiplies-answer}
@@ -306,6 +307,62 @@ returns-clause-returned_where_it_is_open c = λ new step. open-out step.1.0.1
 pub returns-clause-not_out_where_it_is_out : goal.returns-clause-not_out_where_it_is_out
 unfolding instr three_multiplies row issue_of start_of point conflict
 returns-clause-not_out_where_it_is_out c = λ new step. step.1.0 (omega arith, refl)
+
+pub returns-clause-claim_of_two : goal.returns-clause-claim_of_two
+unfolding instr three_multiplies row issue_of start_of point conflict
+returns-clause-claim_of_two c = λ step. (let (there, state, made) = step.1 in absurd (omega (arith, ap (λ (l : Ledger). tally is_open l.nodes) made)))
+
+pub returns-clause-none_that_opens_one : goal.returns-clause-none_that_opens_one
+unfolding instr three_multiplies row issue_of start_of point conflict
+returns-clause-none_that_opens_one c = λ step. (let (none, made) = step.1 in absurd (omega (arith, ap (λ (l : Ledger). tally is_open l.nodes) made)))
+
+pub returns-clause-graft_that_claims_a_child : goal.returns-clause-graft_that_claims_a_child
+unfolding instr three_multiplies row issue_of start_of point conflict
+returns-clause-graft_that_claims_a_child c = λ step. (let (out, over, within, counted, piece, made) = step.1 in absurd (omega (arith, ap (λ (l : Ledger). tally is_open l.nodes) made)))
+
+pub returns-clause-not_out_that_claims : goal.returns-clause-not_out_that_claims
+unfolding instr three_multiplies row issue_of start_of point conflict
+returns-clause-not_out_that_claims c = λ step. (let (out, made) = step.1 in absurd (omega (arith, ap (λ (l : Ledger). tally is_open l.nodes) made)))
+
+pub returns-clause-other_prefix_that_gives_back : goal.returns-clause-other_prefix_that_gives_back
+unfolding instr three_multiplies row issue_of start_of point conflict
+returns-clause-other_prefix_that_gives_back c = λ step. (let (out, other, made) = step.1 in absurd (omega (arith, ap (λ (l : Ledger). tally is_open l.nodes) made)))
+
+pub returns-clause-over_allowance_that_gives_back : goal.returns-clause-over_allowance_that_gives_back
+unfolding instr three_multiplies row issue_of start_of point conflict
+returns-clause-over_allowance_that_gives_back c = λ step. (let (out, over, above, made) = step.1 in absurd (omega (arith, ap (λ (l : Ledger). tally is_open l.nodes) made)))
+
+pub returns-clause-lower_to_another_order : goal.returns-clause-lower_to_another_order
+unfolding instr one_load row issue_of start_of point conflict
+returns-clause-lower_to_another_order c = λ step. (let (timed, lower, made) = step.1 in absurd (omega (arith, ap (λ (l : Ledger). get_or l.best 0 0) made)))
+
+pub returns-clause-not_lower_that_lowers : goal.returns-clause-not_lower_that_lowers
+unfolding instr one_load row issue_of start_of point conflict
+returns-clause-not_lower_that_lowers c = λ step. (let (timed, above, least, made) = step.1 in absurd (omega (arith, ap (λ (l : Ledger). get_or l.best 0 0) made)))
+
+pub returns-clause-other_block_that_lowers : goal.returns-clause-other_block_that_lowers
+unfolding instr one_load row issue_of start_of point conflict
+returns-clause-other_block_that_lowers c = λ step. (let (own, made) = step.1 in absurd (omega (arith, ap (λ (l : Ledger). get_or l.best 0 0) made)))
+
+pub returns-clause-two_given_back : goal.returns-clause-two_given_back
+unfolding instr three_multiplies row issue_of start_of point conflict
+returns-clause-two_given_back c = λ step. (let (out, made) = step.1 in absurd (omega (arith, ap (λ (l : Ledger). tally is_open l.nodes) made)))
+
+pub returns-clause-given_back_that_claims : goal.returns-clause-given_back_that_claims
+unfolding instr three_multiplies row issue_of start_of point conflict
+returns-clause-given_back_that_claims c = λ step. (let (out, made) = step.1 in absurd (omega (arith, ap (λ (l : Ledger). tally is_open l.nodes) made)))
+
+pub returns-clause-retired_to_another_worker : goal.returns-clause-retired_to_another_worker
+unfolding instr three_multiplies row issue_of start_of point conflict
+returns-clause-retired_to_another_worker c = λ step. absurd (omega (arith, ap (λ (l : Ledger). l.left) step.1))
+
+pub returns-clause-taken_without_a_tree : goal.returns-clause-taken_without_a_tree
+unfolding instr three_multiplies row issue_of start_of point conflict
+returns-clause-taken_without_a_tree c = λ new step. step.1
+
+pub returns-clause-not_out_with_a_tree : goal.returns-clause-not_out_with_a_tree
+unfolding instr three_multiplies row issue_of start_of point conflict
+returns-clause-not_out_with_a_tree c = λ new step. step.1
 
 pub returns-clause-worker_0 : goal.returns-clause-worker_0
 unfolding instr three_multiplies row issue_of start_of point conflict
