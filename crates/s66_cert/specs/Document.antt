@@ -27,7 +27,7 @@ pub record Document : Type 0 where
 
 -- RANGES
 
--- so many, each from low to high
+-- each from low to high
 abbrev pub AreIn : ℕ → ℕ → List ℕ → Type 0
 AreIn low high [] = Unit {0}
 AreIn low high (n ∷ ns) = (low ≤ n) × (n ≤ high) × AreIn low high ns
@@ -69,6 +69,7 @@ pub record IsInstruction (text : List ℕ) : Type 0 where
   pub upper_case : upper text ≡ text
   pub read : is_some (instr_of operation operand) ≡ true
 
+-- a line has at most 200 bytes, and its operation begins in column 2 at the earliest
 abbrev pub AreInstructions : List (List ℕ) → Type 0
 AreInstructions [] = Unit {0}
 AreInstructions (text ∷ texts) = IsInstruction text × (length text ≤ 199) × AreInstructions texts

@@ -4,7 +4,7 @@ use Rattle.s66_isa.specs.Words.{rising}
 use Rattle.s66_model.specs.Timing.{Point, points_of, total_of}
 use Rattle.s66_time.specs.TimedOrder.{TimedOrder, latency_of, latest_result}
 
--- what an instruction does in a minor cycle: I issues, W waits for operands, = works, H is held for an earlier reader; the first that fits
+-- what an instruction does in a minor cycle: I issues, W waits for operands or for memory, = works, H is held for an earlier reader; the first that fits
 abbrev pub letter : Point → ℕ → ℕ
 letter p cycle =
     if cycle == p.issue then 73

@@ -65,8 +65,9 @@ fn write_filler<S: Sink>(timed: &Timed, position: usize, writer: &mut S) -> Resu
 /// cycle of 100 ns from the first issue to the end.
 ///
 /// A row is the instruction's number, right in three places, one blank, and a letter for each cycle: `I` it issues, `W` its unit
-/// waits for operands, `=` it works, `H` its result is held back for an earlier reader, `.` anything else. Nothing is allocated;
-/// a row is written by as few calls as the sink allows. Where the sink fails, a beginning of the text was written.
+/// waits for operands or for memory, `=` it works, `H` its result is held back for an earlier reader, `.` anything else. A row has
+/// at most 6,661 bytes and is written by as few calls as the sink allows; nothing is allocated. Where the sink fails, a beginning
+/// of the text was written.
 pub fn chart<S: Sink>(timed: &Timed, writer: &mut S) -> Result<(), WriteError>
     requires { S.failures writer.old < 2 ^ 64 - 1 }
     ensures ok { OnOk result (Appends (S.bytes writer.old) (S.bytes writer.new) (chart_text timed.now)) }

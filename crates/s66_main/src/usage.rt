@@ -80,7 +80,7 @@ fn program<'a>(alloc: Global) -> Result<Command<'a>, AllocError>
         "Draws each block of a source as it was written",
     );
     Command::new(alloc, "s66")
-        .about("Times straight-line blocks of COMPASS code for the CDC 6600")
+        .about("Times and draws straight-line blocks of COMPASS code for the CDC 6600")
         .subcommand_required(true)
         .subcommand(time)?
         .subcommand(deps)?

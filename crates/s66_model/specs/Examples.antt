@@ -1,13 +1,14 @@
 -- Worked blocks of a few instructions, their COMPASS lines above each, and words that tell what an order of one does under the standard profile, what leaves a prefix has, and what trees and ledgers there are of them.
-use Rattle.std.specs.Prelude.{ℕ, zero, suc, true, false, ◌+◌, ◌≢◌, List, [], ◌∷◌, map, reverse, Some, None}
+use Rattle.std.specs.Prelude.{ℕ, Bool, zero, suc, true, false, ◌+◌, ◌≢◌, List, [], ◌∷◌, map, reverse, Some, None}
 use Rattle.s66_isa.specs.declared.instr.Instr.{Instr}
 use Rattle.s66_isa.specs.declared.instr.Kind.{Kind}
 use Rattle.s66_isa.specs.declared.instr.Kind.TheVariants.{Boolean, Multiply}
 use Rattle.s66_isa.specs.declared.instr.Memory.{Memory}
 use Rattle.s66_isa.specs.declared.reg.Reg.{Reg}
 use Rattle.s66_isa.specs.Words.{greatest}
-use Rattle.s66_isa.specs.Table.{Row, Write, standard, a_reg, b_reg, all_kinds}
+use Rattle.s66_isa.specs.Table.{Row, Write, standard, a_reg, b_reg, all_kinds, reads_of, results_of, memory_of, memory_pair}
 use Rattle.s66_model.specs.Packing.{packed, pads, len_at}
+use Rattle.s66_model.specs.Dependence.{share}
 use Rattle.s66_model.specs.Meaning.{Term, Initial, Computed, Terms, NoTerms, Then, Storage, meaning}
 use Rattle.s66_model.specs.Timing.{Problem, Point, ResultAt, row_at, points_of}
 use Rattle.s66_model.specs.Leaves.{Leaf, Whole, Chain, Load, link, load, chain, longest_chain, floor, floor_value}
@@ -356,6 +357,11 @@ NeverRuns b old history = (new : Ledger) → ¬ Run b old history new
 -- no instruction has a constant
 abbrev pub no_constants : ℕ → List ℕ
 no_constants n = []
+
+-- which parts of a dependence n has on m, which stands before it: it reads what m writes, writes what m reads, both write one register, both reference memory and one is a store
+abbrev pub parts : Instr → Instr → List Bool
+parts m n =
+    share (results_of m) (reads_of n) ∷ share (reads_of m) (results_of n) ∷ share (results_of m) (results_of n) ∷ memory_pair (memory_of m) (memory_of n) ∷ []
 
 -- exchanged, the two instructions mean something else
 abbrev pub Differs : Instr → Instr → Type 0

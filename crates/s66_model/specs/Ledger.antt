@@ -48,7 +48,7 @@ is_open node = is_open_state node.state
 abbrev pub is_live : Node → Bool
 is_live node = is_live_state node.state
 
--- nodes are numbered from 0 in the order of their making; any other number has one that nobody cites
+-- nodes are numbered from 0 in the order of their making; any other number stands for one that is cut, so nothing can be claimed or grafted there
 abbrev pub no_node : Node
 no_node = record { prefix = []; state = Cut }
 
@@ -125,6 +125,7 @@ worker (Retire w) = w
 
 -- WHAT THE EVENTS MAKE OF A STATE
 
+-- what a grant moves: 64 splits, or what is left where that is less
 abbrev pub share_of : Ledger → ℕ
 share_of l = min 64 l.left
 

@@ -24,7 +24,7 @@ fn tells_dependences(rt: HostRuntime) -> Result<(), Fail> {
             "BLOCK 1 LINE 1 COUNT 3 DEPENDENCES 0\n",
         ),
         (
-            "short normalize",
+            "short normalise",
             "NX1\nBX2 X1",
             "BLOCK 1 LINE 1 COUNT 2 DEPENDENCES 1\n2 AFTER 1\n",
         ),

@@ -1,4 +1,4 @@
-use Rattle.std.proofs.Common.{ap}
+use Rattle.std.proofs.Common.{ap, refl}
 use Rattle.s66_isa.specs.Table.{x_reg}
 use Rattle.s66_model.specs.Examples.{instr}
 use Rattle.s66_model.specs.Meaning.{Contents}
@@ -33,3 +33,27 @@ returns-clause-store_after_load c = λ same. (let x1 = ap (λ (s : Contents). s.
 pub returns-clause-two_stores : goal.returns-clause-two_stores
 unfolding instr
 returns-clause-two_stores c = λ same. (let storage = ap (λ (s : Contents). s.storage) same in cc)
+
+pub returns-clause-read_alone : goal.returns-clause-read_alone
+unfolding instr
+returns-clause-read_alone c = refl
+
+pub returns-clause-overwritten_alone : goal.returns-clause-overwritten_alone
+unfolding instr
+returns-clause-overwritten_alone c = refl
+
+pub returns-clause-written_twice_alone : goal.returns-clause-written_twice_alone
+unfolding instr
+returns-clause-written_twice_alone c = refl
+
+pub returns-clause-load_after_store_alone : goal.returns-clause-load_after_store_alone
+unfolding instr
+returns-clause-load_after_store_alone c = refl
+
+pub returns-clause-store_after_load_alone : goal.returns-clause-store_after_load_alone
+unfolding instr
+returns-clause-store_after_load_alone c = refl
+
+pub returns-clause-two_stores_alone : goal.returns-clause-two_stores_alone
+unfolding instr
+returns-clause-two_stores_alone c = refl
