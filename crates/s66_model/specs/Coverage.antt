@@ -57,7 +57,7 @@ bound_of b l = least (λ v. v) (best_time b l ∷ live_floors b l.nodes)
 
 -- THE END
 
--- an answer for the ledger's budget, no slower than its best, whose tree has every split of its table
+-- an answer for the ledger's budget, no slower than its best, whose tree has every split of its table; that the tree shows its bound follows from its being an answer
 pub record IsFinished (b : Problem) (budget : ℕ) (l : Ledger) (a : Answer) : Type 0 where
   pub answer : IsAnswer b budget a
   pub time : a.time ≤ best_time b l

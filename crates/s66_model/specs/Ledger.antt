@@ -10,6 +10,7 @@ use Rattle.s66_model.specs.Piece.{Mark, Carries, Frontier, IsPiece}
 
 -- NODES
 
+-- a node can be claimed, is handed out, is split, or is closed with a leaf
 pub data State : Type 0 where
   Open : State
   Out : State
@@ -60,6 +61,7 @@ with_state nodes i state = set nodes i (record { prefix = (node_at nodes i).pref
 
 -- THE STATE
 
+-- the best order so far; how many splits of the budget are left, allowed to each worker, and spent
 pub record Ledger : Type 0 where
   pub nodes : List Node
   pub best : List ℕ
@@ -179,7 +181,7 @@ abbrev pub new_nodes : Problem → ℕ → List ℕ → Tree Mark → List Node
 new_nodes b best there (Alone mark) = []
 new_nodes b best there (Parted numbers kids) = kid_nodes b best there numbers kids
 
--- its splits are spent, the node takes the state of the piece's root, its other prefixes become nodes
+-- the piece's splits are spent, the node takes the state of the piece's root, and the piece's other prefixes become nodes
 abbrev pub grafted : Problem → Ledger → ℕ → ℕ → List ℕ → Tree Mark → Ledger
 grafted b l w i prefix tree =
     record {
@@ -203,7 +205,7 @@ IsOver l i own prefix = (own ≡ true) × (prefix ≡ (node_at l.nodes i).prefix
 abbrev pub IsTimed : Problem → Bool → List ℕ → ℕ → Type 0
 IsTimed b own order time = (own ≡ true) × IsLegal b.block order × (time ≡ total_of b order)
 
--- from old, the event may have this reply and lead to new
+-- from old, the event may have this reply and lead to new; of a piece or an order that is refused nothing more is asked
 abbrev pub Moves : Problem → Ledger → Event → Reply → Ledger → Type 0
 Moves b old (Grant w) (Granted n) new = (n ≡ share_of old) × (new ≡ granted old w)
 Moves b old (Claim w) (Claimed (Some i)) new =

@@ -41,7 +41,7 @@ pub record Operation : Type 0 where
   pub instr : Instr
   pub constant : List ℕ
 
--- the results that the unit makes of these operands, numbered from which on
+-- the results that the unit makes of these operands; the first of them has the number `which`
 abbrev pub computed : Operation → Terms → ℕ → List Reg → List (Reg × Term)
 computed o operands which [] = []
 computed o operands which (r ∷ rs) = (r, Computed o.instr.op.code o.constant operands which) ∷ computed o operands (suc which) rs
@@ -50,7 +50,7 @@ computed o operands which (r ∷ rs) = (r, Computed o.instr.op.code o.constant o
 abbrev pub address_of : Operation → Terms → Term
 address_of o operands = Computed o.instr.op.code o.constant operands 0
 
--- what a load fetches from there
+-- what a load fetches from an address
 abbrev pub fetched : Memory → Instr → Storage → Term → List (Reg × Term)
 fetched u n storage address = map (λ r. (r, Loaded storage address)) (loaded_registers u n)
 
