@@ -57,15 +57,15 @@ TreeFits (Parted numbers kids) = AreNumbers numbers × KidsFit numbers kids
 
 -- INSTRUCTIONS
 
-abbrev pub is_filled_byte : ℕ → Bool
-is_filled_byte b = not (is_blank b)
+abbrev pub is_no_blank : ℕ → Bool
+is_no_blank b = not (is_blank b)
 
 -- an operation, and a blank and its operand where it has one, that spell an instruction in upper case
 pub record IsInstruction (text : List ℕ) : Type 0 where
   pub operation : List ℕ
   pub operand : List ℕ
   pub spelled : text ≡ spelling operation operand
-  pub words : every is_filled_byte operation && every is_filled_byte operand ≡ true
+  pub words : every is_no_blank operation && every is_no_blank operand ≡ true
   pub upper_case : upper text ≡ text
   pub read : is_some (instr_of operation operand) ≡ true
 

@@ -6,6 +6,7 @@ ghost use Rattle.s66_line.specs.Fields.{upper};
 ghost use Rattle.s66_line.specs.Operand.{register_of, is_constant, constant_of, instr_of, set_form_of, set_code};
 ghost use Rattle.s66_line.specs.Spelling.{digit, CanMean, set_letters, set_operands, examples, upper_read};
 ghost use Rattle.s66_line.specs.Source.{Line, Block, classed_lines, instructions, is_instruction, parted, blocks_of, source_of};
+ghost use Rattle.s66_line.specs.Block.{constants_in};
 ghost use Rattle.s66_line.specs.Parts.{AreParts};
 ghost use Rattle.s66_line.specs.Roles.{is_note, is_note_of, is_dropped, is_copied, roles, lines_that, mixed_source, outside_source};
 
@@ -60,7 +61,7 @@ pub fn line_rows()
     ensures copied_outside { lines_that is_copied outside_source ≡ 1 ∷ 2 ∷ 3 ∷ 5 ∷ 8 ∷ [] }
 {}
 
-/// The texts of constants.
+/// The texts of constants, by octal code and operand, and of the instructions of a block.
 pub fn constant_rows()
     ensures in_front { constant_of 0o50 (codes "0+A1") ≡ codes "+0" }
     ensures behind { constant_of 0o50 (codes "A1+0") ≡ codes "+0" }
@@ -68,4 +69,5 @@ pub fn constant_rows()
     ensures shift_count { constant_of 0o20 (codes "-N") ≡ codes "-N" }
     ensures registers { constant_of 0o54 (codes "A1+B1") ≡ [] }
     ensures boolean { constant_of 0o11 (codes "X2*X3") ≡ [] }
+    ensures of_a_block { map (λ block. map (constants_in block) (1 ∷ 2 ∷ 3 ∷ [])) (blocks_of (classed_lines (codes "  SA1 A1+n\n  BX6 X1\n  LX6 6\n"))) ≡ (codes "+N" ∷ [] ∷ codes "6" ∷ []) ∷ [] }
 {}
