@@ -8,6 +8,7 @@ mod entry;
 mod error;
 mod fields;
 mod laws;
+mod limits;
 mod operand;
 mod operation;
 mod reader;
@@ -18,6 +19,7 @@ mod terms;
 pub use block::Block;
 pub use device::{Failed, Feed, OverRead, OverWrite, Sink, WriteError, write_all};
 pub use error::SourceError;
+pub use limits::{BLOCK_LIMIT, LINE_LIMIT, SOURCE_LIMIT};
 pub use laws::{
     case_law, constant_rows, form_law, line_law, line_rows, parts_law, set_form_law, spelling_rows,
     term_law,

@@ -1,0 +1,8 @@
+/// The most instructions of a block.
+pub const BLOCK_LIMIT: usize = 64;
+
+/// The most bytes of a line, its newline not counted.
+pub const LINE_LIMIT: usize = 200;
+
+/// The most lines of a source.
+pub const SOURCE_LIMIT: u32 = 20_000;
