@@ -55,9 +55,13 @@ IsUsageOf e (Help text) = (text ≡ e) × ((kind_of e ≡ kind.DisplayHelp) ⊎ 
 IsUsageOf e (Bad text) = (text ≡ e) × (kind_of e ≢ kind.DisplayHelp) × (kind_of e ≢ kind.OutOfMemory)
 IsUsageOf e OutOfMemory = kind_of e ≡ kind.OutOfMemory
 
+-- an error that is help
+abbrev pub IsHelp : Error → Type 0
+IsHelp e = (kind_of e ≡ kind.DisplayHelp) ⊎ (kind_of e ≡ kind.DisplayVersion)
+
 -- the words are no command: they ask for help, or the text tells one of their faults
 abbrev pub Refuses : List Text → Usage → Type 0
-Refuses words (Help text) = IsAmong (kind_of text) (fault_of s66_app words)
+Refuses words (Help text) = IsAmong (kind_of text) (fault_of s66_app words) × IsHelp text
 Refuses words (Bad text) = IsAmong (kind_of text) (fault_of s66_app words) × (kind_of text ≢ kind.DisplayHelp)
 Refuses words OutOfMemory = Unit {0}
 

@@ -27,11 +27,11 @@ fn words_of(rt: &HostRuntime) -> io::Result<Vec<String>> {
 fn refuse_words(rt: &HostRuntime, error: &io::Error) -> io::Result<ExitCode> {
     match error.kind() {
         io::ErrorKind::OutOfMemory => {
-            eprintln!(rt; "OUT OF MEMORY")?;
+            let _ = eprintln!(rt; "OUT OF MEMORY");
             Ok(ExitCode::from(4))
         }
         _ => {
-            eprintln!(rt; "error: an argument is not UTF-8")?;
+            let _ = eprintln!(rt; "error: an argument is not UTF-8");
             Ok(ExitCode::from(2))
         }
     }
@@ -40,8 +40,17 @@ fn refuse_words(rt: &HostRuntime, error: &io::Error) -> io::Result<ExitCode> {
 /// Tells why words are no command, and answers the status.
 fn refuse_usage(rt: &HostRuntime, usage: &Usage) -> io::Result<ExitCode> {
     match usage {
-        Usage::Help(text) | Usage::Bad(text) => text.print(rt)?,
-        Usage::OutOfMemory => eprintln!(rt; "OUT OF MEMORY")?,
+        Usage::Help(text) => {
+            if text.print(rt).is_err() {
+                return Ok(ExitCode::from(6));
+            }
+        }
+        Usage::Bad(text) => {
+            let _ = text.print(rt);
+        }
+        Usage::OutOfMemory => {
+            let _ = eprintln!(rt; "OUT OF MEMORY");
+        }
     }
     Ok(ExitCode::from(usage.code()))
 }
@@ -60,7 +69,7 @@ fn main(rt: HostRuntime) -> io::Result<ExitCode> {
     match run_command(&rt, command, &mut reader, &mut writer) {
         Ok(status) => Ok(ExitCode::from(status.code())),
         Err(fault) => {
-            eprintln!(rt; "{fault}")?;
+            let _ = eprintln!(rt; "{fault}");
             Ok(ExitCode::from(fault.code()))
         }
     }
