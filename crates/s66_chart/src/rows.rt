@@ -19,6 +19,11 @@ pub fn chart_rows()
         codes "  3 ..I==.......\n" ++
         codes " NO ...I........\n" ++
         codes "  4 ....I=======\n" }
+    ensures gap_after_two_parcels { chart_text (record { problem = standard_problem (instr 0o10 7 2 0 ∷ instr 0o50 1 1 0 ∷ instr 0o50 2 2 0 ∷ []); numbers = 1 ∷ 2 ∷ 3 ∷ [] }) ≡
+        codes "  1 I==.........\n" ++
+        codes "  2 .I=======...\n" ++
+        codes " NO ...I........\n" ++
+        codes "  3 ....I=======\n" }
     ensures third_order { chart_text (record { problem = standard_problem third_order; numbers = 1 ∷ 2 ∷ 3 ∷ [] }) ≡
         codes "  1 I============================....\n" ++
         codes "  2 .IWWWWWWWWWWWWWWWWWWWWWWWWWWW===.\n" ++

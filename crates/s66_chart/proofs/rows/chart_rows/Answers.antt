@@ -20,3 +20,7 @@ returns-clause-third_order c = refl
 pub returns-clause-only_b0 : goal.returns-clause-only_b0
 unfolding instr row issue_of start_of point digits
 returns-clause-only_b0 c = refl
+
+pub returns-clause-gap_after_two_parcels : goal.returns-clause-gap_after_two_parcels
+unfolding instr row issue_of start_of point digits
+returns-clause-gap_after_two_parcels c = refl
