@@ -5,7 +5,7 @@ use Rattle.s66_model.specs.Timing.{Problem, Point, row_at, total, place, timed, 
 use Rattle.s66_model.proofs.GoodRows.{row-good}
 use Rattle.s66_dep.specs.Ordered.{Ordered}
 use Rattle.s66_time.specs.TimedOrder.{TimedOrder, point_at, no_point}
-use Rattle.s66_time.proofs.Growth.{point-ordered}
+use Rattle.s66_model.proofs.Growth.{point-ordered}
 use Rattle.s66_time.proofs.History.{greatest-reverse, length-reverse, timed-length}
 
 record AreOrdered (s : List Point) : Type 0 where

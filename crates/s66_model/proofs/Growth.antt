@@ -1,69 +1,120 @@
--- Totals are small: each instruction adds at most 104 minor cycles.
-use Rattle.std.proofs.Common.{ℕ, ◌+◌, ◌*◌, ◌%◌, ◌≤◌, Bool, true, false, cond, ◌&&◌, max, List, [], ◌∷◌, length, arith, inl, inr, eqb, map, refl}
-use Rattle.std.proofs.lemmas.Bool.{cond_both}
+-- Totals are small: each instruction adds at most 104 cycles, where no entry is above 100.
+use Rattle.std.proofs.Common.{length, ◌*◌, ℕ, sym, true≢false, ◌-◌, ◌+◌, ◌%◌, ◌≤◌, ◌<◌, ◌≡◌, Bool, cond, ◌&&◌, max, List, [], ◌∷◌, refl, arith, inl, inr, eqb, map, ◌⊎◌}
+use Rattle.std.proofs.lemmas.Bool.{and_parts, cond_both, cases_Bool, cond-true, cond-false}
 use Rattle.s66_isa.specs.declared.reg.Reg.{Reg}
 use Rattle.s66_isa.specs.Words.{greatest, Among}
 use Rattle.s66_isa.specs.Table.{Row, Write, has_reg, memory_pair}
-use Rattle.s66_model.specs.Timing.{Problem, Point, ResultAt, IsGood, row_at, writes_reg, done_at, done_of, last_done, last_of, total, slot_of, issue_of, start_of, result_at, free_after, point, place, timed, total_of}
-use Rattle.s66_model.proofs.Lists.{greatest-le, greatest-le-greatest}
-use Rattle.s66_model.proofs.Issue.{issue-is, can_issue-is, can_issue-past, done_of-le-total}
+use Rattle.s66_model.specs.Packing.{fits_at}
+use Rattle.s66_model.specs.Timing.{row_at, place, timed, total_of, Problem, Point, ResultAt, done_at, done_of, last_done, writes_reg, last_of, total, parcel_of, slot_of, issue_of, start_of, readers_wait, result_at, free_after, point, IsGood, held_latency}
+use Rattle.s66_model.proofs.Lists.{cases_le, greatest-le-greatest, greatest-le}
+use Rattle.s66_model.proofs.Issue.{issue-late, issue-is, can_issue-is, done_of-le-total, can_issue-past}
 use Rattle.s66_model.proofs.GoodRows.{row-good}
 
-issue-le : (b : Problem) (s : List Point) (r : Row) → issue_of b s r ≤ max (slot_of s r.parcels) (total s)
+pub held-le : (ds : List ResultAt) → greatest (λ (d : ResultAt). cond d.held d.time 0) ds ≤ greatest (λ (d : ResultAt). d.time) ds
+held-le ds =
+    greatest-le-greatest (λ (d : ResultAt). cond d.held d.time 0) (λ (d : ResultAt). d.time) (λ d. cond_both d.held d.time 0 (λ x. x ≤ d.time) (λ _. omega arith) (λ _. omega arith)) ds
+
+pub issue-le : (b : Problem) (s : List Point) (r : Row) → issue_of b s r ≤ max (slot_of s r.parcels) (total s)
 issue-le b s r =
     let t : ℕ = max (slot_of s r.parcels) (total s) in
     (issue-is b s r).least t (omega arith) (can_issue-is b s r t (can_issue-past b s r t (omega arith)))
 
-last_done-le : (r : Reg) (s : List Point) → last_done r s ≤ total s
-last_done-le r s = omega (arith, within s, done_of-le-total s r)
-  where
-    within : (s : List Point) → last_done r s ≤ done_of s r
-    within [] = omega arith
-    within (p ∷ s) =
-        cond_both (writes_reg r p) (done_at p r) (last_done r s) (λ x. x ≤ max (done_at p r) (done_of s r)) (λ _. omega arith) (λ _. omega (arith, within s))
+last-le : (r : Reg) (s : List Point) → last_done r s ≤ done_of s r
+last-le r [] = omega arith
+last-le r (p ∷ s) =
+    cond_both (writes_reg r p) (done_at p r) (last_done r s) (λ x. x ≤ max (done_at p r) (done_of s r)) (λ _. omega arith) (λ _. omega (arith, last-le r s))
 
--- every point starts within the total, and has 2 parcels at most
-record AreSmall (s : List Point) : Type 0 where
-  starts : greatest (λ (p : Point). max p.issue p.start + 1) s ≤ total s
-  parcels : greatest (λ (p : Point). p.row.parcels) s ≤ 2
+-- every point is within the total, and of few parcels
+pub record AreSmall (s : List Point) : Type 0 where
+  pub starts : greatest (λ (p : Point). max p.issue p.start + 1) s ≤ total s
+  pub parcels : greatest (λ (p : Point). p.row.parcels) s ≤ 2
 
-one_more : (test : Bool) → (q : ℕ) → cond test (q + 1) q ≤ q + 1
-one_more true q = omega arith
-one_more false q = omega arith
+fits_at-le : (q len : ℕ) → fits_at q len ≤ q + 1
+fits_at-le q len = cond_both (eqb len 2 && eqb (q % 4) 3) (q + 1) q (λ x. x ≤ q + 1) (λ _. omega arith) (λ _. omega arith)
 
-slot-le : (s : List Point) (len : ℕ) → AreSmall s → slot_of s len ≤ total s + 3
+pub fits_at-ge : (q len : ℕ) → q ≤ fits_at q len
+fits_at-ge q len = cond_both (eqb len 2 && eqb (q % 4) 3) (q + 1) q (λ x. q ≤ x) (λ _. omega arith) (λ _. omega arith)
+
+-- before the first instruction the next one begins in parcel 0
+none-first : (len : ℕ) → fits_at 0 len ≡ 0
+none-first len =
+    cond_both (eqb len 2 && eqb (0 % 4) 3) 1 0 (λ x. x ≡ 0) (λ e. absurd (true≢false (sym (and_parts (eqb len 2) (eqb (0 % 4) 3) e).1))) (λ _. refl)
+
+pub slot-le : (s : List Point) (len : ℕ) → AreSmall s → slot_of s len ≤ total s + 3
 slot-le [] len small = omega arith
 slot-le (p ∷ s) len small =
-    omega (arith, small.starts, small.parcels, one_more (eqb len 2 && eqb ((p.parcel + p.row.parcels) % 4) 3) (p.parcel + p.row.parcels))
+    let at : parcel_of (p ∷ s) len ≡ fits_at (p.parcel + p.row.parcels) len = refl in
+    omega (arith, small.starts, small.parcels, at, fits_at-le (p.parcel + p.row.parcels) len)
 
 waits-le : (s : List Point) (test : Point → Bool) → AreSmall s → greatest (λ (p : Point). cond (test p) (p.start + 1) 0) s ≤ total s
 waits-le s test small =
     omega (arith, small.starts, greatest-le-greatest (λ (p : Point). cond (test p) (p.start + 1) 0) (λ (p : Point). max p.issue p.start + 1) (λ p. cond_both (test p) (p.start + 1) 0 (λ x. x ≤ max p.issue p.start + 1) (λ _. omega arith) (λ _. omega arith)) s)
 
-start-le : (b : Problem) (s : List Point) (r : Row) → AreSmall s → start_of b s r ≤ total s + 3
+pub start-le : (b : Problem) (s : List Point) (r : Row) → AreSmall s → start_of b s r ≤ total s + 3
 unfolding start_of
 start-le b s r small =
-    omega (arith, issue-le b s r, slot-le s r.parcels small, greatest-le (λ x. last_done x s) (total s) r.reads (λ x _. last_done-le x s), waits-le s (λ p. memory_pair p.row.memory r.memory) small)
+    omega (arith, issue-le b s r, slot-le s r.parcels small, greatest-le (λ x. last_done x s) (total s) r.reads (λ x _. omega (arith, last-le x s, done_of-le-total s x)), waits-le s (λ p. memory_pair p.row.memory r.memory) small)
 
-results-le : (s : List Point) (start : ℕ) (ws : List Write) → AreSmall s → ((w : Write) → Among w ws → w.latency ≤ 100) → start ≤ total s + 3 → greatest (λ (d : ResultAt). d.time) (map (result_at s start) ws) ≤ total s + 103
-results-le s start [] small short le = omega arith
-results-le s start (w ∷ ws) small short le =
-    omega (arith, short w (inl refl), results-le s start ws small (λ v among. short v (inr among)) le, waits-le s (λ p. has_reg w.reg p.row.reads) small)
+pub results-le : (s : List Point) (start : ℕ) (ws : List Write) → AreSmall s → greatest (λ (w : Write). w.latency) ws ≤ 100 → start ≤ total s + 3 → greatest (λ (d : ResultAt). d.time) (map (result_at s start) ws) ≤ total s + 103
+results-le s start [] small lat le = omega arith
+results-le s start (w ∷ ws) small lat le =
+    omega (arith, results-le s start ws small (omega arith) le, waits-le s (λ p. has_reg w.reg p.row.reads) small)
 
-free-le : (start hold most : ℕ) (ds : List ResultAt) → start + hold ≤ most → greatest (λ (d : ResultAt). d.time) ds ≤ most → free_after start hold ds ≤ most + 1
-free-le start hold most [] h all = omega arith
-free-le start hold most (d ∷ ds) h all =
-    omega (arith, greatest-le-greatest (λ (e : ResultAt). cond e.held e.time 0) (λ (e : ResultAt). e.time) (λ e. cond_both e.held e.time 0 (λ x. x ≤ e.time) (λ _. omega arith) (λ _. omega arith)) (d ∷ ds))
+pub free-le : (start hold : ℕ) (ds : List ResultAt) (m : ℕ) → start + hold ≤ m → greatest (λ (d : ResultAt). d.time) ds ≤ m → free_after start hold ds ≤ m + 1
+free-le start hold [] m h k = omega arith
+free-le start hold (d ∷ ds) m h k = omega (arith, held-le (d ∷ ds))
 
-last_of-le : (b : Problem) (s : List Point) (n : ℕ) → AreSmall s → last_of (place b s n) ≤ total s + 104
+-- one more instruction adds at most 104 cycles
+pub last-le_total : (b : Problem) (s : List Point) (n : ℕ) (r : Row) → IsGood r → AreSmall s → last_of (point b s n r) ≤ total s + 104
 unfolding point
-last_of-le b s n small =
-    let r : Row = row_at b n in
-    let good : IsGood r = row-good b.profile _ in
+last-le_total b s n r good small =
     let start = start_of b s r in
     let le : start ≤ total s + 3 = start-le b s r small in
-    let results = results-le s start r.writes small (λ w among. (good.latencies w among).1) le in
-    omega (arith, good.hold.1, free-le start r.hold (total s + 103) (map (result_at s start) r.writes) (omega (arith, le, good.hold.1)) results)
+    let latencies : greatest (λ (w : Write). w.latency) r.writes ≤ 100 = greatest-le (λ (w : Write). w.latency) 100 r.writes (λ w among. (good.latencies w among).1) in
+    let results = results-le s start r.writes small latencies le in
+    omega (arith, good.hold, free-le start r.hold (map (result_at s start) r.writes) (total s + 103) (omega (arith, good.hold)) results)
+
+held_each : (s : List Point) (start m : ℕ) → 1 ≤ m → (w : Write) → m ≤ held_latency w → start + m ≤ cond w.held (max (start + w.latency) (readers_wait s w.reg)) 0
+held_each s start m pos w h =
+    elim (cases_Bool w.held) [
+      | inl is ↦ omega (arith, cond-true {A = ℕ} w.held w.latency 0 is, cond-true {A = ℕ} w.held (max (start + w.latency) (readers_wait s w.reg)) 0 is)
+      | inr is ↦ absurd (omega (arith, cond-false {A = ℕ} w.held w.latency 0 is))
+    ]
+
+held_shift : (s : List Point) (start m : ℕ) (ws : List Write) → 1 ≤ m → m ≤ greatest held_latency ws → start + m ≤ greatest (λ (d : ResultAt). cond d.held d.time 0) (map (result_at s start) ws)
+held_shift s start m [] pos h = absurd (omega arith)
+held_shift s start m (w ∷ ws) pos h =
+    elim (cases_le m (held_latency w)) [
+      | inl here ↦ omega (arith, held_each s start m pos w here)
+      | inr past ↦ omega (arith, held_shift s start m ws pos (omega arith))
+    ]
+
+-- the unit is free no sooner than a hold after the start
+pub free-ge : (s : List Point) (start hold : ℕ) (ws : List Write) → 1 ≤ hold → (ws ≡ []) ⊎ (hold ≡ greatest held_latency ws) → start + hold + 1 ≤ free_after start hold (map (result_at s start) ws)
+free-ge s start hold [] pos h = omega arith
+free-ge s start hold (w ∷ ws) pos h =
+    elim h [
+      | inl none ↦ absurd (cc)
+      | inr is ↦ omega (arith, held_shift s start hold (w ∷ ws) pos (omega arith))
+    ]
+
+-- nothing issues before its parcel
+pub parcel-le-slot : (s : List Point) (len : ℕ) → greatest (λ (p : Point). p.parcel - p.issue) s ≡ 0 → parcel_of s len ≤ slot_of s len
+parcel-le-slot [] len none = omega (arith, none-first len)
+parcel-le-slot (p ∷ s) len none =
+    let at : parcel_of (p ∷ s) len ≡ fits_at (p.parcel + p.row.parcels) len = refl in
+    omega (arith, at, fits_at-ge (p.parcel + p.row.parcels) len)
+
+pub start-ge : (b : Problem) (s : List Point) (r : Row) → issue_of b s r ≤ start_of b s r
+unfolding start_of
+start-ge b s r = omega arith
+
+-- the times of a point are in order
+pub point-ordered : (b : Problem) (s : List Point) (n : ℕ) (r : Row) → IsGood r → greatest (λ (p : Point). p.parcel - p.issue) s ≡ 0 →
+    ((point b s n r).parcel ≤ (point b s n r).issue) × ((point b s n r).issue ≤ (point b s n r).start) × ((point b s n r).start < (point b s n r).free)
+unfolding point
+point-ordered b s n r good early =
+    (omega (arith, parcel-le-slot s r.parcels early, issue-late b s r), start-ge b s r, omega (arith, free-ge s (start_of b s r) r.hold r.writes good.hold.0 good.unit))
 
 -- an instruction starts before it is done
 before_last : (s : List Point) (start hold : ℕ) (ws : List Write) → ((w : Write) → Among w ws → 1 ≤ w.latency) → start + 1 ≤ max (free_after start hold (map (result_at s start) ws)) (greatest (λ (d : ResultAt). d.time) (map (result_at s start) ws))
@@ -89,7 +140,7 @@ small-step b s n small =
 timed-le : (b : Problem) (s : List Point) (ns : List ℕ) → AreSmall s → total (timed b s ns) ≤ total s + 104 * length ns
 timed-le b s [] small = omega arith
 timed-le b s (n ∷ ns) small =
-    omega (arith, timed-le b (place b s n ∷ s) ns (small-step b s n small), last_of-le b s n small)
+    omega (arith, timed-le b (place b s n ∷ s) ns (small-step b s n small), last-le_total b s n (row_at b n) (row-good b.profile _) small)
 
 -- whatever the numbers are, also those that no instruction has
 pub total-le : (b : Problem) (order : List ℕ) → total_of b order ≤ 104 * length order

@@ -132,32 +132,16 @@ abbrev pub share_of : Ledger → ℕ
 share_of l = min 64 l.left
 
 abbrev pub granted : Ledger → ℕ → Ledger
-granted l w =
-    record {
-      nodes = l.nodes;
-      best = l.best;
-      left = l.left - share_of l;
-      allowances = with_allowance l w (allowance l w + share_of l);
-      spent = l.spent;
-    }
+granted l w = record l { left = l.left - share_of l; allowances = with_allowance l w (allowance l w + share_of l) }
 
 abbrev pub retired : Ledger → ℕ → Ledger
-retired l w =
-    record {
-      nodes = l.nodes;
-      best = l.best;
-      left = l.left + allowance l w;
-      allowances = with_allowance l w 0;
-      spent = l.spent;
-    }
+retired l w = record l { left = l.left + allowance l w; allowances = with_allowance l w 0 }
 
 abbrev pub moved : Ledger → ℕ → State → Ledger
-moved l i state =
-    record { nodes = with_state l.nodes i state; best = l.best; left = l.left; allowances = l.allowances; spent = l.spent }
+moved l i state = record l { nodes = with_state l.nodes i state }
 
 abbrev pub lowered : Ledger → List ℕ → Ledger
-lowered l order =
-    record { nodes = l.nodes; best = order; left = l.left; allowances = l.allowances; spent = l.spent }
+lowered l order = record l { best = order }
 
 -- an unsplit prefix is closed if it carries a leaf of value at least the best time, else open
 abbrev pub state_of : Problem → ℕ → List ℕ → Mark → State
@@ -184,10 +168,8 @@ new_nodes b best there (Parted numbers kids) = kid_nodes b best there numbers ki
 -- the piece's splits are spent, the node takes the state of the piece's root, and the piece's other prefixes become nodes
 abbrev pub grafted : Problem → Ledger → ℕ → ℕ → List ℕ → Tree Mark → Ledger
 grafted b l w i prefix tree =
-    record {
+    record l {
       nodes = with_state l.nodes i (root_state b (best_time b l) prefix tree) ++ new_nodes b (best_time b l) prefix tree;
-      best = l.best;
-      left = l.left;
       allowances = with_allowance l w (allowance l w - splits tree);
       spent = l.spent + splits tree;
     }

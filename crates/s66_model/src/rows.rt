@@ -1,10 +1,10 @@
 //! Worked rows: what the definitions give of small blocks under the standard profile. Each clause is a row, and the
 //! functions do nothing. Numbers count from 1, parcels from 0; times are minor cycles of 100 ns.
 
-ghost use Rattle.std.specs.Prelude.{ℕ, List, [], ◌∷◌, ◌≡◌, ◌≢◌};
+ghost use Rattle.std.specs.Prelude.{ℕ, List, [], ◌∷◌, ◌≡◌, ◌≢◌, map};
 ghost use Rattle.s66_isa.specs.declared.instr.Kind.{Kind};
 ghost use Rattle.s66_isa.specs.declared.instr.Memory.{Memory};
-ghost use Rattle.s66_isa.specs.Table.{standard, row, writes_of, a_reg, b_reg, x_reg};
+ghost use Rattle.s66_isa.specs.Table.{standard, row, writes_of, copies_of, all_kinds, a_reg, b_reg, x_reg};
 ghost use Rattle.s66_model.specs.Timing.{next, points_of, total_of};
 ghost use Rattle.s66_model.specs.Dependence.{all_needs};
 ghost use Rattle.s66_model.specs.LegalOrder.{IsLegal, ready, remaining, left};
@@ -12,6 +12,7 @@ ghost use Rattle.s66_model.specs.Meaning.{Zero, Initial, Loaded, InitialStorage,
 ghost use Rattle.s66_model.specs.Examples.{instr, standard_problem, times_of, parcels_in, fillers_in, held_write, loaded_write, table_row, one_boolean, two_booleans, one_load, three_multiplies, first_order, third_order, held_result, packing_gap, two_gaps, store_then_load, load_then_store, two_stores, zero_register, load_twice, unpack_then_shift, one_divide_unit, latest_writer, late_store, late_load, two_loads, loads_then_store, two_readers, held_load, held_x, held_b, one_store, one_unpack, no_constants, register_at_end, storage_at_end, first_result, second_result, a_plus_b};
 
 /// When the instructions of an order issue, start and are done, and their units are free.
+#[tactic(auto, unfolding(crate::specs::Examples::instr, crate::specs::Examples::one_boolean, s66_isa::specs::Table::row, crate::specs::Timing::issue_of, crate::specs::Timing::start_of, crate::specs::Timing::point, crate::specs::Examples::two_booleans, crate::specs::Examples::one_load, crate::specs::Examples::three_multiplies, crate::specs::Examples::first_order, crate::specs::Examples::third_order, crate::specs::Examples::held_result, crate::specs::Examples::two_readers, crate::specs::Examples::held_load, crate::specs::Examples::held_x, crate::specs::Examples::held_b, crate::specs::Examples::latest_writer, crate::specs::Examples::store_then_load, crate::specs::Examples::late_store, crate::specs::Examples::late_load, crate::specs::Examples::loads_then_store, crate::specs::Examples::two_loads, crate::specs::Examples::zero_register, crate::specs::Examples::load_twice, crate::specs::Examples::unpack_then_shift, crate::specs::Examples::one_divide_unit))]
 pub fn timing_rows()
     ensures one_boolean_total { total_of (standard_problem one_boolean) (1 ∷ []) ≡ 4 }
     ensures one_boolean_times { times_of one_boolean (1 ∷ []) ≡ (0, 0, 3, 4) ∷ [] }
@@ -52,6 +53,7 @@ pub fn timing_rows()
 {}
 
 /// In which parcel each instruction of an order begins, which parcels a NO fills, and what that costs.
+#[tactic(auto, unfolding(crate::specs::Examples::instr, crate::specs::Examples::packing_gap, s66_isa::specs::Table::row, crate::specs::Timing::issue_of, crate::specs::Timing::start_of, crate::specs::Timing::point, crate::specs::Examples::two_gaps))]
 pub fn packing_rows()
     ensures packing_gap_parcels { parcels_in packing_gap (1 ∷ 2 ∷ 3 ∷ 4 ∷ []) ≡ 0 ∷ 1 ∷ 2 ∷ 4 ∷ [] }
     ensures packing_gap_fillers { fillers_in packing_gap (1 ∷ 2 ∷ 3 ∷ 4 ∷ []) ≡ 3 ∷ [] }
@@ -66,6 +68,7 @@ pub fn packing_rows()
 {}
 
 /// The numbers on which instructions 1, 2, .. depend.
+#[tactic(auto, unfolding(crate::specs::Examples::instr, crate::specs::Examples::one_load, crate::specs::Dependence::conflict, crate::specs::Examples::three_multiplies, crate::specs::Examples::first_order, crate::specs::Examples::third_order, crate::specs::Examples::store_then_load, crate::specs::Examples::load_then_store, crate::specs::Examples::two_stores, crate::specs::Examples::two_loads, crate::specs::Examples::zero_register, crate::specs::Examples::load_twice, crate::specs::Examples::unpack_then_shift, crate::specs::Examples::one_divide_unit, crate::specs::Examples::two_readers))]
 pub fn dependence_rows()
     ensures one_load { all_needs one_load ≡ [] ∷ (1 ∷ []) ∷ [] ∷ [] }
     ensures three_multiplies { all_needs three_multiplies ≡ [] ∷ [] ∷ [] ∷ [] }
@@ -78,10 +81,12 @@ pub fn dependence_rows()
     ensures zero_register { all_needs zero_register ≡ [] ∷ [] ∷ [] ∷ [] }
     ensures load_twice { all_needs load_twice ≡ [] ∷ (1 ∷ []) ∷ [] }
     ensures unpack_then_shift { all_needs unpack_then_shift ≡ [] ∷ (1 ∷ []) ∷ [] }
+    ensures two_readers { all_needs two_readers ≡ [] ∷ (1 ∷ []) ∷ [] ∷ (2 ∷ 3 ∷ []) ∷ [] }
     ensures one_divide_unit { all_needs one_divide_unit ≡ [] ∷ [] ∷ [] }
 {}
 
 /// Which orders of a block are legal, and what is ready after a beginning.
+#[tactic(auto, unfolding(crate::specs::Examples::instr, crate::specs::Examples::one_load, crate::specs::Dependence::conflict))]
 pub fn order_rows()
     ensures source_order { IsLegal one_load (1 ∷ 2 ∷ 3 ∷ []) }
     ensures other_first { IsLegal one_load (3 ∷ 1 ∷ 2 ∷ []) }
@@ -101,6 +106,7 @@ pub fn order_rows()
 {}
 
 /// What registers and memory hold at the end of an order, as terms over what they held at first.
+#[tactic(auto, unfolding(crate::specs::Examples::instr, crate::specs::Examples::one_load, crate::specs::Dependence::conflict, crate::specs::Examples::one_unpack, crate::specs::Examples::one_store, crate::specs::Examples::zero_register))]
 pub fn meaning_rows()
     ensures one_load_a1 { register_at_end one_load (1 ∷ 2 ∷ 3 ∷ []) (a_reg 1) ≡ a_plus_b 1 1 }
     ensures one_load_x1 { register_at_end one_load (1 ∷ 2 ∷ 3 ∷ []) (x_reg 1) ≡ Loaded InitialStorage (a_plus_b 1 1) }
@@ -116,6 +122,7 @@ pub fn meaning_rows()
 {}
 
 /// Rows of the table of instructions: kind of unit, parcels, registers read, results with their latencies, hold, memory.
+#[tactic(auto, unfolding(crate::specs::Examples::instr, s66_isa::specs::Table::row))]
 pub fn table_rows()
     ensures sa1_a1_plus_b1 { row standard (instr 0o54 1 1 1) ≡ table_row Kind.Increment 1 (a_reg 1 ∷ b_reg 1 ∷ []) (held_write (a_reg 1) 3 ∷ loaded_write (x_reg 1) 8 ∷ []) 3 Memory.Load }
     ensures sa6_a6_plus_b1 { row standard (instr 0o54 6 6 1) ≡ table_row Kind.Increment 1 (a_reg 6 ∷ b_reg 1 ∷ x_reg 6 ∷ []) (held_write (a_reg 6) 3 ∷ []) 3 Memory.Store }
@@ -136,5 +143,47 @@ pub fn table_rows()
     ensures sa1_a1_plus_b1_writes { writes_of standard (instr 0o54 1 1 1) ≡ (a_reg 1, 3) ∷ (x_reg 1, 8) ∷ [] }
     ensures nx1_b2_x3_writes { writes_of standard (instr 0o24 1 2 3) ≡ (x_reg 1, 4) ∷ (b_reg 2, 4) ∷ [] }
     ensures sb0_b1_writes { writes_of standard (instr 0o66 0 1 0) ≡ [] }
+    ensures code_11 { row standard (instr 0o11 1 2 3) ≡ table_row Kind.Boolean 1 (x_reg 2 ∷ x_reg 3 ∷ []) (held_write (x_reg 1) 3 ∷ []) 3 Memory.None }
+    ensures code_12 { row standard (instr 0o12 1 2 3) ≡ table_row Kind.Boolean 1 (x_reg 2 ∷ x_reg 3 ∷ []) (held_write (x_reg 1) 3 ∷ []) 3 Memory.None }
+    ensures code_13 { row standard (instr 0o13 1 2 3) ≡ table_row Kind.Boolean 1 (x_reg 2 ∷ x_reg 3 ∷ []) (held_write (x_reg 1) 3 ∷ []) 3 Memory.None }
+    ensures code_14 { row standard (instr 0o14 1 0 3) ≡ table_row Kind.Boolean 1 (x_reg 3 ∷ []) (held_write (x_reg 1) 3 ∷ []) 3 Memory.None }
+    ensures code_15 { row standard (instr 0o15 1 2 3) ≡ table_row Kind.Boolean 1 (x_reg 2 ∷ x_reg 3 ∷ []) (held_write (x_reg 1) 3 ∷ []) 3 Memory.None }
+    ensures code_16 { row standard (instr 0o16 1 2 3) ≡ table_row Kind.Boolean 1 (x_reg 2 ∷ x_reg 3 ∷ []) (held_write (x_reg 1) 3 ∷ []) 3 Memory.None }
+    ensures code_17 { row standard (instr 0o17 1 2 3) ≡ table_row Kind.Boolean 1 (x_reg 2 ∷ x_reg 3 ∷ []) (held_write (x_reg 1) 3 ∷ []) 3 Memory.None }
+    ensures code_21 { row standard (instr 0o21 1 0 0) ≡ table_row Kind.Shift 1 (x_reg 1 ∷ []) (held_write (x_reg 1) 3 ∷ []) 3 Memory.None }
+    ensures code_23 { row standard (instr 0o23 1 2 3) ≡ table_row Kind.Shift 1 (b_reg 2 ∷ x_reg 3 ∷ []) (held_write (x_reg 1) 3 ∷ []) 3 Memory.None }
+    ensures code_25 { row standard (instr 0o25 1 2 3) ≡ table_row Kind.Shift 1 (x_reg 3 ∷ []) (held_write (x_reg 1) 4 ∷ held_write (b_reg 2) 4 ∷ []) 4 Memory.None }
+    ensures code_27 { row standard (instr 0o27 1 2 3) ≡ table_row Kind.Shift 1 (b_reg 2 ∷ x_reg 3 ∷ []) (held_write (x_reg 1) 3 ∷ []) 3 Memory.None }
+    ensures code_31 { row standard (instr 0o31 1 2 3) ≡ table_row Kind.Add 1 (x_reg 2 ∷ x_reg 3 ∷ []) (held_write (x_reg 1) 4 ∷ []) 4 Memory.None }
+    ensures code_32 { row standard (instr 0o32 1 2 3) ≡ table_row Kind.Add 1 (x_reg 2 ∷ x_reg 3 ∷ []) (held_write (x_reg 1) 4 ∷ []) 4 Memory.None }
+    ensures code_33 { row standard (instr 0o33 1 2 3) ≡ table_row Kind.Add 1 (x_reg 2 ∷ x_reg 3 ∷ []) (held_write (x_reg 1) 4 ∷ []) 4 Memory.None }
+    ensures code_34 { row standard (instr 0o34 1 2 3) ≡ table_row Kind.Add 1 (x_reg 2 ∷ x_reg 3 ∷ []) (held_write (x_reg 1) 4 ∷ []) 4 Memory.None }
+    ensures code_35 { row standard (instr 0o35 1 2 3) ≡ table_row Kind.Add 1 (x_reg 2 ∷ x_reg 3 ∷ []) (held_write (x_reg 1) 4 ∷ []) 4 Memory.None }
+    ensures code_37 { row standard (instr 0o37 1 2 3) ≡ table_row Kind.LongAdd 1 (x_reg 2 ∷ x_reg 3 ∷ []) (held_write (x_reg 1) 3 ∷ []) 3 Memory.None }
+    ensures code_41 { row standard (instr 0o41 1 2 3) ≡ table_row Kind.Multiply 1 (x_reg 2 ∷ x_reg 3 ∷ []) (held_write (x_reg 1) 10 ∷ []) 10 Memory.None }
+    ensures code_42 { row standard (instr 0o42 1 2 3) ≡ table_row Kind.Multiply 1 (x_reg 2 ∷ x_reg 3 ∷ []) (held_write (x_reg 1) 10 ∷ []) 10 Memory.None }
+    ensures code_43 { row standard (instr 0o43 1 0 0) ≡ table_row Kind.Shift 1 [] (held_write (x_reg 1) 3 ∷ []) 3 Memory.None }
+    ensures code_45 { row standard (instr 0o45 1 2 3) ≡ table_row Kind.Divide 1 (x_reg 2 ∷ x_reg 3 ∷ []) (held_write (x_reg 1) 29 ∷ []) 29 Memory.None }
+    ensures code_51 { row standard (instr 0o51 1 2 0) ≡ table_row Kind.Increment 2 (b_reg 2 ∷ []) (held_write (a_reg 1) 3 ∷ loaded_write (x_reg 1) 8 ∷ []) 3 Memory.Load }
+    ensures code_52 { row standard (instr 0o52 1 2 0) ≡ table_row Kind.Increment 2 (x_reg 2 ∷ []) (held_write (a_reg 1) 3 ∷ loaded_write (x_reg 1) 8 ∷ []) 3 Memory.Load }
+    ensures code_53 { row standard (instr 0o53 1 2 3) ≡ table_row Kind.Increment 1 (x_reg 2 ∷ b_reg 3 ∷ []) (held_write (a_reg 1) 3 ∷ loaded_write (x_reg 1) 8 ∷ []) 3 Memory.Load }
+    ensures code_55 { row standard (instr 0o55 1 2 3) ≡ table_row Kind.Increment 1 (a_reg 2 ∷ b_reg 3 ∷ []) (held_write (a_reg 1) 3 ∷ loaded_write (x_reg 1) 8 ∷ []) 3 Memory.Load }
+    ensures code_56 { row standard (instr 0o56 1 2 3) ≡ table_row Kind.Increment 1 (b_reg 2 ∷ b_reg 3 ∷ []) (held_write (a_reg 1) 3 ∷ loaded_write (x_reg 1) 8 ∷ []) 3 Memory.Load }
+    ensures code_57 { row standard (instr 0o57 1 2 3) ≡ table_row Kind.Increment 1 (b_reg 2 ∷ b_reg 3 ∷ []) (held_write (a_reg 1) 3 ∷ loaded_write (x_reg 1) 8 ∷ []) 3 Memory.Load }
+    ensures code_60 { row standard (instr 0o60 1 2 0) ≡ table_row Kind.Increment 2 (a_reg 2 ∷ []) (held_write (b_reg 1) 3 ∷ []) 3 Memory.None }
+    ensures code_62 { row standard (instr 0o62 1 2 0) ≡ table_row Kind.Increment 2 (x_reg 2 ∷ []) (held_write (b_reg 1) 3 ∷ []) 3 Memory.None }
+    ensures code_63 { row standard (instr 0o63 1 2 3) ≡ table_row Kind.Increment 1 (x_reg 2 ∷ b_reg 3 ∷ []) (held_write (b_reg 1) 3 ∷ []) 3 Memory.None }
+    ensures code_64 { row standard (instr 0o64 1 2 3) ≡ table_row Kind.Increment 1 (a_reg 2 ∷ b_reg 3 ∷ []) (held_write (b_reg 1) 3 ∷ []) 3 Memory.None }
+    ensures code_65 { row standard (instr 0o65 1 2 3) ≡ table_row Kind.Increment 1 (a_reg 2 ∷ b_reg 3 ∷ []) (held_write (b_reg 1) 3 ∷ []) 3 Memory.None }
+    ensures code_67 { row standard (instr 0o67 1 2 3) ≡ table_row Kind.Increment 1 (b_reg 2 ∷ b_reg 3 ∷ []) (held_write (b_reg 1) 3 ∷ []) 3 Memory.None }
+    ensures code_70 { row standard (instr 0o70 1 2 0) ≡ table_row Kind.Increment 2 (a_reg 2 ∷ []) (held_write (x_reg 1) 3 ∷ []) 3 Memory.None }
+    ensures code_71 { row standard (instr 0o71 1 2 0) ≡ table_row Kind.Increment 2 (b_reg 2 ∷ []) (held_write (x_reg 1) 3 ∷ []) 3 Memory.None }
+    ensures code_72 { row standard (instr 0o72 1 2 0) ≡ table_row Kind.Increment 2 (x_reg 2 ∷ []) (held_write (x_reg 1) 3 ∷ []) 3 Memory.None }
+    ensures code_73 { row standard (instr 0o73 1 2 3) ≡ table_row Kind.Increment 1 (x_reg 2 ∷ b_reg 3 ∷ []) (held_write (x_reg 1) 3 ∷ []) 3 Memory.None }
+    ensures code_74 { row standard (instr 0o74 1 2 3) ≡ table_row Kind.Increment 1 (a_reg 2 ∷ b_reg 3 ∷ []) (held_write (x_reg 1) 3 ∷ []) 3 Memory.None }
+    ensures code_75 { row standard (instr 0o75 1 2 3) ≡ table_row Kind.Increment 1 (a_reg 2 ∷ b_reg 3 ∷ []) (held_write (x_reg 1) 3 ∷ []) 3 Memory.None }
+    ensures code_76 { row standard (instr 0o76 1 2 3) ≡ table_row Kind.Increment 1 (b_reg 2 ∷ b_reg 3 ∷ []) (held_write (x_reg 1) 3 ∷ []) 3 Memory.None }
+    ensures code_77 { row standard (instr 0o77 1 2 3) ≡ table_row Kind.Increment 1 (b_reg 2 ∷ b_reg 3 ∷ []) (held_write (x_reg 1) 3 ∷ []) 3 Memory.None }
+    ensures copies { map (copies_of standard) all_kinds ≡ 1 ∷ 1 ∷ 1 ∷ 1 ∷ 2 ∷ 1 ∷ 2 ∷ [] }
     ensures cx1_x2 { row standard (instr 0o47 1 0 2) ≡ table_row Kind.Divide 1 (x_reg 2 ∷ []) (held_write (x_reg 1) 8 ∷ []) 8 Memory.None }
 {}

@@ -15,6 +15,7 @@ ghost use Rattle.s66_model.specs.Coverage.{begins, covers, Covers, NeverRises, l
 ghost use Rattle.s66_model.specs.Examples.{standard_problem, one_boolean, two_booleans, one_load, three_multiplies, first_order, third_order, packing_gap, store_then_load, load_then_store, zero_register, load_twice, late_store, two_loads, load_and_booleans, booleans_and_sets, shifts_and_booleans, boolean_and_set, divide_and_boolean, boolean_between, write_behind, load_of_both, store_and_its_address, crossed_chains, forked_chain, early_end, floor_in, chain_in, loads_in, link_in, boolean_problem, load_problem, multiply_problem, answer, both_orders, every_order, all_but_one, one_omitted, load_tree, load_orders, load_piece, children, one_split, child_omitted, node, ledger, first_node, root_split, second_split, granted_to_2, ungranted, ledger_events, load_out, load_grafted, NeverAnswers, NeverRuns};
 
 /// Which leaf is the floor of a prefix and what its value is, and what chains, loads, parcels and links give.
+#[tactic(auto, unfolding(crate::specs::Examples::instr, crate::specs::Examples::one_boolean, s66_isa::specs::Table::row, crate::specs::Timing::issue_of, crate::specs::Timing::start_of, crate::specs::Timing::point, crate::specs::Examples::two_booleans, crate::specs::Examples::one_load, crate::specs::Examples::three_multiplies, crate::specs::Examples::zero_register, crate::specs::Examples::store_then_load, crate::specs::Examples::late_store, crate::specs::Examples::first_order, crate::specs::Examples::load_and_booleans, crate::specs::Examples::booleans_and_sets, crate::specs::Examples::shifts_and_booleans, crate::specs::Examples::divide_and_boolean, crate::specs::Examples::boolean_between, crate::specs::Examples::boolean_and_set, crate::specs::Examples::load_of_both, crate::specs::Examples::packing_gap, crate::specs::Examples::write_behind, crate::specs::Examples::third_order, crate::specs::Examples::load_twice, crate::specs::Examples::load_then_store, crate::specs::Examples::two_loads, crate::specs::Examples::store_and_its_address, crate::specs::Examples::crossed_chains, crate::specs::Examples::forked_chain, crate::specs::Examples::early_end, crate::specs::Dependence::conflict))]
 pub fn floor_rows()
     ensures one_boolean { floor_in one_boolean [] ≡ (Chain (1 ∷ []), 4) }
     ensures one_boolean_placed { floor_in one_boolean (1 ∷ []) ≡ (Whole, 4) }
@@ -77,6 +78,7 @@ pub fn floor_rows()
 {}
 
 /// What answers a problem has, which bound is the best, and what trees show of which prefix.
+#[tactic(auto, unfolding(crate::specs::Examples::instr, crate::specs::Examples::one_load, s66_isa::specs::Table::row, crate::specs::Timing::issue_of, crate::specs::Timing::start_of, crate::specs::Timing::point, crate::specs::Dependence::conflict, crate::specs::Examples::two_booleans, crate::specs::Examples::three_multiplies, crate::specs::Examples::zero_register))]
 pub fn answer_rows()
     ensures one_load { IsAnswer load_problem 100000 (answer (1 ∷ 3 ∷ 2 ∷ []) 12 12 0 (Alone (Chain (1 ∷ 2 ∷ [])))) }
     ensures one_load_cut { IsAnswer load_problem 0 (answer (1 ∷ 2 ∷ 3 ∷ []) 16 12 0 (Alone (Chain (1 ∷ 2 ∷ [])))) }
@@ -143,6 +145,7 @@ pub fn answer_rows()
 {}
 
 /// What pieces may be, which steps and runs a ledger makes, what it covers, which bound it shows, and how it ends.
+#[tactic(auto, unfolding(crate::specs::Examples::instr, crate::specs::Examples::three_multiplies, s66_isa::specs::Table::row, crate::specs::Timing::issue_of, crate::specs::Timing::start_of, crate::specs::Timing::point, crate::specs::Dependence::conflict, crate::specs::Examples::one_load, crate::specs::Examples::two_booleans, crate::specs::Examples::one_boolean))]
 pub fn ledger_rows()
     ensures piece_of_one_split { IsPiece multiply_problem [] (one_split Frontier) }
     ensures piece_of_three_splits { IsPiece load_problem [] load_piece }

@@ -1,5 +1,4 @@
 pub mod Loops
-pub mod Growth
 pub mod History
 pub mod Writes
 pub mod Free
