@@ -2,7 +2,7 @@
 use Rattle.std.proofs.Common.{◌≡◌, ◌≤◌, ◌&&◌, ℕ, Bool, true, List, [], ◌∷◌, length, refl, arith, nat_le, leb-true}
 use Rattle.std.proofs.lemmas.Bool.{and_parts}
 use Rattle.std.specs.Prelude.{codes}
-use Rattle.s66_isa.specs.Words.{every}
+use Rattle.s66_isa.specs.Lists.{every}
 use Rattle.s66_model.specs.Leaves.{Leaf}
 use Rattle.s66_model.specs.Tree.{Tree, splits}
 use Rattle.s66_cert.specs.Document.{IsDocument, AreIn, AreNumbers, AreInstructions, KidsFit, TreeFits}

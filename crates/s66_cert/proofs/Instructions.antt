@@ -2,7 +2,7 @@
 use Rattle.std.proofs.Common.{◌≡◌, ◌≤◌, ◌&&◌, ℕ, zero, suc, Bool, true, false, not, true≢false, List, [], ◌∷◌, ◌++◌, length, refl, sym, ap, ap₂, ◌∙◌}
 use Rattle.std.proofs.lemmas.Bool.{and_parts}
 use Rattle.std.specs.Prelude.{is_some, replicate}
-use Rattle.s66_isa.specs.Words.{every}
+use Rattle.s66_isa.specs.Lists.{every}
 use Rattle.s66_line.specs.Block.{spelling}
 use Rattle.s66_line.specs.Fields.{is_blank, upper, word, after_word, skip_blanks}
 use Rattle.s66_line.specs.Operand.{instr_of}

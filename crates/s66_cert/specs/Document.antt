@@ -4,8 +4,8 @@ use Rattle.s66_isa.specs.declared.instr.Kind.{Kind}
 use Rattle.s66_isa.specs.declared.instr.Kind.TheVariants.{Boolean, Shift, Add, LongAdd, Multiply, Divide, Increment}
 use Rattle.s66_isa.specs.declared.profile.Profile.{Profile}
 use Rattle.s66_model.specs.Leaves.{Leaf, Whole, Chain, Load, Parcels}
-use Rattle.s66_model.specs.Tree.{Tree, Alone, Parted, Kids, NoMore, Unsplit, Split, Knot, AtMark, AtSplit, flat, splits}
-use Rattle.s66_isa.specs.Words.{every}
+use Rattle.s66_model.specs.Tree.{Tree, Alone, Parted, Kids, NoMore, Unsplit, Split, Knot, AtTip, AtSplit, flat, splits}
+use Rattle.s66_isa.specs.Lists.{every}
 use Rattle.s66_line.specs.Block.{spelling}
 use Rattle.s66_line.specs.Fields.{is_blank, upper}
 use Rattle.s66_line.specs.Operand.{instr_of}
@@ -106,7 +106,7 @@ leaf_line Parcels = codes "P\n"
 
 abbrev pub tree_lines : List (Knot Leaf) → List ℕ
 tree_lines [] = []
-tree_lines (AtMark leaf ∷ knots) = leaf_line leaf ++ tree_lines knots
+tree_lines (AtTip leaf ∷ knots) = leaf_line leaf ++ tree_lines knots
 tree_lines (AtSplit numbers ∷ knots) = codes "S" ++ spaced numbers ++ codes "\n" ++ tree_lines knots
 
 abbrev pub instruction_lines : List (List ℕ) → List ℕ

@@ -1,6 +1,6 @@
 //! Certificates: what a document claims of a block, and its text.
 #![tactic(auto)]
 
-mod rows;
+mod examples;
 
-pub use rows::document_rows;
+pub use examples::document_examples;

@@ -2,7 +2,7 @@
 use Rattle.std.proofs.Common.{ℕ, suc, ◌+◌, ◌≡◌, Bool, false, cond, eqb, ltb, leb, ◌&&◌, List, [], ◌∷◌, ◌++◌, codes, ap, arith, map, refl, ◌∙◌, append_assoc, add-one}
 use Rattle.std.proofs.lemmas.Bool.{le-ltb, and_right}
 use Rattle.std.proofs.lemmas.List.{map_push}
-use Rattle.s66_isa.specs.Words.{rising}
+use Rattle.s66_isa.specs.Lists.{rising}
 use Rattle.s66_model.specs.Timing.{Point}
 use Rattle.s66_chart.specs.Chart.{filler_letter, in_three, row_text}
 use Rattle.s66_chart.specs.Positions.{filler_activity, letter_in}

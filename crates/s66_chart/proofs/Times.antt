@@ -1,18 +1,18 @@
 -- The instructions of an order issue before its total, each in a parcel that isn't past its issue.
 use Rattle.std.proofs.Common.{ℕ, zero, suc, ◌+◌, ◌-◌, ◌≤◌, ◌<◌, ◌≡◌, List, [], ◌∷◌, ap, arith, length, get_or, reverse, refl, ◌∙◌}
-use Rattle.s66_isa.specs.Words.{greatest}
-use Rattle.s66_model.specs.Timing.{Problem, Point, row_at, total, place, timed, points_of, total_of}
+use Rattle.s66_isa.specs.Lists.{greatest}
+use Rattle.s66_model.specs.Timing.{Problem, Point, row_at, total, point_of, points_after, points_of, total_of}
 use Rattle.s66_model.proofs.GoodRows.{row-good}
 use Rattle.s66_dep.specs.Ordered.{Ordered}
 use Rattle.s66_time.specs.TimedOrder.{TimedOrder, point_at, no_point}
 use Rattle.s66_model.proofs.Growth.{point-ordered}
-use Rattle.s66_time.proofs.History.{greatest-reverse, length-reverse, timed-length}
+use Rattle.s66_time.proofs.History.{greatest-reverse, length-reverse, points_after-length}
 
 record AreOrdered (s : List Point) : Type 0 where
   issues : greatest (λ (p : Point). p.issue + 1) s ≤ total s
   parcels : greatest (λ (p : Point). p.parcel - p.issue) s ≡ 0
 
-ordered-step : (b : Problem) (s : List Point) (n : ℕ) → AreOrdered s → AreOrdered (place b s n ∷ s)
+ordered-step : (b : Problem) (s : List Point) (n : ℕ) → AreOrdered s → AreOrdered (point_of b s n ∷ s)
 ordered-step b s n ordered =
     let times = point-ordered b s n (row_at b n) (row-good b.profile _) ordered.parcels in
     record {
@@ -20,9 +20,9 @@ ordered-step b s n ordered =
       parcels = omega (arith, times, ordered.parcels);
     }
 
-timed-ordered : (b : Problem) (s : List Point) (ns : List ℕ) → AreOrdered s → AreOrdered (timed b s ns)
+timed-ordered : (b : Problem) (s : List Point) (ns : List ℕ) → AreOrdered s → AreOrdered (points_after b s ns)
 timed-ordered b s [] ordered = ordered
-timed-ordered b s (n ∷ ns) ordered = timed-ordered b (place b s n ∷ s) ns (ordered-step b s n ordered)
+timed-ordered b s (n ∷ ns) ordered = timed-ordered b (point_of b s n ∷ s) ns (ordered-step b s n ordered)
 
 points-ordered : (b : Problem) (order : List ℕ) → AreOrdered (points_of b order)
 points-ordered b order = timed-ordered b [] order (record { issues = omega arith; parcels = refl })
@@ -38,7 +38,7 @@ numbers-length t o numbers is same = ap length (same ∙ ap (λ (p : Ordered). p
 
 -- a chart has as many instructions as the order
 pub points-length : (t : TimedOrder) → length (reverse (points_of t.problem t.numbers)) ≡ length t.numbers
-points-length t = omega (arith, length-reverse (points_of t.problem t.numbers), timed-length t.problem [] t.numbers)
+points-length t = omega (arith, length-reverse (points_of t.problem t.numbers), points_after-length t.problem [] t.numbers)
 
 at-le : (f : Point → ℕ) (t : TimedOrder) (i : ℕ) → i < length t.numbers → f (point_at t i) ≤ greatest f (points_of t.problem t.numbers)
 at-le f t i lt =

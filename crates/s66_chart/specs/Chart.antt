@@ -1,6 +1,6 @@
 -- A timed order as a picture: a row for each instruction, a column for each minor cycle.
 use Rattle.std.specs.Prelude.{ℕ, ◌+◌, ◌-◌, if◌then◌else◌, ◌&&◌, ◌==◌, List, [], ◌∷◌, ◌++◌, codes, decimal, length, map, nat_le, nat_lt, replicate, reverse}
-use Rattle.s66_isa.specs.Words.{rising}
+use Rattle.s66_isa.specs.Lists.{rising}
 use Rattle.s66_model.specs.Timing.{Point, points_of, total_of}
 use Rattle.s66_time.specs.TimedOrder.{TimedOrder, latency_of, latest_result}
 

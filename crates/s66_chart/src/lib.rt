@@ -4,7 +4,7 @@
 mod activity;
 mod picture;
 mod row;
-mod rows;
+mod examples;
 
 pub use picture::chart;
-pub use rows::chart_rows;
+pub use examples::chart_examples;

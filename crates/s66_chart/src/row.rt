@@ -1,5 +1,5 @@
 ghost use Rattle.std.specs.Prelude.{◌≡◌, ◌+◌, ◌≤◌, ◌++◌, length, map};
-ghost use Rattle.s66_isa.specs.Words.{rising};
+ghost use Rattle.s66_isa.specs.Lists.{rising};
 ghost use Rattle.arrayvec.specs.ArrayVec.{array_vec_len};
 ghost use Rattle.s66_chart.specs.Chart.{row_text};
 ghost use Rattle.s66_chart.specs.Positions.{letter_in};

@@ -5,7 +5,7 @@ use Rattle.std.specs.Int.Count.{ones_step}
 use Rattle.std.proofs.lemmas.Bool.{cases_eq, cases_lt, cond_both, or_from, eqb-false}
 use Rattle.std.proofs.lemmas.Nat.{ones_le_self}
 use Rattle.std.proofs.lemmas.Nat.Bits.{shr_and_one, bit_at-lt, bit_at_and, bit_at_above, bit_at_set_same, bit_at_set_other, same_from_bits}
-use Rattle.s66_isa.specs.Words.{has, rising}
+use Rattle.s66_isa.specs.Lists.{has, rising}
 use Rattle.s66_dep.specs.declared.set.Set.{Set}
 use Rattle.s66_dep.specs.Members.{is_member, numbers_in}
 
@@ -85,14 +85,14 @@ abbrev IsWithin : Set → Set → Type 0
 IsWithin set other = (m : ℕ) → has m (numbers_in set) ≡ true → has m (numbers_in other) ≡ true
 
 from-shared : (set other : Set) → bit_and set.bits other.bits ≡ set.bits → IsWithin set other
-from-shared set other same zero there = absurd (true≢false (sym there ∙ has-outside set 0 (inl (omega arith))))
-from-shared set other same (suc i) there =
+from-shared set other same zero prefix = absurd (true≢false (sym prefix ∙ has-outside set 0 (inl (omega arith))))
+from-shared set other same (suc i) prefix =
     elim (cases_lt i 64) [
       | inl lt ↦
-          let own : bit_at set.bits i ≡ 1 = eqb-true (bit_at set.bits i) 1 (sym (has-bit set i lt) ∙ there) in
+          let own : bit_at set.bits i ≡ 1 = eqb-true (bit_at set.bits i) 1 (sym (has-bit set i lt) ∙ prefix) in
           let shared : bit_at (bit_and set.bits other.bits) i ≡ bit_at set.bits i = ap (λ bits. bit_at bits i) same in
           has-bit other i lt ∙ eq-eqb (bit_at other.bits i) 1 (omega (arith, own, shared, bit_at_and set.bits other.bits i, bit_at-lt other.bits i))
-      | inr ge ↦ absurd (true≢false (sym there ∙ has-outside set (suc i) (inr (omega arith))))
+      | inr ge ↦ absurd (true≢false (sym prefix ∙ has-outside set (suc i) (inr (omega arith))))
     ]
 
 shared-bit : (set other : Set) → set.bits < 2 ^ 64 → IsWithin set other → (i : ℕ) → bit_at (bit_and set.bits other.bits) i ≡ bit_at set.bits i
@@ -101,8 +101,8 @@ shared-bit set other fits each i =
       | inl own ↦
           elim (cases_lt i 64) [
             | inl lt ↦
-                let there : has (suc i) (numbers_in other) ≡ true = each (suc i) (has-bit set i lt ∙ eq-eqb (bit_at set.bits i) 1 own) in
-                omega (arith, own, bit_at_and set.bits other.bits i, eqb-true (bit_at other.bits i) 1 (sym (has-bit other i lt) ∙ there))
+                let prefix : has (suc i) (numbers_in other) ≡ true = each (suc i) (has-bit set i lt ∙ eq-eqb (bit_at set.bits i) 1 own) in
+                omega (arith, own, bit_at_and set.bits other.bits i, eqb-true (bit_at other.bits i) 1 (sym (has-bit other i lt) ∙ prefix))
             | inr ge ↦ absurd (omega (arith, own, bit_at_above set.bits 64 i fits ge))
           ]
       | inr clear ↦ grind (arith, clear, bit_at_and set.bits other.bits i, bit_at-lt set.bits i)

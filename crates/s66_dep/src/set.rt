@@ -1,5 +1,5 @@
 ghost use Rattle.std.specs.Prelude.{ℕ, ◌≡◌, ◌≤◌, ◌==◌, ◌||◌, ◌↔◌, IsTrue, true, [], length};
-ghost use Rattle.s66_isa.specs.Words.{has};
+ghost use Rattle.s66_isa.specs.Lists.{has};
 ghost use Rattle.s66_dep.specs.Members.{numbers_in};
 
 /// A set of instruction numbers of a block, 1 to 64, in one word.

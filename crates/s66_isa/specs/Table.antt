@@ -1,7 +1,7 @@
 -- The table of instructions and the standard profile: CDC 6400/6500/6600 Computer Systems Reference Manual, publication 60100000, registers, instruction forms and functional units. The execution times are this project's.
 use Rattle.std.specs.Prelude.{◌&&◌, ◌||◌, ◌==◌, if◌then◌else◌, ℕ, zero, suc, Bool, true, false, List, [], ◌∷◌, ◌++◌, ◌%◌, nat_le, nat_lt, map, get_or, length}
 use Rattle.std.proofs.Common.{lit≤}
-use Rattle.s66_isa.specs.Words.{rising}
+use Rattle.s66_isa.specs.Lists.{rising}
 use Rattle.s66_isa.specs.declared.instr.Instr.{Instr}
 use Rattle.s66_isa.specs.declared.reg.Reg.{Reg}
 use Rattle.s66_isa.specs.declared.reg.Bank.{Bank}
@@ -41,16 +41,16 @@ has_reg r [] = false
 has_reg r (s ∷ ss) = same_reg r s || has_reg r ss
 
 -- B0 is never an operand, a result or a reservation: it is left out
-abbrev pub named_one : Reg → List Reg
-named_one r = if is_b0 r then [] else r ∷ []
+abbrev pub unless_b0 : Reg → List Reg
+unless_b0 r = if is_b0 r then [] else r ∷ []
 
 -- a register joins a set of registers: B0 never does, and none stands there twice
-abbrev pub joined : List Reg → Reg → List Reg
-joined set r = if is_b0 r || has_reg r set then set else set ++ r ∷ []
+abbrev pub insert : List Reg → Reg → List Reg
+insert set r = if is_b0 r || has_reg r set then set else set ++ r ∷ []
 
-abbrev pub joined_all : List Reg → List Reg → List Reg
-joined_all set [] = set
-joined_all set (r ∷ rs) = joined_all (joined set r) rs
+abbrev pub insert_all : List Reg → List Reg → List Reg
+insert_all set [] = set
+insert_all set (r ∷ rs) = insert_all (insert set r) rs
 
 -- KINDS, PARCELS, MEMORY
 
@@ -153,16 +153,16 @@ stored_registers memory.None n = []
 
 -- the registers that are read, each once
 abbrev pub reads_of : Instr → List Reg
-reads_of n = joined_all [] (operands_of n ++ stored_registers (memory_of n) n)
+reads_of n = insert_all [] (operands_of n ++ stored_registers (memory_of n) n)
 
 -- WHAT IS WRITTEN
 
 -- the results that the unit holds
 abbrev pub held_registers : Instr → List Reg
 held_registers n =
-    if nat_lt n.op.code 0o50 then x_reg n.i ∷ (if nat_le 0o24 n.op.code && nat_lt n.op.code 0o27 then named_one (b_reg n.j) else [])
+    if nat_lt n.op.code 0o50 then x_reg n.i ∷ (if nat_le 0o24 n.op.code && nat_lt n.op.code 0o27 then unless_b0 (b_reg n.j) else [])
     else (if nat_lt n.op.code 0o60 then a_reg n.i ∷ []
-    else (if nat_lt n.op.code 0o70 then named_one (b_reg n.i) else x_reg n.i ∷ []))
+    else (if nat_lt n.op.code 0o70 then unless_b0 (b_reg n.i) else x_reg n.i ∷ []))
 
 -- what a load fetches, which no unit holds
 abbrev pub loaded_registers : Memory → Instr → List Reg
@@ -260,12 +260,12 @@ row p n =
 
 -- AN INSTRUCTION BY ITS NUMBER, from 1; any other number has SB0 B0+B0, which reads and writes nothing
 
-abbrev pub no_instr : Instr
-no_instr = record { op = record { code = 0o66 }; i = 0; j = 0; k = 0 }
+abbrev pub idle_instr : Instr
+idle_instr = record { op = record { code = 0o66 }; i = 0; j = 0; k = 0 }
 
 abbrev pub instr_at : List Instr → ℕ → Instr
-instr_at block zero = no_instr
-instr_at block (suc n) = get_or block n no_instr
+instr_at block zero = idle_instr
+instr_at block (suc n) = get_or block n idle_instr
 
 -- the numbers of a block, rising: the source order
 abbrev pub numbers : List Instr → List ℕ

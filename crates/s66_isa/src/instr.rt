@@ -1,6 +1,6 @@
 ghost use Rattle.std.specs.Prelude.{◌≡◌, ◌+◌, ◌<◌, ◌≤◌, ◌++◌, [], ◌∷◌, ℕ, map};
 ghost use Rattle.arrayvec.specs.ArrayVec.{array_vec_len};
-ghost use Rattle.s66_isa.specs.Table.{joined, same_kind, memory_pair};
+ghost use Rattle.s66_isa.specs.Table.{insert, same_kind, memory_pair};
 
 use crate::profile::Profile;
 use crate::reg::{Bank, Reg, has_register, is_zero_register};
@@ -81,7 +81,7 @@ pub struct Instr {
 
 impl Instr {
     ghost use Rattle.std.specs.Option.{option_to_list};
-    ghost use Rattle.s66_isa.specs.Words.{greatest};
+    ghost use Rattle.s66_isa.specs.Lists.{greatest};
     ghost use Rattle.s66_isa.specs.Table.{kind_of, parcels_of, memory_of, shape_of, operand_registers, stored_registers, reads_of, hold_of, held_registers, loaded_registers, results_of, writes_of};
 
     /// The kind of unit that executes it.
@@ -312,7 +312,7 @@ fn b(digit: u8) -> Reg
 /// A register joins a set: B0 never does, and none stands there twice.
 fn join(registers: &mut ArrayVec<Reg, 4>, register: Reg)
     requires { array_vec_len registers.old < 4 }
-    ensures items { registers.new.items ≡ joined registers.old.items register }
+    ensures items { registers.new.items ≡ insert registers.old.items register }
     ensures len { array_vec_len registers.new ≤ array_vec_len registers.old + 1 }
 {
     if !is_zero_register(register) && !has_register(registers.as_slice(), register) {

@@ -1,7 +1,7 @@
 -- Letters in upper case leave the classes of lines, and so the blocks of a source, as they are.
 use Rattle.std.proofs.Common.{◌≡◌, ◌==◌, ℕ, suc, Bool, true, false, cond, if◌then◌else◌, List, [], ◌∷◌, ◌++◌, map, refl, sym, ap, ap₂, ◌∙◌, lit<, Option, None, Some}
 use Rattle.s66_line.specs.Fields.{last_line, lines_from, lines_of, upper, body, is_comment, operation, operand, from_operation, label_bytes, continues}
-use Rattle.s66_line.specs.Source.{Line, Entry, Block, by_operation, is_located, class_of, is_instruction, is_code, begins_run, ends_run, run_at, run_after, place_at, place_after, label_at, label_after, classed, classed_lines, refusal_at, refusal, instructions, begins_block, put_before, parted, instr_in, entry_of, label_in, block_of, blocks_of, unless_refused, source_of}
+use Rattle.s66_line.specs.Source.{Line, Entry, Block, by_operation, is_located, class_of, is_instruction, is_code, begins_run, ends_run, run_at, run_after, place_at, place_after, label_at, label_after, classes_from, classed_lines, refusal_at, refusal, instructions, begins_block, put_before, parts_of, instr_in, entry_of, label_in, block_of, blocks_of, unless_refused, source_of}
 use Rattle.s66_line.specs.Spelling.{upper_entry, upper_block, upper_read}
 use Rattle.s66_line.specs.declared.error.SourceError.{SourceError}
 use Rattle.s66_line.specs.declared.class.Class.{Class}
@@ -39,7 +39,7 @@ upper-lines line (b ∷ text) =
 
 -- a line with its bytes and its label in upper case
 abbrev upper_line : Line → Line
-upper_line l = record { number = l.number; bytes = upper l.bytes; class = l.class; run = l.run; place = l.place; label = upper l.label }
+upper_line l = record { number = l.number; bytes = upper l.bytes; class = l.class; run = l.run; index = l.index; label = upper l.label }
 
 same-label_at : (label : List ℕ) (c : Class) (line : List ℕ) → label_at (upper label) c (upper line) ≡ upper (label_at label c line)
 same-label_at label c line =
@@ -52,19 +52,19 @@ same-label_after label c line =
 
 -- a classed line, and those after it
 abbrev before_lines : ℕ → ℕ → ℕ → List ℕ → List (List ℕ) → Class → List ℕ → List ℕ → List Line
-before_lines number run place line lines c label after_label =
-    record { number = number; bytes = line; class = c; run = run_at run c; place = place_at place c; label = label }
-    ∷ classed (suc number) (run_after run c) (place_after place c) after_label (is_code c) lines
+before_lines number run index line lines c label after_label =
+    record { number = number; bytes = line; class = c; run = run_at run c; index = place_at index c; label = label }
+    ∷ classes_from (suc number) (run_after run c) (place_after index c) after_label (is_code c) lines
 
-upper-classed : (lines : List (List ℕ)) (number run place : ℕ) (label : List ℕ) (after : Bool) →
-    classed number run place (upper label) after (map upper lines) ≡ map upper_line (classed number run place label after lines)
-upper-classed [] number run place label after = refl
-upper-classed (line ∷ lines) number run place label after =
+upper-classed : (lines : List (List ℕ)) (number run index : ℕ) (label : List ℕ) (after : Bool) →
+    classes_from number run index (upper label) after (map upper lines) ≡ map upper_line (classes_from number run index label after lines)
+upper-classed [] number run index label after = refl
+upper-classed (line ∷ lines) number run index label after =
     let c : Class = class_of after line in
-    let classes = ap (λ d. before_lines number run place (upper line) (map upper lines) d (label_at (upper label) d (upper line)) (label_after (upper label) d (upper line))) (same-class after line) in
-    let labels = ap₂ (before_lines number run place (upper line) (map upper lines) c) (same-label_at label c line) (same-label_after label c line) in
-    let rest = ap (λ ls. upper_line (record { number = number; bytes = line; class = c; run = run_at run c; place = place_at place c; label = label_at label c line }) ∷ ls)
-    (upper-classed lines (suc number) (run_after run c) (place_after place c) (label_after label c line) (is_code c)) in
+    let classes = ap (λ d. before_lines number run index (upper line) (map upper lines) d (label_at (upper label) d (upper line)) (label_after (upper label) d (upper line))) (same-class after line) in
+    let labels = ap₂ (before_lines number run index (upper line) (map upper lines) c) (same-label_at label c line) (same-label_after label c line) in
+    let rest = ap (λ ls. upper_line (record { number = number; bytes = line; class = c; run = run_at run c; index = place_at index c; label = label_at label c line }) ∷ ls)
+    (upper-classed lines (suc number) (run_after run c) (place_after index c) (label_after label c line) (is_code c)) in
     classes ∙ labels ∙ rest
 
 -- WHAT IS MADE OF THEM
@@ -91,9 +91,9 @@ same-put l ((next ∷ more) ∷ parts) =
     ≡ map (map upper_line) (if t then (l ∷ []) ∷ (next ∷ more) ∷ parts else (l ∷ next ∷ more) ∷ parts))
     [ true ↦ refl | false ↦ refl ]
 
-same-parted : (lines : List Line) → parted (map upper_line lines) ≡ map (map upper_line) (parted lines)
-same-parted [] = refl
-same-parted (l ∷ lines) = ap (put_before (upper_line l)) (same-parted lines) ∙ same-put l (parted lines)
+same-parts_of : (lines : List Line) → parts_of (map upper_line lines) ≡ map (map upper_line) (parts_of lines)
+same-parts_of [] = refl
+same-parts_of (l ∷ lines) = ap (put_before (upper_line l)) (same-parts_of lines) ∙ same-put l (parts_of lines)
 
 abbrev with_bytes : Line → List ℕ → Entry
 with_bytes l bytes = record { instr = instr_in l.class; line = l.number; bytes = bytes }
@@ -112,7 +112,7 @@ same-entries (l ∷ lines) = ap₂ (λ e es. e ∷ es) (same-entry l) (same-entr
 
 same-label_in : (part : List Line) → label_in (map upper_line part) ≡ upper (label_in part)
 same-label_in [] = refl
-same-label_in (l ∷ lines) = sym (upper-if (l.place == 0) l.label [])
+same-label_in (l ∷ lines) = sym (upper-if (l.index == 0) l.label [])
 
 same-block : (part : List Line) → block_of (map upper_line part) ≡ upper_block (block_of part)
 same-block part = ap₂ with_label (same-label_in part) (same-entries part)
@@ -123,12 +123,12 @@ same-each (part ∷ parts) = ap₂ (λ b bs. b ∷ bs) (same-block part) (same-e
 
 same-blocks : (lines : List Line) → blocks_of (map upper_line lines) ≡ map upper_block (blocks_of lines)
 same-blocks lines =
-    ap (λ ls. map block_of (parted ls)) (same-instructions lines)
-    ∙ ap (map block_of) (same-parted (instructions lines))
-    ∙ same-each (parted (instructions lines))
+    ap (λ ls. map block_of (parts_of ls)) (same-instructions lines)
+    ∙ ap (map block_of) (same-parts_of (instructions lines))
+    ∙ same-each (parts_of (instructions lines))
 
 same-lines : (text : List ℕ) → classed_lines (upper text) ≡ map upper_line (classed_lines text)
-same-lines text = ap (classed 1 0 0 [] false) (upper-lines [] text) ∙ upper-classed (lines_of text) 1 0 0 [] false
+same-lines text = ap (classes_from 1 0 0 [] false) (upper-lines [] text) ∙ upper-classed (lines_of text) 1 0 0 [] false
 
 same-read : (e : Option SourceError) (blocks : List Block) → unless_refused e (map upper_block blocks) ≡ upper_read (unless_refused e blocks)
 same-read None blocks = refl

@@ -4,10 +4,10 @@ use Rattle.std.proofs.lemmas.Option.{IfSome_then}
 use Rattle.s66_isa.specs.declared.instr.Instr.{Instr}
 use Rattle.s66_isa.specs.declared.reg.Bank.{Bank}
 use Rattle.s66_isa.specs.declared.reg.Bank.TheVariants.{A, B, X}
-use Rattle.s66_isa.specs.Words.{Among, rising}
+use Rattle.s66_isa.specs.Lists.{Among, rising}
 use Rattle.s66_line.specs.Operand.{spelled, boolean_operator, boolean, b_and_x, is_expression, shift, normalise, mask, arithmetic_code, arithmetic, population, terms_of, are_terms, set_code, set, decode}
-use Rattle.s66_line.specs.declared.operation.Form.{Form}
-use Rattle.s66_line.specs.declared.operation.Form.TheVariants.{Boolean, Shift, Normalise, Arithmetic, Mask, Population, Set}
+use Rattle.s66_line.specs.declared.operation.Syntax.{Syntax}
+use Rattle.s66_line.specs.declared.operation.Syntax.TheVariants.{Boolean, Shift, Normalise, Arithmetic, Mask, Population, Set}
 use Rattle.s66_line.proofs.Digits.{either, made, IsDigit, AreDigits, digit-few, two-few, b_and_x-few}
 use Rattle.s66_line.proofs.SetForms.{IsSetForm, set_form-few}
 
@@ -16,7 +16,7 @@ one None = []
 one (Some code) = code ∷ []
 
 -- the codes from which the operand of a form chooses
-abbrev pub choices : Form → List ℕ
+abbrev pub choices : Syntax → List ℕ
 choices Boolean = rising 8 0o10
 choices (Shift by_constant by_register) = by_constant ∷ by_register ∷ []
 choices (Normalise code) = code ∷ []
@@ -139,7 +139,7 @@ chosen-set bank i text =
 
 -- ALL
 
-pub chosen : (form : Form) (i : ℕ) (text : List ℕ) → i ≤ 7 → IfSome (decode form i text) (Chosen (choices form) i)
+pub chosen : (syntax : Syntax) (i : ℕ) (text : List ℕ) → i ≤ 7 → IfSome (decode syntax i text) (Chosen (choices syntax) i)
 chosen Boolean i text h = chosen-boolean i text
 chosen (Shift by_constant by_register) i text h = chosen-shift by_constant by_register i text h
 chosen (Normalise code) i text h = chosen-normalise code i text h

@@ -26,18 +26,18 @@ terms_from-sign minus term text end h e =
 
 one_more : (text : List ℕ) (start end : ℕ) → start ≤ end → end < length text →
     take (end + 1 - start) (drop start text) ≡ take (end - start) (drop start text) ++ get_or text end 0 ∷ []
-one_more text start end begun h =
+one_more text start end begin_run h =
     let count : end + 1 - start ≡ end - start + 1 = omega arith in
-    let place : start + (end - start) ≡ end = omega arith in
-    let here : get_or (drop start text) (end - start) 0 ≡ get_or text end 0 = get_or-drop start text (end - start) 0 ∙ ap (λ (i : ℕ). get_or text i 0) place in
+    let index : start + (end - start) ≡ end = omega arith in
+    let here : get_or (drop start text) (end - start) 0 ≡ get_or text end 0 = get_or-drop start text (end - start) 0 ∙ ap (λ (i : ℕ). get_or text i 0) index in
     ap (λ (n : ℕ). take n (drop start text)) count ∙ take_more (drop start text) (end - start) 0 (omega (arith, length-drop start text)) ∙ ap (λ (b : ℕ). take (end - start) (drop start text) ++ b ∷ []) here
 
 pub terms_from-other : (minus : Bool) (text : List ℕ) (start end : ℕ) → start ≤ end → end < length text → is_sign (get_or text end 0) ≡ false →
     terms_from minus (take (end - start) (drop start text)) (drop end text) ≡ terms_from minus (take (end + 1 - start) (drop start text)) (drop (end + 1) text)
-terms_from-other minus text start end begun h e =
+terms_from-other minus text start end begin_run h e =
     at_drop_more (terms_from minus (take (end - start) (drop start text))) text end 0 h
     ∙ ap (step minus (take (end - start) (drop start text)) (get_or text end 0) (drop (end + 1) text)) e
-    ∙ ap (λ (t : List ℕ). terms_from minus t (drop (end + 1) text)) (sym (one_more text start end begun h))
+    ∙ ap (λ (t : List ℕ). terms_from minus t (drop (end + 1) text)) (sym (one_more text start end begin_run h))
 
 cut : (m : Seen) (minus : Bool) (text : List ℕ) (start end : ℕ) (whole : Option Seen) → end < length text → is_sign (get_or text end 0) ≡ true →
     gathered_after m (terms_from minus (begun_at text start end) (drop end text)) ≡ whole →

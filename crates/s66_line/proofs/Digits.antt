@@ -48,8 +48,8 @@ both-few : (a d c e : ℕ) → IfSome (option_and_then (λ j. option_and_then (�
 both-few a d c e =
     made IsDigit _ _ _ (digit-few 66 a d) (λ j few. made IsDigit _ _ _ (digit-few 88 c e) (λ k more. (few, more)))
 
-two-joined : (i a d o c e : ℕ) → IfSome (b_and_x i (a ∷ d ∷ o ∷ c ∷ e ∷ [])) AreDigits
-two-joined i a d o c e =
+two-insert : (i a d o c e : ℕ) → IfSome (b_and_x i (a ∷ d ∷ o ∷ c ∷ e ∷ [])) AreDigits
+two-insert i a d o c e =
     either _ (not (o == 44)) _ _ (λ t. tt)
     (λ t. either _ (is_some (b_digit a d)) _ _ (λ t. both-few a d c e) (λ t. both-few c e a d))
 
@@ -59,5 +59,5 @@ b_and_x-few i (a ∷ []) h = tt
 b_and_x-few i (a ∷ d ∷ []) h = two-alone i a d h
 b_and_x-few i (a ∷ b ∷ c ∷ []) h = tt
 b_and_x-few i (a ∷ b ∷ c ∷ d ∷ []) h = tt
-b_and_x-few i (a ∷ d ∷ o ∷ c ∷ e ∷ []) h = two-joined i a d o c e
+b_and_x-few i (a ∷ d ∷ o ∷ c ∷ e ∷ []) h = two-insert i a d o c e
 b_and_x-few i (a ∷ b ∷ c ∷ d ∷ e ∷ f ∷ more) h = tt

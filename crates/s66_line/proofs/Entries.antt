@@ -1,7 +1,7 @@
 -- What stands in the entry of a number.
 use Rattle.std.proofs.Common.{ℕ, zero, suc, ◌-◌, ◌≤◌, ◌≡◌, sym, ap, arith, get_or, length, ◌∙◌}
 use Rattle.std.proofs.lemmas.List.{get_or-map, length-map}
-use Rattle.s66_isa.specs.Table.{instr_at, no_instr}
+use Rattle.s66_isa.specs.Table.{instr_at, idle_instr}
 use Rattle.s66_line.specs.Source.{Entry, Block}
 use Rattle.s66_line.specs.Block.{instrs_of}
 
@@ -10,4 +10,4 @@ instr_at-entry block zero e low high h = absurd (omega arith)
 instr_at-entry block (suc n) e low high h =
     let same : suc n - 1 ≡ n = omega arith in
     let here : e ≡ get_or block.entries n e = rw (← same) h in
-    sym (get_or-map (λ (x : Entry). x.instr) block.entries n e no_instr (omega (arith, length-map block.entries (λ (x : Entry). x.instr))) ∙ ap (λ (x : Entry). x.instr) (sym here))
+    sym (get_or-map (λ (x : Entry). x.instr) block.entries n e idle_instr (omega (arith, length-map block.entries (λ (x : Entry). x.instr))) ∙ ap (λ (x : Entry). x.instr) (sym here))

@@ -3,9 +3,9 @@ use Rattle.std.proofs.Common.{◌≡◌, ℕ, Bool, true, false, List, [], ◌�
 use Rattle.std.proofs.lemmas.Bool.{true≢false}
 use Rattle.std.proofs.lemmas.Bool.Decides.{nat_tests}
 use Rattle.s66_isa.specs.declared.reg.Bank.{Bank}
-use Rattle.s66_isa.specs.Words.{every}
-use Rattle.s66_line.specs.Operand.{are_terms, some_constant, signed, registers_of, register_of, is_constant, is_expression, terms_of}
-use Rattle.s66_line.specs.Terms.{gathered}
+use Rattle.s66_isa.specs.Lists.{every}
+use Rattle.s66_line.specs.Operand.{are_terms, some_constant, with_sign, registers_of, register_of, is_constant, is_expression, terms_of}
+use Rattle.s66_line.specs.Terms.{gather}
 use Rattle.s66_line.proofs.Gathered.{register-no_constant}
 
 abbrev is_nil : List (Bool × Bank × ℕ) → Bool
@@ -24,7 +24,7 @@ and_both true = refl
 and_both false = refl
 
 one-more : (minus constant : Bool) (r : Option (Bank × ℕ)) (ts : List (Bool × List ℕ)) → ((s : Bank × ℕ) → r ≡ Some s → constant ≡ false) → all_constant ts ≡ (are_terms ts && is_nil (registers_of ts)) →
-    (constant && all_constant ts) ≡ (((is_some r || constant) && are_terms ts) && is_nil (signed minus r ++ registers_of ts))
+    (constant && all_constant ts) ≡ (((is_some r || constant) && are_terms ts) && is_nil (with_sign minus r ++ registers_of ts))
 one-more minus false None ts h e = refl
 one-more minus true None ts h e = e
 one-more minus true (Some r) ts h e = absurd (true≢false (h r refl))
@@ -44,18 +44,18 @@ no_register-if false constant registers = refl
 no_register-if true constant [] = refl
 no_register-if true constant (s ∷ more) = never (nat_le (length (s ∷ more)) 2) constant s more
 
-pub all_constant-gathered : (ts : List (Bool × List ℕ)) → every (λ t. is_constant t.1) ts ≡ no_register (gathered ts)
+pub all_constant-gathered : (ts : List (Bool × List ℕ)) → every (λ t. is_constant t.1) ts ≡ no_register (gather ts)
 all_constant-gathered ts = all_constant-is ts ∙ no_register-if (are_terms ts) (some_constant ts) (registers_of ts)
 
 length-is_nil : (registers : List (Bool × Bank × ℕ)) → (length registers == 0) ≡ is_nil registers
 length-is_nil [] = refl
 length-is_nil (s ∷ more) = grind (arith, nat_tests)
 
-pub expression-none : (text : List ℕ) → None ≡ gathered (terms_of text) → false ≡ is_expression text
+pub expression-none : (text : List ℕ) → None ≡ gather (terms_of text) → false ≡ is_expression text
 expression-none [] e = refl
 expression-none (b ∷ bytes) e = ap no_register e ∙ sym (all_constant-gathered (terms_of (b ∷ bytes)))
 
-pub expression-some : (text : List ℕ) (seen : Bool × List (Bool × Bank × ℕ)) → false ≡ (length text == 0) → Some seen ≡ gathered (terms_of text) →
+pub expression-some : (text : List ℕ) (seen : Bool × List (Bool × Bank × ℕ)) → false ≡ (length text == 0) → Some seen ≡ gather (terms_of text) →
     (length seen.1 == 0) ≡ is_expression text
 expression-some [] seen filled e = absurd (true≢false (sym filled))
 expression-some (b ∷ bytes) seen filled e = length-is_nil seen.1 ∙ ap no_register e ∙ sym (all_constant-gathered (terms_of (b ∷ bytes)))

@@ -5,7 +5,7 @@ use Rattle.std.proofs.lemmas.Bool.Decides.{nat_tests}
 use Rattle.std.proofs.lemmas.List.{append-nil}
 use Rattle.std.specs.Option.{option_and_then}
 use Rattle.s66_isa.specs.declared.reg.Bank.{Bank}
-use Rattle.s66_line.specs.Operand.{are_terms, some_constant, signed, registers_of, register_of, is_constant, is_constant_from, is_filled, is_symbol}
+use Rattle.s66_line.specs.Operand.{are_terms, some_constant, with_sign, registers_of, register_of, is_constant, is_constant_from, is_filled, is_symbol}
 use Rattle.s66_line.specs.Terms.{with_term, with_register}
 
 -- what these terms make after what was seen before them
@@ -36,7 +36,7 @@ many false more s rest = refl
 -- of a term is known whether it is a constant, and its register
 abbrev put : Bool × List (Bool × Bank × ℕ) → Bool → Bool → Option (Bank × ℕ) → List (Bool × List ℕ) → Option (Bool × List (Bool × Bank × ℕ))
 put seen minus constant r ts =
-    if (is_some r || constant) && are_terms ts && nat_le (length (seen.1 ++ (signed minus r ++ registers_of ts))) 2 then Some (seen.0 || (constant || some_constant ts), seen.1 ++ (signed minus r ++ registers_of ts)) else None
+    if (is_some r || constant) && are_terms ts && nat_le (length (seen.1 ++ (with_sign minus r ++ registers_of ts))) 2 then Some (seen.0 || (constant || some_constant ts), seen.1 ++ (with_sign minus r ++ registers_of ts)) else None
 
 put-is : (seen : Bool × List (Bool × Bank × ℕ)) (minus constant : Bool) (r : Option (Bank × ℕ)) (ts : List (Bool × List ℕ)) → ((s : Bank × ℕ) → r ≡ Some s → constant ≡ false) →
     put seen minus constant r ts ≡ option_and_then (λ m. gathered_after m ts) (with_register seen minus constant r)

@@ -10,7 +10,7 @@ pub mod PartsLaw
 pub mod Digits
 pub mod SetForms
 pub mod Choices
-pub mod FormLaw
+pub mod SpellingLaw
 pub mod SetFormLaw
 pub mod UpperCase
 pub mod CaseLaw

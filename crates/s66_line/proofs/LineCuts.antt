@@ -18,10 +18,10 @@ lines_from-newline line text i within newline =
 -- and goes on at any other byte
 pub lines_from-more : (text : List ℕ) (begin i : ℕ) → begin ≤ i → i < length text → (get_or text i 0 ≡ 10 → ⊥) →
     lines_from (take (i - begin) (drop begin text)) (drop i text) ≡ lines_from (take (i + 1 - begin) (drop begin text)) (drop (i + 1) text)
-lines_from-more text begin i begun within other =
+lines_from-more text begin i begin_run within other =
     let next : i + 1 ≡ suc i = omega arith in
     let differs : eqb (get_or text i 0) 10 ≡ false = ne_eqb (get_or text i 0) 10 other in
-    let longer : take (i + 1 - begin) (drop begin text) ≡ take (i - begin) (drop begin text) ++ get_or text i 0 ∷ [] = between_more text begin i 0 begun within in
+    let longer : take (i + 1 - begin) (drop begin text) ≡ take (i - begin) (drop begin text) ++ get_or text i 0 ∷ [] = between_more text begin i 0 begin_run within in
     let rest : drop i text ≡ get_or text i 0 ∷ drop (suc i) text = drop-cons text i 0 within in
     rw (longer, next, rest, differs) refl
 

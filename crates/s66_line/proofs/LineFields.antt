@@ -4,7 +4,7 @@ use Rattle.std.proofs.lemmas.Bool.{eqb-true}
 use Rattle.std.proofs.Math.Seq.{take-suc}
 use Rattle.std.specs.Prelude.{◌&&◌, ◌==◌}
 use Rattle.std.specs.List.{prefix_len}
-use Rattle.s66_isa.specs.Words.{every}
+use Rattle.s66_isa.specs.Lists.{every}
 use Rattle.s66_line.specs.Fields.{is_blank, skip_blanks, word, after_word, trim, is_return, upper, from_location, label_bytes}
 use Rattle.s66_line.specs.Block.{spelling}
 use Rattle.std.proofs.lemmas.List.{take_rest}

@@ -3,9 +3,9 @@ use Rattle.std.proofs.Common.{◌≡◌, ◌≤◌, ◌+◌, ◌&&◌, ◌||◌,
 use Rattle.std.specs.Prelude.{◌⊎◌, Ok}
 use Rattle.std.proofs.Math.Bool.{and-false}
 use Rattle.std.proofs.lemmas.Bool.{cases_lt, le-ltb}
-use Rattle.s66_isa.specs.Words.{Among, tally, some_of}
+use Rattle.s66_isa.specs.Lists.{Among, tally, some_of}
 use Rattle.s66_line.specs.Fields.{lines_of}
-use Rattle.s66_line.specs.Source.{Line, Block, class_of, is_instruction, is_code, run_after, place_after, label_after, classed, classed_lines, operand_refusal, refusal_at, or_else, refusal, instructions, parted, entry_of, block_of, blocks_of, unless_refused, source_of}
+use Rattle.s66_line.specs.Source.{Line, Block, class_of, is_instruction, is_code, run_after, place_after, label_after, classes_from, classed_lines, operand_refusal, refusal_at, or_else, refusal, instructions, parts_of, entry_of, block_of, blocks_of, unless_refused, source_of}
 use Rattle.s66_line.specs.Block.{line_of}
 use Rattle.s66_line.specs.Parts.{all_of}
 use Rattle.s66_line.specs.Roles.{is_comment_class, is_pad_class, is_other_class, is_note_of, is_note, has_block, roles}
@@ -76,11 +76,11 @@ Rising-lower : (low high : ℕ) (lines : List Line) → low ≤ high → Rising 
 Rising-lower low high [] le h = tt
 Rising-lower low high (l ∷ lines) le h = (omega (arith, le, h.0), h.1)
 
-rising-classed : (lines : List (List ℕ)) (number run place : ℕ) (label : List ℕ) (after : Bool) → Rising number (classed number run place label after lines)
-rising-classed [] number run place label after = tt
-rising-classed (line ∷ lines) number run place label after =
+rising-classed : (lines : List (List ℕ)) (number run index : ℕ) (label : List ℕ) (after : Bool) → Rising number (classes_from number run index label after lines)
+rising-classed [] number run index label after = tt
+rising-classed (line ∷ lines) number run index label after =
     let c : Class = class_of after line in
-    (omega arith, rising-classed lines (suc number) (run_after run c) (place_after place c) (label_after label c line) (is_code c))
+    (omega arith, rising-classed lines (suc number) (run_after run c) (place_after index c) (label_after label c line) (is_code c))
 
 rising-instructions : (low : ℕ) (lines : List Line) → Rising low lines → Rising low (instructions lines)
 rising-instructions low [] h = tt
@@ -162,5 +162,5 @@ pub note : (text : List ℕ) (line : Line) → Among line (classed_lines text) �
 note text line among h =
     let lines : List Line = classed_lines text in
     let cut = parts text in
-    let rising : Rising 1 (all_of (parted (instructions lines))) = rw cut.whole (rising-instructions 1 lines (rising-classed (lines_of text) 1 0 0 [] false)) in
-    omega (arith, at_most_one line 1 (parted (instructions lines)) (λ part stands. (cut.sizes part stands).0) rising, some-tally (is_note_of line) (blocks_of lines) h)
+    let rising : Rising 1 (all_of (parts_of (instructions lines))) = rw cut.whole (rising-instructions 1 lines (rising-classed (lines_of text) 1 0 0 [] false)) in
+    omega (arith, at_most_one line 1 (parts_of (instructions lines)) (λ part stands. (cut.sizes part stands).0) rising, some-tally (is_note_of line) (blocks_of lines) h)

@@ -8,9 +8,9 @@ use Rattle.std.proofs.Math.Dec.{leb-suc-suc, eqb-suc-suc, eqb-suc-zero}
 use Rattle.std.proofs.Math.Nat.{suc-mod, mod-eq_of_lt}
 use Rattle.s66_isa.specs.declared.instr.Instr.{Instr}
 use Rattle.s66_line.specs.Fields.{lines_of, body, from_operation, label_bytes}
-use Rattle.s66_line.specs.Source.{Line, Entry, Block, class_of, is_code, run_at, run_after, place_at, place_after, label_at, label_after, classed, classed_lines, operand_refusal, or_else, refusal, instructions, begins_block, put_before, parted, entry_of, label_in, block_of, blocks_of, unless_refused, source_of}
+use Rattle.s66_line.specs.Source.{Line, Entry, Block, class_of, is_code, run_at, run_after, place_at, place_after, label_at, label_after, classes_from, classed_lines, operand_refusal, or_else, refusal, instructions, begins_block, put_before, parts_of, entry_of, label_in, block_of, blocks_of, unless_refused, source_of}
 use Rattle.s66_line.specs.Gives.{Gives}
-use Rattle.s66_line.specs.Reader.{State, Steps, start, ended, with_open, counted, by_class, line_step, lines_step, and_then, read_from}
+use Rattle.s66_line.specs.Reader.{State, Steps, start, end_block, with_open, count_line, by_class, line_step, lines_step, and_then, read_from}
 use Rattle.s66_line.specs.declared.class.Class.{Class}
 use Rattle.s66_line.specs.declared.class.Class.TheVariants.{Comment, Other, Refused, Pad, Instruction}
 use Rattle.s66_line.specs.declared.error.SourceError.{SourceError}
@@ -18,9 +18,9 @@ use Rattle.s66_line.specs.declared.error.SourceError.TheVariants.{BadOperand, Li
 
 -- the lines from one on, of this class
 abbrev from_class : ℕ → ℕ → ℕ → List ℕ → Class → List ℕ → List (List ℕ) → List Line
-from_class number run place run_label c line lines =
-    record { number = number; bytes = line; class = c; run = run_at run c; place = place_at place c; label = label_at run_label c line }
-    ∷ classed (suc number) (run_after run c) (place_after place c) (label_after run_label c line) (is_code c) lines
+from_class number run index run_label c line lines =
+    record { number = number; bytes = line; class = c; run = run_at run c; index = place_at index c; label = label_at run_label c line }
+    ∷ classes_from (suc number) (run_after run c) (place_after index c) (label_after run_label c line) (is_code c) lines
 
 -- THE FIRST BLOCK of the lines to come begins there
 
@@ -36,25 +36,25 @@ Begins-put l ((next ∷ more) ∷ parts) h =
     elim (begins_block next) as (λ t. Begins (if t then (l ∷ []) ∷ (next ∷ more) ∷ parts else (l ∷ next ∷ more) ∷ parts)) [ true ↦ h | false ↦ h ]
 
 abbrev Fresh : List (List ℕ) → Type 0
-Fresh lines = (number run place : ℕ) (run_label : List ℕ) (after : Bool) → place % 64 ≡ 0 → Begins (parted (instructions (classed number run place run_label after lines)))
+Fresh lines = (number run index : ℕ) (run_label : List ℕ) (after : Bool) → index % 64 ≡ 0 → Begins (parts_of (instructions (classes_from number run index run_label after lines)))
 
-fresh-class : (c : Class) (number run place : ℕ) (run_label line : List ℕ) (lines : List (List ℕ)) → Fresh lines → place % 64 ≡ 0 →
-    Begins (parted (instructions (from_class number run place run_label c line lines)))
-fresh-class Comment number run place run_label line lines ih h = ih (suc number) run place run_label false h
-fresh-class Other number run place run_label line lines ih h = ih (suc number) (suc run) 0 [] false refl
-fresh-class Refused number run place run_label line lines ih h = ih (suc number) run place run_label false h
-fresh-class (Pad true) number run place run_label line lines ih h = ih (suc number) (suc run) 0 (label_bytes (body line)) true refl
-fresh-class (Pad false) number run place run_label line lines ih h = ih (suc number) run place run_label true h
-fresh-class (Instruction true n) number run place run_label line lines ih h =
-    Begins-put (record { number = number; bytes = line; class = Instruction true n; run = suc run; place = 0; label = label_bytes (body line) })
-    (parted (instructions (classed (suc number) (suc run) 1 (label_bytes (body line)) true lines))) refl
-fresh-class (Instruction false n) number run place run_label line lines ih h =
-    Begins-put (record { number = number; bytes = line; class = Instruction false n; run = run; place = place; label = run_label })
-    (parted (instructions (classed (suc number) run (suc place) run_label true lines))) (eq-eqb (place % 64) 0 h)
+fresh-class : (c : Class) (number run index : ℕ) (run_label line : List ℕ) (lines : List (List ℕ)) → Fresh lines → index % 64 ≡ 0 →
+    Begins (parts_of (instructions (from_class number run index run_label c line lines)))
+fresh-class Comment number run index run_label line lines ih h = ih (suc number) run index run_label false h
+fresh-class Other number run index run_label line lines ih h = ih (suc number) (suc run) 0 [] false refl
+fresh-class Refused number run index run_label line lines ih h = ih (suc number) run index run_label false h
+fresh-class (Pad true) number run index run_label line lines ih h = ih (suc number) (suc run) 0 (label_bytes (body line)) true refl
+fresh-class (Pad false) number run index run_label line lines ih h = ih (suc number) run index run_label true h
+fresh-class (Instruction true n) number run index run_label line lines ih h =
+    Begins-put (record { number = number; bytes = line; class = Instruction true n; run = suc run; index = 0; label = label_bytes (body line) })
+    (parts_of (instructions (classes_from (suc number) (suc run) 1 (label_bytes (body line)) true lines))) refl
+fresh-class (Instruction false n) number run index run_label line lines ih h =
+    Begins-put (record { number = number; bytes = line; class = Instruction false n; run = run; index = index; label = run_label })
+    (parts_of (instructions (classes_from (suc number) run (suc index) run_label true lines))) (eq-eqb (index % 64) 0 h)
 
 fresh : (lines : List (List ℕ)) → Fresh lines
-fresh [] number run place run_label after h = tt
-fresh (line ∷ lines) number run place run_label after h = fresh-class (class_of after line) number run place run_label line lines (fresh lines) h
+fresh [] number run index run_label after h = tt
+fresh (line ∷ lines) number run index run_label after h = fresh-class (class_of after line) number run index run_label line lines (fresh lines) h
 
 -- THE OPEN BLOCK, and the lines to come
 
@@ -78,10 +78,10 @@ attach-begins label entries ([] ∷ parts) h = absurd h
 attach-begins label entries ((l ∷ more) ∷ parts) h = rw h refl
 
 -- ending the open block, and then the parts; the label of a run to come is its line's
-ended-resumed : (blocks : List Block) (label later : List ℕ) (entries : List Entry) (parts : List (List Line)) → Begins parts →
+end_block-resumed : (blocks : List Block) (label later : List ℕ) (entries : List Entry) (parts : List (List Line)) → Begins parts →
     with_open blocks label entries ++ resumed later [] parts ≡ blocks ++ resumed label entries parts
-ended-resumed blocks label later [] parts h = refl
-ended-resumed blocks label later (e ∷ es) parts h = rw (attach-begins label (e ∷ es) parts h) (append_assoc blocks (labelled label (e ∷ es) ∷ []) (map block_of parts))
+end_block-resumed blocks label later [] parts h = refl
+end_block-resumed blocks label later (e ∷ es) parts h = rw (attach-begins label (e ∷ es) parts h) (append_assoc blocks (labelled label (e ∷ es) ∷ []) (map block_of parts))
 
 attach-put : (label : List ℕ) (entries : List Entry) (l : Line) (parts : List (List Line)) → begins_block l ≡ false →
     attach label entries (put_before l parts) ≡ attach label (entries ++ entry_of l ∷ []) parts
@@ -104,13 +104,13 @@ blocks-put l ((next ∷ more) ∷ parts) =
 
 -- the label that is left for the open block: the run's, where no instruction of the run stands before the block's
 abbrev left_label : List ℕ → ℕ → ℕ → List ℕ
-left_label run_label place count = if eqb place count then run_label else []
+left_label run_label index count = if eqb index count then run_label else []
 
 -- one more instruction of the open block
-resumed-put : (label : List ℕ) (entries : List Entry) (l : Line) (parts : List (List Line)) → l.place % 64 ≡ length entries → label ≡ left_label l.label l.place (length entries) →
+resumed-put : (label : List ℕ) (entries : List Entry) (l : Line) (parts : List (List Line)) → l.index % 64 ≡ length entries → label ≡ left_label l.label l.index (length entries) →
     resumed label entries (put_before l parts) ≡ attach label (entries ++ entry_of l ∷ []) parts
 resumed-put label [] l parts h left = blocks-put l parts ∙ ap (λ n. attach n (entry_of l ∷ []) parts) (sym left)
-resumed-put label (e ∷ es) l parts h left = attach-put label (e ∷ es) l parts (ne_eqb (l.place % 64) 0 (λ z. absurd (omega (arith, z, h))))
+resumed-put label (e ∷ es) l parts h left = attach-put label (e ∷ es) l parts (ne_eqb (l.index % 64) 0 (λ z. absurd (omega (arith, z, h))))
 
 resumed-push : (label : List ℕ) (entries : List Entry) (e : Entry) (parts : List (List Line)) → resumed label (entries ++ e ∷ []) parts ≡ attach label (entries ++ e ∷ []) parts
 resumed-push label [] e parts = refl
@@ -120,10 +120,10 @@ resumed-push label (a ∷ es) e parts = refl
 
 -- what is read is unlike the definition in no point, whatever was read before
 abbrev Read : List (List ℕ) → Type 0
-Read lines = (blocks : List Block) (label : List ℕ) (entries : List Entry) (count run place : ℕ) (run_label : List ℕ) (after : Bool) →
-    place % 64 ≡ length entries → label ≡ left_label run_label place (length entries) →
+Read lines = (blocks : List Block) (label : List ℕ) (entries : List Entry) (count run index : ℕ) (run_label : List ℕ) (after : Bool) →
+    index % 64 ≡ length entries → label ≡ left_label run_label index (length entries) →
     read_from (record { blocks = blocks; label = label; entries = entries; count = count; after = after }) lines
-    ≡ unless_refused (refusal (classed (suc count) run place run_label after lines)) (blocks ++ resumed label entries (parted (instructions (classed (suc count) run place run_label after lines))))
+    ≡ unless_refused (refusal (classes_from (suc count) run index run_label after lines)) (blocks ++ resumed label entries (parts_of (instructions (classes_from (suc count) run index run_label after lines))))
 
 -- reading a line of this class, and then the rest
 abbrev read_class : State → Class → List ℕ → List (List ℕ) → Result (List Block) SourceError
@@ -131,115 +131,115 @@ read_class s c line lines = and_then (by_class s c (label_bytes (body line)) (fr
 
 -- the definition's answer for it
 abbrev class_answer : List Block → List ℕ → List Entry → ℕ → ℕ → ℕ → List ℕ → Class → List ℕ → List (List ℕ) → Result (List Block) SourceError
-class_answer blocks label entries count run place run_label c line lines =
-    unless_refused (or_else (operand_refusal (suc count) c) (refusal (classed (suc (suc count)) (run_after run c) (place_after place c) (label_after run_label c line) (is_code c) lines)))
-    (blocks ++ resumed label entries (parted (instructions (from_class (suc count) run place run_label c line lines))))
+class_answer blocks label entries count run index run_label c line lines =
+    unless_refused (or_else (operand_refusal (suc count) c) (refusal (classes_from (suc (suc count)) (run_after run c) (place_after index c) (label_after run_label c line) (is_code c) lines)))
+    (blocks ++ resumed label entries (parts_of (instructions (from_class (suc count) run index run_label c line lines))))
 
-next-place : (place n : ℕ) → place % 64 ≡ n → (suc n ≡ 64 → ⊥) → suc place % 64 ≡ suc n
-next-place place n h more =
-    let below : place % 64 < 64 = mod_below place 64 (omega arith) in
-    suc-mod place 64 ∙ rw h (mod-eq_of_lt (omega (arith, h, below, more)))
+next-index : (index n : ℕ) → index % 64 ≡ n → (suc n ≡ 64 → ⊥) → suc index % 64 ≡ suc n
+next-index index n h more =
+    let below : index % 64 < 64 = mod_below index 64 (omega arith) in
+    suc-mod index 64 ∙ rw h (mod-eq_of_lt (omega (arith, h, below, more)))
 
-full-place : (place n : ℕ) → place % 64 ≡ n → suc n ≡ 64 → suc place % 64 ≡ 0
-full-place place n h full = suc-mod place 64 ∙ rw (h, full) refl
+full-index : (index n : ℕ) → index % 64 ≡ n → suc n ≡ 64 → suc index % 64 ≡ 0
+full-index index n h full = suc-mod index 64 ∙ rw (h, full) refl
 
 length-push : (entries : List Entry) (e : Entry) → length (entries ++ e ∷ []) ≡ suc (length entries)
 length-push [] e = refl
 length-push (a ∷ entries) e = ap suc (length-push entries e)
 
 -- one more instruction leaves it the same label
-left-push : (label run_label : List ℕ) (place : ℕ) (entries : List Entry) (e : Entry) → label ≡ left_label run_label place (length entries) →
-    label ≡ left_label run_label (suc place) (length (entries ++ e ∷ []))
-left-push label run_label place entries e left =
-    rw (length-push entries e) (left ∙ ap (λ t. if t then run_label else []) (sym (eqb-suc-suc place (length entries))))
+left-push : (label run_label : List ℕ) (index : ℕ) (entries : List Entry) (e : Entry) → label ≡ left_label run_label index (length entries) →
+    label ≡ left_label run_label (suc index) (length (entries ++ e ∷ []))
+left-push label run_label index entries e left =
+    rw (length-push entries e) (left ∙ ap (λ t. if t then run_label else []) (sym (eqb-suc-suc index (length entries))))
 
 abbrev entry_at_line : Instr → List ℕ → ℕ → Entry
 entry_at_line n line count = record { instr = n; line = suc count; bytes = from_operation (body line) }
 
 -- the instruction goes to the open block, and ends it where it is the 64th
 put-full : (full : Bool) (n : Instr) (line : List ℕ) (lines : List (List ℕ)) → Read lines →
-    (blocks : List Block) (label : List ℕ) (entries : List Entry) (count run place : ℕ) (run_label : List ℕ) (after : Bool) →
-    place % 64 ≡ length entries → label ≡ left_label run_label place (length entries) →
+    (blocks : List Block) (label : List ℕ) (entries : List Entry) (count run index : ℕ) (run_label : List ℕ) (after : Bool) →
+    index % 64 ≡ length entries → label ≡ left_label run_label index (length entries) →
     eqb (length (entries ++ entry_at_line n line count ∷ [])) 64 ≡ full →
-    read_from (counted true (if full
+    read_from (count_line true (if full
     then record { blocks = with_open blocks label (entries ++ entry_at_line n line count ∷ []); label = []; entries = []; count = count; after = after }
     else record { blocks = blocks; label = label; entries = entries ++ entry_at_line n line count ∷ []; count = count; after = after })) lines
-    ≡ class_answer blocks label entries count run place run_label (Instruction false n) line lines
-put-full true n line lines ih blocks label entries count run place run_label after h left full =
+    ≡ class_answer blocks label entries count run index run_label (Instruction false n) line lines
+put-full true n line lines ih blocks label entries count run index run_label after h left full =
     let e : Entry = entry_at_line n line count in
-    let l : Line = record { number = suc count; bytes = line; class = Instruction false n; run = run; place = place; label = run_label } in
-    let rest = classed (suc (suc count)) run (suc place) run_label true lines in
+    let l : Line = record { number = suc count; bytes = line; class = Instruction false n; run = run; index = index; label = run_label } in
+    let rest = classes_from (suc (suc count)) run (suc index) run_label true lines in
     let many : suc (length entries) ≡ 64 = sym (length-push entries e) ∙ eqb-true (length (entries ++ e ∷ [])) 64 full in
-    let begins : suc place % 64 ≡ 0 = full-place place (length entries) h many in
-    ih (with_open blocks label (entries ++ e ∷ [])) [] [] (suc count) run (suc place) run_label true begins (sym (ap (λ t. if t then run_label else []) (eqb-suc-zero place)))
+    let begins : suc index % 64 ≡ 0 = full-index index (length entries) h many in
+    ih (with_open blocks label (entries ++ e ∷ [])) [] [] (suc count) run (suc index) run_label true begins (sym (ap (λ t. if t then run_label else []) (eqb-suc-zero index)))
     ∙ ap (unless_refused (refusal rest))
-    (ended-resumed blocks label [] (entries ++ e ∷ []) (parted (instructions rest)) (fresh lines (suc (suc count)) run (suc place) run_label true begins)
-    ∙ ap (λ open_parts. blocks ++ open_parts) (resumed-push label entries e (parted (instructions rest)) ∙ sym (resumed-put label entries l (parted (instructions rest)) h left)))
-put-full false n line lines ih blocks label entries count run place run_label after h left full =
+    (end_block-resumed blocks label [] (entries ++ e ∷ []) (parts_of (instructions rest)) (fresh lines (suc (suc count)) run (suc index) run_label true begins)
+    ∙ ap (λ open_parts. blocks ++ open_parts) (resumed-push label entries e (parts_of (instructions rest)) ∙ sym (resumed-put label entries l (parts_of (instructions rest)) h left)))
+put-full false n line lines ih blocks label entries count run index run_label after h left full =
     let e : Entry = entry_at_line n line count in
-    let l : Line = record { number = suc count; bytes = line; class = Instruction false n; run = run; place = place; label = run_label } in
-    let rest = classed (suc (suc count)) run (suc place) run_label true lines in
+    let l : Line = record { number = suc count; bytes = line; class = Instruction false n; run = run; index = index; label = run_label } in
+    let rest = classes_from (suc (suc count)) run (suc index) run_label true lines in
     let few : suc (length entries) ≡ 64 → ⊥ = λ many. eqb-false (length (entries ++ e ∷ [])) 64 full (length-push entries e ∙ many) in
-    ih blocks label (entries ++ e ∷ []) (suc count) run (suc place) run_label true (next-place place (length entries) h few ∙ sym (length-push entries e)) (left-push label run_label place entries e left)
-    ∙ ap (λ open_parts. unless_refused (refusal rest) (blocks ++ open_parts)) (resumed-push label entries e (parted (instructions rest)) ∙ sym (resumed-put label entries l (parted (instructions rest)) h left))
+    ih blocks label (entries ++ e ∷ []) (suc count) run (suc index) run_label true (next-index index (length entries) h few ∙ sym (length-push entries e)) (left-push label run_label index entries e left)
+    ∙ ap (λ open_parts. unless_refused (refusal rest) (blocks ++ open_parts)) (resumed-push label entries e (parts_of (instructions rest)) ∙ sym (resumed-put label entries l (parts_of (instructions rest)) h left))
 
 -- an instruction that begins no run
 read-put : (n : Instr) (line : List ℕ) (lines : List (List ℕ)) → Read lines →
-    (blocks : List Block) (label : List ℕ) (entries : List Entry) (count run place : ℕ) (run_label : List ℕ) (after : Bool) →
-    place % 64 ≡ length entries → label ≡ left_label run_label place (length entries) →
+    (blocks : List Block) (label : List ℕ) (entries : List Entry) (count run index : ℕ) (run_label : List ℕ) (after : Bool) →
+    index % 64 ≡ length entries → label ≡ left_label run_label index (length entries) →
     read_class (record { blocks = blocks; label = label; entries = entries; count = count; after = after }) (Instruction false n) line lines
-    ≡ class_answer blocks label entries count run place run_label (Instruction false n) line lines
-read-put n line lines ih blocks label entries count run place run_label after h left =
-    put-full (eqb (length (entries ++ entry_at_line n line count ∷ [])) 64) n line lines ih blocks label entries count run place run_label after h left refl
+    ≡ class_answer blocks label entries count run index run_label (Instruction false n) line lines
+read-put n line lines ih blocks label entries count run index run_label after h left =
+    put-full (eqb (length (entries ++ entry_at_line n line count ∷ [])) 64) n line lines ih blocks label entries count run index run_label after h left refl
 
 -- one that begins a run
 read-begin : (n : Instr) (line : List ℕ) (lines : List (List ℕ)) → Read lines →
-    (blocks : List Block) (label : List ℕ) (entries : List Entry) (count run place : ℕ) (run_label : List ℕ) (after : Bool) →
+    (blocks : List Block) (label : List ℕ) (entries : List Entry) (count run index : ℕ) (run_label : List ℕ) (after : Bool) →
     read_class (record { blocks = blocks; label = label; entries = entries; count = count; after = after }) (Instruction true n) line lines
-    ≡ class_answer blocks label entries count run place run_label (Instruction true n) line lines
-read-begin n line lines ih blocks label entries count run place run_label after =
+    ≡ class_answer blocks label entries count run index run_label (Instruction true n) line lines
+read-begin n line lines ih blocks label entries count run index run_label after =
     let new : List ℕ = label_bytes (body line) in
     let e : Entry = entry_at_line n line count in
-    let l : Line = record { number = suc count; bytes = line; class = Instruction true n; run = suc run; place = 0; label = new } in
-    let rest = classed (suc (suc count)) (suc run) 1 new true lines in
+    let l : Line = record { number = suc count; bytes = line; class = Instruction true n; run = suc run; index = 0; label = new } in
+    let rest = classes_from (suc (suc count)) (suc run) 1 new true lines in
     ih (with_open blocks label entries) new (e ∷ []) (suc count) (suc run) 1 new true refl refl
     ∙ ap (unless_refused (refusal rest))
-    (ap (λ parts. with_open blocks label entries ++ parts) (sym (blocks-put l (parted (instructions rest))))
-    ∙ ended-resumed blocks label [] entries (put_before l (parted (instructions rest))) (Begins-put l (parted (instructions rest)) refl))
+    (ap (λ parts. with_open blocks label entries ++ parts) (sym (blocks-put l (parts_of (instructions rest))))
+    ∙ end_block-resumed blocks label [] entries (put_before l (parts_of (instructions rest))) (Begins-put l (parts_of (instructions rest)) refl))
 
 -- a line that ends the open block, and leaves this label to the next
 read-end : (next : List ℕ) (lines : List (List ℕ)) → Read lines → (blocks : List Block) (label : List ℕ) (entries : List Entry) (count run : ℕ) (after : Bool) →
     read_from (record { blocks = with_open blocks label entries; label = next; entries = []; count = suc count; after = after }) lines
-    ≡ unless_refused (refusal (classed (suc (suc count)) (suc run) 0 next after lines)) (blocks ++ resumed label entries (parted (instructions (classed (suc (suc count)) (suc run) 0 next after lines))))
+    ≡ unless_refused (refusal (classes_from (suc (suc count)) (suc run) 0 next after lines)) (blocks ++ resumed label entries (parts_of (instructions (classes_from (suc (suc count)) (suc run) 0 next after lines))))
 read-end next lines ih blocks label entries count run after =
     ih (with_open blocks label entries) next [] (suc count) (suc run) 0 next after refl refl
-    ∙ ap (unless_refused (refusal (classed (suc (suc count)) (suc run) 0 next after lines)))
-    (ended-resumed blocks label next entries (parted (instructions (classed (suc (suc count)) (suc run) 0 next after lines))) (fresh lines (suc (suc count)) (suc run) 0 next after refl))
+    ∙ ap (unless_refused (refusal (classes_from (suc (suc count)) (suc run) 0 next after lines)))
+    (end_block-resumed blocks label next entries (parts_of (instructions (classes_from (suc (suc count)) (suc run) 0 next after lines))) (fresh lines (suc (suc count)) (suc run) 0 next after refl))
 
 read-class : (c : Class) (line : List ℕ) (lines : List (List ℕ)) → Read lines →
-    (blocks : List Block) (label : List ℕ) (entries : List Entry) (count run place : ℕ) (run_label : List ℕ) (after : Bool) →
-    place % 64 ≡ length entries → label ≡ left_label run_label place (length entries) →
-    read_class (record { blocks = blocks; label = label; entries = entries; count = count; after = after }) c line lines ≡ class_answer blocks label entries count run place run_label c line lines
-read-class Comment line lines ih blocks label entries count run place run_label after h left = ih blocks label entries (suc count) run place run_label false h left
-read-class Other line lines ih blocks label entries count run place run_label after h left = read-end [] lines ih blocks label entries count run false
-read-class Refused line lines ih blocks label entries count run place run_label after h left = refl
-read-class (Pad true) line lines ih blocks label entries count run place run_label after h left = read-end (label_bytes (body line)) lines ih blocks label entries count run true
-read-class (Pad false) line lines ih blocks label entries count run place run_label after h left = ih blocks label entries (suc count) run place run_label true h left
-read-class (Instruction true n) line lines ih blocks label entries count run place run_label after h left = read-begin n line lines ih blocks label entries count run place run_label after
-read-class (Instruction false n) line lines ih blocks label entries count run place run_label after h left = read-put n line lines ih blocks label entries count run place run_label after h left
+    (blocks : List Block) (label : List ℕ) (entries : List Entry) (count run index : ℕ) (run_label : List ℕ) (after : Bool) →
+    index % 64 ≡ length entries → label ≡ left_label run_label index (length entries) →
+    read_class (record { blocks = blocks; label = label; entries = entries; count = count; after = after }) c line lines ≡ class_answer blocks label entries count run index run_label c line lines
+read-class Comment line lines ih blocks label entries count run index run_label after h left = ih blocks label entries (suc count) run index run_label false h left
+read-class Other line lines ih blocks label entries count run index run_label after h left = read-end [] lines ih blocks label entries count run false
+read-class Refused line lines ih blocks label entries count run index run_label after h left = refl
+read-class (Pad true) line lines ih blocks label entries count run index run_label after h left = read-end (label_bytes (body line)) lines ih blocks label entries count run true
+read-class (Pad false) line lines ih blocks label entries count run index run_label after h left = ih blocks label entries (suc count) run index run_label true h left
+read-class (Instruction true n) line lines ih blocks label entries count run index run_label after h left = read-begin n line lines ih blocks label entries count run index run_label after
+read-class (Instruction false n) line lines ih blocks label entries count run index run_label after h left = read-put n line lines ih blocks label entries count run index run_label after h left
 
 -- whether the line is too long, and whether it is one too many
 read-line : (long many : Bool) (c : Class) (line : List ℕ) (lines : List (List ℕ)) → Read lines →
-    (blocks : List Block) (label : List ℕ) (entries : List Entry) (count run place : ℕ) (run_label : List ℕ) (after : Bool) →
-    place % 64 ≡ length entries → label ≡ left_label run_label place (length entries) →
+    (blocks : List Block) (label : List ℕ) (entries : List Entry) (count run index : ℕ) (run_label : List ℕ) (after : Bool) →
+    index % 64 ≡ length entries → label ≡ left_label run_label index (length entries) →
     and_then (if long then Err (LineTooLong (suc count)) else (if many then Err TooLarge
     else by_class (record { blocks = blocks; label = label; entries = entries; count = count; after = after }) c (label_bytes (body line)) (from_operation (body line)))) (λ t. read_from t lines)
     ≡ unless_refused (or_else (if long then Some (LineTooLong (suc count)) else (if many then Some TooLarge else operand_refusal (suc count) c))
-    (refusal (classed (suc (suc count)) (run_after run c) (place_after place c) (label_after run_label c line) (is_code c) lines)))
-    (blocks ++ resumed label entries (parted (instructions (from_class (suc count) run place run_label c line lines))))
-read-line true many c line lines ih blocks label entries count run place run_label after h left = refl
-read-line false true c line lines ih blocks label entries count run place run_label after h left = refl
-read-line false false c line lines ih blocks label entries count run place run_label after h left = read-class c line lines ih blocks label entries count run place run_label after h left
+    (refusal (classes_from (suc (suc count)) (run_after run c) (place_after index c) (label_after run_label c line) (is_code c) lines)))
+    (blocks ++ resumed label entries (parts_of (instructions (from_class (suc count) run index run_label c line lines))))
+read-line true many c line lines ih blocks label entries count run index run_label after h left = refl
+read-line false true c line lines ih blocks label entries count run index run_label after h left = refl
+read-line false false c line lines ih blocks label entries count run index run_label after h left = read-class c line lines ih blocks label entries count run index run_label after h left
 
 then-then : {A B C : Type 0} (r : Result A SourceError) (f : A → Result B SourceError) (g : B → Result C SourceError) → and_then (and_then r f) g ≡ and_then r (λ x. and_then (f x) g)
 then-then (Ok x) f g = refl
@@ -253,19 +253,19 @@ too-many : (count : ℕ) → nat_lt 20000 (suc count) ≡ nat_le 20000 count
 too-many count = leb-suc-suc 20000 count
 
 read-all : (lines : List (List ℕ)) → Read lines
-read-all [] blocks label entries count run place run_label after h left = ap Ok (last-open blocks label entries)
-read-all (line ∷ lines) blocks label entries count run place run_label after h left =
+read-all [] blocks label entries count run index run_label after h left = ap Ok (last-open blocks label entries)
+read-all (line ∷ lines) blocks label entries count run index run_label after h left =
     then-then (line_step (record { blocks = blocks; label = label; entries = entries; count = count; after = after }) line) (λ t. lines_step t lines) (λ t. Ok (with_open t.blocks t.label t.entries))
-    ∙ rw (too-many count) (read-line (nat_lt 200 (length line)) (nat_le 20000 count) (class_of after line) line lines (read-all lines) blocks label entries count run place run_label after h left)
+    ∙ rw (too-many count) (read-line (nat_lt 200 (length line)) (nat_le 20000 count) (class_of after line) line lines (read-all lines) blocks label entries count run index run_label after h left)
 
 -- reading from the start is the definition
 pub read_from-start : (text : List ℕ) → read_from start (lines_of text) ≡ source_of text
 read_from-start text = read-all (lines_of text) [] [] [] 0 0 0 [] false refl refl
 
 -- the blocks at the end
-pub source-blocks : (text : List ℕ) (s r t : State) → s ≡ start → lines_step s (lines_of text) ≡ Ok r → t ≡ ended r → source_of text ≡ Ok t.blocks
-source-blocks text s r t begun read closed =
-    sym (read_from-start text) ∙ ap (λ u. read_from u (lines_of text)) (sym begun) ∙ ap (λ made. and_then made (λ u. Ok (with_open u.blocks u.label u.entries))) read ∙ ap (λ u. Ok u.blocks) (sym closed)
+pub source-blocks : (text : List ℕ) (s r t : State) → s ≡ start → lines_step s (lines_of text) ≡ Ok r → t ≡ end_block r → source_of text ≡ Ok t.blocks
+source-blocks text s r t begin_run read closed =
+    sym (read_from-start text) ∙ ap (λ u. read_from u (lines_of text)) (sym begin_run) ∙ ap (λ made. and_then made (λ u. Ok (with_open u.blocks u.label u.entries))) read ∙ ap (λ u. Ok u.blocks) (sym closed)
 
 abbrev is_accepted : Result (List Block) SourceError → Bool
 is_accepted (Ok blocks) = true
@@ -281,10 +281,10 @@ Gives-accepted text blocks h = accepted-blocks (refusal (classed_lines text)) (b
 
 -- the refusal
 pub Gives-refusal : {X : Type 0} (view : X → List Block) (e : SourceError) (text : List ℕ) (s new : State) → s ≡ start → Steps new (Err e) (lines_step s (lines_of text)) → Gives view (Err e) (source_of text)
-Gives-refusal view OutOfMemory text s new begun read = tt
-Gives-refusal view (BadOperand n) text s new begun read =
-    sym (read_from-start text) ∙ ap (λ u. read_from u (lines_of text)) (sym begun) ∙ ap (λ made. and_then made (λ u. Ok (with_open u.blocks u.label u.entries))) read
-Gives-refusal view (LineTooLong n) text s new begun read =
-    sym (read_from-start text) ∙ ap (λ u. read_from u (lines_of text)) (sym begun) ∙ ap (λ made. and_then made (λ u. Ok (with_open u.blocks u.label u.entries))) read
-Gives-refusal view TooLarge text s new begun read =
-    sym (read_from-start text) ∙ ap (λ u. read_from u (lines_of text)) (sym begun) ∙ ap (λ made. and_then made (λ u. Ok (with_open u.blocks u.label u.entries))) read
+Gives-refusal view OutOfMemory text s new begin_run read = tt
+Gives-refusal view (BadOperand n) text s new begin_run read =
+    sym (read_from-start text) ∙ ap (λ u. read_from u (lines_of text)) (sym begin_run) ∙ ap (λ made. and_then made (λ u. Ok (with_open u.blocks u.label u.entries))) read
+Gives-refusal view (LineTooLong n) text s new begin_run read =
+    sym (read_from-start text) ∙ ap (λ u. read_from u (lines_of text)) (sym begin_run) ∙ ap (λ made. and_then made (λ u. Ok (with_open u.blocks u.label u.entries))) read
+Gives-refusal view TooLarge text s new begin_run read =
+    sym (read_from-start text) ∙ ap (λ u. read_from u (lines_of text)) (sym begin_run) ∙ ap (λ made. and_then made (λ u. Ok (with_open u.blocks u.label u.entries))) read

@@ -2,7 +2,7 @@
 use Rattle.std.proofs.Common.{◌≤◌, ◌==◌, ℕ, Bool, true, false, List, [], ◌∷◌, ◌++◌, Option, None, Some, IfSome, lit≤}
 use Rattle.s66_isa.specs.declared.reg.Bank.{Bank}
 use Rattle.s66_isa.specs.declared.reg.Bank.TheVariants.{A, B, X}
-use Rattle.s66_line.specs.Operand.{is_octal, signed, register_of, registers_of, some_constant, with_constant, without_constant, set_form_of}
+use Rattle.s66_line.specs.Operand.{is_octal, with_sign, register_of, registers_of, some_constant, with_constant, without_constant, set_form_of}
 use Rattle.s66_line.proofs.Digits.{either, octal-few}
 
 abbrev Few : List (Bool × Bank × ℕ) → Type 0
@@ -20,13 +20,13 @@ register-few (a ∷ d ∷ []) =
     (λ e. tt)
 register-few (a ∷ b ∷ c ∷ more) = tt
 
-Few-signed : (minus : Bool) (r : Option (Bank × ℕ)) (registers : List (Bool × Bank × ℕ)) → IfSome r (λ s. s.1 ≤ 7) → Few registers → Few (signed minus r ++ registers)
-Few-signed minus None registers h few = few
-Few-signed minus (Some r) registers h few = (h, few)
+Few-with_sign : (minus : Bool) (r : Option (Bank × ℕ)) (registers : List (Bool × Bank × ℕ)) → IfSome r (λ s. s.1 ≤ 7) → Few registers → Few (with_sign minus r ++ registers)
+Few-with_sign minus None registers h few = few
+Few-with_sign minus (Some r) registers h few = (h, few)
 
 registers-few : (ts : List (Bool × List ℕ)) → Few (registers_of ts)
 registers-few [] = tt
-registers-few (t ∷ ts) = Few-signed t.0 (register_of t.1) (registers_of ts) (register-few t.1) (registers-few ts)
+registers-few (t ∷ ts) = Few-with_sign t.0 (register_of t.1) (registers_of ts) (register-few t.1) (registers-few ts)
 
 abbrev pub IsSetForm : ℕ × ℕ × ℕ → Type 0
 IsSetForm f = (f.0 ≤ 7) × (f.1 ≤ 7) × (f.2 ≤ 7)

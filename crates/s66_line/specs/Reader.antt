@@ -27,23 +27,23 @@ abbrev pub with_open : List Block → List ℕ → List Entry → List Block
 with_open blocks label [] = blocks
 with_open blocks label (e ∷ es) = blocks ++ record { label = label; entries = e ∷ es } ∷ []
 
-abbrev pub ended : State → State
-ended s = record { blocks = with_open s.blocks s.label s.entries; label = []; entries = []; count = s.count; after = s.after }
+abbrev pub end_block : State → State
+end_block s = record { blocks = with_open s.blocks s.label s.entries; label = []; entries = []; count = s.count; after = s.after }
 
 -- the open block ends, and a run with this label begins
-abbrev pub begun : List ℕ → State → State
-begun label s = record { blocks = with_open s.blocks s.label s.entries; label = label; entries = []; count = s.count; after = s.after }
+abbrev pub begin_run : List ℕ → State → State
+begin_run label s = record { blocks = with_open s.blocks s.label s.entries; label = label; entries = []; count = s.count; after = s.after }
 
-abbrev pub begun_if : Bool → List ℕ → State → State
-begun_if located label s = if located then begun label s else s
+abbrev pub begin_run_if : Bool → List ℕ → State → State
+begin_run_if located label s = if located then begin_run label s else s
 
 -- it ends with its 64th instruction too
-abbrev pub ended_if_full : State → State
-ended_if_full s = if length s.entries == 64 then ended s else s
+abbrev pub end_block_if_full : State → State
+end_block_if_full s = if length s.entries == 64 then end_block s else s
 
 abbrev pub with_entry : Instr → List ℕ → State → State
 with_entry n bytes s =
-    ended_if_full (record {
+    end_block_if_full (record {
       blocks = s.blocks;
       label = s.label;
       entries = s.entries ++ record { instr = n; line = suc s.count; bytes = bytes } ∷ [];
@@ -51,16 +51,16 @@ with_entry n bytes s =
       after = s.after;
     })
 
-abbrev pub counted : Bool → State → State
-counted after s = record { blocks = s.blocks; label = s.label; entries = s.entries; count = suc s.count; after = after }
+abbrev pub count_line : Bool → State → State
+count_line after s = record { blocks = s.blocks; label = s.label; entries = s.entries; count = suc s.count; after = after }
 
 -- the next line is of this class, with its label and its bytes from the operation on
 abbrev pub by_class : State → Class → List ℕ → List ℕ → Result State SourceError
-by_class s Comment label bytes = Ok (counted false s)
-by_class s Other label bytes = Ok (counted false (ended s))
+by_class s Comment label bytes = Ok (count_line false s)
+by_class s Other label bytes = Ok (count_line false (end_block s))
 by_class s Refused label bytes = Err (BadOperand (suc s.count))
-by_class s (Pad located) label bytes = Ok (counted true (begun_if located label s))
-by_class s (Instruction located n) label bytes = Ok (counted true (with_entry n bytes (begun_if located label s)))
+by_class s (Pad located) label bytes = Ok (count_line true (begin_run_if located label s))
+by_class s (Instruction located n) label bytes = Ok (count_line true (with_entry n bytes (begin_run_if located label s)))
 
 abbrev pub line_step : State → List ℕ → Result State SourceError
 line_step s line =

@@ -1,7 +1,7 @@
 -- What becomes of each line of a source when its blocks are printed in another order.
 use Rattle.std.specs.Prelude.{◌&&◌, ◌||◌, ◌==◌, not, codes, ◌++◌, ℕ, Bool, true, false, List, [], ◌∷◌, length, map, nat_lt}
 use Rattle.std.specs.List.{filter}
-use Rattle.s66_isa.specs.Words.{some_of}
+use Rattle.s66_isa.specs.Lists.{some_of}
 use Rattle.s66_line.specs.declared.class.Class.{Class}
 use Rattle.s66_line.specs.declared.class.Class.TheVariants.{Comment, Other, Refused, Pad, Instruction}
 use Rattle.s66_line.specs.Source.{Line, Block, is_instruction, classed_lines, blocks_of}

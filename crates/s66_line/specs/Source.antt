@@ -2,7 +2,7 @@
 use Rattle.std.specs.Prelude.{◌&&◌, ◌==◌, if◌then◌else◌, ℕ, suc, Bool, true, false, List, [], ◌∷◌, ◌%◌, Option, None, Some, Result, Ok, Err, nat_lt, length, map}
 use Rattle.std.specs.List.{filter}
 use Rattle.s66_isa.specs.declared.instr.Instr.{Instr}
-use Rattle.s66_isa.specs.Table.{no_instr}
+use Rattle.s66_isa.specs.Table.{idle_instr}
 use Rattle.s66_line.specs.Fields.{lines_of, upper, body, is_comment, location, operation, operand, from_operation, continues, label_bytes}
 use Rattle.s66_line.specs.Operand.{instr_of, is_operation}
 use Rattle.s66_line.specs.declared.class.Class.{Class}
@@ -12,9 +12,9 @@ use Rattle.s66_line.specs.declared.error.SourceError.TheVariants.{BadOperand, Li
 
 -- CLASSES
 
-abbrev pub decoded : Bool → Option Instr → Class
-decoded located None = Refused
-decoded located (Some n) = Instruction located n
+abbrev pub class_of_operand : Bool → Option Instr → Class
+class_of_operand located None = Refused
+class_of_operand located (Some n) = Instruction located n
 
 abbrev pub is_pad : List ℕ → Bool
 is_pad (n ∷ o ∷ []) = n == 78 && o == 79
@@ -27,7 +27,7 @@ is_located line = nat_lt 0 (length (location line))
 abbrev pub by_operation : Bool → List ℕ → List ℕ → Class
 by_operation located operation operand =
     if is_pad operation then Pad located
-    else (if is_operation operation then decoded located (instr_of operation operand) else Other)
+    else (if is_operation operation then class_of_operand located (instr_of operation operand) else Other)
 
 -- after: the line directly before is an Instruction or a Pad, so that a comma in column 1 would continue it
 abbrev pub class_of : Bool → List ℕ → Class
@@ -76,7 +76,7 @@ pub record Line : Type 0 where
   -- two lines of code stand in one run where none after the first, up to and with the second, begins a run, and no Other line stands between
   pub run : ℕ
   -- of an instruction: how many instructions of its run stand before it
-  pub place : ℕ
+  pub index : ℕ
   -- the label of its run
   pub label : List ℕ
 
@@ -87,10 +87,10 @@ abbrev pub run_after : ℕ → Class → ℕ
 run_after run c = if ends_run c then suc (run_at run c) else run_at run c
 
 abbrev pub place_at : ℕ → Class → ℕ
-place_at place c = if begins_run c then 0 else place
+place_at index c = if begins_run c then 0 else index
 
 abbrev pub place_after : ℕ → Class → ℕ
-place_after place c = if ends_run c then 0 else (if is_instruction c then suc (place_at place c) else place_at place c)
+place_after index c = if ends_run c then 0 else (if is_instruction c then suc (place_at index c) else place_at index c)
 
 -- the location field of the line that begins a run is its label
 abbrev pub label_at : List ℕ → Class → List ℕ → List ℕ
@@ -99,22 +99,22 @@ label_at label c line = if begins_run c then label_bytes (body line) else label
 abbrev pub label_after : List ℕ → Class → List ℕ → List ℕ
 label_after label c line = if ends_run c then [] else label_at label c line
 
-abbrev pub classed : ℕ → ℕ → ℕ → List ℕ → Bool → List (List ℕ) → List Line
-classed number run place label after [] = []
-classed number run place label after (line ∷ lines) =
+abbrev pub classes_from : ℕ → ℕ → ℕ → List ℕ → Bool → List (List ℕ) → List Line
+classes_from number run index label after [] = []
+classes_from number run index label after (line ∷ lines) =
     record {
       number = number;
       bytes = line;
       class = class_of after line;
       run = run_at run (class_of after line);
-      place = place_at place (class_of after line);
+      index = place_at index (class_of after line);
       label = label_at label (class_of after line) line;
     }
-    ∷ classed (suc number) (run_after run (class_of after line)) (place_after place (class_of after line)) (label_after label (class_of after line) line)
+    ∷ classes_from (suc number) (run_after run (class_of after line)) (place_after index (class_of after line)) (label_after label (class_of after line) line)
     (is_code (class_of after line)) lines
 
 abbrev pub classed_lines : List ℕ → List Line
-classed_lines text = classed 1 0 0 [] false (lines_of text)
+classed_lines text = classes_from 1 0 0 [] false (lines_of text)
 
 -- THE LEAST REFUSED LINE: too long, then too many lines, then a bad operand
 
@@ -145,7 +145,7 @@ instructions lines = filter (λ l. is_instruction l.class) lines
 
 -- of an instruction: it is the first of its run, or comes after a 64th
 abbrev pub begins_block : Line → Bool
-begins_block line = line.place % 64 == 0
+begins_block line = line.index % 64 == 0
 
 -- a line before the first of these blocks: it joins that block, or is one where that block begins anew
 abbrev pub put_before : Line → List (List Line) → List (List Line)
@@ -155,16 +155,16 @@ put_before line ((next ∷ more) ∷ blocks) =
     if begins_block next then (line ∷ []) ∷ (next ∷ more) ∷ blocks else (line ∷ next ∷ more) ∷ blocks
 
 -- instruction lines, cut where a block begins
-abbrev pub parted : List Line → List (List Line)
-parted [] = []
-parted (line ∷ lines) = put_before line (parted lines)
+abbrev pub parts_of : List Line → List (List Line)
+parts_of [] = []
+parts_of (line ∷ lines) = put_before line (parts_of lines)
 
 abbrev pub instr_in : Class → Instr
 instr_in (Instruction located n) = n
-instr_in Comment = no_instr
-instr_in Other = no_instr
-instr_in Refused = no_instr
-instr_in (Pad located) = no_instr
+instr_in Comment = idle_instr
+instr_in Other = idle_instr
+instr_in Refused = idle_instr
+instr_in (Pad located) = idle_instr
 
 -- an instruction of a block: the number of its line, and the bytes of that line from its operation on
 pub record Entry : Type 0 where
@@ -182,13 +182,13 @@ entry_of line = record { instr = instr_in line.class; line = line.number; bytes 
 -- the first block of a run has its label
 abbrev pub label_in : List Line → List ℕ
 label_in [] = []
-label_in (line ∷ lines) = if line.place == 0 then line.label else []
+label_in (line ∷ lines) = if line.index == 0 then line.label else []
 
 abbrev pub block_of : List Line → Block
 block_of part = record { label = label_in part; entries = map entry_of part }
 
 abbrev pub blocks_of : List Line → List Block
-blocks_of lines = map block_of (parted (instructions lines))
+blocks_of lines = map block_of (parts_of (instructions lines))
 
 abbrev pub unless_refused : Option SourceError → List Block → Result (List Block) SourceError
 unless_refused None blocks = Ok blocks

@@ -3,7 +3,7 @@ use Rattle.std.specs.Prelude.{◌≡◌, ◌≤◌, ◌+◌, ℕ, List, [], ◌�
 use Rattle.s66_isa.specs.declared.instr.Instr.{Instr}
 use Rattle.s66_isa.specs.declared.reg.Bank.{Bank}
 use Rattle.s66_isa.specs.declared.reg.Bank.TheVariants.{A, B, X}
-use Rattle.s66_isa.specs.Words.{Among, rising}
+use Rattle.s66_isa.specs.Lists.{Among, rising}
 use Rattle.s66_line.specs.Fields.{upper}
 use Rattle.s66_line.specs.Operand.{spelled}
 use Rattle.s66_line.specs.Source.{Entry, Block}

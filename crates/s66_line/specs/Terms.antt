@@ -5,8 +5,8 @@ use Rattle.s66_line.specs.Operand.{is_constant, register_of, are_terms, some_con
 use Rattle.s66_line.specs.declared.terms.Terms.{Terms}
 
 -- whether some term is a constant, and the registers; None where a term is neither, or a third is a register
-abbrev pub gathered : List (Bool × List ℕ) → Option (Bool × List (Bool × Bank × ℕ))
-gathered ts = if are_terms ts && nat_le (length (registers_of ts)) 2 then Some (some_constant ts, registers_of ts) else None
+abbrev pub gather : List (Bool × List ℕ) → Option (Bool × List (Bool × Bank × ℕ))
+gather ts = if are_terms ts && nat_le (length (registers_of ts)) 2 then Some (some_constant ts, registers_of ts) else None
 
 abbrev pub seen : Terms → Bool × List (Bool × Bank × ℕ)
 seen terms = (terms.has_constant, terms.registers.items)

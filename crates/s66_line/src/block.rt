@@ -24,7 +24,7 @@ impl<'a> Model for Block<'a> {
 
 impl<'a> Block<'a> {
     ghost use Rattle.std.specs.Prelude.{◌≡◌, ◌≤◌, ◌<◌, length};
-    ghost use Rattle.s66_isa.specs.Words.{weigh};
+    ghost use Rattle.s66_isa.specs.Lists.{weigh};
     ghost use Rattle.s66_isa.specs.Table.{instr_at, parcels_of};
     ghost use Rattle.s66_isa.specs.declared.instr.Instr.{Instr};
     ghost use Rattle.s66_line.specs.Block.{instrs_of, line_of, bytes_of, text_of};

@@ -1,23 +1,23 @@
 ghost use Rattle.std.specs.Prelude.{◌≡◌, ◌≤◌, ◌+◌, ℕ, List, ◌∷◌, ◌++◌, Option, Some, Result, Ok, Bool, true, false, map, option_map, codes, get_or, []};
 ghost use Rattle.s66_isa.specs.declared.instr.Instr.{Instr};
 ghost use Rattle.s66_isa.specs.declared.reg.Bank.{Bank};
-ghost use Rattle.s66_isa.specs.Words.{Among, tally};
+ghost use Rattle.s66_isa.specs.Lists.{Among, tally};
 ghost use Rattle.s66_line.specs.Fields.{upper};
 ghost use Rattle.s66_line.specs.Operand.{register_of, is_constant, constant_of, instr_of, set_form_of, set_code};
 ghost use Rattle.s66_line.specs.Spelling.{digit, CanMean, set_letters, set_operands, examples, upper_read};
-ghost use Rattle.s66_line.specs.Source.{Line, Block, classed_lines, instructions, is_instruction, parted, blocks_of, source_of};
+ghost use Rattle.s66_line.specs.Source.{Line, Block, classed_lines, instructions, is_instruction, parts_of, blocks_of, source_of};
 ghost use Rattle.s66_line.specs.Block.{constants_in};
 ghost use Rattle.s66_line.specs.Parts.{AreParts};
 ghost use Rattle.s66_line.specs.Roles.{is_note, is_note_of, is_dropped, is_copied, roles, lines_that, mixed_source, outside_source};
 
 /// What is spelled is in the table: the letters of the operation can mean the instruction's code, its digit is i, and i,
 /// j and k are 0 to 7.
-pub fn form_law()
+pub fn spelling_law()
     ensures { (operation operand : List ℕ) (n : Instr) → instr_of operation operand ≡ Some n → CanMean operation n }
 {}
 
 /// Each of the 55 codes, spelled.
-pub fn spelling_rows()
+pub fn spelling_examples()
     ensures { map (λ row. instr_of row.0 row.1) examples ≡ map (λ row. Some row.2) examples }
 {}
 
@@ -41,7 +41,7 @@ pub fn case_law()
 
 /// The blocks of a source are its instruction lines, cut into runs and these after each 64th line.
 pub fn parts_law()
-    ensures { (text : List ℕ) → AreParts (classed_lines text) (parted (instructions (classed_lines text))) }
+    ensures { (text : List ℕ) → AreParts (classed_lines text) (parts_of (instructions (classed_lines text))) }
 {}
 
 /// Each line of an accepted source is exactly one of these: an instruction, a note, a `NO` that is left out, or copied; and a
@@ -52,7 +52,7 @@ pub fn line_law()
 {}
 
 /// What becomes of the lines of a small source, and of comments and a `NO` outside of blocks.
-pub fn line_rows()
+pub fn line_examples()
     ensures instructions { lines_that (λ lines line. is_instruction line.class) mixed_source ≡ 2 ∷ 5 ∷ 6 ∷ 8 ∷ [] }
     ensures notes { lines_that is_note mixed_source ≡ 4 ∷ [] }
     ensures dropped { lines_that is_dropped mixed_source ≡ 3 ∷ [] }
@@ -62,7 +62,7 @@ pub fn line_rows()
 {}
 
 /// The texts of constants, by octal code and operand, and of the instructions of a block.
-pub fn constant_rows()
+pub fn constant_examples()
     ensures in_front { constant_of 0o50 (codes "0+A1") ≡ codes "+0" }
     ensures behind { constant_of 0o50 (codes "A1+0") ≡ codes "+0" }
     ensures several { constant_of 0o50 (codes "A1+2*N-3") ≡ codes "+2*N-3" }

@@ -1,5 +1,5 @@
 ghost use Rattle.std.specs.Prelude.{◌≡◌};
-ghost use Rattle.s66_line.specs.Operand.{form_of, decode, is_operation, instr_of};
+ghost use Rattle.s66_line.specs.Operand.{syntax_of, decode, is_operation, instr_of};
 
 use crate::operand::{arithmetic, boolean, is_octal_digit, mask, normalise, population, shift};
 use crate::set_operand::set;
@@ -7,7 +7,7 @@ use s66_isa::{Bank, Instr};
 
 /// Which operands an operation takes, with the octal codes that they choose from.
 #[derive(Clone, Copy, Debug)]
-pub(crate) enum Form {
+pub(crate) enum Syntax {
     Boolean,
     /// Shifted by a constant, or by a B register.
     Shift {
@@ -34,52 +34,52 @@ pub(crate) enum Form {
 }
 
 /// The form of an operation by its two letters.
-fn form_of(first: u8, second: u8) -> Option<Form>
-    ensures { result ≡ form_of first second }
+fn syntax_of(first: u8, second: u8) -> Option<Syntax>
+    ensures { result ≡ syntax_of first second }
 {
     match (first, second) {
-        (b'B', b'X') => Some(Form::Boolean),
-        (b'L', b'X') => Some(Form::Shift {
+        (b'B', b'X') => Some(Syntax::Boolean),
+        (b'L', b'X') => Some(Syntax::Shift {
             by_constant: 0o20,
             by_register: 0o22,
         }),
-        (b'A', b'X') => Some(Form::Shift {
+        (b'A', b'X') => Some(Syntax::Shift {
             by_constant: 0o21,
             by_register: 0o23,
         }),
-        (b'N', b'X') => Some(Form::Normalise { code: 0o24 }),
-        (b'Z', b'X') => Some(Form::Normalise { code: 0o25 }),
-        (b'U', b'X') => Some(Form::Normalise { code: 0o26 }),
-        (b'P', b'X') => Some(Form::Normalise { code: 0o27 }),
-        (b'F', b'X') => Some(Form::Arithmetic {
+        (b'N', b'X') => Some(Syntax::Normalise { code: 0o24 }),
+        (b'Z', b'X') => Some(Syntax::Normalise { code: 0o25 }),
+        (b'U', b'X') => Some(Syntax::Normalise { code: 0o26 }),
+        (b'P', b'X') => Some(Syntax::Normalise { code: 0o27 }),
+        (b'F', b'X') => Some(Syntax::Arithmetic {
             sum: 0o30,
             difference: 0o31,
             product: Some(0o40),
             quotient: Some(0o44),
         }),
-        (b'D', b'X') => Some(Form::Arithmetic {
+        (b'D', b'X') => Some(Syntax::Arithmetic {
             sum: 0o32,
             difference: 0o33,
             product: Some(0o42),
             quotient: None,
         }),
-        (b'R', b'X') => Some(Form::Arithmetic {
+        (b'R', b'X') => Some(Syntax::Arithmetic {
             sum: 0o34,
             difference: 0o35,
             product: Some(0o41),
             quotient: Some(0o45),
         }),
-        (b'I', b'X') => Some(Form::Arithmetic {
+        (b'I', b'X') => Some(Syntax::Arithmetic {
             sum: 0o36,
             difference: 0o37,
             product: None,
             quotient: None,
         }),
-        (b'M', b'X') => Some(Form::Mask),
-        (b'C', b'X') => Some(Form::Population),
-        (b'S', b'X') => Some(Form::Set { bank: Bank::X }),
-        (b'S', b'A') => Some(Form::Set { bank: Bank::A }),
-        (b'S', b'B') => Some(Form::Set { bank: Bank::B }),
+        (b'M', b'X') => Some(Syntax::Mask),
+        (b'C', b'X') => Some(Syntax::Population),
+        (b'S', b'X') => Some(Syntax::Set { bank: Bank::X }),
+        (b'S', b'A') => Some(Syntax::Set { bank: Bank::A }),
+        (b'S', b'B') => Some(Syntax::Set { bank: Bank::B }),
         _ => None,
     }
 }
@@ -89,30 +89,30 @@ pub(crate) fn is_operation_name(operation: &[u8]) -> bool
     ensures { result ≡ is_operation operation.now }
 {
     match operation {
-        [first, second, digit] => form_of(*first, *second).is_some() && is_octal_digit(*digit),
+        [first, second, digit] => syntax_of(*first, *second).is_some() && is_octal_digit(*digit),
         _ => false,
     }
 }
 
-fn decode(form: Form, i: u8, operand: &[u8]) -> Option<Instr>
-    ensures { result ≡ decode form i operand.now }
+fn decode(syntax: Syntax, i: u8, operand: &[u8]) -> Option<Instr>
+    ensures { result ≡ decode syntax i operand.now }
 {
-    match form {
-        Form::Boolean => boolean(i, operand),
-        Form::Shift {
+    match syntax {
+        Syntax::Boolean => boolean(i, operand),
+        Syntax::Shift {
             by_constant,
             by_register,
         } => shift(by_constant, by_register, i, operand),
-        Form::Normalise { code } => normalise(code, i, operand),
-        Form::Arithmetic {
+        Syntax::Normalise { code } => normalise(code, i, operand),
+        Syntax::Arithmetic {
             sum,
             difference,
             product,
             quotient,
         } => arithmetic(sum, difference, product, quotient, i, operand),
-        Form::Mask => mask(i, operand),
-        Form::Population => population(i, operand),
-        Form::Set { bank } => set(bank, i, operand),
+        Syntax::Mask => mask(i, operand),
+        Syntax::Population => population(i, operand),
+        Syntax::Set { bank } => set(bank, i, operand),
     }
 }
 
@@ -125,8 +125,8 @@ pub(crate) fn instruction_of(operation: &[u8], operand: &[u8]) -> Option<Instr>
             if !is_octal_digit(*digit) {
                 return None;
             }
-            let form = form_of(*first, *second)?;
-            decode(form, *digit - b'0', operand)
+            let syntax = syntax_of(*first, *second)?;
+            decode(syntax, *digit - b'0', operand)
         }
         _ => None,
     }

@@ -1,6 +1,6 @@
 ghost use Rattle.std.specs.Prelude.{◌≡◌, ◌≤◌, ◌<◌, [], length, OnOk};
 ghost use Rattle.s66_line.specs.Fields.{lines_from};
-ghost use Rattle.s66_line.specs.Reader.{Steps, ended, begun, with_entry, by_class, line_step, lines_step};
+ghost use Rattle.s66_line.specs.Reader.{Steps, end_block, begin_run, with_entry, by_class, line_step, lines_step};
 ghost use Rattle.s66_line.specs.ReaderState.{state};
 
 use crate::block::Block;
@@ -29,7 +29,7 @@ impl<'a> Reader<'a> {
     /// Ends the open block, where it has an instruction.
     pub(crate) fn end_block(&mut self, alloc: Global) -> Result<(), AllocError>
         requires { length self.old.entries.items ≤ 64 }
-        ensures { OnOk result (state self.new ≡ ended (state self.old)) }
+        ensures { OnOk result (state self.new ≡ end_block (state self.old)) }
     {
         if !self.entries.is_empty() {
             let entries = mem::replace(&mut self.entries, Vec::new(alloc));
@@ -42,7 +42,7 @@ impl<'a> Reader<'a> {
     /// Ends the open block, and begins a run with this label.
     fn begin_run(&mut self, alloc: Global, label: &'a [u8]) -> Result<(), AllocError>
         requires { length self.old.entries.items ≤ 64 }
-        ensures { OnOk result (state self.new ≡ begun label.now (state self.old)) }
+        ensures { OnOk result (state self.new ≡ begin_run label.now (state self.old)) }
     {
         self.end_block(alloc)?;
         self.label = label;

@@ -3,7 +3,7 @@ use Rattle.std.proofs.Common.{ℕ, zero, suc, ◌+◌, ◌-◌, ◌≤◌, ◌<�
 use Rattle.std.proofs.lemmas.Bool.{cond_both}
 use Rattle.std.proofs.lemmas.List.{drop_more, length-map}
 use Rattle.s66_isa.specs.declared.instr.Instr.{Instr}
-use Rattle.s66_isa.specs.Words.{has, rising, weigh}
+use Rattle.s66_isa.specs.Lists.{has, rising, weigh}
 use Rattle.s66_isa.specs.Table.{numbers}
 use Rattle.s66_model.specs.Dependence.{needs, all_needs}
 use Rattle.s66_model.proofs.Beginnings.{length-rising}

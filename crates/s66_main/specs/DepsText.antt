@@ -1,7 +1,7 @@
 -- What `deps` writes of a block: a line, and a line for each instruction that depends on some.
 use Rattle.std.specs.Prelude.{ℕ, List, [], ◌∷◌, ◌++◌, length, codes, decimal}
 use Rattle.s66_isa.specs.declared.instr.Instr.{Instr}
-use Rattle.s66_isa.specs.Words.{weigh}
+use Rattle.s66_isa.specs.Lists.{weigh}
 use Rattle.s66_isa.specs.Table.{numbers}
 use Rattle.s66_model.specs.Dependence.{needs, all_needs}
 use Rattle.s66_line.specs.Block.{instrs_of, line_of}

@@ -1,9 +1,9 @@
 -- What `time` writes of a block: a line and, with its trace, a line for each instruction.
 use Rattle.std.specs.Prelude.{ℕ, ◌+◌, Bool, if◌then◌else◌, List, [], ◌∷◌, ◌++◌, length, map, codes, decimal}
 use Rattle.s66_isa.specs.declared.instr.Instr.{Instr}
-use Rattle.s66_isa.specs.Words.{weigh}
+use Rattle.s66_isa.specs.Lists.{weigh}
 use Rattle.s66_isa.specs.Table.{parcels_of, numbers, standard}
-use Rattle.s66_model.specs.Packing.{pads, len_at}
+use Rattle.s66_model.specs.Packing.{fillers, len_at}
 use Rattle.s66_model.specs.Timing.{total_of}
 use Rattle.s66_line.specs.Block.{instrs_of, line_of}
 use Rattle.s66_line.specs.Source.{Block}
@@ -18,8 +18,8 @@ abbrev pub parcels_in : List Instr → ℕ
 parcels_in block = weigh (λ (n : Instr). parcels_of n.op.code) block
 
 -- how many NOs fill up words where the instructions stand as they were written
-abbrev pub pads_in : List Instr → ℕ
-pads_in block = length (pads 0 (map (len_at block) (numbers block)))
+abbrev pub fillers_as_written : List Instr → ℕ
+fillers_as_written block = length (fillers 0 (map (len_at block) (numbers block)))
 
 -- the total of a timed order
 abbrev pub total_time : TimedOrder → ℕ
@@ -29,7 +29,7 @@ total_time t = total_of t.problem t.numbers
 abbrev pub time_line : ℕ → Block → List ℕ
 time_line n block =
     codes "BLOCK " ++ decimal n ++ codes " LINE " ++ decimal (line_of block 1) ++ codes " COUNT " ++ decimal (length (instrs_of block))
-    ++ codes " PARCELS " ++ decimal (parcels_in (instrs_of block)) ++ codes " NO " ++ decimal (pads_in (instrs_of block))
+    ++ codes " PARCELS " ++ decimal (parcels_in (instrs_of block)) ++ codes " NO " ++ decimal (fillers_as_written (instrs_of block))
     ++ codes " TIME " ++ decimal (total_time (as_written (instrs_of block))) ++ codes "\n"
 
 -- the line of the instruction of this number, which stands at a position, from 0

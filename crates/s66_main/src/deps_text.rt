@@ -1,5 +1,5 @@
 ghost use Rattle.std.specs.Prelude.{ℕ, List, ◌≡◌, ◌≤◌, ◌++◌, length, OnOk};
-ghost use Rattle.s66_isa.specs.Words.{weigh};
+ghost use Rattle.s66_isa.specs.Lists.{weigh};
 ghost use Rattle.s66_isa.specs.Table.{numbers};
 ghost use Rattle.s66_line.specs.Block.{instrs_of};
 ghost use Rattle.s66_model.specs.Dependence.{all_needs};

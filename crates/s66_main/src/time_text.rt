@@ -1,6 +1,6 @@
 ghost use Rattle.std.specs.Prelude.{◌≡◌, ◌<◌, ◌++◌, length, OnOk};
 ghost use Rattle.s66_line.specs.Block.{instrs_of};
-ghost use Rattle.s66_main.specs.TimeText.{as_written, pads_in, total_time, time_line, trace_line, trace_lines, time_lines};
+ghost use Rattle.s66_main.specs.TimeText.{as_written, fillers_as_written, total_time, time_line, trace_line, trace_lines, time_lines};
 
 use crate::text::push_field;
 use s66_dep::Order;
@@ -14,10 +14,10 @@ fn push_time_line(
     out: &mut Vec<u8>,
     number: usize,
     block: &Block,
-    pads: usize,
+    fillers: usize,
     total: u32,
 ) -> Result<(), AllocError>
-    requires pads { pads ≡ pads_in (instrs_of block.now) }
+    requires fillers { fillers ≡ fillers_as_written (instrs_of block.now) }
     requires total { total ≡ total_time (as_written (instrs_of block.now)) }
     ensures { OnOk result (out.new.items ≡ out.old.items ++ time_line number block.now) }
 {
@@ -26,7 +26,7 @@ fn push_time_line(
     push_field(out, b" LINE ", block.line(1) as usize)?;
     push_field(out, b" COUNT ", count)?;
     push_field(out, b" PARCELS ", block.parcels() as usize)?;
-    push_field(out, b" NO ", pads)?;
+    push_field(out, b" NO ", fillers)?;
     push_field(out, b" TIME ", total as usize)?;
     out.extend_from_slice(b"\n")
 }
@@ -71,9 +71,9 @@ pub fn push_time_lines(
     ensures { OnOk result (out.new.items ≡ out.old.items ++ time_lines trace number block.now) }
 {
     let order = Order::source(block);
-    let pads = pack(block, &order).pads.len();
+    let fillers = pack(block, &order).fillers.len();
     let timed = time_of(block, &Profile::standard(), &order);
-    push_time_line(out, number, block, pads, timed.total())?;
+    push_time_line(out, number, block, fillers, timed.total())?;
     if trace {
         push_trace(out, &timed)?;
     }

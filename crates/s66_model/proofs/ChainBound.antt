@@ -4,10 +4,10 @@ use Rattle.std.proofs.lemmas.Bool.{cond-true, cond-false, or_cases, or_parts, or
 use Rattle.s66_isa.specs.declared.instr.Instr.{Instr}
 use Rattle.s66_isa.specs.declared.profile.Profile.{Profile}
 use Rattle.s66_isa.specs.declared.reg.Reg.{Reg}
-use Rattle.s66_isa.specs.Words.{greatest, some_of, has}
+use Rattle.s66_isa.specs.Lists.{greatest, some_of, has}
 use Rattle.s66_isa.specs.Table.{Row, Write, row, instr_at, same_reg, has_reg, memory_of, memory_pair, reads_of, results_of, held_registers, loaded_registers, hold_of}
 use Rattle.s66_model.specs.Dependence.{share, conflict}
-use Rattle.s66_model.specs.Timing.{Problem, Point, ResultAt, row_at, done_at, writes_reg, done_of, last_done, last_of, issue_of, memory_wait, start_of, readers_wait, result_at, point, place, timed, points_of, total_of}
+use Rattle.s66_model.specs.Timing.{Problem, Point, ResultAt, row_at, done_at, writes_reg, done_of, last_done, end_of, issue_of, memory_wait, start_of, readers_wait, result_at, point, point_of, points_after, points_of, total_of}
 use Rattle.s66_model.specs.LegalOrder.{is_ready, GoesOn, IsBeginning, Completes, IsOrder}
 use Rattle.s66_model.specs.Leaves.{tail, uses, link, head, walk, chain_value, IsWalk, IsChain}
 use Rattle.s66_model.proofs.Lists.{cases_le, greatest-le-greatest, greatest-le, greatest-shift}
@@ -15,12 +15,12 @@ use Rattle.s66_model.proofs.SameRegister.{same_reg-true, same_reg-self, has_reg-
 use Rattle.s66_model.proofs.LegalOrders.{GoesOn-join, ready-parts, depends-from, needs-each}
 use Rattle.s66_model.proofs.Remaining.{remaining-parts, order-has}
 use Rattle.s66_model.proofs.Issue.{issue-is}
-use Rattle.s66_model.proofs.Placed.{timed-append, greatest-stays, next-le-issue, issue-le-start, tail-le-last, place-row, place-number}
+use Rattle.s66_model.proofs.PointTimes.{points_after-append, greatest-stays, next-le-issue, issue-le-start, tail-le-last, point_of-row, point_of-number}
 
 -- THE LATEST WRITER IS DONE LAST
 
 -- it issues when all registers that it writes are done
-pub written-le-issue : (b : Problem) (s : List Point) (n : ℕ) → greatest (λ (w : Write). done_of s w.reg) (row_at b n).writes ≤ (place b s n).issue
+pub written-le-issue : (b : Problem) (s : List Point) (n : ℕ) → greatest (λ (w : Write). done_of s w.reg) (row_at b n).writes ≤ (point_of b s n).issue
 unfolding point
 written-le-issue b s n =
     let r : Row = row_at b n in
@@ -46,10 +46,10 @@ written-after s start r (w ∷ ws) h le =
           ]
     ]
 
-last-step : (b : Problem) (s : List Point) (n : ℕ) (r : Reg) → last_done r s ≡ done_of s r → last_done r (place b s n ∷ s) ≡ done_of (place b s n ∷ s) r
+last-step : (b : Problem) (s : List Point) (n : ℕ) (r : Reg) → last_done r s ≡ done_of s r → last_done r (point_of b s n ∷ s) ≡ done_of (point_of b s n ∷ s) r
 unfolding point
 last-step b s n r h =
-    let p = place b s n in
+    let p = point_of b s n in
     elim (cases_Bool (writes_reg r p)) [
       | inl is ↦
           (let after : done_of s r ≤ done_at p r = written-after s p.start r (row_at b n).writes is (omega (arith, written-le-issue b s n, issue-le-start b s n)) in
@@ -58,9 +58,9 @@ last-step b s n r h =
           omega (arith, cond-false {A = ℕ} (writes_reg r p) (done_at p r) (last_done r s) is, not-written r p.results is)
     ]
 
-last-run : (b : Problem) (s : List Point) (ns : List ℕ) (r : Reg) → last_done r s ≡ done_of s r → last_done r (timed b s ns) ≡ done_of (timed b s ns) r
+last-run : (b : Problem) (s : List Point) (ns : List ℕ) (r : Reg) → last_done r s ≡ done_of s r → last_done r (points_after b s ns) ≡ done_of (points_after b s ns) r
 last-run b s [] r h = h
-last-run b s (n ∷ ns) r h = last-run b (place b s n ∷ s) ns r (last-step b s n r h)
+last-run b s (n ∷ ns) r h = last-run b (point_of b s n ∷ s) ns r (last-step b s n r h)
 
 pub last-is_greatest : (b : Problem) (ns : List ℕ) (r : Reg) → last_done r (points_of b ns) ≡ done_of (points_of b ns) r
 last-is_greatest b ns r = last-run b [] ns r refl
@@ -71,38 +71,38 @@ abbrev Each : ℕ → (Point → ℕ) → ℕ → List Point → Type 0
 Each n f v [] = Unit {0}
 Each n f v (p ∷ s) = (p.number ≡ n → v ≤ f p) × Each n f v s
 
-Each-before : (b : Problem) (n : ℕ) (f : Point → ℕ) (v : ℕ) (s : List Point) (ns : List ℕ) → Each n f v (timed b s ns) → Each n f v s
+Each-before : (b : Problem) (n : ℕ) (f : Point → ℕ) (v : ℕ) (s : List Point) (ns : List ℕ) → Each n f v (points_after b s ns) → Each n f v s
 Each-before b n f v s [] h = h
-Each-before b n f v s (m ∷ ns) h = (Each-before b n f v (place b s m ∷ s) ns h).1
+Each-before b n f v s (m ∷ ns) h = (Each-before b n f v (point_of b s m ∷ s) ns h).1
 
-Each-here : (b : Problem) (n : ℕ) (f g : Point → ℕ) (v u : ℕ) → ((s : List Point) → v ≤ f (place b s n) → u ≤ g (place b s n)) → (s : List Point) (m : ℕ) → ((place b s m).number ≡ n → v ≤ f (place b s m)) → (place b s m).number ≡ n → u ≤ g (place b s m)
+Each-here : (b : Problem) (n : ℕ) (f g : Point → ℕ) (v u : ℕ) → ((s : List Point) → v ≤ f (point_of b s n) → u ≤ g (point_of b s n)) → (s : List Point) (m : ℕ) → ((point_of b s m).number ≡ n → v ≤ f (point_of b s m)) → (point_of b s m).number ≡ n → u ≤ g (point_of b s m)
 Each-here b n f g v u step s m here e =
-    let same : m ≡ n = sym (place-number b s m) ∙ e in
-    subst (λ x. u ≤ g (place b s x)) (sym same) (step s (subst (λ x. v ≤ f (place b s x)) same (here e)))
+    let same : m ≡ n = sym (point_of-number b s m) ∙ e in
+    subst (λ x. u ≤ g (point_of b s x)) (sym same) (step s (subst (λ x. v ≤ f (point_of b s x)) same (here e)))
 
 -- what each placed point of the number gives
-Each-map : (b : Problem) (n : ℕ) (f g : Point → ℕ) (v u : ℕ) → ((s : List Point) → v ≤ f (place b s n) → u ≤ g (place b s n)) → (s : List Point) (ns : List ℕ) → Each n f v (timed b s ns) → Each n g u s → Each n g u (timed b s ns)
+Each-map : (b : Problem) (n : ℕ) (f g : Point → ℕ) (v u : ℕ) → ((s : List Point) → v ≤ f (point_of b s n) → u ≤ g (point_of b s n)) → (s : List Point) (ns : List ℕ) → Each n f v (points_after b s ns) → Each n g u s → Each n g u (points_after b s ns)
 Each-map b n f g v u step s [] h so_far = so_far
 Each-map b n f g v u step s (m ∷ ns) h so_far =
-    let here = (Each-before b n f v (place b s m ∷ s) ns h).0 in
-    Each-map b n f g v u step (place b s m ∷ s) ns h (Each-here b n f g v u step s m here, so_far)
+    let here = (Each-before b n f v (point_of b s m ∷ s) ns h).0 in
+    Each-map b n f g v u step (point_of b s m ∷ s) ns h (Each-here b n f g v u step s m here, so_far)
 
--- where the number is there, the value is at most the greatest
-Each-has : (b : Problem) (n : ℕ) (f : Point → ℕ) (v : ℕ) (s : List Point) (ns : List ℕ) → Each n f v (timed b s ns) → has n ns ≡ true → v ≤ greatest f (timed b s ns)
+-- where the number is placed, the value is at most the greatest
+Each-has : (b : Problem) (n : ℕ) (f : Point → ℕ) (v : ℕ) (s : List Point) (ns : List ℕ) → Each n f v (points_after b s ns) → has n ns ≡ true → v ≤ greatest f (points_after b s ns)
 Each-has b n f v s [] h among = absurd cc
 Each-has b n f v s (m ∷ ns) h among =
     elim (or_cases (eqb n m) (has n ns) among) [
       | inl here ↦
-          (let e : (place b s m).number ≡ n = place-number b s m ∙ sym (eqb-true n m here) in
-          omega (arith, (Each-before b n f v (place b s m ∷ s) ns h).0 e, greatest-stays b f (place b s m ∷ s) ns))
-      | inr past ↦ Each-has b n f v (place b s m ∷ s) ns h past
+          (let e : (point_of b s m).number ≡ n = point_of-number b s m ∙ sym (eqb-true n m here) in
+          omega (arith, (Each-before b n f v (point_of b s m ∷ s) ns h).0 e, greatest-stays b f (point_of b s m ∷ s) ns))
+      | inr past ↦ Each-has b n f v (point_of b s m ∷ s) ns h past
     ]
 
-Each-none : (b : Problem) (n : ℕ) (f : Point → ℕ) (v : ℕ) (s : List Point) (ns : List ℕ) → has n ns ≡ false → Each n f v s → Each n f v (timed b s ns)
+Each-none : (b : Problem) (n : ℕ) (f : Point → ℕ) (v : ℕ) (s : List Point) (ns : List ℕ) → has n ns ≡ false → Each n f v s → Each n f v (points_after b s ns)
 Each-none b n f v s [] h so_far = so_far
 Each-none b n f v s (m ∷ ns) h so_far =
     let both = or_parts (eqb n m) (has n ns) h in
-    Each-none b n f v (place b s m ∷ s) ns both.1 (λ e. (let same : n ≡ m = sym e ∙ place-number b s m in absurd (eqb-false n m both.0 same)), so_far)
+    Each-none b n f v (point_of b s m ∷ s) ns both.1 (λ e. (let same : n ≡ m = sym e ∙ point_of-number b s m in absurd (eqb-false n m both.0 same)), so_far)
 
 -- WHAT A START WAITS FOR
 
@@ -134,32 +134,32 @@ writes-le f r (w ∷ ws) h =
       | inr past ↦ omega (arith, writes-le f r ws past)
     ]
 
-reads-le-start : (b : Problem) (s : List Point) (n : ℕ) → greatest (λ x. last_done x s) (row_at b n).reads ≤ (place b s n).start
+reads-le-start : (b : Problem) (s : List Point) (n : ℕ) → greatest (λ x. last_done x s) (row_at b n).reads ≤ (point_of b s n).start
 unfolding point start_of
 reads-le-start b s n = omega arith
 
-memory-le-start : (b : Problem) (s : List Point) (n : ℕ) → memory_wait s (row_at b n) ≤ (place b s n).start
+memory-le-start : (b : Problem) (s : List Point) (n : ℕ) → memory_wait s (row_at b n) ≤ (point_of b s n).start
 unfolding point start_of
 memory-le-start b s n = omega arith
 
-used-le-start : (b : Problem) (s : List Point) (n : ℕ) → ((x : Reg) → last_done x s ≡ done_of s x) → (x : Reg) → uses (row_at b n) x ≡ true → done_of s x ≤ (place b s n).start
+used-le-start : (b : Problem) (s : List Point) (n : ℕ) → ((x : Reg) → last_done x s ≡ done_of s x) → (x : Reg) → uses (row_at b n) x ≡ true → done_of s x ≤ (point_of b s n).start
 used-le-start b s n last x used =
     elim (or_cases (has_reg x (row_at b n).reads) (some_of (λ (w : Write). same_reg w.reg x) (row_at b n).writes) used) [
       | inl read ↦ omega (arith, last x, has_reg-le (λ y. last_done y s) x (row_at b n).reads read, reads-le-start b s n)
       | inr written ↦ omega (arith, writes-le (done_of s) x (row_at b n).writes written, written-le-issue b s n, issue-le-start b s n)
     ]
 
-waits-le-start : (b : Problem) (s : List Point) (n : ℕ) → ((x : Reg) → last_done x s ≡ done_of s x) → greatest (λ q. waits q (row_at b n)) s ≤ (place b s n).start
+waits-le-start : (b : Problem) (s : List Point) (n : ℕ) → ((x : Reg) → last_done x s ≡ done_of s x) → greatest (λ q. waits q (row_at b n)) s ≤ (point_of b s n).start
 waits-le-start b s n last =
-    waits-bound (done_of s) (row_at b n) (place b s n).start (used-le-start b s n last) s (λ x. omega arith) (memory-le-start b s n)
+    waits-bound (done_of s) (row_at b n) (point_of b s n).start (used-le-start b s n last) s (λ x. omega arith) (memory-le-start b s n)
 
-head-le-start : (b : Problem) (s : List Point) (n : ℕ) → ((x : Reg) → last_done x s ≡ done_of s x) → head s (row_at b n) ≤ (place b s n).start
+head-le-start : (b : Problem) (s : List Point) (n : ℕ) → ((x : Reg) → last_done x s ≡ done_of s x) → head s (row_at b n) ≤ (point_of b s n).start
 head-le-start b s n last =
     omega (arith, next-le-issue b s n, issue-le-start b s n, written-le-issue b s n, reads-le-start b s n, greatest-le-greatest (λ x. done_of s x) (λ x. last_done x s) (λ x. omega (arith, last x)) (row_at b n).reads)
 
-head-grows : (b : Problem) (s : List Point) (k : ℕ) (r : Row) → head s r ≤ head (place b s k ∷ s) r
+head-grows : (b : Problem) (s : List Point) (k : ℕ) (r : Row) → head s r ≤ head (point_of b s k ∷ s) r
 head-grows b s k r =
-    omega (arith, next-le-issue b s k, greatest-le-greatest (λ x. done_of s x) (λ x. done_of (place b s k ∷ s) x) (λ x. omega arith) r.reads, greatest-le-greatest (λ (w : Write). done_of s w.reg) (λ (w : Write). done_of (place b s k ∷ s) w.reg) (λ w. omega arith) r.writes)
+    omega (arith, next-le-issue b s k, greatest-le-greatest (λ x. done_of s x) (λ x. done_of (point_of b s k ∷ s) x) (λ x. omega arith) r.reads, greatest-le-greatest (λ (w : Write). done_of s w.reg) (λ (w : Write). done_of (point_of b s k ∷ s) w.reg) (λ w. omega arith) r.writes)
 
 -- A LINK PASSES ITS LATENCY ON
 
@@ -170,17 +170,17 @@ link-each s start v r some w h =
       | inr is ↦ absurd (omega (arith, cond-false {A = ℕ} (uses r w.reg) w.latency 0 is))
     ]
 
-link-register : (b : Problem) (s : List Point) (m : ℕ) (r : Row) (v : ℕ) → 1 ≤ v → v ≤ greatest (λ (w : Write). cond (uses r w.reg) w.latency 0) (row_at b m).writes → (place b s m).start + v ≤ greatest (λ (d : ResultAt). cond (uses r d.reg) d.time 0) (place b s m).results
+link-register : (b : Problem) (s : List Point) (m : ℕ) (r : Row) (v : ℕ) → 1 ≤ v → v ≤ greatest (λ (w : Write). cond (uses r w.reg) w.latency 0) (row_at b m).writes → (point_of b s m).start + v ≤ greatest (λ (d : ResultAt). cond (uses r d.reg) d.time 0) (point_of b s m).results
 unfolding point
 link-register b s m r v some h =
     greatest-shift (λ (w : Write). cond (uses r w.reg) w.latency 0) (λ (d : ResultAt). cond (uses r d.reg) d.time 0) (result_at s (start_of b s (row_at b m))) (start_of b s (row_at b m)) v (link-each s (start_of b s (row_at b m)) v r some) (row_at b m).writes some h
 
-link-memory : (b : Problem) (s : List Point) (m : ℕ) (r : Row) → memory_pair (row_at b m).memory r.memory ≡ true → (place b s m).start + 1 ≤ cond (memory_pair (place b s m).row.memory r.memory) ((place b s m).start + 1) 0
+link-memory : (b : Problem) (s : List Point) (m : ℕ) (r : Row) → memory_pair (row_at b m).memory r.memory ≡ true → (point_of b s m).start + 1 ≤ cond (memory_pair (point_of b s m).row.memory r.memory) ((point_of b s m).start + 1) 0
 link-memory b s m r is =
-    let is2 : memory_pair (place b s m).row.memory r.memory ≡ true = rw (place-row b s m) is in
-    omega (arith, cond-true {A = ℕ} (memory_pair (place b s m).row.memory r.memory) ((place b s m).start + 1) 0 is2)
+    let is2 : memory_pair (point_of b s m).row.memory r.memory ≡ true = rw (point_of-row b s m) is in
+    omega (arith, cond-true {A = ℕ} (memory_pair (point_of b s m).row.memory r.memory) ((point_of b s m).start + 1) 0 is2)
 
-link-le-waits : (b : Problem) (s : List Point) (m : ℕ) (r : Row) → 1 ≤ link (row_at b m) r → (place b s m).start + link (row_at b m) r ≤ waits (place b s m) r
+link-le-waits : (b : Problem) (s : List Point) (m : ℕ) (r : Row) → 1 ≤ link (row_at b m) r → (point_of b s m).start + link (row_at b m) r ≤ waits (point_of b s m) r
 link-le-waits b s m r some =
     let v = link (row_at b m) r in
     elim (cases_le v (greatest (λ (w : Write). cond (uses r w.reg) w.latency 0) (row_at b m).writes)) [
@@ -283,69 +283,69 @@ link-conflict p m n some =
           ])
     ]
 
--- what has a link to a ready number is there
-linked-before : (b : Problem) (there : List ℕ) (m n : ℕ) → is_ready b.block there n ≡ true → m < n → 1 ≤ link (row_at b m) (row_at b n) → has m there ≡ true
-linked-before b there m n h lt some =
-    let (low, high, new, met) = ready-parts b.block there n h in
+-- what has a link to a ready number is placed
+links_from-before : (b : Problem) (prefix : List ℕ) (m n : ℕ) → is_ready b.block prefix n ≡ true → m < n → 1 ≤ link (row_at b m) (row_at b n) → has m prefix ≡ true
+links_from-before b prefix m n h lt some =
+    let (low, high, new, met) = ready-parts b.block prefix n h in
     let dep = and_from (ltb m n) (conflict (instr_at b.block m) (instr_at b.block n)) (lt-ltb m n lt) (link-conflict b.profile (instr_at b.block m) (instr_at b.block n) some) in
-    needs-each b.block there n n met m (depends-from b.block m n dep) (omega arith) dep
+    needs-each b.block prefix n n met m (depends-from b.block m n dep) (omega arith) dep
 
 -- THE BOUND
 
 module _ (b : Problem) where
-  link-here : (m n u : ℕ) (there : List ℕ) (k : ℕ) → m < n → 1 ≤ link (row_at b m) (row_at b n) → is_ready b.block there k ≡ true → Each m (λ q. waits q (row_at b n)) u (points_of b there) → (place b (points_of b there) k).number ≡ n → u ≤ (place b (points_of b there) k).start
-  link-here m n u there k lt some is waiting e =
-      let s = points_of b there in
-      let same : k ≡ n = sym (place-number b s k) ∙ e in
-      let is2 : is_ready b.block there n ≡ true = subst (λ x. is_ready b.block there x ≡ true) same is in
-      let le : u ≤ (place b s n).start = omega (arith, Each-has b m (λ q. waits q (row_at b n)) u [] there waiting (linked-before b there m n is2 lt some), waits-le-start b s n (last-is_greatest b there)) in
-      subst (λ x. u ≤ (place b s x).start) (sym same) le
+  link-here : (m n u : ℕ) (prefix : List ℕ) (k : ℕ) → m < n → 1 ≤ link (row_at b m) (row_at b n) → is_ready b.block prefix k ≡ true → Each m (λ q. waits q (row_at b n)) u (points_of b prefix) → (point_of b (points_of b prefix) k).number ≡ n → u ≤ (point_of b (points_of b prefix) k).start
+  link-here m n u prefix k lt some is waiting e =
+      let s = points_of b prefix in
+      let same : k ≡ n = sym (point_of-number b s k) ∙ e in
+      let is2 : is_ready b.block prefix n ≡ true = subst (λ x. is_ready b.block prefix x ≡ true) same is in
+      let le : u ≤ (point_of b s n).start = omega (arith, Each-has b m (λ q. waits q (row_at b n)) u [] prefix waiting (links_from-before b prefix m n is2 lt some), waits-le-start b s n (last-is_greatest b prefix)) in
+      subst (λ x. u ≤ (point_of b s x).start) (sym same) le
 
   -- from v at the start of m to v and the link at the start of n
-  link-run : (m n v : ℕ) → m < n → 1 ≤ link (row_at b m) (row_at b n) → (there rest : List ℕ) → GoesOn b.block there rest → Each m (λ p. p.start) v (timed b (points_of b there) rest) → Each n (λ p. p.start) (v + link (row_at b m) (row_at b n)) (points_of b there) → Each n (λ p. p.start) (v + link (row_at b m) (row_at b n)) (timed b (points_of b there) rest)
-  link-run m n v lt some there [] goes from so_far = so_far
-  link-run m n v lt some there (k ∷ rest) goes from so_far =
-      let s = points_of b there in
+  link-run : (m n v : ℕ) → m < n → 1 ≤ link (row_at b m) (row_at b n) → (prefix rest : List ℕ) → GoesOn b.block prefix rest → Each m (λ p. p.start) v (points_after b (points_of b prefix) rest) → Each n (λ p. p.start) (v + link (row_at b m) (row_at b n)) (points_of b prefix) → Each n (λ p. p.start) (v + link (row_at b m) (row_at b n)) (points_after b (points_of b prefix) rest)
+  link-run m n v lt some prefix [] goes from so_far = so_far
+  link-run m n v lt some prefix (k ∷ rest) goes from so_far =
+      let s = points_of b prefix in
       let u = v + link (row_at b m) (row_at b n) in
-      let e : points_of b (there ++ k ∷ []) ≡ place b s k ∷ s = timed-append b [] there (k ∷ []) in
+      let e : points_of b (prefix ++ k ∷ []) ≡ point_of b s k ∷ s = points_after-append b [] prefix (k ∷ []) in
       let before : Each m (λ p. p.start) v s = Each-before b m (λ p. p.start) v s (k ∷ rest) from in
-      let waiting : Each m (λ q. waits q (row_at b n)) u s = Each-map b m (λ p. p.start) (λ q. waits q (row_at b n)) v u (λ t h. omega (arith, link-le-waits b t m (row_at b n) some)) [] there before tt in
-      let here : (place b s k).number ≡ n → u ≤ (place b s k).start = link-here m n u there k lt some goes.0 waiting in
-      let so_far2 : Each n (λ p. p.start) u (points_of b (there ++ k ∷ [])) = subst (λ x. Each n (λ p. p.start) u x) (sym e) (here, so_far) in
-      let from2 : Each m (λ p. p.start) v (timed b (points_of b (there ++ k ∷ [])) rest) = subst (λ x. Each m (λ p. p.start) v (timed b x rest)) (sym e) from in
-      subst (λ x. Each n (λ p. p.start) u (timed b x rest)) e (link-run m n v lt some (there ++ k ∷ []) rest goes.1 from2 so_far2)
+      let waiting : Each m (λ q. waits q (row_at b n)) u s = Each-map b m (λ p. p.start) (λ q. waits q (row_at b n)) v u (λ t h. omega (arith, link-le-waits b t m (row_at b n) some)) [] prefix before tt in
+      let here : (point_of b s k).number ≡ n → u ≤ (point_of b s k).start = link-here m n u prefix k lt some goes.0 waiting in
+      let so_far2 : Each n (λ p. p.start) u (points_of b (prefix ++ k ∷ [])) = subst (λ x. Each n (λ p. p.start) u x) (sym e) (here, so_far) in
+      let from2 : Each m (λ p. p.start) v (points_after b (points_of b (prefix ++ k ∷ [])) rest) = subst (λ x. Each m (λ p. p.start) v (points_after b x rest)) (sym e) from in
+      subst (λ x. Each n (λ p. p.start) u (points_after b x rest)) e (link-run m n v lt some (prefix ++ k ∷ []) rest goes.1 from2 so_far2)
 
-  head-here : (n v : ℕ) (s : List Point) (k : ℕ) → ((x : Reg) → last_done x s ≡ done_of s x) → v ≤ head s (row_at b n) → (place b s k).number ≡ n → v ≤ (place b s k).start
+  head-here : (n v : ℕ) (s : List Point) (k : ℕ) → ((x : Reg) → last_done x s ≡ done_of s x) → v ≤ head s (row_at b n) → (point_of b s k).number ≡ n → v ≤ (point_of b s k).start
   head-here n v s k last le e =
-      let same : k ≡ n = sym (place-number b s k) ∙ e in
-      subst (λ x. v ≤ (place b s x).start) (sym same) (omega (arith, head-le-start b s n last))
+      let same : k ≡ n = sym (point_of-number b s k) ∙ e in
+      subst (λ x. v ≤ (point_of b s x).start) (sym same) (omega (arith, head-le-start b s n last))
 
-  head-run : (n v : ℕ) (s : List Point) (rest : List ℕ) → ((x : Reg) → last_done x s ≡ done_of s x) → v ≤ head s (row_at b n) → Each n (λ p. p.start) v s → Each n (λ p. p.start) v (timed b s rest)
+  head-run : (n v : ℕ) (s : List Point) (rest : List ℕ) → ((x : Reg) → last_done x s ≡ done_of s x) → v ≤ head s (row_at b n) → Each n (λ p. p.start) v s → Each n (λ p. p.start) v (points_after b s rest)
   head-run n v s [] last le so_far = so_far
   head-run n v s (k ∷ rest) last le so_far =
-      head-run n v (place b s k ∷ s) rest (λ x. last-step b s k x (last x)) (omega (arith, head-grows b s k (row_at b n))) (head-here n v s k last le, so_far)
+      head-run n v (point_of b s k ∷ s) rest (λ x. last-step b s k x (last x)) (omega (arith, head-grows b s k (row_at b n))) (head-here n v s k last le, so_far)
 
   -- of each number of a chain the start is late enough, and so is the total
-  walk-sound : (order : List ℕ) → IsOrder b.block order → (n v : ℕ) (ms there : List ℕ) → IsWalk b there n ms → Each n (λ p. p.start) v (points_of b order) → v + walk b n ms ≤ total_of b order
-  walk-sound order legal n v [] there is from =
-      let (low, high, new) = remaining-parts b.block there n is in
-      let tails : Each n last_of (v + tail (row_at b n)) (points_of b order) = Each-map b n (λ p. p.start) last_of v (v + tail (row_at b n)) (λ s h. omega (arith, tail-le-last b s n)) [] order from tt in
-      Each-has b n last_of (v + tail (row_at b n)) [] order tails (order-has b.block order legal n low high)
-  walk-sound order legal n v (m ∷ ms) there is from =
-      let linked = and_parts (ltb n m) (ltb 0 (link (row_at b n) (row_at b m))) is.1 in
-      omega (arith, walk-sound order legal m (v + link (row_at b n) (row_at b m)) ms there is.2 (link-run n m v (ltb-true n m linked.0) (ltb-true 0 (link (row_at b n) (row_at b m)) linked.1) [] order legal.0 from tt))
+  walk-sound : (order : List ℕ) → IsOrder b.block order → (n v : ℕ) (ms prefix : List ℕ) → IsWalk b prefix n ms → Each n (λ p. p.start) v (points_of b order) → v + walk b n ms ≤ total_of b order
+  walk-sound order legal n v [] prefix is from =
+      let (low, high, new) = remaining-parts b.block prefix n is in
+      let tails : Each n end_of (v + tail (row_at b n)) (points_of b order) = Each-map b n (λ p. p.start) end_of v (v + tail (row_at b n)) (λ s h. omega (arith, tail-le-last b s n)) [] order from tt in
+      Each-has b n end_of (v + tail (row_at b n)) [] order tails (order-has b.block order legal n low high)
+  walk-sound order legal n v (m ∷ ms) prefix is from =
+      let links_from = and_parts (ltb n m) (ltb 0 (link (row_at b n) (row_at b m))) is.1 in
+      omega (arith, walk-sound order legal m (v + link (row_at b n) (row_at b m)) ms prefix is.2 (link-run n m v (ltb-true n m links_from.0) (ltb-true 0 (link (row_at b n) (row_at b m)) links_from.1) [] order legal.0 from tt))
 
-  walk-new : (there : List ℕ) (n : ℕ) (ms : List ℕ) → IsWalk b there n ms → has n there ≡ false
-  walk-new there n [] is = (remaining-parts b.block there n is).2
-  walk-new there n (m ∷ ms) is = (remaining-parts b.block there n is.0).2
+  walk-new : (prefix : List ℕ) (n : ℕ) (ms : List ℕ) → IsWalk b prefix n ms → has n prefix ≡ false
+  walk-new prefix n [] is = (remaining-parts b.block prefix n is).2
+  walk-new prefix n (m ∷ ms) is = (remaining-parts b.block prefix n is.0).2
 
   -- every order that goes on from there takes at least the value
-  pub chain-sound : (there rest : List ℕ) (numbers : List ℕ) → IsBeginning b.block there → Completes b.block there rest → IsChain b there numbers → chain_value b there numbers ≤ total_of b (there ++ rest)
-  chain-sound there rest [] begins h is = absurd is
-  chain-sound there rest (n ∷ ms) begins h is =
-      let s = points_of b there in
+  pub chain-sound : (prefix rest : List ℕ) (numbers : List ℕ) → IsBeginning b.block prefix → Completes b.block prefix rest → IsChain b prefix numbers → chain_value b prefix numbers ≤ total_of b (prefix ++ rest)
+  chain-sound prefix rest [] begins h is = absurd is
+  chain-sound prefix rest (n ∷ ms) begins h is =
+      let s = points_of b prefix in
       let v = head s (row_at b n) in
-      let order : IsOrder b.block (there ++ rest) = (GoesOn-join b.block [] there rest begins h.0, h.1) in
-      let e : points_of b (there ++ rest) ≡ timed b s rest = timed-append b [] there rest in
-      let start : Each n (λ p. p.start) v (timed b s rest) = head-run n v s rest (last-is_greatest b there) (omega arith) (Each-none b n (λ p. p.start) v [] there (walk-new there n ms is) tt) in
-      walk-sound (there ++ rest) order n v ms there is (subst (λ x. Each n (λ p. p.start) v x) (sym e) start)
+      let order : IsOrder b.block (prefix ++ rest) = (GoesOn-join b.block [] prefix rest begins h.0, h.1) in
+      let e : points_of b (prefix ++ rest) ≡ points_after b s rest = points_after-append b [] prefix rest in
+      let start : Each n (λ p. p.start) v (points_after b s rest) = head-run n v s rest (last-is_greatest b prefix) (omega arith) (Each-none b n (λ p. p.start) v [] prefix (walk-new prefix n ms is) tt) in
+      walk-sound (prefix ++ rest) order n v ms prefix is (subst (λ x. Each n (λ p. p.start) v x) (sym e) start)

@@ -8,7 +8,7 @@ use Rattle.s66_isa.specs.declared.instr.Memory.TheVariants.{None, Load, Store}
 use Rattle.s66_isa.specs.declared.reg.Reg.{Reg}
 use Rattle.s66_isa.specs.Table.{same_reg, has_reg, x_reg, operands_of, stored_registers, reads_of, held_registers, results_of, memory_of, touches, stores, memory_pair}
 use Rattle.s66_model.specs.Dependence.{share, conflict}
-use Rattle.s66_model.specs.Meaning.{Term, Terms, Storage, Stored, Operation, Contents, value_of, values_of, computed, fetched, writes, written, address_of, storage_after, after}
+use Rattle.s66_model.specs.Meaning.{Term, Terms, Storage, Stored, Operation, Contents, value_of, values_of, results_computed, words_loaded, writes, after_writes, address_of, storage_after, after}
 use Rattle.s66_model.proofs.SameRegister.{same_reg-self}
 use Rattle.s66_model.proofs.Registers.{has_reg-reads, share-none, share-none_back, writes-other, value-other, values-other}
 
@@ -35,12 +35,12 @@ storage-exchange Store Load s a x x' b y y' h k l = absurd (true≢false h)
 storage-exchange Store Store s a x x' b y y' h k l = absurd (true≢false h)
 
 -- a load fetches the same behind an instruction that is no store
-fetched-same : (u v : Memory) (n : Instr) (s : Storage) (a x address : Term) → memory_pair u v ≡ false → fetched v n (storage_after u s a x) address ≡ fetched v n s address
-fetched-same u None n s a x address h = refl
-fetched-same u Store n s a x address h = refl
-fetched-same None Load n s a x address h = refl
-fetched-same Load Load n s a x address h = refl
-fetched-same Store Load n s a x address h = absurd (true≢false h)
+words_loaded-same : (u v : Memory) (n : Instr) (s : Storage) (a x address : Term) → memory_pair u v ≡ false → words_loaded v n (storage_after u s a x) address ≡ words_loaded v n s address
+words_loaded-same u None n s a x address h = refl
+words_loaded-same u Store n s a x address h = refl
+words_loaded-same None Load n s a x address h = refl
+words_loaded-same Load Load n s a x address h = refl
+words_loaded-same Store Load n s a x address h = absurd (true≢false h)
 
 has_reg-stored : (u : Memory) (n : Instr) → u ≡ Store → has_reg (x_reg n.i) (stored_registers u n) ≡ true
 has_reg-stored None n e = cc
@@ -49,22 +49,22 @@ has_reg-stored Store n e = or_left (same_reg (x_reg n.i) (x_reg n.i)) false (sam
 
 -- REGISTERS
 
-written-at : (ws : List (Reg × Term)) (f g : Reg → Term) (q : Reg) → f q ≡ g q → written ws f q ≡ written ws g q
-written-at [] f g q h = h
-written-at (w ∷ ws) f g q h = ap (λ t. cond (same_reg w.0 q) w.1 t) (written-at ws f g q h)
+after_writes-at : (ws : List (Reg × Term)) (f g : Reg → Term) (q : Reg) → f q ≡ g q → after_writes ws f q ≡ after_writes ws g q
+after_writes-at [] f g q h = h
+after_writes-at (w ∷ ws) f g q h = ap (λ t. cond (same_reg w.0 q) w.1 t) (after_writes-at ws f g q h)
 
 -- one of the two writes the register, or neither
 registers-exchange : (a b : Operation) (x y : Terms) (s : Storage) (f : Reg → Term) (q : Reg) → share (results_of a.instr) (results_of b.instr) ≡ false →
-    written (writes b y s) (written (writes a x s) f) q ≡ written (writes a x s) (written (writes b y s) f) q
+    after_writes (writes b y s) (after_writes (writes a x s) f) q ≡ after_writes (writes a x s) (after_writes (writes b y s) f) q
 registers-exchange a b x y s f q h =
     elim (cases_Bool (has_reg q (results_of b.instr))) [
       | inl is ↦
           let free = share-none_back (results_of a.instr) (results_of b.instr) h q is in
-          written-at (writes b y s) (written (writes a x s) f) f q (writes-other a x s f q free)
-          ∙ sym (writes-other a x s (written (writes b y s) f) q free)
+          after_writes-at (writes b y s) (after_writes (writes a x s) f) f q (writes-other a x s f q free)
+          ∙ sym (writes-other a x s (after_writes (writes b y s) f) q free)
       | inr is ↦
-          writes-other b y s (written (writes a x s) f) q is
-          ∙ sym (written-at (writes a x s) (written (writes b y s) f) f q (writes-other b y s f q is))
+          writes-other b y s (after_writes (writes a x s) f) q is
+          ∙ sym (after_writes-at (writes a x s) (after_writes (writes b y s) f) f q (writes-other b y s f q is))
     ]
 
 -- WHAT AN INSTRUCTION FINDS BEHIND ONE THAT WRITES NOTHING THAT IT READS
@@ -94,8 +94,8 @@ writes-same : (c : Contents) (a b : Operation) → IsApart a b → memory_pair (
 unfolding operands_in
 writes-same c a b h free =
     ap (λ t. writes b t (after c a).storage) (operands-same c a b h)
-    ∙ ap (λ t. computed b (operands_in c b) 0 (held_registers b.instr) ++ t)
-    (fetched-same (memory_of a.instr) (memory_of b.instr) b.instr c.storage (address_of a (operands_in c a)) (value_of c.registers (x_reg a.instr.i)) (address_of b (operands_in c b)) free)
+    ∙ ap (λ t. results_computed b (operands_in c b) 0 (held_registers b.instr) ++ t)
+    (words_loaded-same (memory_of a.instr) (memory_of b.instr) b.instr c.storage (address_of a (operands_in c a)) (value_of c.registers (x_reg a.instr.i)) (address_of b (operands_in c b)) free)
 
 pub exchange : (c : Contents) (a b : Operation) → conflict a.instr b.instr ≡ false → after (after c a) b ≡ after (after c b) a
 unfolding operands_in conflict
@@ -113,9 +113,9 @@ exchange c a b h =
     let y = operands_in c b in
     same_contents (after (after c a) b).registers (after (after c b) a).registers (after (after c a) b).storage (after (after c b) a).storage
     (λ q.
-    ap (λ t. written t (after c a).registers q) (writes-same c a b ahead no_pair)
+    ap (λ t. after_writes t (after c a).registers q) (writes-same c a b ahead no_pair)
     ∙ (registers-exchange a b x y c.storage c.registers q not_twice
-    ∙ sym (ap (λ t. written t (after c b).registers q) (writes-same c b a back no_pair_back))))
+    ∙ sym (ap (λ t. after_writes t (after c b).registers q) (writes-same c b a back no_pair_back))))
     (ap (λ t. storage_after (memory_of b.instr) (after c a).storage (address_of b t) (value_of (after c a).registers (x_reg b.instr.i))) (operands-same c a b ahead)
     ∙ (storage-exchange (memory_of a.instr) (memory_of b.instr) c.storage (address_of a x) (value_of c.registers (x_reg a.instr.i)) (value_of (after c b).registers (x_reg a.instr.i)) (address_of b y) (value_of c.registers (x_reg b.instr.i)) (value_of (after c a).registers (x_reg b.instr.i)) no_pair (stored-same c b a back) (stored-same c a b ahead)
     ∙ sym (ap (λ t. storage_after (memory_of a.instr) (after c b).storage (address_of a t) (value_of (after c b).registers (x_reg a.instr.i))) (operands-same c b a back))))

@@ -17,23 +17,23 @@ use Rattle.s66_model.proofs.Dictionary.{IsNoLater-itself, IsNoLater-through, IsN
 
 -- SOME NUMBER REMAINS AT AN INCOMPLETE BEGINNING
 
-rest-remains : (block : List Instr) (there rest : List ℕ) → GoesOn block there rest → length (there ++ rest) ≡ length block → IsIncomplete block there → (n : ℕ) × (is_remaining block there n ≡ true)
-rest-remains block there [] goes whole short =
-    let same : length there ≡ length block = subst (λ ns. length ns ≡ length block) (append-nil there) whole in
+rest-remains : (block : List Instr) (prefix rest : List ℕ) → GoesOn block prefix rest → length (prefix ++ rest) ≡ length block → IsIncomplete block prefix → (n : ℕ) × (is_remaining block prefix n ≡ true)
+rest-remains block prefix [] goes whole short =
+    let same : length prefix ≡ length block = subst (λ ns. length ns ≡ length block) (append-nil prefix) whole in
     absurd (omega (arith, short, same))
-rest-remains block there (n ∷ rest) goes whole short = (n, (and_parts (is_remaining block there n) (needs_met block there n n) goes.0).0)
+rest-remains block prefix (n ∷ rest) goes whole short = (n, (and_parts (is_remaining block prefix n) (needs_met block prefix n n) goes.0).0)
 
-pub some-remains : (block : List Instr) (there : List ℕ) → IsBeginning block there → IsIncomplete block there → (n : ℕ) × (is_remaining block there n ≡ true)
-some-remains block there h short =
-    let (rest, legal) = beginning-front block there h in
-    let order = legal-order block (there ++ rest) legal in
-    rest-remains block there rest (GoesOn-append block [] there rest order.0).1 order.1 short
+pub some-remains : (block : List Instr) (prefix : List ℕ) → IsBeginning block prefix → IsIncomplete block prefix → (n : ℕ) × (is_remaining block prefix n ≡ true)
+some-remains block prefix h short =
+    let (rest, legal) = beginning-front block prefix h in
+    let order = legal-order block (prefix ++ rest) legal in
+    rest-remains block prefix rest (GoesOn-append block [] prefix rest order.0).1 order.1 short
 
-beginning-short : (block : List Instr) (there : List ℕ) → IsBeginning block there → length there ≢ length block → IsIncomplete block there
-beginning-short block there h past =
-    let (rest, legal) = beginning-front block there h in
-    let order = legal-order block (there ++ rest) legal in
-    omega (arith, order.1, length-append there rest)
+beginning-short : (block : List Instr) (prefix : List ℕ) → IsBeginning block prefix → length prefix ≢ length block → IsIncomplete block prefix
+beginning-short block prefix h past =
+    let (rest, legal) = beginning-front block prefix h in
+    let order = legal-order block (prefix ++ rest) legal in
+    omega (arith, order.1, length-append prefix rest)
 
 -- THE FIRST GREATEST IS ONE OF THE LEAVES
 
@@ -108,55 +108,55 @@ leaves-ordered ns =
     next kind other lt = inr (refl, inl lt)
 
 -- where the first greatest goes before the printed chain and all leaves after it, it goes before all that may stand
-part-before : (b : Problem) (there : List ℕ) (x : Leaf) → IsIncomplete b.block there → chain_value b there (longest_chain b there) ≡ chain b there →
-    GoesBefore (value b there) x (Chain (longest_chain b there)) → Each (GoesBefore (value b there) x) after_chain →
-    (other : Leaf) → MayStand b there other → GoesBefore (value b there) x other
-part-before b there x short is first each Whole may = absurd (omega (arith, short, may))
-part-before b there x short is first each (Chain ns) may =
-    before-through (value b there) x (Chain (longest_chain b there)) (Chain ns) first
-    (omega (arith, is, chain-le b there ns may.1), λ same. inr (refl, longest-first b there ns may.1 (omega (arith, is, same))))
-part-before b there x short is first each (Load kind) may = each-load (GoesBefore (value b there) x) each kind
-part-before b there x short is first each Parcels may = each-parcels (GoesBefore (value b there) x) each
+part-before : (b : Problem) (prefix : List ℕ) (x : Leaf) → IsIncomplete b.block prefix → chain_value b prefix (longest_chain b prefix) ≡ chain b prefix →
+    GoesBefore (value b prefix) x (Chain (longest_chain b prefix)) → Each (GoesBefore (value b prefix) x) after_chain →
+    (other : Leaf) → MayStand b prefix other → GoesBefore (value b prefix) x other
+part-before b prefix x short is first each Whole may = absurd (omega (arith, short, may))
+part-before b prefix x short is first each (Chain ns) may =
+    before-through (value b prefix) x (Chain (longest_chain b prefix)) (Chain ns) first
+    (omega (arith, is, chain-le b prefix ns may.1), λ same. inr (refl, longest-first b prefix ns may.1 (omega (arith, is, same))))
+part-before b prefix x short is first each (Load kind) may = each-load (GoesBefore (value b prefix) x) each kind
+part-before b prefix x short is first each Parcels may = each-parcels (GoesBefore (value b prefix) x) each
 
-whole-before : (b : Problem) (there : List ℕ) → IsComplete b.block there → (other : Leaf) → MayStand b there other → value b there other ≤ value b there Whole
-whole-before b there is Whole may = omega arith
-whole-before b there is (Chain ns) may = absurd (omega (arith, is, may.0))
-whole-before b there is (Load kind) may = absurd (omega (arith, is, may))
-whole-before b there is Parcels may = absurd (omega (arith, is, may))
+whole-before : (b : Problem) (prefix : List ℕ) → IsComplete b.block prefix → (other : Leaf) → MayStand b prefix other → value b prefix other ≤ value b prefix Whole
+whole-before b prefix is Whole may = omega arith
+whole-before b prefix is (Chain ns) may = absurd (omega (arith, is, may.0))
+whole-before b prefix is (Load kind) may = absurd (omega (arith, is, may))
+whole-before b prefix is Parcels may = absurd (omega (arith, is, may))
 
 -- THE FLOOR
 
-floor-whole : (b : Problem) (there : List ℕ) → IsComplete b.block there → floor b there ≡ Whole
-floor-whole b there is = rw (floor, eq-eqb (length there) (length b.block) is) refl
+floor-whole : (b : Problem) (prefix : List ℕ) → IsComplete b.block prefix → floor b prefix ≡ Whole
+floor-whole b prefix is = rw (floor, eq-eqb (length prefix) (length b.block) is) refl
 
-floor-part : (b : Problem) (there : List ℕ) → length there ≢ length b.block → floor b there ≡ first_greatest (value b there) (Chain (longest_chain b there)) after_chain
-floor-part b there past = rw (floor, ne_eqb (length there) (length b.block) past) refl
+floor-part : (b : Problem) (prefix : List ℕ) → length prefix ≢ length b.block → floor b prefix ≡ first_greatest (value b prefix) (Chain (longest_chain b prefix)) after_chain
+floor-part b prefix past = rw (floor, ne_eqb (length prefix) (length b.block) past) refl
 
-whole-floor : (b : Problem) (there : List ℕ) → IsComplete b.block there → IsFloor b there Whole
-whole-floor b there is = record { stands = is; greatest = whole-before b there is; first = λ other may same. tt }
+whole-floor : (b : Problem) (prefix : List ℕ) → IsComplete b.block prefix → IsFloor b prefix Whole
+whole-floor b prefix is = record { stands = is; greatest = whole-before b prefix is; first = λ other may same. tt }
 
-part-floor : (b : Problem) (there : List ℕ) → IsBeginning b.block there → IsIncomplete b.block there → IsFloor b there (first_greatest (value b there) (Chain (longest_chain b there)) after_chain)
-part-floor b there h short =
-    let (n, stays) = some-remains b.block there h short in
-    let is = longest-is_chain b there n stays in
-    let best = first_greatest-before (value b there) after_chain (Chain (longest_chain b there)) (leaves-ordered (longest_chain b there)) in
-    let x : Leaf = first_greatest (value b there) (Chain (longest_chain b there)) after_chain in
-    let before = part-before b there x short is.1 best.0 best.1 in
+part-floor : (b : Problem) (prefix : List ℕ) → IsBeginning b.block prefix → IsIncomplete b.block prefix → IsFloor b prefix (first_greatest (value b prefix) (Chain (longest_chain b prefix)) after_chain)
+part-floor b prefix h short =
+    let (n, stays) = some-remains b.block prefix h short in
+    let is = longest-is_chain b prefix n stays in
+    let best = first_greatest-before (value b prefix) after_chain (Chain (longest_chain b prefix)) (leaves-ordered (longest_chain b prefix)) in
+    let x : Leaf = first_greatest (value b prefix) (Chain (longest_chain b prefix)) after_chain in
+    let before = part-before b prefix x short is.1 best.0 best.1 in
     record {
-      stands = first_greatest-holds (λ leaf. MayStand b there leaf) (value b there) after_chain (Chain (longest_chain b there)) (short, is.0) (each-after (λ leaf. MayStand b there leaf) (λ kind. short) short);
+      stands = first_greatest-holds (λ leaf. MayStand b prefix leaf) (value b prefix) after_chain (Chain (longest_chain b prefix)) (short, is.0) (each-after (λ leaf. MayStand b prefix leaf) (λ kind. short) short);
       greatest = λ other may. (before other may).0;
       first = λ other may. (before other may).1;
     }
 
-pub floor-is : (b : Problem) (there : List ℕ) → IsBeginning b.block there → IsFloor b there (floor b there)
-floor-is b there h =
-    elim (cases_eq (length there) (length b.block)) [
-      | inl is ↦ subst (λ leaf. IsFloor b there leaf) (sym (floor-whole b there is)) (whole-floor b there is)
-      | inr past ↦ subst (λ leaf. IsFloor b there leaf) (sym (floor-part b there past)) (part-floor b there h (beginning-short b.block there h past))
+pub floor-is : (b : Problem) (prefix : List ℕ) → IsBeginning b.block prefix → IsFloor b prefix (floor b prefix)
+floor-is b prefix h =
+    elim (cases_eq (length prefix) (length b.block)) [
+      | inl is ↦ subst (λ leaf. IsFloor b prefix leaf) (sym (floor-whole b prefix is)) (whole-floor b prefix is)
+      | inr past ↦ subst (λ leaf. IsFloor b prefix leaf) (sym (floor-part b prefix past)) (part-floor b prefix h (beginning-short b.block prefix h past))
     ]
 
-pub floor-stands : (b : Problem) (there : List ℕ) → IsBeginning b.block there → MayStand b there (floor b there)
-floor-stands b there h = (floor-is b there h).stands
+pub floor-stands : (b : Problem) (prefix : List ℕ) → IsBeginning b.block prefix → MayStand b prefix (floor b prefix)
+floor-stands b prefix h = (floor-is b prefix h).stands
 
 -- THERE IS NO OTHER
 
@@ -184,7 +184,7 @@ rank-back Parcels = refl
 rank-same : (x y : Leaf) → rank x ≡ rank y → x ≡ y
 rank-same x y same = sym (rank-back x) ∙ (ap leaf_of same ∙ rank-back y)
 
-pub floor-only : (b : Problem) (there : List ℕ) (x y : Leaf) → IsFloor b there x → IsFloor b there y → x ≡ y
-floor-only b there x y h1 h2 =
-    let same : value b there x ≡ value b there y = omega (arith, h1.greatest y h2.stands, h2.greatest x h1.stands) in
+pub floor-only : (b : Problem) (prefix : List ℕ) (x y : Leaf) → IsFloor b prefix x → IsFloor b prefix y → x ≡ y
+floor-only b prefix x y h1 h2 =
+    let same : value b prefix x ≡ value b prefix y = omega (arith, h1.greatest y h2.stands, h2.greatest x h1.stands) in
     rank-same x y (IsNoLater-both (rank x) (rank y) (h1.first y h2.stands (sym same)) (h2.first x h1.stands same))

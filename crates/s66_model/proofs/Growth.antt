@@ -2,10 +2,10 @@
 use Rattle.std.proofs.Common.{length, ◌*◌, ℕ, sym, true≢false, ◌-◌, ◌+◌, ◌%◌, ◌≤◌, ◌<◌, ◌≡◌, Bool, cond, ◌&&◌, max, List, [], ◌∷◌, refl, arith, inl, inr, eqb, map, ◌⊎◌}
 use Rattle.std.proofs.lemmas.Bool.{and_parts, cond_both, cases_Bool, cond-true, cond-false}
 use Rattle.s66_isa.specs.declared.reg.Reg.{Reg}
-use Rattle.s66_isa.specs.Words.{greatest, Among}
+use Rattle.s66_isa.specs.Lists.{greatest, Among}
 use Rattle.s66_isa.specs.Table.{Row, Write, has_reg, memory_pair}
 use Rattle.s66_model.specs.Packing.{fits_at}
-use Rattle.s66_model.specs.Timing.{row_at, place, timed, total_of, Problem, Point, ResultAt, done_at, done_of, last_done, writes_reg, last_of, total, parcel_of, slot_of, issue_of, start_of, readers_wait, result_at, free_after, point, IsGood, held_latency}
+use Rattle.s66_model.specs.Timing.{row_at, point_of, points_after, total_of, Problem, Point, ResultAt, done_at, done_of, last_done, writes_reg, end_of, total, parcel_of, slot_of, issue_of, start_of, readers_wait, result_at, free_after, point, IsInRange, held_latency}
 use Rattle.s66_model.proofs.Lists.{cases_le, greatest-le-greatest, greatest-le}
 use Rattle.s66_model.proofs.Issue.{issue-late, issue-is, can_issue-is, done_of-le-total, can_issue-past}
 use Rattle.s66_model.proofs.GoodRows.{row-good}
@@ -65,7 +65,7 @@ free-le start hold [] m h k = omega arith
 free-le start hold (d ∷ ds) m h k = omega (arith, held-le (d ∷ ds))
 
 -- one more instruction adds at most 104 cycles
-pub last-le_total : (b : Problem) (s : List Point) (n : ℕ) (r : Row) → IsGood r → AreSmall s → last_of (point b s n r) ≤ total s + 104
+pub last-le_total : (b : Problem) (s : List Point) (n : ℕ) (r : Row) → IsInRange r → AreSmall s → end_of (point b s n r) ≤ total s + 104
 unfolding point
 last-le_total b s n r good small =
     let start = start_of b s r in
@@ -110,7 +110,7 @@ unfolding start_of
 start-ge b s r = omega arith
 
 -- the times of a point are in order
-pub point-ordered : (b : Problem) (s : List Point) (n : ℕ) (r : Row) → IsGood r → greatest (λ (p : Point). p.parcel - p.issue) s ≡ 0 →
+pub point-ordered : (b : Problem) (s : List Point) (n : ℕ) (r : Row) → IsInRange r → greatest (λ (p : Point). p.parcel - p.issue) s ≡ 0 →
     ((point b s n r).parcel ≤ (point b s n r).issue) × ((point b s n r).issue ≤ (point b s n r).start) × ((point b s n r).start < (point b s n r).free)
 unfolding point
 point-ordered b s n r good early =
@@ -121,27 +121,27 @@ before_last : (s : List Point) (start hold : ℕ) (ws : List Write) → ((w : Wr
 before_last s start hold [] long = omega arith
 before_last s start hold (w ∷ ws) long = omega (arith, long w (inl refl))
 
-start-before : (b : Problem) (s : List Point) (n : ℕ) → max (place b s n).issue (place b s n).start + 1 ≤ last_of (place b s n)
+start-before : (b : Problem) (s : List Point) (n : ℕ) → max (point_of b s n).issue (point_of b s n).start + 1 ≤ end_of (point_of b s n)
 unfolding point start_of
 start-before b s n =
     let r : Row = row_at b n in
-    let good : IsGood r = row-good b.profile _ in
+    let good : IsInRange r = row-good b.profile _ in
     omega (arith, before_last s (start_of b s r) r.hold r.writes (λ w among. (good.latencies w among).0))
 
-small-step : (b : Problem) (s : List Point) (n : ℕ) → AreSmall s → AreSmall (place b s n ∷ s)
+small-step : (b : Problem) (s : List Point) (n : ℕ) → AreSmall s → AreSmall (point_of b s n ∷ s)
 unfolding point
 small-step b s n small =
-    let good : IsGood (row_at b n) = row-good b.profile _ in
+    let good : IsInRange (row_at b n) = row-good b.profile _ in
     record {
       starts = omega (arith, small.starts, start-before b s n);
       parcels = omega (arith, small.parcels, good.parcels.1);
     }
 
-timed-le : (b : Problem) (s : List Point) (ns : List ℕ) → AreSmall s → total (timed b s ns) ≤ total s + 104 * length ns
-timed-le b s [] small = omega arith
-timed-le b s (n ∷ ns) small =
-    omega (arith, timed-le b (place b s n ∷ s) ns (small-step b s n small), last-le_total b s n (row_at b n) (row-good b.profile _) small)
+points_after-le : (b : Problem) (s : List Point) (ns : List ℕ) → AreSmall s → total (points_after b s ns) ≤ total s + 104 * length ns
+points_after-le b s [] small = omega arith
+points_after-le b s (n ∷ ns) small =
+    omega (arith, points_after-le b (point_of b s n ∷ s) ns (small-step b s n small), last-le_total b s n (row_at b n) (row-good b.profile _) small)
 
 -- whatever the numbers are, also those that no instruction has
 pub total-le : (b : Problem) (order : List ℕ) → total_of b order ≤ 104 * length order
-total-le b order = omega (arith, timed-le b [] order (record { starts = omega arith; parcels = omega arith }))
+total-le b order = omega (arith, points_after-le b [] order (record { starts = omega arith; parcels = omega arith }))

@@ -2,24 +2,24 @@
 use Rattle.std.proofs.Common.{ℕ, ◌≤◌, ◌≡◌, Bool, true, false, cond, not, List, [], ◌∷◌, ◌++◌, refl, sym, ap, arith, inl, inr, subst, Some, None}
 use Rattle.std.proofs.lemmas.Bool.{and_parts, cases_Bool}
 use Rattle.std.proofs.Math.Nat.{le_trans}
-use Rattle.s66_isa.specs.Words.{tally, Among}
+use Rattle.s66_isa.specs.Lists.{tally, Among}
 use Rattle.s66_model.specs.Timing.{Problem, total_of}
 use Rattle.s66_model.specs.LegalOrder.{IsLegal}
 use Rattle.s66_model.specs.BestAndBound.{IsBound}
 use Rattle.s66_model.specs.Leaves.{floor_value}
 use Rattle.s66_model.specs.Piece.{IsPiece}
-use Rattle.s66_model.specs.Ledger.{Ledger, Node, State, Open, Out, Cut, Closed, is_cut, is_cut_state, is_live, is_live_state, node_at, best_time, IsWorker, Event, Grant, Claim, Graft, Offer, Back, Retire, Reply, Granted, Claimed, Taken, NotOut, OtherPrefix, OverAllowance, Lower, NotLower, OtherBlock, Returned, Retired, worker, opening, grafted, Moves, Step, Run}
+use Rattle.s66_model.specs.Ledger.{Ledger, Node, State, Open, Out, Cut, Closed, is_cut, is_cut_state, is_live, is_live_state, node_at, best_time, IsWorker, Event, Grant, Claim, Graft, Offer, Back, Retire, Reply, Granted, Claimed, Taken, NotOut, OtherPrefix, OverAllowance, Lower, NotLower, OtherBlock, Returned, Retired, worker, opening, after_graft, Moves, Step, Run}
 use Rattle.s66_model.specs.Coverage.{begins, covers, NodeHolds, NodesHold, Covers, NeverRises, live_floors, bound_of}
 use Rattle.s66_model.proofs.Lists.{least-le, among-rest}
-use Rattle.s66_model.proofs.LedgerSteps.{floor-sound, open_closed, out_closed, opening-covers, moved-covers, granted-covers, retired-covers, lowered-covers, grafted-covers}
+use Rattle.s66_model.proofs.LedgerSteps.{floor-sound, open_closed, out_closed, opening-covers, after_move-covers, after_grant-covers, after_retire-covers, after_offer-covers, after_graft-covers}
 
 -- STEPS
 
 module _ (b : Problem) (budget : ℕ) where
   moves-cover : (old : Ledger) (event : Event) (reply : Reply) (new : Ledger) → IsWorker old (worker event) → Moves b old event reply new → Covers b budget old → Covers b budget new
-  moves-cover old (Grant w) (Granted n) new is h c = subst (Covers b budget) (sym h.1) (granted-covers b budget old w is c)
+  moves-cover old (Grant w) (Granted n) new is h c = subst (Covers b budget) (sym h.1) (after_grant-covers b budget old w is c)
   moves-cover old (Claim w) (Claimed (Some i)) new is h c =
-      subst (Covers b budget) (sym h.2) (moved-covers b budget old i Out h.0 (ap is_cut_state h.1) refl out_closed c)
+      subst (Covers b budget) (sym h.2) (after_move-covers b budget old i Out h.0 (ap is_cut_state h.1) refl out_closed c)
   moves-cover old (Claim w) (Claimed None) new is h c = subst (Covers b budget) (sym h.1) c
   moves-cover old (Graft w i own prefix count None) NotOut new is h c = subst (Covers b budget) (sym h.1) c
   moves-cover old (Graft w i own prefix count None) OtherPrefix new is h c = subst (Covers b budget) (sym h.2) c
@@ -27,16 +27,16 @@ module _ (b : Problem) (budget : ℕ) where
   moves-cover old (Graft w i own prefix count (Some tree)) Taken new is h c =
       let e : prefix ≡ (node_at old.nodes i).prefix = h.1.1 in
       let piece = subst (λ p. IsPiece b p tree) e h.4 in
-      let whole = grafted-covers b budget old w i tree is h.0 (omega (arith, h.2, h.3)) piece c in
-      subst (Covers b budget) (sym h.5) (subst (λ p. Covers b budget (grafted b old w i p tree)) (sym e) whole)
+      let whole = after_graft-covers b budget old w i tree is h.0 (omega (arith, h.2, h.3)) piece c in
+      subst (Covers b budget) (sym h.5) (subst (λ p. Covers b budget (after_graft b old w i p tree)) (sym e) whole)
   moves-cover old (Offer w own order time) OtherBlock new is h c = subst (Covers b budget) (sym h.1) c
   moves-cover old (Offer w own order time) Lower new is h c =
-      subst (Covers b budget) (sym h.2) (lowered-covers b budget old order h.0.1 (omega (arith, h.0.2, h.1)) c)
+      subst (Covers b budget) (sym h.2) (after_offer-covers b budget old order h.0.1 (omega (arith, h.0.2, h.1)) c)
   moves-cover old (Offer w own order time) (NotLower n) new is h c = subst (Covers b budget) (sym h.3) c
   moves-cover old (Back w i) NotOut new is h c = subst (Covers b budget) (sym h.1) c
   moves-cover old (Back w i) Returned new is h c =
-      subst (Covers b budget) (sym h.1) (moved-covers b budget old i Open h.0.0 (ap is_cut_state h.0.1) refl open_closed c)
-  moves-cover old (Retire w) Retired new is h c = subst (Covers b budget) (sym h) (retired-covers b budget old w is c)
+      subst (Covers b budget) (sym h.1) (after_move-covers b budget old i Open h.0.0 (ap is_cut_state h.0.1) refl open_closed c)
+  moves-cover old (Retire w) Retired new is h c = subst (Covers b budget) (sym h) (after_retire-covers b budget old w is c)
   moves-cover old event reply new is h c = absurd h
 
   pub step-covers : (old new : Ledger) (event : Event) (reply : Reply) → Covers b budget old → Step b old event reply new → Covers b budget new

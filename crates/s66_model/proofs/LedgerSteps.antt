@@ -1,13 +1,13 @@
 -- Each event of the ledger keeps every legal order covered.
 use Rattle.std.proofs.Common.{ℕ, zero, suc, ◌+◌, ◌-◌, ◌≤◌, ◌<◌, ◌≡◌, ◌≢◌, Bool, true, false, true≢false, cond, List, [], ◌∷◌, ◌++◌, length, refl, sym, ap, arith, inl, inr, leb, ◌∙◌, subst, set, replicate}
 use Rattle.std.proofs.lemmas.Bool.{leb-true}
-use Rattle.s66_isa.specs.Words.{weigh, tally, Among}
+use Rattle.s66_isa.specs.Lists.{weigh, tally, Among}
 use Rattle.s66_model.specs.Timing.{Problem, total_of}
 use Rattle.s66_model.specs.LegalOrder.{IsLegal, IsBeginning, is_ready}
 use Rattle.s66_model.specs.Leaves.{Leaf, value, floor, floor_value}
 use Rattle.s66_model.specs.Tree.{Tree, Alone, Parted, Kids, NoMore, Unsplit, Split, KidsHold, splits}
-use Rattle.s66_model.specs.Piece.{Mark, Carries, Frontier, MarkHolds, IsPiece}
-use Rattle.s66_model.specs.Ledger.{Ledger, Node, State, Open, Out, Cut, Closed, is_cut, is_cut_state, is_open_state, node_at, no_node, with_state, best_time, IsWorker, allowance, share_of, opening, granted, retired, moved, lowered, grafted, state_of, root_state, kid_nodes, new_nodes, IsOut}
+use Rattle.s66_model.specs.Piece.{Tip, Carries, Frontier, TipHolds, IsPiece}
+use Rattle.s66_model.specs.Ledger.{Ledger, Node, State, Open, Out, Cut, Closed, is_cut, is_cut_state, is_open_state, node_at, no_node, with_state, best_time, IsWorker, allowance, share_of, opening, after_grant, after_retire, after_move, after_offer, after_graft, state_of, root_state, kid_nodes, new_nodes, IsOut}
 use Rattle.s66_model.specs.Coverage.{begins, covers, ClosedHolds, NodeHolds, NodesHold, Covers}
 use Rattle.s66_model.proofs.Lists.{tally-append, tally-set, weigh-set}
 use Rattle.s66_model.proofs.Beginnings.{source-legal}
@@ -72,11 +72,11 @@ holds-plain b best node state plain h = (h.0, λ leaf e. absurd (plain leaf e))
 -- WHAT HOLDS OF A PIECE'S NODES
 
 -- a prefix's floor is at most each total in its subtree
-pub floor-sound : (b : Problem) (there order : List ℕ) → IsBeginning b.block there → IsLegal b.block order → begins there order ≡ true → floor_value b there ≤ total_of b order
-floor-sound b there order is legal h =
-    let (rest, e) = begins-rest there order h in
-    let parts = legal-parts b.block there rest (subst (IsLegal b.block) e legal) in
-    subst (λ x. floor_value b there ≤ total_of b x) (sym e) (leaf-sound b there rest (floor b there) is parts.1 (floor-stands b there is))
+pub floor-sound : (b : Problem) (prefix order : List ℕ) → IsBeginning b.block prefix → IsLegal b.block order → begins prefix order ≡ true → floor_value b prefix ≤ total_of b order
+floor-sound b prefix order is legal h =
+    let (rest, e) = begins-rest prefix order h in
+    let parts = legal-parts b.block prefix rest (subst (IsLegal b.block) e legal) in
+    subst (λ x. floor_value b prefix ≤ total_of b x) (sym e) (leaf-sound b prefix rest (floor b prefix) is parts.1 (floor-stands b prefix is))
 
 closed-either : (b : Problem) (best : ℕ) (at : List ℕ) (leaf : Leaf) → IsBeginning b.block at → leaf ≡ floor b at → (t : Bool) → (t ≡ true → best ≤ value b at leaf) → (other : Leaf) → cond t (Closed leaf) Open ≡ Closed other → ClosedHolds b best at other
 closed-either b best at leaf begins is true le other e =
@@ -85,62 +85,62 @@ closed-either b best at leaf begins is true le other e =
 closed-either b best at leaf begins is false le other e = absurd (open_closed other e)
 
 module _ (b : Problem) where
-  mark-holds : (best : ℕ) (at : List ℕ) (mark : Mark) → IsBeginning b.block at → MarkHolds b at mark → NodeHolds b best (record { prefix = at; state = state_of b best at mark })
-  mark-holds best at (Carries leaf) is holds =
+  tip-holds : (best : ℕ) (at : List ℕ) (tip : Tip) → IsBeginning b.block at → TipHolds b at tip → NodeHolds b best (record { prefix = at; state = state_of b best at tip })
+  tip-holds best at (Carries leaf) is holds =
       (is, closed-either b best at leaf is holds (leb best (value b at leaf)) (leb-true best (value b at leaf)))
-  mark-holds best at Frontier is holds = (is, λ leaf e. absurd (open_closed leaf e))
+  tip-holds best at Frontier is holds = (is, λ leaf e. absurd (open_closed leaf e))
 
-  kids-hold : (best : ℕ) (kids : Kids Mark) (there ns : List ℕ) → IsBeginning b.block there → ((n : ℕ) → Among n ns → is_ready b.block there n ≡ true) → KidsHold b.block (MarkHolds b) there ns kids → NodesHold b best (kid_nodes b best there ns kids)
-  kids-hold best NoMore there [] is each holds = tt
-  kids-hold best NoMore there (n ∷ ns) is each holds = absurd holds
-  kids-hold best (Unsplit mark kids) there [] is each holds = absurd holds
-  kids-hold best (Unsplit mark kids) there (n ∷ ns) is each holds =
-      (mark-holds best (there ++ n ∷ []) mark (step-begins b.block there n is (each n (inl refl))) holds.0, kids-hold best kids there ns is (λ m among. each m (inr among)) holds.1)
-  kids-hold best (Split numbers sub kids) there [] is each holds = absurd holds
-  kids-hold best (Split numbers sub kids) there (n ∷ ns) is each holds =
-      let at = there ++ n ∷ [] in
-      let is2 : IsBeginning b.block at = step-begins b.block there n is (each n (inl refl)) in
+  kids-hold : (best : ℕ) (kids : Kids Tip) (prefix ns : List ℕ) → IsBeginning b.block prefix → ((n : ℕ) → Among n ns → is_ready b.block prefix n ≡ true) → KidsHold b.block (TipHolds b) prefix ns kids → NodesHold b best (kid_nodes b best prefix ns kids)
+  kids-hold best NoMore prefix [] is each holds = tt
+  kids-hold best NoMore prefix (n ∷ ns) is each holds = absurd holds
+  kids-hold best (Unsplit tip kids) prefix [] is each holds = absurd holds
+  kids-hold best (Unsplit tip kids) prefix (n ∷ ns) is each holds =
+      (tip-holds best (prefix ++ n ∷ []) tip (step-begins b.block prefix n is (each n (inl refl))) holds.0, kids-hold best kids prefix ns is (λ m among. each m (inr among)) holds.1)
+  kids-hold best (Split numbers sub kids) prefix [] is each holds = absurd holds
+  kids-hold best (Split numbers sub kids) prefix (n ∷ ns) is each holds =
+      let at = prefix ++ n ∷ [] in
+      let is2 : IsBeginning b.block at = step-begins b.block prefix n is (each n (inl refl)) in
       let below = kids-hold best sub at numbers is2 (λ m among. ready-among b.block at m (subst (Among m) holds.1 among)) holds.2 in
-      ((is2, λ leaf e. absurd (cut_closed leaf e)), holds-append b best (kid_nodes b best at numbers sub) (kid_nodes b best there ns kids) below (kids-hold best kids there ns is (λ m among. each m (inr among)) holds.3))
+      ((is2, λ leaf e. absurd (cut_closed leaf e)), holds-append b best (kid_nodes b best at numbers sub) (kid_nodes b best prefix ns kids) below (kids-hold best kids prefix ns is (λ m among. each m (inr among)) holds.3))
 
-  root-holds : (best : ℕ) (there : List ℕ) (tree : Tree Mark) → IsBeginning b.block there → IsPiece b there tree → NodeHolds b best (record { prefix = there; state = root_state b best there tree })
-  root-holds best there (Alone mark) is holds = mark-holds best there mark is holds
-  root-holds best there (Parted numbers kids) is holds = (is, λ leaf e. absurd (cut_closed leaf e))
+  root-holds : (best : ℕ) (prefix : List ℕ) (tree : Tree Tip) → IsBeginning b.block prefix → IsPiece b prefix tree → NodeHolds b best (record { prefix = prefix; state = root_state b best prefix tree })
+  root-holds best prefix (Alone tip) is holds = tip-holds best prefix tip is holds
+  root-holds best prefix (Parted numbers kids) is holds = (is, λ leaf e. absurd (cut_closed leaf e))
 
-  new-hold : (best : ℕ) (there : List ℕ) (tree : Tree Mark) → IsBeginning b.block there → IsPiece b there tree → NodesHold b best (new_nodes b best there tree)
-  new-hold best there (Alone mark) is holds = tt
-  new-hold best there (Parted numbers kids) is holds =
-      kids-hold best kids there numbers is (λ n among. ready-among b.block there n (subst (Among n) holds.1 among)) holds.2
+  new-hold : (best : ℕ) (prefix : List ℕ) (tree : Tree Tip) → IsBeginning b.block prefix → IsPiece b prefix tree → NodesHold b best (new_nodes b best prefix tree)
+  new-hold best prefix (Alone tip) is holds = tt
+  new-hold best prefix (Parted numbers kids) is holds =
+      kids-hold best kids prefix numbers is (λ n among. ready-among b.block prefix n (subst (Among n) holds.1 among)) holds.2
 
 -- CLAIM AND BACK, which change one node's state
 
 module _ (b : Problem) (budget : ℕ) where
-  moved-once : (l : Ledger) (i : ℕ) (state : State) (order : List ℕ) → i < length l.nodes → is_cut (node_at l.nodes i) ≡ false → is_cut_state state ≡ false → tally (covers order) l.nodes ≡ 1 → tally (covers order) (with_state l.nodes i state) ≡ 1
-  moved-once l i state order lt was is h =
+  after_move-once : (l : Ledger) (i : ℕ) (state : State) (order : List ℕ) → i < length l.nodes → is_cut (node_at l.nodes i) ≡ false → is_cut_state state ≡ false → tally (covers order) l.nodes ≡ 1 → tally (covers order) (with_state l.nodes i state) ≡ 1
+  after_move-once l i state order lt was is h =
       let node : Node = record { prefix = (node_at l.nodes i).prefix; state = state } in
       let before : covers order (node_at l.nodes i) ≡ begins (node_at l.nodes i).prefix order = rw was refl in
       let after : covers order node ≡ begins (node_at l.nodes i).prefix order = rw is refl in
       omega (arith, tally-set (covers order) l.nodes i node no_node lt, ap (λ t. cond {A = ℕ} t 1 0) (before ∙ sym after))
 
-  moved-spent : (l : Ledger) (i : ℕ) (state : State) → i < length l.nodes → is_cut (node_at l.nodes i) ≡ false → is_cut_state state ≡ false → l.spent ≡ tally is_cut l.nodes → l.spent ≡ tally is_cut (with_state l.nodes i state)
-  moved-spent l i state lt was is h =
+  after_move-spent : (l : Ledger) (i : ℕ) (state : State) → i < length l.nodes → is_cut (node_at l.nodes i) ≡ false → is_cut_state state ≡ false → l.spent ≡ tally is_cut l.nodes → l.spent ≡ tally is_cut (with_state l.nodes i state)
+  after_move-spent l i state lt was is h =
       let node : Node = record { prefix = (node_at l.nodes i).prefix; state = state } in
       omega (arith, tally-set is_cut l.nodes i node no_node lt, ap (λ t. cond {A = ℕ} t 1 0) was, ap (λ t. cond {A = ℕ} t 1 0) is)
 
-  pub moved-covers : (l : Ledger) (i : ℕ) (state : State) → i < length l.nodes → is_cut (node_at l.nodes i) ≡ false → is_cut_state state ≡ false → ((leaf : Leaf) → state ≢ Closed leaf) → Covers b budget l → Covers b budget (moved l i state)
-  moved-covers l i state lt was is plain c =
+  pub after_move-covers : (l : Ledger) (i : ℕ) (state : State) → i < length l.nodes → is_cut (node_at l.nodes i) ≡ false → is_cut_state state ≡ false → ((leaf : Leaf) → state ≢ Closed leaf) → Covers b budget l → Covers b budget (after_move l i state)
+  after_move-covers l i state lt was is plain c =
       record {
-        once = λ order legal. moved-once l i state order lt was is (c.once order legal);
+        once = λ order legal. after_move-once l i state order lt was is (c.once order legal);
         nodes = holds-set b (best_time b l) l.nodes i (record { prefix = (node_at l.nodes i).prefix; state = state }) (holds-plain b (best_time b l) (node_at l.nodes i) state plain (holds-at b (best_time b l) l.nodes i lt c.nodes)) c.nodes;
         best = c.best;
-        spent = moved-spent l i state lt was is c.spent;
+        spent = after_move-spent l i state lt was is c.spent;
         sum = c.sum;
       }
 
   -- GRANT AND RETIRE, which change one allowance
 
-  pub granted-covers : (l : Ledger) (w : ℕ) → IsWorker l w → Covers b budget l → Covers b budget (granted l w)
-  granted-covers l w is c =
+  pub after_grant-covers : (l : Ledger) (w : ℕ) → IsWorker l w → Covers b budget l → Covers b budget (after_grant l w)
+  after_grant-covers l w is c =
       record {
         once = c.once;
         nodes = c.nodes;
@@ -149,8 +149,8 @@ module _ (b : Problem) (budget : ℕ) where
         sum = omega (arith, c.sum, weigh-set (λ n. n) l.allowances (w - 1) (allowance l w + share_of l) 0 (omega (arith, is.0, is.1)));
       }
 
-  pub retired-covers : (l : Ledger) (w : ℕ) → IsWorker l w → Covers b budget l → Covers b budget (retired l w)
-  retired-covers l w is c =
+  pub after_retire-covers : (l : Ledger) (w : ℕ) → IsWorker l w → Covers b budget l → Covers b budget (after_retire l w)
+  after_retire-covers l w is c =
       record {
         once = c.once;
         nodes = c.nodes;
@@ -161,8 +161,8 @@ module _ (b : Problem) (budget : ℕ) where
 
   -- OFFER, which lowers the best time
 
-  pub lowered-covers : (l : Ledger) (order : List ℕ) → IsLegal b.block order → total_of b order < best_time b l → Covers b budget l → Covers b budget (lowered l order)
-  lowered-covers l order legal lt c =
+  pub after_offer-covers : (l : Ledger) (order : List ℕ) → IsLegal b.block order → total_of b order < best_time b l → Covers b budget l → Covers b budget (after_offer l order)
+  after_offer-covers l order legal lt c =
       record {
         once = c.once;
         nodes = holds-lower b (best_time b l) (total_of b order) (omega (arith, lt)) l.nodes c.nodes;
@@ -173,31 +173,31 @@ module _ (b : Problem) (budget : ℕ) where
 
   -- GRAFT, which puts a piece's nodes in place of one
 
-  grafted-once : (l : Ledger) (i : ℕ) (tree : Tree Mark) (order : List ℕ) → IsLegal b.block order → IsOut l i → IsPiece b (node_at l.nodes i).prefix tree → tally (covers order) l.nodes ≡ 1 → tally (covers order) (with_state l.nodes i (root_state b (best_time b l) (node_at l.nodes i).prefix tree) ++ new_nodes b (best_time b l) (node_at l.nodes i).prefix tree) ≡ 1
-  grafted-once l i tree order legal out piece h =
+  after_graft-once : (l : Ledger) (i : ℕ) (tree : Tree Tip) (order : List ℕ) → IsLegal b.block order → IsOut l i → IsPiece b (node_at l.nodes i).prefix tree → tally (covers order) l.nodes ≡ 1 → tally (covers order) (with_state l.nodes i (root_state b (best_time b l) (node_at l.nodes i).prefix tree) ++ new_nodes b (best_time b l) (node_at l.nodes i).prefix tree) ≡ 1
+  after_graft-once l i tree order legal out piece h =
       let at = (node_at l.nodes i).prefix in
       let best = best_time b l in
       let node : Node = record { prefix = at; state = root_state b best at tree } in
       let before : covers order (node_at l.nodes i) ≡ begins at order = rw (ap is_cut_state out.1) refl in
-      omega (arith, tally-append (covers order) (set l.nodes i node) (new_nodes b best at tree), tally-set (covers order) l.nodes i node no_node out.0, ap (λ t. cond {A = ℕ} t 1 0) before, tree-once b order legal best (MarkHolds b) at tree piece)
+      omega (arith, tally-append (covers order) (set l.nodes i node) (new_nodes b best at tree), tally-set (covers order) l.nodes i node no_node out.0, ap (λ t. cond {A = ℕ} t 1 0) before, tree-once b order legal best (TipHolds b) at tree piece)
 
-  grafted-spent : (l : Ledger) (i : ℕ) (tree : Tree Mark) → IsOut l i → IsPiece b (node_at l.nodes i).prefix tree → l.spent ≡ tally is_cut l.nodes → l.spent + splits tree ≡ tally is_cut (with_state l.nodes i (root_state b (best_time b l) (node_at l.nodes i).prefix tree) ++ new_nodes b (best_time b l) (node_at l.nodes i).prefix tree)
-  grafted-spent l i tree out piece h =
+  after_graft-spent : (l : Ledger) (i : ℕ) (tree : Tree Tip) → IsOut l i → IsPiece b (node_at l.nodes i).prefix tree → l.spent ≡ tally is_cut l.nodes → l.spent + splits tree ≡ tally is_cut (with_state l.nodes i (root_state b (best_time b l) (node_at l.nodes i).prefix tree) ++ new_nodes b (best_time b l) (node_at l.nodes i).prefix tree)
+  after_graft-spent l i tree out piece h =
       let at = (node_at l.nodes i).prefix in
       let best = best_time b l in
       let node : Node = record { prefix = at; state = root_state b best at tree } in
       let before : is_cut (node_at l.nodes i) ≡ false = ap is_cut_state out.1 in
-      omega (arith, tally-append is_cut (set l.nodes i node) (new_nodes b best at tree), tally-set is_cut l.nodes i node no_node out.0, ap (λ t. cond {A = ℕ} t 1 0) before, tree-cut b best (MarkHolds b) at tree piece)
+      omega (arith, tally-append is_cut (set l.nodes i node) (new_nodes b best at tree), tally-set is_cut l.nodes i node no_node out.0, ap (λ t. cond {A = ℕ} t 1 0) before, tree-cut b best (TipHolds b) at tree piece)
 
-  pub grafted-covers : (l : Ledger) (w i : ℕ) (tree : Tree Mark) → IsWorker l w → IsOut l i → splits tree ≤ allowance l w → IsPiece b (node_at l.nodes i).prefix tree → Covers b budget l → Covers b budget (grafted b l w i (node_at l.nodes i).prefix tree)
-  grafted-covers l w i tree worker out le piece c =
+  pub after_graft-covers : (l : Ledger) (w i : ℕ) (tree : Tree Tip) → IsWorker l w → IsOut l i → splits tree ≤ allowance l w → IsPiece b (node_at l.nodes i).prefix tree → Covers b budget l → Covers b budget (after_graft b l w i (node_at l.nodes i).prefix tree)
+  after_graft-covers l w i tree worker out le piece c =
       let at = (node_at l.nodes i).prefix in
       let best = best_time b l in
       let is : IsBeginning b.block at = (holds-at b best l.nodes i out.0 c.nodes).0 in
       record {
-        once = λ order legal. grafted-once l i tree order legal out piece (c.once order legal);
+        once = λ order legal. after_graft-once l i tree order legal out piece (c.once order legal);
         nodes = holds-append b best (with_state l.nodes i (root_state b best at tree)) (new_nodes b best at tree) (holds-set b best l.nodes i (record { prefix = at; state = root_state b best at tree }) (root-holds b best at tree is piece) c.nodes) (new-hold b best at tree is piece);
         best = c.best;
-        spent = grafted-spent l i tree out piece c.spent;
+        spent = after_graft-spent l i tree out piece c.spent;
         sum = omega (arith, c.sum, weigh-set (λ n. n) l.allowances (w - 1) (allowance l w - splits tree) 0 (omega (arith, worker.0, worker.1)));
       }

@@ -10,7 +10,7 @@ pub mod Registers
 pub mod Exchange
 pub mod MeaningOfOrders
 pub mod Remaining
-pub mod Placed
+pub mod PointTimes
 pub mod ParcelsBound
 pub mod LoadBound
 pub mod ChainBound

@@ -4,14 +4,14 @@ use Rattle.std.proofs.lemmas.Bool.{cond-false, eqb-true, cases_Bool, cases_lt, l
 use Rattle.std.proofs.Math.Nat.{div-lt_iff_lt-mul}
 use Rattle.s66_isa.specs.declared.instr.Kind.{Kind}
 use Rattle.s66_isa.specs.declared.instr.Kind.TheVariants.{Boolean, Shift, Add, LongAdd, Multiply, Divide, Increment}
-use Rattle.s66_isa.specs.Words.{weigh, tally}
+use Rattle.s66_isa.specs.Lists.{weigh, tally}
 use Rattle.s66_isa.specs.Table.{Row, same_kind, kind_number}
-use Rattle.s66_model.specs.Timing.{Problem, Point, row_at, copies, place, timed, points_of, next, total, total_of, busy_at, point}
-use Rattle.s66_model.specs.LegalOrder.{IsBeginning, Completes, left}
+use Rattle.s66_model.specs.Timing.{Problem, Point, row_at, copies, point_of, points_after, points_of, next, total, total_of, busy_at, point}
+use Rattle.s66_model.specs.LegalOrder.{IsBeginning, Completes, sum_remaining}
 use Rattle.s66_model.specs.Leaves.{rest_busy, work_of, unit_work, over, load}
-use Rattle.s66_model.proofs.LegalOrders.{at-most-one, left-is_rest}
+use Rattle.s66_model.proofs.LegalOrders.{at-most-one, sum_remaining-is_rest}
 use Rattle.s66_model.proofs.Issue.{some_copies}
-use Rattle.s66_model.proofs.Placed.{good-at, timed-append, next-grows, next-le-issue, issue-le-start, hold-le-free, place-row, issue-unit}
+use Rattle.s66_model.proofs.PointTimes.{good-at, points_after-append, next-grows, next-le-issue, issue-le-start, hold-le-free, point_of-row, issue-unit}
 
 -- KINDS
 
@@ -104,36 +104,36 @@ work-other : (kind : Kind) (r : Row) → same_kind r.kind kind ≡ false → wor
 work-other kind r is = rw is refl
 
 module _ (b : Problem) (kind : Kind) where
-  busy-own : (s : List Point) (n t : ℕ) → same_kind (row_at b n).kind kind ≡ true → rest_busy kind t (place b s n) ≡ (place b s n).free - t
-  busy-own s n t is = rw (place-row b s n, is) refl
+  busy-own : (s : List Point) (n t : ℕ) → same_kind (row_at b n).kind kind ≡ true → rest_busy kind t (point_of b s n) ≡ (point_of b s n).free - t
+  busy-own s n t is = rw (point_of-row b s n, is) refl
 
-  busy-other : (s : List Point) (n t : ℕ) → same_kind (row_at b n).kind kind ≡ false → rest_busy kind t (place b s n) ≡ 0
-  busy-other s n t is = rw (place-row b s n, is) refl
+  busy-other : (s : List Point) (n t : ℕ) → same_kind (row_at b n).kind kind ≡ false → rest_busy kind t (point_of b s n) ≡ 0
+  busy-other s n t is = rw (point_of-row b s n, is) refl
 
-  issue_gap : (s : List Point) (n : ℕ) → (a : ℕ) × ((place b s n).issue ≡ next s + a)
-  issue_gap s n = ((place b s n).issue - next s, omega (arith, next-le-issue b s n))
+  issue_gap : (s : List Point) (n : ℕ) → (a : ℕ) × ((point_of b s n).issue ≡ next s + a)
+  issue_gap s n = ((point_of b s n).issue - next s, omega (arith, next-le-issue b s n))
 
-  at_issue-lt : (s : List Point) (n : ℕ) → same_kind (row_at b n).kind kind ≡ true → tally (busy_at kind (place b s n).issue) s < copies b kind
+  at_issue-lt : (s : List Point) (n : ℕ) → same_kind (row_at b n).kind kind ≡ true → tally (busy_at kind (point_of b s n).issue) s < copies b kind
   unfolding point
   at_issue-lt s n is =
-      subst (λ (k : Kind). tally (busy_at k (place b s n).issue) s < copies b k) (same_kind-true (row_at b n).kind kind is) (issue-unit b s (row_at b n))
+      subst (λ (k : Kind). tally (busy_at k (point_of b s n).issue) s < copies b k) (same_kind-true (row_at b n).kind kind is) (issue-unit b s (row_at b n))
 
   -- never are more units busy than there are
-  fits-step : (s : List Point) (n : ℕ) → tally (busy_at kind (next s)) s ≤ copies b kind → tally (busy_at kind (next (place b s n ∷ s))) (place b s n ∷ s) ≤ copies b kind
+  fits-step : (s : List Point) (n : ℕ) → tally (busy_at kind (next s)) s ≤ copies b kind → tally (busy_at kind (next (point_of b s n ∷ s))) (point_of b s n ∷ s) ≤ copies b kind
   fits-step s n h =
-      let i = (place b s n).issue in
-      let len = (place b s n).row.parcels in
+      let i = (point_of b s n).issue in
+      let len = (point_of b s n).row.parcels in
       let (gap, e) = issue_gap s n in
       let f1 : tally (busy_at kind (i + len)) s ≤ tally (busy_at kind i) s = fewer kind i len s in
       let f2 : tally (busy_at kind i) s ≤ tally (busy_at kind (next s)) s = rw e (fewer kind (next s) gap s) in
       elim (cases_Bool (same_kind (row_at b n).kind kind)) [
-        | inl is ↦ omega (arith, at_issue-lt s n is, at-most-one (busy_at kind (i + len) (place b s n)))
-        | inr is ↦ omega (arith, not_busy kind (i + len) (place b s n) (rw (place-row b s n) is))
+        | inl is ↦ omega (arith, at_issue-lt s n is, at-most-one (busy_at kind (i + len) (point_of b s n)))
+        | inr is ↦ omega (arith, not_busy kind (i + len) (point_of b s n) (rw (point_of-row b s n) is))
       ]
 
-  work-step : (s : List Point) (n : ℕ) → tally (busy_at kind (next s)) s ≤ copies b kind → weigh (rest_busy kind (next s)) s + work_of kind (row_at b n) + copies b kind * next s ≤ weigh (rest_busy kind (next (place b s n ∷ s))) (place b s n ∷ s) + copies b kind * next (place b s n ∷ s)
+  work-step : (s : List Point) (n : ℕ) → tally (busy_at kind (next s)) s ≤ copies b kind → weigh (rest_busy kind (next s)) s + work_of kind (row_at b n) + copies b kind * next s ≤ weigh (rest_busy kind (next (point_of b s n ∷ s))) (point_of b s n ∷ s) + copies b kind * next (point_of b s n ∷ s)
   work-step s n h =
-      let p = place b s n in
+      let p = point_of b s n in
       let i = p.issue in
       let len = p.row.parcels in
       let (gap, e) = issue_gap s n in
@@ -164,25 +164,25 @@ module _ (b : Problem) (kind : Kind) where
       ]
 
   -- all the work is done by an end that comes after all points
-  work-run : (s : List Point) (rest : List ℕ) (end : ℕ) → tally (busy_at kind (next s)) s ≤ copies b kind → total (timed b s rest) ≤ end → next (timed b s rest) ≤ end → weigh (rest_busy kind (next s)) s + weigh (λ n. work_of kind (row_at b n)) rest + copies b kind * next s ≤ copies b kind * end
+  work-run : (s : List Point) (rest : List ℕ) (end : ℕ) → tally (busy_at kind (next s)) s ≤ copies b kind → total (points_after b s rest) ≤ end → next (points_after b s rest) ≤ end → weigh (rest_busy kind (next s)) s + weigh (λ n. work_of kind (row_at b n)) rest + copies b kind * next s ≤ copies b kind * end
   work-run s [] end fits h1 h2 =
       let e : next s + (end - next s) ≡ end = omega arith in
       let d = rw e at (drain kind (next s) (end - next s) s) in
       step-end (next s) (end - next s) end (copies b kind) (weigh (rest_busy kind (next s)) s) (tally (busy_at kind (next s)) s) (sym e) (omega (arith, d, all_drained kind end s h1)) fits
   work-run s (n ∷ rest) end fits h1 h2 =
-      omega (arith, work-run (place b s n ∷ s) rest end (fits-step s n fits) h1 h2, work-step s n fits)
+      omega (arith, work-run (point_of b s n ∷ s) rest end (fits-step s n fits) h1 h2, work-step s n fits)
 
-  fits-run : (s : List Point) (rest : List ℕ) → tally (busy_at kind (next s)) s ≤ copies b kind → tally (busy_at kind (next (timed b s rest))) (timed b s rest) ≤ copies b kind
+  fits-run : (s : List Point) (rest : List ℕ) → tally (busy_at kind (next s)) s ≤ copies b kind → tally (busy_at kind (next (points_after b s rest))) (points_after b s rest) ≤ copies b kind
   fits-run s [] h = h
-  fits-run s (n ∷ rest) h = fits-run (place b s n ∷ s) rest (fits-step s n h)
+  fits-run s (n ∷ rest) h = fits-run (point_of b s n ∷ s) rest (fits-step s n h)
 
 -- THE BOUND
 
 -- the last issue and its parcels are no later than the total
-pub next-le-total : (b : Problem) (s : List Point) (rest : List ℕ) → next s ≤ total s → next (timed b s rest) ≤ total (timed b s rest)
+pub next-le-total : (b : Problem) (s : List Point) (rest : List ℕ) → next s ≤ total s → next (points_after b s rest) ≤ total (points_after b s rest)
 next-le-total b s [] h = h
 next-le-total b s (n ∷ rest) h =
-    next-le-total b (place b s n ∷ s) rest (omega (arith, hold-le-free b s n, issue-le-start b s n, (good-at b n).parcels.1, (good-at b n).hold.0, ap (λ (r : Row). r.parcels) (place-row b s n)))
+    next-le-total b (point_of b s n ∷ s) rest (omega (arith, hold-le-free b s n, issue-le-start b s n, (good-at b n).parcels.1, (good-at b n).hold.0, ap (λ (r : Row). r.parcels) (point_of-row b s n)))
 
 over-arith : (x c d : ℕ) → 1 ≤ c → x ≤ c * d → x + (c - 1) < (d + 1) * c
 over-arith x c d some h = omega arith
@@ -196,17 +196,17 @@ work-fits : (busy work c x end d : ℕ) → busy + work + c * x ≤ c * end → 
 work-fits busy work c x end d h e = (let k : busy + work + c * x ≤ c * (x + d) = rw e at h in omega arith)
 
 -- every order that goes on from there takes at least the load
-pub load-sound : (b : Problem) (there rest : List ℕ) (kind : Kind) → IsBeginning b.block there → Completes b.block there rest → load b there kind ≤ total_of b (there ++ rest)
-load-sound b there rest kind begins h =
-    let s = points_of b there in
-    let end = total_of b (there ++ rest) in
-    let e : points_of b (there ++ rest) ≡ timed b s rest = timed-append b [] there rest in
-    let next_le : next (points_of b (there ++ rest)) ≤ end = next-le-total b [] (there ++ rest) (omega arith) in
-    let next_le2 : next (timed b s rest) ≤ end = omega (arith, next_le, ap next e) in
-    let total_le : total (timed b s rest) ≤ end = omega (arith, ap total e) in
-    let grows : next s ≤ next (timed b s rest) = omega (arith, next-grows b s rest) in
-    let run = work-run b kind s rest end (fits-run b kind [] there (omega arith)) total_le next_le2 in
-    let work : left b.block there (λ n. work_of kind (row_at b n)) ≡ weigh (λ n. work_of kind (row_at b n)) rest = left-is_rest b.block (λ n. work_of kind (row_at b n)) there rest begins h in
+pub load-sound : (b : Problem) (prefix rest : List ℕ) (kind : Kind) → IsBeginning b.block prefix → Completes b.block prefix rest → load b prefix kind ≤ total_of b (prefix ++ rest)
+load-sound b prefix rest kind begins h =
+    let s = points_of b prefix in
+    let end = total_of b (prefix ++ rest) in
+    let e : points_of b (prefix ++ rest) ≡ points_after b s rest = points_after-append b [] prefix rest in
+    let next_le : next (points_of b (prefix ++ rest)) ≤ end = next-le-total b [] (prefix ++ rest) (omega arith) in
+    let next_le2 : next (points_after b s rest) ≤ end = omega (arith, next_le, ap next e) in
+    let total_le : total (points_after b s rest) ≤ end = omega (arith, ap total e) in
+    let grows : next s ≤ next (points_after b s rest) = omega (arith, next-grows b s rest) in
+    let run = work-run b kind s rest end (fits-run b kind [] prefix (omega arith)) total_le next_le2 in
+    let work : sum_remaining b.block prefix (λ n. work_of kind (row_at b n)) ≡ weigh (λ n. work_of kind (row_at b n)) rest = sum_remaining-is_rest b.block (λ n. work_of kind (row_at b n)) prefix rest begins h in
     let e2 : end ≡ next s + (end - next s) = omega arith in
-    let fits : unit_work b there kind ≤ copies b kind * (end - next s) = rw work (work-fits (weigh (rest_busy kind (next s)) s) (weigh (λ n. work_of kind (row_at b n)) rest) (copies b kind) (next s) end (end - next s) run e2) in
-    omega (arith, over-le (unit_work b there kind) (copies b kind) (end - next s) (some_copies b.profile kind) fits)
+    let fits : unit_work b prefix kind ≤ copies b kind * (end - next s) = rw work (work-fits (weigh (rest_busy kind (next s)) s) (weigh (λ n. work_of kind (row_at b n)) rest) (copies b kind) (next s) end (end - next s) run e2) in
+    omega (arith, over-le (unit_work b prefix kind) (copies b kind) (end - next s) (some_copies b.profile kind) fits)

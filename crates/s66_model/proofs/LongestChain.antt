@@ -3,11 +3,11 @@ use Rattle.std.proofs.Common.{ℕ, zero, suc, ◌+◌, ◌-◌, ◌≤◌, ◌<�
 use Rattle.std.proofs.lemmas.Bool.{ltb-true, eqb-true, eq-eqb, ne_eqb, and_parts, cond_both, cases_eq, cases_lt}
 use Rattle.std.specs.List.{filter}
 use Rattle.s66_isa.specs.declared.instr.Instr.{Instr}
-use Rattle.s66_isa.specs.Words.{greatest, first_that, rising, Among}
+use Rattle.s66_isa.specs.Lists.{greatest, first_that, rising, Among}
 use Rattle.s66_isa.specs.Table.{numbers}
 use Rattle.s66_model.specs.Timing.{Problem, row_at, points_of}
 use Rattle.s66_model.specs.LegalOrder.{is_remaining, remaining}
-use Rattle.s66_model.specs.Leaves.{tail, link, is_linked, head, walk, chain_value, IsWalk, IsChain, linked, longest, chain, longest_walk, longest_chain}
+use Rattle.s66_model.specs.Leaves.{tail, link, is_linked, head, walk, chain_value, IsWalk, IsChain, links_from, longest, chain, longest_walk, longest_chain}
 use Rattle.s66_model.specs.Floor.{IsNoLater}
 use Rattle.s66_model.proofs.Lists.{cases_le, le-greatest}
 use Rattle.s66_model.proofs.Remaining.{remaining-parts, among-filter, filter-among, among-remaining, remaining-among}
@@ -86,155 +86,155 @@ first-lowest test low n (m ∷ ms) h among is =
 
 -- WHAT REMAINS
 
-remaining-rises : (block : List Instr) (there : List ℕ) → Rises 1 (remaining block there)
-remaining-rises block there = Rises-filter (is_remaining block there) 1 (numbers block) (Rises-rising (length block) 1)
+remaining-rises : (block : List Instr) (prefix : List ℕ) → Rises 1 (remaining block prefix)
+remaining-rises block prefix = Rises-filter (is_remaining block prefix) 1 (numbers block) (Rises-rising (length block) 1)
 
 -- THE WALK AFTER A NUMBER
 
 -- the value keeps so long a walk, from n on to m
 abbrev keeps : Problem → List ℕ → ℕ → ℕ → ℕ → ℕ → Bool
-keeps b there links n time m = eqb (link (row_at b n) (row_at b m) + longest b there links m) time
+keeps b prefix links n time m = eqb (link (row_at b n) (row_at b m) + longest b prefix links m) time
 
 abbrev onward : Problem → List ℕ → ℕ → ℕ → ℕ → ℕ
-onward b there links n time = first_that (keeps b there links n time) (linked b there n)
+onward b prefix links n time = first_that (keeps b prefix links n time) (links_from b prefix n)
 
-walk-ends : (b : Problem) (there : List ℕ) (links n time : ℕ) → tail (row_at b n) ≡ time → longest_walk b there (suc links) n time ≡ []
-walk-ends b there links n time is = rw (longest_walk, eq-eqb (tail (row_at b n)) time is) refl
+walk-ends : (b : Problem) (prefix : List ℕ) (links n time : ℕ) → tail (row_at b n) ≡ time → longest_walk b prefix (suc links) n time ≡ []
+walk-ends b prefix links n time is = rw (longest_walk, eq-eqb (tail (row_at b n)) time is) refl
 
-walk-goes : (b : Problem) (there : List ℕ) (links n time : ℕ) → tail (row_at b n) ≢ time →
-    longest_walk b there (suc links) n time ≡ onward b there links n time ∷ longest_walk b there links (onward b there links n time) (time - link (row_at b n) (row_at b (onward b there links n time)))
-walk-goes b there links n time past = rw (longest_walk, ne_eqb (tail (row_at b n)) time past) refl
+walk-goes : (b : Problem) (prefix : List ℕ) (links n time : ℕ) → tail (row_at b n) ≢ time →
+    longest_walk b prefix (suc links) n time ≡ onward b prefix links n time ∷ longest_walk b prefix links (onward b prefix links n time) (time - link (row_at b n) (row_at b (onward b prefix links n time)))
+walk-goes b prefix links n time past = rw (longest_walk, ne_eqb (tail (row_at b n)) time past) refl
 
 -- the walk goes on to a number with a link, from which on it takes what is left of the time
-onward-keeps : (b : Problem) (there : List ℕ) (links n time : ℕ) → time ≡ longest b there (suc links) n → tail (row_at b n) ≢ time →
-    Among (onward b there links n time) (linked b there n) × (link (row_at b n) (row_at b (onward b there links n time)) + longest b there links (onward b there links n time) ≡ time)
-onward-keeps b there links n time is past =
-    let f : ℕ → ℕ = λ m. link (row_at b n) (row_at b m) + longest b there links m in
-    let (m, among, reached) = greatest-over f (tail (row_at b n)) (linked b there n) (omega (arith, is)) in
-    let first = first-passes (keeps b there links n time) m (linked b there n) among (eq-eqb (f m) time (omega (arith, is, reached))) in
-    (first.0, eqb-true (f (onward b there links n time)) time first.1)
+onward-keeps : (b : Problem) (prefix : List ℕ) (links n time : ℕ) → time ≡ longest b prefix (suc links) n → tail (row_at b n) ≢ time →
+    Among (onward b prefix links n time) (links_from b prefix n) × (link (row_at b n) (row_at b (onward b prefix links n time)) + longest b prefix links (onward b prefix links n time) ≡ time)
+onward-keeps b prefix links n time is past =
+    let f : ℕ → ℕ = λ m. link (row_at b n) (row_at b m) + longest b prefix links m in
+    let (m, among, reached) = greatest-over f (tail (row_at b n)) (links_from b prefix n) (omega (arith, is)) in
+    let first = first-passes (keeps b prefix links n time) m (links_from b prefix n) among (eq-eqb (f m) time (omega (arith, is, reached))) in
+    (first.0, eqb-true (f (onward b prefix links n time)) time first.1)
 
-longest-walk : (b : Problem) (there : List ℕ) (links n time : ℕ) → is_remaining b.block there n ≡ true → time ≡ longest b there links n →
-    IsWalk b there n (longest_walk b there links n time) × (walk b n (longest_walk b there links n time) ≡ time)
-longest-walk b there zero n time stays is = (stays, sym is)
-longest-walk b there (suc links) n time stays is =
+longest-walk : (b : Problem) (prefix : List ℕ) (links n time : ℕ) → is_remaining b.block prefix n ≡ true → time ≡ longest b prefix links n →
+    IsWalk b prefix n (longest_walk b prefix links n time) × (walk b n (longest_walk b prefix links n time) ≡ time)
+longest-walk b prefix zero n time stays is = (stays, sym is)
+longest-walk b prefix (suc links) n time stays is =
     elim (cases_eq (tail (row_at b n)) time) [
-      | inl here ↦ subst (λ ns. IsWalk b there n ns × (walk b n ns ≡ time)) (sym (walk-ends b there links n time here)) (stays, here)
+      | inl here ↦ subst (λ ns. IsWalk b prefix n ns × (walk b n ns ≡ time)) (sym (walk-ends b prefix links n time here)) (stays, here)
       | inr past ↦
-          let m = onward b there links n time in
-          let (among, keeps_it) = onward-keeps b there links n time is past in
-          let both = filter-among (is_linked b n) m (remaining b.block there) among in
-          let rest = longest-walk b there links m (time - link (row_at b n) (row_at b m)) (remaining-among b.block there m both.0) (omega (arith, keeps_it)) in
-          subst (λ ns. IsWalk b there n ns × (walk b n ns ≡ time)) (sym (walk-goes b there links n time past))
+          let m = onward b prefix links n time in
+          let (among, keeps_it) = onward-keeps b prefix links n time is past in
+          let both = filter-among (is_linked b n) m (remaining b.block prefix) among in
+          let rest = longest-walk b prefix links m (time - link (row_at b n) (row_at b m)) (remaining-among b.block prefix m both.0) (omega (arith, keeps_it)) in
+          subst (λ ns. IsWalk b prefix n ns × (walk b n ns ≡ time)) (sym (walk-goes b prefix links n time past))
           ((stays, both.1, rest.0), omega (arith, keeps_it, rest.1))
     ]
 
 -- THE CHAIN
 
 abbrev heads : Problem → List ℕ → ℕ → Bool
-heads b there n = eqb (head (points_of b there) (row_at b n) + longest b there (length b.block) n) (chain b there)
+heads b prefix n = eqb (head (points_of b prefix) (row_at b n) + longest b prefix (length b.block) n) (chain b prefix)
 
 abbrev front : Problem → List ℕ → ℕ
-front b there = first_that (heads b there) (remaining b.block there)
+front b prefix = first_that (heads b prefix) (remaining b.block prefix)
 
-front-heads : (b : Problem) (there : List ℕ) (n : ℕ) → is_remaining b.block there n ≡ true →
-    (is_remaining b.block there (front b there) ≡ true) × (head (points_of b there) (row_at b (front b there)) + longest b there (length b.block) (front b there) ≡ chain b there)
-front-heads b there n stays =
-    let f : ℕ → ℕ = λ m. head (points_of b there) (row_at b m) + longest b there (length b.block) m in
-    let (m, among, reached) = greatest-reached f n (remaining b.block there) (among-remaining b.block there n stays) in
-    let first = first-passes (heads b there) m (remaining b.block there) among (eq-eqb (f m) (chain b there) reached) in
-    (remaining-among b.block there (front b there) first.0, eqb-true (f (front b there)) (chain b there) first.1)
+front-heads : (b : Problem) (prefix : List ℕ) (n : ℕ) → is_remaining b.block prefix n ≡ true →
+    (is_remaining b.block prefix (front b prefix) ≡ true) × (head (points_of b prefix) (row_at b (front b prefix)) + longest b prefix (length b.block) (front b prefix) ≡ chain b prefix)
+front-heads b prefix n stays =
+    let f : ℕ → ℕ = λ m. head (points_of b prefix) (row_at b m) + longest b prefix (length b.block) m in
+    let (m, among, reached) = greatest-reached f n (remaining b.block prefix) (among-remaining b.block prefix n stays) in
+    let first = first-passes (heads b prefix) m (remaining b.block prefix) among (eq-eqb (f m) (chain b prefix) reached) in
+    (remaining-among b.block prefix (front b prefix) first.0, eqb-true (f (front b prefix)) (chain b prefix) first.1)
 
 -- where a number remains, it is a chain of the greatest value
-pub longest-is_chain : (b : Problem) (there : List ℕ) (n : ℕ) → is_remaining b.block there n ≡ true →
-    IsChain b there (longest_chain b there) × (chain_value b there (longest_chain b there) ≡ chain b there)
-longest-is_chain b there n stays =
-    let m = front b there in
-    let (remains, is) = front-heads b there n stays in
-    let rest = longest-walk b there (length b.block) m (chain b there - head (points_of b there) (row_at b m)) remains (omega (arith, is)) in
+pub longest-is_chain : (b : Problem) (prefix : List ℕ) (n : ℕ) → is_remaining b.block prefix n ≡ true →
+    IsChain b prefix (longest_chain b prefix) × (chain_value b prefix (longest_chain b prefix) ≡ chain b prefix)
+longest-is_chain b prefix n stays =
+    let m = front b prefix in
+    let (remains, is) = front-heads b prefix n stays in
+    let rest = longest-walk b prefix (length b.block) m (chain b prefix - head (points_of b prefix) (row_at b m)) remains (omega (arith, is)) in
     (rest.0, omega (arith, is, rest.1))
 
 -- NO CHAIN IS GREATER
 
-walk-remains : (b : Problem) (there : List ℕ) (n : ℕ) (ns : List ℕ) → IsWalk b there n ns → is_remaining b.block there n ≡ true
-walk-remains b there n [] goes = goes
-walk-remains b there n (m ∷ ms) goes = goes.0
+walk-remains : (b : Problem) (prefix : List ℕ) (n : ℕ) (ns : List ℕ) → IsWalk b prefix n ns → is_remaining b.block prefix n ≡ true
+walk-remains b prefix n [] goes = goes
+walk-remains b prefix n (m ∷ ms) goes = goes.0
 
 -- the numbers of a walk rise, so it has no more links than the block has instructions
-walk-short : (b : Problem) (there : List ℕ) (n : ℕ) (ns : List ℕ) → IsWalk b there n ns → n + length ns ≤ length b.block
-walk-short b there n [] goes = (let (low, high, new) = remaining-parts b.block there n goes in omega (arith, high))
-walk-short b there n (m ∷ ms) goes =
+walk-short : (b : Problem) (prefix : List ℕ) (n : ℕ) (ns : List ℕ) → IsWalk b prefix n ns → n + length ns ≤ length b.block
+walk-short b prefix n [] goes = (let (low, high, new) = remaining-parts b.block prefix n goes in omega (arith, high))
+walk-short b prefix n (m ∷ ms) goes =
     let (stays, is, rest) = goes in
     let rises : n < m = ltb-true n m (and_parts (ltb n m) (ltb 0 (link (row_at b n) (row_at b m))) is).0 in
-    omega (arith, rises, walk-short b there m ms rest)
+    omega (arith, rises, walk-short b prefix m ms rest)
 
-walk-linked : (b : Problem) (there : List ℕ) (n m : ℕ) (ms : List ℕ) → is_linked b n m ≡ true → IsWalk b there m ms → Among m (linked b there n)
-walk-linked b there n m ms is rest = among-filter (is_linked b n) m (remaining b.block there) (among-remaining b.block there m (walk-remains b there m ms rest)) is
+walk-links_from : (b : Problem) (prefix : List ℕ) (n m : ℕ) (ms : List ℕ) → is_linked b n m ≡ true → IsWalk b prefix m ms → Among m (links_from b prefix n)
+walk-links_from b prefix n m ms is rest = among-filter (is_linked b n) m (remaining b.block prefix) (among-remaining b.block prefix m (walk-remains b prefix m ms rest)) is
 
-link-le : (b : Problem) (there : List ℕ) (links n m : ℕ) → Among m (linked b there n) → link (row_at b n) (row_at b m) + longest b there links m ≤ longest b there (suc links) n
-link-le b there links n m among = omega (arith, le-greatest (λ k. link (row_at b n) (row_at b k) + longest b there links k) m (linked b there n) among)
+link-le : (b : Problem) (prefix : List ℕ) (links n m : ℕ) → Among m (links_from b prefix n) → link (row_at b n) (row_at b m) + longest b prefix links m ≤ longest b prefix (suc links) n
+link-le b prefix links n m among = omega (arith, le-greatest (λ k. link (row_at b n) (row_at b k) + longest b prefix links k) m (links_from b prefix n) among)
 
-walk-le : (b : Problem) (there : List ℕ) (links n : ℕ) (ns : List ℕ) → length ns ≤ links → IsWalk b there n ns → walk b n ns ≤ longest b there links n
-walk-le b there zero n [] short goes = omega arith
-walk-le b there zero n (m ∷ ms) short goes = absurd (omega (arith, short))
-walk-le b there (suc links) n [] short goes = omega arith
-walk-le b there (suc links) n (m ∷ ms) short goes =
+walk-le : (b : Problem) (prefix : List ℕ) (links n : ℕ) (ns : List ℕ) → length ns ≤ links → IsWalk b prefix n ns → walk b n ns ≤ longest b prefix links n
+walk-le b prefix zero n [] short goes = omega arith
+walk-le b prefix zero n (m ∷ ms) short goes = absurd (omega (arith, short))
+walk-le b prefix (suc links) n [] short goes = omega arith
+walk-le b prefix (suc links) n (m ∷ ms) short goes =
     let (stays, is, rest) = goes in
-    omega (arith, walk-le b there links m ms (omega (arith, short)) rest, link-le b there links n m (walk-linked b there n m ms is rest))
+    omega (arith, walk-le b prefix links m ms (omega (arith, short)) rest, link-le b prefix links n m (walk-links_from b prefix n m ms is rest))
 
-chain-short : (b : Problem) (there : List ℕ) (n : ℕ) (ns : List ℕ) → IsWalk b there n ns → length ns ≤ length b.block
-chain-short b there n ns goes = omega (arith, walk-short b there n ns goes)
+chain-short : (b : Problem) (prefix : List ℕ) (n : ℕ) (ns : List ℕ) → IsWalk b prefix n ns → length ns ≤ length b.block
+chain-short b prefix n ns goes = omega (arith, walk-short b prefix n ns goes)
 
-head-le : (b : Problem) (there : List ℕ) (n : ℕ) (ns : List ℕ) → IsWalk b there n ns → head (points_of b there) (row_at b n) + longest b there (length b.block) n ≤ chain b there
-head-le b there n ns goes =
-    le-greatest (λ m. head (points_of b there) (row_at b m) + longest b there (length b.block) m) n (remaining b.block there) (among-remaining b.block there n (walk-remains b there n ns goes))
+head-le : (b : Problem) (prefix : List ℕ) (n : ℕ) (ns : List ℕ) → IsWalk b prefix n ns → head (points_of b prefix) (row_at b n) + longest b prefix (length b.block) n ≤ chain b prefix
+head-le b prefix n ns goes =
+    le-greatest (λ m. head (points_of b prefix) (row_at b m) + longest b prefix (length b.block) m) n (remaining b.block prefix) (among-remaining b.block prefix n (walk-remains b prefix n ns goes))
 
-pub chain-le : (b : Problem) (there ns : List ℕ) → IsChain b there ns → chain_value b there ns ≤ chain b there
-chain-le b there [] goes = absurd goes
-chain-le b there (n ∷ ns) goes =
-    omega (arith, head-le b there n ns goes, walk-le b there (length b.block) n ns (chain-short b there n ns goes) goes)
+pub chain-le : (b : Problem) (prefix ns : List ℕ) → IsChain b prefix ns → chain_value b prefix ns ≤ chain b prefix
+chain-le b prefix [] goes = absurd goes
+chain-le b prefix (n ∷ ns) goes =
+    omega (arith, head-le b prefix n ns goes, walk-le b prefix (length b.block) n ns (chain-short b prefix n ns goes) goes)
 
 -- OF EQUAL CHAINS IT GOES FIRST
 
-linked-rises : (b : Problem) (there : List ℕ) (n : ℕ) → Rises 1 (linked b there n)
-linked-rises b there n = Rises-filter (is_linked b n) 1 (remaining b.block there) (remaining-rises b.block there)
+links_from-rises : (b : Problem) (prefix : List ℕ) (n : ℕ) → Rises 1 (links_from b prefix n)
+links_from-rises b prefix n = Rises-filter (is_linked b n) 1 (remaining b.block prefix) (remaining-rises b.block prefix)
 
-walk-first : (b : Problem) (there : List ℕ) (links n time : ℕ) (ns : List ℕ) → time ≡ longest b there links n → length ns ≤ links → IsWalk b there n ns → walk b n ns ≡ time → IsNoLater (longest_walk b there links n time) ns
-walk-first b there zero n time ns is short goes takes = tt
-walk-first b there (suc links) n time [] is short goes takes = subst (λ ms. IsNoLater ms []) (sym (walk-ends b there links n time takes)) tt
-walk-first b there (suc links) n time (m ∷ ms) is short goes takes =
+walk-first : (b : Problem) (prefix : List ℕ) (links n time : ℕ) (ns : List ℕ) → time ≡ longest b prefix links n → length ns ≤ links → IsWalk b prefix n ns → walk b n ns ≡ time → IsNoLater (longest_walk b prefix links n time) ns
+walk-first b prefix zero n time ns is short goes takes = tt
+walk-first b prefix (suc links) n time [] is short goes takes = subst (λ ms. IsNoLater ms []) (sym (walk-ends b prefix links n time takes)) tt
+walk-first b prefix (suc links) n time (m ∷ ms) is short goes takes =
     elim (cases_eq (tail (row_at b n)) time) [
-      | inl here ↦ subst (λ ks. IsNoLater ks (m ∷ ms)) (sym (walk-ends b there links n time here)) tt
+      | inl here ↦ subst (λ ks. IsNoLater ks (m ∷ ms)) (sym (walk-ends b prefix links n time here)) tt
       | inr past ↦
           let (stays, is_link, rest) = goes in
-          let among = walk-linked b there n m ms is_link rest in
-          let le : walk b m ms ≤ longest b there links m = walk-le b there links m ms (omega (arith, short)) rest in
-          let at_most : link (row_at b n) (row_at b m) + longest b there links m ≤ longest b there (suc links) n = link-le b there links n m among in
-          let takes_it : link (row_at b n) (row_at b m) + longest b there links m ≡ time = omega (arith, le, at_most, is, takes) in
-          let lowest : onward b there links n time ≤ m = first-lowest (keeps b there links n time) 1 m (linked b there n) (linked-rises b there n) among (eq-eqb (link (row_at b n) (row_at b m) + longest b there links m) time takes_it) in
-          subst (λ ks. IsNoLater ks (m ∷ ms)) (sym (walk-goes b there links n time past))
-          (elim (cases_eq (onward b there links n time) m) [
+          let among = walk-links_from b prefix n m ms is_link rest in
+          let le : walk b m ms ≤ longest b prefix links m = walk-le b prefix links m ms (omega (arith, short)) rest in
+          let at_most : link (row_at b n) (row_at b m) + longest b prefix links m ≤ longest b prefix (suc links) n = link-le b prefix links n m among in
+          let takes_it : link (row_at b n) (row_at b m) + longest b prefix links m ≡ time = omega (arith, le, at_most, is, takes) in
+          let lowest : onward b prefix links n time ≤ m = first-lowest (keeps b prefix links n time) 1 m (links_from b prefix n) (links_from-rises b prefix n) among (eq-eqb (link (row_at b n) (row_at b m) + longest b prefix links m) time takes_it) in
+          subst (λ ks. IsNoLater ks (m ∷ ms)) (sym (walk-goes b prefix links n time past))
+          (elim (cases_eq (onward b prefix links n time) m) [
             | inl same ↦
-                let after : IsNoLater (longest_walk b there links m (time - link (row_at b n) (row_at b m))) ms =
-                walk-first b there links m (time - link (row_at b n) (row_at b m)) ms (omega (arith, takes_it)) (omega (arith, short)) rest (omega (arith, takes)) in
-                inr (same, subst (λ k. IsNoLater (longest_walk b there links k (time - link (row_at b n) (row_at b k))) ms) (sym same) after)
+                let after : IsNoLater (longest_walk b prefix links m (time - link (row_at b n) (row_at b m))) ms =
+                walk-first b prefix links m (time - link (row_at b n) (row_at b m)) ms (omega (arith, takes_it)) (omega (arith, short)) rest (omega (arith, takes)) in
+                inr (same, subst (λ k. IsNoLater (longest_walk b prefix links k (time - link (row_at b n) (row_at b k))) ms) (sym same) after)
             | inr other ↦ inl (omega (arith, lowest, other))
           ])
     ]
 
-pub longest-first : (b : Problem) (there ns : List ℕ) → IsChain b there ns → chain_value b there ns ≡ chain b there → IsNoLater (longest_chain b there) ns
-longest-first b there [] goes takes = absurd goes
-longest-first b there (n ∷ ns) goes takes =
-    let short = chain-short b there n ns goes in
-    let le : walk b n ns ≤ longest b there (length b.block) n = walk-le b there (length b.block) n ns short goes in
-    let at_most : head (points_of b there) (row_at b n) + longest b there (length b.block) n ≤ chain b there = head-le b there n ns goes in
-    let takes_it : head (points_of b there) (row_at b n) + longest b there (length b.block) n ≡ chain b there = omega (arith, le, at_most, takes) in
-    let among = among-remaining b.block there n (walk-remains b there n ns goes) in
-    let lowest : front b there ≤ n = first-lowest (heads b there) 1 n (remaining b.block there) (remaining-rises b.block there) among (eq-eqb (head (points_of b there) (row_at b n) + longest b there (length b.block) n) (chain b there) takes_it) in
-    elim (cases_eq (front b there) n) [
+pub longest-first : (b : Problem) (prefix ns : List ℕ) → IsChain b prefix ns → chain_value b prefix ns ≡ chain b prefix → IsNoLater (longest_chain b prefix) ns
+longest-first b prefix [] goes takes = absurd goes
+longest-first b prefix (n ∷ ns) goes takes =
+    let short = chain-short b prefix n ns goes in
+    let le : walk b n ns ≤ longest b prefix (length b.block) n = walk-le b prefix (length b.block) n ns short goes in
+    let at_most : head (points_of b prefix) (row_at b n) + longest b prefix (length b.block) n ≤ chain b prefix = head-le b prefix n ns goes in
+    let takes_it : head (points_of b prefix) (row_at b n) + longest b prefix (length b.block) n ≡ chain b prefix = omega (arith, le, at_most, takes) in
+    let among = among-remaining b.block prefix n (walk-remains b prefix n ns goes) in
+    let lowest : front b prefix ≤ n = first-lowest (heads b prefix) 1 n (remaining b.block prefix) (remaining-rises b.block prefix) among (eq-eqb (head (points_of b prefix) (row_at b n) + longest b prefix (length b.block) n) (chain b prefix) takes_it) in
+    elim (cases_eq (front b prefix) n) [
       | inl same ↦
-          let after : IsNoLater (longest_walk b there (length b.block) n (chain b there - head (points_of b there) (row_at b n))) ns =
-          walk-first b there (length b.block) n (chain b there - head (points_of b there) (row_at b n)) ns (omega (arith, takes_it)) short goes (omega (arith, takes)) in
-          inr (same, subst (λ k. IsNoLater (longest_walk b there (length b.block) k (chain b there - head (points_of b there) (row_at b k))) ns) (sym same) after)
+          let after : IsNoLater (longest_walk b prefix (length b.block) n (chain b prefix - head (points_of b prefix) (row_at b n))) ns =
+          walk-first b prefix (length b.block) n (chain b prefix - head (points_of b prefix) (row_at b n)) ns (omega (arith, takes_it)) short goes (omega (arith, takes)) in
+          inr (same, subst (λ k. IsNoLater (longest_walk b prefix (length b.block) k (chain b prefix - head (points_of b prefix) (row_at b k))) ns) (sym same) after)
       | inr other ↦ inl (omega (arith, lowest, other))
     ]

@@ -1,12 +1,12 @@
 -- The prefixes of a piece that aren't split cover each legal order that begins with its own prefix once.
 use Rattle.std.proofs.Common.{ℕ, zero, suc, ◌+◌, ◌≤◌, ◌<◌, ◌≡◌, Bool, true, false, cond, ◌&&◌, List, [], ◌∷◌, ◌++◌, length, refl, sym, ap, arith, inl, inr, leb, eqb, ◌∙◌, filter, subst}
 use Rattle.std.proofs.lemmas.Bool.{and_parts, and_left, and_right, and_cases, eqb-true, eq-eqb, ne_eqb, cases_Bool, cases_eq}
-use Rattle.s66_isa.specs.Words.{tally, rising}
+use Rattle.s66_isa.specs.Lists.{tally, rising}
 use Rattle.s66_model.specs.Timing.{Problem}
 use Rattle.s66_model.specs.LegalOrder.{IsLegal, IsIncomplete, is_ready, ready, GoesOn}
 use Rattle.s66_model.specs.Leaves.{Leaf, value}
 use Rattle.s66_model.specs.Tree.{Tree, Alone, Parted, Kids, NoMore, Unsplit, Split, KidsHold, TreeHolds, kid_splits, splits}
-use Rattle.s66_model.specs.Piece.{Mark, Carries, Frontier}
+use Rattle.s66_model.specs.Piece.{Tip, Carries, Frontier}
 use Rattle.s66_model.specs.Ledger.{Open, Closed, is_cut, state_of, kid_nodes, root_state, new_nodes}
 use Rattle.s66_model.specs.Coverage.{begins, covers}
 use Rattle.s66_model.proofs.Lists.{tally-append, tally-none, tally-same}
@@ -15,12 +15,12 @@ use Rattle.s66_model.proofs.Remaining.{rest-first}
 
 -- AN ORDER THAT BEGINS WITH A PREFIX
 
-pub begins-rest : (there order : List ℕ) → begins there order ≡ true → (rest : List ℕ) × (order ≡ there ++ rest)
+pub begins-rest : (prefix order : List ℕ) → begins prefix order ≡ true → (rest : List ℕ) × (order ≡ prefix ++ rest)
 begins-rest [] order h = (order, refl)
-begins-rest (n ∷ there) [] h = absurd cc
-begins-rest (n ∷ there) (m ∷ ms) h =
-    let parts = and_parts (eqb n m) (begins there ms) h in
-    let (rest, e) = begins-rest there ms parts.1 in
+begins-rest (n ∷ prefix) [] h = absurd cc
+begins-rest (n ∷ prefix) (m ∷ ms) h =
+    let parts = and_parts (eqb n m) (begins prefix ms) h in
+    let (rest, e) = begins-rest prefix ms parts.1 in
     let same : n ≡ m = eqb-true n m parts.0 in
     (rest, cc)
 
@@ -29,17 +29,17 @@ and_true true = refl
 and_true false = refl
 
 -- one number more, after the prefix
-begins-next : (there : List ℕ) (n m : ℕ) (rest : List ℕ) → begins (there ++ n ∷ []) (there ++ m ∷ rest) ≡ eqb n m
+begins-next : (prefix : List ℕ) (n m : ℕ) (rest : List ℕ) → begins (prefix ++ n ∷ []) (prefix ++ m ∷ rest) ≡ eqb n m
 begins-next [] n m rest = and_true (eqb n m)
-begins-next (k ∷ there) n m rest = rw (eq-eqb k k refl) (begins-next there n m rest)
+begins-next (k ∷ prefix) n m rest = rw (eq-eqb k k refl) (begins-next prefix n m rest)
 
-begins-not : (there more order : List ℕ) → begins there order ≡ false → begins (there ++ more) order ≡ false
+begins-not : (prefix more order : List ℕ) → begins prefix order ≡ false → begins (prefix ++ more) order ≡ false
 begins-not [] more order h = absurd cc
-begins-not (n ∷ there) more [] h = refl
-begins-not (n ∷ there) more (m ∷ ms) h =
-    elim (and_cases (eqb n m) (begins there ms) h) [
-      | inl first ↦ and_left (eqb n m) (begins (there ++ more) ms) first
-      | inr later ↦ and_right (eqb n m) (begins (there ++ more) ms) (begins-not there more ms later)
+begins-not (n ∷ prefix) more [] h = refl
+begins-not (n ∷ prefix) more (m ∷ ms) h =
+    elim (and_cases (eqb n m) (begins prefix ms) h) [
+      | inl first ↦ and_left (eqb n m) (begins (prefix ++ more) ms) first
+      | inr later ↦ and_right (eqb n m) (begins (prefix ++ more) ms) (begins-not prefix more ms later)
     ]
 
 -- OF RISING NUMBERS THAT PASS, each stands there once
@@ -72,48 +72,48 @@ uncut_either order at leaf true = refl
 uncut_either order at leaf false = refl
 
 module _ (b : Problem) (order : List ℕ) (legal : IsLegal b.block order) where
-  ready-once_there : (there : List ℕ) → IsIncomplete b.block there → begins there order ≡ true → tally (λ n. begins (there ++ n ∷ []) order) (ready b.block there) ≡ cond (begins there order) 1 0
-  ready-once_there there part is =
-      let (rest, e) = begins-rest there order is in
-      let (m, more, f) = rest-first b.block there rest part (ap length (sym e) ∙ legal.whole) in
-      let whole : order ≡ there ++ m ∷ more = e ∙ ap (λ x. there ++ x) f in
-      let goes : GoesOn b.block [] (there ++ m ∷ more) = subst (λ x. GoesOn b.block [] x) whole (legal-order b.block order legal).0 in
-      let now : is_ready b.block there m ≡ true = (GoesOn-append b.block [] there (m ∷ more) goes).1.0 in
-      let (low, high, new, met) = ready-parts b.block there m now in
-      let same = tally-same (λ n. begins (there ++ n ∷ []) order) (λ n. eqb n m) (λ n. ap (begins (there ++ n ∷ [])) whole ∙ begins-next there n m more) (ready b.block there) in
-      rw is (same ∙ rising-once (is_ready b.block there) m (length b.block) 1 now low (omega (arith, high)))
+  ready-once_there : (prefix : List ℕ) → IsIncomplete b.block prefix → begins prefix order ≡ true → tally (λ n. begins (prefix ++ n ∷ []) order) (ready b.block prefix) ≡ cond (begins prefix order) 1 0
+  ready-once_there prefix part is =
+      let (rest, e) = begins-rest prefix order is in
+      let (m, more, f) = rest-first b.block prefix rest part (ap length (sym e) ∙ legal.whole) in
+      let whole : order ≡ prefix ++ m ∷ more = e ∙ ap (λ x. prefix ++ x) f in
+      let goes : GoesOn b.block [] (prefix ++ m ∷ more) = subst (λ x. GoesOn b.block [] x) whole (legal-order b.block order legal).0 in
+      let now : is_ready b.block prefix m ≡ true = (GoesOn-append b.block [] prefix (m ∷ more) goes).1.0 in
+      let (low, high, new, met) = ready-parts b.block prefix m now in
+      let same = tally-same (λ n. begins (prefix ++ n ∷ []) order) (λ n. eqb n m) (λ n. ap (begins (prefix ++ n ∷ [])) whole ∙ begins-next prefix n m more) (ready b.block prefix) in
+      rw is (same ∙ rising-once (is_ready b.block prefix) m (length b.block) 1 now low (omega (arith, high)))
 
   -- an order that begins with an incomplete prefix goes on with exactly one of the ready numbers
-  ready-once : (there : List ℕ) → IsIncomplete b.block there → tally (λ n. begins (there ++ n ∷ []) order) (ready b.block there) ≡ cond (begins there order) 1 0
-  ready-once there part =
-      elim (cases_Bool (begins there order)) [
-        | inl is ↦ ready-once_there there part is
-        | inr is ↦ rw (is, tally-none (λ n. begins (there ++ n ∷ []) order) (λ n. begins-not there (n ∷ []) order is) (ready b.block there)) refl
+  ready-once : (prefix : List ℕ) → IsIncomplete b.block prefix → tally (λ n. begins (prefix ++ n ∷ []) order) (ready b.block prefix) ≡ cond (begins prefix order) 1 0
+  ready-once prefix part =
+      elim (cases_Bool (begins prefix order)) [
+        | inl is ↦ ready-once_there prefix part is
+        | inr is ↦ rw (is, tally-none (λ n. begins (prefix ++ n ∷ []) order) (λ n. begins-not prefix (n ∷ []) order is) (ready b.block prefix)) refl
       ]
 
-  uncut : (best : ℕ) (at : List ℕ) (mark : Mark) → covers order (record { prefix = at; state = state_of b best at mark }) ≡ begins at order
+  uncut : (best : ℕ) (at : List ℕ) (tip : Tip) → covers order (record { prefix = at; state = state_of b best at tip }) ≡ begins at order
   uncut best at (Carries leaf) = uncut_either order at leaf (leb best (value b at leaf))
   uncut best at Frontier = refl
 
-  kids-once : (best : ℕ) (Q : List ℕ → Mark → Type 0) (kids : Kids Mark) (there ns : List ℕ) → KidsHold b.block Q there ns kids → tally (covers order) (kid_nodes b best there ns kids) ≡ tally (λ n. begins (there ++ n ∷ []) order) ns
-  kids-once best Q NoMore there [] holds = refl
-  kids-once best Q NoMore there (n ∷ ns) holds = absurd holds
-  kids-once best Q (Unsplit mark kids) there [] holds = refl
-  kids-once best Q (Unsplit mark kids) there (n ∷ ns) holds =
-      rw (uncut best (there ++ n ∷ []) mark) (omega (arith, kids-once best Q kids there ns holds.1))
-  kids-once best Q (Split numbers sub kids) there [] holds = refl
-  kids-once best Q (Split numbers sub kids) there (n ∷ ns) holds =
-      let at = there ++ n ∷ [] in
+  kids-once : (best : ℕ) (Q : List ℕ → Tip → Type 0) (kids : Kids Tip) (prefix ns : List ℕ) → KidsHold b.block Q prefix ns kids → tally (covers order) (kid_nodes b best prefix ns kids) ≡ tally (λ n. begins (prefix ++ n ∷ []) order) ns
+  kids-once best Q NoMore prefix [] holds = refl
+  kids-once best Q NoMore prefix (n ∷ ns) holds = absurd holds
+  kids-once best Q (Unsplit tip kids) prefix [] holds = refl
+  kids-once best Q (Unsplit tip kids) prefix (n ∷ ns) holds =
+      rw (uncut best (prefix ++ n ∷ []) tip) (omega (arith, kids-once best Q kids prefix ns holds.1))
+  kids-once best Q (Split numbers sub kids) prefix [] holds = refl
+  kids-once best Q (Split numbers sub kids) prefix (n ∷ ns) holds =
+      let at = prefix ++ n ∷ [] in
       let below : tally (covers order) (kid_nodes b best at numbers sub) ≡ tally (λ m. begins (at ++ m ∷ []) order) numbers = kids-once best Q sub at numbers holds.2 in
       let one : tally (λ m. begins (at ++ m ∷ []) order) numbers ≡ cond (begins at order) 1 0 = rw holds.1 (ready-once at holds.0) in
-      omega (arith, below, one, kids-once best Q kids there ns holds.3, tally-append (covers order) (kid_nodes b best at numbers sub) (kid_nodes b best there ns kids))
+      omega (arith, below, one, kids-once best Q kids prefix ns holds.3, tally-append (covers order) (kid_nodes b best at numbers sub) (kid_nodes b best prefix ns kids))
 
   -- the root and the new nodes together cover an order that begins with the prefix once
-  pub tree-once : (best : ℕ) (Q : List ℕ → Mark → Type 0) (there : List ℕ) (tree : Tree Mark) → TreeHolds b.block Q there tree → cond (covers order (record { prefix = there; state = root_state b best there tree })) 1 0 + tally (covers order) (new_nodes b best there tree) ≡ cond (begins there order) 1 0
-  tree-once best Q there (Alone mark) holds = rw (uncut best there mark) (omega arith)
-  tree-once best Q there (Parted numbers kids) holds =
-      let one : tally (λ m. begins (there ++ m ∷ []) order) numbers ≡ cond (begins there order) 1 0 = rw holds.1 (ready-once there holds.0) in
-      omega (arith, one, kids-once best Q kids there numbers holds.2)
+  pub tree-once : (best : ℕ) (Q : List ℕ → Tip → Type 0) (prefix : List ℕ) (tree : Tree Tip) → TreeHolds b.block Q prefix tree → cond (covers order (record { prefix = prefix; state = root_state b best prefix tree })) 1 0 + tally (covers order) (new_nodes b best prefix tree) ≡ cond (begins prefix order) 1 0
+  tree-once best Q prefix (Alone tip) holds = rw (uncut best prefix tip) (omega arith)
+  tree-once best Q prefix (Parted numbers kids) holds =
+      let one : tally (λ m. begins (prefix ++ m ∷ []) order) numbers ≡ cond (begins prefix order) 1 0 = rw holds.1 (ready-once prefix holds.0) in
+      omega (arith, one, kids-once best Q kids prefix numbers holds.2)
 
 -- THE SPLIT NODES ARE THE SPLITS
 
@@ -121,20 +121,20 @@ cut_either : (at : List ℕ) (leaf : Leaf) (t : Bool) → is_cut (record { prefi
 cut_either at leaf true = refl
 cut_either at leaf false = refl
 
-cut_none : (b : Problem) (best : ℕ) (at : List ℕ) (mark : Mark) → is_cut (record { prefix = at; state = state_of b best at mark }) ≡ false
+cut_none : (b : Problem) (best : ℕ) (at : List ℕ) (tip : Tip) → is_cut (record { prefix = at; state = state_of b best at tip }) ≡ false
 cut_none b best at (Carries leaf) = cut_either at leaf (leb best (value b at leaf))
 cut_none b best at Frontier = refl
 
-kids-cut : (b : Problem) (best : ℕ) (Q : List ℕ → Mark → Type 0) (kids : Kids Mark) (there ns : List ℕ) → KidsHold b.block Q there ns kids → tally is_cut (kid_nodes b best there ns kids) ≡ kid_splits kids
-kids-cut b best Q NoMore there [] holds = refl
-kids-cut b best Q NoMore there (n ∷ ns) holds = absurd holds
-kids-cut b best Q (Unsplit mark kids) there [] holds = absurd holds
-kids-cut b best Q (Unsplit mark kids) there (n ∷ ns) holds =
-    rw (cut_none b best (there ++ n ∷ []) mark) (omega (arith, kids-cut b best Q kids there ns holds.1))
-kids-cut b best Q (Split numbers sub kids) there [] holds = absurd holds
-kids-cut b best Q (Split numbers sub kids) there (n ∷ ns) holds =
-    omega (arith, kids-cut b best Q sub (there ++ n ∷ []) numbers holds.2, kids-cut b best Q kids there ns holds.3, tally-append is_cut (kid_nodes b best (there ++ n ∷ []) numbers sub) (kid_nodes b best there ns kids))
+kids-cut : (b : Problem) (best : ℕ) (Q : List ℕ → Tip → Type 0) (kids : Kids Tip) (prefix ns : List ℕ) → KidsHold b.block Q prefix ns kids → tally is_cut (kid_nodes b best prefix ns kids) ≡ kid_splits kids
+kids-cut b best Q NoMore prefix [] holds = refl
+kids-cut b best Q NoMore prefix (n ∷ ns) holds = absurd holds
+kids-cut b best Q (Unsplit tip kids) prefix [] holds = absurd holds
+kids-cut b best Q (Unsplit tip kids) prefix (n ∷ ns) holds =
+    rw (cut_none b best (prefix ++ n ∷ []) tip) (omega (arith, kids-cut b best Q kids prefix ns holds.1))
+kids-cut b best Q (Split numbers sub kids) prefix [] holds = absurd holds
+kids-cut b best Q (Split numbers sub kids) prefix (n ∷ ns) holds =
+    omega (arith, kids-cut b best Q sub (prefix ++ n ∷ []) numbers holds.2, kids-cut b best Q kids prefix ns holds.3, tally-append is_cut (kid_nodes b best (prefix ++ n ∷ []) numbers sub) (kid_nodes b best prefix ns kids))
 
-pub tree-cut : (b : Problem) (best : ℕ) (Q : List ℕ → Mark → Type 0) (there : List ℕ) (tree : Tree Mark) → TreeHolds b.block Q there tree → cond (is_cut (record { prefix = there; state = root_state b best there tree })) 1 0 + tally is_cut (new_nodes b best there tree) ≡ splits tree
-tree-cut b best Q there (Alone mark) holds = rw (cut_none b best there mark) (omega arith)
-tree-cut b best Q there (Parted numbers kids) holds = omega (arith, kids-cut b best Q kids there numbers holds.2)
+pub tree-cut : (b : Problem) (best : ℕ) (Q : List ℕ → Tip → Type 0) (prefix : List ℕ) (tree : Tree Tip) → TreeHolds b.block Q prefix tree → cond (is_cut (record { prefix = prefix; state = root_state b best prefix tree })) 1 0 + tally is_cut (new_nodes b best prefix tree) ≡ splits tree
+tree-cut b best Q prefix (Alone tip) holds = rw (cut_none b best prefix tip) (omega arith)
+tree-cut b best Q prefix (Parted numbers kids) holds = omega (arith, kids-cut b best Q kids prefix numbers holds.2)

@@ -6,9 +6,9 @@ use Rattle.std.proofs.Math.Bool.{or_assoc, or-false}
 use Rattle.s66_isa.specs.declared.instr.Instr.{Instr}
 use Rattle.s66_isa.specs.declared.instr.Memory.{Memory}
 use Rattle.s66_isa.specs.declared.reg.Reg.{Reg}
-use Rattle.s66_isa.specs.Table.{bank_number, b_reg, same_reg, is_b0, has_reg, joined, joined_all, operands_of, stored_registers, reads_of, held_registers, loaded_registers, results_of, memory_of}
+use Rattle.s66_isa.specs.Table.{bank_number, b_reg, same_reg, is_b0, has_reg, insert, insert_all, operands_of, stored_registers, reads_of, held_registers, loaded_registers, results_of, memory_of}
 use Rattle.s66_model.specs.Dependence.{share}
-use Rattle.s66_model.specs.Meaning.{Term, Terms, Storage, Loaded, Operation, value_of, values_of, computed, fetched, writes, written, address_of}
+use Rattle.s66_model.specs.Meaning.{Term, Terms, Storage, Loaded, Operation, value_of, values_of, results_computed, words_loaded, writes, after_writes, address_of}
 use Rattle.s66_model.proofs.SameRegister.{same_reg-self}
 
 -- WHICH ARE THE SAME
@@ -43,8 +43,8 @@ implied true y h = refl
 implied false true h = h refl
 implied false false h = refl
 
-has_reg-joined : (q : Reg) → is_b0 q ≡ false → (set : List Reg) (r : Reg) → has_reg q (joined set r) ≡ (has_reg q set || same_reg q r)
-has_reg-joined q named set r =
+has_reg-insert : (q : Reg) → is_b0 q ≡ false → (set : List Reg) (r : Reg) → has_reg q (insert set r) ≡ (has_reg q set || same_reg q r)
+has_reg-insert q named set r =
     elim (cases_Bool (is_b0 r || has_reg r set)) [
       | inl is ↦
           ap (λ t. has_reg q (cond t set (set ++ r ∷ []))) is
@@ -52,7 +52,7 @@ has_reg-joined q named set r =
           (λ same.
           elim (or_cases (is_b0 r) (has_reg r set) is) [
             | inl b0 ↦ absurd (true≢false (sym b0 ∙ (sym (same_reg-at q r same (b_reg 0)) ∙ named)))
-            | inr there ↦ has_reg-at q r same set ∙ there
+            | inr prefix ↦ has_reg-at q r same set ∙ prefix
           ])
       | inr is ↦
           ap (λ t. has_reg q (cond t set (set ++ r ∷ []))) is
@@ -61,17 +61,17 @@ has_reg-joined q named set r =
     ]
 
 -- save B0, what was in the set and what joined it stand there
-pub has_reg-joined_all : (q : Reg) → is_b0 q ≡ false → (set rs : List Reg) → has_reg q (joined_all set rs) ≡ (has_reg q set || has_reg q rs)
-has_reg-joined_all q named set [] = sym (or-false (has_reg q set))
-has_reg-joined_all q named set (r ∷ rs) =
-    has_reg-joined_all q named (joined set r) rs
-    ∙ (ap (λ t. t || has_reg q rs) (has_reg-joined q named set r)
+pub has_reg-insert_all : (q : Reg) → is_b0 q ≡ false → (set rs : List Reg) → has_reg q (insert_all set rs) ≡ (has_reg q set || has_reg q rs)
+has_reg-insert_all q named set [] = sym (or-false (has_reg q set))
+has_reg-insert_all q named set (r ∷ rs) =
+    has_reg-insert_all q named (insert set r) rs
+    ∙ (ap (λ t. t || has_reg q rs) (has_reg-insert q named set r)
     ∙ or_assoc (has_reg q set) (same_reg q r) (has_reg q rs))
 
 -- save B0, an instruction reads its operands and what it stores
 pub has_reg-reads : (q : Reg) → is_b0 q ≡ false → (n : Instr) → has_reg q (reads_of n) ≡ (has_reg q (operands_of n) || has_reg q (stored_registers (memory_of n) n))
 has_reg-reads q named n =
-    has_reg-joined_all q named [] (operands_of n ++ stored_registers (memory_of n) n)
+    has_reg-insert_all q named [] (operands_of n ++ stored_registers (memory_of n) n)
     ∙ has_reg-append q (operands_of n) (stored_registers (memory_of n) n)
 
 -- of two sets that share nothing, no register of one stands in the other
@@ -85,22 +85,22 @@ share-none (r ∷ rs) ss h q is =
     ]
 
 pub share-none_back : (rs ss : List Reg) → share rs ss ≡ false → (q : Reg) → has_reg q ss ≡ true → has_reg q rs ≡ false
-share-none_back rs ss h q is = false_from_ne_true (has_reg q rs) (λ there. true≢false (sym is ∙ share-none rs ss h q there))
+share-none_back rs ss h q is = false_from_ne_true (has_reg q rs) (λ prefix. true≢false (sym is ∙ share-none rs ss h q prefix))
 
 -- WHICH KEEP THEIR VALUES
 
-written-other : (ws : List (Reg × Term)) (registers : Reg → Term) (q : Reg) → has_reg q (map (λ w. w.0) ws) ≡ false → written ws registers q ≡ registers q
-written-other [] registers q h = refl
-written-other (w ∷ ws) registers q h =
+after_writes-other : (ws : List (Reg × Term)) (registers : Reg → Term) (q : Reg) → has_reg q (map (λ w. w.0) ws) ≡ false → after_writes ws registers q ≡ registers q
+after_writes-other [] registers q h = refl
+after_writes-other (w ∷ ws) registers q h =
     let parts = or_parts (same_reg q w.0) (has_reg q (map (λ v. v.0) ws)) h in
-    cond-false (same_reg w.0 q) w.1 (written ws registers q) (same_reg-sym w.0 q ∙ parts.0) ∙ written-other ws registers q parts.1
+    cond-false (same_reg w.0 q) w.1 (after_writes ws registers q) (same_reg-sym w.0 q ∙ parts.0) ∙ after_writes-other ws registers q parts.1
 
-computed-registers : (o : Operation) (operands : Terms) (which : ℕ) (rs : List Reg) → map (λ (w : Reg × Term). w.0) (computed o operands which rs) ≡ rs
-computed-registers o operands which [] = refl
-computed-registers o operands which (r ∷ rs) = ap (λ t. r ∷ t) (computed-registers o operands (suc which) rs)
+results_computed-registers : (o : Operation) (operands : Terms) (which : ℕ) (rs : List Reg) → map (λ (w : Reg × Term). w.0) (results_computed o operands which rs) ≡ rs
+results_computed-registers o operands which [] = refl
+results_computed-registers o operands which (r ∷ rs) = ap (λ t. r ∷ t) (results_computed-registers o operands (suc which) rs)
 
-fetched-registers : (u : Memory) (n : Instr) (storage : Storage) (address : Term) → map (λ (w : Reg × Term). w.0) (fetched u n storage address) ≡ loaded_registers u n
-fetched-registers u n storage address = names (loaded_registers u n)
+words_loaded-registers : (u : Memory) (n : Instr) (storage : Storage) (address : Term) → map (λ (w : Reg × Term). w.0) (words_loaded u n storage address) ≡ loaded_registers u n
+words_loaded-registers u n storage address = names (loaded_registers u n)
   where
     names : (rs : List Reg) → map (λ (w : Reg × Term). w.0) (map (λ r. (r, Loaded storage address)) rs) ≡ rs
     names [] = refl
@@ -108,26 +108,26 @@ fetched-registers u n storage address = names (loaded_registers u n)
 
 writes-registers : (o : Operation) (operands : Terms) (storage : Storage) → map (λ (w : Reg × Term). w.0) (writes o operands storage) ≡ results_of o.instr
 writes-registers o operands storage =
-    let held = computed o operands 0 (held_registers o.instr) in
-    let loaded = fetched (memory_of o.instr) o.instr storage (address_of o operands) in
+    let held = results_computed o operands 0 (held_registers o.instr) in
+    let loaded = words_loaded (memory_of o.instr) o.instr storage (address_of o operands) in
     map-append (λ (w : Reg × Term). w.0) held loaded
-    ∙ (ap (λ t. t ++ map (λ (w : Reg × Term). w.0) loaded) (computed-registers o operands 0 (held_registers o.instr))
-    ∙ ap (λ t. held_registers o.instr ++ t) (fetched-registers (memory_of o.instr) o.instr storage (address_of o operands)))
+    ∙ (ap (λ t. t ++ map (λ (w : Reg × Term). w.0) loaded) (results_computed-registers o operands 0 (held_registers o.instr))
+    ∙ ap (λ t. held_registers o.instr ++ t) (words_loaded-registers (memory_of o.instr) o.instr storage (address_of o operands)))
 
 -- an instruction leaves what is none of its results
 pub writes-other : (o : Operation) (operands : Terms) (storage : Storage) (registers : Reg → Term) (q : Reg) → has_reg q (results_of o.instr) ≡ false →
-    written (writes o operands storage) registers q ≡ registers q
+    after_writes (writes o operands storage) registers q ≡ registers q
 writes-other o operands storage registers q h =
-    written-other (writes o operands storage) registers q (ap (λ t. has_reg q t) (writes-registers o operands storage) ∙ h)
+    after_writes-other (writes o operands storage) registers q (ap (λ t. has_reg q t) (writes-registers o operands storage) ∙ h)
 
 pub value-other : (o : Operation) (operands : Terms) (storage : Storage) (registers : Reg → Term) (q : Reg) → has_reg q (results_of o.instr) ≡ false →
-    value_of (written (writes o operands storage) registers) q ≡ value_of registers q
+    value_of (after_writes (writes o operands storage) registers) q ≡ value_of registers q
 value-other o operands storage registers q h = rw (writes-other o operands storage registers q h) refl
 
 -- operands that it does not write have the values that they had, and B0 is zero
 pub values-other : (o : Operation) (operands : Terms) (storage : Storage) (registers : Reg → Term) (rs : List Reg) →
     ((q : Reg) → is_b0 q ≡ false → has_reg q rs ≡ true → has_reg q (results_of o.instr) ≡ false) →
-    values_of (written (writes o operands storage) registers) rs ≡ values_of registers rs
+    values_of (after_writes (writes o operands storage) registers) rs ≡ values_of registers rs
 values-other o operands storage registers [] h = refl
 values-other o operands storage registers (r ∷ rs) h =
     let rest = values-other o operands storage registers rs (λ q named is. h q named (or_right (same_reg q r) (has_reg q rs) is)) in

@@ -3,7 +3,7 @@ use Rattle.std.proofs.Common.{ℕ, zero, suc, ◌+◌, ◌≤◌, ◌<◌, ◌�
 use Rattle.std.proofs.lemmas.Bool.{or_left, or_right, or_parts, or_from, and_parts, and_from, not_from_false, not-true, cond_both, cases_Bool, cases_eq, le-leb, leb-true, cond-false}
 use Rattle.std.specs.List.{filter}
 use Rattle.s66_isa.specs.declared.instr.Instr.{Instr}
-use Rattle.s66_isa.specs.Words.{tally, has, rising, Among}
+use Rattle.s66_isa.specs.Lists.{tally, has, rising, Among}
 use Rattle.s66_isa.specs.Table.{numbers}
 use Rattle.s66_model.specs.LegalOrder.{IsLegal, is_ready, is_remaining, ready, remaining, IsBeginning, IsIncomplete, IsOrder, Completes}
 use Rattle.s66_model.proofs.LegalOrders.{legal-order, order-legal, GoesOn-append, GoesOn-join, ready-parts}
@@ -36,11 +36,11 @@ filter-among test x (y ∷ ys) h =
 
 -- WHAT REMAINS
 
-pub remaining-parts : (block : List Instr) (there : List ℕ) (n : ℕ) → is_remaining block there n ≡ true → (1 ≤ n) × (n ≤ length block) × (has n there ≡ false)
-remaining-parts block there n h =
-    let both = and_parts (leb 1 n && leb n (length block)) (not (has n there)) h in
+pub remaining-parts : (block : List Instr) (prefix : List ℕ) (n : ℕ) → is_remaining block prefix n ≡ true → (1 ≤ n) × (n ≤ length block) × (has n prefix ≡ false)
+remaining-parts block prefix n h =
+    let both = and_parts (leb 1 n && leb n (length block)) (not (has n prefix)) h in
     let range = and_parts (leb 1 n) (leb n (length block)) both.0 in
-    (leb-true 1 n range.0, leb-true n (length block) range.1, not-true (has n there) both.1)
+    (leb-true 1 n range.0, leb-true n (length block) range.1, not-true (has n prefix) both.1)
 
 rising-among : (count low n : ℕ) → low ≤ n → n < low + count → Among n (rising count low)
 rising-among zero low n h1 h2 = absurd (omega arith)
@@ -50,13 +50,13 @@ rising-among (suc count) low n h1 h2 =
       | inr past ↦ inr (rising-among count (suc low) n (omega arith) (omega arith))
     ]
 
-pub among-remaining : (block : List Instr) (there : List ℕ) (n : ℕ) → is_remaining block there n ≡ true → Among n (remaining block there)
-among-remaining block there n h =
-    let (low, high, new) = remaining-parts block there n h in
-    among-filter (is_remaining block there) n (numbers block) (rising-among (length block) 1 n low (omega (arith, high))) h
+pub among-remaining : (block : List Instr) (prefix : List ℕ) (n : ℕ) → is_remaining block prefix n ≡ true → Among n (remaining block prefix)
+among-remaining block prefix n h =
+    let (low, high, new) = remaining-parts block prefix n h in
+    among-filter (is_remaining block prefix) n (numbers block) (rising-among (length block) 1 n low (omega (arith, high))) h
 
-pub remaining-among : (block : List Instr) (there : List ℕ) (n : ℕ) → Among n (remaining block there) → is_remaining block there n ≡ true
-remaining-among block there n h = (filter-among (is_remaining block there) n (numbers block) h).1
+pub remaining-among : (block : List Instr) (prefix : List ℕ) (n : ℕ) → Among n (remaining block prefix) → is_remaining block prefix n ≡ true
+remaining-among block prefix n h = (filter-among (is_remaining block prefix) n (numbers block) h).1
 
 has-front : (n : ℕ) (xs ys : List ℕ) → has n (xs ++ ys) ≡ false → has n xs ≡ false
 has-front n [] ys h = refl
@@ -65,49 +65,49 @@ has-front n (x ∷ xs) ys h =
     or_from (eqb n x) (has n xs) both.0 (has-front n xs ys both.1)
 
 -- what is ready later remains
-pub later-remains : (block : List Instr) (there front : List ℕ) (n : ℕ) → is_ready block (there ++ front) n ≡ true → is_remaining block there n ≡ true
-later-remains block there front n h =
-    let (low, high, new, met) = ready-parts block (there ++ front) n h in
-    and_from (leb 1 n && leb n (length block)) (not (has n there))
+pub later-remains : (block : List Instr) (prefix front : List ℕ) (n : ℕ) → is_ready block (prefix ++ front) n ≡ true → is_remaining block prefix n ≡ true
+later-remains block prefix front n h =
+    let (low, high, new, met) = ready-parts block (prefix ++ front) n h in
+    and_from (leb 1 n && leb n (length block)) (not (has n prefix))
     (and_from (leb 1 n) (leb n (length block)) (le-leb 1 n low) (le-leb n (length block) high))
-    (not_from_false (has n there) (has-front n there front new))
+    (not_from_false (has n prefix) (has-front n prefix front new))
 
 -- WHAT IS READY
 
-pub among-ready : (block : List Instr) (there : List ℕ) (n : ℕ) → is_ready block there n ≡ true → Among n (ready block there)
-among-ready block there n h =
-    let (low, high, new, met) = ready-parts block there n h in
-    among-filter (is_ready block there) n (numbers block) (rising-among (length block) 1 n low (omega (arith, high))) h
+pub among-ready : (block : List Instr) (prefix : List ℕ) (n : ℕ) → is_ready block prefix n ≡ true → Among n (ready block prefix)
+among-ready block prefix n h =
+    let (low, high, new, met) = ready-parts block prefix n h in
+    among-filter (is_ready block prefix) n (numbers block) (rising-among (length block) 1 n low (omega (arith, high))) h
 
-pub ready-among : (block : List Instr) (there : List ℕ) (n : ℕ) → Among n (ready block there) → is_ready block there n ≡ true
-ready-among block there n h = (filter-among (is_ready block there) n (numbers block) h).1
+pub ready-among : (block : List Instr) (prefix : List ℕ) (n : ℕ) → Among n (ready block prefix) → is_ready block prefix n ≡ true
+ready-among block prefix n h = (filter-among (is_ready block prefix) n (numbers block) h).1
 
 -- ONE NUMBER FURTHER
 
-pub step-begins : (block : List Instr) (there : List ℕ) (n : ℕ) → IsBeginning block there → is_ready block there n ≡ true → IsBeginning block (there ++ n ∷ [])
-step-begins block there n begins h = GoesOn-join block [] there (n ∷ []) begins (h, tt)
+pub step-begins : (block : List Instr) (prefix : List ℕ) (n : ℕ) → IsBeginning block prefix → is_ready block prefix n ≡ true → IsBeginning block (prefix ++ n ∷ [])
+step-begins block prefix n begins h = GoesOn-join block [] prefix (n ∷ []) begins (h, tt)
 
-pub step-completes : (block : List Instr) (there : List ℕ) (n : ℕ) (rest : List ℕ) → Completes block there (n ∷ rest) → Completes block (there ++ n ∷ []) rest
-step-completes block there n rest h =
-    let e : (there ++ n ∷ []) ++ rest ≡ there ++ n ∷ rest = append_assoc there (n ∷ []) rest in
+pub step-completes : (block : List Instr) (prefix : List ℕ) (n : ℕ) (rest : List ℕ) → Completes block prefix (n ∷ rest) → Completes block (prefix ++ n ∷ []) rest
+step-completes block prefix n rest h =
+    let e : (prefix ++ n ∷ []) ++ rest ≡ prefix ++ n ∷ rest = append_assoc prefix (n ∷ []) rest in
     (h.0.1, subst (λ xs. length xs ≡ length block) (sym e) h.1)
 
 -- a legal order that begins so
-pub legal-parts : (block : List Instr) (there rest : List ℕ) → IsLegal block (there ++ rest) → IsBeginning block there × Completes block there rest
-legal-parts block there rest h =
-    let order : IsOrder block (there ++ rest) = legal-order block (there ++ rest) h in
-    let both = GoesOn-append block [] there rest order.0 in
+pub legal-parts : (block : List Instr) (prefix rest : List ℕ) → IsLegal block (prefix ++ rest) → IsBeginning block prefix × Completes block prefix rest
+legal-parts block prefix rest h =
+    let order : IsOrder block (prefix ++ rest) = legal-order block (prefix ++ rest) h in
+    let both = GoesOn-append block [] prefix rest order.0 in
     (both.0, (both.1, order.1))
 
 -- an incomplete beginning goes on with a number
-pub rest-first : (block : List Instr) (there rest : List ℕ) → IsIncomplete block there → length (there ++ rest) ≡ length block → (n : ℕ) × (more : List ℕ) × (rest ≡ n ∷ more)
-rest-first block there [] h e = absurd (omega (arith, length-append {A = ℕ} there []))
-rest-first block there (n ∷ rest) h e = (n, rest, refl)
+pub rest-first : (block : List Instr) (prefix rest : List ℕ) → IsIncomplete block prefix → length (prefix ++ rest) ≡ length block → (n : ℕ) × (more : List ℕ) × (rest ≡ n ∷ more)
+rest-first block prefix [] h e = absurd (omega (arith, length-append {A = ℕ} prefix []))
+rest-first block prefix (n ∷ rest) h e = (n, rest, refl)
 
 -- and a complete one with none
-pub rest-none : (there rest : List ℕ) (k : ℕ) → length there ≡ k → length (there ++ rest) ≡ k → rest ≡ []
-rest-none there [] k h e = refl
-rest-none there (n ∷ rest) k h e = absurd (omega (arith, length-append there (n ∷ rest)))
+pub rest-none : (prefix rest : List ℕ) (k : ℕ) → length prefix ≡ k → length (prefix ++ rest) ≡ k → rest ≡ []
+rest-none prefix [] k h e = refl
+rest-none prefix (n ∷ rest) k h e = absurd (omega (arith, length-append prefix (n ∷ rest)))
 
 -- AN ORDER HAS EVERY NUMBER
 

@@ -4,7 +4,7 @@ use Rattle.std.proofs.lemmas.Bool.{or_cases, or_left, or_right, and_parts, and_f
 use Rattle.s66_isa.specs.declared.reg.Reg.{Reg}
 use Rattle.s66_isa.specs.declared.reg.Bank.{Bank}
 use Rattle.s66_isa.specs.declared.reg.Bank.TheVariants.{A, B, X}
-use Rattle.s66_isa.specs.Words.{greatest, some_of}
+use Rattle.s66_isa.specs.Lists.{greatest, some_of}
 use Rattle.s66_isa.specs.Table.{bank_number, same_reg, has_reg}
 
 bank_of_number : ℕ → Bank

@@ -1,6 +1,6 @@
 -- What every state of the ledger keeps, the bound that it shows, and how it ends.
 use Rattle.std.specs.Prelude.{ℕ, ◌+◌, ◌≡◌, ◌≤◌, Bool, true, false, if◌then◌else◌, not, ◌&&◌, ◌==◌, List, [], ◌∷◌, ◌++◌}
-use Rattle.s66_isa.specs.Words.{tally, weigh, least, Among}
+use Rattle.s66_isa.specs.Lists.{tally, weigh, least, Among}
 use Rattle.s66_model.specs.Timing.{Problem, total_of}
 use Rattle.s66_model.specs.LegalOrder.{IsLegal, IsBeginning}
 use Rattle.s66_model.specs.Leaves.{Leaf, value, floor, floor_value}
@@ -20,9 +20,9 @@ covers order node = not (is_cut node) && begins node.prefix order
 
 -- a closed node carries its floor, which is at least the best time and at most the total of each order in its subtree
 abbrev pub ClosedHolds : Problem → ℕ → List ℕ → Leaf → Type 0
-ClosedHolds b best there leaf =
-    (leaf ≡ floor b there) × (best ≤ value b there leaf)
-    × ((order : List ℕ) → IsLegal b.block order → begins there order ≡ true → value b there leaf ≤ total_of b order)
+ClosedHolds b best prefix leaf =
+    (leaf ≡ floor b prefix) × (best ≤ value b prefix leaf)
+    × ((order : List ℕ) → IsLegal b.block order → begins prefix order ≡ true → value b prefix leaf ≤ total_of b order)
 
 abbrev pub NodeHolds : Problem → ℕ → Node → Type 0
 NodeHolds b best node =

@@ -5,16 +5,16 @@ use Rattle.s66_isa.specs.declared.instr.Kind.{Kind}
 use Rattle.s66_isa.specs.declared.instr.Kind.TheVariants.{Boolean, Multiply}
 use Rattle.s66_isa.specs.declared.instr.Memory.{Memory}
 use Rattle.s66_isa.specs.declared.reg.Reg.{Reg}
-use Rattle.s66_isa.specs.Words.{greatest}
+use Rattle.s66_isa.specs.Lists.{greatest}
 use Rattle.s66_isa.specs.Table.{Row, Write, standard, a_reg, b_reg, all_kinds, reads_of, results_of, memory_of, memory_pair}
-use Rattle.s66_model.specs.Packing.{packed, pads, len_at}
+use Rattle.s66_model.specs.Packing.{parcels_from, fillers, len_at}
 use Rattle.s66_model.specs.Dependence.{share}
 use Rattle.s66_model.specs.Meaning.{Term, Initial, Computed, Terms, NoTerms, Then, Storage, meaning}
 use Rattle.s66_model.specs.Timing.{Problem, Point, ResultAt, row_at, points_of}
 use Rattle.s66_model.specs.Leaves.{Leaf, Whole, Chain, Load, link, load, chain, longest_chain, floor, floor_value}
 use Rattle.s66_model.specs.Tree.{Tree, Parted, Kids, NoMore, Unsplit, Split}
 use Rattle.s66_model.specs.Answer.{Answer}
-use Rattle.s66_model.specs.Piece.{Mark, Carries, Frontier}
+use Rattle.s66_model.specs.Piece.{Tip, Carries, Frontier}
 use Rattle.s66_model.specs.Ledger.{State, Open, Out, Cut, Closed, Node, Ledger, Event, Grant, Claim, Graft, Offer, Reply, Granted, Claimed, Taken, NotOut, NotLower, Step, Run}
 
 -- an instruction by its octal code and its digits, 0 where its form has none
@@ -38,11 +38,11 @@ times_of block order =
 
 -- the parcel in which it begins
 abbrev pub parcels_in : List Instr → List ℕ → List ℕ
-parcels_in block order = packed 0 (map (len_at block) order)
+parcels_in block order = parcels_from 0 (map (len_at block) order)
 
 -- the parcels that a NO fills
 abbrev pub fillers_in : List Instr → List ℕ → List ℕ
-fillers_in block order = pads 0 (map (len_at block) order)
+fillers_in block order = fillers 0 (map (len_at block) order)
 
 -- ROWS OF THE TABLE
 
@@ -220,15 +220,15 @@ early_end = instr 0o54 1 1 1 ∷ instr 0o54 6 6 2 ∷ instr 0o64 3 6 0 ∷ []
 
 -- its floor, and the floor's value
 abbrev pub floor_in : List Instr → List ℕ → Leaf × ℕ
-floor_in block there = (floor (standard_problem block) there, floor_value (standard_problem block) there)
+floor_in block prefix = (floor (standard_problem block) prefix, floor_value (standard_problem block) prefix)
 
 -- the chain that is printed, and the greatest value of a chain
 abbrev pub chain_in : List Instr → List ℕ → List ℕ × ℕ
-chain_in block there = (longest_chain (standard_problem block) there, chain (standard_problem block) there)
+chain_in block prefix = (longest_chain (standard_problem block) prefix, chain (standard_problem block) prefix)
 
 -- the load of each kind of unit, as in the list of copies
 abbrev pub loads_in : List Instr → List ℕ → List ℕ
-loads_in block there = map (load (standard_problem block) there) all_kinds
+loads_in block prefix = map (load (standard_problem block) prefix) all_kinds
 
 -- the link from one number to a later one
 abbrev pub link_in : List Instr → ℕ → ℕ → ℕ
@@ -253,12 +253,12 @@ answer order time bound splits tree =
 
 -- both orders of the last two numbers
 abbrev pub both_orders : {M : Type 0} → M → ℕ → ℕ → Kids M
-both_orders mark m n = Split (n ∷ []) (Unsplit mark NoMore) (Split (m ∷ []) (Unsplit mark NoMore) NoMore)
+both_orders tip m n = Split (n ∷ []) (Unsplit tip NoMore) (Split (m ∷ []) (Unsplit tip NoMore) NoMore)
 
 -- the tree of three_multiplies that is split down to each order
 abbrev pub every_order : {M : Type 0} → M → Tree M
-every_order mark =
-    Parted (1 ∷ 2 ∷ 3 ∷ []) (Split (2 ∷ 3 ∷ []) (both_orders mark 2 3) (Split (1 ∷ 3 ∷ []) (both_orders mark 1 3) (Split (1 ∷ 2 ∷ []) (both_orders mark 1 2) NoMore)))
+every_order tip =
+    Parted (1 ∷ 2 ∷ 3 ∷ []) (Split (2 ∷ 3 ∷ []) (both_orders tip 2 3) (Split (1 ∷ 3 ∷ []) (both_orders tip 1 3) (Split (1 ∷ 2 ∷ []) (both_orders tip 1 2) NoMore)))
 
 -- the same without the last split: the floor of 3 2 stands there
 abbrev pub all_but_one : Tree Leaf
@@ -281,21 +281,21 @@ load_orders =
     Parted (1 ∷ 3 ∷ []) (Split (2 ∷ 3 ∷ []) (both_orders Whole 2 3) (Split (1 ∷ []) (Split (2 ∷ []) (Unsplit Whole NoMore) NoMore) NoMore))
 
 -- load_tree as a piece for the best time 16: below that is the floor of 3, which is the frontier
-abbrev pub load_piece : Tree Mark
+abbrev pub load_piece : Tree Tip
 load_piece =
     Parted (1 ∷ 3 ∷ []) (Split (2 ∷ 3 ∷ []) (Unsplit (Carries (Load Boolean)) (Split (2 ∷ []) (Unsplit (Carries Whole) NoMore) NoMore)) (Unsplit Frontier NoMore))
 
 -- so many children that aren't split, with the same mark
 abbrev pub children : {M : Type 0} → ℕ → M → Kids M
-children zero mark = NoMore
-children (suc count) mark = Unsplit mark (children count mark)
+children zero tip = NoMore
+children (suc count) tip = Unsplit tip (children count tip)
 
 -- the empty prefix of three_multiplies split, and the same without the child 3
 abbrev pub one_split : {M : Type 0} → M → Tree M
-one_split mark = Parted (1 ∷ 2 ∷ 3 ∷ []) (children 3 mark)
+one_split tip = Parted (1 ∷ 2 ∷ 3 ∷ []) (children 3 tip)
 
 abbrev pub child_omitted : {M : Type 0} → M → Tree M
-child_omitted mark = Parted (1 ∷ 2 ∷ []) (children 2 mark)
+child_omitted tip = Parted (1 ∷ 2 ∷ []) (children 2 tip)
 
 -- LEDGERS AND THEIR HISTORIES
 

@@ -17,9 +17,9 @@ rank (Chain numbers) = 0 ∷ numbers
 rank (Load kind) = 1 ∷ kind_number kind ∷ []
 rank Parcels = 2 ∷ []
 
-pub record IsFloor (b : Problem) (there : List ℕ) (leaf : Leaf) : Type 0 where
-  pub stands : MayStand b there leaf
+pub record IsFloor (b : Problem) (prefix : List ℕ) (leaf : Leaf) : Type 0 where
+  pub stands : MayStand b prefix leaf
   -- no other leaf that may stand there is greater
-  pub greatest : (other : Leaf) → MayStand b there other → value b there other ≤ value b there leaf
+  pub greatest : (other : Leaf) → MayStand b prefix other → value b prefix other ≤ value b prefix leaf
   -- and of equal ones it goes first
-  pub first : (other : Leaf) → MayStand b there other → value b there other ≡ value b there leaf → IsNoLater (rank leaf) (rank other)
+  pub first : (other : Leaf) → MayStand b prefix other → value b prefix other ≡ value b prefix leaf → IsNoLater (rank leaf) (rank other)

@@ -1,12 +1,12 @@
 -- The ledger of a search as a machine: nodes, events, replies, steps and runs.
 use Rattle.std.specs.Prelude.{ℕ, ◌+◌, ◌-◌, ◌≡◌, ◌<◌, ◌≤◌, Bool, true, false, if◌then◌else◌, min, List, [], ◌∷◌, ◌++◌, length, get_or, set, nat_le, Option, Some, None, replicate}
-use Rattle.s66_isa.specs.Words.{tally}
+use Rattle.s66_isa.specs.Lists.{tally}
 use Rattle.s66_isa.specs.Table.{numbers}
 use Rattle.s66_model.specs.Timing.{Problem, total_of}
 use Rattle.s66_model.specs.LegalOrder.{IsLegal}
 use Rattle.s66_model.specs.Leaves.{Leaf, value}
 use Rattle.s66_model.specs.Tree.{Tree, Alone, Parted, Kids, NoMore, Unsplit, Split, splits}
-use Rattle.s66_model.specs.Piece.{Mark, Carries, Frontier, IsPiece}
+use Rattle.s66_model.specs.Piece.{Tip, Carries, Frontier, IsPiece}
 
 -- NODES
 
@@ -99,7 +99,7 @@ opening b budget workers =
 pub data Event : Type 0 where
   Grant : (w : ℕ) → Event
   Claim : (w : ℕ) → Event
-  Graft : (w node : ℕ) (own : Bool) (prefix : List ℕ) (splits : ℕ) (tree : Option (Tree Mark)) → Event
+  Graft : (w node : ℕ) (own : Bool) (prefix : List ℕ) (splits : ℕ) (tree : Option (Tree Tip)) → Event
   Offer : (w : ℕ) (own : Bool) (order : List ℕ) (time : ℕ) → Event
   Back : (w node : ℕ) → Event
   Retire : (w : ℕ) → Event
@@ -131,43 +131,43 @@ worker (Retire w) = w
 abbrev pub share_of : Ledger → ℕ
 share_of l = min 64 l.left
 
-abbrev pub granted : Ledger → ℕ → Ledger
-granted l w = record l { left = l.left - share_of l; allowances = with_allowance l w (allowance l w + share_of l) }
+abbrev pub after_grant : Ledger → ℕ → Ledger
+after_grant l w = record l { left = l.left - share_of l; allowances = with_allowance l w (allowance l w + share_of l) }
 
-abbrev pub retired : Ledger → ℕ → Ledger
-retired l w = record l { left = l.left + allowance l w; allowances = with_allowance l w 0 }
+abbrev pub after_retire : Ledger → ℕ → Ledger
+after_retire l w = record l { left = l.left + allowance l w; allowances = with_allowance l w 0 }
 
-abbrev pub moved : Ledger → ℕ → State → Ledger
-moved l i state = record l { nodes = with_state l.nodes i state }
+abbrev pub after_move : Ledger → ℕ → State → Ledger
+after_move l i state = record l { nodes = with_state l.nodes i state }
 
-abbrev pub lowered : Ledger → List ℕ → Ledger
-lowered l order = record l { best = order }
+abbrev pub after_offer : Ledger → List ℕ → Ledger
+after_offer l order = record l { best = order }
 
 -- an unsplit prefix is closed if it carries a leaf of value at least the best time, else open
-abbrev pub state_of : Problem → ℕ → List ℕ → Mark → State
-state_of b best there (Carries leaf) = if nat_le best (value b there leaf) then Closed leaf else Open
-state_of b best there Frontier = Open
+abbrev pub state_of : Problem → ℕ → List ℕ → Tip → State
+state_of b best prefix (Carries leaf) = if nat_le best (value b prefix leaf) then Closed leaf else Open
+state_of b best prefix Frontier = Open
 
-abbrev pub root_state : Problem → ℕ → List ℕ → Tree Mark → State
-root_state b best there (Alone mark) = state_of b best there mark
-root_state b best there (Parted numbers kids) = Cut
+abbrev pub root_state : Problem → ℕ → List ℕ → Tree Tip → State
+root_state b best prefix (Alone tip) = state_of b best prefix tip
+root_state b best prefix (Parted numbers kids) = Cut
 
 -- the piece's other prefixes, in preorder
-abbrev pub kid_nodes : Problem → ℕ → List ℕ → List ℕ → Kids Mark → List Node
-kid_nodes b best there [] kids = []
-kid_nodes b best there (n ∷ ns) NoMore = []
-kid_nodes b best there (n ∷ ns) (Unsplit mark kids) =
-    record { prefix = there ++ n ∷ []; state = state_of b best (there ++ n ∷ []) mark } ∷ kid_nodes b best there ns kids
-kid_nodes b best there (n ∷ ns) (Split numbers sub kids) =
-    record { prefix = there ++ n ∷ []; state = Cut } ∷ (kid_nodes b best (there ++ n ∷ []) numbers sub ++ kid_nodes b best there ns kids)
+abbrev pub kid_nodes : Problem → ℕ → List ℕ → List ℕ → Kids Tip → List Node
+kid_nodes b best prefix [] kids = []
+kid_nodes b best prefix (n ∷ ns) NoMore = []
+kid_nodes b best prefix (n ∷ ns) (Unsplit tip kids) =
+    record { prefix = prefix ++ n ∷ []; state = state_of b best (prefix ++ n ∷ []) tip } ∷ kid_nodes b best prefix ns kids
+kid_nodes b best prefix (n ∷ ns) (Split numbers sub kids) =
+    record { prefix = prefix ++ n ∷ []; state = Cut } ∷ (kid_nodes b best (prefix ++ n ∷ []) numbers sub ++ kid_nodes b best prefix ns kids)
 
-abbrev pub new_nodes : Problem → ℕ → List ℕ → Tree Mark → List Node
-new_nodes b best there (Alone mark) = []
-new_nodes b best there (Parted numbers kids) = kid_nodes b best there numbers kids
+abbrev pub new_nodes : Problem → ℕ → List ℕ → Tree Tip → List Node
+new_nodes b best prefix (Alone tip) = []
+new_nodes b best prefix (Parted numbers kids) = kid_nodes b best prefix numbers kids
 
 -- the piece's splits are spent, the node takes the state of the piece's root, and the piece's other prefixes become nodes
-abbrev pub grafted : Problem → Ledger → ℕ → ℕ → List ℕ → Tree Mark → Ledger
-grafted b l w i prefix tree =
+abbrev pub after_graft : Problem → Ledger → ℕ → ℕ → List ℕ → Tree Tip → Ledger
+after_graft b l w i prefix tree =
     record l {
       nodes = with_state l.nodes i (root_state b (best_time b l) prefix tree) ++ new_nodes b (best_time b l) prefix tree;
       allowances = with_allowance l w (allowance l w - splits tree);
@@ -189,24 +189,24 @@ IsTimed b own order time = (own ≡ true) × IsLegal b.block order × (time ≡ 
 
 -- from old, the event may have this reply and lead to new; of a piece or an order that is refused nothing more is asked
 abbrev pub Moves : Problem → Ledger → Event → Reply → Ledger → Type 0
-Moves b old (Grant w) (Granted n) new = (n ≡ share_of old) × (new ≡ granted old w)
+Moves b old (Grant w) (Granted n) new = (n ≡ share_of old) × (new ≡ after_grant old w)
 Moves b old (Claim w) (Claimed (Some i)) new =
-    (i < length old.nodes) × ((node_at old.nodes i).state ≡ Open) × (new ≡ moved old i Out)
+    (i < length old.nodes) × ((node_at old.nodes i).state ≡ Open) × (new ≡ after_move old i Out)
 Moves b old (Claim w) (Claimed None) new = (tally is_open old.nodes ≡ 0) × (new ≡ old)
 Moves b old (Graft w i own prefix count None) NotOut new = ¬ IsOut old i × (new ≡ old)
 Moves b old (Graft w i own prefix count None) OtherPrefix new = IsOut old i × ¬ IsOver old i own prefix × (new ≡ old)
 Moves b old (Graft w i own prefix count None) OverAllowance new =
     IsOut old i × IsOver old i own prefix × (allowance old w < count) × (new ≡ old)
 Moves b old (Graft w i own prefix count (Some tree)) Taken new =
-    IsOut old i × IsOver old i own prefix × (count ≤ allowance old w) × (count ≡ splits tree) × IsPiece b prefix tree × (new ≡ grafted b old w i prefix tree)
+    IsOut old i × IsOver old i own prefix × (count ≤ allowance old w) × (count ≡ splits tree) × IsPiece b prefix tree × (new ≡ after_graft b old w i prefix tree)
 Moves b old (Offer w own order time) OtherBlock new = (own ≡ false) × (new ≡ old)
 Moves b old (Offer w own order time) Lower new =
-    IsTimed b own order time × (time < best_time b old) × (new ≡ lowered old order)
+    IsTimed b own order time × (time < best_time b old) × (new ≡ after_offer old order)
 Moves b old (Offer w own order time) (NotLower least) new =
     IsTimed b own order time × (best_time b old ≤ time) × (least ≡ best_time b old) × (new ≡ old)
 Moves b old (Back w i) NotOut new = ¬ IsOut old i × (new ≡ old)
-Moves b old (Back w i) Returned new = IsOut old i × (new ≡ moved old i Open)
-Moves b old (Retire w) Retired new = new ≡ retired old w
+Moves b old (Back w i) Returned new = IsOut old i × (new ≡ after_move old i Open)
+Moves b old (Retire w) Retired new = new ≡ after_retire old w
 Moves b old event reply new = ⊥
 
 abbrev pub Step : Problem → Ledger → Event → Reply → Ledger → Type 0

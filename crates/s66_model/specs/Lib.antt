@@ -12,5 +12,5 @@ pub mod Piece
 pub mod Ledger
 pub mod Coverage
 pub mod Examples
-pub use Rattle.s66_isa.specs.Words
+pub use Rattle.s66_isa.specs.Lists
 pub use Rattle.s66_isa.specs.Table

@@ -42,27 +42,27 @@ pub record Operation : Type 0 where
   pub constant : List ℕ
 
 -- the results that the unit makes of these operands; the first of them has the number `which`
-abbrev pub computed : Operation → Terms → ℕ → List Reg → List (Reg × Term)
-computed o operands which [] = []
-computed o operands which (r ∷ rs) = (r, Computed o.instr.op.code o.constant operands which) ∷ computed o operands (suc which) rs
+abbrev pub results_computed : Operation → Terms → ℕ → List Reg → List (Reg × Term)
+results_computed o operands which [] = []
+results_computed o operands which (r ∷ rs) = (r, Computed o.instr.op.code o.constant operands which) ∷ results_computed o operands (suc which) rs
 
 -- the address of a load or a store: it is the result in its A register
 abbrev pub address_of : Operation → Terms → Term
 address_of o operands = Computed o.instr.op.code o.constant operands 0
 
 -- what a load fetches from an address
-abbrev pub fetched : Memory → Instr → Storage → Term → List (Reg × Term)
-fetched u n storage address = map (λ r. (r, Loaded storage address)) (loaded_registers u n)
+abbrev pub words_loaded : Memory → Instr → Storage → Term → List (Reg × Term)
+words_loaded u n storage address = map (λ r. (r, Loaded storage address)) (loaded_registers u n)
 
 -- all that an instruction writes
 abbrev pub writes : Operation → Terms → Storage → List (Reg × Term)
 writes o operands storage =
-    computed o operands 0 (held_registers o.instr) ++ fetched (memory_of o.instr) o.instr storage (address_of o operands)
+    results_computed o operands 0 (held_registers o.instr) ++ words_loaded (memory_of o.instr) o.instr storage (address_of o operands)
 
 -- the registers after these writes
-abbrev pub written : List (Reg × Term) → (Reg → Term) → Reg → Term
-written [] registers r = registers r
-written (w ∷ ws) registers r = if same_reg w.0 r then w.1 else written ws registers r
+abbrev pub after_writes : List (Reg × Term) → (Reg → Term) → Reg → Term
+after_writes [] registers r = registers r
+after_writes (w ∷ ws) registers r = if same_reg w.0 r then w.1 else after_writes ws registers r
 
 abbrev pub storage_after : Memory → Storage → (address value : Term) → Storage
 storage_after memory.Store storage address value = Stored storage address value
@@ -74,7 +74,7 @@ abbrev pub after : Contents → Operation → Contents
 after c o =
     let operands = values_of c.registers (operands_of o.instr) in
     record {
-      registers = written (writes o operands c.storage) c.registers;
+      registers = after_writes (writes o operands c.storage) c.registers;
       storage = storage_after (memory_of o.instr) c.storage (address_of o operands) (value_of c.registers (x_reg o.instr.i));
     }
 

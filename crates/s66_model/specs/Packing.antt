@@ -8,14 +8,14 @@ abbrev pub fits_at : ℕ → ℕ → ℕ
 fits_at q len = if len == 2 && q % 4 == 3 then q + 1 else q
 
 -- the parcel of each instruction by the parcels that each takes, the first of them from q on
-abbrev pub packed : ℕ → List ℕ → List ℕ
-packed q [] = []
-packed q (len ∷ lens) = fits_at q len ∷ packed (fits_at q len + len) lens
+abbrev pub parcels_from : ℕ → List ℕ → List ℕ
+parcels_from q [] = []
+parcels_from q (len ∷ lens) = fits_at q len ∷ parcels_from (fits_at q len + len) lens
 
 -- the parcels that a NO fills: those that are passed over
-abbrev pub pads : ℕ → List ℕ → List ℕ
-pads q [] = []
-pads q (len ∷ lens) = (if fits_at q len == q then [] else q ∷ []) ++ pads (fits_at q len + len) lens
+abbrev pub fillers : ℕ → List ℕ → List ℕ
+fillers q [] = []
+fillers q (len ∷ lens) = (if fits_at q len == q then [] else q ∷ []) ++ fillers (fits_at q len + len) lens
 
 -- how many parcels the instruction of a number takes
 abbrev pub len_at : List Instr → ℕ → ℕ

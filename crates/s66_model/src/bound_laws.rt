@@ -11,18 +11,18 @@ ghost use Rattle.s66_model.specs.Answer.{Answer, IsAnswer, IsBestAnswer};
 
 /// A leaf that may stand at a beginning is at most the total of every legal order that begins so.
 pub fn leaf_law()
-    ensures { (b : Problem) (there rest : List ℕ) (leaf : Leaf) → IsLegal b.block (there ++ rest) → MayStand b there leaf → value b there leaf ≤ total_of b (there ++ rest) }
+    ensures { (b : Problem) (prefix rest : List ℕ) (leaf : Leaf) → IsLegal b.block (prefix ++ rest) → MayStand b prefix leaf → value b prefix leaf ≤ total_of b (prefix ++ rest) }
 {}
 
 /// The floor of a beginning may stand there, is the greatest leaf that may, and of equal ones goes first: no other leaf is so.
 pub fn floor_law()
-    ensures { (b : Problem) (there : List ℕ) (leaf : Leaf) → IsBeginning b.block there → IsFloor b there leaf ↔ (leaf ≡ floor b there) }
+    ensures { (b : Problem) (prefix : List ℕ) (leaf : Leaf) → IsBeginning b.block prefix → IsFloor b prefix leaf ↔ (leaf ≡ floor b prefix) }
 {}
 
 /// What a tree shows over a prefix is at most the total of every legal order that begins with it; over the empty prefix it is
 /// a bound.
 pub fn tree_law()
-    ensures below { (b : Problem) (low : ℕ) (there rest : List ℕ) (tree : Tree Leaf) → Shows b low there tree → IsLegal b.block (there ++ rest) → low ≤ total_of b (there ++ rest) }
+    ensures below { (b : Problem) (low : ℕ) (prefix rest : List ℕ) (tree : Tree Leaf) → Shows b low prefix tree → IsLegal b.block (prefix ++ rest) → low ≤ total_of b (prefix ++ rest) }
     ensures bound { (b : Problem) (low : ℕ) (tree : Tree Leaf) → Shows b low [] tree → IsBound b low }
 {}
 

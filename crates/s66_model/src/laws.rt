@@ -4,8 +4,8 @@ ghost use Rattle.std.specs.Prelude.{ℕ, List, length, map, reverse, ◌*◌, �
 ghost use Rattle.s66_isa.specs.declared.instr.Instr.{Instr};
 ghost use Rattle.s66_isa.specs.declared.profile.Profile.{Profile};
 ghost use Rattle.s66_isa.specs.Table.{Row, row, register_latency, writes_of, numbers};
-ghost use Rattle.s66_model.specs.Packing.{packed, len_at};
-ghost use Rattle.s66_model.specs.Timing.{Problem, Point, IsGood, IsIssue, issue_of, points_of, total_of};
+ghost use Rattle.s66_model.specs.Packing.{parcels_from, len_at};
+ghost use Rattle.s66_model.specs.Timing.{Problem, Point, IsInRange, IsIssue, issue_of, points_of, total_of};
 ghost use Rattle.s66_model.specs.LegalOrder.{IsLegal, IsOrder, IsFront, IsBeginning};
 
 /// The issue of an instruction is the least time, at least its slot, at which a unit is free and no result is to come.
@@ -16,7 +16,7 @@ pub fn issue_law()
 /// Of every instruction under every profile: 1 or 2 parcels, times of 1 to 100, and a unit that holds a result for its
 /// whole hold; and what timing sees of its results are those of the table.
 pub fn row_law()
-    ensures good { (p : Profile) (n : Instr) → IsGood (row p n) }
+    ensures good { (p : Profile) (n : Instr) → IsInRange (row p n) }
     ensures writes { (p : Profile) (n : Instr) → map register_latency (row p n).writes ≡ writes_of p n }
 {}
 
@@ -27,12 +27,12 @@ pub fn order_law()
 
 /// A list of numbers each of which is ready when it comes is the front of a legal order, and each front is one.
 pub fn beginning_law()
-    ensures { (block : List Instr) (there : List ℕ) → IsFront block there ↔ IsBeginning block there }
+    ensures { (block : List Instr) (prefix : List ℕ) → IsFront block prefix ↔ IsBeginning block prefix }
 {}
 
 /// The parcels of an order's points are those of its packing.
 pub fn packing_law()
-    ensures { (b : Problem) (order : List ℕ) → map (λ (p : Point). p.parcel) (reverse (points_of b order)) ≡ packed 0 (map (len_at b.block) order) }
+    ensures { (b : Problem) (order : List ℕ) → map (λ (p : Point). p.parcel) (reverse (points_of b order)) ≡ parcels_from 0 (map (len_at b.block) order) }
 {}
 
 /// The source order of every block is legal.

@@ -13,5 +13,5 @@ pub use bound_laws::{answer_law, floor_law, leaf_law, tree_law};
 pub use laws::{beginning_law, issue_law, order_law, packing_law, row_law, source_law, total_law};
 pub use ledger_laws::{coverage_law, ledger_bound_law, opening_law, step_law};
 pub use meaning_laws::{meaning_law, needed_law};
-pub use rows::{dependence_rows, meaning_rows, order_rows, packing_rows, table_rows, timing_rows};
-pub use search_rows::{answer_rows, floor_rows, ledger_rows};
+pub use rows::{dependence_examples, meaning_examples, order_examples, packing_examples, table_examples, timing_examples};
+pub use search_rows::{answer_examples, floor_examples, ledger_examples};

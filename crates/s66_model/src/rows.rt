@@ -7,13 +7,13 @@ ghost use Rattle.s66_isa.specs.declared.instr.Memory.{Memory};
 ghost use Rattle.s66_isa.specs.Table.{standard, row, writes_of, copies_of, all_kinds, a_reg, b_reg, x_reg};
 ghost use Rattle.s66_model.specs.Timing.{next, points_of, total_of};
 ghost use Rattle.s66_model.specs.Dependence.{all_needs};
-ghost use Rattle.s66_model.specs.LegalOrder.{IsLegal, ready, remaining, left};
+ghost use Rattle.s66_model.specs.LegalOrder.{IsLegal, ready, remaining, sum_remaining};
 ghost use Rattle.s66_model.specs.Meaning.{Zero, Initial, Loaded, InitialStorage, Stored, meaning};
 ghost use Rattle.s66_model.specs.Examples.{instr, standard_problem, times_of, parcels_in, fillers_in, held_write, loaded_write, table_row, one_boolean, two_booleans, one_load, three_multiplies, first_order, third_order, held_result, packing_gap, two_gaps, store_then_load, load_then_store, two_stores, zero_register, load_twice, unpack_then_shift, one_divide_unit, latest_writer, late_store, late_load, two_loads, loads_then_store, two_readers, held_load, held_x, held_b, one_store, one_unpack, no_constants, register_at_end, storage_at_end, first_result, second_result, a_plus_b};
 
 /// When the instructions of an order issue, start and are done, and their units are free.
 #[tactic(auto, unfolding(crate::specs::Examples::instr, crate::specs::Examples::one_boolean, s66_isa::specs::Table::row, crate::specs::Timing::issue_of, crate::specs::Timing::start_of, crate::specs::Timing::point, crate::specs::Examples::two_booleans, crate::specs::Examples::one_load, crate::specs::Examples::three_multiplies, crate::specs::Examples::first_order, crate::specs::Examples::third_order, crate::specs::Examples::held_result, crate::specs::Examples::two_readers, crate::specs::Examples::held_load, crate::specs::Examples::held_x, crate::specs::Examples::held_b, crate::specs::Examples::latest_writer, crate::specs::Examples::store_then_load, crate::specs::Examples::late_store, crate::specs::Examples::late_load, crate::specs::Examples::loads_then_store, crate::specs::Examples::two_loads, crate::specs::Examples::zero_register, crate::specs::Examples::load_twice, crate::specs::Examples::unpack_then_shift, crate::specs::Examples::one_divide_unit))]
-pub fn timing_rows()
+pub fn timing_examples()
     ensures one_boolean_total { total_of (standard_problem one_boolean) (1 ∷ []) ≡ 4 }
     ensures one_boolean_times { times_of one_boolean (1 ∷ []) ≡ (0, 0, 3, 4) ∷ [] }
     ensures two_booleans_total { total_of (standard_problem two_booleans) (1 ∷ 2 ∷ []) ≡ 8 }
@@ -54,7 +54,7 @@ pub fn timing_rows()
 
 /// In which parcel each instruction of an order begins, which parcels a NO fills, and what that costs.
 #[tactic(auto, unfolding(crate::specs::Examples::instr, crate::specs::Examples::packing_gap, s66_isa::specs::Table::row, crate::specs::Timing::issue_of, crate::specs::Timing::start_of, crate::specs::Timing::point, crate::specs::Examples::two_gaps))]
-pub fn packing_rows()
+pub fn packing_examples()
     ensures packing_gap_parcels { parcels_in packing_gap (1 ∷ 2 ∷ 3 ∷ 4 ∷ []) ≡ 0 ∷ 1 ∷ 2 ∷ 4 ∷ [] }
     ensures packing_gap_fillers { fillers_in packing_gap (1 ∷ 2 ∷ 3 ∷ 4 ∷ []) ≡ 3 ∷ [] }
     ensures packing_gap_times { times_of packing_gap (1 ∷ 2 ∷ 3 ∷ 4 ∷ []) ≡ (0, 0, 3, 4) ∷ (1, 1, 4, 5) ∷ (2, 2, 5, 6) ∷ (4, 4, 12, 8) ∷ [] }
@@ -69,7 +69,7 @@ pub fn packing_rows()
 
 /// The numbers on which instructions 1, 2, .. depend.
 #[tactic(auto, unfolding(crate::specs::Examples::instr, crate::specs::Examples::one_load, crate::specs::Dependence::conflict, crate::specs::Examples::three_multiplies, crate::specs::Examples::first_order, crate::specs::Examples::third_order, crate::specs::Examples::store_then_load, crate::specs::Examples::load_then_store, crate::specs::Examples::two_stores, crate::specs::Examples::two_loads, crate::specs::Examples::zero_register, crate::specs::Examples::load_twice, crate::specs::Examples::unpack_then_shift, crate::specs::Examples::one_divide_unit, crate::specs::Examples::two_readers))]
-pub fn dependence_rows()
+pub fn dependence_examples()
     ensures one_load { all_needs one_load ≡ [] ∷ (1 ∷ []) ∷ [] ∷ [] }
     ensures three_multiplies { all_needs three_multiplies ≡ [] ∷ [] ∷ [] ∷ [] }
     ensures first_order { all_needs first_order ≡ [] ∷ (1 ∷ []) ∷ [] }
@@ -87,7 +87,7 @@ pub fn dependence_rows()
 
 /// Which orders of a block are legal, and what is ready after a beginning.
 #[tactic(auto, unfolding(crate::specs::Examples::instr, crate::specs::Examples::one_load, crate::specs::Dependence::conflict))]
-pub fn order_rows()
+pub fn order_examples()
     ensures source_order { IsLegal one_load (1 ∷ 2 ∷ 3 ∷ []) }
     ensures other_first { IsLegal one_load (3 ∷ 1 ∷ 2 ∷ []) }
     ensures other_between { IsLegal one_load (1 ∷ 3 ∷ 2 ∷ []) }
@@ -102,12 +102,12 @@ pub fn order_rows()
     ensures ready_after_3 { ready one_load (3 ∷ []) ≡ 1 ∷ [] }
     ensures ready_after_all { ready one_load (1 ∷ 3 ∷ 2 ∷ []) ≡ [] }
     ensures remaining_after_1 { remaining one_load (1 ∷ []) ≡ 2 ∷ 3 ∷ [] }
-    ensures left_after_1 { left one_load (1 ∷ []) (λ n. n) ≡ 5 }
+    ensures sum_remaining_after_1 { sum_remaining one_load (1 ∷ []) (λ n. n) ≡ 5 }
 {}
 
 /// What registers and memory hold at the end of an order, as terms over what they held at first.
 #[tactic(auto, unfolding(crate::specs::Examples::instr, crate::specs::Examples::one_load, crate::specs::Dependence::conflict, crate::specs::Examples::one_unpack, crate::specs::Examples::one_store, crate::specs::Examples::zero_register))]
-pub fn meaning_rows()
+pub fn meaning_examples()
     ensures one_load_a1 { register_at_end one_load (1 ∷ 2 ∷ 3 ∷ []) (a_reg 1) ≡ a_plus_b 1 1 }
     ensures one_load_x1 { register_at_end one_load (1 ∷ 2 ∷ 3 ∷ []) (x_reg 1) ≡ Loaded InitialStorage (a_plus_b 1 1) }
     ensures one_load_x6 { register_at_end one_load (1 ∷ 2 ∷ 3 ∷ []) (x_reg 6) ≡ first_result 0o10 (Loaded InitialStorage (a_plus_b 1 1) ∷ []) }
@@ -123,7 +123,7 @@ pub fn meaning_rows()
 
 /// Rows of the table of instructions: kind of unit, parcels, registers read, results with their latencies, hold, memory.
 #[tactic(auto, unfolding(crate::specs::Examples::instr, s66_isa::specs::Table::row))]
-pub fn table_rows()
+pub fn table_examples()
     ensures sa1_a1_plus_b1 { row standard (instr 0o54 1 1 1) ≡ table_row Kind.Increment 1 (a_reg 1 ∷ b_reg 1 ∷ []) (held_write (a_reg 1) 3 ∷ loaded_write (x_reg 1) 8 ∷ []) 3 Memory.Load }
     ensures sa6_a6_plus_b1 { row standard (instr 0o54 6 6 1) ≡ table_row Kind.Increment 1 (a_reg 6 ∷ b_reg 1 ∷ x_reg 6 ∷ []) (held_write (a_reg 6) 3 ∷ []) 3 Memory.Store }
     ensures sa0_a1_plus_b1 { row standard (instr 0o54 0 1 1) ≡ table_row Kind.Increment 1 (a_reg 1 ∷ b_reg 1 ∷ []) (held_write (a_reg 0) 3 ∷ []) 3 Memory.None }

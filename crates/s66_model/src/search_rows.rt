@@ -3,20 +3,20 @@
 
 ghost use Rattle.std.specs.Prelude.{true, false, Some, None, [], ◌∷◌, ◌≡◌};
 ghost use Rattle.s66_isa.specs.declared.instr.Kind.TheVariants.{Boolean, Shift, Multiply, Divide};
-ghost use Rattle.s66_isa.specs.Words.{tally};
+ghost use Rattle.s66_isa.specs.Lists.{tally};
 ghost use Rattle.s66_model.specs.BestAndBound.{IsBound, IsBest};
 ghost use Rattle.s66_model.specs.Leaves.{Whole, Chain, Load, Parcels, parcels, chain_value, value};
 ghost use Rattle.s66_model.specs.Floor.{IsFloor};
-ghost use Rattle.s66_model.specs.Tree.{Alone, Parted, NoMore, Unsplit, Split, Shows, splits, split_at, tree_values, AtMark, AtSplit, flat_kids, flat};
+ghost use Rattle.s66_model.specs.Tree.{Alone, Parted, NoMore, Unsplit, Split, Shows, splits, split_at, tree_values, AtTip, AtSplit, flat_kids, flat};
 ghost use Rattle.s66_model.specs.Answer.{source_time, IsAnswer, IsBestAnswer};
 ghost use Rattle.s66_model.specs.Piece.{Carries, Frontier, IsPiece, IsPieceFor};
-ghost use Rattle.s66_model.specs.Ledger.{Open, Out, Cut, Closed, opening, grafted, Grant, Claim, Graft, Offer, Back, Retire, Granted, Claimed, Taken, NotOut, OtherPrefix, OverAllowance, Lower, NotLower, OtherBlock, Returned, Retired, Step, Run};
+ghost use Rattle.s66_model.specs.Ledger.{Open, Out, Cut, Closed, opening, after_graft, Grant, Claim, Graft, Offer, Back, Retire, Granted, Claimed, Taken, NotOut, OtherPrefix, OverAllowance, Lower, NotLower, OtherBlock, Returned, Retired, Step, Run};
 ghost use Rattle.s66_model.specs.Coverage.{begins, covers, Covers, NeverRises, live_floors, bound_of, IsFinished};
 ghost use Rattle.s66_model.specs.Examples.{standard_problem, one_boolean, two_booleans, one_load, three_multiplies, first_order, third_order, packing_gap, store_then_load, load_then_store, zero_register, load_twice, late_store, two_loads, load_and_booleans, booleans_and_sets, shifts_and_booleans, boolean_and_set, divide_and_boolean, boolean_between, write_behind, load_of_both, store_and_its_address, crossed_chains, forked_chain, early_end, floor_in, chain_in, loads_in, link_in, boolean_problem, load_problem, multiply_problem, answer, both_orders, every_order, all_but_one, one_omitted, load_tree, load_orders, load_piece, children, one_split, child_omitted, node, ledger, first_node, root_split, second_split, granted_to_2, ungranted, ledger_events, load_out, load_grafted, NeverAnswers, NeverRuns};
 
 /// Which leaf is the floor of a prefix and what its value is, and what chains, loads, parcels and links give.
 #[tactic(auto, unfolding(crate::specs::Examples::instr, crate::specs::Examples::one_boolean, s66_isa::specs::Table::row, crate::specs::Timing::issue_of, crate::specs::Timing::start_of, crate::specs::Timing::point, crate::specs::Examples::two_booleans, crate::specs::Examples::one_load, crate::specs::Examples::three_multiplies, crate::specs::Examples::zero_register, crate::specs::Examples::store_then_load, crate::specs::Examples::late_store, crate::specs::Examples::first_order, crate::specs::Examples::load_and_booleans, crate::specs::Examples::booleans_and_sets, crate::specs::Examples::shifts_and_booleans, crate::specs::Examples::divide_and_boolean, crate::specs::Examples::boolean_between, crate::specs::Examples::boolean_and_set, crate::specs::Examples::load_of_both, crate::specs::Examples::packing_gap, crate::specs::Examples::write_behind, crate::specs::Examples::third_order, crate::specs::Examples::load_twice, crate::specs::Examples::load_then_store, crate::specs::Examples::two_loads, crate::specs::Examples::store_and_its_address, crate::specs::Examples::crossed_chains, crate::specs::Examples::forked_chain, crate::specs::Examples::early_end, crate::specs::Dependence::conflict))]
-pub fn floor_rows()
+pub fn floor_examples()
     ensures one_boolean { floor_in one_boolean [] ≡ (Chain (1 ∷ []), 4) }
     ensures one_boolean_placed { floor_in one_boolean (1 ∷ []) ≡ (Whole, 4) }
     ensures two_booleans { floor_in two_booleans [] ≡ (Load Boolean, 8) }
@@ -79,7 +79,7 @@ pub fn floor_rows()
 
 /// What answers a problem has, which bound is the best, and what trees show of which prefix.
 #[tactic(auto, unfolding(crate::specs::Examples::instr, crate::specs::Examples::one_load, s66_isa::specs::Table::row, crate::specs::Timing::issue_of, crate::specs::Timing::start_of, crate::specs::Timing::point, crate::specs::Dependence::conflict, crate::specs::Examples::two_booleans, crate::specs::Examples::three_multiplies, crate::specs::Examples::zero_register))]
-pub fn answer_rows()
+pub fn answer_examples()
     ensures one_load { IsAnswer load_problem 100000 (answer (1 ∷ 3 ∷ 2 ∷ []) 12 12 0 (Alone (Chain (1 ∷ 2 ∷ [])))) }
     ensures one_load_cut { IsAnswer load_problem 0 (answer (1 ∷ 2 ∷ 3 ∷ []) 16 12 0 (Alone (Chain (1 ∷ 2 ∷ [])))) }
     ensures one_load_split { IsAnswer load_problem 100000 (answer (1 ∷ 3 ∷ 2 ∷ []) 12 12 3 load_tree) }
@@ -129,8 +129,8 @@ pub fn answer_rows()
     ensures split_too_many { ¬ Shows load_problem 0 (1 ∷ 3 ∷ []) (Parted (2 ∷ []) (Unsplit Whole (Split [] NoMore NoMore))) }
     ensures children_not_rising { ¬ Shows multiply_problem 0 [] (Parted (2 ∷ 1 ∷ 3 ∷ []) (children 3 (Load Multiply))) }
     ensures child_below_not_named { ¬ Shows multiply_problem 0 [] one_omitted }
-    ensures lines_below_a_split { flat_kids (both_orders Whole 2 3) ≡ AtSplit (3 ∷ []) ∷ AtMark Whole ∷ AtSplit (2 ∷ []) ∷ AtMark Whole ∷ [] }
-    ensures lines_of_a_tree { flat load_tree ≡ AtSplit (1 ∷ 3 ∷ []) ∷ AtSplit (2 ∷ 3 ∷ []) ∷ AtMark (Load Boolean) ∷ AtSplit (2 ∷ []) ∷ AtMark Whole ∷ AtMark (Chain (1 ∷ 2 ∷ [])) ∷ [] }
+    ensures lines_below_a_split { flat_kids (both_orders Whole 2 3) ≡ AtSplit (3 ∷ []) ∷ AtTip Whole ∷ AtSplit (2 ∷ []) ∷ AtTip Whole ∷ [] }
+    ensures lines_of_a_tree { flat load_tree ≡ AtSplit (1 ∷ 3 ∷ []) ∷ AtSplit (2 ∷ 3 ∷ []) ∷ AtTip (Load Boolean) ∷ AtSplit (2 ∷ []) ∷ AtTip Whole ∷ AtTip (Chain (1 ∷ 2 ∷ [])) ∷ [] }
     ensures ten_splits { splits (every_order Whole) ≡ 10 }
     ensures no_splits { splits (Alone Whole) ≡ 0 }
     ensures prefixes_that_are_split { split_at [] load_tree ≡ [] ∷ (1 ∷ []) ∷ (1 ∷ 3 ∷ []) ∷ [] }
@@ -146,7 +146,7 @@ pub fn answer_rows()
 
 /// What pieces may be, which steps and runs a ledger makes, what it covers, which bound it shows, and how it ends.
 #[tactic(auto, unfolding(crate::specs::Examples::instr, crate::specs::Examples::three_multiplies, s66_isa::specs::Table::row, crate::specs::Timing::issue_of, crate::specs::Timing::start_of, crate::specs::Timing::point, crate::specs::Dependence::conflict, crate::specs::Examples::one_load, crate::specs::Examples::two_booleans, crate::specs::Examples::one_boolean))]
-pub fn ledger_rows()
+pub fn ledger_examples()
     ensures piece_of_one_split { IsPiece multiply_problem [] (one_split Frontier) }
     ensures piece_of_three_splits { IsPiece load_problem [] load_piece }
     ensures piece_of_a_floor { IsPiece multiply_problem [] (Alone (Carries (Load Multiply))) }
@@ -181,7 +181,7 @@ pub fn ledger_rows()
     ensures offer_of_another_block { Step load_problem (load_out (1 ∷ 2 ∷ 3 ∷ [])) (Offer 1 false (1 ∷ []) 4) OtherBlock (load_out (1 ∷ 2 ∷ 3 ∷ [])) }
     ensures given_back { Step multiply_problem (first_node Out) (Back 2 0) Returned (first_node Open) }
     ensures given_back_again { Step multiply_problem (first_node Open) (Back 1 0) NotOut (first_node Open) }
-    ensures retired { Step multiply_problem (first_node Open) (Retire 1) Retired (opening multiply_problem 10 2) }
+    ensures after_retire { Step multiply_problem (first_node Open) (Retire 1) Retired (opening multiply_problem 10 2) }
     ensures retired_beside_what_is_left { Step multiply_problem (granted_to_2 36 64) (Retire 2) Retired (opening multiply_problem 100 2) }
     ensures grant_of_more_than_is_left { NeverAnswers multiply_problem (opening multiply_problem 10 2) (Grant 1) (Granted 64) }
     ensures grant_of_less_than_is_left { NeverAnswers multiply_problem (opening multiply_problem 10 2) (Grant 1) (Granted 0) }
@@ -236,7 +236,7 @@ pub fn ledger_rows()
     ensures bound_of_the_events { bound_of multiply_problem (root_split Open Out Open) ≡ 17 }
     ensures bound_while_all_are_out { bound_of multiply_problem (first_node Out) ≡ 17 }
     ensures bound_while_one_is_open { bound_of multiply_problem (first_node Open) ≡ 17 }
-    ensures bound_of_every_order { bound_of multiply_problem (grafted multiply_problem (first_node Out) 1 0 [] (every_order (Carries Whole))) ≡ 22 }
+    ensures bound_of_every_order { bound_of multiply_problem (after_graft multiply_problem (first_node Out) 1 0 [] (every_order (Carries Whole))) ≡ 22 }
     ensures live_nodes { live_floors load_problem (load_grafted (1 ∷ 2 ∷ 3 ∷ []) Open).nodes ≡ 12 ∷ 13 ∷ [] }
     ensures covered_once { tally (covers (2 ∷ 1 ∷ 3 ∷ [])) (root_split Open Out Open).nodes ≡ 1 }
     ensures covered_by_a_closed_node { tally (covers (1 ∷ 2 ∷ 3 ∷ [])) (load_grafted (1 ∷ 2 ∷ 3 ∷ []) Open).nodes ≡ 1 }

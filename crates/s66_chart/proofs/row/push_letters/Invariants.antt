@@ -1,6 +1,6 @@
 use Rattle.std.proofs.Common.{◌≡◌, ◌+◌, ◌++◌, map}
 use Rattle.arrayvec.specs.ArrayVec.{array_vec_len}
-use Rattle.s66_isa.specs.Words.{rising}
+use Rattle.s66_isa.specs.Lists.{rising}
 use Rattle.s66_chart.specs.Positions.{letter_in}
 use Rattle.s66_chart.proofs.row.push_letters.Given as goal
 

@@ -1,5 +1,5 @@
 use Rattle.std.proofs.Common.{ℕ, List, ◌≡◌, ◌≤◌, ◌+◌, ◌*◌, length, drop}
-use Rattle.s66_isa.specs.Words.{weigh}
+use Rattle.s66_isa.specs.Lists.{weigh}
 use Rattle.s66_main.proofs.deps_text.pairs.Given as goal
 
 abbrev pub invariant-loop-position : goal.invariant-loop-position

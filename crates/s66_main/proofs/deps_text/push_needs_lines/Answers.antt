@@ -1,5 +1,5 @@
 use Rattle.std.proofs.Common.{ℕ, List, ◌≡◌, ◌+◌, ◌-◌, ◌++◌, [], ◌∙◌, sym, ap, arith, length, get_or, append_assoc}
-use Rattle.s66_isa.specs.Words.{rising}
+use Rattle.s66_isa.specs.Lists.{rising}
 use Rattle.s66_line.specs.Block.{instrs_of}
 use Rattle.s66_model.specs.Dependence.{needs}
 use Rattle.s66_dep.specs.Members.{numbers_in}

@@ -1,5 +1,5 @@
 use Rattle.std.proofs.Common.{◌≡◌, ◌+◌, ◌-◌, ◌++◌, length}
-use Rattle.s66_isa.specs.Words.{rising}
+use Rattle.s66_isa.specs.Lists.{rising}
 use Rattle.s66_isa.specs.Table.{numbers}
 use Rattle.s66_line.specs.Block.{instrs_of}
 use Rattle.s66_main.specs.DepsText.{needs_lines}

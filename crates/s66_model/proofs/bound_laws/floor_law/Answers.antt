@@ -5,4 +5,4 @@ use Rattle.s66_model.proofs.Floors.{floor-is, floor-only}
 use Rattle.s66_model.proofs.bound_laws.floor_law.Goals as goal
 
 pub returns : goal.returns
-returns c = λ b there leaf h. (λ is. floor-only b there leaf (floor b there) is (floor-is b there h), λ e. subst (IsFloor b there) (sym e) (floor-is b there h))
+returns c = λ b prefix leaf h. (λ is. floor-only b prefix leaf (floor b prefix) is (floor-is b prefix h), λ e. subst (IsFloor b prefix) (sym e) (floor-is b prefix h))

@@ -1,5 +1,5 @@
 use Rattle.std.proofs.Common.{◌≡◌, ◌≤◌, ◌+◌, ◌*◌, drop, map}
-use Rattle.s66_isa.specs.Words.{weigh}
+use Rattle.s66_isa.specs.Lists.{weigh}
 use Rattle.s66_isa.specs.Table.{parcels_of}
 use Rattle.s66_isa.specs.declared.instr.Instr.{Instr}
 use Rattle.s66_line.specs.Source.{Entry}

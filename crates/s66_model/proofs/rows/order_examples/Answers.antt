@@ -2,7 +2,7 @@ use Rattle.std.proofs.Common.{[], ◌∷◌, refl, sym, true≢false}
 use Rattle.s66_model.specs.Dependence.{conflict}
 use Rattle.s66_model.specs.Examples.{instr, one_load}
 use Rattle.s66_model.proofs.LegalOrders.{order-legal}
-use Rattle.s66_model.proofs.rows.order_rows.Goals as goal
+use Rattle.s66_model.proofs.rows.order_examples.Goals as goal
 
 pub returns-clause-source_order : goal.returns-clause-source_order
 unfolding instr one_load conflict

@@ -7,7 +7,7 @@ use Rattle.s66_cert.specs.Examples.{long_text, wholes, unit_loads}
 use Rattle.s66_cert.proofs.Instructions.{instruction, unread, misspelt, repeated}
 use Rattle.s66_cert.proofs.Documents.{numbered, wholes-fit, is-three_multiplies, is-store_then_load, is-one_load, is-two_booleans, is-zero_register, is-extremes, is-with_order, is-with_tree, is-with_times, is-with_block}
 use Rattle.s66_cert.proofs.Texts.{only-nothing, other-version, unfinished-line}
-use Rattle.s66_cert.proofs.rows.document_rows.Goals as goal
+use Rattle.s66_cert.proofs.examples.document_examples.Goals as goal
 
 pub returns-clause-three_multiplies_text : goal.returns-clause-three_multiplies_text
 unfolding digits

@@ -6,7 +6,7 @@ use Rattle.s66_model.specs.Dependence.{conflict}
 use Rattle.s66_model.specs.Leaves.{Chain, Load}
 use Rattle.s66_model.specs.Examples.{instr, load_problem, one_load, three_multiplies, load_and_booleans, booleans_and_sets, shifts_and_booleans, crossed_chains, early_end}
 use Rattle.s66_model.proofs.Floors.{floor-is}
-use Rattle.s66_model.proofs.search_rows.floor_rows.Goals as goal
+use Rattle.s66_model.proofs.search_rows.floor_examples.Goals as goal
 
 pub returns-clause-is_floor : goal.returns-clause-is_floor
 unfolding instr one_load row issue_of start_of point conflict

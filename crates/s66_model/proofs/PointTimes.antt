@@ -1,27 +1,27 @@
 -- Laws of the points of an order: when each issues, starts and is done at least, and what comes after it.
 use Rattle.std.proofs.Common.{ℕ, ◌+◌, ◌%◌, ◌≤◌, ◌<◌, ◌≡◌, cond, ◌&&◌, max, List, [], ◌∷◌, ◌++◌, refl, ap, arith, inl, inr, eqb, map, ◌⊎◌}
 use Rattle.std.proofs.lemmas.Bool.{cond_both, cases_Bool, cond-true, cond-false}
-use Rattle.s66_isa.specs.Words.{greatest, weigh, tally}
+use Rattle.s66_isa.specs.Lists.{greatest, weigh, tally}
 use Rattle.s66_isa.specs.Table.{Row, Write}
 use Rattle.s66_model.specs.Packing.{fits_at}
-use Rattle.s66_model.specs.Timing.{Problem, Point, ResultAt, IsGood, row_at, copies, last_of, next, slot_of, busy_at, issue_of, start_of, readers_wait, result_at, free_after, point, place, timed, held_latency}
+use Rattle.s66_model.specs.Timing.{Problem, Point, ResultAt, IsInRange, row_at, copies, end_of, next, slot_of, busy_at, issue_of, start_of, readers_wait, result_at, free_after, point, point_of, points_after, held_latency}
 use Rattle.s66_model.specs.Leaves.{tail}
 use Rattle.s66_model.proofs.Lists.{cases_le, greatest-shift}
 use Rattle.s66_model.proofs.Issue.{issue-is, issue-late}
 use Rattle.s66_model.proofs.GoodRows.{row-good}
 
-pub good-at : (b : Problem) (n : ℕ) → IsGood (row_at b n)
+pub good-at : (b : Problem) (n : ℕ) → IsInRange (row_at b n)
 good-at b n = row-good b.profile _
 
 -- THE PARTS OF A POINT
 
-pub place-row : (b : Problem) (s : List Point) (n : ℕ) → (place b s n).row ≡ row_at b n
+pub point_of-row : (b : Problem) (s : List Point) (n : ℕ) → (point_of b s n).row ≡ row_at b n
 unfolding point
-place-row b s n = refl
+point_of-row b s n = refl
 
-pub place-number : (b : Problem) (s : List Point) (n : ℕ) → (place b s n).number ≡ n
+pub point_of-number : (b : Problem) (s : List Point) (n : ℕ) → (point_of b s n).number ≡ n
 unfolding point
-place-number b s n = refl
+point_of-number b s n = refl
 
 fits-late : (q len : ℕ) → q ≤ fits_at q len
 fits-late q len = cond_both (eqb len 2 && eqb (q % 4) 3) (q + 1) q (λ x. q ≤ x) (λ _. omega arith) (λ _. omega arith)
@@ -30,11 +30,11 @@ next-le-slot : (s : List Point) (len : ℕ) → next s ≤ slot_of s len
 next-le-slot [] len = omega arith
 next-le-slot (p ∷ s) len = omega (arith, fits-late (p.parcel + p.row.parcels) len)
 
-pub next-le-issue : (b : Problem) (s : List Point) (n : ℕ) → next s ≤ (place b s n).issue
+pub next-le-issue : (b : Problem) (s : List Point) (n : ℕ) → next s ≤ (point_of b s n).issue
 unfolding point
 next-le-issue b s n = omega (arith, next-le-slot s (row_at b n).parcels, issue-late b s (row_at b n))
 
-pub issue-le-start : (b : Problem) (s : List Point) (n : ℕ) → (place b s n).issue ≤ (place b s n).start
+pub issue-le-start : (b : Problem) (s : List Point) (n : ℕ) → (point_of b s n).issue ≤ (point_of b s n).start
 unfolding point start_of
 issue-le-start b s n = omega arith
 
@@ -44,20 +44,20 @@ issue-unit b s r = (issue-is b s r).passes.0
 
 -- WHAT COMES LATER
 
-pub timed-append : (b : Problem) (s : List Point) (xs ys : List ℕ) → timed b s (xs ++ ys) ≡ timed b (timed b s xs) ys
-timed-append b s [] ys = refl
-timed-append b s (n ∷ xs) ys = timed-append b (place b s n ∷ s) xs ys
+pub points_after-append : (b : Problem) (s : List Point) (xs ys : List ℕ) → points_after b s (xs ++ ys) ≡ points_after b (points_after b s xs) ys
+points_after-append b s [] ys = refl
+points_after-append b s (n ∷ xs) ys = points_after-append b (point_of b s n ∷ s) xs ys
 
 -- earlier points stay
-pub greatest-stays : (b : Problem) (f : Point → ℕ) (s : List Point) (ns : List ℕ) → greatest f s ≤ greatest f (timed b s ns)
+pub greatest-stays : (b : Problem) (f : Point → ℕ) (s : List Point) (ns : List ℕ) → greatest f s ≤ greatest f (points_after b s ns)
 greatest-stays b f s [] = omega arith
-greatest-stays b f s (n ∷ ns) = omega (arith, greatest-stays b f (place b s n ∷ s) ns)
+greatest-stays b f s (n ∷ ns) = omega (arith, greatest-stays b f (point_of b s n ∷ s) ns)
 
 -- issues rise at least by the parcels between them
-pub next-grows : (b : Problem) (s : List Point) (ns : List ℕ) → next s + weigh (λ n. (row_at b n).parcels) ns ≤ next (timed b s ns)
+pub next-grows : (b : Problem) (s : List Point) (ns : List ℕ) → next s + weigh (λ n. (row_at b n).parcels) ns ≤ next (points_after b s ns)
 next-grows b s [] = omega arith
 next-grows b s (n ∷ ns) =
-    omega (arith, next-grows b (place b s n ∷ s) ns, next-le-issue b s n, ap (λ (r : Row). r.parcels) (place-row b s n))
+    omega (arith, next-grows b (point_of b s n ∷ s) ns, next-le-issue b s n, ap (λ (r : Row). r.parcels) (point_of-row b s n))
 
 -- THE END OF A POINT
 
@@ -77,22 +77,22 @@ free-late s start hold (w ∷ ws) some h =
     ]
 
 -- the unit is free no sooner than one more than a hold after the start
-pub hold-le-free : (b : Problem) (s : List Point) (n : ℕ) → (place b s n).start + (row_at b n).hold + 1 ≤ (place b s n).free
+pub hold-le-free : (b : Problem) (s : List Point) (n : ℕ) → (point_of b s n).start + (row_at b n).hold + 1 ≤ (point_of b s n).free
 unfolding point
 hold-le-free b s n =
     let r : Row = row_at b n in
     free-late s (start_of b s r) r.hold r.writes (good-at b n).hold.0 (good-at b n).unit
 
-done-late : (b : Problem) (s : List Point) (n : ℕ) → 1 ≤ greatest (λ (w : Write). w.latency) (row_at b n).writes → (place b s n).start + greatest (λ (w : Write). w.latency) (row_at b n).writes ≤ greatest (λ (d : ResultAt). d.time) (place b s n).results
+done-late : (b : Problem) (s : List Point) (n : ℕ) → 1 ≤ greatest (λ (w : Write). w.latency) (row_at b n).writes → (point_of b s n).start + greatest (λ (w : Write). w.latency) (row_at b n).writes ≤ greatest (λ (d : ResultAt). d.time) (point_of b s n).results
 unfolding point
 done-late b s n some =
     let r : Row = row_at b n in
     greatest-shift (λ (w : Write). w.latency) (λ (d : ResultAt). d.time) (result_at s (start_of b s r)) (start_of b s r) (greatest (λ (w : Write). w.latency) r.writes) (λ w h. omega arith) r.writes some (omega arith)
 
 -- and its last free or done is no sooner than the tail after the start
-pub tail-le-last : (b : Problem) (s : List Point) (n : ℕ) → (place b s n).start + tail (row_at b n) ≤ last_of (place b s n)
+pub tail-le-last : (b : Problem) (s : List Point) (n : ℕ) → (point_of b s n).start + tail (row_at b n) ≤ end_of (point_of b s n)
 tail-le-last b s n =
-    let free : (place b s n).start + (row_at b n).hold + 1 ≤ (place b s n).free = hold-le-free b s n in
+    let free : (point_of b s n).start + (row_at b n).hold + 1 ≤ (point_of b s n).free = hold-le-free b s n in
     elim (cases_le 1 (greatest (λ (w : Write). w.latency) (row_at b n).writes)) [
       | inl some ↦ omega (arith, done-late b s n some)
       | inr none ↦ omega arith

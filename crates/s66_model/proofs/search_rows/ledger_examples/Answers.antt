@@ -8,7 +8,7 @@ use Rattle.s66_model.specs.Ledger.{Node, State, Open, Out, Cut, is_cut_state, is
 use Rattle.s66_model.specs.Examples.{instr, one_boolean, one_load, three_multiplies, node, first_node, root_split}
 use Rattle.s66_model.proofs.LegalOrders.{order-legal}
 use Rattle.s66_model.proofs.WorkedAnswers.{load-legal}
-use Rattle.s66_model.proofs.search_rows.ledger_rows.Goals as goal
+use Rattle.s66_model.proofs.search_rows.ledger_examples.Goals as goal
 
 open-out : Open ≡ Out → ⊥
 open-out same = true≢false (ap is_open_state same)
@@ -65,7 +65,7 @@ returns-clause-offer_above_12 c = ((omega arith, omega arith), ((refl, order-leg
 
 pub returns-clause-lower_by_no_legal_order : goal.returns-clause-lower_by_no_legal_order
 unfolding instr one_load row issue_of start_of point conflict
-returns-clause-lower_by_no_legal_order c = λ new step. (let (timed, lower, made) = step.1 in let (own, legal, time) = timed in true≢false (sym (legal.kept 1 2 [] (1 ∷ 3 ∷ []) refl refl)))
+returns-clause-lower_by_no_legal_order c = λ new step. (let (points_after, lower, made) = step.1 in let (own, legal, time) = points_after in true≢false (sym (legal.kept 1 2 [] (1 ∷ 3 ∷ []) refl refl)))
 
 pub returns-clause-child_not_covered : goal.returns-clause-child_not_covered
 unfolding instr three_multiplies row issue_of start_of point conflict

@@ -5,7 +5,7 @@ use Rattle.s66_model.specs.Dependence.{conflict}
 use Rattle.s66_model.specs.Examples.{instr, one_load}
 use Rattle.s66_model.proofs.LegalOrders.{order-legal}
 use Rattle.s66_model.proofs.WorkedAnswers.{load-legal, load-bound}
-use Rattle.s66_model.proofs.search_rows.answer_rows.Goals as goal
+use Rattle.s66_model.proofs.search_rows.answer_examples.Goals as goal
 
 pub returns-clause-one_load : goal.returns-clause-one_load
 unfolding instr one_load row issue_of start_of point conflict

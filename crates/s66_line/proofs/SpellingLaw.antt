@@ -3,11 +3,11 @@ use Rattle.std.proofs.Common.{◌≡◌, ◌<◌, ◌+◌, ◌-◌, ◌==◌, �
 use Rattle.std.proofs.lemmas.Option.{IfSome_then}
 use Rattle.s66_isa.specs.declared.instr.Instr.{Instr}
 use Rattle.s66_isa.specs.declared.reg.Bank.TheVariants.{A, B, X}
-use Rattle.s66_isa.specs.Words.{Among}
-use Rattle.s66_line.specs.Operand.{is_octal, form_of, decode, instr_of}
+use Rattle.s66_isa.specs.Lists.{Among}
+use Rattle.s66_line.specs.Operand.{is_octal, syntax_of, decode, instr_of}
 use Rattle.s66_line.specs.Spelling.{operations, CanMean}
-use Rattle.s66_line.specs.declared.operation.Form.{Form}
-use Rattle.s66_line.specs.declared.operation.Form.TheVariants.{Boolean, Shift, Normalise, Arithmetic, Mask, Population, Set}
+use Rattle.s66_line.specs.declared.operation.Syntax.{Syntax}
+use Rattle.s66_line.specs.declared.operation.Syntax.TheVariants.{Boolean, Shift, Normalise, Arithmetic, Mask, Population, Set}
 use Rattle.s66_line.proofs.Digits.{either, made, octal-few, octal-written}
 use Rattle.s66_line.proofs.Choices.{choices, Chosen, chosen}
 
@@ -22,13 +22,13 @@ at_row : (n : ℕ) → n < 16 → Among (get_or operations n ([], [])) operation
 at_row n h = among-at operations n ([], []) h
 
 -- these two letters and the choices of their form are a row of the table
-abbrev Listed : ℕ → ℕ → Form → Type 0
-Listed p q form = Among (p ∷ q ∷ [], choices form) operations
+abbrev Listed : ℕ → ℕ → Syntax → Type 0
+Listed p q syntax = Among (p ∷ q ∷ [], choices syntax) operations
 
-listed : (p q a b : ℕ) (form : Form) → Listed a b form → (p == a) ≡ true → (q == b) ≡ true → Listed p q form
-listed p q a b form h e f = rw (eqb-true p a e, eqb-true q b f) h
+listed : (p q a b : ℕ) (syntax : Syntax) → Listed a b syntax → (p == a) ≡ true → (q == b) ≡ true → Listed p q syntax
+listed p q a b syntax h e f = rw (eqb-true p a e, eqb-true q b f) h
 
-all-listed : (p q : ℕ) → IfSome (form_of p q) (Listed p q)
+all-listed : (p q : ℕ) → IfSome (syntax_of p q) (Listed p q)
 all-listed p q =
     either _ (q == 88) _ _
     (λ x. either _ (p == 66) _ _ (λ e. listed p q 66 88 Boolean (at_row 0 (lit< tt)) e x)
@@ -54,11 +54,11 @@ all-listed p q =
 
 -- WHAT IT CAN MEAN
 
-can_mean : (p q d : ℕ) (form : Form) (n : Instr) → is_octal d ≡ true → Listed p q form → Chosen (choices form) (d - 48) n → CanMean (p ∷ q ∷ d ∷ []) n
-can_mean p q d form n e row h =
+can_mean : (p q d : ℕ) (syntax : Syntax) (n : Instr) → is_octal d ≡ true → Listed p q syntax → Chosen (choices syntax) (d - 48) n → CanMean (p ∷ q ∷ d ∷ []) n
+can_mean p q d syntax n e row h =
     record {
       letters = p ∷ q ∷ [];
-      meanings = choices form;
+      meanings = choices syntax;
       listed = row;
       written = ap (λ c. p ∷ q ∷ c ∷ []) (octal-written d e ∙ ap (λ i. 48 + i) (sym h.1));
       code = h.0;
@@ -69,7 +69,7 @@ each-meaning : (p q d : ℕ) (text : List ℕ) → IfSome (instr_of (p ∷ q ∷
 each-meaning p q d text =
     either _ (is_octal d) _ _
     (λ e. made (Listed p q) _ _ _ (all-listed p q)
-    (λ form row. IfSome_then (decode form (d - 48) text) (chosen form (d - 48) text (octal-few d e)) (λ n h. can_mean p q d form n e row h)))
+    (λ syntax row. IfSome_then (decode syntax (d - 48) text) (chosen syntax (d - 48) text (octal-few d e)) (λ n h. can_mean p q d syntax n e row h)))
     (λ e. tt)
 
 meaning : (operation text : List ℕ) → IfSome (instr_of operation text) (CanMean operation)
@@ -79,5 +79,5 @@ meaning (p ∷ q ∷ []) text = tt
 meaning (p ∷ q ∷ d ∷ []) text = each-meaning p q d text
 meaning (p ∷ q ∷ d ∷ e ∷ more) text = tt
 
-pub form : (operation text : List ℕ) (n : Instr) → instr_of operation text ≡ Some n → CanMean operation n
-form operation text n e = subst (λ o. IfSome o (CanMean operation)) e (meaning operation text)
+pub CanMean-instr_of : (operation text : List ℕ) (n : Instr) → instr_of operation text ≡ Some n → CanMean operation n
+CanMean-instr_of operation text n e = subst (λ o. IfSome o (CanMean operation)) e (meaning operation text)

@@ -8,7 +8,7 @@ ghost use Rattle.s66_chart.specs.Chart.{chart_text};
 
 /// Each block in the order in which it is written: an instruction that waits for a load, a `NO`, a result that is held
 /// back, and an instruction that writes only B0.
-pub fn chart_rows()
+pub fn chart_examples()
     ensures one_load { chart_text (record { problem = standard_problem one_load; numbers = 1 ∷ 2 ∷ 3 ∷ [] }) ≡
         codes "  1 I=======........\n" ++
         codes "  2 .IWWWWWW===.....\n" ++

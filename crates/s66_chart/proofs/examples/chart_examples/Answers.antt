@@ -3,7 +3,7 @@ use Rattle.std.specs.Fmt.{digits}
 use Rattle.s66_isa.specs.Table.{row}
 use Rattle.s66_model.specs.Timing.{issue_of, start_of, point}
 use Rattle.s66_model.specs.Examples.{instr, one_load, packing_gap, third_order}
-use Rattle.s66_chart.proofs.rows.chart_rows.Goals as goal
+use Rattle.s66_chart.proofs.examples.chart_examples.Goals as goal
 
 pub returns-clause-one_load : goal.returns-clause-one_load
 unfolding instr one_load row issue_of start_of point digits
