@@ -2,7 +2,8 @@
 use Rattle.std.specs.Prelude.{ℕ, ◌+◌, ◌-◌, if◌then◌else◌, ◌&&◌, ◌==◌, List, [], ◌∷◌, ◌++◌, codes, decimal, length, map, nat_le, nat_lt, replicate, reverse}
 use Rattle.s66_isa.specs.Lists.{rising}
 use Rattle.s66_model.specs.Timing.{Point, points_of, total_of}
-use Rattle.s66_time.specs.TimedOrder.{TimedOrder, latency_of, latest_result}
+use Rattle.s66_isa.specs.Table.{latency_of}
+use Rattle.s66_time.specs.TimedOrder.{TimedOrder, latest_result}
 
 -- what an instruction does in a minor cycle: I issues, W waits for operands or for memory, = works, H is held for an earlier reader; the first that fits
 abbrev pub letter : Point → ℕ → ℕ

@@ -1,7 +1,8 @@
 -- The rows of a chart by the positions of the order, and their letters by what is known of an instruction.
 use Rattle.std.specs.Prelude.{ℕ, ◌+◌, Bool, if◌then◌else◌, ◌&&◌, ◌==◌, not, List, [], codes, decimal, length, nat_le, nat_lt}
 use Rattle.s66_model.specs.Timing.{Point, total_of}
-use Rattle.s66_time.specs.TimedOrder.{TimedOrder, point_at, latency_of, latest_result}
+use Rattle.s66_isa.specs.Table.{latency_of}
+use Rattle.s66_time.specs.TimedOrder.{TimedOrder, point_at, latest_result}
 use Rattle.s66_chart.specs.declared.activity.Activity.{Activity}
 use Rattle.s66_chart.specs.Chart.{letter, filler_letter, row_text}
 

@@ -1,9 +1,7 @@
 -- The table of instructions and the standard profile: CDC 6400/6500/6600 Computer Systems Reference Manual, publication 60100000, registers, instruction forms and functional units. The execution times are this project's.
-use Rattle.std.specs.Prelude.{◌&&◌, ◌||◌, ◌==◌, if◌then◌else◌, ℕ, zero, suc, Bool, true, false, List, [], ◌∷◌, ◌++◌, ◌%◌, nat_le, nat_lt, map, get_or, length}
+use Rattle.std.specs.Prelude.{◌&&◌, ◌||◌, ◌==◌, if◌then◌else◌, ℕ, zero, suc, Bool, true, false, List, [], ◌∷◌, ◌++◌, ◌%◌, ◌≤◌, ◌≢◌, nat_le, nat_lt, map, get_or, length}
 use Rattle.std.proofs.Common.{lit≤}
-use Rattle.s66_isa.specs.Lists.{rising}
-use Rattle.s66_isa.specs.declared.instr.Instr.{Instr}
-use Rattle.s66_isa.specs.declared.reg.Reg.{Reg}
+use Rattle.s66_isa.specs.Lists.{greatest, rising}
 use Rattle.s66_isa.specs.declared.reg.Bank.{Bank}
 use Rattle.s66_isa.specs.declared.reg.Bank.TheVariants.{A, B, X}
 use Rattle.s66_isa.specs.declared.instr.Kind.{Kind}
@@ -13,6 +11,34 @@ use Rattle.s66_isa.specs.declared.instr.Memory.TheVariants as memory
 use Rattle.s66_isa.specs.declared.instr.Operands.{Operands}
 use Rattle.s66_isa.specs.declared.instr.Operands.TheVariants as operands
 use Rattle.s66_isa.specs.declared.profile.Profile.{Profile}
+
+-- REGISTERS AND INSTRUCTIONS
+
+-- its bank, and its digit, 0 to 7
+pub record Reg : Type 0 where
+  pub bank : Bank
+  pub digit : ℕ
+
+-- an operation, by its octal code
+pub record Op : Type 0 where
+  pub code : ℕ
+
+-- its operation, and its octal digits, each 0 to 7; a digit that the form lacks is 0 in what is read from a source
+pub record Instr : Type 0 where
+  pub op : Op
+  pub i : ℕ
+  pub j : ℕ
+  pub k : ℕ
+
+abbrev pub instr : ℕ → ℕ → ℕ → ℕ → Instr
+instr code i j k = record { op = record { code = code }; i = i; j = j; k = k }
+
+abbrev pub IsDigit : ℕ → Type 0
+IsDigit digit = digit ≤ 7
+
+-- the 55 codes of the table: octal 46 is no instruction
+abbrev pub IsCode : ℕ → Type 0
+IsCode code = (0o10 ≤ code) × (code ≤ 0o77) × (code ≢ 0o46)
 
 -- REGISTERS
 
@@ -258,10 +284,18 @@ row p n =
       memory = memory_of n;
     }
 
+-- the greatest latency of its results, or the hold where nothing is written
+abbrev pub latency_of : Row → ℕ
+latency_of r = longest r.writes
+  where
+    longest : List Write → ℕ
+    longest [] = r.hold
+    longest (w ∷ ws) = greatest (λ (v : Write). v.latency) (w ∷ ws)
+
 -- AN INSTRUCTION BY ITS NUMBER, from 1; any other number has SB0 B0+B0, which reads and writes nothing
 
 abbrev pub idle_instr : Instr
-idle_instr = record { op = record { code = 0o66 }; i = 0; j = 0; k = 0 }
+idle_instr = instr 0o66 0 0 0
 
 abbrev pub instr_at : List Instr → ℕ → Instr
 instr_at block zero = idle_instr

@@ -1,10 +1,13 @@
 ghost use Rattle.std.specs.Prelude.{◌≡◌, ◌+◌, ◌<◌, ◌≤◌, ◌++◌, [], ◌∷◌, ℕ, map};
 ghost use Rattle.arrayvec.specs.ArrayVec.{array_vec_len};
-ghost use Rattle.s66_isa.specs.Table.{insert, same_kind, memory_pair};
+ghost use Rattle.s66_isa.specs.Table.{insert, same_kind, memory_pair, a_reg, b_reg, x_reg, idle_instr};
 
+use crate::op::Op;
 use crate::profile::Profile;
 use crate::reg::{Bank, Reg, has_register, is_zero_register};
+use crate::write::writes_of;
 use arrayvec::ArrayVec;
+use std::marker::Model;
 
 /// A kind of functional unit. The tenth unit of the machine, Branch, is not used.
 #[derive(Clone, Copy, Debug, PartialEq, Eq)]
@@ -60,23 +63,38 @@ pub fn is_memory_conflict(a: Memory, b: Memory) -> bool
     }
 }
 
-/// An operation, by its octal code: 0o10 to 0o77.
-#[derive(Clone, Copy, Debug, Default, PartialEq, Eq)]
-pub struct Op {
-    pub code: u8,
-}
-
 /// An instruction: its operation and its octal digits i, j and k, each 0 to 7.
 ///
 /// What each operation reads, writes and uses is the table of instructions of the CDC 6400/6500/6600 Computer Systems
 /// Reference Manual, publication 60100000. The value of a constant is not kept, and a digit that the form lacks is 0 in
 /// what is read from a source, so there two instructions are equal where operation and registers agree.
-#[derive(Clone, Copy, Debug, Default, PartialEq, Eq)]
+#[derive(Clone, Copy, Debug, PartialEq, Eq)]
 pub struct Instr {
-    pub op: Op,
-    pub i: u8,
-    pub j: u8,
-    pub k: u8,
+    op: Op,
+    i: u8,
+    j: u8,
+    k: u8,
+}
+
+impl Model for Instr {
+    ghost use Rattle.s66_isa.specs.Table.{Instr, IsDigit};
+
+    ghost Value = { Instr };
+
+    ghost view = { λ n. record { op = n.op; i = n.i; j = n.j; k = n.k } };
+
+    ghost inverse = { λ n. record { op = n.op; i = n.i; j = n.j; k = n.k } };
+
+    ghost invariant = { λ n. IsDigit n.i × IsDigit n.j × IsDigit n.k };
+}
+
+/// `SB0 B0+B0`, which reads and writes nothing.
+impl Default for Instr {
+    fn default() -> Instr
+        ensures { result ≡ idle_instr }
+    {
+        Instr::new(Op::new(0o66), 0, 0, 0)
+    }
 }
 
 impl Instr {
@@ -84,11 +102,52 @@ impl Instr {
     ghost use Rattle.s66_isa.specs.Lists.{greatest};
     ghost use Rattle.s66_isa.specs.Table.{kind_of, parcels_of, memory_of, shape_of, operand_registers, stored_registers, reads_of, hold_of, held_registers, loaded_registers, results_of, writes_of};
 
+    /// The instruction of an operation and its octal digits.
+    pub fn new(op: Op, i: u8, j: u8, k: u8) -> Instr
+        requires i { i ≤ 7 }
+        requires j { j ≤ 7 }
+        requires k { k ≤ 7 }
+        ensures { result ≡ record { op = op; i = i; j = j; k = k } }
+    {
+        Instr { op, i, j, k }
+    }
+
+    /// Its operation.
+    pub fn op(&self) -> Op
+        ensures { result ≡ self.now.op }
+    {
+        self.op
+    }
+
+    /// Its first octal digit, which most operations take as the register that they write.
+    pub fn i(&self) -> u8
+        ensures value { result ≡ self.now.i }
+        ensures at_most { result ≤ 7 }
+    {
+        self.i
+    }
+
+    /// Its second octal digit.
+    pub fn j(&self) -> u8
+        ensures value { result ≡ self.now.j }
+        ensures at_most { result ≤ 7 }
+    {
+        self.j
+    }
+
+    /// Its third octal digit.
+    pub fn k(&self) -> u8
+        ensures value { result ≡ self.now.k }
+        ensures at_most { result ≤ 7 }
+    {
+        self.k
+    }
+
     /// The kind of unit that executes it.
     pub fn kind(&self) -> Kind
         ensures { result ≡ kind_of self.now.op.code }
     {
-        match self.op.code {
+        match self.op.code() {
             0..0o20 => Kind::Boolean,
             0o20..0o30 | 0o43 => Kind::Shift,
             0o30..0o36 => Kind::Add,
@@ -105,7 +164,7 @@ impl Instr {
         ensures at_least { 1 ≤ result }
         ensures at_most { result ≤ 2 }
     {
-        if self.op.code >= 0o50 && self.op.code % 8 < 3 {
+        if self.op.code() >= 0o50 && self.op.code() % 8 < 3 {
             2
         } else {
             1
@@ -116,7 +175,7 @@ impl Instr {
     pub fn memory(&self) -> Memory
         ensures { result ≡ memory_of self.now }
     {
-        if self.op.code < 0o50 || self.op.code >= 0o60 || self.i == 0 {
+        if self.op.code() < 0o50 || self.op.code() >= 0o60 || self.i == 0 {
             Memory::None
         } else if self.i < 6 {
             Memory::Load
@@ -129,7 +188,7 @@ impl Instr {
     fn operands(&self) -> Operands
         ensures { result ≡ shape_of self.now.op.code }
     {
-        match self.op.code {
+        match self.op.code() {
             0o10 => Operands::Xj,
             0o14 | 0o47 | 0o24..0o27 => Operands::Xk,
             0..0o20 => Operands::XjXk,
@@ -137,7 +196,7 @@ impl Instr {
             0o22 | 0o23 | 0o27 => Operands::BjXk,
             0o43 => Operands::Constant,
             0o30..0o50 => Operands::XjXk,
-            _ => match self.op.code % 8 {
+            _ => match self.op.code() % 8 {
                 0 => Operands::Aj,
                 1 => Operands::Bj,
                 2 => Operands::Xj,
@@ -193,7 +252,7 @@ impl Instr {
         ensures at_least { 1 ≤ result }
         ensures at_most { result ≤ 100 }
     {
-        match self.op.code {
+        match self.op.code() {
             0..0o20 => profile.boolean,
             0o24 | 0o25 => profile.normalise,
             0o20..0o30 | 0o43 => profile.shift,
@@ -211,10 +270,10 @@ impl Instr {
         ensures { result.items ≡ held_registers self.now }
     {
         let mut registers = ArrayVec::new();
-        match self.op.code {
+        match self.op.code() {
             0..0o50 => {
                 registers.push(x(self.i));
-                if self.op.code >= 0o24 && self.op.code < 0o27 && self.j != 0 {
+                if self.op.code() >= 0o24 && self.op.code() < 0o27 && self.j != 0 {
                     registers.push(b(self.j));
                 }
             }
@@ -256,57 +315,33 @@ impl Instr {
         ensures value { result.items ≡ writes_of profile.now self.now }
         ensures at_most { greatest (λ w. w.1) result.items ≤ 100 }
     {
-        let hold = self.hold(profile);
-        let mut results = ArrayVec::new();
-        match self.op.code {
-            0..0o50 => {
-                results.push((x(self.i), hold));
-                if self.op.code >= 0o24 && self.op.code < 0o27 && self.j != 0 {
-                    results.push((b(self.j), hold));
-                }
-            }
-            0o50..0o60 => {
-                results.push((a(self.i), hold));
-                if let Memory::Load = self.memory() {
-                    results.push((x(self.i), profile.load));
-                }
-            }
-            0o60..0o70 => {
-                if self.i != 0 {
-                    results.push((b(self.i), hold));
-                }
-            }
-            _ => results.push((x(self.i), hold)),
+        let mut pairs = ArrayVec::new();
+        for write in writes_of(self, profile).as_slice() {
+            pairs.push((write.reg, write.latency));
         }
-        results
+        pairs
     }
 }
 
 fn x(digit: u8) -> Reg
-    ensures { result ≡ record { bank = Bank.X; digit = digit } }
+    requires { digit ≤ 7 }
+    ensures { result ≡ x_reg digit }
 {
-    Reg {
-        bank: Bank::X,
-        digit,
-    }
+    Reg::new(Bank::X, digit)
 }
 
 fn a(digit: u8) -> Reg
-    ensures { result ≡ record { bank = Bank.A; digit = digit } }
+    requires { digit ≤ 7 }
+    ensures { result ≡ a_reg digit }
 {
-    Reg {
-        bank: Bank::A,
-        digit,
-    }
+    Reg::new(Bank::A, digit)
 }
 
 fn b(digit: u8) -> Reg
-    ensures { result ≡ record { bank = Bank.B; digit = digit } }
+    requires { digit ≤ 7 }
+    ensures { result ≡ b_reg digit }
 {
-    Reg {
-        bank: Bank::B,
-        digit,
-    }
+    Reg::new(Bank::B, digit)
 }
 
 /// A register joins a set: B0 never does, and none stands there twice.

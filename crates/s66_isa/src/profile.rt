@@ -1,4 +1,4 @@
-ghost use Rattle.std.specs.Prelude.{◌≡◌, ◌≤◌};
+ghost use Rattle.std.specs.Prelude.{◌≡◌, ◌≤◌, ◌↔◌, IsTrue};
 
 use crate::instr::Kind;
 
@@ -75,4 +75,11 @@ impl Profile {
             Kind::Increment => self.units_increment,
         }
     }
+}
+
+/// Whether the two are one profile.
+pub fn is_same_profile(a: &Profile, b: &Profile) -> bool
+    ensures { IsTrue result ↔ (a.now ≡ b.now) }
+{
+    *a == *b
 }

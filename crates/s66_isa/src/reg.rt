@@ -1,5 +1,7 @@
-ghost use Rattle.std.specs.Prelude.{◌≡◌};
+ghost use Rattle.std.specs.Prelude.{◌≡◌, ◌≤◌};
 ghost use Rattle.s66_isa.specs.Table.{same_reg, is_b0, has_reg};
+
+use std::marker::Model;
 
 /// A bank of eight registers.
 #[derive(Clone, Copy, Debug, Default, PartialEq, Eq)]
@@ -13,8 +15,45 @@ pub enum Bank {
 /// A register: its bank, and its digit 0 to 7.
 #[derive(Clone, Copy, Debug, Default, PartialEq, Eq)]
 pub struct Reg {
-    pub bank: Bank,
-    pub digit: u8,
+    bank: Bank,
+    digit: u8,
+}
+
+impl Model for Reg {
+    ghost use Rattle.s66_isa.specs.Table.{Reg, IsDigit};
+
+    ghost Value = { Reg };
+
+    ghost view = { λ r. record { bank = r.bank; digit = r.digit } };
+
+    ghost inverse = { λ r. record { bank = r.bank; digit = r.digit } };
+
+    ghost invariant = { λ r. IsDigit r.digit };
+}
+
+impl Reg {
+    /// The register of a bank and a digit.
+    pub fn new(bank: Bank, digit: u8) -> Reg
+        requires { digit ≤ 7 }
+        ensures { result ≡ record { bank = bank; digit = digit } }
+    {
+        Reg { bank, digit }
+    }
+
+    /// Its bank.
+    pub fn bank(&self) -> Bank
+        ensures { result ≡ self.now.bank }
+    {
+        self.bank
+    }
+
+    /// Its digit.
+    pub fn digit(&self) -> u8
+        ensures value { result ≡ self.now.digit }
+        ensures at_most { result ≤ 7 }
+    {
+        self.digit
+    }
 }
 
 /// Whether the two are one register.
@@ -28,13 +67,7 @@ pub fn is_same_register(a: Reg, b: Reg) -> bool
 pub fn is_zero_register(register: Reg) -> bool
     ensures { result ≡ is_b0 register }
 {
-    is_same_register(
-        register,
-        Reg {
-            bank: Bank::B,
-            digit: 0,
-        },
-    )
+    is_same_register(register, Reg::new(Bank::B, 0))
 }
 
 /// Whether a register is among these; the time is that of their number.

@@ -1,9 +1,11 @@
 -- What is spelled is in the table.
-use Rattle.std.proofs.Common.{◌≡◌, ◌<◌, ◌+◌, ◌-◌, ◌==◌, ℕ, zero, suc, true, List, [], ◌∷◌, length, get_or, None, Some, IfSome, refl, sym, ap, ◌∙◌, subst, inl, inr, arith, eqb-true, lit<}
+use Rattle.std.proofs.Common.{Bool, ◌&&◌, not, leb, true≢false, ◌≡◌, ◌<◌, ◌+◌, ◌-◌, ◌==◌, ℕ, zero, suc, true, List, [], ◌∷◌, length, get_or, None, Some, IfSome, refl, sym, ap, ◌∙◌, subst, inl, inr, arith, eqb-true, lit<}
 use Rattle.std.proofs.lemmas.Option.{IfSome_then}
+use Rattle.std.proofs.lemmas.Bool.{and_parts, leb-true, eq-eqb}
 use Rattle.s66_isa.specs.declared.instr.Instr.{Instr}
 use Rattle.s66_isa.specs.declared.reg.Bank.TheVariants.{A, B, X}
-use Rattle.s66_isa.specs.Lists.{Among}
+use Rattle.s66_isa.specs.Lists.{Among, every}
+use Rattle.s66_isa.specs.Table.{IsCode}
 use Rattle.s66_line.specs.Operand.{is_octal, syntax_of, decode, instr_of}
 use Rattle.s66_line.specs.Spelling.{operations, CanMean}
 use Rattle.s66_line.specs.declared.operation.Syntax.{Syntax}
@@ -81,3 +83,23 @@ meaning (p ∷ q ∷ d ∷ e ∷ more) text = tt
 
 pub CanMean-instr_of : (operation text : List ℕ) (n : Instr) → instr_of operation text ≡ Some n → CanMean operation n
 CanMean-instr_of operation text n e = subst (λ o. IfSome o (CanMean operation)) e (meaning operation text)
+
+-- AN INSTRUCTION OF THE TABLE
+
+-- what a test has computed of a whole list holds of each of its members
+tested : {X : Type 0} (test : X → Bool) (x : X) (xs : List X) → every test xs ≡ true → Among x xs → test x ≡ true
+tested test x [] all none = elim none [ ]
+tested test x (y ∷ ys) all (inl here) = rw here (and_parts (test y) (every test ys) all).0
+tested test x (y ∷ ys) all (inr more) = tested test x ys (and_parts (test y) (every test ys) all).1 more
+
+abbrev is_code : ℕ → Bool
+is_code code = leb 0o10 code && (leb code 0o77 && not (code == 0o46))
+
+-- all that an operation can mean is of the table
+pub meant-code : (operation : List ℕ) (n : Instr) → CanMean operation n → IsCode n.op.code
+meant-code operation n h =
+    let all = tested (λ (row : List ℕ × List ℕ). every is_code row.1) (h.letters, h.meanings) operations refl h.listed in
+    let code = tested is_code n.op.code h.meanings all h.code in
+    let (low, rest) = and_parts (leb 0o10 n.op.code) (leb n.op.code 0o77 && not (n.op.code == 0o46)) code in
+    let (high, other) = and_parts (leb n.op.code 0o77) (not (n.op.code == 0o46)) rest in
+    (leb-true 0o10 n.op.code low, leb-true n.op.code 0o77 high, λ is. absurd (true≢false (sym other ∙ ap not (eq-eqb n.op.code 0o46 is))))

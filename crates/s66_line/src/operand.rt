@@ -1,18 +1,45 @@
 ghost use Rattle.std.specs.Prelude.{◌≡◌, ◌≤◌, IfSome};
+ghost use Rattle.s66_isa.specs.Table.{IsCode};
 ghost use Rattle.s66_line.specs.Operand.{spelled, is_octal, x_digit, b_digit, two_x, boolean_operator, boolean, b_and_x, shift, normalise, mask, arithmetic_code, arithmetic, population};
 
 use crate::terms::is_expression;
 use s66_isa::{Instr, Op};
+use std::marker::Model;
 
-/// The instruction of an octal code and of its digits.
-pub(crate) fn instruction(code: u8, i: u8, j: u8, k: u8) -> Instr
-    ensures { result ≡ spelled code i j k }
-{
-    Instr {
-        op: Op { code },
-        i,
-        j,
-        k,
+/// The octal code and the digits that an operand chooses. It is plain: that they are those of an instruction is known of the
+/// operation and its operand together, and is asked where they become one.
+#[derive(Clone, Copy, Debug)]
+pub(crate) struct Encoding {
+    code: u8,
+    i: u8,
+    j: u8,
+    k: u8,
+}
+
+impl Model for Encoding {
+    ghost use Rattle.s66_isa.specs.Table.{Instr, instr};
+
+    ghost Value = { Instr };
+
+    ghost view = { λ e. instr e.code e.i e.j e.k };
+
+    ghost inverse = { λ n. record { code = n.op.code; i = n.i; j = n.j; k = n.k } };
+}
+
+impl Encoding {
+    pub(crate) fn new(code: u8, i: u8, j: u8, k: u8) -> Encoding
+        ensures { result ≡ spelled code i j k }
+    {
+        Encoding { code, i, j, k }
+    }
+
+    /// The instruction of this code and these digits.
+    pub(crate) fn instr(self) -> Instr
+        requires code { IsCode self.op.code }
+        requires digits { (self.i ≤ 7) × (self.j ≤ 7) × (self.k ≤ 7) }
+        ensures { result ≡ self }
+    {
+        Instr::new(Op::new(self.code), self.i, self.j, self.k)
     }
 }
 
@@ -65,21 +92,21 @@ fn boolean_operator(operator: u8) -> Option<u8>
 }
 
 /// `Xj`, `-Xk`, or two X registers round an operator, the first with or without a minus.
-pub(crate) fn boolean(i: u8, operand: &[u8]) -> Option<Instr>
+pub(crate) fn boolean(i: u8, operand: &[u8]) -> Option<Encoding>
     ensures { result ≡ boolean i operand.now }
 {
     match operand {
-        [letter, j] => Some(instruction(0o10, i, x_digit(*letter, *j)?, 0)),
-        [b'-', letter, k] => Some(instruction(0o14, i, 0, x_digit(*letter, *k)?)),
+        [letter, j] => Some(Encoding::new(0o10, i, x_digit(*letter, *j)?, 0)),
+        [b'-', letter, k] => Some(Encoding::new(0o14, i, 0, x_digit(*letter, *k)?)),
         [first, j, operator, second, k] => {
             let further = boolean_operator(*operator)?;
             let (j, k) = two_x(*first, *j, *second, *k)?;
-            Some(instruction(0o10 + further, i, j, k))
+            Some(Encoding::new(0o10 + further, i, j, k))
         }
         [b'-', first, k, operator, second, j] => {
             let further = boolean_operator(*operator)?;
             let (k, j) = two_x(*first, *k, *second, *j)?;
-            Some(instruction(0o14 + further, i, j, k))
+            Some(Encoding::new(0o14 + further, i, j, k))
         }
         _ => None,
     }
@@ -107,35 +134,35 @@ fn b_and_x(i: u8, operand: &[u8]) -> Option<(u8, u8)>
 }
 
 /// By a constant, or by a B register.
-pub(crate) fn shift(by_constant: u8, by_register: u8, i: u8, operand: &[u8]) -> Option<Instr>
+pub(crate) fn shift(by_constant: u8, by_register: u8, i: u8, operand: &[u8]) -> Option<Encoding>
     ensures { result ≡ shift by_constant by_register i operand.now }
 {
     if is_expression(operand) {
-        return Some(instruction(by_constant, i, 0, 0));
+        return Some(Encoding::new(by_constant, i, 0, 0));
     }
     let (j, k) = b_and_x(i, operand)?;
-    Some(instruction(by_register, i, j, k))
+    Some(Encoding::new(by_register, i, j, k))
 }
 
 /// A B and an X register, and B0 and Xi where the operand is absent.
-pub(crate) fn normalise(code: u8, i: u8, operand: &[u8]) -> Option<Instr>
+pub(crate) fn normalise(code: u8, i: u8, operand: &[u8]) -> Option<Encoding>
     ensures { result ≡ normalise code i operand.now }
 {
     match operand {
-        [] => Some(instruction(code, i, 0, i)),
+        [] => Some(Encoding::new(code, i, 0, i)),
         _ => {
             let (j, k) = b_and_x(i, operand)?;
-            Some(instruction(code, i, j, k))
+            Some(Encoding::new(code, i, j, k))
         }
     }
 }
 
 /// An expression without registers.
-pub(crate) fn mask(i: u8, operand: &[u8]) -> Option<Instr>
+pub(crate) fn mask(i: u8, operand: &[u8]) -> Option<Encoding>
     ensures { result ≡ mask i operand.now }
 {
     if is_expression(operand) {
-        Some(instruction(0o43, i, 0, 0))
+        Some(Encoding::new(0o43, i, 0, 0))
     } else {
         None
     }
@@ -168,29 +195,29 @@ pub(crate) fn arithmetic(
     quotient: Option<u8>,
     i: u8,
     operand: &[u8],
-) -> Option<Instr>
+) -> Option<Encoding>
     ensures { result ≡ arithmetic sum difference product quotient i operand.now }
 {
     match operand {
         [first, j, operator, second, k] => {
             let code = arithmetic_code(sum, difference, product, quotient, *operator)?;
             let (j, k) = two_x(*first, *j, *second, *k)?;
-            Some(instruction(code, i, j, k))
+            Some(Encoding::new(code, i, j, k))
         }
         [b'-', first, k, b'+', second, j] => {
             let (k, j) = two_x(*first, *k, *second, *j)?;
-            Some(instruction(difference, i, j, k))
+            Some(Encoding::new(difference, i, j, k))
         }
         _ => None,
     }
 }
 
 /// `Xk`.
-pub(crate) fn population(i: u8, operand: &[u8]) -> Option<Instr>
+pub(crate) fn population(i: u8, operand: &[u8]) -> Option<Encoding>
     ensures { result ≡ population i operand.now }
 {
     match operand {
-        [letter, k] => Some(instruction(0o47, i, 0, x_digit(*letter, *k)?)),
+        [letter, k] => Some(Encoding::new(0o47, i, 0, x_digit(*letter, *k)?)),
         _ => None,
     }
 }

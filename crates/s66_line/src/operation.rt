@@ -1,7 +1,9 @@
 ghost use Rattle.std.specs.Prelude.{◌≡◌};
 ghost use Rattle.s66_line.specs.Operand.{syntax_of, decode, is_operation, instr_of};
 
-use crate::operand::{arithmetic, boolean, is_octal_digit, mask, normalise, population, shift};
+use crate::operand::{
+    Encoding, arithmetic, boolean, is_octal_digit, mask, normalise, population, shift,
+};
 use crate::set_operand::set;
 use s66_isa::{Bank, Instr};
 
@@ -94,7 +96,7 @@ pub(crate) fn is_operation_name(operation: &[u8]) -> bool
     }
 }
 
-fn decode(syntax: Syntax, i: u8, operand: &[u8]) -> Option<Instr>
+fn decode(syntax: Syntax, i: u8, operand: &[u8]) -> Option<Encoding>
     ensures { result ≡ decode syntax i operand.now }
 {
     match syntax {
@@ -126,7 +128,8 @@ pub(crate) fn instruction_of(operation: &[u8], operand: &[u8]) -> Option<Instr>
                 return None;
             }
             let syntax = syntax_of(*first, *second)?;
-            decode(syntax, *digit - b'0', operand)
+            let encoding = decode(syntax, *digit - b'0', operand)?;
+            Some(encoding.instr())
         }
         _ => None,
     }

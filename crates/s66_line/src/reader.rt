@@ -75,7 +75,8 @@ impl<'a> Reader<'a> {
         ensures lines { OnOk result (self.new.lines ≤ 20000) }
     {
         let mut after_code = false;
-        match line.class {
+        let class = line.class;
+        match class {
             Class::Comment => {}
             Class::Other => self.end_block(alloc)?,
             Class::Refused => {

@@ -1,9 +1,9 @@
 ghost use Rattle.std.specs.Prelude.{◌≡◌, ◌≤◌, IfSome};
 ghost use Rattle.s66_line.specs.Operand.{with_constant, without_constant, set_code, set};
 
-use crate::operand::instruction;
+use crate::operand::Encoding;
 use crate::terms::terms_of;
-use s66_isa::{Bank, Instr};
+use s66_isa::Bank;
 
 /// The form and the digits j and k, where a constant stands among the terms.
 fn with_constant(registers: &[(bool, Bank, u8)]) -> Option<(u8, u8, u8)>
@@ -55,7 +55,7 @@ fn set_code(bank: Bank) -> u8
 }
 
 /// Register names and constants joined by `+` or `-`.
-pub(crate) fn set(bank: Bank, i: u8, operand: &[u8]) -> Option<Instr>
+pub(crate) fn set(bank: Bank, i: u8, operand: &[u8]) -> Option<Encoding>
     ensures { result ≡ set bank i operand.now }
 {
     let terms = terms_of(operand)?;
@@ -65,5 +65,5 @@ pub(crate) fn set(bank: Bank, i: u8, operand: &[u8]) -> Option<Instr>
     } else {
         without_constant(registers)?
     };
-    Some(instruction(set_code(bank) + form, i, j, k))
+    Some(Encoding::new(set_code(bank) + form, i, j, k))
 }

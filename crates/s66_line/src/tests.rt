@@ -95,8 +95,8 @@ const REFUSED: [(&str, &str); 16] = [
 ];
 
 fn parcel_of(instr: Instr) -> u32 {
-    let digits = u32::from(instr.i) * 64 + u32::from(instr.j) * 8 + u32::from(instr.k);
-    u32::from(instr.op.code) * 512 + digits
+    let digits = u32::from(instr.i()) * 64 + u32::from(instr.j()) * 8 + u32::from(instr.k());
+    u32::from(instr.op().code()) * 512 + digits
 }
 
 fn spelled(operation: &str, operand: &str) -> Option<u32> {

@@ -5,12 +5,10 @@ mod packing;
 mod place;
 mod placed;
 mod point;
-mod profile;
 mod result;
 mod time;
 mod timed;
 mod timeline;
-mod write;
 
 pub use packing::{Packing, pack};
 pub use place::Place;
