@@ -1,1 +1,3 @@
+pub mod SameRegister
+pub mod RegisterBits
 pub mod Writes

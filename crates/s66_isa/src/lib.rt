@@ -5,10 +5,12 @@ mod instr;
 mod op;
 mod profile;
 mod reg;
+mod registers;
 mod write;
 
 pub use instr::{Instr, Kind, Memory, Operands, is_memory_conflict, is_same_kind};
 pub use op::Op;
 pub use profile::{Profile, is_same_profile};
 pub use reg::{Bank, Reg, has_register, is_same_register, is_zero_register};
+pub use registers::Registers;
 pub use write::{Write, longest_latency, writes_of};

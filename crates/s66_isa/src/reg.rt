@@ -32,6 +32,8 @@ impl Model for Reg {
 }
 
 impl Reg {
+    ghost use Rattle.s66_isa.specs.Registers.{index_of};
+
     /// The register of a bank and a digit.
     pub fn new(bank: Bank, digit: u8) -> Reg
         requires { digit ≤ 7 }
@@ -53,6 +55,20 @@ impl Reg {
         ensures at_most { result ≤ 7 }
     {
         self.digit
+    }
+
+    /// Its index, 0 to 23: A0 to A7, then B0 to B7, then X0 to X7.
+    pub fn index(&self) -> u8
+        ensures value { result ≡ index_of self.now }
+        ensures at_most { result ≤ 23 }
+        ensures digit { self.now.digit ≤ 7 }
+    {
+        let first = match self.bank {
+            Bank::A => 0,
+            Bank::B => 8,
+            Bank::X => 16,
+        };
+        first + self.digit
     }
 }
 

@@ -11,7 +11,7 @@ use Rattle.s66_model.specs.Timing.{Problem, Point, ResultAt, row_at, done_at, wr
 use Rattle.s66_model.specs.LegalOrder.{is_ready, GoesOn, IsBeginning, Completes, IsOrder}
 use Rattle.s66_model.specs.Leaves.{tail, uses, link, head, walk, chain_value, IsWalk, IsChain}
 use Rattle.s66_model.proofs.Lists.{cases_le, greatest-le-greatest, greatest-le, greatest-shift}
-use Rattle.s66_model.proofs.SameRegister.{same_reg-true, same_reg-self, has_reg-le, has_reg-from}
+use Rattle.s66_isa.proofs.SameRegister.{same_reg-true, same_reg-self, has_reg-le, has_reg-from}
 use Rattle.s66_model.proofs.LegalOrders.{GoesOn-join, ready-parts, depends-from, needs-each}
 use Rattle.s66_model.proofs.Remaining.{remaining-parts, order-has}
 use Rattle.s66_model.proofs.Issue.{issue-is}

@@ -9,8 +9,9 @@ use Rattle.s66_isa.specs.declared.reg.Reg.{Reg}
 use Rattle.s66_isa.specs.Table.{same_reg, has_reg, x_reg, operands_of, stored_registers, reads_of, held_registers, results_of, memory_of, touches, stores, memory_pair}
 use Rattle.s66_model.specs.Dependence.{share, conflict}
 use Rattle.s66_model.specs.Meaning.{Term, Terms, Storage, Stored, Operation, Contents, value_of, values_of, results_computed, words_loaded, writes, after_writes, address_of, storage_after, after}
-use Rattle.s66_model.proofs.SameRegister.{same_reg-self}
-use Rattle.s66_model.proofs.Registers.{has_reg-reads, share-none, share-none_back, writes-other, value-other, values-other}
+use Rattle.s66_isa.proofs.SameRegister.{same_reg-self}
+use Rattle.s66_isa.proofs.SameRegister.{has_reg-reads}
+use Rattle.s66_model.proofs.Registers.{share-none, share-none_back, writes-other, value-other, values-other}
 
 -- contents are equal where all registers and the storage are
 same_contents : (f g : Reg → Term) (s t : Storage) → ((q : Reg) → f q ≡ g q) → s ≡ t → ◌≡◌ {A = Contents} (record { registers = f; storage = s }) (record { registers = g; storage = t })

@@ -5,7 +5,6 @@ pub mod GoodRows
 pub mod LegalOrders
 pub mod Beginnings
 pub mod Growth
-pub mod SameRegister
 pub mod Registers
 pub mod Exchange
 pub mod MeaningOfOrders

@@ -1,78 +1,16 @@
 -- Registers: which are the same, which stand in a set, and which keep their values.
-use Rattle.std.proofs.Common.{ℕ, suc, ◌≡◌, Bool, true, false, true≢false, cond, ◌||◌, List, [], ◌∷◌, ◌++◌, map, refl, ap, sym, ◌∙◌, arith, inl, inr, eqb}
-use Rattle.std.proofs.lemmas.Bool.{cases_Bool, or_parts, or_cases, or_left, or_right, false_from_ne_true, cond-false, eqb-true, and_parts}
+use Rattle.std.proofs.Common.{ℕ, suc, ◌≡◌, true, false, true≢false, List, [], ◌∷◌, ◌++◌, map, refl, ap, sym, ◌∙◌, inl, inr}
+use Rattle.std.proofs.lemmas.Bool.{cases_Bool, or_parts, or_left, or_right, false_from_ne_true, cond-false}
 use Rattle.std.proofs.lemmas.List.{map-append}
-use Rattle.std.proofs.Math.Bool.{or_assoc, or-false}
 use Rattle.s66_isa.specs.declared.instr.Instr.{Instr}
 use Rattle.s66_isa.specs.declared.instr.Memory.{Memory}
 use Rattle.s66_isa.specs.declared.reg.Reg.{Reg}
-use Rattle.s66_isa.specs.Table.{bank_number, b_reg, same_reg, is_b0, has_reg, insert, insert_all, operands_of, stored_registers, reads_of, held_registers, loaded_registers, results_of, memory_of}
+use Rattle.s66_isa.specs.Table.{same_reg, is_b0, has_reg, held_registers, loaded_registers, results_of, memory_of}
 use Rattle.s66_model.specs.Dependence.{share}
 use Rattle.s66_model.specs.Meaning.{Term, Terms, Storage, Loaded, Operation, value_of, values_of, results_computed, words_loaded, writes, after_writes, address_of}
-use Rattle.s66_model.proofs.SameRegister.{same_reg-self}
+use Rattle.s66_isa.proofs.SameRegister.{same_reg-self, same_reg-sym, has_reg-at}
 
--- WHICH ARE THE SAME
-
-eqb-sym : (a b : ℕ) → eqb a b ≡ eqb b a
-eqb-sym a b = grind arith
-
-same_reg-sym : (r s : Reg) → same_reg r s ≡ same_reg s r
-same_reg-sym r s = rw (eqb-sym (bank_number r.bank) (bank_number s.bank), eqb-sym r.digit s.digit) refl
-
--- registers that are the same are the same as the same others, and stand in the same sets
-same_reg-at : (r s : Reg) → same_reg r s ≡ true → (q : Reg) → same_reg r q ≡ same_reg s q
-same_reg-at r s h q =
-    let same = and_parts (eqb (bank_number r.bank) (bank_number s.bank)) (eqb r.digit s.digit) h in
-    let banks : bank_number r.bank ≡ bank_number s.bank = eqb-true (bank_number r.bank) (bank_number s.bank) same.0 in
-    let digits : r.digit ≡ s.digit = eqb-true r.digit s.digit same.1 in
-    rw (banks, digits) refl
-
-has_reg-at : (r s : Reg) → same_reg r s ≡ true → (set : List Reg) → has_reg r set ≡ has_reg s set
-has_reg-at r s h [] = refl
-has_reg-at r s h (q ∷ qs) = rw (same_reg-at r s h q, has_reg-at r s h qs) refl
-
--- WHICH STAND IN A SET
-
-has_reg-append : (q : Reg) (rs ss : List Reg) → has_reg q (rs ++ ss) ≡ (has_reg q rs || has_reg q ss)
-has_reg-append q [] ss = refl
-has_reg-append q (r ∷ rs) ss = ap (λ t. same_reg q r || t) (has_reg-append q rs ss) ∙ sym (or_assoc (same_reg q r) (has_reg q rs) (has_reg q ss))
-
--- what implies a test adds nothing to it
-implied : (x y : Bool) → (y ≡ true → x ≡ true) → x ≡ (x || y)
-implied true y h = refl
-implied false true h = h refl
-implied false false h = refl
-
-has_reg-insert : (q : Reg) → is_b0 q ≡ false → (set : List Reg) (r : Reg) → has_reg q (insert set r) ≡ (has_reg q set || same_reg q r)
-has_reg-insert q named set r =
-    elim (cases_Bool (is_b0 r || has_reg r set)) [
-      | inl is ↦
-          ap (λ t. has_reg q (cond t set (set ++ r ∷ []))) is
-          ∙ implied (has_reg q set) (same_reg q r)
-          (λ same.
-          elim (or_cases (is_b0 r) (has_reg r set) is) [
-            | inl b0 ↦ absurd (true≢false (sym b0 ∙ (sym (same_reg-at q r same (b_reg 0)) ∙ named)))
-            | inr prefix ↦ has_reg-at q r same set ∙ prefix
-          ])
-      | inr is ↦
-          ap (λ t. has_reg q (cond t set (set ++ r ∷ []))) is
-          ∙ (has_reg-append q set (r ∷ [])
-          ∙ ap (λ t. has_reg q set || t) (or-false (same_reg q r)))
-    ]
-
--- save B0, what was in the set and what joined it stand there
-pub has_reg-insert_all : (q : Reg) → is_b0 q ≡ false → (set rs : List Reg) → has_reg q (insert_all set rs) ≡ (has_reg q set || has_reg q rs)
-has_reg-insert_all q named set [] = sym (or-false (has_reg q set))
-has_reg-insert_all q named set (r ∷ rs) =
-    has_reg-insert_all q named (insert set r) rs
-    ∙ (ap (λ t. t || has_reg q rs) (has_reg-insert q named set r)
-    ∙ or_assoc (has_reg q set) (same_reg q r) (has_reg q rs))
-
--- save B0, an instruction reads its operands and what it stores
-pub has_reg-reads : (q : Reg) → is_b0 q ≡ false → (n : Instr) → has_reg q (reads_of n) ≡ (has_reg q (operands_of n) || has_reg q (stored_registers (memory_of n) n))
-has_reg-reads q named n =
-    has_reg-insert_all q named [] (operands_of n ++ stored_registers (memory_of n) n)
-    ∙ has_reg-append q (operands_of n) (stored_registers (memory_of n) n)
+-- WHICH STAND IN TWO SETS
 
 -- of two sets that share nothing, no register of one stands in the other
 pub share-none : (rs ss : List Reg) → share rs ss ≡ false → (q : Reg) → has_reg q rs ≡ true → has_reg q ss ≡ false

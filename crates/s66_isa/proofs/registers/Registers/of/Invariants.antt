@@ -1,0 +1,7 @@
+use Rattle.std.proofs.Common.{◌≡◌, take}
+use Rattle.s66_isa.specs.Table.{Reg, has_reg}
+use Rattle.s66_isa.specs.Registers.{registers_in}
+use Rattle.s66_isa.proofs.registers.Registers.of.Given as goal
+
+abbrev pub invariant-loop-register : goal.invariant-loop-register
+invariant-loop-register l = (r : Reg) → has_reg r (registers_in l.set) ≡ has_reg r (take l.register-index l.registers)

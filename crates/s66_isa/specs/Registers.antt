@@ -1,0 +1,21 @@
+-- A set of registers in one word: a register is there where the bit of its index is set.
+use Rattle.std.specs.Prelude.{ℕ, ◌+◌, ◌*◌, ◌/◌, ◌^◌, ◌==◌, Bool, List, ◌++◌, map}
+use Rattle.std.specs.List.{filter}
+use Rattle.std.specs.Int.Bits.{bit_and}
+use Rattle.s66_isa.specs.Lists.{rising}
+use Rattle.s66_isa.specs.Table.{Reg, bank_number, a_reg, b_reg, x_reg}
+use Rattle.s66_isa.specs.declared.registers.Registers.{Registers}
+
+-- 0 to 23: A0 to A7, then B0 to B7, then X0 to X7
+abbrev pub index_of : Reg → ℕ
+index_of r = 8 * bank_number r.bank + r.digit
+
+abbrev pub all_registers : List Reg
+all_registers = map a_reg (rising 8 0) ++ map b_reg (rising 8 0) ++ map x_reg (rising 8 0)
+
+abbrev pub is_there : ℕ → Reg → Bool
+is_there bits r = bit_and (bits / 2 ^ index_of r) 1 == 1
+
+-- by rising index
+unfoldable pub registers_in : Registers → List Reg
+registers_in set = filter (is_there set.bits) all_registers

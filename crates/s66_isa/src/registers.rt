@@ -1,0 +1,59 @@
+ghost use Rattle.std.specs.Prelude.{◌<◌, ◌^◌};
+
+use crate::reg::Reg;
+
+/// A set of registers in one word.
+#[derive(Clone, Copy, Debug, PartialEq, Eq)]
+pub struct Registers {
+    /// The bit of a register's index tells whether the register is there.
+    bits: u32,
+    ghost few: { bits < 2 ^ 24 },
+}
+
+impl Registers {
+    ghost use Rattle.std.specs.Prelude.{◌≡◌, ◌||◌, []};
+    ghost use Rattle.s66_isa.specs.Lists.{some_of};
+    ghost use Rattle.s66_isa.specs.Table.{Reg, same_reg, has_reg};
+    ghost use Rattle.s66_isa.specs.Registers.{registers_in};
+
+    /// No register.
+    pub fn empty() -> Registers
+        ensures { registers_in result ≡ [] }
+    {
+        Registers { bits: 0 }
+    }
+
+    /// These registers; the time is that of their number.
+    pub fn of(registers: &[Reg]) -> Registers
+        ensures { (r : Reg) → has_reg r (registers_in result) ≡ has_reg r registers.now }
+    {
+        let mut set = Registers::empty();
+        for register in registers {
+            set = set.with(*register);
+        }
+        set
+    }
+
+    /// The registers of this set, and one more.
+    pub fn with(self, register: Reg) -> Registers
+        ensures { (r : Reg) → has_reg r (registers_in result) ≡ (same_reg r register || has_reg r (registers_in self)) }
+    {
+        Registers {
+            bits: self.bits | (1 << register.index()),
+        }
+    }
+
+    /// Whether a register is there.
+    pub fn has(&self, register: Reg) -> bool
+        ensures { result ≡ has_reg register (registers_in self.now) }
+    {
+        (self.bits >> register.index()) & 1 == 1
+    }
+
+    /// Whether some register is in both sets.
+    pub fn meets(&self, other: &Registers) -> bool
+        ensures { result ≡ some_of (λ r. has_reg r (registers_in other.now)) (registers_in self.now) }
+    {
+        self.bits & other.bits != 0
+    }
+}
