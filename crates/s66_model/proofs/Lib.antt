@@ -21,4 +21,3 @@ pub mod AnswerBound
 pub mod OnceCovered
 pub mod LedgerSteps
 pub mod LedgerRuns
-pub mod WorkedAnswers

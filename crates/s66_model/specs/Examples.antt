@@ -18,7 +18,7 @@ use Rattle.s66_model.specs.Piece.{Tip, Carries, Frontier}
 use Rattle.s66_model.specs.Ledger.{State, Open, Out, Cut, Closed, Node, Ledger, Event, Grant, Claim, Graft, Offer, Reply, Granted, Claimed, Taken, NotOut, NotLower, Step, Run}
 
 -- an instruction by its octal code and its digits, 0 where its form has none
-unfoldable pub instr : ℕ → ℕ → ℕ → ℕ → Instr
+abbrev pub instr : ℕ → ℕ → ℕ → ℕ → Instr
 instr code i j k = record { op = record { code = code }; i = i; j = j; k = k }
 
 abbrev pub standard_problem : List Instr → Problem
@@ -61,159 +61,159 @@ table_row kind parcels reads writes hold memory =
 -- THE BLOCKS
 
 -- BX1 X2+X3
-unfoldable pub one_boolean : List Instr
+abbrev pub one_boolean : List Instr
 one_boolean = instr 0o12 1 2 3 ∷ []
 
 -- BX1 X2 / BX3 X4
-unfoldable pub two_booleans : List Instr
+abbrev pub two_booleans : List Instr
 two_booleans = instr 0o10 1 2 0 ∷ instr 0o10 3 4 0 ∷ []
 
 -- SA1 A1+B1 / BX6 X1 / BX7 X2
-unfoldable pub one_load : List Instr
+abbrev pub one_load : List Instr
 one_load = instr 0o54 1 1 1 ∷ instr 0o10 6 1 0 ∷ instr 0o10 7 2 0 ∷ []
 
 -- SA6 A6+B1
-unfoldable pub one_store : List Instr
+abbrev pub one_store : List Instr
 one_store = instr 0o54 6 6 1 ∷ []
 
 -- UX1 B2,X1: two results
-unfoldable pub one_unpack : List Instr
+abbrev pub one_unpack : List Instr
 one_unpack = instr 0o26 1 2 1 ∷ []
 
 -- FX1 X2*X3 / FX4 X5*X6 / FX0 X7*X7
-unfoldable pub three_multiplies : List Instr
+abbrev pub three_multiplies : List Instr
 three_multiplies = instr 0o40 1 2 3 ∷ instr 0o40 4 5 6 ∷ instr 0o40 0 7 7 ∷ []
 
 -- FX1 X2*X3 / BX1 X4: both write X1
-unfoldable pub first_order : List Instr
+abbrev pub first_order : List Instr
 first_order = instr 0o40 1 2 3 ∷ instr 0o10 1 4 0 ∷ []
 
 -- FX1 X2/X3 / BX4 X1*X5 / SX5 B1: the second waits for X1, so that the third holds X5, which the second reads
-unfoldable pub third_order : List Instr
+abbrev pub third_order : List Instr
 third_order = instr 0o44 1 2 3 ∷ instr 0o11 4 1 5 ∷ instr 0o76 5 1 0 ∷ []
 
 -- FX1 X2/X3 / BX4 X1*X5 / FX5 X6+X7: the same of the Add unit
-unfoldable pub held_result : List Instr
+abbrev pub held_result : List Instr
 held_result = instr 0o44 1 2 3 ∷ instr 0o11 4 1 5 ∷ instr 0o30 5 6 7 ∷ []
 
 -- BX7 X2 / LX3 1 / IX4 X5+X6 / SA1 A1+100: the last takes two parcels
-unfoldable pub packing_gap : List Instr
+abbrev pub packing_gap : List Instr
 packing_gap = instr 0o10 7 2 0 ∷ instr 0o20 3 0 0 ∷ instr 0o36 4 5 6 ∷ instr 0o50 1 1 0 ∷ []
 
 -- BX7 X2 / LX3 1 / IX4 X5+X6 / SA1 A1+100 / BX5 X5 / SA2 A2+100
-unfoldable pub two_gaps : List Instr
+abbrev pub two_gaps : List Instr
 two_gaps = instr 0o10 7 2 0 ∷ instr 0o20 3 0 0 ∷ instr 0o36 4 5 6 ∷ instr 0o50 1 1 0 ∷ instr 0o10 5 5 0 ∷ instr 0o50 2 2 0 ∷ []
 
 -- SA6 A6+B1 / SA1 A2+B2: no register stands in both
-unfoldable pub store_then_load : List Instr
+abbrev pub store_then_load : List Instr
 store_then_load = instr 0o54 6 6 1 ∷ instr 0o54 1 2 2 ∷ []
 
 -- SA1 A2+B2 / SA6 A6+B1
-unfoldable pub load_then_store : List Instr
+abbrev pub load_then_store : List Instr
 load_then_store = instr 0o54 1 2 2 ∷ instr 0o54 6 6 1 ∷ []
 
 -- SA6 A6+B1 / SA7 A7+B2
-unfoldable pub two_stores : List Instr
+abbrev pub two_stores : List Instr
 two_stores = instr 0o54 6 6 1 ∷ instr 0o54 7 7 2 ∷ []
 
 -- NX1 B0,X2 / SB0 5 / SX3 B0
-unfoldable pub zero_register : List Instr
+abbrev pub zero_register : List Instr
 zero_register = instr 0o24 1 0 2 ∷ instr 0o61 0 0 0 ∷ instr 0o76 3 0 0 ∷ []
 
 -- SA1 A1+B1 / SA1 A1+B1
-unfoldable pub load_twice : List Instr
+abbrev pub load_twice : List Instr
 load_twice = instr 0o54 1 1 1 ∷ instr 0o54 1 1 1 ∷ []
 
 -- UX1 B1,X1 / LX1 B1: the second reads both results of the first, and writes one of them
-unfoldable pub unpack_then_shift : List Instr
+abbrev pub unpack_then_shift : List Instr
 unpack_then_shift = instr 0o26 1 1 1 ∷ instr 0o22 1 1 1 ∷ []
 
 -- CX1 X2 / FX3 X4/X5: the Divide unit counts ones too
-unfoldable pub one_divide_unit : List Instr
+abbrev pub one_divide_unit : List Instr
 one_divide_unit = instr 0o47 1 0 2 ∷ instr 0o44 3 4 5 ∷ []
 
 -- BX1 X2 / FX1 X3*X4 / BX7 X1 / IX1 X5+X6: the third reads the X1 of the second, and the fourth writes X1 behind it
-unfoldable pub latest_writer : List Instr
+abbrev pub latest_writer : List Instr
 latest_writer = instr 0o10 1 2 0 ∷ instr 0o40 1 3 4 ∷ instr 0o10 7 1 0 ∷ instr 0o36 1 5 6 ∷ []
 
 -- FX6 X1*X2 / SA6 A6+B1 / SA2 A2+B2: the store waits for X6, and the load for the store
-unfoldable pub late_store : List Instr
+abbrev pub late_store : List Instr
 late_store = instr 0o40 6 1 2 ∷ instr 0o54 6 6 1 ∷ instr 0o54 2 2 2 ∷ []
 
 -- UX3 B1,X4 / SA2 A2+B1 / SA6 A6+B2: the load waits for B1, and the store for the load
-unfoldable pub late_load : List Instr
+abbrev pub late_load : List Instr
 late_load = instr 0o26 3 1 4 ∷ instr 0o54 2 2 1 ∷ instr 0o54 6 6 2 ∷ []
 
 -- UX3 B1,X4 / SA2 A2+B1 / SA5 A5+B2: the first load waits for B1, and the second passes it
-unfoldable pub two_loads : List Instr
+abbrev pub two_loads : List Instr
 two_loads = instr 0o26 3 1 4 ∷ instr 0o54 2 2 1 ∷ instr 0o54 5 5 2 ∷ []
 
 -- FX1 X2/X3 / SA5 X1+B1 / SA4 A4+B2 / SA6 A6+B3: of the two loads the first starts last, and the store waits for both
-unfoldable pub loads_then_store : List Instr
+abbrev pub loads_then_store : List Instr
 loads_then_store = instr 0o44 1 2 3 ∷ instr 0o53 5 1 1 ∷ instr 0o54 4 4 2 ∷ instr 0o54 6 6 3 ∷ []
 
 -- FX1 X2/X3 / BX4 X1*X5 / IX6 X5+X7 / SX5 B1: of the two that read X5 the first starts last
-unfoldable pub two_readers : List Instr
+abbrev pub two_readers : List Instr
 two_readers = instr 0o44 1 2 3 ∷ instr 0o11 4 1 5 ∷ instr 0o36 6 5 7 ∷ instr 0o76 5 1 0 ∷ []
 
 -- FX2 X3/X4 / BX6 X1*X2 / SA1 A1+B1: the load holds X1, which the second reads, and not its unit
-unfoldable pub held_load : List Instr
+abbrev pub held_load : List Instr
 held_load = instr 0o44 2 3 4 ∷ instr 0o11 6 1 2 ∷ instr 0o54 1 1 1 ∷ []
 
 -- FX3 X4/X5 / BX6 X3*X1 / NX1 B1,X2: of the two results of the third X1 is held
-unfoldable pub held_x : List Instr
+abbrev pub held_x : List Instr
 held_x = instr 0o44 3 4 5 ∷ instr 0o11 6 3 1 ∷ instr 0o24 1 1 2 ∷ []
 
 -- FX3 X4/X5 / SX6 X3+B1 / NX1 B1,X2: of the two results of the third B1 is held
-unfoldable pub held_b : List Instr
+abbrev pub held_b : List Instr
 held_b = instr 0o44 3 4 5 ∷ instr 0o73 6 3 1 ∷ instr 0o24 1 1 2 ∷ []
 
 -- SA1 A1+B1 / BX6 X2 / BX7 X3: the load takes as long as both others take their unit
-unfoldable pub load_and_booleans : List Instr
+abbrev pub load_and_booleans : List Instr
 load_and_booleans = instr 0o54 1 1 1 ∷ instr 0o10 6 2 0 ∷ instr 0o10 7 3 0 ∷ []
 
 -- BX1 X2 / BX3 X4 / SX5 A1+5 / SX6 A2+5: four parcels and a tail of 4 take as long as the two Booleans
-unfoldable pub booleans_and_sets : List Instr
+abbrev pub booleans_and_sets : List Instr
 booleans_and_sets = instr 0o10 1 2 0 ∷ instr 0o10 3 4 0 ∷ instr 0o70 5 1 0 ∷ instr 0o70 6 2 0 ∷ []
 
 -- LX5 1 / LX6 1 / BX1 X2 / BX3 X4
-unfoldable pub shifts_and_booleans : List Instr
+abbrev pub shifts_and_booleans : List Instr
 shifts_and_booleans = instr 0o20 5 0 0 ∷ instr 0o20 6 0 0 ∷ instr 0o10 1 2 0 ∷ instr 0o10 3 4 0 ∷ []
 
 -- BX1 X2 / SX3 A1+100: the second takes two parcels
-unfoldable pub boolean_and_set : List Instr
+abbrev pub boolean_and_set : List Instr
 boolean_and_set = instr 0o10 1 2 0 ∷ instr 0o70 3 1 0 ∷ []
 
 -- FX1 X2/X3 / BX4 X5
-unfoldable pub divide_and_boolean : List Instr
+abbrev pub divide_and_boolean : List Instr
 divide_and_boolean = instr 0o44 1 2 3 ∷ instr 0o10 4 5 0 ∷ []
 
 -- FX1 X2*X3 / BX0 X4 / FX5 X6*X7
-unfoldable pub boolean_between : List Instr
+abbrev pub boolean_between : List Instr
 boolean_between = instr 0o40 1 2 3 ∷ instr 0o10 0 4 0 ∷ instr 0o40 5 6 7 ∷ []
 
 -- BX1 X2 / FX2 X3*X4: the second writes X2, which the first reads
-unfoldable pub write_behind : List Instr
+abbrev pub write_behind : List Instr
 write_behind = instr 0o10 1 2 0 ∷ instr 0o40 2 3 4 ∷ []
 
 -- SA1 A1+B1 / SB2 A1 / BX6 X1: the second reads the A register of the load, and the third its X register
-unfoldable pub load_of_both : List Instr
+abbrev pub load_of_both : List Instr
 load_of_both = instr 0o54 1 1 1 ∷ instr 0o64 2 1 0 ∷ instr 0o10 6 1 0 ∷ []
 
 -- SA6 A6+B1 / SA1 A6+B2: the load reads the A register of the store
-unfoldable pub store_and_its_address : List Instr
+abbrev pub store_and_its_address : List Instr
 store_and_its_address = instr 0o54 6 6 1 ∷ instr 0o54 1 6 2 ∷ []
 
 -- SA1 A1+B1 / SA2 A2+B1 / BX7 X2 / BX6 X1
-unfoldable pub crossed_chains : List Instr
+abbrev pub crossed_chains : List Instr
 crossed_chains = instr 0o54 1 1 1 ∷ instr 0o54 2 2 1 ∷ instr 0o10 7 2 0 ∷ instr 0o10 6 1 0 ∷ []
 
 -- SA1 A1+B1 / BX6 X1 / BX7 X1
-unfoldable pub forked_chain : List Instr
+abbrev pub forked_chain : List Instr
 forked_chain = instr 0o54 1 1 1 ∷ instr 0o10 6 1 0 ∷ instr 0o10 7 1 0 ∷ []
 
 -- SA1 A1+B1 / SA6 A6+B2 / SB3 A6: the tail of the load is as long as its links to the last and the tail of that
-unfoldable pub early_end : List Instr
+abbrev pub early_end : List Instr
 early_end = instr 0o54 1 1 1 ∷ instr 0o54 6 6 2 ∷ instr 0o64 3 6 0 ∷ []
 
 -- WHAT LEAVES A PREFIX HAS

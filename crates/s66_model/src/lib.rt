@@ -1,17 +1,33 @@
 //! What a reader must believe: packing, dependence, legal orders, their meaning and their timing; lower bounds, trees,
-//! answers and the ledger of a search; and the laws that show what these definitions say. There is no code that schedules here.
-#![tactic(auto)]
+//! answers and the ledger of a search. Of each a law is a function that does nothing, whose contract says it, and examples
+//! are such functions too: each clause is one, under the standard profile where no other is named. Numbers count from 1,
+//! parcels from 0; times are minor cycles of 100 ns. There is no code that schedules here.
+#![tactic(auto, unfolding(s66_isa::specs::Table::row, crate::specs::Timing::issue_of, crate::specs::Timing::start_of, crate::specs::Timing::point, crate::specs::Dependence::conflict))]
 
-mod bound_laws;
-mod laws;
-mod ledger_laws;
-mod meaning_laws;
-mod rows;
-mod search_rows;
+mod answer;
+mod best_and_bound;
+mod coverage;
+mod dependence;
+mod leaves;
+mod ledger;
+mod legal_order;
+mod meaning;
+mod packing;
+mod piece;
+mod table;
+mod timing;
+mod tree;
 
-pub use bound_laws::{answer_law, floor_law, leaf_law, tree_law};
-pub use laws::{beginning_law, issue_law, order_law, packing_law, row_law, source_law, total_law};
-pub use ledger_laws::{coverage_law, ledger_bound_law, opening_law, step_law};
-pub use meaning_laws::{meaning_law, needed_law};
-pub use rows::{dependence_examples, meaning_examples, order_examples, packing_examples, table_examples, timing_examples};
-pub use search_rows::{answer_examples, floor_examples, ledger_examples};
+pub use answer::{answer_examples, answer_law};
+pub use best_and_bound::bound_examples;
+pub use coverage::{coverage_examples, coverage_law, ledger_bound_law, opening_law, step_law};
+pub use dependence::dependence_examples;
+pub use leaves::{floor_examples, floor_law, leaf_examples, leaf_law};
+pub use ledger::{claim_examples, graft_examples, grant_examples, offer_examples, run_examples};
+pub use legal_order::{beginning_law, order_examples, order_law, source_law};
+pub use meaning::{meaning_examples, meaning_law, needed_law};
+pub use packing::{packing_examples, packing_law};
+pub use piece::piece_examples;
+pub use table::{row_law, table_examples};
+pub use timing::{issue_law, timing_examples, total_law};
+pub use tree::{tree_examples, tree_law};

@@ -1,5 +1,0 @@
-use Rattle.s66_model.proofs.Beginnings.{source-legal}
-use Rattle.s66_model.proofs.laws.source_law.Goals as goal
-
-pub returns : goal.returns
-returns c = source-legal

@@ -1,8 +1,0 @@
-use Rattle.s66_model.proofs.LedgerRuns.{history-covers, run-falls}
-use Rattle.s66_model.proofs.ledger_laws.coverage_law.Goals as goal
-
-pub returns-clause-covers : goal.returns-clause-covers
-returns-clause-covers c = history-covers
-
-pub returns-clause-never_rises : goal.returns-clause-never_rises
-returns-clause-never_rises c = run-falls

@@ -1,5 +1,0 @@
-use Rattle.s66_model.proofs.MeaningOfOrders.{legal-meaning}
-use Rattle.s66_model.proofs.meaning_laws.meaning_law.Goals as goal
-
-pub returns : goal.returns
-returns c = legal-meaning

@@ -1,0 +1,14 @@
+//! Bests and bounds.
+
+ghost use Rattle.s66_model.specs.BestAndBound.{IsBound, IsBest};
+ghost use Rattle.s66_model.specs.Examples.{load_problem};
+
+/// What is a bound of a block, and what is its best time.
+pub fn bound_examples()
+    ensures bound_12 { IsBound load_problem 12 }
+    ensures bound_11 { IsBound load_problem 11 }
+    ensures no_bound_13 { ¬ IsBound load_problem 13 }
+    ensures best_12 { IsBest load_problem 12 }
+    ensures no_best_13 { ¬ IsBest load_problem 13 }
+    ensures no_best_11 { ¬ IsBest load_problem 11 }
+{}

@@ -1,0 +1,41 @@
+//! Which orders of a block are legal.
+
+ghost use Rattle.std.specs.Prelude.{ℕ, List, ◌≡◌, ◌↔◌, [], ◌∷◌};
+ghost use Rattle.s66_isa.specs.declared.instr.Instr.{Instr};
+ghost use Rattle.s66_isa.specs.Table.{numbers};
+ghost use Rattle.s66_model.specs.LegalOrder.{IsLegal, IsOrder, IsFront, IsBeginning, ready, remaining, sum_remaining};
+ghost use Rattle.s66_model.specs.Examples.{one_load};
+
+/// A permutation that keeps each dependent pair in order is a list of numbers each of which is ready when it comes.
+pub fn order_law()
+    ensures { (block : List Instr) (order : List ℕ) → IsLegal block order ↔ IsOrder block order }
+{}
+
+/// A list of numbers each of which is ready when it comes is the front of a legal order, and each front is one.
+pub fn beginning_law()
+    ensures { (block : List Instr) (prefix : List ℕ) → IsFront block prefix ↔ IsBeginning block prefix }
+{}
+
+/// The source order of every block is legal.
+pub fn source_law()
+    ensures { (block : List Instr) → IsLegal block (numbers block) }
+{}
+
+/// Which orders of a block are legal, and what is ready after a beginning.
+pub fn order_examples()
+    ensures source_order { IsLegal one_load (1 ∷ 2 ∷ 3 ∷ []) }
+    ensures other_first { IsLegal one_load (3 ∷ 1 ∷ 2 ∷ []) }
+    ensures other_between { IsLegal one_load (1 ∷ 3 ∷ 2 ∷ []) }
+    ensures before_its_need { ¬ IsLegal one_load (2 ∷ 1 ∷ 3 ∷ []) }
+    ensures one_missing { ¬ IsLegal one_load (1 ∷ 3 ∷ []) }
+    ensures one_replaced { ¬ IsLegal one_load (1 ∷ 3 ∷ 4 ∷ []) }
+    ensures one_twice { ¬ IsLegal one_load (1 ∷ 3 ∷ 3 ∷ []) }
+    ensures again_at_the_end { ¬ IsLegal one_load (1 ∷ 2 ∷ 3 ∷ 1 ∷ []) }
+    ensures no_such_number { ¬ IsLegal one_load (1 ∷ 2 ∷ 3 ∷ 4 ∷ []) }
+    ensures ready_at_first { ready one_load [] ≡ 1 ∷ 3 ∷ [] }
+    ensures ready_after_1 { ready one_load (1 ∷ []) ≡ 2 ∷ 3 ∷ [] }
+    ensures ready_after_3 { ready one_load (3 ∷ []) ≡ 1 ∷ [] }
+    ensures ready_after_all { ready one_load (1 ∷ 3 ∷ 2 ∷ []) ≡ [] }
+    ensures remaining_after_1 { remaining one_load (1 ∷ []) ≡ 2 ∷ 3 ∷ [] }
+    ensures sum_remaining_after_1 { sum_remaining one_load (1 ∷ []) (λ n. n) ≡ 5 }
+{}
