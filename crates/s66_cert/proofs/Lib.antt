@@ -1,3 +1,2 @@
 pub mod Instructions
-pub mod Documents
 pub mod Texts

@@ -6,6 +6,7 @@ use Rattle.s66_isa.specs.declared.profile.Profile.{Profile}
 use Rattle.s66_model.specs.Leaves.{Leaf, Whole, Chain, Load, Parcels}
 use Rattle.s66_model.specs.Tree.{Tree, Alone, Parted, Kids, NoMore, Unsplit, Split, Knot, AtTip, AtSplit, flat, splits}
 use Rattle.s66_isa.specs.Lists.{every}
+use Rattle.s66_cert.specs.declared.limits.TheConstants.{PROFILE_LENGTH, PROFILE_LIMIT, TIME_LIMIT, SPLIT_LIMIT}
 use Rattle.s66_line.specs.Block.{spelling}
 use Rattle.s66_line.specs.Fields.{is_blank, upper}
 use Rattle.s66_line.specs.Operand.{instr_of}
@@ -32,28 +33,28 @@ abbrev pub AreIn : ℕ → ℕ → List ℕ → Type 0
 AreIn low high [] = Unit {0}
 AreIn low high (n ∷ ns) = (low ≤ n) × (n ≤ high) × AreIn low high ns
 
--- 1 to 64 numbers, each 1 to 64
-abbrev pub AreNumbers : List ℕ → Type 0
-AreNumbers ns = (1 ≤ length ns) × (length ns ≤ 64) × AreIn 1 64 ns
+-- numbers of instructions of a block of at most limit: one at least, and no more than that
+abbrev pub AreNumbers : ℕ → List ℕ → Type 0
+AreNumbers limit ns = (1 ≤ length ns) × (length ns ≤ limit) × AreIn 1 limit ns
 
-abbrev pub IsLeafLine : Leaf → Type 0
-IsLeafLine Whole = Unit {0}
-IsLeafLine (Chain numbers) = AreNumbers numbers
-IsLeafLine (Load kind) = Unit {0}
-IsLeafLine Parcels = Unit {0}
+abbrev pub IsLeafLine : ℕ → Leaf → Type 0
+IsLeafLine limit Whole = Unit {0}
+IsLeafLine limit (Chain numbers) = AreNumbers limit numbers
+IsLeafLine limit (Load kind) = Unit {0}
+IsLeafLine limit Parcels = Unit {0}
 
 -- a tree for each number of a split
-abbrev pub KidsFit : List ℕ → Kids Leaf → Type 0
-KidsFit [] NoMore = Unit {0}
-KidsFit (n ∷ ns) (Unsplit leaf kids) = IsLeafLine leaf × KidsFit ns kids
-KidsFit (n ∷ ns) (Split numbers sub kids) = AreNumbers numbers × KidsFit numbers sub × KidsFit ns kids
-KidsFit [] (Unsplit leaf kids) = ⊥
-KidsFit [] (Split numbers sub kids) = ⊥
-KidsFit (n ∷ ns) NoMore = ⊥
+abbrev pub KidsFit : ℕ → List ℕ → Kids Leaf → Type 0
+KidsFit limit [] NoMore = Unit {0}
+KidsFit limit (n ∷ ns) (Unsplit leaf kids) = IsLeafLine limit leaf × KidsFit limit ns kids
+KidsFit limit (n ∷ ns) (Split numbers sub kids) = AreNumbers limit numbers × KidsFit limit numbers sub × KidsFit limit ns kids
+KidsFit limit [] (Unsplit leaf kids) = ⊥
+KidsFit limit [] (Split numbers sub kids) = ⊥
+KidsFit limit (n ∷ ns) NoMore = ⊥
 
-abbrev pub TreeFits : Tree Leaf → Type 0
-TreeFits (Alone leaf) = IsLeafLine leaf
-TreeFits (Parted numbers kids) = AreNumbers numbers × KidsFit numbers kids
+abbrev pub TreeFits : ℕ → Tree Leaf → Type 0
+TreeFits limit (Alone leaf) = IsLeafLine limit leaf
+TreeFits limit (Parted numbers kids) = AreNumbers limit numbers × KidsFit limit numbers kids
 
 -- INSTRUCTIONS
 
@@ -74,14 +75,15 @@ abbrev pub AreInstructions : List (List ℕ) → Type 0
 AreInstructions [] = Unit {0}
 AreInstructions (text ∷ texts) = IsInstruction text × (length text ≤ 199) × AreInstructions texts
 
-pub record IsDocument (d : Document) : Type 0 where
-  pub profile : (length d.profile ≡ 17) × AreIn 1 100 d.profile
-  pub block : (1 ≤ length d.block) × (length d.block ≤ 64) × AreInstructions d.block
-  pub time : d.time ≤ 100000
-  pub bound : d.bound ≤ 100000
-  pub numbers : AreNumbers d.numbers
-  pub tree : TreeFits d.tree
-  pub splits : splits d.tree ≤ 1000000
+-- a document of a block of at most limit instructions
+pub record IsDocument (limit : ℕ) (d : Document) : Type 0 where
+  pub profile : (length d.profile ≡ PROFILE_LENGTH) × AreIn 1 PROFILE_LIMIT d.profile
+  pub block : (1 ≤ length d.block) × (length d.block ≤ limit) × AreInstructions d.block
+  pub time : d.time ≤ TIME_LIMIT
+  pub bound : d.bound ≤ TIME_LIMIT
+  pub numbers : AreNumbers limit d.numbers
+  pub tree : TreeFits limit d.tree
+  pub splits : splits d.tree ≤ SPLIT_LIMIT
 
 -- THE TEXT
 
@@ -124,10 +126,10 @@ abbrev pub documents_text : List Document → List ℕ
 documents_text [] = []
 documents_text (d ∷ ds) = document_text d ++ documents_text ds
 
-abbrev pub AreDocuments : List Document → Type 0
-AreDocuments [] = Unit {0}
-AreDocuments (d ∷ ds) = IsDocument d × AreDocuments ds
+abbrev pub AreDocuments : ℕ → List Document → Type 0
+AreDocuments limit [] = Unit {0}
+AreDocuments limit (d ∷ ds) = IsDocument limit d × AreDocuments limit ds
 
 -- what a text is read as
-abbrev pub IsText : List ℕ → List Document → Type 0
-IsText text ds = AreDocuments ds × (text ≡ documents_text ds)
+abbrev pub IsText : ℕ → List ℕ → List Document → Type 0
+IsText limit text ds = AreDocuments limit ds × (text ≡ documents_text ds)

@@ -1,6 +1,12 @@
-//! Certificates: what a document claims of a block, and its text.
+//! Certificates: what a document claims of a block, and its text. Examples are functions that do nothing: each clause is one.
 #![tactic(auto)]
 
-mod examples;
+mod document;
+mod instruction;
+mod limits;
+mod text;
 
-pub use examples::document_examples;
+pub use document::document_examples;
+pub use instruction::instruction_examples;
+pub use limits::{PROFILE_LENGTH, PROFILE_LIMIT, SPLIT_LIMIT, TIME_LIMIT};
+pub use text::text_examples;

@@ -1,10 +1,12 @@
 -- Worked blocks of a few instructions, their COMPASS lines above each, and words that tell what an order of one does under the standard profile, what leaves a prefix has, and what trees and ledgers there are of them.
 use Rattle.std.specs.Prelude.{ℕ, Bool, zero, suc, true, false, ◌+◌, ◌≢◌, List, [], ◌∷◌, map, reverse, Some, None}
+use Rattle.std.proofs.Common.{lit≤}
 use Rattle.s66_isa.specs.declared.instr.Instr.{Instr}
 use Rattle.s66_isa.specs.declared.instr.Kind.{Kind}
 use Rattle.s66_isa.specs.declared.instr.Kind.TheVariants.{Boolean, Multiply}
 use Rattle.s66_isa.specs.declared.instr.Memory.{Memory}
 use Rattle.s66_isa.specs.declared.reg.Reg.{Reg}
+use Rattle.s66_isa.specs.declared.profile.Profile.{Profile}
 use Rattle.s66_isa.specs.Lists.{greatest}
 use Rattle.s66_isa.specs.Table.{Row, Write, standard, a_reg, b_reg, all_kinds, reads_of, results_of, memory_of, memory_pair}
 use Rattle.s66_model.specs.Packing.{parcels_from, fillers, len_at}
@@ -23,6 +25,34 @@ instr code i j k = record { op = record { code = code }; i = i; j = j; k = k }
 
 abbrev pub standard_problem : List Instr → Problem
 standard_problem block = record { block = block; profile = standard }
+
+-- A PROFILE
+
+-- no two entries alike, so that none can stand for another; what is loaded comes before the unit is done
+abbrev pub uneven_profile : Profile
+uneven_profile = record {
+  boolean = 11;
+  shift = 12;
+  normalise = 13;
+  add = 14;
+  longadd = 15;
+  multiply = 16;
+  divide = 17;
+  population = 18;
+  increment = 20;
+  load = 19;
+  units_boolean = 1;
+  units_shift = 2;
+  units_add = 3;
+  units_longadd = 4;
+  units_multiply = 5;
+  units_divide = 6;
+  units_increment = 7;
+  least = (lit≤ tt, lit≤ tt, lit≤ tt, lit≤ tt, lit≤ tt, lit≤ tt, lit≤ tt, lit≤ tt, lit≤ tt, lit≤ tt);
+  greatest = (lit≤ tt, lit≤ tt, lit≤ tt, lit≤ tt, lit≤ tt, lit≤ tt, lit≤ tt, lit≤ tt, lit≤ tt, lit≤ tt);
+  units = (lit≤ tt, lit≤ tt, lit≤ tt, lit≤ tt, lit≤ tt, lit≤ tt, lit≤ tt);
+  few = (lit≤ tt, lit≤ tt, lit≤ tt, lit≤ tt, lit≤ tt, lit≤ tt, lit≤ tt);
+}
 
 -- WHAT AN ORDER DOES, one item an instruction, in the order of issue
 

@@ -28,6 +28,6 @@ pub use legal_order::{beginning_law, order_examples, order_law, source_law};
 pub use meaning::{meaning_examples, meaning_law, needed_law};
 pub use packing::{packing_examples, packing_law};
 pub use piece::piece_examples;
-pub use table::{row_law, table_examples};
+pub use table::{profile_examples, row_law, table_examples};
 pub use timing::{issue_law, timing_examples, total_law};
 pub use tree::{tree_examples, tree_law};

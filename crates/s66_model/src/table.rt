@@ -1,15 +1,14 @@
 //! What timing sees of an instruction, as the table has it.
 
-ghost use Rattle.std.specs.Prelude.{map, ◌≡◌, [], ◌∷◌, None};
-ghost use Rattle.s66_isa.specs.declared.instr.Kind.TheVariants.{Boolean, Shift, Multiply, Divide};
+ghost use Rattle.std.specs.Prelude.{[], ◌∷◌, ◌≡◌, map, replicate};
+ghost use Rattle.s66_isa.specs.declared.instr.Instr.{Instr};
+ghost use Rattle.s66_isa.specs.declared.instr.Kind.{Kind};
 ghost use Rattle.s66_isa.specs.declared.instr.Memory.{Memory};
 ghost use Rattle.s66_isa.specs.declared.profile.Profile.{Profile};
-ghost use Rattle.s66_isa.specs.declared.instr.Instr.{Instr};
-ghost use Rattle.s66_isa.specs.Table.{row, register_latency, writes_of, standard, copies_of, all_kinds, a_reg, b_reg, x_reg};
-ghost use Rattle.s66_isa.specs.declared.instr.Kind.{Kind};
+ghost use Rattle.s66_isa.specs.Lists.{rising};
+ghost use Rattle.s66_isa.specs.Table.{row, register_latency, writes_of, hold_of, standard, copies_of, all_kinds, a_reg, b_reg, x_reg};
 ghost use Rattle.s66_model.specs.Timing.{IsInRange};
-ghost use Rattle.s66_model.specs.Leaves.{Load};
-ghost use Rattle.s66_model.specs.Examples.{instr, held_write, loaded_write, table_row};
+ghost use Rattle.s66_model.specs.Examples.{instr, uneven_profile, held_write, loaded_write, table_row};
 
 /// Of every instruction under every profile: 1 or 2 parcels, times of 1 to 100, and a unit that holds a result for its
 /// whole hold; and what timing sees of its results are those of the table.
@@ -82,4 +81,17 @@ pub fn table_examples()
     ensures code_77 { row standard (instr 0o77 1 2 3) ≡ table_row Kind.Increment 1 (b_reg 2 ∷ b_reg 3 ∷ []) (held_write (x_reg 1) 3 ∷ []) 3 Memory.None }
     ensures copies { map (copies_of standard) all_kinds ≡ 1 ∷ 1 ∷ 1 ∷ 1 ∷ 2 ∷ 1 ∷ 2 ∷ [] }
     ensures cx1_x2 { row standard (instr 0o47 1 0 2) ≡ table_row Kind.Divide 1 (x_reg 2 ∷ []) (held_write (x_reg 1) 8 ∷ []) 8 Memory.None }
+{}
+
+/// How long units work, when loads come and how many units there are, under a profile in which no two entries are alike.
+pub fn profile_examples()
+    ensures holds_of_10_to_17 { map (hold_of uneven_profile) (rising 8 0o10) ≡ replicate 8 11 }
+    ensures holds_of_20_to_27 { map (hold_of uneven_profile) (rising 8 0o20) ≡ 12 ∷ 12 ∷ 12 ∷ 12 ∷ 13 ∷ 13 ∷ 12 ∷ 12 ∷ [] }
+    ensures holds_of_30_to_37 { map (hold_of uneven_profile) (rising 8 0o30) ≡ 14 ∷ 14 ∷ 14 ∷ 14 ∷ 14 ∷ 14 ∷ 15 ∷ 15 ∷ [] }
+    ensures holds_of_40_to_45 { map (hold_of uneven_profile) (rising 6 0o40) ≡ 16 ∷ 16 ∷ 16 ∷ 12 ∷ 17 ∷ 17 ∷ [] }
+    ensures hold_of_47 { hold_of uneven_profile 0o47 ≡ 18 }
+    ensures holds_of_50_to_77 { map (hold_of uneven_profile) (rising 24 0o50) ≡ replicate 24 20 }
+    ensures load_before_the_unit_is_done { row uneven_profile (instr 0o54 1 1 1) ≡ table_row Kind.Increment 1 (a_reg 1 ∷ b_reg 1 ∷ []) (held_write (a_reg 1) 20 ∷ loaded_write (x_reg 1) 19 ∷ []) 20 Memory.Load }
+    ensures writes_of_a_load { writes_of uneven_profile (instr 0o54 1 1 1) ≡ (a_reg 1, 20) ∷ (x_reg 1, 19) ∷ [] }
+    ensures copies_of_each_kind { map (copies_of uneven_profile) all_kinds ≡ 1 ∷ 2 ∷ 3 ∷ 4 ∷ 5 ∷ 6 ∷ 7 ∷ [] }
 {}

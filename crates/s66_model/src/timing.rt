@@ -54,4 +54,6 @@ pub fn timing_examples()
     ensures unpack_then_shift_total { total_of (standard_problem examples.unpack_then_shift) (1 ∷ 2 ∷ []) ≡ 8 }
     ensures one_divide_unit_total_1_2 { total_of (standard_problem examples.one_divide_unit) (1 ∷ 2 ∷ []) ≡ 39 }
     ensures one_divide_unit_total_2_1 { total_of (standard_problem examples.one_divide_unit) (2 ∷ 1 ∷ []) ≡ 39 }
+    ensures uneven_total_1_2_3 { total_of (record { block = examples.one_load; profile = examples.uneven_profile }) (1 ∷ 2 ∷ 3 ∷ []) ≡ 43 }
+    ensures uneven_total_1_3_2 { total_of (record { block = examples.one_load; profile = examples.uneven_profile }) (1 ∷ 3 ∷ 2 ∷ []) ≡ 31 }
 {}
