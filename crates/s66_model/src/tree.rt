@@ -5,7 +5,7 @@ ghost use Rattle.s66_isa.specs.declared.instr.Kind.TheVariants.{Boolean, Multipl
 ghost use Rattle.s66_model.specs.Timing.{Problem, total_of};
 ghost use Rattle.s66_model.specs.LegalOrder.{IsLegal};
 ghost use Rattle.s66_model.specs.BestAndBound.{IsBound};
-ghost use Rattle.s66_model.specs.Leaves.{Leaf, value, Whole, Chain, Load, Parcels};
+ghost use Rattle.s66_model.specs.Leaves.{Leaf, leaf_values, Whole, Chain, Load, Parcels};
 ghost use Rattle.s66_model.specs.Tree.{Tree, Shows, Alone, Parted, NoMore, Unsplit, Split, splits, split_at, tree_values, AtTip, AtSplit, flat_kids, flat};
 ghost use Rattle.s66_model.specs.Examples.{load_problem, multiply_problem, both_orders, every_order, all_but_one, one_omitted, load_tree, load_orders, children, one_split, child_omitted};
 
@@ -48,6 +48,8 @@ pub fn tree_examples()
     ensures ten_splits { splits (every_order Whole) ≡ 10 }
     ensures no_splits { splits (Alone Whole) ≡ 0 }
     ensures prefixes_that_are_split { split_at [] load_tree ≡ [] ∷ (1 ∷ []) ∷ (1 ∷ 3 ∷ []) ∷ [] }
-    ensures values_of_whole_orders { tree_values (value load_problem) [] load_orders ≡ 16 ∷ 12 ∷ 13 ∷ [] }
-    ensures values_of_leaves { tree_values (value load_problem) [] load_tree ≡ 16 ∷ 12 ∷ 13 ∷ [] }
+    ensures values_of_whole_orders { tree_values (leaf_values load_problem) [] load_orders ≡ 16 ∷ 12 ∷ 13 ∷ [] }
+    ensures values_of_leaves { tree_values (leaf_values load_problem) [] load_tree ≡ 16 ∷ 12 ∷ 13 ∷ [] }
+    ensures prefixes_of_leaves { tree_values (λ prefix leaf. prefix) [] load_tree ≡ 1 ∷ 2 ∷ 1 ∷ 3 ∷ 2 ∷ 3 ∷ [] }
+    ensures leaves_without_values { tree_values (λ prefix leaf. []) [] load_tree ≡ [] }
 {}
