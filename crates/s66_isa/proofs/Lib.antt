@@ -1,3 +1,4 @@
+pub mod Lists
 pub mod SameRegister
 pub mod RegisterBits
 pub mod Writes

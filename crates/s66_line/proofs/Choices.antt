@@ -1,10 +1,11 @@
 -- The codes from which an operand chooses, by the form of its operation.
-use Rattle.std.proofs.Common.{◌≡◌, ◌≤◌, ◌<◌, ◌+◌, ◌==◌, ◌&&◌, ℕ, zero, suc, List, [], ◌∷◌, ◌++◌, Option, None, Some, IfSome, option_and_then, refl, sym, inl, inr, arith, lit≤, eq-or-lt_of_le}
+use Rattle.std.proofs.Common.{◌≡◌, ◌≤◌, ◌+◌, ◌==◌, ◌&&◌, ℕ, List, [], ◌∷◌, ◌++◌, Option, None, Some, IfSome, option_and_then, refl, inl, inr, arith, lit≤}
 use Rattle.std.proofs.lemmas.Option.{IfSome_then}
 use Rattle.s66_isa.specs.declared.instr.Instr.{Instr}
 use Rattle.s66_isa.specs.declared.reg.Bank.{Bank}
 use Rattle.s66_isa.specs.declared.reg.Bank.TheVariants.{A, B, X}
 use Rattle.s66_isa.specs.Lists.{Among, rising}
+use Rattle.s66_isa.proofs.Lists.{rising-among}
 use Rattle.s66_line.specs.Operand.{spelled, boolean_operator, boolean, b_and_x, is_expression, shift, normalise, mask, arithmetic_code, arithmetic, population, terms_of, are_terms, set_code, set, decode}
 use Rattle.s66_line.specs.declared.operation.Syntax.{Syntax}
 use Rattle.s66_line.specs.declared.operation.Syntax.TheVariants.{Boolean, Shift, Normalise, Arithmetic, Mask, Population, Set}
@@ -29,15 +30,10 @@ choices (Set bank) = rising 8 (set_code bank)
 abbrev pub Chosen : List ℕ → ℕ → Instr → Type 0
 Chosen meanings i n = Among n.op.code meanings × (n.i ≡ i) × (n.j ≤ 7) × (n.k ≤ 7)
 
-among-rising : (count low n : ℕ) → low ≤ n → n < low + count → Among n (rising count low)
-among-rising zero low n h k = absurd (omega (arith, h, k))
-among-rising (suc count) low n h k =
-    elim (eq-or-lt_of_le h) [ inl e ↦ inl (sym e) | inr more ↦ inr (among-rising count (suc low) n more (omega (arith, k))) ]
-
 among-choices : (bank : Bank) (f : ℕ) → f ≤ 7 → Among (set_code bank + f) (choices (Set bank))
-among-choices A f h = among-rising 8 0o50 (0o50 + f) (omega arith) (omega (arith, h))
-among-choices B f h = among-rising 8 0o60 (0o60 + f) (omega arith) (omega (arith, h))
-among-choices X f h = among-rising 8 0o70 (0o70 + f) (omega arith) (omega (arith, h))
+among-choices A f h = rising-among 8 0o50 (0o50 + f) (omega arith) (omega (arith, h))
+among-choices B f h = rising-among 8 0o60 (0o60 + f) (omega arith) (omega (arith, h))
+among-choices X f h = rising-among 8 0o70 (0o70 + f) (omega arith) (omega (arith, h))
 
 -- BOOLEAN
 
@@ -54,18 +50,18 @@ chosen-boolean i (a ∷ d ∷ []) = made IsDigit _ _ _ (digit-few 88 a d) (λ j 
 chosen-boolean i (s ∷ a ∷ d ∷ []) =
     either _ (s == 45) _ _
     (λ e. made IsDigit _ _ _ (digit-few 88 a d)
-    (λ k few. (among-rising 8 0o10 0o14 (lit≤ tt) (lit≤ tt), refl, lit≤ tt, few)))
+    (λ k few. (rising-among 8 0o10 0o14 (lit≤ tt) (lit≤ tt), refl, lit≤ tt, few)))
     (λ e. tt)
 chosen-boolean i (a ∷ b ∷ c ∷ d ∷ []) = tt
 chosen-boolean i (a ∷ d ∷ o ∷ c ∷ e ∷ []) =
     made (λ f. f ≤ 3) _ _ _ (operator-few o)
     (λ f least. made AreDigits _ _ _ (two-few a d c e)
-    (λ r few. (among-rising 8 0o10 (0o10 + f) (omega arith) (omega (arith, least)), refl, few.0, few.1)))
+    (λ r few. (rising-among 8 0o10 (0o10 + f) (omega arith) (omega (arith, least)), refl, few.0, few.1)))
 chosen-boolean i (s ∷ a ∷ d ∷ o ∷ c ∷ e ∷ []) =
     either _ (s == 45) _ _
     (λ minus. made (λ f. f ≤ 3) _ _ _ (operator-few o)
     (λ f least. made AreDigits _ _ _ (two-few a d c e)
-    (λ r few. (among-rising 8 0o10 (0o14 + f) (omega arith) (omega (arith, least)), refl, few.1, few.0))))
+    (λ r few. (rising-among 8 0o10 (0o14 + f) (omega arith) (omega (arith, least)), refl, few.1, few.0))))
     (λ minus. tt)
 chosen-boolean i (a ∷ b ∷ c ∷ d ∷ e ∷ f ∷ g ∷ more) = tt
 

@@ -7,7 +7,7 @@ use Rattle.s66_model.specs.BestAndBound.{IsBound, IsBest}
 use Rattle.s66_model.specs.Leaves.{Leaf, value, leaf_values, MayStand, floor}
 use Rattle.s66_model.specs.Tree.{Kids, NoMore, Unsplit, Split, Tree, Alone, Parted, LeafShows, KidsHold, TreeHolds, Shows, kid_values, tree_values}
 use Rattle.s66_model.specs.Answer.{Answer, IsAnswer, IsBestAnswer}
-use Rattle.s66_model.proofs.Lists.{least-le, among-front, among-rest}
+use Rattle.s66_isa.proofs.Lists.{least-le, among-front, among-rest}
 use Rattle.s66_model.proofs.Remaining.{ready-among, step-begins, legal-parts}
 use Rattle.s66_model.proofs.Trees.{tree-sound}
 

@@ -10,7 +10,7 @@ use Rattle.s66_model.specs.Dependence.{share, conflict}
 use Rattle.s66_model.specs.Timing.{Problem, Point, ResultAt, row_at, done_at, writes_reg, done_of, last_done, end_of, issue_of, memory_wait, start_of, readers_wait, result_at, point, point_of, points_after, points_of, total_of}
 use Rattle.s66_model.specs.LegalOrder.{is_ready, GoesOn, IsBeginning, Completes, IsOrder}
 use Rattle.s66_model.specs.Leaves.{tail, uses, link, head, walk, chain_value, IsWalk, IsChain}
-use Rattle.s66_model.proofs.Lists.{cases_le, greatest-le-greatest, greatest-le, greatest-shift}
+use Rattle.s66_isa.proofs.Lists.{cases_le, greatest-le-greatest, greatest-le, greatest-shift}
 use Rattle.s66_isa.proofs.SameRegister.{same_reg-true, same_reg-self, has_reg-le, has_reg-from}
 use Rattle.s66_model.proofs.LegalOrders.{GoesOn-join, ready-parts, depends-from, needs-each}
 use Rattle.s66_model.proofs.Remaining.{remaining-parts, order-has}

@@ -6,7 +6,7 @@ use Rattle.s66_isa.specs.Lists.{greatest, Among}
 use Rattle.s66_isa.specs.Table.{Row, Write, has_reg, memory_pair}
 use Rattle.s66_model.specs.Packing.{fits_at}
 use Rattle.s66_model.specs.Timing.{row_at, point_of, points_after, total_of, Problem, Point, ResultAt, done_at, done_of, last_done, writes_reg, end_of, total, parcel_of, slot_of, issue_of, start_of, readers_wait, result_at, free_after, point, IsInRange, held_latency}
-use Rattle.s66_model.proofs.Lists.{cases_le, greatest-le-greatest, greatest-le}
+use Rattle.s66_isa.proofs.Lists.{greatest-le-greatest, greatest-le, greatest-shift}
 use Rattle.s66_model.proofs.Issue.{issue-late, issue-is, can_issue-is, done_of-le-total, can_issue-past}
 use Rattle.s66_model.proofs.GoodRows.{row-good}
 
@@ -74,28 +74,21 @@ last-le_total b s n r good small =
     let results = results-le s start r.writes small latencies le in
     omega (arith, good.hold, free-le start r.hold (map (result_at s start) r.writes) (total s + 103) (omega (arith, good.hold)) results)
 
-held_each : (s : List Point) (start m : ℕ) → 1 ≤ m → (w : Write) → m ≤ held_latency w → start + m ≤ cond w.held (max (start + w.latency) (readers_wait s w.reg)) 0
-held_each s start m pos w h =
+-- a result that is held is done no sooner than its latency after the start
+held-each : (s : List Point) (start m : ℕ) → 1 ≤ m → (w : Write) → m ≤ held_latency w → start + m ≤ cond w.held (max (start + w.latency) (readers_wait s w.reg)) 0
+held-each s start m some w h =
     elim (cases_Bool w.held) [
       | inl is ↦ omega (arith, cond-true {A = ℕ} w.held w.latency 0 is, cond-true {A = ℕ} w.held (max (start + w.latency) (readers_wait s w.reg)) 0 is)
       | inr is ↦ absurd (omega (arith, cond-false {A = ℕ} w.held w.latency 0 is))
     ]
 
-held_shift : (s : List Point) (start m : ℕ) (ws : List Write) → 1 ≤ m → m ≤ greatest held_latency ws → start + m ≤ greatest (λ (d : ResultAt). cond d.held d.time 0) (map (result_at s start) ws)
-held_shift s start m [] pos h = absurd (omega arith)
-held_shift s start m (w ∷ ws) pos h =
-    elim (cases_le m (held_latency w)) [
-      | inl here ↦ omega (arith, held_each s start m pos w here)
-      | inr past ↦ omega (arith, held_shift s start m ws pos (omega arith))
-    ]
-
 -- the unit is free no sooner than a hold after the start
 pub free-ge : (s : List Point) (start hold : ℕ) (ws : List Write) → 1 ≤ hold → (ws ≡ []) ⊎ (hold ≡ greatest held_latency ws) → start + hold + 1 ≤ free_after start hold (map (result_at s start) ws)
-free-ge s start hold [] pos h = omega arith
-free-ge s start hold (w ∷ ws) pos h =
+free-ge s start hold [] some h = omega arith
+free-ge s start hold (w ∷ ws) some h =
     elim h [
       | inl none ↦ absurd (cc)
-      | inr is ↦ omega (arith, held_shift s start hold (w ∷ ws) pos (omega arith))
+      | inr is ↦ omega (arith, greatest-shift held_latency (λ (d : ResultAt). cond d.held d.time 0) (result_at s start) start hold (held-each s start hold some) (w ∷ ws) some (omega (arith, is)))
     ]
 
 -- nothing issues before its parcel

@@ -10,7 +10,7 @@ use Rattle.s66_model.specs.Leaves.{floor_value}
 use Rattle.s66_model.specs.Piece.{IsPiece}
 use Rattle.s66_model.specs.Ledger.{Ledger, Node, State, Open, Out, Cut, Closed, is_cut, is_cut_state, is_live, is_live_state, node_at, best_time, IsWorker, Event, Grant, Claim, Graft, Offer, Back, Retire, Reply, Granted, Claimed, Taken, NotOut, OtherPrefix, OverAllowance, Lower, NotLower, OtherBlock, Returned, Retired, worker, opening, after_graft, Moves, Step, Run}
 use Rattle.s66_model.specs.Coverage.{begins, covers, NodeHolds, NodesHold, Covers, NeverRises, live_floors, bound_of}
-use Rattle.s66_model.proofs.Lists.{least-le, among-rest}
+use Rattle.s66_isa.proofs.Lists.{least-le, among-rest}
 use Rattle.s66_model.proofs.LedgerSteps.{floor-sound, open_closed, out_closed, opening-covers, after_move-covers, after_grant-covers, after_retire-covers, after_offer-covers, after_graft-covers}
 
 -- STEPS

@@ -9,7 +9,7 @@ use Rattle.s66_model.specs.Tree.{Tree, Alone, Parted, Kids, NoMore, Unsplit, Spl
 use Rattle.s66_model.specs.Piece.{Tip, Carries, Frontier, TipHolds, IsPiece}
 use Rattle.s66_model.specs.Ledger.{Ledger, Node, State, Open, Out, Cut, Closed, is_cut, is_cut_state, is_open_state, node_at, no_node, with_state, best_time, IsWorker, allowance, share_of, opening, after_grant, after_retire, after_move, after_offer, after_graft, state_of, root_state, kid_nodes, new_nodes, IsOut}
 use Rattle.s66_model.specs.Coverage.{begins, covers, ClosedHolds, NodeHolds, NodesHold, Covers}
-use Rattle.s66_model.proofs.Lists.{tally-append, tally-set, weigh-set}
+use Rattle.s66_isa.proofs.Lists.{tally-append, tally-set, weigh-set}
 use Rattle.s66_model.proofs.Beginnings.{source-legal}
 use Rattle.s66_model.proofs.Remaining.{ready-among, step-begins, legal-parts}
 use Rattle.s66_model.proofs.Floors.{floor-stands}

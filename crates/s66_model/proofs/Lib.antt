@@ -1,4 +1,3 @@
-pub mod Lists
 pub mod Issue
 pub mod Packed
 pub mod GoodRows

@@ -9,7 +9,7 @@ use Rattle.s66_model.specs.Tree.{Tree, Alone, Parted, Kids, NoMore, Unsplit, Spl
 use Rattle.s66_model.specs.Piece.{Tip, Carries, Frontier}
 use Rattle.s66_model.specs.Ledger.{Open, Closed, is_cut, state_of, kid_nodes, root_state, new_nodes}
 use Rattle.s66_model.specs.Coverage.{begins, covers}
-use Rattle.s66_model.proofs.Lists.{tally-append, tally-none, tally-same}
+use Rattle.s66_isa.proofs.Lists.{tally-append, tally-none, tally-same}
 use Rattle.s66_model.proofs.LegalOrders.{legal-order, GoesOn-append, ready-parts}
 use Rattle.s66_model.proofs.Remaining.{rest-first}
 

@@ -1,14 +1,13 @@
 -- Laws of the points of an order: when each issues, starts and is done at least, and what comes after it.
-use Rattle.std.proofs.Common.{ℕ, ◌+◌, ◌%◌, ◌≤◌, ◌<◌, ◌≡◌, cond, ◌&&◌, max, List, [], ◌∷◌, ◌++◌, refl, ap, arith, inl, inr, eqb, map, ◌⊎◌}
-use Rattle.std.proofs.lemmas.Bool.{cond_both, cases_Bool, cond-true, cond-false}
+use Rattle.std.proofs.Common.{ℕ, ◌+◌, ◌≤◌, ◌<◌, ◌≡◌, List, [], ◌∷◌, ◌++◌, refl, ap, arith, inl, inr}
 use Rattle.s66_isa.specs.Lists.{greatest, weigh, tally}
 use Rattle.s66_isa.specs.Table.{Row, Write}
-use Rattle.s66_model.specs.Packing.{fits_at}
-use Rattle.s66_model.specs.Timing.{Problem, Point, ResultAt, IsInRange, row_at, copies, end_of, next, slot_of, busy_at, issue_of, start_of, readers_wait, result_at, free_after, point, point_of, points_after, held_latency}
+use Rattle.s66_model.specs.Timing.{Problem, Point, ResultAt, IsInRange, row_at, copies, end_of, next, slot_of, busy_at, issue_of, start_of, result_at, point, point_of, points_after}
 use Rattle.s66_model.specs.Leaves.{tail}
-use Rattle.s66_model.proofs.Lists.{cases_le, greatest-shift}
+use Rattle.s66_isa.proofs.Lists.{cases_le, greatest-shift}
 use Rattle.s66_model.proofs.Issue.{issue-is, issue-late}
 use Rattle.s66_model.proofs.GoodRows.{row-good}
+use Rattle.s66_model.proofs.Growth.{fits_at-ge, free-ge, start-ge}
 
 pub good-at : (b : Problem) (n : ℕ) → IsInRange (row_at b n)
 good-at b n = row-good b.profile _
@@ -23,20 +22,17 @@ pub point_of-number : (b : Problem) (s : List Point) (n : ℕ) → (point_of b s
 unfolding point
 point_of-number b s n = refl
 
-fits-late : (q len : ℕ) → q ≤ fits_at q len
-fits-late q len = cond_both (eqb len 2 && eqb (q % 4) 3) (q + 1) q (λ x. q ≤ x) (λ _. omega arith) (λ _. omega arith)
-
 next-le-slot : (s : List Point) (len : ℕ) → next s ≤ slot_of s len
 next-le-slot [] len = omega arith
-next-le-slot (p ∷ s) len = omega (arith, fits-late (p.parcel + p.row.parcels) len)
+next-le-slot (p ∷ s) len = omega (arith, fits_at-ge (p.parcel + p.row.parcels) len)
 
 pub next-le-issue : (b : Problem) (s : List Point) (n : ℕ) → next s ≤ (point_of b s n).issue
 unfolding point
 next-le-issue b s n = omega (arith, next-le-slot s (row_at b n).parcels, issue-late b s (row_at b n))
 
 pub issue-le-start : (b : Problem) (s : List Point) (n : ℕ) → (point_of b s n).issue ≤ (point_of b s n).start
-unfolding point start_of
-issue-le-start b s n = omega arith
+unfolding point
+issue-le-start b s n = start-ge b s (row_at b n)
 
 -- at its issue fewer than all units of its kind are busy
 pub issue-unit : (b : Problem) (s : List Point) (r : Row) → tally (busy_at r.kind (issue_of b s r)) s < copies b r.kind
@@ -61,27 +57,12 @@ next-grows b s (n ∷ ns) =
 
 -- THE END OF A POINT
 
-held-each : (s : List Point) (start m : ℕ) → 1 ≤ m → (w : Write) → m ≤ held_latency w → start + m ≤ cond w.held (max (start + w.latency) (readers_wait s w.reg)) 0
-held-each s start m some w h =
-    elim (cases_Bool w.held) [
-      | inl is ↦ omega (arith, cond-true {A = ℕ} w.held w.latency 0 is, cond-true {A = ℕ} w.held (max (start + w.latency) (readers_wait s w.reg)) 0 is)
-      | inr is ↦ absurd (omega (arith, cond-false {A = ℕ} w.held w.latency 0 is))
-    ]
-
-free-late : (s : List Point) (start hold : ℕ) (ws : List Write) → 1 ≤ hold → (ws ≡ []) ⊎ (hold ≡ greatest held_latency ws) → start + hold + 1 ≤ free_after start hold (map (result_at s start) ws)
-free-late s start hold [] some h = omega arith
-free-late s start hold (w ∷ ws) some h =
-    elim h [
-      | inl none ↦ absurd (cc)
-      | inr is ↦ omega (arith, greatest-shift held_latency (λ (d : ResultAt). cond d.held d.time 0) (result_at s start) start hold (held-each s start hold some) (w ∷ ws) some (omega (arith, is)))
-    ]
-
 -- the unit is free no sooner than one more than a hold after the start
 pub hold-le-free : (b : Problem) (s : List Point) (n : ℕ) → (point_of b s n).start + (row_at b n).hold + 1 ≤ (point_of b s n).free
 unfolding point
 hold-le-free b s n =
     let r : Row = row_at b n in
-    free-late s (start_of b s r) r.hold r.writes (good-at b n).hold.0 (good-at b n).unit
+    free-ge s (start_of b s r) r.hold r.writes (good-at b n).hold.0 (good-at b n).unit
 
 done-late : (b : Problem) (s : List Point) (n : ℕ) → 1 ≤ greatest (λ (w : Write). w.latency) (row_at b n).writes → (point_of b s n).start + greatest (λ (w : Write). w.latency) (row_at b n).writes ≤ greatest (λ (d : ResultAt). d.time) (point_of b s n).results
 unfolding point

@@ -1,11 +1,12 @@
 -- What remains after a beginning, what is ready, and what a whole order goes on with.
-use Rattle.std.proofs.Common.{ℕ, zero, suc, ◌+◌, ◌≤◌, ◌<◌, ◌≡◌, Bool, true, false, true≢false, not, ◌&&◌, List, [], ◌∷◌, ◌++◌, length, refl, sym, ap, arith, inl, inr, leb, eqb, append_assoc, length-append, subst, ◌∙◌}
-use Rattle.std.proofs.lemmas.Bool.{or_left, or_right, or_parts, or_from, and_parts, and_from, not_from_false, not-true, cond_both, cases_Bool, cases_eq, le-leb, leb-true, cond-false}
+use Rattle.std.proofs.Common.{ℕ, ◌≤◌, ◌≡◌, Bool, true, false, true≢false, not, ◌&&◌, List, [], ◌∷◌, ◌++◌, length, refl, sym, ap, arith, inl, inr, leb, eqb, append_assoc, length-append, subst, ◌∙◌}
+use Rattle.std.proofs.lemmas.Bool.{or_left, or_right, or_parts, or_from, and_parts, and_from, not_from_false, not-true, cond_both, cases_Bool, le-leb, leb-true, cond-false}
 use Rattle.std.specs.List.{filter}
 use Rattle.s66_isa.specs.declared.instr.Instr.{Instr}
-use Rattle.s66_isa.specs.Lists.{tally, has, rising, Among}
+use Rattle.s66_isa.specs.Lists.{tally, has, Among}
 use Rattle.s66_isa.specs.Table.{numbers}
 use Rattle.s66_model.specs.LegalOrder.{IsLegal, is_ready, is_remaining, ready, remaining, IsBeginning, IsIncomplete, IsOrder, Completes}
+use Rattle.s66_isa.proofs.Lists.{rising-among}
 use Rattle.s66_model.proofs.LegalOrders.{legal-order, order-legal, GoesOn-append, GoesOn-join, ready-parts}
 
 -- WHAT PASSES
@@ -41,14 +42,6 @@ remaining-parts block prefix n h =
     let both = and_parts (leb 1 n && leb n (length block)) (not (has n prefix)) h in
     let range = and_parts (leb 1 n) (leb n (length block)) both.0 in
     (leb-true 1 n range.0, leb-true n (length block) range.1, not-true (has n prefix) both.1)
-
-rising-among : (count low n : ℕ) → low ≤ n → n < low + count → Among n (rising count low)
-rising-among zero low n h1 h2 = absurd (omega arith)
-rising-among (suc count) low n h1 h2 =
-    elim (cases_eq n low) [
-      | inl here ↦ inl here
-      | inr past ↦ inr (rising-among count (suc low) n (omega arith) (omega arith))
-    ]
 
 pub among-remaining : (block : List Instr) (prefix : List ℕ) (n : ℕ) → is_remaining block prefix n ≡ true → Among n (remaining block prefix)
 among-remaining block prefix n h =
