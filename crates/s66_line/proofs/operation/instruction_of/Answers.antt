@@ -1,5 +1,5 @@
 use Rattle.std.proofs.Common.{rules}
-use Rattle.s66_line.proofs.SpellingLaw.{form, meant-code}
+use Rattle.s66_line.proofs.OperationLaw.{form, meant-code}
 use Rattle.s66_line.proofs.operation.instruction_of.Goals as goal
 
 pub instr-requires-clause-code : goal.instr-requires-clause-code
