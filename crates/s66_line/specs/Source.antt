@@ -7,6 +7,7 @@ use Rattle.s66_line.specs.Fields.{lines_of, upper, body, is_comment, location, o
 use Rattle.s66_line.specs.Operand.{instr_of, is_operation}
 use Rattle.s66_line.specs.declared.class.Class.{Class}
 use Rattle.s66_line.specs.declared.class.Class.TheVariants.{Comment, Other, Refused, Pad, Instruction}
+use Rattle.s66_line.specs.declared.limits.TheConstants.{BLOCK_LIMIT, LINE_LIMIT, SOURCE_LIMIT}
 use Rattle.s66_line.specs.declared.error.SourceError.{SourceError}
 use Rattle.s66_line.specs.declared.error.SourceError.TheVariants.{BadOperand, LineTooLong, TooLarge}
 
@@ -127,8 +128,8 @@ operand_refusal number (Instruction located n) = None
 
 abbrev pub refusal_at : Line → Option SourceError
 refusal_at line =
-    if nat_lt 200 (length line.bytes) then Some (LineTooLong line.number)
-    else (if nat_lt 20000 line.number then Some TooLarge else operand_refusal line.number line.class)
+    if nat_lt LINE_LIMIT (length line.bytes) then Some (LineTooLong line.number)
+    else (if nat_lt SOURCE_LIMIT line.number then Some TooLarge else operand_refusal line.number line.class)
 
 abbrev pub or_else : Option SourceError → Option SourceError → Option SourceError
 or_else (Some e) f = Some e
@@ -138,14 +139,14 @@ abbrev pub refusal : List Line → Option SourceError
 refusal [] = None
 refusal (line ∷ lines) = or_else (refusal_at line) (refusal lines)
 
--- BLOCKS: the instructions of a run, cut after each 64th
+-- BLOCKS: the instructions of a run, cut after each BLOCK_LIMIT
 
 abbrev pub instructions : List Line → List Line
 instructions lines = filter (λ l. is_instruction l.class) lines
 
--- of an instruction: it is the first of its run, or comes after a 64th
+-- of an instruction: it is the first of its run, or the run was cut before it
 abbrev pub begins_block : Line → Bool
-begins_block line = line.index % 64 == 0
+begins_block line = line.index % BLOCK_LIMIT == 0
 
 -- a line before the first of these blocks: it joins that block, or is one where that block begins anew
 abbrev pub put_before : Line → List (List Line) → List (List Line)

@@ -1,10 +1,11 @@
 use crate::entry::Entry;
 use crate::fields::spell;
+use crate::limits::LINE_LIMIT;
 use arrayvec::ArrayVec;
 use s66_isa::Instr;
 use std::marker::Model;
 
-/// A straight-line block: 1 to 64 instructions of one run, numbered from 1 in source order; it borrows the source.
+/// A straight-line block: 1 to `BLOCK_LIMIT` instructions of one run, numbered from 1 in source order; it borrows the source.
 #[derive(Debug, Drop)]
 pub struct Block<'a> {
     label: &'a [u8],
@@ -14,12 +15,13 @@ pub struct Block<'a> {
 impl<'a> Model for Block<'a> {
     ghost use Rattle.std.specs.Prelude.{◌≤◌, ◌<◌, length};
     ghost use Rattle.s66_line.specs.Source.{Block};
+    ghost use Rattle.s66_line.specs.declared.limits.TheConstants.{BLOCK_LIMIT};
 
     ghost Value = { Block };
 
     ghost view = { λ b. record { label = b.label.now; entries = b.entries.items } };
 
-    ghost invariant = { λ b. (0 < length b.entries.items) × (length b.entries.items ≤ 64) };
+    ghost invariant = { λ b. (0 < length b.entries.items) × (length b.entries.items ≤ BLOCK_LIMIT) };
 }
 
 impl<'a> Block<'a> {
@@ -28,20 +30,21 @@ impl<'a> Block<'a> {
     ghost use Rattle.s66_isa.specs.Table.{instr_at, parcels_of};
     ghost use Rattle.s66_isa.specs.declared.instr.Instr.{Instr};
     ghost use Rattle.s66_line.specs.Block.{instrs_of, line_of, bytes_of, text_of};
+    ghost use Rattle.s66_line.specs.declared.limits.TheConstants.{BLOCK_LIMIT, LINE_LIMIT};
 
     pub(crate) fn new(label: &'a [u8], entries: Vec<Entry<'a>>) -> Block<'a>
         requires some { 0 < length entries.items }
-        requires few { length entries.items ≤ 64 }
+        requires few { length entries.items ≤ BLOCK_LIMIT }
         ensures { result ≡ record { label = label.now; entries = entries.entry.items } }
     {
         Block { label, entries }
     }
 
-    /// How many instructions there are, 1 to 64.
+    /// How many instructions there are, 1 to `BLOCK_LIMIT`.
     pub fn count(&self) -> usize
         ensures value { result ≡ length (instrs_of self.now) }
         ensures some { 1 ≤ result }
-        ensures few { result ≤ 64 }
+        ensures few { result ≤ BLOCK_LIMIT }
     {
         self.entries.len()
     }
@@ -77,13 +80,13 @@ impl<'a> Block<'a> {
         requires first { 1 ≤ number }
         requires last { number ≤ length (instrs_of self.now) }
         ensures value { result.now ≡ bytes_of self.now number }
-        ensures few { length result.now ≤ 200 }
+        ensures few { length result.now ≤ LINE_LIMIT }
     {
         self.entries[number - 1].bytes
     }
 
     /// An instruction's operation and operand in upper case, one blank between them where there is an operand.
-    pub fn text(&self, number: usize) -> ArrayVec<u8, 200>
+    pub fn text(&self, number: usize) -> ArrayVec<u8, LINE_LIMIT>
         requires first { 1 ≤ number }
         requires last { number ≤ length (instrs_of self.now) }
         ensures { result.items ≡ text_of self.now number }

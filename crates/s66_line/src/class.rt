@@ -1,6 +1,7 @@
 ghost use Rattle.std.specs.Prelude.{◌≡◌, ◌≤◌, true, length};
 ghost use Rattle.s66_line.specs.Fields.{upper, body, operation, operand, from_operation, label_bytes};
 ghost use Rattle.s66_line.specs.Source.{class_of, by_operation, is_code, is_located};
+ghost use Rattle.s66_line.specs.declared.limits.TheConstants.{LINE_LIMIT};
 
 use crate::fields::{body_of, fields_of, is_comment_line, is_continuation, upper_case};
 use crate::operation::{instruction_of, is_operation_name};
@@ -23,7 +24,7 @@ pub enum Class {
 
 /// The class of a line of code whose operation and operand are in upper case.
 fn class_by_operation(located: bool, operation: &[u8], operand: &[u8]) -> Class
-    requires { length operand.now ≤ 200 }
+    requires { length operand.now ≤ LINE_LIMIT }
     ensures { result ≡ by_operation located operation.now operand.now }
 {
     if matches!(operation, [b'N', b'O']) {
@@ -48,11 +49,11 @@ pub(crate) struct Classified<'a> {
 
 /// A body that is neither a comment nor a continuation, with its class.
 fn class_by_fields(line: &[u8]) -> Classified<'_>
-    requires { length line.now ≤ 200 }
+    requires { length line.now ≤ LINE_LIMIT }
     ensures class { result.class ≡ by_operation (is_located line.now) (upper (operation line.now)) (upper (operand line.now)) }
     ensures label { result.label.now ≡ label_bytes line.now }
     ensures bytes { result.bytes.now ≡ from_operation line.now }
-    ensures few { length result.bytes.now ≤ 200 }
+    ensures few { length result.bytes.now ≤ LINE_LIMIT }
 {
     let fields = fields_of(line);
     let operation = upper_case(fields.operation);
@@ -70,11 +71,11 @@ fn class_by_fields(line: &[u8]) -> Classified<'_>
 
 /// A line with its class, where the line directly before it is code or not.
 pub(crate) fn classify(after_code: bool, line: &[u8]) -> Classified<'_>
-    requires { length line.now ≤ 200 }
+    requires { length line.now ≤ LINE_LIMIT }
     ensures class { result.class ≡ class_of after_code line.now }
     ensures label { is_code result.class ≡ true → result.label.now ≡ label_bytes (body line.now) }
     ensures bytes { is_code result.class ≡ true → result.bytes.now ≡ from_operation (body line.now) }
-    ensures few { length result.bytes.now ≤ 200 }
+    ensures few { length result.bytes.now ≤ LINE_LIMIT }
 {
     let body = body_of(line);
     let class = if is_comment_line(body) {

@@ -13,10 +13,11 @@ pub struct Entry<'a> {
 impl<'a> Model for Entry<'a> {
     ghost use Rattle.std.specs.Prelude.{◌≤◌, length};
     ghost use Rattle.s66_line.specs.Source.{Entry};
+    ghost use Rattle.s66_line.specs.declared.limits.TheConstants.{LINE_LIMIT};
 
     ghost Value = { Entry };
 
     ghost view = { λ e. record { instr = e.instr; line = e.line; bytes = e.bytes.now } };
 
-    ghost invariant = { λ e. length e.bytes.now ≤ 200 };
+    ghost invariant = { λ e. length e.bytes.now ≤ LINE_LIMIT };
 }

@@ -2,7 +2,9 @@ ghost use Rattle.std.specs.Prelude.{◌≡◌, ◌≤◌, ◌<◌, ◌+◌, ◌=
 ghost use Rattle.std.specs.List.{prefix_len};
 ghost use Rattle.s66_line.specs.Fields.{is_blank, upper_byte, upper, body, skip_blanks, word, after_word, blanks, is_comment, from_location, location, operation, operand, from_operation, label_bytes, continues};
 ghost use Rattle.s66_line.specs.Block.{spelling};
+ghost use Rattle.s66_line.specs.declared.limits.TheConstants.{LINE_LIMIT};
 
+use crate::limits::LINE_LIMIT;
 use arrayvec::ArrayVec;
 
 /// The fields of a line that is no comment; a field that is not there is empty.
@@ -157,8 +159,8 @@ fn upper_case_byte(byte: u8) -> u8
 }
 
 /// Appends the bytes, each letter in upper case.
-fn push_upper_case(letters: &mut ArrayVec<u8, 200>, bytes: &[u8])
-    requires { length letters.old.items + length bytes.now ≤ 200 }
+fn push_upper_case(letters: &mut ArrayVec<u8, LINE_LIMIT>, bytes: &[u8])
+    requires { length letters.old.items + length bytes.now ≤ LINE_LIMIT }
     ensures value { letters.new.items ≡ letters.old.items ++ upper bytes.now }
     ensures count { length letters.new.items ≡ length letters.old.items + length bytes.now }
 {
@@ -168,8 +170,8 @@ fn push_upper_case(letters: &mut ArrayVec<u8, 200>, bytes: &[u8])
 }
 
 /// The bytes, each letter in upper case.
-pub(crate) fn upper_case(bytes: &[u8]) -> ArrayVec<u8, 200>
-    requires { length bytes.now ≤ 200 }
+pub(crate) fn upper_case(bytes: &[u8]) -> ArrayVec<u8, LINE_LIMIT>
+    requires { length bytes.now ≤ LINE_LIMIT }
     ensures value { result.items ≡ upper bytes.now }
     ensures count { length result.items ≡ length bytes.now }
 {
@@ -179,8 +181,8 @@ pub(crate) fn upper_case(bytes: &[u8]) -> ArrayVec<u8, 200>
 }
 
 /// The operation and the operand in front of these bytes in upper case, one blank between them where there is an operand.
-pub(crate) fn spell(bytes: &[u8]) -> ArrayVec<u8, 200>
-    requires { length bytes.now ≤ 200 }
+pub(crate) fn spell(bytes: &[u8]) -> ArrayVec<u8, LINE_LIMIT>
+    requires { length bytes.now ≤ LINE_LIMIT }
     ensures { result.items ≡ spelling (upper (word bytes.now)) (upper (word (skip_blanks (after_word bytes.now)))) }
 {
     let (operation, operand) = operation_and_operand(bytes);

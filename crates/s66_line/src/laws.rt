@@ -12,7 +12,7 @@ ghost use Rattle.s66_line.specs.Roles.{is_note, is_note_of, is_dropped, is_copie
 
 /// What is spelled is in the table: the letters of the operation can mean the instruction's code, its digit is i, and i,
 /// j and k are 0 to 7.
-pub fn spelling_law()
+pub fn operation_law()
     ensures { (operation operand : List ℕ) (n : Instr) → instr_of operation operand ≡ Some n → CanMean operation n }
 {}
 
@@ -39,7 +39,7 @@ pub fn case_law()
     ensures { (text other : List ℕ) → upper text ≡ upper other → upper_read (source_of text) ≡ upper_read (source_of other) }
 {}
 
-/// The blocks of a source are its instruction lines, cut into runs and these after each 64th line.
+/// The blocks of a source are its instruction lines, cut into runs, and these into blocks of `BLOCK_LIMIT` lines and what is left.
 pub fn parts_law()
     ensures { (text : List ℕ) → AreParts (classed_lines text) (parts_of (instructions (classed_lines text))) }
 {}
