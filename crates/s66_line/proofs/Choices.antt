@@ -6,8 +6,8 @@ use Rattle.s66_isa.specs.declared.reg.Bank.{Bank}
 use Rattle.s66_isa.specs.declared.reg.Bank.TheVariants.{A, B, X}
 use Rattle.s66_isa.specs.Lists.{Among, rising}
 use Rattle.s66_line.specs.Operand.{spelled, boolean_operator, boolean, b_and_x, is_expression, shift, normalise, mask, arithmetic_code, arithmetic, population, terms_of, are_terms, set_code, set, decode}
-use Rattle.s66_line.specs.declared.operation.Syntax.{Syntax}
-use Rattle.s66_line.specs.declared.operation.Syntax.TheVariants.{Boolean, Shift, Normalise, Arithmetic, Mask, Population, Set}
+use Rattle.s66_line.specs.declared.operand.operation.Syntax.{Syntax}
+use Rattle.s66_line.specs.declared.operand.operation.Syntax.TheVariants.{Boolean, Shift, Normalise, Arithmetic, Mask, Population, Set}
 use Rattle.s66_line.proofs.Digits.{either, made, IsDigit, AreDigits, digit-few, two-few, b_and_x-few}
 use Rattle.s66_line.proofs.SetForms.{IsSetForm, set_form-few}
 

@@ -1,13 +1,13 @@
 -- What is spelled is in the table.
-use Rattle.std.proofs.Common.{◌≡◌, ◌<◌, ◌+◌, ◌-◌, ◌==◌, ℕ, zero, suc, true, List, [], ◌∷◌, length, get_or, None, Some, IfSome, refl, sym, ap, ◌∙◌, subst, inl, inr, arith, eqb-true, lit<}
+use Rattle.std.proofs.Common.{◌≡◌, ◌≤◌, ◌<◌, ◌+◌, ◌-◌, ◌==◌, ℕ, zero, suc, true, List, [], ◌∷◌, length, get_or, None, Some, IfSome, refl, sym, ap, ◌∙◌, subst, inl, inr, arith, eqb-true, lit<}
 use Rattle.std.proofs.lemmas.Option.{IfSome_then}
 use Rattle.s66_isa.specs.declared.instr.Instr.{Instr}
 use Rattle.s66_isa.specs.declared.reg.Bank.TheVariants.{A, B, X}
 use Rattle.s66_isa.specs.Lists.{Among}
-use Rattle.s66_line.specs.Operand.{is_octal, syntax_of, decode, instr_of}
+use Rattle.s66_line.specs.Operand.{is_octal, syntax_of, decode, operation_of, instr_of}
 use Rattle.s66_line.specs.Spelling.{operations, CanMean}
-use Rattle.s66_line.specs.declared.operation.Syntax.{Syntax}
-use Rattle.s66_line.specs.declared.operation.Syntax.TheVariants.{Boolean, Shift, Normalise, Arithmetic, Mask, Population, Set}
+use Rattle.s66_line.specs.declared.operand.operation.Syntax.{Syntax}
+use Rattle.s66_line.specs.declared.operand.operation.Syntax.TheVariants.{Boolean, Shift, Normalise, Arithmetic, Mask, Population, Set}
 use Rattle.s66_line.proofs.Digits.{either, made, octal-few, octal-written}
 use Rattle.s66_line.proofs.Choices.{choices, Chosen, chosen}
 
@@ -65,19 +65,23 @@ can_mean p q d syntax n e row h =
       digits = (rw h.1 (octal-few d e), h.2, h.3);
     }
 
-each-meaning : (p q d : ℕ) (text : List ℕ) → IfSome (instr_of (p ∷ q ∷ d ∷ []) text) (CanMean (p ∷ q ∷ d ∷ []))
-each-meaning p q d text =
+-- the digit of an operation, and what its form can choose
+abbrev Decoded : List ℕ → Syntax × ℕ → Type 0
+Decoded operation o = (o.1 ≤ 7) × ((n : Instr) → Chosen (choices o.0) o.1 n → CanMean operation n)
+
+class_of_operand : (operation : List ℕ) → IfSome (operation_of operation) (Decoded operation)
+class_of_operand [] = tt
+class_of_operand (p ∷ []) = tt
+class_of_operand (p ∷ q ∷ []) = tt
+class_of_operand (p ∷ q ∷ d ∷ []) =
     either _ (is_octal d) _ _
-    (λ e. made (Listed p q) _ _ _ (all-listed p q)
-    (λ syntax row. IfSome_then (decode syntax (d - 48) text) (chosen syntax (d - 48) text (octal-few d e)) (λ n h. can_mean p q d syntax n e row h)))
+    (λ e. made (Listed p q) _ _ _ (all-listed p q) (λ syntax row. (octal-few d e, λ n h. can_mean p q d syntax n e row h)))
     (λ e. tt)
+class_of_operand (p ∷ q ∷ d ∷ e ∷ more) = tt
 
 meaning : (operation text : List ℕ) → IfSome (instr_of operation text) (CanMean operation)
-meaning [] text = tt
-meaning (p ∷ []) text = tt
-meaning (p ∷ q ∷ []) text = tt
-meaning (p ∷ q ∷ d ∷ []) text = each-meaning p q d text
-meaning (p ∷ q ∷ d ∷ e ∷ more) text = tt
+meaning operation text =
+    made (Decoded operation) _ (λ o. decode o.0 o.1 text) _ (class_of_operand operation) (λ o h. IfSome_then (decode o.0 o.1 text) (chosen o.0 o.1 text h.0) h.1)
 
 pub CanMean-instr_of : (operation text : List ℕ) (n : Instr) → instr_of operation text ≡ Some n → CanMean operation n
 CanMean-instr_of operation text n e = subst (λ o. IfSome o (CanMean operation)) e (meaning operation text)

@@ -1,10 +1,10 @@
 -- The classes of lines, the blocks of a source, and its least refused line.
-use Rattle.std.specs.Prelude.{◌&&◌, ◌==◌, if◌then◌else◌, ℕ, suc, Bool, true, false, List, [], ◌∷◌, ◌%◌, Option, None, Some, Result, Ok, Err, nat_lt, length, map}
+use Rattle.std.specs.Prelude.{◌&&◌, ◌==◌, if◌then◌else◌, ℕ, suc, Bool, true, false, List, [], ◌∷◌, ◌%◌, Option, None, Some, Result, Ok, Err, nat_lt, length, map, is_some}
 use Rattle.std.specs.List.{filter}
 use Rattle.s66_isa.specs.declared.instr.Instr.{Instr}
 use Rattle.s66_isa.specs.Table.{idle_instr}
 use Rattle.s66_line.specs.Fields.{lines_of, upper, body, is_comment, location, operation, operand, from_operation, continues, label_bytes}
-use Rattle.s66_line.specs.Operand.{instr_of, is_operation}
+use Rattle.s66_line.specs.Operand.{operation_of, instr_of}
 use Rattle.s66_line.specs.declared.class.Class.{Class}
 use Rattle.s66_line.specs.declared.class.Class.TheVariants.{Comment, Other, Refused, Pad, Instruction}
 use Rattle.s66_line.specs.declared.limits.TheConstants.{BLOCK_LIMIT, LINE_LIMIT, SOURCE_LIMIT}
@@ -28,7 +28,7 @@ is_located line = nat_lt 0 (length (location line))
 abbrev pub by_operation : Bool → List ℕ → List ℕ → Class
 by_operation located operation operand =
     if is_pad operation then Pad located
-    else (if is_operation operation then class_of_operand located (instr_of operation operand) else Other)
+    else (if is_some (operation_of operation) then class_of_operand located (instr_of operation operand) else Other)
 
 -- after: the line directly before is an Instruction or a Pad, so that a comma in column 1 would continue it
 abbrev pub class_of : Bool → List ℕ → Class

@@ -4,7 +4,7 @@ ghost use Rattle.s66_line.specs.Source.{class_of, by_operation, is_code, is_loca
 ghost use Rattle.s66_line.specs.declared.limits.TheConstants.{LINE_LIMIT};
 
 use crate::fields::{body_of, fields_of, is_comment_line, is_continuation, upper_case};
-use crate::operation::{instruction_of, is_operation_name};
+use crate::operand::{decode, operation_of};
 use s66_isa::Instr;
 
 /// What a line is.
@@ -30,10 +30,10 @@ fn class_by_operation(located: bool, operation: &[u8], operand: &[u8]) -> Class
     if matches!(operation, [b'N', b'O']) {
         return Class::Pad { located };
     }
-    if !is_operation_name(operation) {
+    let Some((form, digit)) = operation_of(operation) else {
         return Class::Other;
-    }
-    match instruction_of(operation, operand) {
+    };
+    match decode(form, digit, operand) {
         Some(instr) => Class::Instruction { located, instr },
         None => Class::Refused,
     }

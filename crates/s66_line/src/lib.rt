@@ -10,11 +10,8 @@ mod fields;
 mod laws;
 mod limits;
 mod operand;
-mod operation;
 mod reader;
-mod set_operand;
 mod source;
-mod terms;
 
 pub use block::Block;
 pub use device::{Failed, Feed, OverRead, OverWrite, Sink, WriteError, write_all};

@@ -1,7 +1,7 @@
 ghost use Rattle.std.specs.Prelude.{◌≡◌, ◌≤◌, IfSome};
 ghost use Rattle.s66_line.specs.Operand.{spelled, is_octal, x_digit, b_digit, two_x, boolean_operator, boolean, b_and_x, shift, normalise, mask, arithmetic_code, arithmetic, population};
 
-use crate::terms::is_expression;
+use crate::operand::terms::is_expression;
 use s66_isa::{Instr, Op};
 
 /// The instruction of an octal code and of its digits.

@@ -1,8 +1,10 @@
 ghost use Rattle.std.specs.Prelude.{◌≡◌};
-ghost use Rattle.s66_line.specs.Operand.{syntax_of, decode, is_operation, instr_of};
+ghost use Rattle.s66_line.specs.Operand.{syntax_of, decode, operation_of};
 
-use crate::operand::{arithmetic, boolean, is_octal_digit, mask, normalise, population, shift};
-use crate::set_operand::set;
+use crate::operand::computing::{
+    arithmetic, boolean, is_octal_digit, mask, normalise, population, shift,
+};
+use crate::operand::set::set;
 use s66_isa::{Bank, Instr};
 
 /// Which operands an operation takes, with the octal codes that they choose from.
@@ -84,17 +86,20 @@ fn syntax_of(first: u8, second: u8) -> Option<Syntax>
     }
 }
 
-/// Whether it is an operation of the table: two letters and a digit 0 to 7, in upper case.
-pub(crate) fn is_operation_name(operation: &[u8]) -> bool
-    ensures { result ≡ is_operation operation.now }
+/// What an operation of the table takes, and its digit: two letters and a digit 0 to 7, in upper case.
+pub(crate) fn operation_of(word: &[u8]) -> Option<(Syntax, u8)>
+    ensures { result ≡ operation_of word.now }
 {
-    match operation {
-        [first, second, digit] => syntax_of(*first, *second).is_some() && is_octal_digit(*digit),
-        _ => false,
+    match word {
+        [first, second, digit] if is_octal_digit(*digit) => {
+            Some((syntax_of(*first, *second)?, *digit - b'0'))
+        }
+        _ => None,
     }
 }
 
-fn decode(syntax: Syntax, i: u8, operand: &[u8]) -> Option<Instr>
+/// The instruction of an operation of this form and digit and of an operand, if they spell one.
+pub(crate) fn decode(syntax: Syntax, i: u8, operand: &[u8]) -> Option<Instr>
     ensures { result ≡ decode syntax i operand.now }
 {
     match syntax {
@@ -113,21 +118,5 @@ fn decode(syntax: Syntax, i: u8, operand: &[u8]) -> Option<Instr>
         Syntax::Mask => mask(i, operand),
         Syntax::Population => population(i, operand),
         Syntax::Set { bank } => set(bank, i, operand),
-    }
-}
-
-/// The instruction that an operation and its operand spell, both in upper case, if they spell one.
-pub(crate) fn instruction_of(operation: &[u8], operand: &[u8]) -> Option<Instr>
-    ensures { result ≡ instr_of operation.now operand.now }
-{
-    match operation {
-        [first, second, digit] => {
-            if !is_octal_digit(*digit) {
-                return None;
-            }
-            let syntax = syntax_of(*first, *second)?;
-            decode(syntax, *digit - b'0', operand)
-        }
-        _ => None,
     }
 }
