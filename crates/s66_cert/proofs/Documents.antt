@@ -7,7 +7,7 @@ use Rattle.s66_model.specs.Leaves.{Leaf}
 use Rattle.s66_model.specs.Tree.{Tree, splits}
 use Rattle.s66_cert.specs.Document.{IsDocument, AreIn, AreNumbers, AreInstructions, KidsFit, TreeFits}
 use Rattle.s66_cert.specs.Examples.{standard_numbers, three_multiplies, store_then_load, one_load, two_booleans, zero_register, extremes, with_order, with_tree, with_times, with_block, wholes}
-use Rattle.s66_cert.proofs.Instructions.{instruction}
+use Rattle.s66_line.proofs.InstructionTexts.{instruction}
 
 -- RANGES, by a test that computes
 
@@ -42,7 +42,7 @@ standard-profile = (refl, are_in 1 100 standard_numbers refl)
 pub is-three_multiplies : IsDocument three_multiplies
 is-three_multiplies = record {
   profile = standard-profile;
-  block = (omega arith, omega arith, (instruction (codes "FX1") (codes "X2*X3") refl refl refl, omega arith, (instruction (codes "FX4") (codes "X5*X6") refl refl refl, omega arith, (instruction (codes "FX0") (codes "X7*X7") refl refl refl, omega arith, tt))));
+  block = (omega arith, omega arith, (instruction (codes "FX1 X2*X3") refl refl (omega arith), (instruction (codes "FX4 X5*X6") refl refl (omega arith), (instruction (codes "FX0 X7*X7") refl refl (omega arith), tt))));
   time = omega arith;
   bound = omega arith;
   numbers = omega arith;
@@ -53,7 +53,7 @@ is-three_multiplies = record {
 pub is-store_then_load : IsDocument store_then_load
 is-store_then_load = record {
   profile = standard-profile;
-  block = (omega arith, omega arith, (instruction (codes "SA6") (codes "A6+B1") refl refl refl, omega arith, (instruction (codes "SA1") (codes "A2+B2") refl refl refl, omega arith, tt)));
+  block = (omega arith, omega arith, (instruction (codes "SA6 A6+B1") refl refl (omega arith), (instruction (codes "SA1 A2+B2") refl refl (omega arith), tt)));
   time = omega arith;
   bound = omega arith;
   numbers = omega arith;
@@ -63,7 +63,7 @@ is-store_then_load = record {
 
 one_load-block : (1 ≤ length one_load.block) × (length one_load.block ≤ 64) × AreInstructions one_load.block
 one_load-block =
-    (omega arith, omega arith, (instruction (codes "SA1") (codes "A1+B1") refl refl refl, omega arith, (instruction (codes "BX6") (codes "X1") refl refl refl, omega arith, (instruction (codes "BX7") (codes "X2") refl refl refl, omega arith, tt))))
+    (omega arith, omega arith, (instruction (codes "SA1 A1+B1") refl refl (omega arith), (instruction (codes "BX6 X1") refl refl (omega arith), (instruction (codes "BX7 X2") refl refl (omega arith), tt))))
 
 pub is-one_load : IsDocument one_load
 is-one_load = record {
@@ -79,7 +79,7 @@ is-one_load = record {
 pub is-two_booleans : IsDocument two_booleans
 is-two_booleans = record {
   profile = standard-profile;
-  block = (omega arith, omega arith, (instruction (codes "BX1") (codes "X2") refl refl refl, omega arith, (instruction (codes "BX3") (codes "X4") refl refl refl, omega arith, tt)));
+  block = (omega arith, omega arith, (instruction (codes "BX1 X2") refl refl (omega arith), (instruction (codes "BX3 X4") refl refl (omega arith), tt)));
   time = omega arith;
   bound = omega arith;
   numbers = omega arith;
@@ -90,7 +90,7 @@ is-two_booleans = record {
 pub is-zero_register : IsDocument zero_register
 is-zero_register = record {
   profile = standard-profile;
-  block = (omega arith, omega arith, (instruction (codes "NX1") (codes "B0,X2") refl refl refl, omega arith, (instruction (codes "SB0") (codes "5") refl refl refl, omega arith, (instruction (codes "SX3") (codes "B0") refl refl refl, omega arith, tt))));
+  block = (omega arith, omega arith, (instruction (codes "NX1 B0,X2") refl refl (omega arith), (instruction (codes "SB0 5") refl refl (omega arith), (instruction (codes "SX3 B0") refl refl (omega arith), tt))));
   time = omega arith;
   bound = omega arith;
   numbers = omega arith;
@@ -101,7 +101,7 @@ is-zero_register = record {
 pub is-extremes : IsDocument extremes
 is-extremes = record {
   profile = (refl, are_in 1 100 extremes.profile refl);
-  block = (omega arith, omega arith, (instruction (codes "NX1") [] refl refl refl, omega arith, tt));
+  block = (omega arith, omega arith, (instruction (codes "NX1") refl refl (omega arith), tt));
   time = omega arith;
   bound = omega arith;
   numbers = omega arith;

@@ -13,5 +13,7 @@ pub mod Choices
 pub mod OperationLaw
 pub mod SetFormLaw
 pub mod UpperCase
+pub mod Names
+pub mod InstructionTexts
 pub mod CaseLaw
 pub mod LineLaw

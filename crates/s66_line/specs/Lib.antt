@@ -4,6 +4,7 @@ pub mod Spelling
 pub mod Terms
 pub mod Source
 pub mod Parts
+pub mod InstructionText
 pub mod Block
 pub mod Roles
 pub mod Gives

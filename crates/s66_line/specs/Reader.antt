@@ -2,6 +2,7 @@
 use Rattle.std.specs.Prelude.{◌≡◌, ◌==◌, if◌then◌else◌, ℕ, suc, Bool, true, false, List, [], ◌∷◌, ◌++◌, Result, Ok, Err, nat_lt, nat_le, length}
 use Rattle.s66_isa.specs.declared.instr.Instr.{Instr}
 use Rattle.s66_line.specs.Fields.{body, from_operation, label_bytes}
+use Rattle.s66_line.specs.InstructionText.{Spells}
 use Rattle.s66_line.specs.Source.{Block, Entry, class_of}
 use Rattle.s66_line.specs.declared.class.Class.{Class}
 use Rattle.s66_line.specs.declared.class.Class.TheVariants.{Comment, Other, Refused, Pad, Instruction}
@@ -62,6 +63,14 @@ by_class s Other label bytes = Ok (count_line false (end_block s))
 by_class s Refused label bytes = Err (BadOperand (suc s.count))
 by_class s (Pad located) label bytes = Ok (count_line true (begin_run_if located label s))
 by_class s (Instruction located n) label bytes = Ok (count_line true (with_entry n bytes (begin_run_if located label s)))
+
+-- what is known of the bytes that are kept of a line of this class
+abbrev pub IsSpelled : Class → List ℕ → Type 0
+IsSpelled (Instruction located n) bytes = Spells bytes n
+IsSpelled Comment bytes = Unit {0}
+IsSpelled Other bytes = Unit {0}
+IsSpelled Refused bytes = Unit {0}
+IsSpelled (Pad located) bytes = Unit {0}
 
 abbrev pub line_step : State → List ℕ → Result State SourceError
 line_step s line =

@@ -7,6 +7,7 @@ mod device;
 mod entry;
 mod error;
 mod fields;
+mod instruction_text;
 mod laws;
 mod limits;
 mod operand;
@@ -16,11 +17,12 @@ mod source;
 pub use block::Block;
 pub use device::{Failed, Feed, OverRead, OverWrite, Sink, WriteError, write_all};
 pub use error::SourceError;
+pub use instruction_text::is_instruction;
 pub use laws::{
     case_law, constant_examples, operation_law, line_law, line_examples, parts_law, set_form_law, spelling_examples,
     term_law,
 };
-pub use limits::{BLOCK_LIMIT, LINE_LIMIT, SOURCE_LIMIT};
+pub use limits::{BLOCK_LIMIT, LINE_LIMIT, SOURCE_LIMIT, TEXT_LIMIT};
 pub use source::{Source, read_source};
 
 #[cfg(test)]

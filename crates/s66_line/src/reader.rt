@@ -1,8 +1,9 @@
 ghost use Rattle.std.specs.Prelude.{◌≡◌, ◌≤◌, ◌<◌, [], length, OnOk};
 ghost use Rattle.s66_line.specs.Fields.{lines_from};
-ghost use Rattle.s66_line.specs.Reader.{Steps, end_block, begin_run, with_entry, by_class, line_step, lines_step};
+ghost use Rattle.s66_line.specs.InstructionText.{Spells};
+ghost use Rattle.s66_line.specs.Reader.{Steps, IsSpelled, end_block, begin_run, with_entry, by_class, line_step, lines_step};
 ghost use Rattle.s66_line.specs.ReaderState.{state};
-ghost use Rattle.s66_line.specs.declared.limits.TheConstants.{BLOCK_LIMIT, LINE_LIMIT, SOURCE_LIMIT};
+ghost use Rattle.s66_line.specs.declared.limits.TheConstants.{BLOCK_LIMIT, SOURCE_LIMIT, TEXT_LIMIT};
 
 use crate::block::Block;
 use crate::class::{Class, Classified, classify};
@@ -55,7 +56,8 @@ impl<'a> Reader<'a> {
     fn put(&mut self, alloc: Global, instr: Instr, bytes: &'a [u8]) -> Result<(), AllocError>
         requires few { length self.old.entries.items < BLOCK_LIMIT }
         requires lines { self.old.lines < SOURCE_LIMIT }
-        requires bytes { length bytes.now ≤ LINE_LIMIT }
+        requires bytes { length bytes.now ≤ TEXT_LIMIT }
+        requires spelled { Spells bytes.now instr }
         ensures step { OnOk result (state self.new ≡ with_entry instr bytes.now (state self.old)) }
         ensures few { OnOk result (length self.new.entries.items < BLOCK_LIMIT) }
     {
@@ -71,7 +73,8 @@ impl<'a> Reader<'a> {
     fn take_classified(&mut self, alloc: Global, line: Classified<'a>) -> Result<(), SourceError>
         requires few { length self.old.entries.items < BLOCK_LIMIT }
         requires lines { self.old.lines < SOURCE_LIMIT }
-        requires bytes { length line.bytes.now ≤ LINE_LIMIT }
+        requires bytes { length line.bytes.now ≤ TEXT_LIMIT }
+        requires spelled { IsSpelled line.class line.bytes.now }
         ensures step { Steps (state self.new) result (by_class (state self.old) line.entry.class line.entry.label.now line.entry.bytes.now) }
         ensures few { OnOk result (length self.new.entries.items < BLOCK_LIMIT) }
         ensures lines { OnOk result (self.new.lines ≤ SOURCE_LIMIT) }

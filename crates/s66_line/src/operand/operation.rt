@@ -1,6 +1,8 @@
 ghost use Rattle.std.specs.Prelude.{◌≡◌};
+ghost use Rattle.s66_line.specs.Fields.{upper};
 ghost use Rattle.s66_line.specs.Operand.{syntax_of, decode, operation_of};
 
+use crate::fields::upper_case_byte;
 use crate::operand::computing::{
     arithmetic, boolean, is_octal_digit, mask, normalise, population, shift,
 };
@@ -86,13 +88,14 @@ fn syntax_of(first: u8, second: u8) -> Option<Syntax>
     }
 }
 
-/// What an operation of the table takes, and its digit: two letters and a digit 0 to 7, in upper case.
+/// What an operation of the table takes, and its digit: two letters, in upper or in lower case, and a digit 0 to 7.
 pub(crate) fn operation_of(word: &[u8]) -> Option<(Syntax, u8)>
-    ensures { result ≡ operation_of word.now }
+    ensures { result ≡ operation_of (upper word.now) }
 {
     match word {
         [first, second, digit] if is_octal_digit(*digit) => {
-            Some((syntax_of(*first, *second)?, *digit - b'0'))
+            let syntax = syntax_of(upper_case_byte(*first), upper_case_byte(*second))?;
+            Some((syntax, *digit - b'0'))
         }
         _ => None,
     }

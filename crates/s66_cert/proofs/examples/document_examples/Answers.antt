@@ -1,10 +1,11 @@
-use Rattle.std.proofs.Common.{[], ◌∷◌, ◌++◌, length, refl, ap, arith}
+use Rattle.std.proofs.Common.{[], ◌∷◌, ◌++◌, length, get_or, refl, ap, arith}
 use Rattle.std.specs.Prelude.{codes, replicate}
 use Rattle.std.specs.Fmt.{digits}
 use Rattle.s66_model.specs.Leaves.{Chain, Whole}
 use Rattle.s66_model.specs.Tree.{Alone, Parted}
 use Rattle.s66_cert.specs.Examples.{long_text, wholes, unit_loads}
-use Rattle.s66_cert.proofs.Instructions.{instruction, unread, misspelt, repeated}
+use Rattle.s66_line.proofs.InstructionTexts.{instruction, unread, misspelt}
+use Rattle.s66_cert.proofs.Instructions.{repeated}
 use Rattle.s66_cert.proofs.Documents.{numbered, wholes-fit, is-three_multiplies, is-store_then_load, is-one_load, is-two_booleans, is-zero_register, is-extremes, is-with_order, is-with_tree, is-with_times, is-with_block}
 use Rattle.s66_cert.proofs.Texts.{only-nothing, other-version, unfinished-line}
 use Rattle.s66_cert.proofs.examples.document_examples.Goals as goal
@@ -128,10 +129,10 @@ pub returns-clause-least_times : goal.returns-clause-least_times
 returns-clause-least_times c = is-with_times 0 0 (omega arith) (omega arith)
 
 pub returns-clause-block_of_64 : goal.returns-clause-block_of_64
-returns-clause-block_of_64 c = is-with_block (replicate 64 (codes "NX1")) (omega arith) (omega arith) (repeated 64 (codes "NX1") (instruction (codes "NX1") [] refl refl refl) (omega arith))
+returns-clause-block_of_64 c = is-with_block (replicate 64 (codes "NX1")) (omega arith) (omega arith) (repeated 64 (codes "NX1") (instruction (codes "NX1") refl refl (omega arith)))
 
 pub returns-clause-text_of_199 : goal.returns-clause-text_of_199
-returns-clause-text_of_199 c = is-with_block (long_text 195 ∷ []) (omega arith) (omega arith) (instruction (codes "SX1") (replicate 195 75) refl refl refl, omega arith, tt)
+returns-clause-text_of_199 c = is-with_block (long_text 195 ∷ []) (omega arith) (omega arith) (instruction (long_text 195) refl refl (omega arith), tt)
 
 pub returns-clause-order_with_0 : goal.returns-clause-order_with_0
 returns-clause-order_with_0 c = λ h. absurd (omega (arith, h.numbers))
@@ -227,34 +228,34 @@ pub returns-clause-block_of_65 : goal.returns-clause-block_of_65
 returns-clause-block_of_65 c = λ h. absurd (omega (arith, h.block.1))
 
 pub returns-clause-block_with_no_instruction : goal.returns-clause-block_with_no_instruction
-returns-clause-block_with_no_instruction c = λ h. unread (codes "NO") refl h.block.2.2.0
+returns-clause-block_with_no_instruction c = λ h. unread (codes "NO") refl h.block.2.1.0
 
 pub returns-clause-text_of_200 : goal.returns-clause-text_of_200
 returns-clause-text_of_200 c = λ h. absurd (omega (arith, h.block.2.1))
 
 pub returns-clause-no_operand : goal.returns-clause-no_operand
-returns-clause-no_operand c = instruction (codes "NX1") [] refl refl refl
+returns-clause-no_operand c = instruction (codes "NX1") refl refl (omega arith)
 
 pub returns-clause-both_registers : goal.returns-clause-both_registers
-returns-clause-both_registers c = instruction (codes "NX1") (codes "B0,X1") refl refl refl
+returns-clause-both_registers c = instruction (codes "NX1 B0,X1") refl refl (omega arith)
 
 pub returns-clause-product_of_constants : goal.returns-clause-product_of_constants
-returns-clause-product_of_constants c = instruction (codes "SA1") (codes "A1+2*N") refl refl refl
+returns-clause-product_of_constants c = instruction (codes "SA1 A1+2*N") refl refl (omega arith)
 
 pub returns-clause-minus_in_front : goal.returns-clause-minus_in_front
-returns-clause-minus_in_front c = instruction (codes "BX1") (codes "-X2*X3") refl refl refl
+returns-clause-minus_in_front c = instruction (codes "BX1 -X2*X3") refl refl (omega arith)
 
 pub returns-clause-plus_in_front : goal.returns-clause-plus_in_front
-returns-clause-plus_in_front c = instruction (codes "SA1") (codes "+A1") refl refl refl
+returns-clause-plus_in_front c = instruction (codes "SA1 +A1") refl refl (omega arith)
 
 pub returns-clause-lower_case_operation : goal.returns-clause-lower_case_operation
-returns-clause-lower_case_operation c = unread (codes "fx1 X2*X3") refl
+returns-clause-lower_case_operation c = misspelt (codes "fx1 X2*X3") (λ same. absurd (omega (arith, ap (λ text. get_or text 0 0) same)))
 
 pub returns-clause-lower_case_operand : goal.returns-clause-lower_case_operand
-returns-clause-lower_case_operand c = unread (codes "FX1 x2*X3") refl
+returns-clause-lower_case_operand c = misspelt (codes "FX1 x2*X3") (λ same. absurd (omega (arith, ap (λ text. get_or text 4 0) same)))
 
 pub returns-clause-lower_case_constant : goal.returns-clause-lower_case_constant
-returns-clause-lower_case_constant c = unread (codes "SA1 A1+n") refl
+returns-clause-lower_case_constant c = misspelt (codes "SA1 A1+n") (λ same. absurd (omega (arith, ap (λ text. get_or text 7 0) same)))
 
 pub returns-clause-pad : goal.returns-clause-pad
 returns-clause-pad c = unread (codes "NO") refl
@@ -287,7 +288,7 @@ pub returns-clause-blank_at_the_end : goal.returns-clause-blank_at_the_end
 returns-clause-blank_at_the_end c = misspelt (codes "NX1 ") (λ same. absurd (omega (arith, ap length same)))
 
 pub returns-clause-blank_after_operand : goal.returns-clause-blank_after_operand
-returns-clause-blank_after_operand c = unread (codes "BX1 X2 ") refl
+returns-clause-blank_after_operand c = misspelt (codes "BX1 X2 ") (λ same. absurd (omega (arith, ap length same)))
 
 pub returns-clause-two_blanks : goal.returns-clause-two_blanks
 returns-clause-two_blanks c = misspelt (codes "BX1  X2") (λ same. absurd (omega (arith, ap length same)))
@@ -296,4 +297,4 @@ pub returns-clause-tab : goal.returns-clause-tab
 returns-clause-tab c = misspelt (codes "BX1" ++ 9 ∷ codes "X2") (λ same. cc)
 
 pub returns-clause-comment : goal.returns-clause-comment
-returns-clause-comment c = unread (codes "BX1 X2 COPY") refl
+returns-clause-comment c = misspelt (codes "BX1 X2 COPY") (λ same. absurd (omega (arith, ap length same)))
