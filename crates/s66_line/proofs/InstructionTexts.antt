@@ -66,7 +66,7 @@ no_blank-first : (t : Bool) (b : ℕ) (bytes : List ℕ) → is_blank b ≡ t �
 no_blank-first true b bytes told h = rw told refl
 no_blank-first false b bytes told h = rw (told, told) h
 
-no_blank-word : (bytes : List ℕ) → every is_no_blank (word bytes) ≡ true
+pub no_blank-word : (bytes : List ℕ) → every is_no_blank (word bytes) ≡ true
 no_blank-word [] = refl
 no_blank-word (b ∷ bytes) = no_blank-first (is_blank b) b bytes refl (no_blank-word bytes)
 

@@ -59,16 +59,16 @@ take-word (b ∷ bytes) =
     elim (is_blank b) as (λ t. take (length (cond t [] (b ∷ word bytes))) (b ∷ bytes) ≡ cond t [] (b ∷ word bytes))
     [ true ↦ refl | false ↦ ap (λ w. b ∷ w) (take-word bytes) ]
 
-from_location-yes : (b : ℕ) (bytes : List ℕ) → (b == 32) ≡ true → from_location (b ∷ bytes) ≡ bytes
+pub from_location-yes : (b : ℕ) (bytes : List ℕ) → (b == 32) ≡ true → from_location (b ∷ bytes) ≡ bytes
 from_location-yes b bytes space = rw space refl
 
-from_location-no : (b : ℕ) (bytes : List ℕ) → (b == 32) ≡ false → from_location (b ∷ bytes) ≡ b ∷ bytes
+pub from_location-no : (b : ℕ) (bytes : List ℕ) → (b == 32) ≡ false → from_location (b ∷ bytes) ≡ b ∷ bytes
 from_location-no b bytes other = rw other refl
 
-label-yes : (b : ℕ) (bytes : List ℕ) → (b == 32) ≡ true → label_bytes (b ∷ bytes) ≡ 32 ∷ word bytes
+pub label-yes : (b : ℕ) (bytes : List ℕ) → (b == 32) ≡ true → label_bytes (b ∷ bytes) ≡ 32 ∷ word bytes
 label-yes b bytes space = rw space refl
 
-label-no : (b : ℕ) (bytes : List ℕ) → (b == 32) ≡ false → label_bytes (b ∷ bytes) ≡ word (b ∷ bytes)
+pub label-no : (b : ℕ) (bytes : List ℕ) → (b == 32) ≡ false → label_bytes (b ∷ bytes) ≡ word (b ∷ bytes)
 label-no b bytes other = rw other refl
 
 -- the columns before the location field, and the field
