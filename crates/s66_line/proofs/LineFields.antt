@@ -2,10 +2,11 @@
 use Rattle.std.proofs.Common.{◌≡◌, ℕ, zero, suc, ◌+◌, ◌-◌, ◌≤◌, ◌<◌, Bool, true, false, not, cond, List, [], ◌∷◌, ◌++◌, length, take, drop, refl, sym, ap, ◌∙◌, arith, length-drop, get_or, eq-eqb, append_assoc}
 use Rattle.std.proofs.lemmas.Bool.{eqb-true}
 use Rattle.std.proofs.Math.Seq.{take-suc}
-use Rattle.std.specs.Prelude.{◌&&◌, ◌==◌}
+use Rattle.std.proofs.Math.Dec.{eqb-zero-suc}
+use Rattle.std.specs.Prelude.{◌&&◌, ◌||◌, ◌==◌, nat_le}
 use Rattle.std.specs.List.{prefix_len}
 use Rattle.s66_isa.specs.Lists.{every}
-use Rattle.s66_line.specs.Fields.{is_blank, skip_blanks, word, after_word, trim, is_return, upper, from_location, label_bytes}
+use Rattle.s66_line.specs.Fields.{is_blank, blanks, skip_blanks, word, after_word, trim, is_return, upper, from_location, label_bytes}
 use Rattle.s66_line.specs.InstructionText.{spelling}
 use Rattle.std.proofs.lemmas.List.{take_rest}
 use Rattle.std.proofs.lemmas.List.Sums.{prefix_len-le-length}
@@ -85,6 +86,16 @@ label-cut-by false b bytes told =
 pub label-cut : (line : List ℕ) → take (length line - length (from_location line) + length (word (from_location line))) line ≡ label_bytes line
 label-cut [] = refl
 label-cut (b ∷ bytes) = label-cut-by (b == 32) b bytes refl
+
+-- A COMMENT begins with a star or a blank
+
+skip_blanks-no : (b : ℕ) (bytes : List ℕ) → is_blank b ≡ false → skip_blanks (b ∷ bytes) ≡ b ∷ bytes
+skip_blanks-no b bytes other = rw other refl
+
+pub indented_no : (b : ℕ) (bytes : List ℕ) → is_blank b ≡ false → (blanks (b ∷ bytes) == length (b ∷ bytes) || nat_le 29 (blanks (b ∷ bytes))) ≡ false
+indented_no b bytes other =
+    let none : suc (length bytes) - suc (length bytes) ≡ 0 = omega arith in
+    rw (skip_blanks-no b bytes other, none, eqb-zero-suc (length bytes)) refl
 
 -- THE SPELLING of a line
 

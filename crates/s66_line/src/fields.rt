@@ -77,12 +77,13 @@ fn is_indented_away(line: &[u8]) -> bool
 }
 
 /// Whether a body is a comment: a star in column 1, blanks alone, or 29 blanks in front.
+#[tactic(auto, using(crate::proofs::LineFields::indented_no))]
 pub(crate) fn is_comment_line(line: &[u8]) -> bool
     ensures { result ≡ is_comment line.now }
 {
     match line {
         [] => true,
-        [first, ..] => *first == b'*' || is_indented_away(line),
+        [first, ..] => *first == b'*' || is_blank_byte(*first) && is_indented_away(line),
     }
 }
 

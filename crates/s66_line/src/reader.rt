@@ -10,6 +10,7 @@ use crate::class::{Class, Classified, classify};
 use crate::entry::Entry;
 use crate::error::SourceError;
 use crate::limits::{BLOCK_LIMIT, LINE_LIMIT, SOURCE_LIMIT};
+use memchr::memchr;
 use s66_isa::Instr;
 use std::alloc::{AllocError, Global};
 use std::mem;
@@ -146,13 +147,11 @@ impl<'a> Reader<'a> {
         ensures step { Steps (state self.new) result (lines_step (state self.old) (lines_from [] text.now)) }
         ensures few { OnOk result (length self.new.entries.items < BLOCK_LIMIT) }
     {
-        let mut begin = 0;
-        for (i, byte) in text.iter().enumerate() {
-            if *byte == b'\n' {
-                self.take_line(alloc, &text[begin..i])?;
-                begin = i + 1;
-            }
+        let mut rest = text;
+        while let Some(end) = memchr(b'\n', rest) {
+            self.take_line(alloc, &rest[..end])?;
+            rest = &rest[end + 1..];
         }
-        self.take_last(alloc, &text[begin..])
+        self.take_last(alloc, rest)
     }
 }
