@@ -98,7 +98,7 @@ CODE = [
     (LINE, function("classed", "classes_from")),
     (TIME, function("seen", "point_seen")),
     (LINE, function("gathered", "gather")),
-    (LINE, function("ended", "end_block")),
+    (LINE, text(r"(?<!-)(?<=abbrev pub )ended(?= :)|(?<![\w.-])ended(?!\w| [:=])", "end_block")),
     (LINE, function("begun", "begin_run")),
     (LINE, function("counted", "count_line")),
     (LINE, token("begun_if", "begin_run_if")),

@@ -1,2 +1,1 @@
-pub mod Instructions
 pub mod Texts

@@ -1,15 +1,12 @@
 -- Certificates, and their texts.
-use Rattle.std.specs.Prelude.{◌≡◌, ◌&&◌, ℕ, Bool, true, List, [], ◌∷◌, ◌++◌, ◌≤◌, codes, decimal, length, not, is_some}
+use Rattle.std.specs.Prelude.{◌≡◌, ℕ, List, [], ◌∷◌, ◌++◌, ◌≤◌, codes, decimal, length}
 use Rattle.s66_isa.specs.declared.instr.Kind.{Kind}
 use Rattle.s66_isa.specs.declared.instr.Kind.TheVariants.{Boolean, Shift, Add, LongAdd, Multiply, Divide, Increment}
 use Rattle.s66_isa.specs.declared.profile.Profile.{Profile}
 use Rattle.s66_model.specs.Leaves.{Leaf, Whole, Chain, Load, Parcels}
 use Rattle.s66_model.specs.Tree.{Tree, Alone, Parted, Kids, NoMore, Unsplit, Split, Knot, AtTip, AtSplit, flat, splits}
-use Rattle.s66_isa.specs.Lists.{every}
+use Rattle.s66_line.specs.InstructionText.{IsInstruction}
 use Rattle.s66_cert.specs.declared.limits.TheConstants.{PROFILE_LENGTH, PROFILE_LIMIT, TIME_LIMIT, SPLIT_LIMIT}
-use Rattle.s66_line.specs.Block.{spelling}
-use Rattle.s66_line.specs.Fields.{is_blank, upper}
-use Rattle.s66_line.specs.Operand.{instr_of}
 
 -- the 17 numbers of a profile: its ten entries, then its seven copies
 abbrev pub profile_numbers : Profile → List ℕ
@@ -58,22 +55,9 @@ TreeFits limit (Parted numbers kids) = AreNumbers limit numbers × KidsFit limit
 
 -- INSTRUCTIONS
 
-abbrev pub is_no_blank : ℕ → Bool
-is_no_blank b = not (is_blank b)
-
--- an operation, and a blank and its operand where it has one, that spell an instruction in upper case
-pub record IsInstruction (text : List ℕ) : Type 0 where
-  pub operation : List ℕ
-  pub operand : List ℕ
-  pub spelled : text ≡ spelling operation operand
-  pub words : every is_no_blank operation && every is_no_blank operand ≡ true
-  pub upper_case : upper text ≡ text
-  pub read : is_some (instr_of operation operand) ≡ true
-
--- a line has at most 200 bytes, and its operation begins in column 2 at the earliest
 abbrev pub AreInstructions : List (List ℕ) → Type 0
 AreInstructions [] = Unit {0}
-AreInstructions (text ∷ texts) = IsInstruction text × (length text ≤ 199) × AreInstructions texts
+AreInstructions (text ∷ texts) = IsInstruction text × AreInstructions texts
 
 -- a document of a block of at most limit instructions
 pub record IsDocument (limit : ℕ) (d : Document) : Type 0 where

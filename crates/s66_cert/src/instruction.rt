@@ -1,7 +1,7 @@
 //! What the text of an instruction is.
 
 ghost use Rattle.std.specs.Prelude.{[], ◌∷◌, ◌++◌, codes};
-ghost use Rattle.s66_cert.specs.Document.{IsInstruction};
+ghost use Rattle.s66_line.specs.InstructionText.{IsInstruction};
 
 /// Texts of instructions, and texts that are none.
 pub fn instruction_examples()

@@ -7,24 +7,11 @@ use Rattle.s66_isa.specs.declared.reg.Bank.TheVariants.{A, B, X}
 use Rattle.s66_isa.specs.Lists.{Among, rising}
 use Rattle.s66_isa.proofs.Lists.{rising-among}
 use Rattle.s66_line.specs.Operand.{spelled, boolean_operator, boolean, b_and_x, is_expression, shift, normalise, mask, arithmetic_code, arithmetic, population, terms_of, are_terms, set_code, set, decode}
-use Rattle.s66_line.specs.declared.operation.Syntax.{Syntax}
-use Rattle.s66_line.specs.declared.operation.Syntax.TheVariants.{Boolean, Shift, Normalise, Arithmetic, Mask, Population, Set}
+use Rattle.s66_line.specs.Choices.{at_most_one, choices}
+use Rattle.s66_line.specs.declared.operand.operation.Syntax.{Syntax}
+use Rattle.s66_line.specs.declared.operand.operation.Syntax.TheVariants.{Boolean, Shift, Normalise, Arithmetic, Mask, Population, Set}
 use Rattle.s66_line.proofs.Digits.{either, made, IsDigit, AreDigits, digit-few, two-few, b_and_x-few}
 use Rattle.s66_line.proofs.SetForms.{IsSetForm, set_form-few}
-
-abbrev one : Option ℕ → List ℕ
-one None = []
-one (Some code) = code ∷ []
-
--- the codes from which the operand of a form chooses
-abbrev pub choices : Syntax → List ℕ
-choices Boolean = rising 8 0o10
-choices (Shift by_constant by_register) = by_constant ∷ by_register ∷ []
-choices (Normalise code) = code ∷ []
-choices (Arithmetic sum difference product quotient) = sum ∷ difference ∷ one product ++ one quotient
-choices Mask = 0o43 ∷ []
-choices Population = 0o47 ∷ []
-choices (Set bank) = rising 8 (set_code bank)
 
 -- the instruction has one of these codes, this digit i, and other digits
 abbrev pub Chosen : List ℕ → ℕ → Instr → Type 0
@@ -86,11 +73,11 @@ chosen-mask i text = either _ (is_expression text) _ _ (λ e. (inl refl, refl, l
 
 -- SUMS, PRODUCTS, QUOTIENTS
 
-among-one : (product quotient : Option ℕ) → IfSome product (λ code. Among code (one product ++ one quotient))
+among-one : (product quotient : Option ℕ) → IfSome product (λ code. Among code (at_most_one product ++ at_most_one quotient))
 among-one None quotient = tt
 among-one (Some code) quotient = inl refl
 
-among-other : (product quotient : Option ℕ) → IfSome quotient (λ code. Among code (one product ++ one quotient))
+among-other : (product quotient : Option ℕ) → IfSome quotient (λ code. Among code (at_most_one product ++ at_most_one quotient))
 among-other product None = tt
 among-other None (Some code) = inl refl
 among-other (Some first) (Some code) = inr (inl refl)

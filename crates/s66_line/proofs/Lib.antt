@@ -11,7 +11,10 @@ pub mod Digits
 pub mod SetForms
 pub mod Choices
 pub mod OperationLaw
-pub mod SetFormLaw
+pub mod SpellingLaw
 pub mod UpperCase
+pub mod Names
+pub mod InstructionTexts
 pub mod CaseLaw
 pub mod LineLaw
+pub mod Wholes

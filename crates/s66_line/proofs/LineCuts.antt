@@ -1,52 +1,73 @@
--- A text cut into lines, place by place.
-use Rattle.std.proofs.Common.{◌≡◌, ◌≤◌, ◌<◌, ◌+◌, ◌-◌, ℕ, suc, List, [], ◌∷◌, ◌++◌, length, take, drop, get_or, refl, sym, ap, ◌∙◌, arith, drop-cons, eqb, false}
+-- A text cut into lines at its newlines.
+use Rattle.std.proofs.Common.{◌≡◌, ◌+◌, ◌==◌, ℕ, zero, suc, Bool, true, false, Option, None, Some, List, [], ◌∷◌, ◌++◌, take, drop, refl, sym, ap, ◌∙◌, arith, append_assoc}
 use Rattle.std.specs.Prelude.{Result, Ok, Err}
-use Rattle.std.proofs.lemmas.Bool.{ne_eqb}
-use Rattle.std.proofs.lemmas.List.Edits.{between_more}
-use Rattle.s66_line.specs.Fields.{lines_from}
+use Rattle.std.proofs.lemmas.List.{append-nil}
+use Rattle.memchr.specs.Find.{IsFirstByte, is_byte}
+use Rattle.s66_line.specs.Fields.{last_line, lines_from}
 use Rattle.s66_line.specs.Reader.{State, Steps, line_step, lines_step, and_then}
 use Rattle.s66_line.specs.declared.error.SourceError.{SourceError}
 use Rattle.s66_line.specs.declared.error.SourceError.TheVariants.{BadOperand, LineTooLong, TooLarge, OutOfMemory}
 
--- the line ends at a newline
-pub lines_from-newline : (line text : List ℕ) (i : ℕ) → i < length text → get_or text i 0 ≡ 10 → lines_from line (drop i text) ≡ line ∷ lines_from [] (drop (i + 1) text)
-lines_from-newline line text i within newline =
-    let rest : drop i text ≡ 10 ∷ drop (suc i) text = drop-cons text i 0 within ∙ ap (λ b. b ∷ drop (suc i) text) newline in
-    let next : i + 1 ≡ suc i = omega arith in
-    rw (next, rest) refl
+-- the first newline of these bytes
+abbrev pub IsFirstNewline : List ℕ → Option ℕ → Type 0
+IsFirstNewline bytes index = IsFirstByte (is_byte 10) bytes index
 
--- and goes on at any other byte
-pub lines_from-more : (text : List ℕ) (begin i : ℕ) → begin ≤ i → i < length text → (get_or text i 0 ≡ 10 → ⊥) →
-    lines_from (take (i - begin) (drop begin text)) (drop i text) ≡ lines_from (take (i + 1 - begin) (drop begin text)) (drop (i + 1) text)
-lines_from-more text begin i begin_run within other =
-    let next : i + 1 ≡ suc i = omega arith in
-    let differs : eqb (get_or text i 0) 10 ≡ false = ne_eqb (get_or text i 0) 10 other in
-    let longer : take (i + 1 - begin) (drop begin text) ≡ take (i - begin) (drop begin text) ++ get_or text i 0 ∷ [] = between_more text begin i 0 begin_run within in
-    let rest : drop i text ≡ get_or text i 0 ∷ drop (suc i) text = drop-cons text i 0 within in
-    rw (longer, next, rest, differs) refl
+later : (b : ℕ) (bytes : List ℕ) (k : ℕ) → IsFirstNewline (b ∷ bytes) (Some (suc k)) → IsFirstNewline bytes (Some k)
+later b bytes k h =
+    (record { low = omega arith; high = (let high = h.0.high in omega (arith, high)); before = λ i low below. h.0.before (suc i) (omega arith) (omega (arith, below)) }, h.1)
 
--- the lines after a newline, once its line is read
-pub lines_step-newline : (s t : State) (line text : List ℕ) (i : ℕ) (whole : Result State SourceError) → i < length text → get_or text i 0 ≡ 10 →
-    line_step s line ≡ Ok t → lines_step s (lines_from line (drop i text)) ≡ whole → lines_step t (lines_from (take (i + 1 - (i + 1)) (drop (i + 1) text)) (drop (i + 1) text)) ≡ whole
-lines_step-newline s t line text i whole within newline made same =
-    let none : i + 1 - (i + 1) ≡ 0 = omega arith in
-    let cut : lines_step s (line ∷ lines_from [] (drop (i + 1) text)) ≡ whole = ap (lines_step s) (sym (lines_from-newline line text i within newline)) ∙ same in
-    rw none (sym (ap (λ r. and_then r (λ u. lines_step u (lines_from [] (drop (i + 1) text)))) made) ∙ cut)
+nowhere : (b : ℕ) (bytes : List ℕ) → IsFirstNewline (b ∷ bytes) None → IsFirstNewline bytes None
+nowhere b bytes h = λ i low below. h (suc i) (omega arith) (omega (arith, below))
 
--- a line's refusal is the text's
-pub Steps-line : (e : SourceError) (s new : State) (line : List ℕ) (lines : List (List ℕ)) → Steps new (Err e) (line_step s line) → Steps new (Err e) (lines_step s (line ∷ lines))
-Steps-line OutOfMemory s new line lines h = tt
-Steps-line (BadOperand n) s new line lines h = ap (λ r. and_then r (λ t. lines_step t lines)) h
-Steps-line (LineTooLong n) s new line lines h = ap (λ r. and_then r (λ t. lines_step t lines)) h
-Steps-line TooLarge s new line lines h = ap (λ r. and_then r (λ t. lines_step t lines)) h
+lines_from-here : (line bytes : List ℕ) (b : ℕ) → (b == 10) ≡ true → lines_from line (b ∷ bytes) ≡ line ∷ lines_from [] bytes
+lines_from-here line bytes b told = rw told refl
 
--- and so is the refusal of a line in the middle of it
-pub Steps-newline : (e : SourceError) (s new any : State) (line text : List ℕ) (i : ℕ) (whole : Result State SourceError) → i < length text → get_or text i 0 ≡ 10 →
-    Steps new (Err e) (line_step s line) → lines_step s (lines_from line (drop i text)) ≡ whole → Steps any (Err e) whole
-Steps-newline OutOfMemory s new any line text i whole within newline made same = tt
-Steps-newline (BadOperand n) s new any line text i whole within newline made same =
-    sym same ∙ ap (lines_step s) (lines_from-newline line text i within newline) ∙ Steps-line (BadOperand n) s new line (lines_from [] (drop (i + 1) text)) made
-Steps-newline (LineTooLong n) s new any line text i whole within newline made same =
-    sym same ∙ ap (lines_step s) (lines_from-newline line text i within newline) ∙ Steps-line (LineTooLong n) s new line (lines_from [] (drop (i + 1) text)) made
-Steps-newline TooLarge s new any line text i whole within newline made same =
-    sym same ∙ ap (lines_step s) (lines_from-newline line text i within newline) ∙ Steps-line TooLarge s new line (lines_from [] (drop (i + 1) text)) made
+lines_from-later : (line bytes : List ℕ) (b : ℕ) → (b == 10) ≡ false → lines_from line (b ∷ bytes) ≡ lines_from (line ++ b ∷ []) bytes
+lines_from-later line bytes b told = rw told refl
+
+other : (t : Bool) → ¬ (t ≡ true) → t ≡ false
+other true h = absurd (h refl)
+other false h = refl
+
+-- the line that is begun ends there
+lines_from-found : (line bytes : List ℕ) (k : ℕ) → IsFirstNewline bytes (Some k) → lines_from line bytes ≡ (line ++ take k bytes) ∷ lines_from [] (drop (k + 1) bytes)
+lines_from-found line [] k h = absurd (let high = h.0.high in omega (arith, high))
+lines_from-found line (b ∷ bytes) zero h = lines_from-here line bytes b h.1 ∙ ap (λ l. l ∷ lines_from [] bytes) (sym (append-nil line))
+lines_from-found line (b ∷ bytes) (suc k) h =
+    let next : suc k + 1 ≡ suc (k + 1) = omega arith in
+    lines_from-later line bytes b (other (b == 10) (h.0.before 0 (omega arith) (omega arith)))
+    ∙ lines_from-found (line ++ b ∷ []) bytes k (later b bytes k h)
+    ∙ rw next (ap (λ l. l ∷ lines_from [] (drop (k + 1) bytes)) (append_assoc line (b ∷ []) (take k bytes)))
+
+-- or goes on to the end
+lines_from-none : (line bytes : List ℕ) → IsFirstNewline bytes None → lines_from line bytes ≡ last_line (line ++ bytes)
+lines_from-none line [] h = ap last_line (sym (append-nil line))
+lines_from-none line (b ∷ bytes) h =
+    lines_from-later line bytes b (other (b == 10) (h 0 (omega arith) (omega arith)))
+    ∙ lines_from-none (line ++ b ∷ []) bytes (nowhere b bytes h)
+    ∙ ap last_line (append_assoc line (b ∷ []) bytes)
+
+-- WHAT THE LINES MAKE
+
+-- a line up to a newline, and then those after it
+pub lines_step-found : (s t : State) (bytes : List ℕ) (k : ℕ) (whole : Result State SourceError) → IsFirstNewline bytes (Some k) →
+    line_step s (take k bytes) ≡ Ok t → lines_step s (lines_from [] bytes) ≡ whole → lines_step t (lines_from [] (drop (k + 1) bytes)) ≡ whole
+lines_step-found s t bytes k whole first made same =
+    sym (ap (λ r. and_then r (λ u. lines_step u (lines_from [] (drop (k + 1) bytes)))) made)
+    ∙ sym (ap (lines_step s) (lines_from-found [] bytes k first)) ∙ same
+
+-- a line's refusal is that of all
+Steps-line : (e : SourceError) (s new any : State) (line : List ℕ) (lines : List (List ℕ)) (whole : Result State SourceError) → Steps new (Err e) (line_step s line) → lines_step s (line ∷ lines) ≡ whole → Steps any (Err e) whole
+Steps-line OutOfMemory s new any line lines whole h same = tt
+Steps-line (BadOperand n) s new any line lines whole h same = sym same ∙ ap (λ r. and_then r (λ t. lines_step t lines)) h
+Steps-line (LineTooLong n) s new any line lines whole h same = sym same ∙ ap (λ r. and_then r (λ t. lines_step t lines)) h
+Steps-line TooLarge s new any line lines whole h same = sym same ∙ ap (λ r. and_then r (λ t. lines_step t lines)) h
+
+pub Steps-found : (e : SourceError) (s new any : State) (bytes : List ℕ) (k : ℕ) (whole : Result State SourceError) → IsFirstNewline bytes (Some k) →
+    Steps new (Err e) (line_step s (take k bytes)) → lines_step s (lines_from [] bytes) ≡ whole → Steps any (Err e) whole
+Steps-found e s new any bytes k whole first made same =
+    Steps-line e s new any (take k bytes) (lines_from [] (drop (k + 1) bytes)) whole made (sym (ap (lines_step s) (lines_from-found [] bytes k first)) ∙ same)
+
+-- the last line, which lacks its newline
+pub last-none : (bytes : List ℕ) → IsFirstNewline bytes None → lines_from [] bytes ≡ lines_from bytes []
+last-none bytes none = lines_from-none [] bytes none

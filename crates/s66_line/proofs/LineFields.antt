@@ -2,11 +2,12 @@
 use Rattle.std.proofs.Common.{◌≡◌, ℕ, zero, suc, ◌+◌, ◌-◌, ◌≤◌, ◌<◌, Bool, true, false, not, cond, List, [], ◌∷◌, ◌++◌, length, take, drop, refl, sym, ap, ◌∙◌, arith, length-drop, get_or, eq-eqb, append_assoc}
 use Rattle.std.proofs.lemmas.Bool.{eqb-true}
 use Rattle.std.proofs.Math.Seq.{take-suc}
-use Rattle.std.specs.Prelude.{◌&&◌, ◌==◌}
+use Rattle.std.proofs.Math.Dec.{eqb-zero-suc}
+use Rattle.std.specs.Prelude.{◌&&◌, ◌||◌, ◌==◌, nat_le}
 use Rattle.std.specs.List.{prefix_len}
 use Rattle.s66_isa.specs.Lists.{every}
-use Rattle.s66_line.specs.Fields.{is_blank, skip_blanks, word, after_word, trim, is_return, upper, from_location, label_bytes}
-use Rattle.s66_line.specs.Block.{spelling}
+use Rattle.s66_line.specs.Fields.{is_blank, blanks, skip_blanks, word, after_word, trim, is_return, upper, from_location, label_bytes}
+use Rattle.s66_line.specs.InstructionText.{spelling}
 use Rattle.std.proofs.lemmas.List.{take_rest}
 use Rattle.std.proofs.lemmas.List.Sums.{prefix_len-le-length}
 
@@ -47,7 +48,7 @@ pub ruleset word_steps = (skip_blanks-rest, word-take, after_word-rest, blanks-l
 
 -- THE LABEL of a line
 
-word-length : (bytes : List ℕ) → length (word bytes) ≤ length bytes
+pub word-length : (bytes : List ℕ) → length (word bytes) ≤ length bytes
 word-length [] = omega arith
 word-length (b ∷ bytes) =
     elim (is_blank b) as (λ t. length (cond t [] (b ∷ word bytes)) ≤ suc (length bytes))
@@ -59,16 +60,16 @@ take-word (b ∷ bytes) =
     elim (is_blank b) as (λ t. take (length (cond t [] (b ∷ word bytes))) (b ∷ bytes) ≡ cond t [] (b ∷ word bytes))
     [ true ↦ refl | false ↦ ap (λ w. b ∷ w) (take-word bytes) ]
 
-from_location-yes : (b : ℕ) (bytes : List ℕ) → (b == 32) ≡ true → from_location (b ∷ bytes) ≡ bytes
+pub from_location-yes : (b : ℕ) (bytes : List ℕ) → (b == 32) ≡ true → from_location (b ∷ bytes) ≡ bytes
 from_location-yes b bytes space = rw space refl
 
-from_location-no : (b : ℕ) (bytes : List ℕ) → (b == 32) ≡ false → from_location (b ∷ bytes) ≡ b ∷ bytes
+pub from_location-no : (b : ℕ) (bytes : List ℕ) → (b == 32) ≡ false → from_location (b ∷ bytes) ≡ b ∷ bytes
 from_location-no b bytes other = rw other refl
 
-label-yes : (b : ℕ) (bytes : List ℕ) → (b == 32) ≡ true → label_bytes (b ∷ bytes) ≡ 32 ∷ word bytes
+pub label-yes : (b : ℕ) (bytes : List ℕ) → (b == 32) ≡ true → label_bytes (b ∷ bytes) ≡ 32 ∷ word bytes
 label-yes b bytes space = rw space refl
 
-label-no : (b : ℕ) (bytes : List ℕ) → (b == 32) ≡ false → label_bytes (b ∷ bytes) ≡ word (b ∷ bytes)
+pub label-no : (b : ℕ) (bytes : List ℕ) → (b == 32) ≡ false → label_bytes (b ∷ bytes) ≡ word (b ∷ bytes)
 label-no b bytes other = rw other refl
 
 -- the columns before the location field, and the field
@@ -85,6 +86,16 @@ label-cut-by false b bytes told =
 pub label-cut : (line : List ℕ) → take (length line - length (from_location line) + length (word (from_location line))) line ≡ label_bytes line
 label-cut [] = refl
 label-cut (b ∷ bytes) = label-cut-by (b == 32) b bytes refl
+
+-- A COMMENT begins with a star or a blank
+
+skip_blanks-no : (b : ℕ) (bytes : List ℕ) → is_blank b ≡ false → skip_blanks (b ∷ bytes) ≡ b ∷ bytes
+skip_blanks-no b bytes other = rw other refl
+
+pub indented_no : (b : ℕ) (bytes : List ℕ) → is_blank b ≡ false → (blanks (b ∷ bytes) == length (b ∷ bytes) || nat_le 29 (blanks (b ∷ bytes))) ≡ false
+indented_no b bytes other =
+    let none : suc (length bytes) - suc (length bytes) ≡ 0 = omega arith in
+    rw (skip_blanks-no b bytes other, none, eqb-zero-suc (length bytes)) refl
 
 -- THE SPELLING of a line
 
@@ -115,6 +126,35 @@ fits-from false b bytes told ih h = let rest = ih h in omega (arith, rest)
 pub spelling-fits : (bytes : List ℕ) → 0 < length (word (skip_blanks (after_word bytes))) → length (word bytes) + length (word (skip_blanks (after_word bytes))) < length bytes
 spelling-fits [] h = h
 spelling-fits (b ∷ bytes) h = fits-from (is_blank b) b bytes refl (spelling-fits bytes) h
+
+-- the operation begins behind column 1
+
+after_word-length : (bytes : List ℕ) → length (after_word bytes) ≤ length bytes
+after_word-length [] = omega arith
+after_word-length (b ∷ bytes) =
+    elim (is_blank b) as (λ t. length (cond t (b ∷ bytes) (after_word bytes)) ≤ suc (length bytes))
+    [ true ↦ omega arith | false ↦ (let h = after_word-length bytes in omega (arith, h)) ]
+
+after_word-no : (b : ℕ) (bytes : List ℕ) → is_blank b ≡ false → after_word (b ∷ bytes) ≡ after_word bytes
+after_word-no b bytes other = rw other refl
+
+after_word-yes : (b : ℕ) (bytes : List ℕ) → is_blank b ≡ true → after_word (b ∷ bytes) ≡ b ∷ bytes
+after_word-yes b bytes blank = rw blank refl
+
+behind-word : (bytes : List ℕ) → length (skip_blanks (after_word bytes)) ≤ length bytes
+behind-word bytes = let s = skip_blanks-length (after_word bytes) in let a = after_word-length bytes in omega (arith, s, a)
+
+behind-first : (blank : Bool) (b : ℕ) (bytes : List ℕ) → is_blank b ≡ blank → length (skip_blanks (after_word (b ∷ bytes))) ≤ length bytes
+behind-first true b bytes told = rw (after_word-yes b bytes told, skip_blanks-yes b bytes told) (skip_blanks-length bytes)
+behind-first false b bytes told = rw (after_word-no b bytes told) (behind-word bytes)
+
+behind-column : (t : Bool) (b : ℕ) (bytes : List ℕ) → (b == 32) ≡ t → length (skip_blanks (after_word (from_location (b ∷ bytes)))) ≤ length bytes
+behind-column true b bytes told = rw (from_location-yes b bytes told) (behind-word bytes)
+behind-column false b bytes told = rw (from_location-no b bytes told) (behind-first (is_blank b) b bytes refl)
+
+pub from_operation_within : (line : List ℕ) → length (skip_blanks (after_word (from_location line))) ≤ length line - 1
+from_operation_within [] = omega arith
+from_operation_within (b ∷ bytes) = let h = behind-column (b == 32) b bytes refl in omega (arith, h)
 
 pub spelling-filled : (operation operand : List ℕ) → 0 < length operand → (operation ++ 32 ∷ []) ++ upper operand ≡ spelling operation (upper operand)
 spelling-filled operation [] h = absurd (omega (arith, h))

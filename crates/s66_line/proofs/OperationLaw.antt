@@ -1,17 +1,18 @@
 -- What is spelled is in the table.
-use Rattle.std.proofs.Common.{Bool, ◌&&◌, not, leb, true≢false, ◌≡◌, ◌<◌, ◌+◌, ◌-◌, ◌==◌, ℕ, zero, suc, true, List, [], ◌∷◌, length, get_or, None, Some, IfSome, refl, sym, ap, ◌∙◌, subst, inl, inr, arith, eqb-true, lit<}
+use Rattle.std.proofs.Common.{Bool, ◌&&◌, not, leb, true≢false, ◌≡◌, ◌≤◌, ◌<◌, ◌+◌, ◌-◌, ◌==◌, ℕ, zero, suc, true, List, [], ◌∷◌, length, get_or, None, Some, IfSome, refl, sym, ap, ◌∙◌, subst, inl, inr, arith, eqb-true, lit<}
 use Rattle.std.proofs.lemmas.Option.{IfSome_then}
 use Rattle.std.proofs.lemmas.Bool.{and_parts, leb-true, eq-eqb}
 use Rattle.s66_isa.specs.declared.instr.Instr.{Instr}
 use Rattle.s66_isa.specs.declared.reg.Bank.TheVariants.{A, B, X}
 use Rattle.s66_isa.specs.Lists.{Among, every}
 use Rattle.s66_isa.specs.Table.{IsCode}
-use Rattle.s66_line.specs.Operand.{is_octal, syntax_of, decode, instr_of}
+use Rattle.s66_line.specs.Operand.{is_octal, syntax_of, decode, operation_of, instr_of}
+use Rattle.s66_line.specs.Choices.{choices, IsOfTheTable}
 use Rattle.s66_line.specs.Spelling.{operations, CanMean}
-use Rattle.s66_line.specs.declared.operation.Syntax.{Syntax}
-use Rattle.s66_line.specs.declared.operation.Syntax.TheVariants.{Boolean, Shift, Normalise, Arithmetic, Mask, Population, Set}
+use Rattle.s66_line.specs.declared.operand.operation.Syntax.{Syntax}
+use Rattle.s66_line.specs.declared.operand.operation.Syntax.TheVariants.{Boolean, Shift, Normalise, Arithmetic, Mask, Population, Set}
 use Rattle.s66_line.proofs.Digits.{either, made, octal-few, octal-written}
-use Rattle.s66_line.proofs.Choices.{choices, Chosen, chosen}
+use Rattle.s66_line.proofs.Choices.{Chosen, chosen}
 
 -- A ROW OF THE TABLE
 
@@ -67,24 +68,32 @@ can_mean p q d syntax n e row h =
       digits = (rw h.1 (octal-few d e), h.2, h.3);
     }
 
-each-meaning : (p q d : ℕ) (text : List ℕ) → IfSome (instr_of (p ∷ q ∷ d ∷ []) text) (CanMean (p ∷ q ∷ d ∷ []))
-each-meaning p q d text =
+-- the digit of an operation, and what its form can choose
+abbrev Decoded : List ℕ → Syntax × ℕ → Type 0
+Decoded operation o = (o.1 ≤ 7) × ((n : Instr) → Chosen (choices o.0) o.1 n → CanMean operation n)
+
+class_of_operand : (operation : List ℕ) → IfSome (operation_of operation) (Decoded operation)
+class_of_operand [] = tt
+class_of_operand (p ∷ []) = tt
+class_of_operand (p ∷ q ∷ []) = tt
+class_of_operand (p ∷ q ∷ d ∷ []) =
     either _ (is_octal d) _ _
-    (λ e. made (Listed p q) _ _ _ (all-listed p q)
-    (λ syntax row. IfSome_then (decode syntax (d - 48) text) (chosen syntax (d - 48) text (octal-few d e)) (λ n h. can_mean p q d syntax n e row h)))
+    (λ e. made (Listed p q) _ _ _ (all-listed p q) (λ syntax row. (octal-few d e, λ n h. can_mean p q d syntax n e row h)))
     (λ e. tt)
+class_of_operand (p ∷ q ∷ d ∷ e ∷ more) = tt
 
 meaning : (operation text : List ℕ) → IfSome (instr_of operation text) (CanMean operation)
-meaning [] text = tt
-meaning (p ∷ []) text = tt
-meaning (p ∷ q ∷ []) text = tt
-meaning (p ∷ q ∷ d ∷ []) text = each-meaning p q d text
-meaning (p ∷ q ∷ d ∷ e ∷ more) text = tt
+meaning operation text =
+    made (Decoded operation) _ (λ o. decode o.0 o.1 text) _ (class_of_operand operation) (λ o h. IfSome_then (decode o.0 o.1 text) (chosen o.0 o.1 text h.0) h.1)
 
 pub CanMean-instr_of : (operation text : List ℕ) (n : Instr) → instr_of operation text ≡ Some n → CanMean operation n
 CanMean-instr_of operation text n e = subst (λ o. IfSome o (CanMean operation)) e (meaning operation text)
 
--- AN INSTRUCTION OF THE TABLE
+-- what a syntax decodes is what its operand chooses
+pub Chosen-decode : (syntax : Syntax) (i : ℕ) (text : List ℕ) (n : Instr) → i ≤ 7 → decode syntax i text ≡ Some n → Chosen (choices syntax) i n
+Chosen-decode syntax i text n few e = subst (λ o. IfSome o (Chosen (choices syntax) i)) e (chosen syntax i text few)
+
+-- ITS CODES ARE OF THE TABLE
 
 -- what a test has computed of a whole list holds of each of its members
 tested : {X : Type 0} (test : X → Bool) (x : X) (xs : List X) → every test xs ≡ true → Among x xs → test x ≡ true
@@ -95,11 +104,16 @@ tested test x (y ∷ ys) all (inr more) = tested test x ys (and_parts (test y) (
 abbrev is_code : ℕ → Bool
 is_code code = leb 0o10 code && (leb code 0o77 && not (code == 0o46))
 
--- all that an operation can mean is of the table
-pub meant-code : (operation : List ℕ) (n : Instr) → CanMean operation n → IsCode n.op.code
-meant-code operation n h =
-    let all = tested (λ (row : List ℕ × List ℕ). every is_code row.1) (h.letters, h.meanings) operations refl h.listed in
-    let code = tested is_code n.op.code h.meanings all h.code in
-    let (low, rest) = and_parts (leb 0o10 n.op.code) (leb n.op.code 0o77 && not (n.op.code == 0o46)) code in
-    let (high, other) = and_parts (leb n.op.code 0o77) (not (n.op.code == 0o46)) rest in
-    (leb-true 0o10 n.op.code low, leb-true n.op.code 0o77 high, λ is. absurd (true≢false (sym other ∙ ap not (eq-eqb n.op.code 0o46 is))))
+IsCode-is_code : (code : ℕ) → is_code code ≡ true → IsCode code
+IsCode-is_code code is =
+    let (low, rest) = and_parts (leb 0o10 code) (leb code 0o77 && not (code == 0o46)) is in
+    let (high, other) = and_parts (leb code 0o77) (not (code == 0o46)) rest in
+    (leb-true 0o10 code low, leb-true code 0o77 high, λ same. absurd (true≢false (sym other ∙ ap not (eq-eqb code 0o46 same))))
+
+listed-codes : (p q : ℕ) (syntax : Syntax) → Listed p q syntax → IsOfTheTable syntax
+listed-codes p q syntax row = λ code among.
+    let all = tested (λ (row : List ℕ × List ℕ). every is_code row.1) (p ∷ q ∷ [], choices syntax) operations refl row in
+    IsCode-is_code code (tested is_code code (choices syntax) all among)
+
+pub IsOfTheTable-syntax_of : (p q : ℕ) (syntax : Syntax) → syntax_of p q ≡ Some syntax → IsOfTheTable syntax
+IsOfTheTable-syntax_of p q syntax e = listed-codes p q syntax (subst (λ o. IfSome o (Listed p q)) e (all-listed p q))

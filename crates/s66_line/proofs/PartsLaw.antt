@@ -6,6 +6,7 @@ use Rattle.std.proofs.lemmas.Bool.{eqb-false, eqb-true, cases_lt}
 use Rattle.std.proofs.Math.Nat.{suc-mod, mod-eq_of_lt}
 use Rattle.s66_isa.specs.Lists.{Among}
 use Rattle.s66_line.specs.Fields.{lines_of}
+use Rattle.s66_line.specs.declared.limits.TheConstants.{BLOCK_LIMIT}
 use Rattle.s66_line.specs.Source.{Line, class_of, is_code, run_at, run_after, place_at, place_after, label_at, label_after, classes_from, classed_lines, instructions, begins_block, put_before, parts_of}
 use Rattle.s66_line.specs.Parts.{all_of, AreFull, AreParts}
 use Rattle.s66_line.specs.declared.class.Class.{Class}
@@ -58,7 +59,7 @@ follow : (lines : List (List ℕ)) → Followed lines
 follow [] number run index label after = tt
 follow (line ∷ lines) number run index label after = follow-class (class_of after line) number run index label line lines (follow lines)
 
--- PARTS: each of one run, its places in order, at most to the next 64th
+-- PARTS: each of one run, its places in order, no more than a block may have
 
 abbrev Steady : ℕ → ℕ → List Line → Type 0
 Steady run index [] = Unit {0}
@@ -70,23 +71,23 @@ Starts run index [] = Unit {0}
 Starts run index ([] ∷ parts) = ⊥
 Starts run index ((m ∷ more) ∷ parts) = After run index m
 
--- the next part begins after a 64th, or with its run
+-- the next part begins where the run was cut, or with the run
 abbrev Next : ℕ → ℕ → List (List Line) → Type 0
 Next run index [] = Unit {0}
 Next run index ([] ∷ parts) = ⊥
-Next run index ((m ∷ more) ∷ parts) = (m.index % 64 ≡ 0) × After run index m
+Next run index ((m ∷ more) ∷ parts) = (m.index % BLOCK_LIMIT ≡ 0) × After run index m
 
 abbrev Cut : List (List Line) → Type 0
 Cut [] = Unit {0}
 Cut ([] ∷ parts) = ⊥
-Cut ((l ∷ more) ∷ parts) = Steady l.run (suc l.index) more × (l.index % 64 + suc (length more) ≤ 64) × Next l.run (l.index + suc (length more)) parts × Cut parts
+Cut ((l ∷ more) ∷ parts) = Steady l.run (suc l.index) more × (l.index % BLOCK_LIMIT + suc (length more) ≤ BLOCK_LIMIT) × Next l.run (l.index + suc (length more)) parts × Cut parts
 
-next-below : (index : ℕ) → (suc index % 64 ≡ 0 → ⊥) → suc index % 64 ≡ suc (index % 64)
+next-below : (index : ℕ) → (suc index % BLOCK_LIMIT ≡ 0 → ⊥) → suc index % BLOCK_LIMIT ≡ suc (index % BLOCK_LIMIT)
 next-below index h =
-    let below : index % 64 < 64 = mod_below index 64 (omega arith) in
-    let whole : suc (index % 64) ≡ 64 → suc (index % 64) % 64 ≡ 0 = λ e. ap (λ n. n % 64) e in
-    let wrapped : suc index % 64 ≡ suc (index % 64) % 64 = suc-mod index 64 in
-    wrapped ∙ mod-eq_of_lt (elim (cases_lt (suc (index % 64)) 64) [ inl lt ↦ lt | inr ge ↦ absurd (h (wrapped ∙ whole (omega (arith, ge, below)))) ])
+    let below : index % BLOCK_LIMIT < BLOCK_LIMIT = mod_below index BLOCK_LIMIT (omega arith) in
+    let whole : suc (index % BLOCK_LIMIT) ≡ BLOCK_LIMIT → suc (index % BLOCK_LIMIT) % BLOCK_LIMIT ≡ 0 = λ e. ap (λ n. n % BLOCK_LIMIT) e in
+    let wrapped : suc index % BLOCK_LIMIT ≡ suc (index % BLOCK_LIMIT) % BLOCK_LIMIT = suc-mod index BLOCK_LIMIT in
+    wrapped ∙ mod-eq_of_lt (elim (cases_lt (suc (index % BLOCK_LIMIT)) BLOCK_LIMIT) [ inl lt ↦ lt | inr ge ↦ absurd (h (wrapped ∙ whole (omega (arith, ge, below)))) ])
 
 Starts-put : (run index : ℕ) (l : Line) (parts : List (List Line)) → After run index l → Starts run index (put_before l parts)
 Starts-put run index l [] h = h
@@ -95,30 +96,30 @@ Starts-put run index l ((next ∷ more) ∷ parts) h =
     elim (begins_block next) as (λ t. Starts run index (if t then (l ∷ []) ∷ (next ∷ more) ∷ parts else (l ∷ next ∷ more) ∷ parts)) [ true ↦ h | false ↦ h ]
 
 -- a line before the first part, which begins anew
-cut-begins : (l next : Line) (more : List Line) (parts : List (List Line)) → next.index % 64 ≡ 0 → After l.run (suc l.index) next → Cut ((next ∷ more) ∷ parts) → Cut ((l ∷ []) ∷ (next ∷ more) ∷ parts)
+cut-begins : (l next : Line) (more : List Line) (parts : List (List Line)) → next.index % BLOCK_LIMIT ≡ 0 → After l.run (suc l.index) next → Cut ((next ∷ more) ∷ parts) → Cut ((l ∷ []) ∷ (next ∷ more) ∷ parts)
 cut-begins l next more parts begins h cut =
-    let below : l.index % 64 < 64 = mod_below l.index 64 (omega arith) in
+    let below : l.index % BLOCK_LIMIT < BLOCK_LIMIT = mod_below l.index BLOCK_LIMIT (omega arith) in
     let one : l.index + 1 ≡ suc l.index = omega arith in
     (tt, omega (arith, below), (begins, rw one h), cut)
 
 -- and which it joins
-cut-joins : (l next : Line) (more : List Line) (parts : List (List Line)) → (next.index % 64 ≡ 0 → ⊥) → After l.run (suc l.index) next → Cut ((next ∷ more) ∷ parts) → Cut ((l ∷ next ∷ more) ∷ parts)
+cut-joins : (l next : Line) (more : List Line) (parts : List (List Line)) → (next.index % BLOCK_LIMIT ≡ 0 → ⊥) → After l.run (suc l.index) next → Cut ((next ∷ more) ∷ parts) → Cut ((l ∷ next ∷ more) ∷ parts)
 cut-joins l next more parts joins (inl h) cut =
-    let up : suc l.index % 64 ≡ suc (l.index % 64) = next-below l.index (λ z. joins (ap (λ n. n % 64) h.1 ∙ z)) in
-    let here : next.index % 64 ≡ suc (l.index % 64) = ap (λ n. n % 64) h.1 ∙ up in
+    let up : suc l.index % BLOCK_LIMIT ≡ suc (l.index % BLOCK_LIMIT) = next-below l.index (λ z. joins (ap (λ n. n % BLOCK_LIMIT) h.1 ∙ z)) in
+    let here : next.index % BLOCK_LIMIT ≡ suc (l.index % BLOCK_LIMIT) = ap (λ n. n % BLOCK_LIMIT) h.1 ∙ up in
     let end : l.index + suc (suc (length more)) ≡ next.index + suc (length more) = omega (arith, h.1) in
     let steady : Steady l.run (suc (suc l.index)) more = rw (← h.0, ← h.1) cut.0 in
     let last : Next l.run (l.index + suc (suc (length more))) parts = rw (end, ← h.0) cut.2 in
     ((h.0, h.1, steady), omega (arith, here, cut.1), last, cut.3)
-cut-joins l next more parts joins (inr h) cut = absurd (joins (ap (λ n. n % 64) h.1))
+cut-joins l next more parts joins (inr h) cut = absurd (joins (ap (λ n. n % BLOCK_LIMIT) h.1))
 
-cut-either : (t : Bool) (l next : Line) (more : List Line) (parts : List (List Line)) → eqb (next.index % 64) 0 ≡ t → After l.run (suc l.index) next → Cut ((next ∷ more) ∷ parts) →
+cut-either : (t : Bool) (l next : Line) (more : List Line) (parts : List (List Line)) → eqb (next.index % BLOCK_LIMIT) 0 ≡ t → After l.run (suc l.index) next → Cut ((next ∷ more) ∷ parts) →
     Cut (if t then (l ∷ []) ∷ (next ∷ more) ∷ parts else (l ∷ next ∷ more) ∷ parts)
-cut-either true l next more parts told h cut = cut-begins l next more parts (eqb-true (next.index % 64) 0 told) h cut
-cut-either false l next more parts told h cut = cut-joins l next more parts (eqb-false (next.index % 64) 0 told) h cut
+cut-either true l next more parts told h cut = cut-begins l next more parts (eqb-true (next.index % BLOCK_LIMIT) 0 told) h cut
+cut-either false l next more parts told h cut = cut-joins l next more parts (eqb-false (next.index % BLOCK_LIMIT) 0 told) h cut
 
 Cut-put : (l : Line) (parts : List (List Line)) → Starts l.run (suc l.index) parts → Cut parts → Cut (put_before l parts)
-Cut-put l [] h cut = (tt, (let below = mod_below l.index 64 (omega arith) in omega (arith, below)), tt, tt)
+Cut-put l [] h cut = (tt, (let below = mod_below l.index BLOCK_LIMIT (omega arith) in omega (arith, below)), tt, tt)
 Cut-put l ([] ∷ parts) h cut = absurd h
 Cut-put l ((next ∷ more) ∷ parts) h cut = cut-either (begins_block next) l next more parts refl h cut
 
@@ -139,7 +140,7 @@ run-part : (l : Line) (more : List Line) → Steady l.run (suc l.index) more →
 run-part l more h m (inl same) = ap (λ (x : Line). x.run) same
 run-part l more h m (inr among) = run-steady l.run (suc l.index) more h m among
 
-cut-sizes : (parts : List (List Line)) → Cut parts → (part : List Line) → Among part parts → (1 ≤ length part) × (length part ≤ 64)
+cut-sizes : (parts : List (List Line)) → Cut parts → (part : List Line) → Among part parts → (1 ≤ length part) × (length part ≤ BLOCK_LIMIT)
 cut-sizes [] cut part among = absurd among
 cut-sizes ([] ∷ parts) cut part among = absurd cut
 cut-sizes ((l ∷ more) ∷ parts) cut part (inl same) = rw same (omega arith, omega (arith, cut.1))
@@ -152,25 +153,25 @@ cut-runs ((k ∷ more) ∷ parts) cut part (inl same) l m in_l in_m =
     run-part k more cut.0 l (subst (Among l) same in_l) ∙ sym (run-part k more cut.0 m (subst (Among m) same in_m))
 cut-runs ((k ∷ more) ∷ parts) cut part (inr among) l m in_l in_m = cut-runs parts cut.3 part among l m in_l in_m
 
--- from one 64th to the next there are 64
-sixty-four : (first next count : ℕ) → first % 64 ≡ 0 → next % 64 ≡ 0 → next ≡ first + suc count → suc count ≤ 64 → suc count ≡ 64
-sixty-four first next count a b c d = omega (arith, a, b, c, d)
+-- from one cut of a run to the next there are BLOCK_LIMIT instructions
+between-cuts : (first next count : ℕ) → first % BLOCK_LIMIT ≡ 0 → next % BLOCK_LIMIT ≡ 0 → next ≡ first + suc count → suc count ≤ BLOCK_LIMIT → suc count ≡ BLOCK_LIMIT
+between-cuts first next count a b c d = omega (arith, a, b, c, d)
 
-full-part : (a b : Line) (more others : List Line) → a.index % 64 ≡ 0 → Steady a.run (suc a.index) more → Steady b.run (suc b.index) others → length (a ∷ more) ≤ 64 →
-    (b.index % 64 ≡ 0) × After a.run (a.index + suc (length more)) b →
-    (l m : Line) → Among l (a ∷ more) → Among m (b ∷ others) → l.run ≡ m.run → length (a ∷ more) ≡ 64
+full-part : (a b : Line) (more others : List Line) → a.index % BLOCK_LIMIT ≡ 0 → Steady a.run (suc a.index) more → Steady b.run (suc b.index) others → length (a ∷ more) ≤ BLOCK_LIMIT →
+    (b.index % BLOCK_LIMIT ≡ 0) × After a.run (a.index + suc (length more)) b →
+    (l m : Line) → Among l (a ∷ more) → Among m (b ∷ others) → l.run ≡ m.run → length (a ∷ more) ≡ BLOCK_LIMIT
 full-part a b more others zeroth steady_a steady_b few next l m in_l in_m same =
     let one_run : a.run ≡ b.run = sym (run-part a more steady_a l in_l) ∙ same ∙ run-part b others steady_b m in_m in
     elim next.1 [
-      | inl h ↦ sixty-four a.index b.index (length more) zeroth next.0 h.1 few
+      | inl h ↦ between-cuts a.index b.index (length more) zeroth next.0 h.1 few
       | inr h ↦ absurd (omega (arith, one_run, h.0))
     ]
 
--- the first part begins after a 64th
+-- the first part begins where its run begins or was cut
 abbrev Zeroth : List (List Line) → Type 0
 Zeroth [] = Unit {0}
 Zeroth ([] ∷ parts) = ⊥
-Zeroth ((m ∷ more) ∷ parts) = m.index % 64 ≡ 0
+Zeroth ((m ∷ more) ∷ parts) = m.index % BLOCK_LIMIT ≡ 0
 
 Zeroth-next : (run index : ℕ) (parts : List (List Line)) → Next run index parts → Zeroth parts
 Zeroth-next run index [] h = tt
@@ -180,8 +181,8 @@ Zeroth-next run index ((m ∷ more) ∷ parts) h = h.0
 Zeroth-starts : (run : ℕ) (parts : List (List Line)) → Starts run 0 parts → Zeroth parts
 Zeroth-starts run [] h = tt
 Zeroth-starts run ([] ∷ parts) h = h
-Zeroth-starts run ((m ∷ more) ∷ parts) (inl h) = ap (λ n. n % 64) h.1
-Zeroth-starts run ((m ∷ more) ∷ parts) (inr h) = ap (λ n. n % 64) h.1
+Zeroth-starts run ((m ∷ more) ∷ parts) (inl h) = ap (λ n. n % BLOCK_LIMIT) h.1
+Zeroth-starts run ((m ∷ more) ∷ parts) (inr h) = ap (λ n. n % BLOCK_LIMIT) h.1
 
 cut-full : (parts : List (List Line)) → Zeroth parts → Cut parts → AreFull parts
 cut-full [] zeroth cut = tt

@@ -8,6 +8,7 @@ use Rattle.std.proofs.Math.Dec.{leb-suc-suc, eqb-suc-suc, eqb-suc-zero}
 use Rattle.std.proofs.Math.Nat.{suc-mod, mod-eq_of_lt}
 use Rattle.s66_isa.specs.declared.instr.Instr.{Instr}
 use Rattle.s66_line.specs.Fields.{lines_of, body, from_operation, label_bytes}
+use Rattle.s66_line.specs.declared.limits.TheConstants.{BLOCK_LIMIT, LINE_LIMIT, SOURCE_LIMIT}
 use Rattle.s66_line.specs.Source.{Line, Entry, Block, class_of, is_code, run_at, run_after, place_at, place_after, label_at, label_after, classes_from, classed_lines, operand_refusal, or_else, refusal, instructions, begins_block, put_before, parts_of, entry_of, label_in, block_of, blocks_of, unless_refused, source_of}
 use Rattle.s66_line.specs.Gives.{Gives}
 use Rattle.s66_line.specs.Reader.{State, Steps, start, end_block, with_open, count_line, by_class, line_step, lines_step, and_then, read_from}
@@ -36,9 +37,9 @@ Begins-put l ((next ∷ more) ∷ parts) h =
     elim (begins_block next) as (λ t. Begins (if t then (l ∷ []) ∷ (next ∷ more) ∷ parts else (l ∷ next ∷ more) ∷ parts)) [ true ↦ h | false ↦ h ]
 
 abbrev Fresh : List (List ℕ) → Type 0
-Fresh lines = (number run index : ℕ) (run_label : List ℕ) (after : Bool) → index % 64 ≡ 0 → Begins (parts_of (instructions (classes_from number run index run_label after lines)))
+Fresh lines = (number run index : ℕ) (run_label : List ℕ) (after : Bool) → index % BLOCK_LIMIT ≡ 0 → Begins (parts_of (instructions (classes_from number run index run_label after lines)))
 
-fresh-class : (c : Class) (number run index : ℕ) (run_label line : List ℕ) (lines : List (List ℕ)) → Fresh lines → index % 64 ≡ 0 →
+fresh-class : (c : Class) (number run index : ℕ) (run_label line : List ℕ) (lines : List (List ℕ)) → Fresh lines → index % BLOCK_LIMIT ≡ 0 →
     Begins (parts_of (instructions (from_class number run index run_label c line lines)))
 fresh-class Comment number run index run_label line lines ih h = ih (suc number) run index run_label false h
 fresh-class Other number run index run_label line lines ih h = ih (suc number) (suc run) 0 [] false refl
@@ -50,7 +51,7 @@ fresh-class (Instruction true n) number run index run_label line lines ih h =
     (parts_of (instructions (classes_from (suc number) (suc run) 1 (label_bytes (body line)) true lines))) refl
 fresh-class (Instruction false n) number run index run_label line lines ih h =
     Begins-put (record { number = number; bytes = line; class = Instruction false n; run = run; index = index; label = run_label })
-    (parts_of (instructions (classes_from (suc number) run (suc index) run_label true lines))) (eq-eqb (index % 64) 0 h)
+    (parts_of (instructions (classes_from (suc number) run (suc index) run_label true lines))) (eq-eqb (index % BLOCK_LIMIT) 0 h)
 
 fresh : (lines : List (List ℕ)) → Fresh lines
 fresh [] number run index run_label after h = tt
@@ -107,10 +108,10 @@ abbrev left_label : List ℕ → ℕ → ℕ → List ℕ
 left_label run_label index count = if eqb index count then run_label else []
 
 -- one more instruction of the open block
-resumed-put : (label : List ℕ) (entries : List Entry) (l : Line) (parts : List (List Line)) → l.index % 64 ≡ length entries → label ≡ left_label l.label l.index (length entries) →
+resumed-put : (label : List ℕ) (entries : List Entry) (l : Line) (parts : List (List Line)) → l.index % BLOCK_LIMIT ≡ length entries → label ≡ left_label l.label l.index (length entries) →
     resumed label entries (put_before l parts) ≡ attach label (entries ++ entry_of l ∷ []) parts
 resumed-put label [] l parts h left = blocks-put l parts ∙ ap (λ n. attach n (entry_of l ∷ []) parts) (sym left)
-resumed-put label (e ∷ es) l parts h left = attach-put label (e ∷ es) l parts (ne_eqb (l.index % 64) 0 (λ z. absurd (omega (arith, z, h))))
+resumed-put label (e ∷ es) l parts h left = attach-put label (e ∷ es) l parts (ne_eqb (l.index % BLOCK_LIMIT) 0 (λ z. absurd (omega (arith, z, h))))
 
 resumed-push : (label : List ℕ) (entries : List Entry) (e : Entry) (parts : List (List Line)) → resumed label (entries ++ e ∷ []) parts ≡ attach label (entries ++ e ∷ []) parts
 resumed-push label [] e parts = refl
@@ -121,7 +122,7 @@ resumed-push label (a ∷ es) e parts = refl
 -- what is read is unlike the definition in no point, whatever was read before
 abbrev Read : List (List ℕ) → Type 0
 Read lines = (blocks : List Block) (label : List ℕ) (entries : List Entry) (count run index : ℕ) (run_label : List ℕ) (after : Bool) →
-    index % 64 ≡ length entries → label ≡ left_label run_label index (length entries) →
+    index % BLOCK_LIMIT ≡ length entries → label ≡ left_label run_label index (length entries) →
     read_from (record { blocks = blocks; label = label; entries = entries; count = count; after = after }) lines
     ≡ unless_refused (refusal (classes_from (suc count) run index run_label after lines)) (blocks ++ resumed label entries (parts_of (instructions (classes_from (suc count) run index run_label after lines))))
 
@@ -135,13 +136,13 @@ class_answer blocks label entries count run index run_label c line lines =
     unless_refused (or_else (operand_refusal (suc count) c) (refusal (classes_from (suc (suc count)) (run_after run c) (place_after index c) (label_after run_label c line) (is_code c) lines)))
     (blocks ++ resumed label entries (parts_of (instructions (from_class (suc count) run index run_label c line lines))))
 
-next-index : (index n : ℕ) → index % 64 ≡ n → (suc n ≡ 64 → ⊥) → suc index % 64 ≡ suc n
+next-index : (index n : ℕ) → index % BLOCK_LIMIT ≡ n → (suc n ≡ BLOCK_LIMIT → ⊥) → suc index % BLOCK_LIMIT ≡ suc n
 next-index index n h more =
-    let below : index % 64 < 64 = mod_below index 64 (omega arith) in
-    suc-mod index 64 ∙ rw h (mod-eq_of_lt (omega (arith, h, below, more)))
+    let below : index % BLOCK_LIMIT < BLOCK_LIMIT = mod_below index BLOCK_LIMIT (omega arith) in
+    suc-mod index BLOCK_LIMIT ∙ rw h (mod-eq_of_lt (omega (arith, h, below, more)))
 
-full-index : (index n : ℕ) → index % 64 ≡ n → suc n ≡ 64 → suc index % 64 ≡ 0
-full-index index n h full = suc-mod index 64 ∙ rw (h, full) refl
+full-index : (index n : ℕ) → index % BLOCK_LIMIT ≡ n → suc n ≡ BLOCK_LIMIT → suc index % BLOCK_LIMIT ≡ 0
+full-index index n h full = suc-mod index BLOCK_LIMIT ∙ rw (h, full) refl
 
 length-push : (entries : List Entry) (e : Entry) → length (entries ++ e ∷ []) ≡ suc (length entries)
 length-push [] e = refl
@@ -156,11 +157,11 @@ left-push label run_label index entries e left =
 abbrev entry_at_line : Instr → List ℕ → ℕ → Entry
 entry_at_line n line count = record { instr = n; line = suc count; bytes = from_operation (body line) }
 
--- the instruction goes to the open block, and ends it where it is the 64th
+-- the instruction goes to the open block, and ends it where it is full then
 put-full : (full : Bool) (n : Instr) (line : List ℕ) (lines : List (List ℕ)) → Read lines →
     (blocks : List Block) (label : List ℕ) (entries : List Entry) (count run index : ℕ) (run_label : List ℕ) (after : Bool) →
-    index % 64 ≡ length entries → label ≡ left_label run_label index (length entries) →
-    eqb (length (entries ++ entry_at_line n line count ∷ [])) 64 ≡ full →
+    index % BLOCK_LIMIT ≡ length entries → label ≡ left_label run_label index (length entries) →
+    eqb (length (entries ++ entry_at_line n line count ∷ [])) BLOCK_LIMIT ≡ full →
     read_from (count_line true (if full
     then record { blocks = with_open blocks label (entries ++ entry_at_line n line count ∷ []); label = []; entries = []; count = count; after = after }
     else record { blocks = blocks; label = label; entries = entries ++ entry_at_line n line count ∷ []; count = count; after = after })) lines
@@ -169,8 +170,8 @@ put-full true n line lines ih blocks label entries count run index run_label aft
     let e : Entry = entry_at_line n line count in
     let l : Line = record { number = suc count; bytes = line; class = Instruction false n; run = run; index = index; label = run_label } in
     let rest = classes_from (suc (suc count)) run (suc index) run_label true lines in
-    let many : suc (length entries) ≡ 64 = sym (length-push entries e) ∙ eqb-true (length (entries ++ e ∷ [])) 64 full in
-    let begins : suc index % 64 ≡ 0 = full-index index (length entries) h many in
+    let many : suc (length entries) ≡ BLOCK_LIMIT = sym (length-push entries e) ∙ eqb-true (length (entries ++ e ∷ [])) BLOCK_LIMIT full in
+    let begins : suc index % BLOCK_LIMIT ≡ 0 = full-index index (length entries) h many in
     ih (with_open blocks label (entries ++ e ∷ [])) [] [] (suc count) run (suc index) run_label true begins (sym (ap (λ t. if t then run_label else []) (eqb-suc-zero index)))
     ∙ ap (unless_refused (refusal rest))
     (end_block-resumed blocks label [] (entries ++ e ∷ []) (parts_of (instructions rest)) (fresh lines (suc (suc count)) run (suc index) run_label true begins)
@@ -179,18 +180,18 @@ put-full false n line lines ih blocks label entries count run index run_label af
     let e : Entry = entry_at_line n line count in
     let l : Line = record { number = suc count; bytes = line; class = Instruction false n; run = run; index = index; label = run_label } in
     let rest = classes_from (suc (suc count)) run (suc index) run_label true lines in
-    let few : suc (length entries) ≡ 64 → ⊥ = λ many. eqb-false (length (entries ++ e ∷ [])) 64 full (length-push entries e ∙ many) in
+    let few : suc (length entries) ≡ BLOCK_LIMIT → ⊥ = λ many. eqb-false (length (entries ++ e ∷ [])) BLOCK_LIMIT full (length-push entries e ∙ many) in
     ih blocks label (entries ++ e ∷ []) (suc count) run (suc index) run_label true (next-index index (length entries) h few ∙ sym (length-push entries e)) (left-push label run_label index entries e left)
     ∙ ap (λ open_parts. unless_refused (refusal rest) (blocks ++ open_parts)) (resumed-push label entries e (parts_of (instructions rest)) ∙ sym (resumed-put label entries l (parts_of (instructions rest)) h left))
 
 -- an instruction that begins no run
 read-put : (n : Instr) (line : List ℕ) (lines : List (List ℕ)) → Read lines →
     (blocks : List Block) (label : List ℕ) (entries : List Entry) (count run index : ℕ) (run_label : List ℕ) (after : Bool) →
-    index % 64 ≡ length entries → label ≡ left_label run_label index (length entries) →
+    index % BLOCK_LIMIT ≡ length entries → label ≡ left_label run_label index (length entries) →
     read_class (record { blocks = blocks; label = label; entries = entries; count = count; after = after }) (Instruction false n) line lines
     ≡ class_answer blocks label entries count run index run_label (Instruction false n) line lines
 read-put n line lines ih blocks label entries count run index run_label after h left =
-    put-full (eqb (length (entries ++ entry_at_line n line count ∷ [])) 64) n line lines ih blocks label entries count run index run_label after h left refl
+    put-full (eqb (length (entries ++ entry_at_line n line count ∷ [])) BLOCK_LIMIT) n line lines ih blocks label entries count run index run_label after h left refl
 
 -- one that begins a run
 read-begin : (n : Instr) (line : List ℕ) (lines : List (List ℕ)) → Read lines →
@@ -218,7 +219,7 @@ read-end next lines ih blocks label entries count run after =
 
 read-class : (c : Class) (line : List ℕ) (lines : List (List ℕ)) → Read lines →
     (blocks : List Block) (label : List ℕ) (entries : List Entry) (count run index : ℕ) (run_label : List ℕ) (after : Bool) →
-    index % 64 ≡ length entries → label ≡ left_label run_label index (length entries) →
+    index % BLOCK_LIMIT ≡ length entries → label ≡ left_label run_label index (length entries) →
     read_class (record { blocks = blocks; label = label; entries = entries; count = count; after = after }) c line lines ≡ class_answer blocks label entries count run index run_label c line lines
 read-class Comment line lines ih blocks label entries count run index run_label after h left = ih blocks label entries (suc count) run index run_label false h left
 read-class Other line lines ih blocks label entries count run index run_label after h left = read-end [] lines ih blocks label entries count run false
@@ -231,7 +232,7 @@ read-class (Instruction false n) line lines ih blocks label entries count run in
 -- whether the line is too long, and whether it is one too many
 read-line : (long many : Bool) (c : Class) (line : List ℕ) (lines : List (List ℕ)) → Read lines →
     (blocks : List Block) (label : List ℕ) (entries : List Entry) (count run index : ℕ) (run_label : List ℕ) (after : Bool) →
-    index % 64 ≡ length entries → label ≡ left_label run_label index (length entries) →
+    index % BLOCK_LIMIT ≡ length entries → label ≡ left_label run_label index (length entries) →
     and_then (if long then Err (LineTooLong (suc count)) else (if many then Err TooLarge
     else by_class (record { blocks = blocks; label = label; entries = entries; count = count; after = after }) c (label_bytes (body line)) (from_operation (body line)))) (λ t. read_from t lines)
     ≡ unless_refused (or_else (if long then Some (LineTooLong (suc count)) else (if many then Some TooLarge else operand_refusal (suc count) c))
@@ -249,14 +250,14 @@ last-open : (blocks : List Block) (label : List ℕ) (entries : List Entry) → 
 last-open blocks label [] = sym (append-nil blocks)
 last-open blocks label (e ∷ es) = refl
 
-too-many : (count : ℕ) → nat_lt 20000 (suc count) ≡ nat_le 20000 count
-too-many count = leb-suc-suc 20000 count
+too-many : (count : ℕ) → nat_lt SOURCE_LIMIT (suc count) ≡ nat_le SOURCE_LIMIT count
+too-many count = leb-suc-suc SOURCE_LIMIT count
 
 read-all : (lines : List (List ℕ)) → Read lines
 read-all [] blocks label entries count run index run_label after h left = ap Ok (last-open blocks label entries)
 read-all (line ∷ lines) blocks label entries count run index run_label after h left =
     then-then (line_step (record { blocks = blocks; label = label; entries = entries; count = count; after = after }) line) (λ t. lines_step t lines) (λ t. Ok (with_open t.blocks t.label t.entries))
-    ∙ rw (too-many count) (read-line (nat_lt 200 (length line)) (nat_le 20000 count) (class_of after line) line lines (read-all lines) blocks label entries count run index run_label after h left)
+    ∙ rw (too-many count) (read-line (nat_lt LINE_LIMIT (length line)) (nat_le SOURCE_LIMIT count) (class_of after line) line lines (read-all lines) blocks label entries count run index run_label after h left)
 
 -- reading from the start is the definition
 pub read_from-start : (text : List ℕ) → read_from start (lines_of text) ≡ source_of text

@@ -1,5 +1,5 @@
 -- The forms of a set instruction are 0 to 7, and so are its digits.
-use Rattle.std.proofs.Common.{◌≤◌, ◌==◌, ℕ, Bool, true, false, List, [], ◌∷◌, ◌++◌, Option, None, Some, IfSome, lit≤}
+use Rattle.std.proofs.Common.{◌≡◌, subst, ◌≤◌, ◌==◌, ℕ, Bool, true, false, List, [], ◌∷◌, ◌++◌, Option, None, Some, IfSome, lit≤}
 use Rattle.s66_isa.specs.declared.reg.Bank.{Bank}
 use Rattle.s66_isa.specs.declared.reg.Bank.TheVariants.{A, B, X}
 use Rattle.s66_line.specs.Operand.{is_octal, with_sign, register_of, registers_of, some_constant, with_constant, without_constant, set_form_of}
@@ -59,3 +59,6 @@ set_form-few ts =
     either _ (some_constant ts) _ _
     (λ e. with-few (registers_of ts) (registers-few ts))
     (λ e. without-few (registers_of ts) (registers-few ts))
+
+pub within : (terms : List (Bool × List ℕ)) (f : ℕ × ℕ × ℕ) → set_form_of terms ≡ Some f → f.0 ≤ 7
+within terms f e = (subst (λ o. IfSome o IsSetForm) e (set_form-few terms)).0

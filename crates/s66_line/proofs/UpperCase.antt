@@ -30,7 +30,7 @@ upper_byte-twice b =
     rw small refl)
     (λ e. rw e refl)
 
-upper-twice : (text : List ℕ) → upper (upper text) ≡ upper text
+pub upper-twice : (text : List ℕ) → upper (upper text) ≡ upper text
 upper-twice [] = refl
 upper-twice (b ∷ text) = rw (upper_byte-twice b, upper-twice text) refl
 
@@ -48,7 +48,7 @@ upper-if false text more = refl
 
 -- FIELDS
 
-blank-kept : (b : ℕ) → is_blank (upper_byte b) ≡ is_blank b
+pub blank-kept : (b : ℕ) → is_blank (upper_byte b) ≡ is_blank b
 blank-kept b = ap₂ (λ s t. s || t) (kept b 32 (lit< tt)) (kept b 9 (lit< tt))
 
 return-kept : (b : ℕ) → is_return (upper_byte b) ≡ is_return b

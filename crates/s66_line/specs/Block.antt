@@ -1,9 +1,9 @@
 -- What a block shows, by the numbers of its instructions, from 1.
-use Rattle.std.specs.Prelude.{ℕ, zero, suc, List, [], ◌∷◌, ◌++◌, map, Option, None, Some, slice_get}
+use Rattle.std.specs.Prelude.{ℕ, zero, suc, List, [], map, Option, None, Some, slice_get}
 use Rattle.s66_isa.specs.declared.instr.Instr.{Instr}
 use Rattle.s66_isa.specs.Table.{instr_at}
-use Rattle.s66_line.specs.Fields.{upper, word, skip_blanks, after_word}
 use Rattle.s66_line.specs.Operand.{constant_of}
+use Rattle.s66_line.specs.InstructionText.{spelling, operation_in, operand_in}
 use Rattle.s66_line.specs.Source.{Entry, Block}
 
 abbrev pub instrs_of : Block → List Instr
@@ -30,15 +30,10 @@ bytes_of block n = bytes (entry_at block n)
     bytes None = []
     bytes (Some e) = e.bytes
 
--- operation and operand, one blank between them where there is an operand
-abbrev pub spelling : List ℕ → List ℕ → List ℕ
-spelling operation [] = operation
-spelling operation (b ∷ operand) = operation ++ 32 ∷ b ∷ operand
-
 -- its operation and its operand in upper case
 abbrev pub text_of : Block → ℕ → List ℕ
-text_of block n = spelling (upper (word (bytes_of block n))) (upper (word (skip_blanks (after_word (bytes_of block n)))))
+text_of block n = spelling (operation_in (bytes_of block n)) (operand_in (bytes_of block n))
 
 -- the text of the constant of an instruction, in upper case: of a shift count or a mask the whole operand, of a set instruction its constant terms, each with its sign, and of any other nothing
 abbrev pub constants_in : Block → ℕ → List ℕ
-constants_in block n = constant_of (instr_at (instrs_of block) n).op.code (upper (word (skip_blanks (after_word (bytes_of block n)))))
+constants_in block n = constant_of (instr_at (instrs_of block) n).op.code (operand_in (bytes_of block n))

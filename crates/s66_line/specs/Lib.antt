@@ -1,9 +1,11 @@
 pub mod Fields
 pub mod Operand
+pub mod Choices
 pub mod Spelling
 pub mod Terms
 pub mod Source
 pub mod Parts
+pub mod InstructionText
 pub mod Block
 pub mod Roles
 pub mod Gives

@@ -2,9 +2,11 @@
 use Rattle.std.specs.Prelude.{◌≡◌, ◌==◌, if◌then◌else◌, ℕ, suc, Bool, true, false, List, [], ◌∷◌, ◌++◌, Result, Ok, Err, nat_lt, nat_le, length}
 use Rattle.s66_isa.specs.declared.instr.Instr.{Instr}
 use Rattle.s66_line.specs.Fields.{body, from_operation, label_bytes}
+use Rattle.s66_line.specs.InstructionText.{Spells}
 use Rattle.s66_line.specs.Source.{Block, Entry, class_of}
 use Rattle.s66_line.specs.declared.class.Class.{Class}
 use Rattle.s66_line.specs.declared.class.Class.TheVariants.{Comment, Other, Refused, Pad, Instruction}
+use Rattle.s66_line.specs.declared.limits.TheConstants.{BLOCK_LIMIT, LINE_LIMIT, SOURCE_LIMIT}
 use Rattle.s66_line.specs.declared.error.SourceError.{SourceError}
 use Rattle.s66_line.specs.declared.error.SourceError.TheVariants.{BadOperand, LineTooLong, TooLarge, OutOfMemory}
 
@@ -12,7 +14,7 @@ pub record State : Type 0 where
   pub blocks : List Block
   -- the label of the run until its first block is ended; none from then on
   pub label : List ℕ
-  -- the instructions of the block that is not ended, at most 63
+  -- the instructions of the block that is not ended, fewer than BLOCK_LIMIT
   pub entries : List Entry
   -- how many lines were read
   pub count : ℕ
@@ -37,9 +39,9 @@ begin_run label s = record { blocks = with_open s.blocks s.label s.entries; labe
 abbrev pub begin_run_if : Bool → List ℕ → State → State
 begin_run_if located label s = if located then begin_run label s else s
 
--- it ends with its 64th instruction too
+-- it ends where it is full too
 abbrev pub end_block_if_full : State → State
-end_block_if_full s = if length s.entries == 64 then end_block s else s
+end_block_if_full s = if length s.entries == BLOCK_LIMIT then end_block s else s
 
 abbrev pub with_entry : Instr → List ℕ → State → State
 with_entry n bytes s =
@@ -62,10 +64,18 @@ by_class s Refused label bytes = Err (BadOperand (suc s.count))
 by_class s (Pad located) label bytes = Ok (count_line true (begin_run_if located label s))
 by_class s (Instruction located n) label bytes = Ok (count_line true (with_entry n bytes (begin_run_if located label s)))
 
+-- what is known of the bytes that are kept of a line of this class
+abbrev pub IsSpelled : Class → List ℕ → Type 0
+IsSpelled (Instruction located n) bytes = Spells bytes n
+IsSpelled Comment bytes = Unit {0}
+IsSpelled Other bytes = Unit {0}
+IsSpelled Refused bytes = Unit {0}
+IsSpelled (Pad located) bytes = Unit {0}
+
 abbrev pub line_step : State → List ℕ → Result State SourceError
 line_step s line =
-    if nat_lt 200 (length line) then Err (LineTooLong (suc s.count))
-    else (if nat_le 20000 s.count then Err TooLarge else by_class s (class_of s.after line) (label_bytes (body line)) (from_operation (body line)))
+    if nat_lt LINE_LIMIT (length line) then Err (LineTooLong (suc s.count))
+    else (if nat_le SOURCE_LIMIT s.count then Err TooLarge else by_class s (class_of s.after line) (label_bytes (body line)) (from_operation (body line)))
 
 abbrev pub and_then : {A B : Type 0} → Result A SourceError → (A → Result B SourceError) → Result B SourceError
 and_then (Ok x) next = next x

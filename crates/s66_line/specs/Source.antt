@@ -1,12 +1,13 @@
 -- The classes of lines, the blocks of a source, and its least refused line.
-use Rattle.std.specs.Prelude.{◌&&◌, ◌==◌, if◌then◌else◌, ℕ, suc, Bool, true, false, List, [], ◌∷◌, ◌%◌, Option, None, Some, Result, Ok, Err, nat_lt, length, map}
+use Rattle.std.specs.Prelude.{◌&&◌, ◌==◌, if◌then◌else◌, ℕ, suc, Bool, true, false, List, [], ◌∷◌, ◌%◌, Option, None, Some, Result, Ok, Err, nat_lt, length, map, is_some}
 use Rattle.std.specs.List.{filter}
 use Rattle.s66_isa.specs.declared.instr.Instr.{Instr}
 use Rattle.s66_isa.specs.Table.{idle_instr}
 use Rattle.s66_line.specs.Fields.{lines_of, upper, body, is_comment, location, operation, operand, from_operation, continues, label_bytes}
-use Rattle.s66_line.specs.Operand.{instr_of, is_operation}
+use Rattle.s66_line.specs.Operand.{operation_of, instr_of}
 use Rattle.s66_line.specs.declared.class.Class.{Class}
 use Rattle.s66_line.specs.declared.class.Class.TheVariants.{Comment, Other, Refused, Pad, Instruction}
+use Rattle.s66_line.specs.declared.limits.TheConstants.{BLOCK_LIMIT, LINE_LIMIT, SOURCE_LIMIT}
 use Rattle.s66_line.specs.declared.error.SourceError.{SourceError}
 use Rattle.s66_line.specs.declared.error.SourceError.TheVariants.{BadOperand, LineTooLong, TooLarge}
 
@@ -27,7 +28,7 @@ is_located line = nat_lt 0 (length (location line))
 abbrev pub by_operation : Bool → List ℕ → List ℕ → Class
 by_operation located operation operand =
     if is_pad operation then Pad located
-    else (if is_operation operation then class_of_operand located (instr_of operation operand) else Other)
+    else (if is_some (operation_of operation) then class_of_operand located (instr_of operation operand) else Other)
 
 -- after: the line directly before is an Instruction or a Pad, so that a comma in column 1 would continue it
 abbrev pub class_of : Bool → List ℕ → Class
@@ -127,8 +128,8 @@ operand_refusal number (Instruction located n) = None
 
 abbrev pub refusal_at : Line → Option SourceError
 refusal_at line =
-    if nat_lt 200 (length line.bytes) then Some (LineTooLong line.number)
-    else (if nat_lt 20000 line.number then Some TooLarge else operand_refusal line.number line.class)
+    if nat_lt LINE_LIMIT (length line.bytes) then Some (LineTooLong line.number)
+    else (if nat_lt SOURCE_LIMIT line.number then Some TooLarge else operand_refusal line.number line.class)
 
 abbrev pub or_else : Option SourceError → Option SourceError → Option SourceError
 or_else (Some e) f = Some e
@@ -138,14 +139,14 @@ abbrev pub refusal : List Line → Option SourceError
 refusal [] = None
 refusal (line ∷ lines) = or_else (refusal_at line) (refusal lines)
 
--- BLOCKS: the instructions of a run, cut after each 64th
+-- BLOCKS: the instructions of a run, cut after each BLOCK_LIMIT
 
 abbrev pub instructions : List Line → List Line
 instructions lines = filter (λ l. is_instruction l.class) lines
 
--- of an instruction: it is the first of its run, or comes after a 64th
+-- of an instruction: it is the first of its run, or the run was cut before it
 abbrev pub begins_block : Line → Bool
-begins_block line = line.index % 64 == 0
+begins_block line = line.index % BLOCK_LIMIT == 0
 
 -- a line before the first of these blocks: it joins that block, or is one where that block begins anew
 abbrev pub put_before : Line → List (List Line) → List (List Line)

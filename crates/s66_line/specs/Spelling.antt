@@ -1,8 +1,6 @@
--- What the letters of an operation can mean, as the manual lists it, and an operand of each form of a set instruction.
+-- What the letters of an operation can mean, as the manual lists it, and a spelling of each octal code.
 use Rattle.std.specs.Prelude.{◌≡◌, ◌≤◌, ◌+◌, ℕ, List, [], ◌∷◌, ◌++◌, codes, map, Result, Ok, Err}
 use Rattle.s66_isa.specs.declared.instr.Instr.{Instr}
-use Rattle.s66_isa.specs.declared.reg.Bank.{Bank}
-use Rattle.s66_isa.specs.declared.reg.Bank.TheVariants.{A, B, X}
 use Rattle.s66_isa.specs.Lists.{Among, rising}
 use Rattle.s66_line.specs.Fields.{upper}
 use Rattle.s66_line.specs.Operand.{spelled}
@@ -43,77 +41,85 @@ pub record CanMean (operation : List ℕ) (n : Instr) : Type 0 where
   pub code : Among n.op.code meanings
   pub digits : (n.i ≤ 7) × (n.j ≤ 7) × (n.k ≤ 7)
 
--- SET INSTRUCTIONS
+-- A SPELLING OF EACH CODE with these digits: operation, operand, and what they spell; a digit that stands in neither is 0
 
-abbrev pub set_letters : Bank → List ℕ
-set_letters A = codes "SA"
-set_letters B = codes "SB"
-set_letters X = codes "SX"
-
--- an operand of each form, from 0 to 7
-abbrev pub set_operands : List (List ℕ)
-set_operands = codes "A1+K" ∷ codes "B1+K" ∷ codes "X1+K" ∷ codes "X1+B2" ∷ codes "A1+B2" ∷ codes "A1-B2" ∷ codes "B1+B2" ∷ codes "B1-B2" ∷ []
-
--- AN EXAMPLE OF EACH CODE: operation, operand, and what they spell
-
-abbrev pub examples : List (List ℕ × List ℕ × Instr)
-examples =
-    (codes "BX1", codes "X2", spelled 0o10 1 2 0)
-    ∷ (codes "BX1", codes "X2*X3", spelled 0o11 1 2 3)
-    ∷ (codes "BX1", codes "X2+X3", spelled 0o12 1 2 3)
-    ∷ (codes "BX1", codes "X2-X3", spelled 0o13 1 2 3)
-    ∷ (codes "BX1", codes "-X3", spelled 0o14 1 0 3)
-    ∷ (codes "BX1", codes "-X3*X2", spelled 0o15 1 2 3)
-    ∷ (codes "BX1", codes "-X3+X2", spelled 0o16 1 2 3)
-    ∷ (codes "BX1", codes "-X3-X2", spelled 0o17 1 2 3)
-    ∷ (codes "LX1", codes "6", spelled 0o20 1 0 0)
-    ∷ (codes "AX1", codes "6", spelled 0o21 1 0 0)
-    ∷ (codes "LX1", codes "B2,X3", spelled 0o22 1 2 3)
-    ∷ (codes "AX1", codes "B2,X3", spelled 0o23 1 2 3)
-    ∷ (codes "NX1", codes "B2,X3", spelled 0o24 1 2 3)
-    ∷ (codes "ZX1", codes "B2,X3", spelled 0o25 1 2 3)
-    ∷ (codes "UX1", codes "B2,X3", spelled 0o26 1 2 3)
-    ∷ (codes "PX1", codes "B2,X3", spelled 0o27 1 2 3)
-    ∷ (codes "FX1", codes "X2+X3", spelled 0o30 1 2 3)
-    ∷ (codes "FX1", codes "X2-X3", spelled 0o31 1 2 3)
-    ∷ (codes "DX1", codes "X2+X3", spelled 0o32 1 2 3)
-    ∷ (codes "DX1", codes "X2-X3", spelled 0o33 1 2 3)
-    ∷ (codes "RX1", codes "X2+X3", spelled 0o34 1 2 3)
-    ∷ (codes "RX1", codes "X2-X3", spelled 0o35 1 2 3)
-    ∷ (codes "IX1", codes "X2+X3", spelled 0o36 1 2 3)
-    ∷ (codes "IX1", codes "X2-X3", spelled 0o37 1 2 3)
-    ∷ (codes "FX1", codes "X2*X3", spelled 0o40 1 2 3)
-    ∷ (codes "RX1", codes "X2*X3", spelled 0o41 1 2 3)
-    ∷ (codes "DX1", codes "X2*X3", spelled 0o42 1 2 3)
-    ∷ (codes "MX1", codes "30", spelled 0o43 1 0 0)
-    ∷ (codes "FX1", codes "X2/X3", spelled 0o44 1 2 3)
-    ∷ (codes "RX1", codes "X2/X3", spelled 0o45 1 2 3)
-    ∷ (codes "CX1", codes "X3", spelled 0o47 1 0 3)
-    ∷ (codes "SA1", codes "A2+K", spelled 0o50 1 2 0)
-    ∷ (codes "SA1", codes "B2+K", spelled 0o51 1 2 0)
-    ∷ (codes "SA1", codes "X2+K", spelled 0o52 1 2 0)
-    ∷ (codes "SA1", codes "X2+B3", spelled 0o53 1 2 3)
-    ∷ (codes "SA1", codes "A2+B3", spelled 0o54 1 2 3)
-    ∷ (codes "SA1", codes "A2-B3", spelled 0o55 1 2 3)
-    ∷ (codes "SA1", codes "B2+B3", spelled 0o56 1 2 3)
-    ∷ (codes "SA1", codes "B2-B3", spelled 0o57 1 2 3)
-    ∷ (codes "SB1", codes "A2+K", spelled 0o60 1 2 0)
-    ∷ (codes "SB1", codes "B2+K", spelled 0o61 1 2 0)
-    ∷ (codes "SB1", codes "X2+K", spelled 0o62 1 2 0)
-    ∷ (codes "SB1", codes "X2+B3", spelled 0o63 1 2 3)
-    ∷ (codes "SB1", codes "A2+B3", spelled 0o64 1 2 3)
-    ∷ (codes "SB1", codes "A2-B3", spelled 0o65 1 2 3)
-    ∷ (codes "SB1", codes "B2+B3", spelled 0o66 1 2 3)
-    ∷ (codes "SB1", codes "B2-B3", spelled 0o67 1 2 3)
-    ∷ (codes "SX1", codes "A2+K", spelled 0o70 1 2 0)
-    ∷ (codes "SX1", codes "B2+K", spelled 0o71 1 2 0)
-    ∷ (codes "SX1", codes "X2+K", spelled 0o72 1 2 0)
-    ∷ (codes "SX1", codes "X2+B3", spelled 0o73 1 2 3)
-    ∷ (codes "SX1", codes "A2+B3", spelled 0o74 1 2 3)
-    ∷ (codes "SX1", codes "A2-B3", spelled 0o75 1 2 3)
-    ∷ (codes "SX1", codes "B2+B3", spelled 0o76 1 2 3)
-    ∷ (codes "SX1", codes "B2-B3", spelled 0o77 1 2 3)
+abbrev pub spellings : ℕ → ℕ → ℕ → List (List ℕ × List ℕ × Instr)
+spellings i j k =
+    (codes "BX" ++ digit i, xj, spelled 0o10 i j 0)
+    ∷ (codes "BX" ++ digit i, xj ++ codes "*" ++ xk, spelled 0o11 i j k)
+    ∷ (codes "BX" ++ digit i, xj ++ codes "+" ++ xk, spelled 0o12 i j k)
+    ∷ (codes "BX" ++ digit i, xj ++ codes "-" ++ xk, spelled 0o13 i j k)
+    ∷ (codes "BX" ++ digit i, codes "-" ++ xk, spelled 0o14 i 0 k)
+    ∷ (codes "BX" ++ digit i, codes "-" ++ xk ++ codes "*" ++ xj, spelled 0o15 i j k)
+    ∷ (codes "BX" ++ digit i, codes "-" ++ xk ++ codes "+" ++ xj, spelled 0o16 i j k)
+    ∷ (codes "BX" ++ digit i, codes "-" ++ xk ++ codes "-" ++ xj, spelled 0o17 i j k)
+    ∷ (codes "LX" ++ digit i, codes "N", spelled 0o20 i 0 0)
+    ∷ (codes "AX" ++ digit i, codes "N", spelled 0o21 i 0 0)
+    ∷ (codes "LX" ++ digit i, bj ++ codes "," ++ xk, spelled 0o22 i j k)
+    ∷ (codes "AX" ++ digit i, bj ++ codes "," ++ xk, spelled 0o23 i j k)
+    ∷ (codes "NX" ++ digit i, bj ++ codes "," ++ xk, spelled 0o24 i j k)
+    ∷ (codes "ZX" ++ digit i, bj ++ codes "," ++ xk, spelled 0o25 i j k)
+    ∷ (codes "UX" ++ digit i, bj ++ codes "," ++ xk, spelled 0o26 i j k)
+    ∷ (codes "PX" ++ digit i, bj ++ codes "," ++ xk, spelled 0o27 i j k)
+    ∷ (codes "FX" ++ digit i, xj ++ codes "+" ++ xk, spelled 0o30 i j k)
+    ∷ (codes "FX" ++ digit i, xj ++ codes "-" ++ xk, spelled 0o31 i j k)
+    ∷ (codes "DX" ++ digit i, xj ++ codes "+" ++ xk, spelled 0o32 i j k)
+    ∷ (codes "DX" ++ digit i, xj ++ codes "-" ++ xk, spelled 0o33 i j k)
+    ∷ (codes "RX" ++ digit i, xj ++ codes "+" ++ xk, spelled 0o34 i j k)
+    ∷ (codes "RX" ++ digit i, xj ++ codes "-" ++ xk, spelled 0o35 i j k)
+    ∷ (codes "IX" ++ digit i, xj ++ codes "+" ++ xk, spelled 0o36 i j k)
+    ∷ (codes "IX" ++ digit i, xj ++ codes "-" ++ xk, spelled 0o37 i j k)
+    ∷ (codes "FX" ++ digit i, xj ++ codes "*" ++ xk, spelled 0o40 i j k)
+    ∷ (codes "RX" ++ digit i, xj ++ codes "*" ++ xk, spelled 0o41 i j k)
+    ∷ (codes "DX" ++ digit i, xj ++ codes "*" ++ xk, spelled 0o42 i j k)
+    ∷ (codes "MX" ++ digit i, codes "N", spelled 0o43 i 0 0)
+    ∷ (codes "FX" ++ digit i, xj ++ codes "/" ++ xk, spelled 0o44 i j k)
+    ∷ (codes "RX" ++ digit i, xj ++ codes "/" ++ xk, spelled 0o45 i j k)
+    ∷ (codes "CX" ++ digit i, xk, spelled 0o47 i 0 k)
+    ∷ (codes "SA" ++ digit i, aj ++ codes "+K", spelled 0o50 i j 0)
+    ∷ (codes "SA" ++ digit i, bj ++ codes "+K", spelled 0o51 i j 0)
+    ∷ (codes "SA" ++ digit i, xj ++ codes "+K", spelled 0o52 i j 0)
+    ∷ (codes "SA" ++ digit i, xj ++ codes "+" ++ bk, spelled 0o53 i j k)
+    ∷ (codes "SA" ++ digit i, aj ++ codes "+" ++ bk, spelled 0o54 i j k)
+    ∷ (codes "SA" ++ digit i, aj ++ codes "-" ++ bk, spelled 0o55 i j k)
+    ∷ (codes "SA" ++ digit i, bj ++ codes "+" ++ bk, spelled 0o56 i j k)
+    ∷ (codes "SA" ++ digit i, bj ++ codes "-" ++ bk, spelled 0o57 i j k)
+    ∷ (codes "SB" ++ digit i, aj ++ codes "+K", spelled 0o60 i j 0)
+    ∷ (codes "SB" ++ digit i, bj ++ codes "+K", spelled 0o61 i j 0)
+    ∷ (codes "SB" ++ digit i, xj ++ codes "+K", spelled 0o62 i j 0)
+    ∷ (codes "SB" ++ digit i, xj ++ codes "+" ++ bk, spelled 0o63 i j k)
+    ∷ (codes "SB" ++ digit i, aj ++ codes "+" ++ bk, spelled 0o64 i j k)
+    ∷ (codes "SB" ++ digit i, aj ++ codes "-" ++ bk, spelled 0o65 i j k)
+    ∷ (codes "SB" ++ digit i, bj ++ codes "+" ++ bk, spelled 0o66 i j k)
+    ∷ (codes "SB" ++ digit i, bj ++ codes "-" ++ bk, spelled 0o67 i j k)
+    ∷ (codes "SX" ++ digit i, aj ++ codes "+K", spelled 0o70 i j 0)
+    ∷ (codes "SX" ++ digit i, bj ++ codes "+K", spelled 0o71 i j 0)
+    ∷ (codes "SX" ++ digit i, xj ++ codes "+K", spelled 0o72 i j 0)
+    ∷ (codes "SX" ++ digit i, xj ++ codes "+" ++ bk, spelled 0o73 i j k)
+    ∷ (codes "SX" ++ digit i, aj ++ codes "+" ++ bk, spelled 0o74 i j k)
+    ∷ (codes "SX" ++ digit i, aj ++ codes "-" ++ bk, spelled 0o75 i j k)
+    ∷ (codes "SX" ++ digit i, bj ++ codes "+" ++ bk, spelled 0o76 i j k)
+    ∷ (codes "SX" ++ digit i, bj ++ codes "-" ++ bk, spelled 0o77 i j k)
     ∷ []
+  where
+    xj : List ℕ
+    xj = codes "X" ++ digit j
+
+    xk : List ℕ
+    xk = codes "X" ++ digit k
+
+    aj : List ℕ
+    aj = codes "A" ++ digit j
+
+    bj : List ℕ
+    bj = codes "B" ++ digit j
+
+    bk : List ℕ
+    bk = codes "B" ++ digit k
+
+-- the octal codes, rising; there is no 46
+abbrev pub all_codes : List ℕ
+all_codes = rising 30 0o10 ++ 0o47 ∷ rising 24 0o50
 
 -- WHAT IS READ, BUT FOR THE CASE OF LETTERS: labels and bytes in upper case, instructions and lines as they are
 

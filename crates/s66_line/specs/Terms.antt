@@ -2,7 +2,7 @@
 use Rattle.std.specs.Prelude.{◌&&◌, Bool, true, if◌then◌else◌, ℕ, List, [], ◌∷◌, ◌++◌, Option, None, Some, nat_lt, nat_le, length}
 use Rattle.s66_isa.specs.declared.reg.Bank.{Bank}
 use Rattle.s66_line.specs.Operand.{is_constant, register_of, are_terms, some_constant, registers_of}
-use Rattle.s66_line.specs.declared.terms.Terms.{Terms}
+use Rattle.s66_line.specs.declared.operand.terms.Terms.{Terms}
 
 -- whether some term is a constant, and the registers; None where a term is neither, or a third is a register
 abbrev pub gather : List (Bool × List ℕ) → Option (Bool × List (Bool × Bank × ℕ))

@@ -1,10 +1,11 @@
 use crate::entry::Entry;
-use crate::fields::spell;
+use crate::instruction_text::spell;
+use crate::limits::TEXT_LIMIT;
 use arrayvec::ArrayVec;
 use s66_isa::Instr;
 use std::marker::Model;
 
-/// A straight-line block: 1 to 64 instructions of one run, numbered from 1 in source order; it borrows the source.
+/// A straight-line block: 1 to `BLOCK_LIMIT` instructions of one run, numbered from 1 in source order; it borrows the source.
 #[derive(Debug, Drop)]
 pub struct Block<'a> {
     label: &'a [u8],
@@ -14,34 +15,37 @@ pub struct Block<'a> {
 impl<'a> Model for Block<'a> {
     ghost use Rattle.std.specs.Prelude.{◌≤◌, ◌<◌, length};
     ghost use Rattle.s66_line.specs.Source.{Block};
+    ghost use Rattle.s66_line.specs.declared.limits.TheConstants.{BLOCK_LIMIT};
 
     ghost Value = { Block };
 
     ghost view = { λ b. record { label = b.label.now; entries = b.entries.items } };
 
-    ghost invariant = { λ b. (0 < length b.entries.items) × (length b.entries.items ≤ 64) };
+    ghost invariant = { λ b. (0 < length b.entries.items) × (length b.entries.items ≤ BLOCK_LIMIT) };
 }
 
 impl<'a> Block<'a> {
-    ghost use Rattle.std.specs.Prelude.{◌≡◌, ◌≤◌, ◌<◌, length};
+    ghost use Rattle.std.specs.Prelude.{◌≡◌, ◌≤◌, ◌<◌, Some, length};
     ghost use Rattle.s66_isa.specs.Lists.{weigh};
     ghost use Rattle.s66_isa.specs.Table.{instr_at, parcels_of};
     ghost use Rattle.s66_isa.specs.declared.instr.Instr.{Instr};
-    ghost use Rattle.s66_line.specs.Block.{instrs_of, line_of, bytes_of, text_of};
+    ghost use Rattle.s66_line.specs.InstructionText.{Spells, IsTextOf};
+    ghost use Rattle.s66_line.specs.Block.{instrs_of, entry_at, line_of, bytes_of, text_of};
+    ghost use Rattle.s66_line.specs.declared.limits.TheConstants.{BLOCK_LIMIT, TEXT_LIMIT};
 
     pub(crate) fn new(label: &'a [u8], entries: Vec<Entry<'a>>) -> Block<'a>
         requires some { 0 < length entries.items }
-        requires few { length entries.items ≤ 64 }
+        requires few { length entries.items ≤ BLOCK_LIMIT }
         ensures { result ≡ record { label = label.now; entries = entries.entry.items } }
     {
         Block { label, entries }
     }
 
-    /// How many instructions there are, 1 to 64.
+    /// How many instructions there are, 1 to `BLOCK_LIMIT`.
     pub fn count(&self) -> usize
         ensures value { result ≡ length (instrs_of self.now) }
         ensures some { 1 ≤ result }
-        ensures few { result ≤ 64 }
+        ensures few { result ≤ BLOCK_LIMIT }
     {
         self.entries.len()
     }
@@ -54,13 +58,21 @@ impl<'a> Block<'a> {
         self.label
     }
 
+    fn entry(&self, number: usize) -> &Entry<'a>
+        requires first { 1 ≤ number }
+        requires last { number ≤ length (instrs_of self.now) }
+        ensures { entry_at self.now number ≡ Some result.now }
+    {
+        &self.entries[number - 1]
+    }
+
     /// The instruction of a number, from 1.
     pub fn instr(&self, number: usize) -> Instr
         requires first { 1 ≤ number }
         requires last { number ≤ length (instrs_of self.now) }
         ensures { result ≡ instr_at (instrs_of self.now) number }
     {
-        self.entries[number - 1].instr
+        self.entry(number).instr
     }
 
     /// The line of an instruction in the source, from 1.
@@ -69,24 +81,28 @@ impl<'a> Block<'a> {
         requires last { number ≤ length (instrs_of self.now) }
         ensures { result ≡ line_of self.now number }
     {
-        self.entries[number - 1].line
+        self.entry(number).line
     }
 
-    /// The bytes of an instruction's line from its operation on, without the carriage returns at its end: at most 200.
+    /// The bytes of an instruction's line from its operation on, without the carriage returns at its end: at most
+    /// `TEXT_LIMIT`.
     pub fn bytes(&self, number: usize) -> &'a [u8]
         requires first { 1 ≤ number }
         requires last { number ≤ length (instrs_of self.now) }
         ensures value { result.now ≡ bytes_of self.now number }
-        ensures few { length result.now ≤ 200 }
+        ensures few { length result.now ≤ TEXT_LIMIT }
+        ensures spells { Spells result.now (instr_at (instrs_of self.now) number) }
     {
-        self.entries[number - 1].bytes
+        self.entry(number).bytes
     }
 
-    /// An instruction's operation and operand in upper case, one blank between them where there is an operand.
-    pub fn text(&self, number: usize) -> ArrayVec<u8, 200>
+    /// The text of an instruction: its operation and operand in upper case, one blank between them where there is an
+    /// operand.
+    pub fn text(&self, number: usize) -> ArrayVec<u8, TEXT_LIMIT>
         requires first { 1 ≤ number }
         requires last { number ≤ length (instrs_of self.now) }
-        ensures { result.items ≡ text_of self.now number }
+        ensures value { result.items ≡ text_of self.now number }
+        ensures is_text { IsTextOf result.items (instr_at (instrs_of self.now) number) }
     {
         spell(self.bytes(number))
     }

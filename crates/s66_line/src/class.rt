@@ -1,9 +1,15 @@
 ghost use Rattle.std.specs.Prelude.{◌≡◌, ◌≤◌, true, length};
 ghost use Rattle.s66_line.specs.Fields.{upper, body, operation, operand, from_operation, label_bytes};
-ghost use Rattle.s66_line.specs.Source.{class_of, by_operation, is_code, is_located};
+ghost use Rattle.s66_line.specs.InstructionText.{operation_in, operand_in};
+ghost use Rattle.s66_line.specs.Reader.{IsSpelled};
+ghost use Rattle.s66_line.specs.Source.{class_of, by_operation, is_code, is_located, is_pad};
+ghost use Rattle.s66_line.specs.declared.limits.TheConstants.{LINE_LIMIT, TEXT_LIMIT};
 
-use crate::fields::{body_of, fields_of, is_comment_line, is_continuation, upper_case};
-use crate::operation::{instruction_of, is_operation_name};
+use crate::fields::{
+    body_of, fields_of, is_comment_line, is_continuation, operation_and_operand, upper_case_byte,
+};
+use crate::instruction_text::upper_case;
+use crate::operand::{decode, operation_of};
 use s66_isa::Instr;
 
 /// What a line is.
@@ -21,18 +27,29 @@ pub enum Class {
     Instruction { located: bool, instr: Instr },
 }
 
-/// The class of a line of code whose operation and operand are in upper case.
-fn class_by_operation(located: bool, operation: &[u8], operand: &[u8]) -> Class
-    requires { length operand.now ≤ 200 }
-    ensures { result ≡ by_operation located operation.now operand.now }
+fn is_pad_name(word: &[u8]) -> bool
+    ensures { result ≡ is_pad (upper word.now) }
 {
-    if matches!(operation, [b'N', b'O']) {
+    match word {
+        [n, o] => upper_case_byte(*n) == b'N' && upper_case_byte(*o) == b'O',
+        _ => false,
+    }
+}
+
+/// The class of a line of which these are the bytes from its operation on.
+fn class_by_operation(located: bool, bytes: &[u8]) -> Class
+    requires { length bytes.now ≤ TEXT_LIMIT }
+    ensures class { result ≡ by_operation located (operation_in bytes.now) (operand_in bytes.now) }
+    ensures spelled { IsSpelled result bytes.now }
+{
+    let (operation, operand) = operation_and_operand(bytes);
+    if is_pad_name(operation) {
         return Class::Pad { located };
     }
-    if !is_operation_name(operation) {
+    let Some((form, digit)) = operation_of(operation) else {
         return Class::Other;
-    }
-    match instruction_of(operation, operand) {
+    };
+    match decode(form, digit, upper_case(operand).as_slice()) {
         Some(instr) => Class::Instruction { located, instr },
         None => Class::Refused,
     }
@@ -48,21 +65,16 @@ pub(crate) struct Classified<'a> {
 
 /// A body that is neither a comment nor a continuation, with its class.
 fn class_by_fields(line: &[u8]) -> Classified<'_>
-    requires { length line.now ≤ 200 }
+    requires { length line.now ≤ LINE_LIMIT }
     ensures class { result.class ≡ by_operation (is_located line.now) (upper (operation line.now)) (upper (operand line.now)) }
     ensures label { result.label.now ≡ label_bytes line.now }
     ensures bytes { result.bytes.now ≡ from_operation line.now }
-    ensures few { length result.bytes.now ≤ 200 }
+    ensures spelled { IsSpelled result.class result.bytes.now }
+    ensures few { length result.bytes.now ≤ TEXT_LIMIT }
 {
     let fields = fields_of(line);
-    let operation = upper_case(fields.operation);
-    let operand = upper_case(fields.operand);
     Classified {
-        class: class_by_operation(
-            !fields.location.is_empty(),
-            operation.as_slice(),
-            operand.as_slice(),
-        ),
+        class: class_by_operation(!fields.location.is_empty(), fields.from_operation),
         label: fields.label,
         bytes: fields.from_operation,
     }
@@ -70,11 +82,12 @@ fn class_by_fields(line: &[u8]) -> Classified<'_>
 
 /// A line with its class, where the line directly before it is code or not.
 pub(crate) fn classify(after_code: bool, line: &[u8]) -> Classified<'_>
-    requires { length line.now ≤ 200 }
+    requires { length line.now ≤ LINE_LIMIT }
     ensures class { result.class ≡ class_of after_code line.now }
     ensures label { is_code result.class ≡ true → result.label.now ≡ label_bytes (body line.now) }
     ensures bytes { is_code result.class ≡ true → result.bytes.now ≡ from_operation (body line.now) }
-    ensures few { length result.bytes.now ≤ 200 }
+    ensures spelled { IsSpelled result.class result.bytes.now }
+    ensures few { length result.bytes.now ≤ TEXT_LIMIT }
 {
     let body = body_of(line);
     let class = if is_comment_line(body) {
@@ -88,7 +101,7 @@ pub(crate) fn classify(after_code: bool, line: &[u8]) -> Classified<'_>
     };
     Classified {
         class,
-        label: body,
-        bytes: body,
+        label: &[],
+        bytes: &[],
     }
 }

@@ -1,8 +1,8 @@
 use s66_isa::Instr;
 use std::marker::Model;
 
-/// An instruction of a block, its line in the source, from 1, and at most 200 bytes: those of the line from its operation
-/// on.
+/// An instruction of a block, its line in the source, from 1, and the bytes of that line from its operation on, which
+/// spell the instruction.
 #[derive(Debug, Drop)]
 pub struct Entry<'a> {
     pub instr: Instr,
@@ -12,11 +12,13 @@ pub struct Entry<'a> {
 
 impl<'a> Model for Entry<'a> {
     ghost use Rattle.std.specs.Prelude.{◌≤◌, length};
+    ghost use Rattle.s66_line.specs.InstructionText.{Spells};
     ghost use Rattle.s66_line.specs.Source.{Entry};
+    ghost use Rattle.s66_line.specs.declared.limits.TheConstants.{TEXT_LIMIT};
 
     ghost Value = { Entry };
 
     ghost view = { λ e. record { instr = e.instr; line = e.line; bytes = e.bytes.now } };
 
-    ghost invariant = { λ e. length e.bytes.now ≤ 200 };
+    ghost invariant = { λ e. (length e.bytes.now ≤ TEXT_LIMIT) × Spells e.bytes.now e.instr };
 }

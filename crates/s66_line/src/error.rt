@@ -14,10 +14,10 @@ pub enum SourceError {
     /// an instruction or a `NO`.
     #[error("LINE {line} BAD OPERAND")]
     BadOperand { line: u32 },
-    /// A line of more than 200 bytes, its newline not counted.
+    /// A line of more than `LINE_LIMIT` bytes, its newline not counted.
     #[error("LINE {line} TOO LONG")]
     LineTooLong { line: u32 },
-    /// A line past the 20,000th.
+    /// A line past the `SOURCE_LIMIT`th.
     #[error("TOO MANY LINES")]
     TooLarge,
     #[error("OUT OF MEMORY")]

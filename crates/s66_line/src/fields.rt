@@ -1,16 +1,11 @@
-ghost use Rattle.std.specs.Prelude.{◌≡◌, ◌≤◌, ◌<◌, ◌+◌, ◌==◌, ◌||◌, ◌++◌, nat_le, not, length};
+ghost use Rattle.std.specs.Prelude.{◌≡◌, ◌≤◌, ◌<◌, ◌+◌, ◌-◌, ◌==◌, ◌||◌, nat_le, not, length};
 ghost use Rattle.std.specs.List.{prefix_len};
-ghost use Rattle.s66_line.specs.Fields.{is_blank, upper_byte, upper, body, skip_blanks, word, after_word, blanks, is_comment, from_location, location, operation, operand, from_operation, label_bytes, continues};
-ghost use Rattle.s66_line.specs.Block.{spelling};
-
-use arrayvec::ArrayVec;
+ghost use Rattle.s66_line.specs.Fields.{is_blank, upper_byte, body, skip_blanks, word, after_word, blanks, is_comment, from_location, location, from_operation, label_bytes, continues};
 
 /// The fields of a line that is no comment; a field that is not there is empty.
 #[derive(Clone, Copy, Debug)]
 pub struct Fields<'a> {
     pub location: &'a [u8],
-    pub operation: &'a [u8],
-    pub operand: &'a [u8],
     /// The location, with the blank before it where it begins in column 2.
     pub label: &'a [u8],
     /// The operation and all that follows it.
@@ -82,12 +77,13 @@ fn is_indented_away(line: &[u8]) -> bool
 }
 
 /// Whether a body is a comment: a star in column 1, blanks alone, or 29 blanks in front.
+#[tactic(auto, using(crate::proofs::LineFields::indented_no))]
 pub(crate) fn is_comment_line(line: &[u8]) -> bool
     ensures { result ≡ is_comment line.now }
 {
     match line {
         [] => true,
-        [first, ..] => *first == b'*' || is_indented_away(line),
+        [first, ..] => *first == b'*' || is_blank_byte(*first) && is_indented_away(line),
     }
 }
 
@@ -109,8 +105,25 @@ fn from_location_column(line: &[u8]) -> &[u8]
     }
 }
 
+/// The fields of a body.
+#[tactic(auto, using(crate::proofs::LineFields::from_operation_within))]
+pub(crate) fn fields_of(line: &[u8]) -> Fields<'_>
+    ensures location { result.location.now ≡ location line.now }
+    ensures label { result.label.now ≡ label_bytes line.now }
+    ensures from_operation { result.from_operation.now ≡ from_operation line.now }
+    ensures from_within { length result.from_operation.now ≤ length line.now - 1 }
+{
+    let begin = from_location_column(line);
+    let (location, rest) = split_word(begin);
+    Fields {
+        location,
+        label: &line[..line.len() - begin.len() + location.len()],
+        from_operation: without_blanks(rest),
+    }
+}
+
 /// The operation and the operand in front of these bytes.
-fn operation_and_operand(bytes: &[u8]) -> (&[u8], &[u8])
+pub(crate) fn operation_and_operand(bytes: &[u8]) -> (&[u8], &[u8])
     ensures operation { result.0.now ≡ word bytes.now }
     ensures operand { result.1.now ≡ word (skip_blanks (after_word bytes.now)) }
     ensures operation_within { length result.0.now ≤ length bytes.now }
@@ -122,31 +135,7 @@ fn operation_and_operand(bytes: &[u8]) -> (&[u8], &[u8])
     (operation, operand)
 }
 
-/// The fields of a body.
-pub(crate) fn fields_of(line: &[u8]) -> Fields<'_>
-    ensures location { result.location.now ≡ location line.now }
-    ensures operation { result.operation.now ≡ operation line.now }
-    ensures operand { result.operand.now ≡ operand line.now }
-    ensures label { result.label.now ≡ label_bytes line.now }
-    ensures from_operation { result.from_operation.now ≡ from_operation line.now }
-    ensures operation_within { length result.operation.now ≤ length line.now }
-    ensures operand_within { length result.operand.now ≤ length line.now }
-    ensures from_within { length result.from_operation.now ≤ length line.now }
-{
-    let begin = from_location_column(line);
-    let (location, rest) = split_word(begin);
-    let from_operation = without_blanks(rest);
-    let (operation, operand) = operation_and_operand(from_operation);
-    Fields {
-        location,
-        operation,
-        operand,
-        label: &line[..line.len() - begin.len() + location.len()],
-        from_operation,
-    }
-}
-
-fn upper_case_byte(byte: u8) -> u8
+pub(crate) fn upper_case_byte(byte: u8) -> u8
     ensures { result ≡ upper_byte byte }
 {
     if byte >= b'a' && byte <= b'z' {
@@ -154,40 +143,4 @@ fn upper_case_byte(byte: u8) -> u8
     } else {
         byte
     }
-}
-
-/// Appends the bytes, each letter in upper case.
-fn push_upper_case(letters: &mut ArrayVec<u8, 200>, bytes: &[u8])
-    requires { length letters.old.items + length bytes.now ≤ 200 }
-    ensures value { letters.new.items ≡ letters.old.items ++ upper bytes.now }
-    ensures count { length letters.new.items ≡ length letters.old.items + length bytes.now }
-{
-    for byte in bytes {
-        letters.push(upper_case_byte(*byte));
-    }
-}
-
-/// The bytes, each letter in upper case.
-pub(crate) fn upper_case(bytes: &[u8]) -> ArrayVec<u8, 200>
-    requires { length bytes.now ≤ 200 }
-    ensures value { result.items ≡ upper bytes.now }
-    ensures count { length result.items ≡ length bytes.now }
-{
-    let mut letters = ArrayVec::new();
-    push_upper_case(&mut letters, bytes);
-    letters
-}
-
-/// The operation and the operand in front of these bytes in upper case, one blank between them where there is an operand.
-pub(crate) fn spell(bytes: &[u8]) -> ArrayVec<u8, 200>
-    requires { length bytes.now ≤ 200 }
-    ensures { result.items ≡ spelling (upper (word bytes.now)) (upper (word (skip_blanks (after_word bytes.now)))) }
-{
-    let (operation, operand) = operation_and_operand(bytes);
-    let mut letters = upper_case(operation);
-    if !operand.is_empty() {
-        letters.push(b' ');
-        push_upper_case(&mut letters, operand);
-    }
-    letters
 }

@@ -1,14 +1,28 @@
-ghost use Rattle.std.specs.Prelude.{◌≡◌, ◌≤◌, ◌+◌, ℕ, List, ◌∷◌, ◌++◌, Option, Some, Result, Ok, Bool, true, false, map, option_map, codes, get_or, []};
+ghost use Rattle.std.specs.Prelude.{◌≡◌, ◌≤◌, ◌+◌, ℕ, List, ◌∷◌, ◌++◌, Option, Some, Result, Ok, Bool, true, false, map, option_map, codes, get_or, [], not, ◌==◌};
+ghost use Rattle.std.specs.List.{filter};
 ghost use Rattle.s66_isa.specs.declared.instr.Instr.{Instr};
 ghost use Rattle.s66_isa.specs.declared.reg.Bank.{Bank};
-ghost use Rattle.s66_isa.specs.Lists.{Among, tally};
-ghost use Rattle.s66_line.specs.Fields.{upper};
-ghost use Rattle.s66_line.specs.Operand.{register_of, is_constant, constant_of, instr_of, set_form_of, set_code};
-ghost use Rattle.s66_line.specs.Spelling.{digit, CanMean, set_letters, set_operands, examples, upper_read};
+ghost use Rattle.s66_isa.specs.Lists.{Among, tally, rising};
+ghost use Rattle.s66_line.specs.Fields.{is_blank, upper_byte, upper, body, lines_of, AreLines, HasFields};
+ghost use Rattle.s66_line.specs.Operand.{register_of, is_constant, constant_of, instr_of, set_form_of};
+ghost use Rattle.s66_line.specs.Spelling.{CanMean, spellings, all_codes, upper_read};
 ghost use Rattle.s66_line.specs.Source.{Line, Block, classed_lines, instructions, is_instruction, parts_of, blocks_of, source_of};
 ghost use Rattle.s66_line.specs.Block.{constants_in};
 ghost use Rattle.s66_line.specs.Parts.{AreParts};
 ghost use Rattle.s66_line.specs.Roles.{is_note, is_note_of, is_dropped, is_copied, roles, lines_that, mixed_source, outside_source};
+
+/// A text is its lines with their newlines, and a line its fields with blanks between, and a remark: nothing is lost.
+pub fn whole_law()
+    ensures lines { (text : List ℕ) → AreLines text (lines_of text) }
+    ensures fields { (line : List ℕ) → HasFields (body line) }
+{}
+
+/// Of all bytes only space and tab are blanks, and only the letters from a to z have an upper case.
+pub fn byte_examples()
+    ensures blanks { filter is_blank (rising 256 0) ≡ 9 ∷ 32 ∷ [] }
+    ensures upper_case { upper (codes "abcdefghijklmnopqrstuvwxyz") ≡ codes "ABCDEFGHIJKLMNOPQRSTUVWXYZ" }
+    ensures other_bytes { filter (λ b. not (upper_byte b == b)) (rising 256 0) ≡ codes "abcdefghijklmnopqrstuvwxyz" }
+{}
 
 /// What is spelled is in the table: the letters of the operation can mean the instruction's code, its digit is i, and i,
 /// j and k are 0 to 7.
@@ -16,15 +30,15 @@ pub fn operation_law()
     ensures { (operation operand : List ℕ) (n : Instr) → instr_of operation operand ≡ Some n → CanMean operation n }
 {}
 
-/// Each of the 55 codes, spelled.
-pub fn spelling_examples()
-    ensures { map (λ row. instr_of row.0 row.1) examples ≡ map (λ row. Some row.2) examples }
+/// Each of the 55 codes is spelled, with all digits that it has.
+pub fn spelling_law()
+    ensures codes { (i j k : ℕ) → map (λ spelling. spelling.2.op.code) (spellings i j k) ≡ all_codes }
+    ensures read { (i j k : ℕ) → i ≤ 7 → j ≤ 7 → k ≤ 7 → map (λ spelling. instr_of spelling.0 spelling.1) (spellings i j k) ≡ map (λ spelling. Some spelling.2) (spellings i j k) }
 {}
 
-/// The forms of a set instruction are 0 to 7, and for each bank an operand has each of them.
+/// The forms of a set instruction are 0 to 7.
 pub fn set_form_law()
-    ensures within { (terms : List (Bool × List ℕ)) (f : ℕ × ℕ × ℕ) → set_form_of terms ≡ Some f → f.0 ≤ 7 }
-    ensures reached { (bank : Bank) (i form : ℕ) → i ≤ 7 → form ≤ 7 → option_map (λ n. n.op.code) (instr_of (set_letters bank ++ digit i) (get_or set_operands form [])) ≡ Some (set_code bank + form) }
+    ensures { (terms : List (Bool × List ℕ)) (f : ℕ × ℕ × ℕ) → set_form_of terms ≡ Some f → f.0 ≤ 7 }
 {}
 
 /// No register is a constant, and nothing is that begins with `A.`, `B.` or `X.`.
@@ -39,7 +53,7 @@ pub fn case_law()
     ensures { (text other : List ℕ) → upper text ≡ upper other → upper_read (source_of text) ≡ upper_read (source_of other) }
 {}
 
-/// The blocks of a source are its instruction lines, cut into runs and these after each 64th line.
+/// The blocks of a source are its instruction lines, cut into runs, and these into blocks of `BLOCK_LIMIT` lines and what is left.
 pub fn parts_law()
     ensures { (text : List ℕ) → AreParts (classed_lines text) (parts_of (instructions (classed_lines text))) }
 {}
@@ -66,6 +80,8 @@ pub fn constant_examples()
     ensures in_front { constant_of 0o50 (codes "0+A1") ≡ codes "+0" }
     ensures behind { constant_of 0o50 (codes "A1+0") ≡ codes "+0" }
     ensures several { constant_of 0o50 (codes "A1+2*N-3") ≡ codes "+2*N-3" }
+    ensures mask { constant_of 0o43 (codes "2*N") ≡ codes "2*N" }
+    ensures right_shift { constant_of 0o21 (codes "N-5") ≡ codes "N-5" }
     ensures shift_count { constant_of 0o20 (codes "-N") ≡ codes "-N" }
     ensures registers { constant_of 0o54 (codes "A1+B1") ≡ [] }
     ensures boolean { constant_of 0o11 (codes "X2*X3") ≡ [] }

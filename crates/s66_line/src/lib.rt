@@ -7,23 +7,22 @@ mod device;
 mod entry;
 mod error;
 mod fields;
+mod instruction_text;
 mod laws;
 mod limits;
 mod operand;
-mod operation;
 mod reader;
-mod set_operand;
 mod source;
-mod terms;
 
 pub use block::Block;
 pub use device::{Failed, Feed, OverRead, OverWrite, Sink, WriteError, write_all};
 pub use error::SourceError;
-pub use limits::{BLOCK_LIMIT, LINE_LIMIT, SOURCE_LIMIT};
+pub use instruction_text::is_instruction;
 pub use laws::{
-    case_law, constant_examples, operation_law, line_law, line_examples, parts_law, set_form_law, spelling_examples,
-    term_law,
+    byte_examples, case_law, constant_examples, operation_law, line_law, line_examples, parts_law, set_form_law,
+    spelling_law, term_law, whole_law,
 };
+pub use limits::{BLOCK_LIMIT, LINE_LIMIT, SOURCE_LIMIT, TEXT_LIMIT};
 pub use source::{Source, read_source};
 
 #[cfg(test)]

@@ -4,5 +4,8 @@ pub const BLOCK_LIMIT: usize = 64;
 /// The most bytes of a line, its newline not counted.
 pub const LINE_LIMIT: usize = 200;
 
+/// The most bytes of the text of an instruction: its operation begins behind column 1 of a line.
+pub const TEXT_LIMIT: usize = LINE_LIMIT - 1;
+
 /// The most lines of a source.
 pub const SOURCE_LIMIT: u32 = 20_000;

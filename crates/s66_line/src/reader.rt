@@ -1,12 +1,16 @@
 ghost use Rattle.std.specs.Prelude.{◌≡◌, ◌≤◌, ◌<◌, [], length, OnOk};
 ghost use Rattle.s66_line.specs.Fields.{lines_from};
-ghost use Rattle.s66_line.specs.Reader.{Steps, end_block, begin_run, with_entry, by_class, line_step, lines_step};
+ghost use Rattle.s66_line.specs.InstructionText.{Spells};
+ghost use Rattle.s66_line.specs.Reader.{Steps, IsSpelled, end_block, begin_run, with_entry, by_class, line_step, lines_step};
 ghost use Rattle.s66_line.specs.ReaderState.{state};
+ghost use Rattle.s66_line.specs.declared.limits.TheConstants.{BLOCK_LIMIT, SOURCE_LIMIT, TEXT_LIMIT};
 
 use crate::block::Block;
 use crate::class::{Class, Classified, classify};
 use crate::entry::Entry;
 use crate::error::SourceError;
+use crate::limits::{BLOCK_LIMIT, LINE_LIMIT, SOURCE_LIMIT};
+use memchr::memchr;
 use s66_isa::Instr;
 use std::alloc::{AllocError, Global};
 use std::mem;
@@ -17,7 +21,7 @@ pub struct Reader<'a> {
     pub blocks: Vec<Block<'a>>,
     /// The label of the run until its first block is ended, empty from then on.
     pub label: &'a [u8],
-    /// The instructions of the open block, fewer than 64.
+    /// The instructions of the open block, fewer than `BLOCK_LIMIT`.
     pub entries: Vec<Entry<'a>>,
     /// How many lines were read.
     pub lines: u32,
@@ -28,7 +32,7 @@ pub struct Reader<'a> {
 impl<'a> Reader<'a> {
     /// Ends the open block, where it has an instruction.
     pub(crate) fn end_block(&mut self, alloc: Global) -> Result<(), AllocError>
-        requires { length self.old.entries.items ≤ 64 }
+        requires { length self.old.entries.items ≤ BLOCK_LIMIT }
         ensures { OnOk result (state self.new ≡ end_block (state self.old)) }
     {
         if !self.entries.is_empty() {
@@ -41,7 +45,7 @@ impl<'a> Reader<'a> {
 
     /// Ends the open block, and begins a run with this label.
     fn begin_run(&mut self, alloc: Global, label: &'a [u8]) -> Result<(), AllocError>
-        requires { length self.old.entries.items ≤ 64 }
+        requires { length self.old.entries.items ≤ BLOCK_LIMIT }
         ensures { OnOk result (state self.new ≡ begin_run label.now (state self.old)) }
     {
         self.end_block(alloc)?;
@@ -49,17 +53,18 @@ impl<'a> Reader<'a> {
         Ok(())
     }
 
-    /// Puts the instruction of the next line into the open block, which ends with its 64th.
+    /// Puts the instruction of the next line into the open block, which ends where it is full.
     fn put(&mut self, alloc: Global, instr: Instr, bytes: &'a [u8]) -> Result<(), AllocError>
-        requires few { length self.old.entries.items < 64 }
-        requires lines { self.old.lines < 20000 }
-        requires bytes { length bytes.now ≤ 200 }
+        requires few { length self.old.entries.items < BLOCK_LIMIT }
+        requires lines { self.old.lines < SOURCE_LIMIT }
+        requires bytes { length bytes.now ≤ TEXT_LIMIT }
+        requires spelled { Spells bytes.now instr }
         ensures step { OnOk result (state self.new ≡ with_entry instr bytes.now (state self.old)) }
-        ensures few { OnOk result (length self.new.entries.items < 64) }
+        ensures few { OnOk result (length self.new.entries.items < BLOCK_LIMIT) }
     {
         let line = self.lines + 1;
         self.entries.push(Entry { instr, line, bytes })?;
-        if self.entries.len() == 64 {
+        if self.entries.len() == BLOCK_LIMIT {
             self.end_block(alloc)?;
         }
         Ok(())
@@ -67,12 +72,13 @@ impl<'a> Reader<'a> {
 
     /// Reads the next line, which was classified.
     fn take_classified(&mut self, alloc: Global, line: Classified<'a>) -> Result<(), SourceError>
-        requires few { length self.old.entries.items < 64 }
-        requires lines { self.old.lines < 20000 }
-        requires bytes { length line.bytes.now ≤ 200 }
+        requires few { length self.old.entries.items < BLOCK_LIMIT }
+        requires lines { self.old.lines < SOURCE_LIMIT }
+        requires bytes { length line.bytes.now ≤ TEXT_LIMIT }
+        requires spelled { IsSpelled line.class line.bytes.now }
         ensures step { Steps (state self.new) result (by_class (state self.old) line.entry.class line.entry.label.now line.entry.bytes.now) }
-        ensures few { OnOk result (length self.new.entries.items < 64) }
-        ensures lines { OnOk result (self.new.lines ≤ 20000) }
+        ensures few { OnOk result (length self.new.entries.items < BLOCK_LIMIT) }
+        ensures lines { OnOk result (self.new.lines ≤ SOURCE_LIMIT) }
     {
         let mut after_code = false;
         let class = line.class;
@@ -105,18 +111,18 @@ impl<'a> Reader<'a> {
 
     /// Reads the next line.
     fn take_line(&mut self, alloc: Global, line: &'a [u8]) -> Result<(), SourceError>
-        requires few { length self.old.entries.items < 64 }
-        requires lines { self.old.lines ≤ 20000 }
+        requires few { length self.old.entries.items < BLOCK_LIMIT }
+        requires lines { self.old.lines ≤ SOURCE_LIMIT }
         ensures step { Steps (state self.new) result (line_step (state self.old) line.now) }
-        ensures few { OnOk result (length self.new.entries.items < 64) }
-        ensures lines { OnOk result (self.new.lines ≤ 20000) }
+        ensures few { OnOk result (length self.new.entries.items < BLOCK_LIMIT) }
+        ensures lines { OnOk result (self.new.lines ≤ SOURCE_LIMIT) }
     {
-        if line.len() > 200 {
+        if line.len() > LINE_LIMIT {
             return Err(SourceError::LineTooLong {
                 line: self.lines + 1,
             });
         }
-        if self.lines >= 20000 {
+        if self.lines >= SOURCE_LIMIT {
             return Err(SourceError::TooLarge);
         }
         self.take_classified(alloc, classify(self.after_code, line))
@@ -124,10 +130,10 @@ impl<'a> Reader<'a> {
 
     /// Reads a last line that lacks its newline, where there is one.
     fn take_last(&mut self, alloc: Global, line: &'a [u8]) -> Result<(), SourceError>
-        requires few { length self.old.entries.items < 64 }
-        requires lines { self.old.lines ≤ 20000 }
+        requires few { length self.old.entries.items < BLOCK_LIMIT }
+        requires lines { self.old.lines ≤ SOURCE_LIMIT }
         ensures step { Steps (state self.new) result (lines_step (state self.old) (lines_from line.now [])) }
-        ensures few { OnOk result (length self.new.entries.items < 64) }
+        ensures few { OnOk result (length self.new.entries.items < BLOCK_LIMIT) }
     {
         if line.is_empty() {
             return Ok(());
@@ -137,18 +143,16 @@ impl<'a> Reader<'a> {
 
     /// Reads all lines of a text.
     pub(crate) fn take_all(&mut self, alloc: Global, text: &'a [u8]) -> Result<(), SourceError>
-        requires few { length self.old.entries.items < 64 }
-        requires lines { self.old.lines ≤ 20000 }
+        requires few { length self.old.entries.items < BLOCK_LIMIT }
+        requires lines { self.old.lines ≤ SOURCE_LIMIT }
         ensures step { Steps (state self.new) result (lines_step (state self.old) (lines_from [] text.now)) }
-        ensures few { OnOk result (length self.new.entries.items < 64) }
+        ensures few { OnOk result (length self.new.entries.items < BLOCK_LIMIT) }
     {
-        let mut begin = 0;
-        for (i, byte) in text.iter().enumerate() {
-            if *byte == b'\n' {
-                self.take_line(alloc, &text[begin..i])?;
-                begin = i + 1;
-            }
+        let mut rest = text;
+        while let Some(end) = memchr(b'\n', rest) {
+            self.take_line(alloc, &rest[..end])?;
+            rest = &rest[end + 1..];
         }
-        self.take_last(alloc, &text[begin..])
+        self.take_last(alloc, rest)
     }
 }

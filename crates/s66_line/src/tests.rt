@@ -1,4 +1,4 @@
-use crate::operation::{instruction_of, is_operation_name};
+use crate::operand::{decode, operation_of};
 use crate::source::read_source;
 use s66_isa::Instr;
 use std::alloc::AllocError;
@@ -100,10 +100,9 @@ fn parcel_of(instr: Instr) -> u32 {
 }
 
 fn spelled(operation: &str, operand: &str) -> Option<u32> {
-    match instruction_of(operation.as_bytes(), operand.as_bytes()) {
-        Some(instr) => Some(parcel_of(instr)),
-        None => None,
-    }
+    let (form, digit) = operation_of(operation.as_bytes())?;
+    let instr = decode(form, digit, operand.as_bytes())?;
+    Some(parcel_of(instr))
 }
 
 #[test]
@@ -140,12 +139,12 @@ fn reads_absent_operands(rt: HostRuntime) {
 #[test]
 fn knows_operations(rt: HostRuntime) {
     for word in ["BX0", "LX7", "SA1", "SB0", "SX7", "CX3"] {
-        assert!(rt; is_operation_name(word.as_bytes()), "{word}");
+        assert!(rt; operation_of(word.as_bytes()).is_some(), "{word}");
     }
     for word in [
         "BX8", "BX", "BX11", "EX1", "NO1", "XS1", "SC1", "AB1", "NO", "",
     ] {
-        assert!(rt; !is_operation_name(word.as_bytes()), "{word}");
+        assert!(rt; operation_of(word.as_bytes()).is_none(), "{word}");
         assert_eq!(rt; spelled(word, "X2"), None, "{word}");
     }
 }

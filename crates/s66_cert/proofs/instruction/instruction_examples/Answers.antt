@@ -1,5 +1,5 @@
 use Rattle.std.proofs.Common.{rules}
-use Rattle.s66_cert.proofs.Instructions.{instruction}
+use Rattle.s66_line.proofs.InstructionTexts.{instruction}
 use Rattle.s66_cert.proofs.instruction.instruction_examples.Goals as goal
 
 pub returns-clause-no_operand : goal.returns-clause-no_operand

@@ -1,26 +1,29 @@
-use Rattle.std.proofs.Common.{arith, take, drop, ◌-◌, ◌∙◌, ap, sym}
-use Rattle.s66_line.specs.Reader.{lines_step}
+use Rattle.std.proofs.Common.{subst, ◌+◌}
+use Rattle.std.proofs.lemmas.Result.{err_from_is_err_and}
+use Rattle.std.proofs.lemmas.List.{take_rest}
 use Rattle.s66_line.specs.ReaderState.{state}
-use Rattle.s66_line.proofs.LineCuts.{lines_from-more, lines_step-newline}
+use Rattle.s66_line.proofs.LineCuts.{IsFirstNewline, lines_step-found, Steps-found, last-none}
 use Rattle.s66_line.proofs.reader.Reader.take_all.Goals as goal
-use Rattle.s66_line.proofs.reader.Reader.take_all.Goals.{then-byte-eq10+in_ok-take_line, else-byte-eq10}
 
-pub loop-i-preserved : goal.loop-i-preserved
-loop-i-preserved c =
-    let text = c.args.text.now in
-    let l = c.loop-i in
-    let line = take (l.i - l.begin) (drop l.begin text) in
-    elim c.if-byte-eq10.branch [
-      | then-byte-eq10+in_ok-take_line w ↦ record {
-        begun = rw w.begin-is (omega arith);
-        rest = rw (w.self-is, w.begin-is) (lines_step-newline (state l.self) (state w.take_line.new.self) line text l.i _ c.loop-i-test.true w.if-byte-eq10.true w.in_ok-take_line.ensures.step l.invariant.rest);
-        few = rw w.self-is w.in_ok-take_line.ensures.few;
-        lines = rw w.self-is w.in_ok-take_line.ensures.lines;
-      }
-      | else-byte-eq10 w ↦ record {
-        begun = rw w.begin-is (omega arith);
-        rest = rw (w.self-is, w.begin-is) (ap (lines_step (state l.self)) (sym (lines_from-more text l.begin l.i l.invariant.begun c.loop-i-test.true w.if-byte-eq10.false)) ∙ l.invariant.rest);
-        few = rw w.self-is l.invariant.few;
-        lines = rw w.self-is l.invariant.lines;
-      }
-    ]
+pub loop-end-preserved : goal.loop-end-preserved
+loop-end-preserved c =
+    let rest = c.loop-end.rest.now in
+    let first = subst (IsFirstNewline rest) c.in-Some.is c.memchr.ensures in
+    record {
+      rest = rw (take_rest rest (c.in-Some.end + 1)) (lines_step-found (state c.loop-end.self) (state c.take_line.new.self) rest c.in-Some.end _ first c.in_ok-take_line.ensures.step c.loop-end.invariant.rest);
+      few = c.in_ok-take_line.ensures.few;
+      lines = c.in_ok-take_line.ensures.lines;
+    }
+
+pub returns-in_err-take_line-clause-step : goal.returns-in_err-take_line-clause-step
+returns-in_err-take_line-clause-step c =
+    let rest = c.loop-end.rest.now in
+    let first = subst (IsFirstNewline rest) c.in-Some.is c.memchr.ensures in
+    let p = err_from_is_err_and c.from_residual.result c.from_residual.ensures.1 in
+    rw (p.1, p.2) (Steps-found c.in_err-take_line.field-0.0 (state c.loop-end.self) (state c.take_line.new.self) (state c.take_line.new.self) rest c.in-Some.end _ first c.in_err-take_line.ensures.step c.loop-end.invariant.rest)
+
+pub returns-clause-step : goal.returns-clause-step
+returns-clause-step c =
+    let rest = c.loop-end.rest.now in
+    let none = subst (IsFirstNewline rest) c.in_default.is c.memchr.ensures in
+    rw (← c.loop-end.invariant.rest, last-none rest none) c.take_last.ensures.step

@@ -1,10 +1,14 @@
-ghost use Rattle.std.specs.Prelude.{◌≡◌};
-ghost use Rattle.s66_line.specs.Operand.{syntax_of, decode, is_operation, instr_of};
+ghost use Rattle.std.specs.Prelude.{◌≡◌, ◌≤◌, IfSome};
+ghost use Rattle.s66_line.specs.Choices.{IsOfTheTable};
+ghost use Rattle.s66_line.specs.Fields.{upper};
+ghost use Rattle.s66_line.specs.Operand.{syntax_of, decode, operation_of};
 
-use crate::operand::{
-    Encoding, arithmetic, boolean, is_octal_digit, mask, normalise, population, shift,
+use crate::fields::upper_case_byte;
+use crate::operand::computing::{
+    arithmetic, boolean, is_octal_digit, mask, normalise, population, shift,
 };
-use crate::set_operand::set;
+use crate::operand::encoding::Encoding;
+use crate::operand::set::set;
 use s66_isa::{Bank, Instr};
 
 /// Which operands an operation takes, with the octal codes that they choose from.
@@ -86,17 +90,22 @@ fn syntax_of(first: u8, second: u8) -> Option<Syntax>
     }
 }
 
-/// Whether it is an operation of the table: two letters and a digit 0 to 7, in upper case.
-pub(crate) fn is_operation_name(operation: &[u8]) -> bool
-    ensures { result ≡ is_operation operation.now }
+/// What an operation of the table takes, and its digit: two letters, in upper or in lower case, and a digit 0 to 7.
+pub(crate) fn operation_of(word: &[u8]) -> Option<(Syntax, u8)>
+    ensures value { result ≡ operation_of (upper word.now) }
+    ensures of_the_table { IfSome result (λ o. IsOfTheTable o.0 × (o.1 ≤ 7)) }
 {
-    match operation {
-        [first, second, digit] => syntax_of(*first, *second).is_some() && is_octal_digit(*digit),
-        _ => false,
+    match word {
+        [first, second, digit] if is_octal_digit(*digit) => {
+            let syntax = syntax_of(upper_case_byte(*first), upper_case_byte(*second))?;
+            Some((syntax, *digit - b'0'))
+        }
+        _ => None,
     }
 }
 
-fn decode(syntax: Syntax, i: u8, operand: &[u8]) -> Option<Encoding>
+/// What an operand chooses of this syntax, with this digit i.
+fn encoding_of(syntax: Syntax, i: u8, operand: &[u8]) -> Option<Encoding>
     ensures { result ≡ decode syntax i operand.now }
 {
     match syntax {
@@ -118,19 +127,12 @@ fn decode(syntax: Syntax, i: u8, operand: &[u8]) -> Option<Encoding>
     }
 }
 
-/// The instruction that an operation and its operand spell, both in upper case, if they spell one.
-pub(crate) fn instruction_of(operation: &[u8], operand: &[u8]) -> Option<Instr>
-    ensures { result ≡ instr_of operation.now operand.now }
+/// The instruction of an operation of this syntax and digit and of an operand, if they spell one.
+pub(crate) fn decode(syntax: Syntax, i: u8, operand: &[u8]) -> Option<Instr>
+    requires syntax { IsOfTheTable syntax }
+    requires digit { i ≤ 7 }
+    ensures { result ≡ decode syntax i operand.now }
 {
-    match operation {
-        [first, second, digit] => {
-            if !is_octal_digit(*digit) {
-                return None;
-            }
-            let syntax = syntax_of(*first, *second)?;
-            let encoding = decode(syntax, *digit - b'0', operand)?;
-            Some(encoding.instr())
-        }
-        _ => None,
-    }
+    let encoding = encoding_of(syntax, i, operand)?;
+    Some(encoding.instr())
 }

@@ -1,47 +1,8 @@
 ghost use Rattle.std.specs.Prelude.{◌≡◌, ◌≤◌, IfSome};
-ghost use Rattle.s66_isa.specs.Table.{IsCode};
-ghost use Rattle.s66_line.specs.Operand.{spelled, is_octal, x_digit, b_digit, two_x, boolean_operator, boolean, b_and_x, shift, normalise, mask, arithmetic_code, arithmetic, population};
+ghost use Rattle.s66_line.specs.Operand.{is_octal, x_digit, b_digit, two_x, boolean_operator, boolean, b_and_x, shift, normalise, mask, arithmetic_code, arithmetic, population};
 
-use crate::terms::is_expression;
-use s66_isa::{Instr, Op};
-use std::marker::Model;
-
-/// The octal code and the digits that an operand chooses. It is plain: that they are those of an instruction is known of the
-/// operation and its operand together, and is asked where they become one.
-#[derive(Clone, Copy, Debug)]
-pub(crate) struct Encoding {
-    code: u8,
-    i: u8,
-    j: u8,
-    k: u8,
-}
-
-impl Model for Encoding {
-    ghost use Rattle.s66_isa.specs.Table.{Instr, instr};
-
-    ghost Value = { Instr };
-
-    ghost view = { λ e. instr e.code e.i e.j e.k };
-
-    ghost inverse = { λ n. record { code = n.op.code; i = n.i; j = n.j; k = n.k } };
-}
-
-impl Encoding {
-    pub(crate) fn new(code: u8, i: u8, j: u8, k: u8) -> Encoding
-        ensures { result ≡ spelled code i j k }
-    {
-        Encoding { code, i, j, k }
-    }
-
-    /// The instruction of this code and these digits.
-    pub(crate) fn instr(self) -> Instr
-        requires code { IsCode self.op.code }
-        requires digits { (self.i ≤ 7) × (self.j ≤ 7) × (self.k ≤ 7) }
-        ensures { result ≡ self }
-    {
-        Instr::new(Op::new(self.code), self.i, self.j, self.k)
-    }
-}
+use crate::operand::encoding::Encoding;
+use crate::operand::terms::is_expression;
 
 pub(crate) fn is_octal_digit(byte: u8) -> bool
     ensures { result ≡ is_octal byte }

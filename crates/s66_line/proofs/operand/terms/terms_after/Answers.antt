@@ -2,8 +2,8 @@ use Rattle.std.proofs.Common.{◌∙◌, sym, ap, arith}
 use Rattle.s66_line.specs.Terms.{seen}
 use Rattle.s66_line.proofs.Cuts.{cut-none, cut-some, cut-last, terms_from-other}
 use Rattle.s66_line.proofs.Gathered.{gathered_after}
-use Rattle.s66_line.proofs.terms.terms_after.Goals as goal
-use Rattle.s66_line.proofs.terms.terms_after.Goals.{then-is_sign+in_ok-terms, else-is_sign}
+use Rattle.s66_line.proofs.operand.terms.terms_after.Goals as goal
+use Rattle.s66_line.proofs.operand.terms.terms_after.Goals.{then-is_sign+in_ok-terms, else-is_sign}
 
 pub returns-in_err-terms : goal.returns-in_err-terms
 returns-in_err-terms c =

@@ -1,7 +1,7 @@
 use Rattle.std.proofs.Common.{◌∙◌}
 use Rattle.s66_line.specs.Terms.{seen}
 use Rattle.s66_line.proofs.Expression.{expression-none, expression-some}
-use Rattle.s66_line.proofs.terms.is_expression.Goals as goal
+use Rattle.s66_line.proofs.operand.terms.is_expression.Goals as goal
 
 pub returns-then-not-is_empty : goal.returns-then-not-is_empty
 returns-then-not-is_empty c =

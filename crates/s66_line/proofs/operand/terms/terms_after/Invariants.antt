@@ -2,7 +2,7 @@ use Rattle.std.proofs.Common.{◌≡◌, ◌-◌, ◌≤◌, [], take, drop, len
 use Rattle.s66_line.specs.Operand.{terms_from}
 use Rattle.s66_line.specs.Terms.{gather, seen}
 use Rattle.s66_line.proofs.Gathered.{gathered_after}
-use Rattle.s66_line.proofs.terms.terms_after.Given as goal
+use Rattle.s66_line.proofs.operand.terms.terms_after.Given as goal
 
 -- the terms so far, then the one that is begun and those of the rest, are those of all
 abbrev pub invariant-loop-end : goal.invariant-loop-end

@@ -1,8 +1,8 @@
 ghost use Rattle.std.specs.Prelude.{◌≡◌, ◌≤◌, IfSome};
 ghost use Rattle.s66_line.specs.Operand.{with_constant, without_constant, set_code, set};
 
-use crate::operand::Encoding;
-use crate::terms::terms_of;
+use crate::operand::encoding::Encoding;
+use crate::operand::terms::terms_of;
 use s66_isa::Bank;
 
 /// The form and the digits j and k, where a constant stands among the terms.

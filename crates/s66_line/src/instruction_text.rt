@@ -1,0 +1,70 @@
+ghost use Rattle.std.specs.Prelude.{◌≡◌, ◌≤◌, ◌+◌, ◌++◌, ◌↔◌, true, length};
+ghost use Rattle.s66_line.specs.Fields.{upper};
+ghost use Rattle.s66_line.specs.Operand.{instr_of};
+ghost use Rattle.s66_line.specs.InstructionText.{spelling, operation_in, operand_in, IsInstruction};
+ghost use Rattle.s66_line.specs.declared.limits.TheConstants.{TEXT_LIMIT};
+
+use crate::fields::{operation_and_operand, upper_case_byte};
+use crate::limits::TEXT_LIMIT;
+use crate::operand::{decode, operation_of};
+use arrayvec::ArrayVec;
+use s66_isa::Instr;
+
+/// Appends the bytes, each letter in upper case.
+fn push_upper_case(letters: &mut ArrayVec<u8, TEXT_LIMIT>, bytes: &[u8])
+    requires { length letters.old.items + length bytes.now ≤ TEXT_LIMIT }
+    ensures value { letters.new.items ≡ letters.old.items ++ upper bytes.now }
+    ensures count { length letters.new.items ≡ length letters.old.items + length bytes.now }
+{
+    for byte in bytes {
+        letters.push(upper_case_byte(*byte));
+    }
+}
+
+/// The bytes, each letter in upper case.
+pub(crate) fn upper_case(bytes: &[u8]) -> ArrayVec<u8, TEXT_LIMIT>
+    requires { length bytes.now ≤ TEXT_LIMIT }
+    ensures value { result.items ≡ upper bytes.now }
+    ensures count { length result.items ≡ length bytes.now }
+{
+    let mut letters = ArrayVec::new();
+    push_upper_case(&mut letters, bytes);
+    letters
+}
+
+/// The operation and the operand in front of these bytes in upper case, one blank between them where there is an operand.
+pub(crate) fn spell(bytes: &[u8]) -> ArrayVec<u8, TEXT_LIMIT>
+    requires { length bytes.now ≤ TEXT_LIMIT }
+    ensures { result.items ≡ spelling (operation_in bytes.now) (operand_in bytes.now) }
+{
+    let (operation, operand) = operation_and_operand(bytes);
+    let mut letters = upper_case(operation);
+    if !operand.is_empty() {
+        letters.push(b' ');
+        push_upper_case(&mut letters, operand);
+    }
+    letters
+}
+
+/// The instruction that the operation and the operand in front of these bytes spell, in upper or in lower case.
+fn instruction_in(bytes: &[u8]) -> Option<Instr>
+    requires { length bytes.now ≤ TEXT_LIMIT }
+    ensures { result ≡ instr_of (operation_in bytes.now) (operand_in bytes.now) }
+{
+    let (operation, operand) = operation_and_operand(bytes);
+    let (form, digit) = operation_of(operation)?;
+    decode(form, digit, upper_case(operand).as_slice())
+}
+
+/// Whether this is the text of an instruction, as `Block::text` gives it.
+pub fn is_instruction(text: &[u8]) -> bool
+    ensures { result ≡ true ↔ IsInstruction text.now }
+{
+    if text.len() > TEXT_LIMIT {
+        return false;
+    }
+    match instruction_in(text) {
+        Some(_) => spell(text).as_slice() == text,
+        None => false,
+    }
+}
