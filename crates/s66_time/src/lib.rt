@@ -1,6 +1,7 @@
 //! How an order of a block is packed, and when each of its instructions issues, starts and is done.
 #![tactic(auto)]
 
+mod limits;
 mod packing;
 mod place;
 mod placed;
@@ -12,6 +13,7 @@ mod timed;
 mod timeline;
 mod write;
 
+pub use limits::TOTAL_LIMIT;
 pub use packing::{Packing, pack};
 pub use place::Place;
 pub use time::time_of;
