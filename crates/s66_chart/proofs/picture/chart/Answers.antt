@@ -1,5 +1,5 @@
 use Rattle.std.proofs.Common.{rules, arith, ◌∙◌, ◌<◌, ◌≤◌, length}
-use Rattle.s66_chart.proofs.Times.{numbers-length}
+use Rattle.s66_chart.proofs.Fronts.{numbers-length}
 use Rattle.s66_chart.proofs.Fronts.{instruction-written, instruction-begun, filler-written, filler-begun, all-written}
 use Rattle.s66_chart.proofs.picture.chart.Goals as goal
 
