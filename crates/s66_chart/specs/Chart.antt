@@ -1,8 +1,8 @@
 -- A timed order as a picture: a row for each instruction and for each NO between two of them, a column for each minor cycle.
 use Rattle.std.specs.Prelude.{ℕ, ◌+◌, ◌-◌, Bool, if◌then◌else◌, ◌&&◌, ◌==◌, not, List, [], ◌++◌, codes, decimal, flat_map, length, map, nat_lt, replicate}
 use Rattle.std.specs.List.{range_with_len}
-use Rattle.s66_model.specs.Timing.{Point, total_of}
-use Rattle.s66_time.specs.TimedOrder.{TimedOrder, point_at, latency_of, latest_result}
+use Rattle.s66_model.specs.Timing.{Point, latest_result, total_of}
+use Rattle.s66_time.specs.TimedOrder.{TimedOrder, point_at, latency_of}
 use Rattle.s66_chart.specs.declared.activity.Activity.{Activity}
 use Rattle.s66_chart.specs.declared.activity.TheConstants.{ISSUES, WAITS, WORKS, WAITS_FOR_READERS, IDLE}
 

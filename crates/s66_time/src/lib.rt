@@ -3,18 +3,13 @@
 
 mod limits;
 mod packing;
-mod place;
-mod placed;
 mod point;
 mod profile;
 mod result;
-mod time;
 mod timed;
 mod timeline;
 mod write;
 
 pub use limits::TOTAL_LIMIT;
 pub use packing::{Packing, pack};
-pub use place::Place;
-pub use time::time_of;
-pub use timed::Timed;
+pub use timed::{Timed, Times, time_of};
