@@ -5,13 +5,8 @@ use Rattle.std.proofs.lemmas.List.{take-append-drop, take-append-le, drop-append
 use Rattle.std.specs.List.{range_with_len}
 use Rattle.std.specs.Io.KnownBytes.{Appends}
 use Rattle.s66_line.proofs.Bytes.{Appends-more}
-use Rattle.s66_dep.specs.Ordered.{Ordered}
 use Rattle.s66_time.specs.TimedOrder.{TimedOrder}
 use Rattle.s66_chart.specs.Chart.{instruction_row, filler_row, chart_text}
-
--- the order that was timed has the same numbers
-pub numbers-length : (t : TimedOrder) (o : Ordered) (numbers : List ℕ) → o ≡ record { block = t.problem.block; numbers = t.numbers } → numbers ≡ o.numbers → length numbers ≡ length t.numbers
-numbers-length t o numbers is same = ap length (same ∙ ap (λ (p : Ordered). p.numbers) is)
 
 -- THE ROWS FROM A POSITION ON
 

@@ -57,13 +57,19 @@ fn write_instruction<S: Sink>(
     )
 }
 
+/// How many instructions an order has.
+fn count(timed: &Timed) -> usize
+    ensures { result ≡ length timed.now.numbers }
+{
+    timed.order().numbers().len()
+}
+
 /// Whether a `NO` stands between the instruction at a position and the next one.
 fn has_filler(timed: &Timed, position: usize) -> bool
     requires { position < length timed.now.numbers }
     ensures { result ≡ has_filler timed.now position }
 {
-    let count = timed.order().numbers().len();
-    if position + 1 == count {
+    if count(timed) == position + 1 {
         return false;
     }
     let end = timed.at(position).parcel as usize + timed.parcels(position) as usize;
@@ -95,9 +101,9 @@ fn write_filler<S: Sink>(
 /// cycle of 100 ns from the first issue to the end.
 ///
 /// A row is the instruction's number, right in three places, one blank, and a letter for each cycle: `I` it issues, `W` its unit
-/// waits for operands or for memory, `=` it works, `H` its result is held back for an earlier reader, `.` anything else. A row has
-/// at most 6,661 bytes and is written by as few calls as the sink allows; nothing is allocated. Where the sink fails, a beginning
-/// of the text was written.
+/// waits for operands or for memory, `=` it works, `H` a result waits for earlier readers of its register, `.` anything else. A row
+/// has at most 6,661 bytes and is written by as few calls as the sink allows, in time linear in its length; nothing is allocated.
+/// Where the sink fails, a beginning of the text was written.
 pub fn chart<S: Sink>(timed: &Timed, writer: &mut S) -> Result<(), WriteError>
     requires { S.failures writer.old < 2 ^ 64 - 1 }
     ensures ok { OnOk result (Appends (S.bytes writer.old) (S.bytes writer.new) (chart_text timed.now)) }
@@ -106,8 +112,7 @@ pub fn chart<S: Sink>(timed: &Timed, writer: &mut S) -> Result<(), WriteError>
     ensures beginning { OnErr result ((k : ℕ) × Appends (S.bytes writer.old) (S.bytes writer.new) (take k (chart_text timed.now))) }
 {
     let mut page = [0; ROW_LIMIT];
-    let count = timed.order().numbers().len();
-    for position in 0..count {
+    for position in 0..count(timed) {
         write_instruction(timed, position, &mut page, writer)?;
         write_filler(timed, position, &mut page, writer)?;
     }
