@@ -1,58 +1,23 @@
 -- The rows of a chart, one position after another, and the bytes that a sink has taken so far.
-use Rattle.std.proofs.Common.{ℕ, suc, ◌+◌, ◌≤◌, ◌<◌, ◌≡◌, Bool, true, false, cond, not, eqb, min, List, [], ◌∷◌, ◌++◌, Option, decimal, length, take, drop, reverse, refl, sym, ap, arith, inl, inr, add-one, drop-cons, subst, append_assoc, ◌∙◌}
-use Rattle.std.proofs.lemmas.Bool.{cases_lt, lt-ltb, le-ltb}
+use Rattle.std.proofs.Common.{ℕ, suc, ◌+◌, ◌-◌, ◌≤◌, ◌<◌, ◌≡◌, min, List, [], ◌++◌, Option, flat_map, length, take, drop, sym, ap, arith, inl, inr, subst, append_assoc, ◌∙◌}
+use Rattle.std.proofs.lemmas.Bool.{cases_lt}
 use Rattle.std.proofs.lemmas.List.{take-append-drop, take-append-le, drop-append-le, take_all, drop_all, drop-drop, append-nil}
+use Rattle.std.specs.List.{range_with_len}
 use Rattle.std.specs.Io.KnownBytes.{Appends}
 use Rattle.s66_line.proofs.Bytes.{Appends-more}
-use Rattle.s66_model.specs.Timing.{Point, points_of, total_of}
-use Rattle.s66_time.specs.TimedOrder.{TimedOrder, point_at, no_point}
-use Rattle.s66_chart.specs.Chart.{letter, row_text, filler_text, rows_text, chart_text}
-use Rattle.s66_chart.specs.Positions.{instruction_row, filler_row}
-use Rattle.s66_chart.proofs.Times.{points-length}
+use Rattle.s66_time.specs.TimedOrder.{TimedOrder}
+use Rattle.s66_chart.specs.Chart.{instruction_row, filler_row, chart_text}
 
 -- THE ROWS FROM A POSITION ON
 
--- what stands between a point and the next of these
-abbrev next_filler : ℕ → Point → List Point → List ℕ
-next_filler cycles p [] = []
-next_filler cycles p (next ∷ ps) = filler_text cycles p next
-
-rows-first : (cycles : ℕ) (p : Point) (ps : List Point) →
-    rows_text cycles (p ∷ ps) ≡ row_text (decimal p.number) (letter p) cycles ++ (next_filler cycles p ps ++ rows_text cycles ps)
-rows-first cycles p [] = sym (append-nil _)
-rows-first cycles p (next ∷ ps) =
-    append_assoc (row_text (decimal p.number) (letter p) cycles) (filler_text cycles p next) (rows_text cycles (next ∷ ps))
-
-cond-not : {X : Type 0} (t : Bool) (x y : X) → cond t y x ≡ cond (not t) x y
-cond-not true x y = refl
-cond-not false x y = refl
-
--- the points of a chart, the first of them first
-abbrev chart_points : TimedOrder → List Point
-chart_points t = reverse (points_of t.problem t.numbers)
-
--- the rows of a position and of all after it
 abbrev pub rows_from : TimedOrder → ℕ → List ℕ
-rows_from t position = rows_text (total_of t.problem t.numbers) (drop position (chart_points t))
-
-filler-is : (t : TimedOrder) (i : ℕ) → i < length t.numbers → next_filler (total_of t.problem t.numbers) (point_at t i) (drop (i + 1) (chart_points t)) ≡ filler_row t i
-filler-is t i lt =
-    elim (cases_lt (i + 1) (length t.numbers)) [
-      | inl more ↦
-          let first : drop (i + 1) (chart_points t) ≡ point_at t (i + 1) ∷ drop (suc (i + 1)) (chart_points t) = drop-cons (chart_points t) (i + 1) (no_point t.problem.profile) (omega (arith, points-length t)) in
-          rw (first, lt-ltb (i + 1) (length t.numbers) more) (cond-not (eqb (point_at t (i + 1)).parcel ((point_at t i).parcel + (point_at t i).row.parcels)) _ _)
-      | inr last ↦
-          let none : drop (i + 1) (chart_points t) ≡ [] = drop_all (i + 1) (chart_points t) (omega (arith, points-length t)) in
-          rw (none, le-ltb (i + 1) (length t.numbers) last) refl
-    ]
+rows_from t position = flat_map (λ i. instruction_row t i ++ filler_row t i) (range_with_len position (length t.numbers - position))
 
 rows-step : (t : TimedOrder) (i : ℕ) → i < length t.numbers → rows_from t i ≡ instruction_row t i ++ (filler_row t i ++ rows_from t (i + 1))
 rows-step t i lt =
-    let ps : List Point = chart_points t in
-    let first : drop i ps ≡ point_at t i ∷ drop (i + 1) ps = rw add-one (drop-cons ps i (no_point t.problem.profile) (omega (arith, points-length t))) in
-    ap (rows_text (total_of t.problem t.numbers)) first
-    ∙ rows-first (total_of t.problem t.numbers) (point_at t i) (drop (i + 1) ps)
-    ∙ ap (λ filler. instruction_row t i ++ (filler ++ rows_from t (i + 1))) (filler-is t i lt)
+    let more : length t.numbers - i ≡ suc (length t.numbers - (i + 1)) = omega arith in
+    ap (λ count. flat_map (λ k. instruction_row t k ++ filler_row t k) (range_with_len i count)) more
+    ∙ append_assoc (instruction_row t i) (filler_row t i) (rows_from t (i + 1))
 
 -- WHAT WAS WRITTEN OF A TEXT
 
@@ -131,5 +96,5 @@ filler-begun old mid new t i = front-begun old mid new (chart_text t) (filler_ro
 
 pub all-written : (old new : Option (List ℕ)) (t : TimedOrder) (i : ℕ) → length t.numbers ≤ i → AreWritten old new t i → Appends old new (chart_text t)
 all-written old new t i all before =
-    let none : rows_from t i ≡ [] = ap (rows_text (total_of t.problem t.numbers)) (drop_all i (chart_points t) (omega (arith, points-length t))) in
-    front-whole old new (chart_text t) (subst (IsFront old new (chart_text t)) none before)
+    let none : length t.numbers - i ≡ 0 = omega arith in
+    front-whole old new (chart_text t) (subst (IsFront old new (chart_text t)) (ap (λ count. flat_map (λ k. instruction_row t k ++ filler_row t k) (range_with_len i count)) none) before)

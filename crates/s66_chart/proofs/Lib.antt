@@ -1,3 +1,2 @@
-pub mod Times
-pub mod Letters
+pub mod Runs
 pub mod Fronts

@@ -1,42 +1,60 @@
--- A timed order as a picture: a row for each instruction, a column for each minor cycle.
-use Rattle.std.specs.Prelude.{ℕ, ◌+◌, ◌-◌, if◌then◌else◌, ◌&&◌, ◌==◌, List, [], ◌∷◌, ◌++◌, codes, decimal, length, map, nat_le, nat_lt, replicate, reverse}
-use Rattle.s66_isa.specs.Lists.{rising}
-use Rattle.s66_model.specs.Timing.{Point, points_of, total_of}
+-- A timed order as a picture: a row for each instruction and for each NO between two of them, a column for each minor cycle.
+use Rattle.std.specs.Prelude.{ℕ, ◌+◌, ◌-◌, Bool, if◌then◌else◌, ◌&&◌, ◌==◌, not, List, [], ◌++◌, codes, decimal, flat_map, length, map, nat_lt, replicate}
+use Rattle.std.specs.List.{range_with_len}
+use Rattle.s66_model.specs.Timing.{Point, latest_result, total_of}
 use Rattle.s66_isa.specs.Table.{latency_of}
-use Rattle.s66_time.specs.TimedOrder.{TimedOrder, latest_result}
+use Rattle.s66_time.specs.TimedOrder.{TimedOrder, point_at}
+use Rattle.s66_chart.specs.declared.activity.Activity.{Activity}
+use Rattle.s66_chart.specs.declared.activity.TheConstants.{ISSUES, WAITS, WORKS, WAITS_FOR_READERS, IDLE}
 
--- what an instruction does in a minor cycle: I issues, W waits for operands or for memory, = works, H is held for an earlier reader; the first that fits
-abbrev pub letter : Point → ℕ → ℕ
-letter p cycle =
-    if cycle == p.issue then 73
-    else (if nat_lt p.issue cycle && nat_lt cycle p.start then 87
-    else (if nat_le p.start cycle && nat_lt cycle (p.start + latency_of p.row) then 61
-    else (if nat_le (p.start + latency_of p.row) cycle && nat_lt cycle (latest_result p) then 72
-    else 46)))
+-- WHAT A ROW SHOWS
+
+-- when an instruction issues, when its unit starts and has worked, and when its last result is done
+abbrev pub activity : Point → Activity
+activity p = record { issue = p.issue; start = p.start; finish = p.start + latency_of p.row; done = latest_result p }
 
 -- a NO issues after the parcels of the instruction before it, and does nothing more
-abbrev pub filler_letter : Point → ℕ → ℕ
-filler_letter p cycle = if cycle == p.issue + p.row.parcels then 73 else 46
+abbrev pub filler_activity : Point → Activity
+filler_activity p = record { issue = p.issue + p.row.parcels; start = 0; finish = 0; done = 0 }
+
+-- this letter in each minor cycle before the end, and from there on the others
+abbrev pub until : ℕ → ℕ → (ℕ → ℕ) → ℕ → ℕ
+until end letter others cycle = if nat_lt cycle end then letter else others cycle
+
+-- the letter of each minor cycle
+abbrev pub letter : Activity → ℕ → ℕ
+letter a =
+    until a.issue IDLE
+    (until (a.issue + 1) ISSUES
+    (until a.start WAITS
+    (until a.finish WORKS
+    (until a.done WAITS_FOR_READERS (λ cycle. IDLE)))))
+
+-- THE ROWS
 
 -- right in three places
 abbrev pub in_three : List ℕ → List ℕ
-in_three digits = replicate (3 - length digits) 32 ++ digits
+in_three name = replicate (3 - length name) 32 ++ name
 
--- a name, a blank, and a letter for each of so many minor cycles from 0
-abbrev pub row_text : List ℕ → (ℕ → ℕ) → ℕ → List ℕ
-row_text name letters cycles = in_three name ++ codes " " ++ map letters (rising cycles 0) ++ codes "\n"
+-- a name, a blank, and the letters of so many minor cycles
+abbrev pub row_text : List ℕ → Activity → ℕ → List ℕ
+row_text name a cycles = in_three name ++ codes " " ++ map (letter a) (range_with_len 0 cycles) ++ codes "\n"
 
--- the NO between an instruction and the next one, where there is one
-abbrev pub filler_text : ℕ → Point → Point → List ℕ
-filler_text cycles p next =
-    if next.parcel == p.parcel + p.row.parcels then [] else row_text (codes "NO") (filler_letter p) cycles
+abbrev pub cycles_of : TimedOrder → ℕ
+cycles_of t = total_of t.problem t.numbers
 
--- the rows of these points, the first of them first
-abbrev pub rows_text : ℕ → List Point → List ℕ
-rows_text cycles [] = []
-rows_text cycles (p ∷ []) = row_text (decimal p.number) (letter p) cycles
-rows_text cycles (p ∷ (next ∷ ps)) =
-    row_text (decimal p.number) (letter p) cycles ++ filler_text cycles p next ++ rows_text cycles (next ∷ ps)
+-- the row of the instruction at a position, from 0
+abbrev pub instruction_row : TimedOrder → ℕ → List ℕ
+instruction_row t position = row_text (decimal (point_at t position).number) (activity (point_at t position)) (cycles_of t)
+
+-- a NO stands between the instruction at a position and the next one
+abbrev pub has_filler : TimedOrder → ℕ → Bool
+has_filler t position =
+    nat_lt (position + 1) (length t.numbers) && not ((point_at t (position + 1)).parcel == (point_at t position).parcel + (point_at t position).row.parcels)
+
+-- the row of that NO, where there is one
+abbrev pub filler_row : TimedOrder → ℕ → List ℕ
+filler_row t position = if has_filler t position then row_text (codes "NO") (filler_activity (point_at t position)) (cycles_of t) else []
 
 abbrev pub chart_text : TimedOrder → List ℕ
-chart_text t = rows_text (total_of t.problem t.numbers) (reverse (points_of t.problem t.numbers))
+chart_text t = flat_map (λ position. instruction_row t position ++ filler_row t position) (range_with_len 0 (length t.numbers))

@@ -1,2 +1,1 @@
 pub mod Chart
-pub mod Positions

@@ -1,63 +1,61 @@
-ghost use Rattle.std.specs.Prelude.{◌≡◌, ◌<◌, ◌≤◌, length};
-ghost use Rattle.s66_model.specs.Timing.{total_of};
+ghost use Rattle.std.specs.Prelude.{◌≡◌, ◌<◌, length};
 ghost use Rattle.s66_time.specs.TimedOrder.{point_at};
-ghost use Rattle.s66_chart.specs.Positions.{activity, filler_activity, letter_in};
+ghost use Rattle.s66_chart.specs.Chart.{activity, filler_activity};
 
 use s66_time::Timed;
 
-/// What a row shows: when an instruction issues and starts, how many minor cycles it works, and when its last result is
+/// The letter of the minor cycle in which an instruction issues.
+pub const ISSUES: u8 = b'I';
+
+/// The letter of a unit that waits for operands or for memory.
+pub const WAITS: u8 = b'W';
+
+/// The letter of a unit that works.
+pub const WORKS: u8 = b'=';
+
+/// The letter of a result that waits until the earlier readers of its register have started.
+pub const WAITS_FOR_READERS: u8 = b'H';
+
+/// The letter of anything else.
+pub const IDLE: u8 = b'.';
+
+/// What a row shows, in minor cycles: when an instruction issues, when its unit starts and has worked, and when its last result is
 /// done.
 #[derive(Clone, Copy, Debug)]
 pub struct Activity {
-    pub issue: u32,
-    pub start: u32,
-    pub latency: u32,
-    pub done: u32,
+    pub issue: usize,
+    pub start: usize,
+    pub finish: usize,
+    pub done: usize,
 }
 
 impl Activity {
     /// Of the instruction at a position.
     pub fn of_instruction(timed: &Timed, position: usize) -> Activity
         requires { position < length timed.now.numbers }
-        ensures { result ≡ activity (point_at timed.now position) }
+        ensures value { result ≡ activity (point_at timed.now position) }
+        ensures early { result.issue < usize.MAX }
     {
-        let place = timed.at(position);
+        let times = timed.at(position);
         Activity {
-            issue: place.issue,
-            start: place.start,
-            latency: timed.latency(position),
-            done: place.done,
+            issue: times.issue as usize,
+            start: times.start as usize,
+            finish: times.start as usize + timed.latency(position) as usize,
+            done: times.done as usize,
         }
     }
 
     /// Of the `NO` after the instruction at a position: it does nothing once it has issued.
     pub fn of_filler(timed: &Timed, position: usize) -> Activity
-        requires position { position < length timed.now.numbers }
-        requires small { total_of timed.now.problem timed.now.numbers ≤ 6656 }
-        ensures { result ≡ filler_activity (point_at timed.now position) }
+        requires { position < length timed.now.numbers }
+        ensures value { result ≡ filler_activity (point_at timed.now position) }
+        ensures early { result.issue < usize.MAX }
     {
         Activity {
-            issue: timed.at(position).issue + timed.parcels(position),
+            issue: timed.at(position).issue as usize + timed.parcels(position) as usize,
             start: 0,
-            latency: 0,
+            finish: 0,
             done: 0,
-        }
-    }
-
-    /// The letter of a minor cycle.
-    pub fn letter(&self, cycle: u32) -> u8
-        ensures { result ≡ letter_in self.now cycle }
-    {
-        if cycle == self.issue {
-            b'I'
-        } else if cycle < self.start {
-            if self.issue < cycle { b'W' } else { b'.' }
-        } else if cycle - self.start < self.latency {
-            b'='
-        } else if cycle < self.done {
-            b'H'
-        } else {
-            b'.'
         }
     }
 }

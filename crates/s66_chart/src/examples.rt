@@ -1,13 +1,14 @@
-//! Worked rows: the charts that the definition gives of small orders under the standard profile. Each clause is a chart,
-//! and the function does nothing.
+//! Worked examples: the charts that the definition gives of small orders under the standard profile. Each clause is a chart, and the
+//! function does nothing.
 
 ghost use Rattle.std.specs.Prelude.{List, [], ◌∷◌, ◌≡◌, ◌++◌, codes};
 ghost use Rattle.s66_isa.specs.declared.instr.Instr.{Instr};
-ghost use Rattle.s66_model.specs.Examples.{instr, standard_problem, one_load, packing_gap, third_order};
+ghost use Rattle.s66_model.specs.Examples.{instr, standard_problem, one_load, packing_gap, third_order, held_load};
 ghost use Rattle.s66_chart.specs.Chart.{chart_text};
 
-/// Each block in the order in which it is written: an instruction that waits for a load, a `NO`, a result that is held
-/// back, and an instruction that writes only B0.
+/// Each block in the order in which it is written: an instruction that waits for a load, a `NO`, also after an instruction of two
+/// parcels, a result that waits for readers and holds its unit, a loaded one that waits and holds no unit, and an instruction that
+/// writes only B0.
 pub fn chart_examples()
     ensures one_load { chart_text (record { problem = standard_problem one_load; numbers = 1 ∷ 2 ∷ 3 ∷ [] }) ≡
         codes "  1 I=======........\n" ++
@@ -28,5 +29,9 @@ pub fn chart_examples()
         codes "  1 I============================....\n" ++
         codes "  2 .IWWWWWWWWWWWWWWWWWWWWWWWWWWW===.\n" ++
         codes "  3 ..I==HHHHHHHHHHHHHHHHHHHHHHHHH...\n" }
+    ensures held_load { chart_text (record { problem = standard_problem held_load; numbers = 1 ∷ 2 ∷ 3 ∷ [] }) ≡
+        codes "  1 I============================....\n" ++
+        codes "  2 .IWWWWWWWWWWWWWWWWWWWWWWWWWWW===.\n" ++
+        codes "  3 ..I=======HHHHHHHHHHHHHHHHHHHH...\n" }
     ensures only_b0 { chart_text (record { problem = standard_problem (instr 0o61 0 0 0 ∷ []); numbers = 1 ∷ [] }) ≡ codes "  1 I==.\n" }
 {}

@@ -2,9 +2,9 @@
 #![tactic(auto)]
 
 mod activity;
+mod examples;
 mod picture;
 mod row;
-mod examples;
 
-pub use picture::chart;
 pub use examples::chart_examples;
+pub use picture::chart;

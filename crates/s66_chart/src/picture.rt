@@ -1,18 +1,41 @@
 ghost use Rattle.std.specs.Prelude.{◌≡◌, ◌+◌, ◌-◌, ◌^◌, ◌<◌, ◌≤◌, ℕ, length, take, OnOk, OnErr};
 ghost use Rattle.std.specs.Io.KnownBytes.{Appends};
-ghost use Rattle.s66_chart.specs.Chart.{chart_text};
-ghost use Rattle.s66_chart.specs.Positions.{instruction_row, filler_row, has_filler};
+ghost use Rattle.s66_time.specs.declared.limits.TheConstants.{TOTAL_LIMIT};
+ghost use Rattle.s66_chart.specs.declared.row.TheConstants.{NAME_ROOM};
+ghost use Rattle.s66_chart.specs.Chart.{row_text, instruction_row, filler_row, has_filler, chart_text};
 
 use crate::activity::Activity;
-use crate::row::row_of;
+use crate::row::{ROW_FRAME, ROW_LIMIT, draw_row};
 use itoa::Buffer;
 use s66_line::{Sink, WriteError, write_all};
 use s66_time::Timed;
+
+/// Writes a row, which it draws over the front of a page.
+fn write_row<S: Sink>(
+    name: &[u8],
+    activity: &Activity,
+    cycles: usize,
+    page: &mut [u8; ROW_LIMIT],
+    writer: &mut S,
+) -> Result<(), WriteError>
+    requires failures { S.failures writer.old < 2 ^ 64 - 1 }
+    requires name { length name.now ≤ NAME_ROOM }
+    requires early { activity.now.issue < usize.MAX }
+    requires cycles { cycles ≤ TOTAL_LIMIT }
+    ensures ok { OnOk result (Appends (S.bytes writer.old) (S.bytes writer.new) (row_text name.now activity.now cycles)) }
+    ensures same { OnOk result (S.failures writer.new ≡ S.failures writer.old) }
+    ensures err { OnErr result (S.failures writer.new ≡ S.failures writer.old + 1) }
+    ensures beginning { OnErr result ((k : ℕ) × Appends (S.bytes writer.old) (S.bytes writer.new) (take k (row_text name.now activity.now cycles))) }
+{
+    draw_row(page, name, activity, cycles);
+    write_all(writer, &page[..cycles + ROW_FRAME])
+}
 
 /// Writes the row of the instruction at a position.
 fn write_instruction<S: Sink>(
     timed: &Timed,
     position: usize,
+    page: &mut [u8; ROW_LIMIT],
     writer: &mut S,
 ) -> Result<(), WriteError>
     requires failures { S.failures writer.old < 2 ^ 64 - 1 }
@@ -24,9 +47,21 @@ fn write_instruction<S: Sink>(
 {
     let activity = Activity::of_instruction(timed, position);
     let mut buffer = Buffer::new();
-    let digits = buffer.format(timed.number(position));
-    let row = row_of(digits.as_bytes(), &activity, timed.total());
-    write_all(writer, row.as_slice())
+    let number = buffer.format(timed.number(position));
+    write_row(
+        number.as_bytes(),
+        &activity,
+        timed.total() as usize,
+        page,
+        writer,
+    )
+}
+
+/// How many instructions an order has.
+fn count(timed: &Timed) -> usize
+    ensures { result ≡ length timed.now.numbers }
+{
+    timed.order().numbers().len()
 }
 
 /// Whether a `NO` stands between the instruction at a position and the next one.
@@ -34,16 +69,20 @@ fn has_filler(timed: &Timed, position: usize) -> bool
     requires { position < length timed.now.numbers }
     ensures { result ≡ has_filler timed.now position }
 {
-    let count = timed.order().numbers().len();
-    if position + 1 < count {
-        timed.at(position + 1).parcel != timed.at(position).parcel + timed.parcels(position)
-    } else {
-        false
+    if count(timed) == position + 1 {
+        return false;
     }
+    let end = timed.at(position).parcel as usize + timed.parcels(position) as usize;
+    timed.at(position + 1).parcel as usize != end
 }
 
 /// Writes the row of the `NO` after the instruction at a position, where there is one.
-fn write_filler<S: Sink>(timed: &Timed, position: usize, writer: &mut S) -> Result<(), WriteError>
+fn write_filler<S: Sink>(
+    timed: &Timed,
+    position: usize,
+    page: &mut [u8; ROW_LIMIT],
+    writer: &mut S,
+) -> Result<(), WriteError>
     requires failures { S.failures writer.old < 2 ^ 64 - 1 }
     requires position { position < length timed.now.numbers }
     ensures ok { OnOk result (Appends (S.bytes writer.old) (S.bytes writer.new) (filler_row timed.now position)) }
@@ -51,23 +90,20 @@ fn write_filler<S: Sink>(timed: &Timed, position: usize, writer: &mut S) -> Resu
     ensures err { OnErr result (S.failures writer.new ≡ S.failures writer.old + 1) }
     ensures beginning { OnErr result ((k : ℕ) × Appends (S.bytes writer.old) (S.bytes writer.new) (take k (filler_row timed.now position))) }
 {
-    let cycles = timed.total();
-    if has_filler(timed, position) {
-        let activity = Activity::of_filler(timed, position);
-        let filler = row_of(b"NO", &activity, cycles);
-        write_all(writer, filler.as_slice())
-    } else {
-        Ok(())
+    if !has_filler(timed, position) {
+        return Ok(());
     }
+    let activity = Activity::of_filler(timed, position);
+    write_row(b"NO", &activity, timed.total() as usize, page, writer)
 }
 
 /// Draws a timed order: a row for each instruction, in order, and for each `NO` between two of them; a column for each minor
 /// cycle of 100 ns from the first issue to the end.
 ///
 /// A row is the instruction's number, right in three places, one blank, and a letter for each cycle: `I` it issues, `W` its unit
-/// waits for operands or for memory, `=` it works, `H` its result is held back for an earlier reader, `.` anything else. A row has
-/// at most 6,661 bytes and is written by as few calls as the sink allows; nothing is allocated. Where the sink fails, a beginning
-/// of the text was written.
+/// waits for operands or for memory, `=` it works, `H` a result waits for earlier readers of its register, `.` anything else. A row
+/// has at most 6,661 bytes and is written by as few calls as the sink allows, in time linear in its length; nothing is allocated.
+/// Where the sink fails, a beginning of the text was written.
 pub fn chart<S: Sink>(timed: &Timed, writer: &mut S) -> Result<(), WriteError>
     requires { S.failures writer.old < 2 ^ 64 - 1 }
     ensures ok { OnOk result (Appends (S.bytes writer.old) (S.bytes writer.new) (chart_text timed.now)) }
@@ -75,10 +111,10 @@ pub fn chart<S: Sink>(timed: &Timed, writer: &mut S) -> Result<(), WriteError>
     ensures err { OnErr result (S.failures writer.new ≡ S.failures writer.old + 1) }
     ensures beginning { OnErr result ((k : ℕ) × Appends (S.bytes writer.old) (S.bytes writer.new) (take k (chart_text timed.now))) }
 {
-    let count = timed.order().numbers().len();
-    for position in 0..count {
-        write_instruction(timed, position, writer)?;
-        write_filler(timed, position, writer)?;
+    let mut page = [0; ROW_LIMIT];
+    for position in 0..count(timed) {
+        write_instruction(timed, position, &mut page, writer)?;
+        write_filler(timed, position, &mut page, writer)?;
     }
     Ok(())
 }

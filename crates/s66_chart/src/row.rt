@@ -1,45 +1,65 @@
-ghost use Rattle.std.specs.Prelude.{◌≡◌, ◌+◌, ◌≤◌, ◌++◌, length, map};
-ghost use Rattle.s66_isa.specs.Lists.{rising};
-ghost use Rattle.arrayvec.specs.ArrayVec.{array_vec_len};
-ghost use Rattle.s66_chart.specs.Chart.{row_text};
-ghost use Rattle.s66_chart.specs.Positions.{letter_in};
+ghost use Rattle.std.specs.Prelude.{ℕ, ◌≡◌, ◌+◌, ◌<◌, ◌≤◌, ◌++◌, length, map, take};
+ghost use Rattle.std.specs.List.{range_with_len};
+ghost use Rattle.s66_time.specs.declared.limits.TheConstants.{TOTAL_LIMIT};
+ghost use Rattle.s66_chart.specs.declared.row.TheConstants.{NAME_ROOM, ROW_FRAME};
+ghost use Rattle.s66_chart.specs.Chart.{until, letter, row_text};
 
-use crate::activity::Activity;
-use arrayvec::ArrayVec;
+use crate::activity::{Activity, IDLE, ISSUES, WAITS, WAITS_FOR_READERS, WORKS};
+use s66_time::TOTAL_LIMIT;
 
-/// Appends a text.
-fn push_text(row: &mut ArrayVec<u8, 8192>, text: &[u8])
-    requires { array_vec_len row.old + length text.now ≤ 8192 }
-    ensures { row.new.items ≡ row.old.items ++ text.now }
+/// The places of a name.
+const NAME_ROOM: usize = 3;
+
+/// The bytes of a row beside its letters: a name, one blank and a newline.
+pub const ROW_FRAME: usize = NAME_ROOM + 2;
+
+/// The most bytes of a row.
+pub const ROW_LIMIT: usize = TOTAL_LIMIT as usize + ROW_FRAME;
+
+/// Writes a text over the bytes from a place on.
+fn put(page: &mut [u8], place: usize, text: &[u8])
+    requires { place + length text.now ≤ length page.old }
+    ensures front { take (place + length text.now) page.new ≡ take place page.old ++ text.now }
+    ensures len { length page.new ≡ length page.old }
 {
-    for byte in text {
-        row.push(*byte);
-    }
+    page[place..place + text.len()].copy_from_slice(text);
 }
 
-/// Appends the letters of so many minor cycles.
-fn push_letters(row: &mut ArrayVec<u8, 8192>, activity: &Activity, cycles: u32)
-    requires { array_vec_len row.old + cycles ≤ 8192 }
-    ensures items { row.new.items ≡ row.old.items ++ map (letter_in activity.now) (rising cycles 0) }
-    ensures len { array_vec_len row.new ≡ array_vec_len row.old + cycles }
+/// Writes a letter over those of the minor cycles before the end.
+fn fill_until(letters: &mut [u8], end: usize, letter: u8)
+    ensures len { length letters.new ≡ length letters.old }
+    ensures letters { (others : ℕ → ℕ) (count : ℕ) → letters.old ≡ map others (range_with_len 0 count) → letters.new ≡ map (until end letter others) (range_with_len 0 count) }
 {
-    for cycle in 0..cycles {
-        row.push(activity.letter(cycle));
-    }
+    let end = end.min(letters.len());
+    letters[..end].fill(letter);
 }
 
-/// A row: a name, right in three places, one blank, and the letters of so many minor cycles.
-pub fn row_of(name: &[u8], activity: &Activity, cycles: u32) -> ArrayVec<u8, 8192>
-    requires name { length name.now ≤ 3 }
-    requires cycles { cycles ≤ 6656 }
-    ensures { result.items ≡ row_text name.now (letter_in activity.now) cycles }
+/// Writes the letters of as many minor cycles as there is room for: a run of equal letters at once, the last run first, since each
+/// run is written over all that stands before its end.
+fn draw(letters: &mut [u8], activity: &Activity)
+    requires { activity.now.issue < usize.MAX }
+    ensures { letters.new ≡ map (letter activity.now) (range_with_len 0 (length letters.old)) }
 {
-    let blanks: &[u8] = b"   ";
-    let mut row = ArrayVec::new();
-    push_text(&mut row, &blanks[name.len()..]);
-    push_text(&mut row, name);
-    push_text(&mut row, b" ");
-    push_letters(&mut row, activity, cycles);
-    push_text(&mut row, b"\n");
-    row
+    letters.fill(IDLE);
+    fill_until(letters, activity.done, WAITS_FOR_READERS);
+    fill_until(letters, activity.finish, WORKS);
+    fill_until(letters, activity.start, WAITS);
+    fill_until(letters, activity.issue + 1, ISSUES);
+    fill_until(letters, activity.issue, IDLE);
+}
+
+/// Writes a row over the front of a page: a name, right in three places, one blank, the letters of so many minor cycles, and a
+/// newline.
+pub fn draw_row(page: &mut [u8; ROW_LIMIT], name: &[u8], activity: &Activity, cycles: usize)
+    requires name { length name.now ≤ NAME_ROOM }
+    requires early { activity.now.issue < usize.MAX }
+    requires cycles { cycles ≤ TOTAL_LIMIT }
+    ensures { take (cycles + ROW_FRAME) page.new ≡ row_text name.now activity.now cycles }
+{
+    put(page, 0, b"   ");
+    put(page, NAME_ROOM - name.len(), name);
+    put(page, NAME_ROOM, b" ");
+    let letters = NAME_ROOM + 1;
+    draw(&mut page[letters..letters + cycles], activity);
+    put(page, letters + cycles, b"\n");
 }

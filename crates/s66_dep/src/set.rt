@@ -2,7 +2,8 @@ ghost use Rattle.std.specs.Prelude.{ℕ, ◌≡◌, ◌≤◌, ◌==◌, ◌||�
 ghost use Rattle.s66_isa.specs.Lists.{has};
 ghost use Rattle.s66_dep.specs.Members.{numbers_in};
 
-/// A set of instruction numbers of a block, 1 to 64, in one word.
+/// A set of instruction numbers of a block, in one word. A word has 64 bits, so the numbers are 1 to 64, and a block's limit is at
+/// most that.
 #[derive(Clone, Copy, Debug, Default, PartialEq, Eq)]
 pub struct Set {
     /// Bit n - 1 tells whether n is there.

@@ -12,7 +12,7 @@ use Rattle.s66_isa.specs.Table.{Row, Write, standard, a_reg, b_reg, all_kinds, r
 use Rattle.s66_model.specs.Packing.{parcels_from, fillers, len_at}
 use Rattle.s66_model.specs.Dependence.{share}
 use Rattle.s66_model.specs.Meaning.{Term, Initial, Computed, Terms, NoTerms, Then, Storage, meaning}
-use Rattle.s66_model.specs.Timing.{Problem, Point, ResultAt, row_at, points_of}
+use Rattle.s66_model.specs.Timing.{Problem, Point, row_at, points_of, latest_result}
 use Rattle.s66_model.specs.Leaves.{Leaf, Whole, Chain, Load, link, load, chain, longest_chain, floor, floor_value}
 use Rattle.s66_model.specs.Tree.{Tree, Parted, Kids, NoMore, Unsplit, Split}
 use Rattle.s66_model.specs.Answer.{Answer}
@@ -56,15 +56,10 @@ uneven_profile = record {
 
 -- WHAT AN ORDER DOES, one item an instruction, in the order of issue
 
--- the latest of its results, start + hold where nothing is written
-abbrev pub latest_of : Point → List ResultAt → ℕ
-latest_of p [] = p.start + p.row.hold
-latest_of p (d ∷ ds) = greatest (λ (e : ResultAt). e.time) (d ∷ ds)
-
 -- its issue, its start, the latest of its results, and when its unit is free
 abbrev pub times_of : List Instr → List ℕ → List (ℕ × ℕ × ℕ × ℕ)
 times_of block order =
-    map (λ (p : Point). (p.issue, p.start, latest_of p p.results, p.free)) (reverse (points_of (standard_problem block) order))
+    map (λ (p : Point). (p.issue, p.start, latest_result p, p.free)) (reverse (points_of (standard_problem block) order))
 
 -- the parcel in which it begins
 abbrev pub parcels_in : List Instr → List ℕ → List ℕ

@@ -4,3 +4,4 @@ pub mod Writes
 pub mod Free
 pub mod Points
 pub mod Kept
+pub mod Numbers
