@@ -61,10 +61,10 @@ CODE = [
     # grammars of operands
     (LINE, token("Form", "Syntax")),
     (LINE, token("form_of", "syntax_of")),
-    (ANY, token("form_law", "spelling_law")),
-    (LINE + "proofs/(FormLaw|SpellingLaw)", text(r"^(pub )?form(?= (:|operation text n e))", r"\1CanMean-instr_of")),
-    (LINE + "proofs/laws/(form|spelling)_law", text(r"(?<=\{)form(?=\})|(?<== )form$", "CanMean-instr_of")),
-    (LINE + "(proofs/(FormLaw|SpellingLaw|Choices)|src/operation|src/operand/operation)", token("form", "syntax")),
+    (ANY, token("form_law", "operation_law")),
+    (LINE + "proofs/(FormLaw|OperationLaw)", text(r"^(pub )?form(?= (:|operation text n e))", r"\1CanMean-instr_of")),
+    (LINE + "proofs/laws/(form|operation)_law", text(r"(?<=\{)form(?=\})|(?<== )form$", "CanMean-instr_of")),
+    (LINE + "(proofs/(FormLaw|OperationLaw|Choices)|src/operation|src/operand/operation)", token("form", "syntax")),
     (LINE + "must-fail/", text(r"decode\(form\b", "decode(syntax")),
     # modules of examples
     ("s66_(chart|cert)/", text(r"(\bmod |crate::|proofs\.|pub use |src/)rows\b", r"\1examples")),
@@ -98,7 +98,7 @@ CODE = [
     (LINE, function("classed", "classes_from")),
     (TIME, function("seen", "point_seen")),
     (LINE, function("gathered", "gather")),
-    (LINE, function("ended", "end_block")),
+    (LINE, text(r"(?<!-)(?<=abbrev pub )ended(?= :)|(?<![\w.-])ended(?!\w| [:=])", "end_block")),
     (LINE, function("begun", "begin_run")),
     (LINE, function("counted", "count_line")),
     (LINE, token("begun_if", "begin_run_if")),
@@ -142,9 +142,9 @@ MOVES = [
     ("s66_cert/src/rows.rt", "s66_cert/src/examples.rt"),
     ("s66_cert/proofs/rows", "s66_cert/proofs/examples"),
     ("s66_model/proofs/Placed.antt", "s66_model/proofs/PointTimes.antt"),
-    ("s66_line/proofs/FormLaw.antt", "s66_line/proofs/SpellingLaw.antt"),
-    ("s66_line/proofs/laws/form_law", "s66_line/proofs/laws/spelling_law"),
-    ("s66_line/proofs/operation/form_of", "s66_line/proofs/operation/syntax_of"),
+    ("s66_line/proofs/FormLaw.antt", "s66_line/proofs/OperationLaw.antt"),
+    ("s66_line/proofs/laws/form_law", "s66_line/proofs/laws/operation_law"),
+    ("s66_line/proofs/operand/operation/form_of", "s66_line/proofs/operand/operation/syntax_of"),
 ]
 
 
@@ -179,7 +179,7 @@ def lib_names(path, source):
     if path.endswith("s66_model/proofs/Lib.antt"):
         source = re.sub(r"\bmod Placed\b", "mod PointTimes", source)
     if path.endswith("s66_line/proofs/Lib.antt"):
-        source = re.sub(r"\bFormLaw\b", "SpellingLaw", source)
+        source = re.sub(r"\bFormLaw\b", "OperationLaw", source)
     return source
 
 
@@ -207,7 +207,7 @@ def main():
             path = os.path.join(folder, name)
             source = open(path, encoding="utf-8").read()
             new = lib_names(path, renamed(path, source))
-            new = new.replace("s66_line.proofs.FormLaw", "s66_line.proofs.SpellingLaw")
+            new = new.replace("s66_line.proofs.FormLaw", "s66_line.proofs.OperationLaw")
             if new != source:
                 open(path, "w", encoding="utf-8").write(new)
 

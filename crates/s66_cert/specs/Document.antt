@@ -5,7 +5,7 @@ use Rattle.s66_isa.specs.declared.instr.Kind.TheVariants.{Boolean, Shift, Add, L
 use Rattle.s66_isa.specs.declared.profile.Profile.{Profile}
 use Rattle.s66_model.specs.Leaves.{Leaf, Whole, Chain, Load, Parcels}
 use Rattle.s66_model.specs.Tree.{Tree, Alone, Parted, Kids, NoMore, Unsplit, Split, Knot, AtTip, AtSplit, flat, splits}
-use Rattle.s66_isa.specs.Lists.{every}
+use Rattle.s66_isa.specs.Lists.{every, spaced}
 use Rattle.s66_line.specs.Block.{spelling}
 use Rattle.s66_line.specs.Fields.{is_blank, upper}
 use Rattle.s66_line.specs.Operand.{instr_of}
@@ -84,10 +84,6 @@ pub record IsDocument (d : Document) : Type 0 where
   pub splits : splits d.tree ≤ 1000000
 
 -- THE TEXT
-
-abbrev pub spaced : List ℕ → List ℕ
-spaced [] = []
-spaced (n ∷ ns) = 32 ∷ decimal n ++ spaced ns
 
 abbrev pub kind_name : Kind → List ℕ
 kind_name Boolean = codes "BOOLEAN"

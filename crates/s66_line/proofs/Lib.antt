@@ -10,7 +10,7 @@ pub mod PartsLaw
 pub mod Digits
 pub mod SetForms
 pub mod Choices
-pub mod SpellingLaw
+pub mod OperationLaw
 pub mod SetFormLaw
 pub mod UpperCase
 pub mod CaseLaw

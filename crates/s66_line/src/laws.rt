@@ -12,7 +12,7 @@ ghost use Rattle.s66_line.specs.Roles.{is_note, is_note_of, is_dropped, is_copie
 
 /// What is spelled is in the table: the letters of the operation can mean the instruction's code, its digit is i, and i,
 /// j and k are 0 to 7.
-pub fn spelling_law()
+pub fn operation_law()
     ensures { (operation operand : List ℕ) (n : Instr) → instr_of operation operand ≡ Some n → CanMean operation n }
 {}
 

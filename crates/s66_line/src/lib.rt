@@ -21,7 +21,7 @@ pub use device::{Failed, Feed, OverRead, OverWrite, Sink, WriteError, write_all}
 pub use error::SourceError;
 pub use limits::{BLOCK_LIMIT, LINE_LIMIT, SOURCE_LIMIT};
 pub use laws::{
-    case_law, constant_examples, spelling_law, line_law, line_examples, parts_law, set_form_law, spelling_examples,
+    case_law, constant_examples, operation_law, line_law, line_examples, parts_law, set_form_law, spelling_examples,
     term_law,
 };
 pub use source::{Source, read_source};

@@ -4,11 +4,13 @@
 mod chart_text;
 mod command;
 mod deps_text;
+mod fields;
+mod limits;
 mod outcome;
+mod output;
 mod run;
 #[cfg(test)]
 mod tests;
-mod text;
 mod time_text;
 mod usage;
 

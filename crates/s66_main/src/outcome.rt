@@ -40,7 +40,7 @@ pub enum Fault {
     /// A growth was refused.
     #[error("OUT OF MEMORY")]
     Memory,
-    /// The reader failed, or came to no end in 16,777,216 calls.
+    /// The reader failed, or none of 16,777,216 calls with room for 65,536 bytes each gave the end.
     #[error("READ FAILED")]
     Read,
     /// The writer failed.
