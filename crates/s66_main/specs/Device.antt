@@ -39,3 +39,7 @@ WriteFails old new text = ((k : ℕ) × Appends old.bytes new.bytes (take k text
 
 abbrev pub IsUntouched : Writer → Writer → Type 0
 IsUntouched old new = Keeps old.bytes new.bytes × (new.failures ≡ old.failures)
+
+-- a text was told: it was written, or writing it failed
+abbrev pub Tells : Writer → Writer → List ℕ → Type 0
+Tells old new text = Writes old new text ⊎ WriteFails old new text

@@ -5,5 +5,7 @@ pub mod DepsText
 pub mod ChartText
 pub mod Output
 pub mod Device
+pub mod Outcome
 pub mod Run
 pub mod Usage
+pub mod Program

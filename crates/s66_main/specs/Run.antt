@@ -1,11 +1,11 @@
--- What a command leaves of its reader and its writer, and the statuses of the program.
+-- What a command leaves of its reader and its writer.
 use Rattle.std.specs.Prelude.{◌≡◌, ◌≢◌, ℕ, List, Result, Ok, Err}
 use Rattle.s66_line.specs.declared.error.SourceError.TheVariants.{OutOfMemory}
 use Rattle.s66_main.specs.declared.command.Command.{Command}
 use Rattle.s66_main.specs.declared.outcome.Fault.{Fault}
 use Rattle.s66_main.specs.declared.outcome.Fault.TheVariants as fault
 use Rattle.s66_main.specs.declared.outcome.Status.{Status}
-use Rattle.s66_main.specs.declared.outcome.Status.TheVariants.{Done, Denied, Bounded}
+use Rattle.s66_main.specs.declared.outcome.Status.TheVariants.{Done}
 use Rattle.s66_main.specs.Device.{IsUntouched, ReadFails, Reader, ReadsAll, WriteFails, Writer, Writes}
 use Rattle.s66_main.specs.Output.{output_of}
 
@@ -24,21 +24,6 @@ IsOutcome command reader reader' writer writer' (Err fault.Read) = ReadFails rea
 IsOutcome command reader reader' writer writer' (Err fault.Write) =
     (input : List ℕ) × ReadsAll reader reader' input
     × ((text : List ℕ) × (output_of command input ≡ Ok text) × WriteFails writer writer' text)
-
--- STATUSES
-
-abbrev pub status_code : Status → ℕ
-status_code Done = 0
-status_code Denied = 5
-status_code Bounded = 7
-
-abbrev pub fault_code : Fault → ℕ
-fault_code (fault.Source e) = 3
-fault_code fault.Memory = 4
-fault_code fault.Read = 6
-fault_code fault.Write = 6
-
--- WHAT PARTS OF A RUN LEAVE
 
 -- why reading to the end fails
 abbrev pub IsReadFault : Reader → Reader → Fault → Type 0
