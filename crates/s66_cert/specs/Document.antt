@@ -5,6 +5,7 @@ use Rattle.s66_isa.specs.declared.instr.Kind.TheVariants.{Boolean, Shift, Add, L
 use Rattle.s66_isa.specs.declared.profile.Profile.{Profile}
 use Rattle.s66_model.specs.Leaves.{Leaf, Whole, Chain, Load, Parcels}
 use Rattle.s66_model.specs.Tree.{Tree, Alone, Parted, Kids, NoMore, Unsplit, Split, Knot, AtTip, AtSplit, flat, splits}
+use Rattle.s66_isa.specs.Lists.{spaced}
 use Rattle.s66_line.specs.InstructionText.{IsInstruction}
 use Rattle.s66_cert.specs.declared.limits.TheConstants.{PROFILE_LENGTH, PROFILE_LIMIT, TIME_LIMIT, SPLIT_LIMIT}
 
@@ -70,10 +71,6 @@ pub record IsDocument (limit : ℕ) (d : Document) : Type 0 where
   pub splits : splits d.tree ≤ SPLIT_LIMIT
 
 -- THE TEXT
-
-abbrev pub spaced : List ℕ → List ℕ
-spaced [] = []
-spaced (n ∷ ns) = 32 ∷ decimal n ++ spaced ns
 
 abbrev pub kind_name : Kind → List ℕ
 kind_name Boolean = codes "BOOLEAN"

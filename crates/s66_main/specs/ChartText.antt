@@ -1,15 +1,14 @@
 -- What `chart` writes of a block: a line, and the chart of the block as it was written.
 use Rattle.std.specs.Prelude.{ℕ, List, ◌++◌, codes, decimal}
 use Rattle.s66_chart.specs.Chart.{chart_text}
-use Rattle.s66_line.specs.Block.{instrs_of, line_of}
+use Rattle.s66_line.specs.Block.{instrs_of}
 use Rattle.s66_line.specs.Source.{Block}
-use Rattle.s66_main.specs.TimeText.{as_written, total_time}
+use Rattle.s66_main.specs.AsWritten.{as_written, total_time}
+use Rattle.s66_main.specs.BlockHead.{block_head}
 
 -- the line of the n-th block, from 1
 abbrev pub chart_line : ℕ → Block → List ℕ
-chart_line n block =
-    codes "BLOCK " ++ decimal n ++ codes " LINE " ++ decimal (line_of block 1)
-    ++ codes " TIME " ++ decimal (total_time (as_written (instrs_of block))) ++ codes "\n"
+chart_line n block = block_head n block ++ codes " TIME " ++ decimal (total_time (as_written (instrs_of block))) ++ codes "\n"
 
 -- the lines of the n-th block, from 1
 abbrev pub chart_lines : ℕ → Block → List ℕ

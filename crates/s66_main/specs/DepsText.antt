@@ -1,11 +1,12 @@
 -- What `deps` writes of a block: a line, and a line for each instruction that depends on some.
 use Rattle.std.specs.Prelude.{ℕ, List, [], ◌∷◌, ◌++◌, length, codes, decimal}
 use Rattle.s66_isa.specs.declared.instr.Instr.{Instr}
-use Rattle.s66_isa.specs.Lists.{weigh}
+use Rattle.s66_isa.specs.Lists.{spaced, weigh}
 use Rattle.s66_isa.specs.Table.{numbers}
 use Rattle.s66_model.specs.Dependence.{needs, all_needs}
-use Rattle.s66_line.specs.Block.{instrs_of, line_of}
+use Rattle.s66_line.specs.Block.{instrs_of}
 use Rattle.s66_line.specs.Source.{Block}
+use Rattle.s66_main.specs.BlockHead.{block_head}
 
 -- how many pairs of instructions depend
 abbrev pub dependences_in : List Instr → ℕ
@@ -14,13 +15,8 @@ dependences_in block = weigh (λ (ns : List ℕ). length ns) (all_needs block)
 -- the line of the n-th block, from 1
 abbrev pub deps_line : ℕ → Block → List ℕ
 deps_line n block =
-    codes "BLOCK " ++ decimal n ++ codes " LINE " ++ decimal (line_of block 1) ++ codes " COUNT " ++ decimal (length (instrs_of block))
+    block_head n block ++ codes " COUNT " ++ decimal (length (instrs_of block))
     ++ codes " DEPENDENCES " ++ decimal (dependences_in (instrs_of block)) ++ codes "\n"
-
--- numbers, each after a blank
-abbrev pub spaced : List ℕ → List ℕ
-spaced [] = []
-spaced (n ∷ ns) = codes " " ++ decimal n ++ spaced ns
 
 -- the line of an instruction, by the numbers on which it depends
 abbrev pub needs_line : ℕ → List ℕ → List ℕ

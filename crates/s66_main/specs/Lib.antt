@@ -1,6 +1,11 @@
+pub mod AsWritten
+pub mod BlockHead
 pub mod TimeText
 pub mod DepsText
 pub mod ChartText
 pub mod Output
+pub mod Device
+pub mod Outcome
 pub mod Run
 pub mod Usage
+pub mod Program

@@ -2,16 +2,13 @@
 use Rattle.std.specs.Prelude.{ℕ, ◌+◌, Bool, if◌then◌else◌, List, [], ◌∷◌, ◌++◌, length, map, codes, decimal}
 use Rattle.s66_isa.specs.declared.instr.Instr.{Instr}
 use Rattle.s66_isa.specs.Lists.{weigh}
-use Rattle.s66_isa.specs.Table.{parcels_of, numbers, standard}
+use Rattle.s66_isa.specs.Table.{parcels_of, numbers}
 use Rattle.s66_model.specs.Packing.{fillers, len_at}
-use Rattle.s66_model.specs.Timing.{total_of}
-use Rattle.s66_line.specs.Block.{instrs_of, line_of}
+use Rattle.s66_line.specs.Block.{instrs_of}
 use Rattle.s66_line.specs.Source.{Block}
 use Rattle.s66_time.specs.TimedOrder.{TimedOrder, point_at, latest_result}
-
--- a block as it was written, under the standard profile
-abbrev pub as_written : List Instr → TimedOrder
-as_written block = record { problem = record { block = block; profile = standard }; numbers = numbers block }
+use Rattle.s66_main.specs.AsWritten.{as_written, total_time}
+use Rattle.s66_main.specs.BlockHead.{block_head}
 
 -- the parcels of the instructions, no NO among them
 abbrev pub parcels_in : List Instr → ℕ
@@ -21,14 +18,10 @@ parcels_in block = weigh (λ (n : Instr). parcels_of n.op.code) block
 abbrev pub fillers_as_written : List Instr → ℕ
 fillers_as_written block = length (fillers 0 (map (len_at block) (numbers block)))
 
--- the total of a timed order
-abbrev pub total_time : TimedOrder → ℕ
-total_time t = total_of t.problem t.numbers
-
 -- the line of the n-th block, from 1
 abbrev pub time_line : ℕ → Block → List ℕ
 time_line n block =
-    codes "BLOCK " ++ decimal n ++ codes " LINE " ++ decimal (line_of block 1) ++ codes " COUNT " ++ decimal (length (instrs_of block))
+    block_head n block ++ codes " COUNT " ++ decimal (length (instrs_of block))
     ++ codes " PARCELS " ++ decimal (parcels_in (instrs_of block)) ++ codes " NO " ++ decimal (fillers_as_written (instrs_of block))
     ++ codes " TIME " ++ decimal (total_time (as_written (instrs_of block))) ++ codes "\n"
 

@@ -1,12 +1,12 @@
--- The command line, by clap's rules: the subcommands `time`, with the flag `--trace`, `deps` and `chart`.
+-- The command line, by clap's rules: the subcommands `time`, with the flag `--trace`, `deps` and `chart`, and a version.
 use Rattle.std.specs.Prelude.{◌≡◌, ◌≢◌, ◌⊎◌, ℕ, Bool, List, [], false, true, Option, Some, codes}
 use Rattle.std.specs.Option.{option_map, option_map_or}
-use Rattle.clap.specs.Words.{App, IsAmong, Rule, Text, app_of, fault_of, kind_of, new_app, new_rule, subcommand_of, with_rule, with_subcommand}
+use Rattle.clap.specs.Words.{App, IsAmong, Rule, Text, app_of, fault_of, new_app, new_rule, subcommand_of, with_rule, with_subcommand}
 use Rattle.clap.specs.Takes.{is_given}
 use Rattle.clap.specs.declared.builder.action.ArgAction.TheVariants.{SetTrue}
 use Rattle.clap.specs.declared.builder.command.Command.{Command as CommandLine}
 use Rattle.clap.specs.declared.builder.command.Command.TheViews.{out-Command}
-use Rattle.clap.specs.declared.error.Error.{Error}
+use Rattle.clap.specs.declared.error.kind.ErrorKind.{ErrorKind}
 use Rattle.clap.specs.declared.error.kind.ErrorKind.TheVariants as kind
 use Rattle.s66_main.specs.declared.command.Command.{Command}
 use Rattle.s66_main.specs.declared.command.Command.TheVariants.{Time, Deps, Chart}
@@ -28,7 +28,7 @@ chart_app = new_app (codes "chart")
 abbrev pub s66_app : App
 s66_app =
     let a = with_subcommand (with_subcommand (with_subcommand (new_app (codes "s66")) time_app.top) deps_app.top) chart_app.top in
-    record a { top = record a.top { subcommand_required = true } }
+    record a { top = record a.top { subcommand_required = true; has_version = true } }
 
 -- the command line is this one, and none of its options is for all subcommands
 abbrev pub IsCommandOf : App → CommandLine → Type 0
@@ -49,20 +49,20 @@ Asks words (Time trace) =
 Asks words Deps = (fault_of s66_app words ≡ []) × (subcommand_name words ≡ Some (codes "deps"))
 Asks words Chart = (fault_of s66_app words ≡ []) × (subcommand_name words ≡ Some (codes "chart"))
 
--- help, or a mistake that is none of help and want of memory
-abbrev pub IsUsageOf : Error → Usage → Type 0
-IsUsageOf e (Help text) = (text ≡ e) × ((kind_of e ≡ kind.DisplayHelp) ⊎ (kind_of e ≡ kind.DisplayVersion))
-IsUsageOf e (Bad text) = (text ≡ e) × (kind_of e ≢ kind.DisplayHelp) × (kind_of e ≢ kind.OutOfMemory)
-IsUsageOf e OutOfMemory = kind_of e ≡ kind.OutOfMemory
+-- a kind of error that is no mistake
+abbrev pub IsHelp : ErrorKind → Type 0
+IsHelp k = (k ≡ kind.DisplayHelp) ⊎ (k ≡ kind.DisplayVersion)
 
--- an error that is help
-abbrev pub IsHelp : Error → Type 0
-IsHelp e = (kind_of e ≡ kind.DisplayHelp) ⊎ (kind_of e ≡ kind.DisplayVersion)
+-- what an error of this kind is told as; want of memory may stand in the place of any other
+abbrev pub IsUsageOf : ErrorKind → Usage → Type 0
+IsUsageOf k (Help text) = IsHelp k
+IsUsageOf k (Bad text) = (IsHelp k → ⊥) × (k ≢ kind.OutOfMemory)
+IsUsageOf k OutOfMemory = Unit {0}
 
--- the words are no command: they ask for help, or the text tells one of their faults
+-- the words are no command: they ask for help, or they have a fault that is no help
 abbrev pub Refuses : List Text → Usage → Type 0
-Refuses words (Help text) = IsAmong (kind_of text) (fault_of s66_app words) × IsHelp text
-Refuses words (Bad text) = IsAmong (kind_of text) (fault_of s66_app words) × (kind_of text ≢ kind.DisplayHelp)
+Refuses words (Help text) = (k : ErrorKind) × IsAmong k (fault_of s66_app words) × IsHelp k
+Refuses words (Bad text) = (k : ErrorKind) × IsAmong k (fault_of s66_app words) × (IsHelp k → ⊥)
 Refuses words OutOfMemory = Unit {0}
 
 abbrev pub usage_code : Usage → ℕ

@@ -1,10 +1,10 @@
 ghost use Rattle.std.specs.Prelude.{◌≡◌, ◌++◌, OnOk};
 ghost use Rattle.s66_line.specs.Block.{instrs_of};
 ghost use Rattle.s66_chart.specs.Chart.{chart_text};
-ghost use Rattle.s66_main.specs.TimeText.{as_written, total_time};
+ghost use Rattle.s66_main.specs.AsWritten.{as_written, total_time};
 ghost use Rattle.s66_main.specs.ChartText.{chart_line, chart_lines};
 
-use crate::text::push_field;
+use crate::fields::{push_block_head, push_field};
 use s66_chart::chart;
 use s66_dep::Order;
 use s66_isa::Profile;
@@ -23,10 +23,7 @@ fn push_chart_line(
     requires { total ≡ total_time (as_written (instrs_of block.now)) }
     ensures { OnOk result (out.new.items ≡ out.old.items ++ chart_line number block.now) }
 {
-    // so there is a first instruction
-    prove!(block.count() >= 1);
-    push_field(out, b"BLOCK ", number)?;
-    push_field(out, b" LINE ", block.line(1) as usize)?;
+    push_block_head(out, number, block)?;
     push_field(out, b" TIME ", total as usize)?;
     out.extend_from_slice(b"\n")
 }

@@ -1,12 +1,12 @@
 ghost use Rattle.std.specs.Prelude.{ℕ, List, ◌≡◌, ◌≤◌, ◌++◌, length, OnOk};
-ghost use Rattle.s66_isa.specs.Lists.{weigh};
+ghost use Rattle.s66_isa.specs.Lists.{spaced, weigh};
 ghost use Rattle.s66_isa.specs.Table.{numbers};
 ghost use Rattle.s66_line.specs.Block.{instrs_of};
 ghost use Rattle.s66_model.specs.Dependence.{all_needs};
 ghost use Rattle.s66_dep.specs.Members.{numbers_in};
-ghost use Rattle.s66_main.specs.DepsText.{dependences_in, deps_line, spaced, needs_line, needs_lines, deps_lines};
+ghost use Rattle.s66_main.specs.DepsText.{dependences_in, deps_line, needs_line, needs_lines, deps_lines};
 
-use crate::text::push_field;
+use crate::fields::{push_block_head, push_field};
 use s66_dep::{Dependences, Set};
 use s66_line::Block;
 use std::alloc::AllocError;
@@ -35,8 +35,7 @@ fn push_deps_line(
     ensures { OnOk result (out.new.items ≡ out.old.items ++ deps_line number block.now) }
 {
     let count = block.count();
-    push_field(out, b"BLOCK ", number)?;
-    push_field(out, b" LINE ", block.line(1) as usize)?;
+    push_block_head(out, number, block)?;
     push_field(out, b" COUNT ", count)?;
     push_field(out, b" DEPENDENCES ", pairs as usize)?;
     out.extend_from_slice(b"\n")

@@ -1,9 +1,12 @@
-ghost use Rattle.std.specs.Prelude.{◌≡◌};
+ghost use Rattle.std.specs.Prelude.{◌≡◌, ◌++◌, ◌<◌, ◌≤◌, codes, decimal, length};
 ghost use Rattle.s66_main.specs.declared.outcome.Fault.TheVariants.{Memory};
 
+use crate::limits::FAULT_ROOM;
+use arrayvec::ArrayString;
+use itoa::Buffer;
 use s66_line::SourceError;
 use std::alloc::{AllocError, AllocFailed};
-use thiserror::Error;
+use std::{error, fmt};
 
 /// How a command that wrote all its text ended.
 #[derive(Clone, Copy, Debug, PartialEq, Eq)]
@@ -17,7 +20,7 @@ pub enum Status {
 
 impl Status {
     ghost use Rattle.std.specs.Prelude.{◌≡◌};
-    ghost use Rattle.s66_main.specs.Run.{status_code};
+    ghost use Rattle.s66_main.specs.Outcome.{status_code};
 
     /// The status of the process.
     pub fn code(&self) -> u8
@@ -32,19 +35,15 @@ impl Status {
 }
 
 /// Why a command failed; each shows itself as the line that standard error gets.
-#[derive(Clone, Copy, Debug, Drop, Error, PartialEq, Eq)]
+#[derive(Clone, Copy, Debug, Drop, PartialEq, Eq)]
 pub enum Fault {
     /// The source was refused; never for `OutOfMemory`, which is `Memory`.
-    #[error("{0}")]
     Source(SourceError),
     /// A growth was refused.
-    #[error("OUT OF MEMORY")]
     Memory,
-    /// The reader failed, or came to no end in 16,777,216 calls.
-    #[error("READ FAILED")]
+    /// The reader failed, or none of 16,777,216 calls with room for 65,536 bytes each gave the end.
     Read,
     /// The writer failed.
-    #[error("WRITE FAILED")]
     Write,
 }
 
@@ -64,9 +63,33 @@ impl<T: Drop> From<AllocFailed<T>> for Fault {
     }
 }
 
+/// A text of a few bytes.
+fn short_text(text: &str) -> ArrayString<FAULT_ROOM>
+    requires { length text.now < FAULT_ROOM }
+    ensures { result.bytes ≡ text.now }
+{
+    let mut line = ArrayString::new();
+    line.push_str(text);
+    line
+}
+
+/// A line of a source, and what is wrong with it.
+fn line_refusal(line: u32, what: &str) -> ArrayString<FAULT_ROOM>
+    requires { length what.now ≤ 12 }
+    ensures text { result.bytes ≡ codes "LINE " ++ decimal line ++ what.now }
+    ensures short { length result.bytes < FAULT_ROOM }
+{
+    let mut digits = Buffer::new();
+    let mut text = ArrayString::new();
+    text.push_str("LINE ");
+    text.push_str(digits.format(line));
+    text.push_str(what);
+    text
+}
+
 impl Fault {
-    ghost use Rattle.std.specs.Prelude.{◌≡◌};
-    ghost use Rattle.s66_main.specs.Run.{fault_code};
+    ghost use Rattle.std.specs.Prelude.{◌≡◌, ◌<◌, length};
+    ghost use Rattle.s66_main.specs.Outcome.{fault_code, fault_line};
 
     /// The status of the process.
     pub fn code(&self) -> u8
@@ -78,4 +101,32 @@ impl Fault {
             Fault::Read | Fault::Write => 6,
         }
     }
+
+    /// The line that standard error gets, without its newline.
+    pub fn line(&self) -> ArrayString<FAULT_ROOM>
+        ensures text { result.bytes ≡ fault_line self.now }
+        ensures short { length result.bytes < FAULT_ROOM }
+    {
+        match self {
+            Fault::Source(SourceError::BadOperand { line }) => line_refusal(*line, " BAD OPERAND"),
+            Fault::Source(SourceError::LineTooLong { line }) => line_refusal(*line, " TOO LONG"),
+            Fault::Source(SourceError::TooLarge) => short_text("TOO MANY LINES"),
+            Fault::Source(SourceError::OutOfMemory) | Fault::Memory => short_text("OUT OF MEMORY"),
+            Fault::Read => short_text("READ FAILED"),
+            Fault::Write => short_text("WRITE FAILED"),
+        }
+    }
 }
+
+impl fmt::Display for Fault {
+    ghost use Rattle.std.specs.Prelude.{Some};
+    ghost use Rattle.s66_main.specs.Outcome.{fault_line};
+
+    ghost output = { λ fault. Some (fault_line fault) };
+
+    fn fmt<W: fmt::Write>(&self, f: &mut fmt::Formatter<W>) -> fmt::Result {
+        f.write_str(self.line().as_str())
+    }
+}
+
+impl error::Error for Fault {}

@@ -1,34 +1,34 @@
 ghost use Rattle.std.specs.Prelude.{◌≡◌, ◌-◌, ◌^◌, ◌<◌, length, vec_len, IfOk, IfErr};
-ghost use Rattle.s66_line.specs.Gives.{Gives};
-ghost use Rattle.s66_main.specs.Output.{output_of};
-ghost use Rattle.s66_main.specs.Run.{IsReadFault, Leaves, ReadsAll};
+ghost use Rattle.s66_main.specs.Device.{ReadsAll};
+ghost use Rattle.s66_main.specs.Run.{IsReadFault, IsOutcome};
 
 use crate::command::Command;
+use crate::limits::{FEED_CALLS, FEED_ROOM};
 use crate::outcome::{Fault, Status};
-use crate::text::text_of_blocks;
-use s66_line::{Feed, Sink, SourceError, read_source, write_all};
+use crate::output::text_of;
+use s66_line::{Feed, Sink, SourceError, write_all};
 use std::alloc::{AllocError, Global};
 
-/// Room for what a call reads, 65,536 bytes.
+/// Room for what a call reads.
 fn room(alloc: Global) -> Result<Vec<u8>, AllocError>
-    ensures { IfOk result (λ buffer. 0 < vec_len buffer) }
+    ensures { IfOk result (λ buffer. vec_len buffer ≡ FEED_ROOM) }
 {
-    vec![in alloc; 0u8; 65536]
+    vec![in alloc; 0u8; FEED_ROOM]
 }
 
-/// Reads to the end by way of the buffer, in 16,777,216 calls at most.
+/// Reads to the end by way of the buffer.
 fn read_through<F: Feed>(alloc: Global, reader: &mut F, buffer: &mut [u8]) -> Result<Vec<u8>, Fault>
     requires calls { F.failures reader.old < 2 ^ 64 - 1 }
-    requires room { 0 < length buffer.old }
+    requires room { length buffer.old ≡ FEED_ROOM }
     ensures ok { IfOk result (λ input. ReadsAll
-        (record { bytes = F.bytes reader.old; failures = F.failures reader.old })
-        (record { bytes = F.bytes reader.new; failures = F.failures reader.new }) input.items) }
+        (record { bytes = F.bytes reader.old; failures = F.failures reader.old; room = F.room reader.old })
+        (record { bytes = F.bytes reader.new; failures = F.failures reader.new; room = F.room reader.new }) input.items) }
     ensures err { IfErr result (IsReadFault
-        (record { bytes = F.bytes reader.old; failures = F.failures reader.old })
-        (record { bytes = F.bytes reader.new; failures = F.failures reader.new })) }
+        (record { bytes = F.bytes reader.old; failures = F.failures reader.old; room = F.room reader.old })
+        (record { bytes = F.bytes reader.new; failures = F.failures reader.new; room = F.room reader.new })) }
 {
     let mut input = Vec::new(alloc);
-    'calls: for _ in 0..16777216u32 {
+    'calls: for _ in 0..FEED_CALLS {
         match reader.feed(buffer) {
             Ok(count) => {
                 if count == 0 {
@@ -46,22 +46,14 @@ fn read_through<F: Feed>(alloc: Global, reader: &mut F, buffer: &mut [u8]) -> Re
 fn read_all<F: Feed>(alloc: Global, reader: &mut F) -> Result<Vec<u8>, Fault>
     requires { F.failures reader.old < 2 ^ 64 - 1 }
     ensures ok { IfOk result (λ input. ReadsAll
-        (record { bytes = F.bytes reader.old; failures = F.failures reader.old })
-        (record { bytes = F.bytes reader.new; failures = F.failures reader.new }) input.items) }
+        (record { bytes = F.bytes reader.old; failures = F.failures reader.old; room = F.room reader.old })
+        (record { bytes = F.bytes reader.new; failures = F.failures reader.new; room = F.room reader.new }) input.items) }
     ensures err { IfErr result (IsReadFault
-        (record { bytes = F.bytes reader.old; failures = F.failures reader.old })
-        (record { bytes = F.bytes reader.new; failures = F.failures reader.new })) }
+        (record { bytes = F.bytes reader.old; failures = F.failures reader.old; room = F.room reader.old })
+        (record { bytes = F.bytes reader.new; failures = F.failures reader.new; room = F.room reader.new })) }
 {
     let mut buffer = room(alloc)?;
     read_through(alloc, reader, &mut buffer)
-}
-
-/// What a command writes for a source, or the source's refusal.
-fn text_of(alloc: Global, command: Command, source: &[u8]) -> Result<Vec<u8>, SourceError>
-    ensures { Gives (λ text. text.items) result (output_of command source.now) }
-{
-    let source = read_source(alloc, source)?;
-    Ok(text_of_blocks(alloc, command, source.blocks())?)
 }
 
 /// Runs a command: reads to the end, builds all text, and only then writes.
@@ -76,9 +68,9 @@ pub fn run_command<R: AllocGlobal, F: Feed, S: Sink>(
 ) -> Result<Status, Fault>
     requires reads { F.failures reader.old < 2 ^ 64 - 1 }
     requires writes { S.failures writer.old < 2 ^ 64 - 1 }
-    ensures { Leaves command
-        (record { bytes = F.bytes reader.old; failures = F.failures reader.old })
-        (record { bytes = F.bytes reader.new; failures = F.failures reader.new })
+    ensures { IsOutcome command
+        (record { bytes = F.bytes reader.old; failures = F.failures reader.old; room = F.room reader.old })
+        (record { bytes = F.bytes reader.new; failures = F.failures reader.new; room = F.room reader.new })
         (record { bytes = S.bytes writer.old; failures = S.failures writer.old })
         (record { bytes = S.bytes writer.new; failures = S.failures writer.new }) result }
 {

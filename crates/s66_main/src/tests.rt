@@ -229,6 +229,7 @@ fn keeps_limits(rt: HostRuntime) -> Result<(), Fail> {
 struct FailsSecond {
     called: bool,
     failed: u64,
+    offered: u64,
 }
 
 impl Feed for FailsSecond {
@@ -236,12 +237,15 @@ impl Feed for FailsSecond {
 
     ghost failures = { λ s. s.failed };
 
+    ghost room = { λ s. s.offered };
+
     fn feed(&mut self, buffer: &mut [u8]) -> Result<usize, Failed> {
         if self.called || buffer.is_empty() {
             self.failed += 1;
             return Err(Failed);
         }
         self.called = true;
+        self.offered = self.offered.saturating_add(buffer.len() as u64);
         buffer[0] = b'*';
         Ok(1)
     }
@@ -278,6 +282,7 @@ fn tells_read_fault(rt: HostRuntime) {
     let mut reader = FailsSecond {
         called: false,
         failed: 0,
+        offered: 0,
     };
     let mut writer = OverWrite::new(Vec::new(rt.alloc()));
     let result = run_command(&rt, TIME, &mut reader, &mut writer);

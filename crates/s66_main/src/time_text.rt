@@ -1,8 +1,9 @@
 ghost use Rattle.std.specs.Prelude.{◌≡◌, ◌<◌, ◌++◌, length, OnOk};
 ghost use Rattle.s66_line.specs.Block.{instrs_of};
-ghost use Rattle.s66_main.specs.TimeText.{as_written, fillers_as_written, total_time, time_line, trace_line, trace_lines, time_lines};
+ghost use Rattle.s66_main.specs.AsWritten.{as_written, total_time};
+ghost use Rattle.s66_main.specs.TimeText.{fillers_as_written, time_line, trace_line, trace_lines, time_lines};
 
-use crate::text::push_field;
+use crate::fields::{push_block_head, push_field};
 use s66_dep::Order;
 use s66_isa::Profile;
 use s66_line::Block;
@@ -22,8 +23,7 @@ fn push_time_line(
     ensures { OnOk result (out.new.items ≡ out.old.items ++ time_line number block.now) }
 {
     let count = block.count();
-    push_field(out, b"BLOCK ", number)?;
-    push_field(out, b" LINE ", block.line(1) as usize)?;
+    push_block_head(out, number, block)?;
     push_field(out, b" COUNT ", count)?;
     push_field(out, b" PARCELS ", block.parcels() as usize)?;
     push_field(out, b" NO ", fillers)?;

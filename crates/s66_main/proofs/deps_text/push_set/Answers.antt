@@ -1,6 +1,6 @@
 use Rattle.std.proofs.Common.{ℕ, Vec, Global, ◌≡◌, ◌+◌, ◌++◌, ◌∙◌, sym, ap, arith, codes, decimal, append_assoc}
 use Rattle.std.proofs.lemmas.List.{append-nil}
-use Rattle.s66_main.specs.DepsText.{spaced}
+use Rattle.s66_isa.specs.Lists.{spaced}
 use Rattle.s66_main.proofs.Dependences.{members_from, members-all, members-next, members-pass, members-none}
 use Rattle.s66_main.proofs.deps_text.push_set.Goals as goal
 use Rattle.s66_main.proofs.deps_text.push_set.Goals.{then-has+in_ok-push_field, else-has}

@@ -1,6 +1,6 @@
 use Rattle.std.proofs.Common.{◌≡◌, ◌++◌}
 use Rattle.s66_dep.specs.Members.{numbers_in}
-use Rattle.s66_main.specs.DepsText.{spaced}
+use Rattle.s66_isa.specs.Lists.{spaced}
 use Rattle.s66_main.proofs.Dependences.{members_from}
 use Rattle.s66_main.proofs.deps_text.push_set.Given as goal
 

@@ -8,8 +8,8 @@ use Rattle.s66_main.proofs.usage.command_of.Goals.{in_default-via-in-Some+in_def
 pub unreachable-requires : goal.unreachable-requires
 unreachable-requires g c =
     let words = map g.S.AsStr.text c.args.words.now in
-    let m = c.in_ok-matches.matches in
-    let is = taken m (app_of c.in_ok-program.field-0) words c.in_ok-program.ensures c.in_ok-matches.ensures.kinds c.in_ok-matches.ensures.matches in
+    let m = c.in-Ok.matches in
+    let is = taken m (app_of c.in_ok-program.field-0) words c.in_ok-program.ensures c.in-Ok.ensures.kinds c.in-Ok.ensures.matches in
     elim c.in_default.branch [
       | in_default-via-in-Some+in_default w ↦
           elim (name-known m words _ is (ap (option_map (λ p. p.0.now)) (sym w.in_default.is) ∙ c.subcommand.ensures.name)) [
@@ -21,16 +21,16 @@ unreachable-requires g c =
       | in_default-via-in_default w ↦ name-known m words _ is (ap (option_map (λ p. p.0.now)) (sym w.in_default.is) ∙ c.subcommand.ensures.name)
     ]
 
-pub returns-in_err-matches-clause-err : goal.returns-in_err-matches-clause-err
-returns-in_err-matches-clause-err g c =
-    refused c.from_residual-in_err-matches.result c.in_err-matches.field-0.0 (app_of c.in_ok-program.field-0) (map g.S.AsStr.text c.args.words.now)
-    c.in_ok-program.ensures c.in_err-matches.ensures.kinds c.from_residual-in_err-matches.ensures.1
+pub returns-in-Err-clause-err : goal.returns-in-Err-clause-err
+returns-in-Err-clause-err g c =
+    refused c.usage_of.result c.in-Err.error (app_of c.in_ok-program.field-0) (map g.S.AsStr.text c.args.words.now) c.in_ok-program.ensures
+    c.in-Err.ensures.kinds c.usage_of.ensures
 
 pub returns-in-Some-time-default-clause-ok : goal.returns-in-Some-time-default-clause-ok
 returns-in-Some-time-default-clause-ok g c =
     let words = map g.S.AsStr.text c.args.words.now in
-    let m = c.in_ok-matches.matches in
-    let is = taken m (app_of c.in_ok-program.field-0) words c.in_ok-program.ensures c.in_ok-matches.ensures.kinds c.in_ok-matches.ensures.matches in
+    let m = c.in-Ok.matches in
+    let is = taken m (app_of c.in_ok-program.field-0) words c.in_ok-program.ensures c.in-Ok.ensures.kinds c.in-Ok.ensures.matches in
     let asks = asks-for m words c.in-Some-time-default.field-0-0.now (codes "time") is c.in-Some-time-default.ensures.name c.in-Some-time-default.is-time in (
       asks.0,
       asks.1,
@@ -41,13 +41,13 @@ returns-in-Some-time-default-clause-ok g c =
 pub returns-in-Some-deps-default-clause-ok : goal.returns-in-Some-deps-default-clause-ok
 returns-in-Some-deps-default-clause-ok g c =
     let words = map g.S.AsStr.text c.args.words.now in
-    let m = c.in_ok-matches.matches in
-    let is = taken m (app_of c.in_ok-program.field-0) words c.in_ok-program.ensures c.in_ok-matches.ensures.kinds c.in_ok-matches.ensures.matches in
+    let m = c.in-Ok.matches in
+    let is = taken m (app_of c.in_ok-program.field-0) words c.in_ok-program.ensures c.in-Ok.ensures.kinds c.in-Ok.ensures.matches in
     asks-for m words c.in-Some-deps-default.field-0-0.now (codes "deps") is c.in-Some-deps-default.ensures.name c.in-Some-deps-default.is-deps
 
 pub returns-in-Some-chart-default-clause-ok : goal.returns-in-Some-chart-default-clause-ok
 returns-in-Some-chart-default-clause-ok g c =
     let words = map g.S.AsStr.text c.args.words.now in
-    let m = c.in_ok-matches.matches in
-    let is = taken m (app_of c.in_ok-program.field-0) words c.in_ok-program.ensures c.in_ok-matches.ensures.kinds c.in_ok-matches.ensures.matches in
+    let m = c.in-Ok.matches in
+    let is = taken m (app_of c.in_ok-program.field-0) words c.in_ok-program.ensures c.in-Ok.ensures.kinds c.in-Ok.ensures.matches in
     asks-for m words c.in-Some-chart-default.field-0-0.now (codes "chart") is c.in-Some-chart-default.ensures.name c.in-Some-chart-default.is-chart

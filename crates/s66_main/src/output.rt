@@ -1,29 +1,13 @@
-ghost use Rattle.std.specs.Prelude.{◌≡◌, ◌++◌, decimal, OnOk, IfOk};
-ghost use Rattle.s66_line.specs.Block.{instrs_of, line_of};
-ghost use Rattle.s66_main.specs.Output.{block_lines, lines_of_blocks};
+ghost use Rattle.std.specs.Prelude.{◌≡◌, ◌++◌, OnOk, IfOk};
+ghost use Rattle.s66_line.specs.Gives.{Gives};
+ghost use Rattle.s66_main.specs.Output.{block_lines, lines_of_blocks, output_of};
 
 use crate::chart_text::push_chart_lines;
 use crate::command::Command;
 use crate::deps_text::push_deps_lines;
 use crate::time_text::push_time_lines;
-use itoa::Buffer;
-use s66_line::Block;
+use s66_line::{Block, SourceError, read_source};
 use std::alloc::{AllocError, Global};
-
-fn push_number(out: &mut Vec<u8>, number: usize) -> Result<(), AllocError>
-    ensures { OnOk result (out.new.items ≡ out.old.items ++ decimal number) }
-{
-    let mut buffer = Buffer::new();
-    out.extend_from_slice(buffer.format(number).as_bytes())
-}
-
-/// A text, and a number after it.
-pub fn push_field(out: &mut Vec<u8>, name: &[u8], number: usize) -> Result<(), AllocError>
-    ensures { OnOk result (out.new.items ≡ out.old.items ++ name.now ++ decimal number) }
-{
-    out.extend_from_slice(name)?;
-    push_number(out, number)
-}
 
 /// The lines of a block, whose number is from 1.
 fn push_block(
@@ -43,11 +27,7 @@ fn push_block(
 }
 
 /// What a command writes of each block.
-pub fn text_of_blocks(
-    alloc: Global,
-    command: Command,
-    blocks: &[Block],
-) -> Result<Vec<u8>, AllocError>
+fn text_of_blocks(alloc: Global, command: Command, blocks: &[Block]) -> Result<Vec<u8>, AllocError>
     ensures { IfOk result (λ text. text.items ≡ lines_of_blocks command 0 blocks.now) }
 {
     let mut out = Vec::new(alloc);
@@ -55,4 +35,12 @@ pub fn text_of_blocks(
         push_block(alloc, &mut out, command, i + 1, block)?;
     }
     Ok(out)
+}
+
+/// What a command writes for a source, or the source's refusal.
+pub fn text_of(alloc: Global, command: Command, source: &[u8]) -> Result<Vec<u8>, SourceError>
+    ensures { Gives (λ text. text.items) result (output_of command source.now) }
+{
+    let source = read_source(alloc, source)?;
+    Ok(text_of_blocks(alloc, command, source.blocks())?)
 }

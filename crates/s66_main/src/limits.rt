@@ -1,0 +1,8 @@
+/// How many calls reading an input makes at most.
+pub const FEED_CALLS: u32 = 16_777_216;
+
+/// How many bytes each of these calls has room for.
+pub const FEED_ROOM: usize = 65_536;
+
+/// How many bytes there is room for of the line of a fault, with its newline.
+pub const FAULT_ROOM: usize = 64;
