@@ -20,7 +20,7 @@ use Rattle.s66_model.proofs.PointTimes.{points_after-append, greatest-stays, nex
 -- THE LATEST WRITER IS DONE LAST
 
 -- it issues when all registers that it writes are done
-pub written-le-issue : (b : Problem) (s : List Point) (n : ℕ) → greatest (λ (w : Write). done_of s w.reg) (row_at b n).writes ≤ (point_of b s n).issue
+written-le-issue : (b : Problem) (s : List Point) (n : ℕ) → greatest (λ (w : Write). done_of s w.reg) (row_at b n).writes ≤ (point_of b s n).issue
 unfolding point
 written-le-issue b s n =
     let r : Row = row_at b n in

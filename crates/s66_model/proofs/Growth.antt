@@ -14,7 +14,7 @@ pub held-le : (ds : List ResultAt) → greatest (λ (d : ResultAt). cond d.held 
 held-le ds =
     greatest-le-greatest (λ (d : ResultAt). cond d.held d.time 0) (λ (d : ResultAt). d.time) (λ d. cond_both d.held d.time 0 (λ x. x ≤ d.time) (λ _. omega arith) (λ _. omega arith)) ds
 
-pub issue-le : (b : Problem) (s : List Point) (r : Row) → issue_of b s r ≤ max (slot_of s r.parcels) (total s)
+issue-le : (b : Problem) (s : List Point) (r : Row) → issue_of b s r ≤ max (slot_of s r.parcels) (total s)
 issue-le b s r =
     let t : ℕ = max (slot_of s r.parcels) (total s) in
     (issue-is b s r).least t (omega arith) (can_issue-is b s r t (can_issue-past b s r t (omega arith)))
@@ -60,7 +60,7 @@ results-le s start [] small lat le = omega arith
 results-le s start (w ∷ ws) small lat le =
     omega (arith, results-le s start ws small (omega arith) le, waits-le s (λ p. has_reg w.reg p.row.reads) small)
 
-pub free-le : (start hold : ℕ) (ds : List ResultAt) (m : ℕ) → start + hold ≤ m → greatest (λ (d : ResultAt). d.time) ds ≤ m → free_after start hold ds ≤ m + 1
+free-le : (start hold : ℕ) (ds : List ResultAt) (m : ℕ) → start + hold ≤ m → greatest (λ (d : ResultAt). d.time) ds ≤ m → free_after start hold ds ≤ m + 1
 free-le start hold [] m h k = omega arith
 free-le start hold (d ∷ ds) m h k = omega (arith, held-le (d ∷ ds))
 
@@ -92,7 +92,7 @@ free-ge s start hold (w ∷ ws) some h =
     ]
 
 -- nothing issues before its parcel
-pub parcel-le-slot : (s : List Point) (len : ℕ) → greatest (λ (p : Point). p.parcel - p.issue) s ≡ 0 → parcel_of s len ≤ slot_of s len
+parcel-le-slot : (s : List Point) (len : ℕ) → greatest (λ (p : Point). p.parcel - p.issue) s ≡ 0 → parcel_of s len ≤ slot_of s len
 parcel-le-slot [] len none = omega (arith, none-first len)
 parcel-le-slot (p ∷ s) len none =
     let at : parcel_of (p ∷ s) len ≡ fits_at (p.parcel + p.row.parcels) len = refl in

@@ -179,7 +179,7 @@ module _ (b : Problem) (kind : Kind) where
 -- THE BOUND
 
 -- the last issue and its parcels are no later than the total
-pub next-le-total : (b : Problem) (s : List Point) (rest : List ℕ) → next s ≤ total s → next (points_after b s rest) ≤ total (points_after b s rest)
+next-le-total : (b : Problem) (s : List Point) (rest : List ℕ) → next s ≤ total s → next (points_after b s rest) ≤ total (points_after b s rest)
 next-le-total b s [] h = h
 next-le-total b s (n ∷ rest) h =
     next-le-total b (point_of b s n ∷ s) rest (omega (arith, hold-le-free b s n, issue-le-start b s n, (good-at b n).parcels.1, (good-at b n).hold.0, ap (λ (r : Row). r.parcels) (point_of-row b s n)))

@@ -103,7 +103,7 @@ goes-runs block constants (n ∷ ns) prefix c h =
     ∙ (goes-runs block constants ns (prefix ++ n ∷ []) first h.1
     ∙ ap (λ t. rest_run block constants t (run block constants first ns) (numbers block)) (append_assoc prefix (n ∷ []) ns))
 
-pub order-meaning : (block : List Instr) (constants : ℕ → List ℕ) (order : List ℕ) → IsOrder block order → meaning block constants order ≡ meaning block constants (numbers block)
+order-meaning : (block : List Instr) (constants : ℕ → List ℕ) (order : List ℕ) → IsOrder block order → meaning block constants order ≡ meaning block constants (numbers block)
 order-meaning block constants order h =
     sym (rest_run-none block constants order (meaning block constants order) (numbers block) (sum_remaining-of_order block (λ _. 1) order h))
     ∙ (sym (goes-runs block constants order [] at_start h.0)
