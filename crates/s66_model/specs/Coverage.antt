@@ -1,4 +1,4 @@
--- What every state of the ledger keeps, the bound that it shows, and how it ends.
+-- To be believed: what every state of the ledger keeps, the bound that it shows, and how it ends.
 use Rattle.std.specs.Prelude.{ℕ, ◌+◌, ◌≡◌, ◌≤◌, Bool, true, false, if◌then◌else◌, not, ◌&&◌, ◌==◌, List, [], ◌∷◌, ◌++◌}
 use Rattle.s66_isa.specs.Lists.{tally, weigh, least, Among}
 use Rattle.s66_model.specs.Timing.{Problem, total_of}

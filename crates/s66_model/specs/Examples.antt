@@ -1,4 +1,4 @@
--- Worked blocks of a few instructions, their COMPASS lines above each, and words that tell what an order of one does under the standard profile, what leaves a prefix has, and what trees and ledgers there are of them.
+-- Used by examples alone: worked blocks of a few instructions, their COMPASS lines above each, and words that tell what an order of one does under the standard profile, what leaves a prefix has, and what trees and ledgers there are of them.
 use Rattle.std.specs.Prelude.{ℕ, Bool, zero, suc, true, false, ◌+◌, ◌≢◌, List, [], ◌∷◌, map, reverse, Some, None}
 use Rattle.std.proofs.Common.{lit≤}
 use Rattle.s66_isa.specs.declared.instr.Instr.{Instr}

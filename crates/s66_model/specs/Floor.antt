@@ -1,4 +1,4 @@
--- Which of the leaves that may stand at a prefix is its floor.
+-- To be believed: which of the leaves that may stand at a prefix is its floor.
 use Rattle.std.specs.Prelude.{ℕ, ◌≡◌, ◌<◌, ◌≤◌, ◌⊎◌, List, [], ◌∷◌}
 use Rattle.s66_isa.specs.Table.{kind_number}
 use Rattle.s66_model.specs.Timing.{Problem}

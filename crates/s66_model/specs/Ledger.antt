@@ -1,4 +1,4 @@
--- The ledger of a search as a machine: nodes, events, replies, steps and runs.
+-- To be believed: the ledger of a search as a machine: nodes, events, replies, steps and runs.
 use Rattle.std.specs.Prelude.{ℕ, ◌+◌, ◌-◌, ◌≡◌, ◌<◌, ◌≤◌, Bool, true, false, if◌then◌else◌, min, List, [], ◌∷◌, ◌++◌, length, get_or, set, nat_le, Option, Some, None, replicate}
 use Rattle.s66_isa.specs.Lists.{tally}
 use Rattle.s66_isa.specs.Table.{numbers}

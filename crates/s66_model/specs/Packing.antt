@@ -1,4 +1,4 @@
--- How instructions are packed into words of four parcels of 15 bits (Reference Manual, instruction formats).
+-- To be believed: how instructions are packed into words of four parcels of 15 bits (Reference Manual, instruction formats).
 use Rattle.std.specs.Prelude.{ℕ, ◌+◌, ◌%◌, ◌==◌, ◌&&◌, if◌then◌else◌, List, [], ◌∷◌, ◌++◌}
 use Rattle.s66_isa.specs.declared.instr.Instr.{Instr}
 use Rattle.s66_isa.specs.Table.{parcels_of, instr_at}

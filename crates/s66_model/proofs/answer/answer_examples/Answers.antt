@@ -1,26 +1,45 @@
-use Rattle.std.proofs.Common.{rules, [], ◌∷◌, refl, sym, true≢false, arith}
+use Rattle.std.proofs.Common.{rules, ℕ, ◌≤◌, ◌≡◌, [], ◌∷◌, refl, sym, true≢false, arith}
+use Rattle.s66_isa.specs.Lists.{least}
 use Rattle.s66_isa.specs.Table.{row}
-use Rattle.s66_model.specs.Dependence.{conflict}
-use Rattle.s66_model.specs.Examples.{one_load}
 use Rattle.s66_model.specs.Timing.{issue_of, start_of, point}
+use Rattle.s66_model.specs.Dependence.{conflict}
+use Rattle.s66_model.specs.Leaves.{Leaf, Whole, Chain, value, leaf_values, floor}
+use Rattle.s66_model.specs.Tree.{Tree, Alone, TreeHolds, splits, tree_values}
+use Rattle.s66_model.specs.Answer.{IsAnswer}
+use Rattle.s66_model.specs.Examples.{one_load, load_problem, answer, load_tree, load_orders}
 use Rattle.s66_model.proofs.LegalOrders.{order-legal}
 use Rattle.s66_model.proofs.answer.answer_examples.Goals as goal
 
-pub returns-clause-one_load : goal.returns-clause-one_load
+-- the order that takes 12, with a tree whose splits the budget allows
+best-answer : (budget : ℕ) (tree : Tree Leaf) → TreeHolds one_load (λ at leaf. leaf ≡ Whole → 12 ≤ value load_problem at leaf) [] tree →
+    TreeHolds one_load (λ at leaf. leaf ≡ floor load_problem at) [] tree → 12 ≡ least (λ v. v) (12 ∷ tree_values (leaf_values load_problem) [] tree) → splits tree ≤ budget →
+    IsAnswer load_problem budget (answer (1 ∷ 3 ∷ 2 ∷ []) 12 12 (splits tree) tree)
 unfolding row issue_of start_of point conflict
-returns-clause-one_load c =
+best-answer budget tree wholes floors bound within =
     record {
       legal = order-legal one_load (1 ∷ 3 ∷ 2 ∷ []) (search rules);
       time = refl;
       source = omega arith;
-      wholes = search rules;
-      tree = search rules;
-      bound = refl;
+      wholes = wholes;
+      tree = floors;
+      bound = bound;
       splits = refl;
-      within = omega arith;
+      within = within;
       spent = λ lower. absurd (omega (arith, lower));
       first = λ same. absurd (omega (arith, same));
     }
+
+pub returns-clause-one_load : goal.returns-clause-one_load
+unfolding row issue_of start_of point conflict
+returns-clause-one_load c = best-answer 100000 (Alone (Chain (1 ∷ 2 ∷ []))) (search rules) refl refl (omega arith)
+
+pub returns-clause-one_load_split : goal.returns-clause-one_load_split
+unfolding row issue_of start_of point conflict
+returns-clause-one_load_split c = best-answer 100000 load_tree (search rules) (search rules) refl (omega arith)
+
+pub returns-clause-one_load_split_down : goal.returns-clause-one_load_split_down
+unfolding row issue_of start_of point conflict
+returns-clause-one_load_split_down c = best-answer 6 load_orders (search rules) (search rules) refl (omega arith)
 
 pub returns-clause-one_load_cut : goal.returns-clause-one_load_cut
 unfolding row issue_of start_of point conflict
@@ -36,38 +55,6 @@ returns-clause-one_load_cut c =
       within = omega arith;
       spent = λ lower. refl;
       first = λ same. refl;
-    }
-
-pub returns-clause-one_load_split : goal.returns-clause-one_load_split
-unfolding row issue_of start_of point conflict
-returns-clause-one_load_split c =
-    record {
-      legal = order-legal one_load (1 ∷ 3 ∷ 2 ∷ []) (search rules);
-      time = refl;
-      source = omega arith;
-      wholes = search rules;
-      tree = search rules;
-      bound = refl;
-      splits = refl;
-      within = omega arith;
-      spent = λ lower. absurd (omega (arith, lower));
-      first = λ same. absurd (omega (arith, same));
-    }
-
-pub returns-clause-one_load_split_down : goal.returns-clause-one_load_split_down
-unfolding row issue_of start_of point conflict
-returns-clause-one_load_split_down c =
-    record {
-      legal = order-legal one_load (1 ∷ 3 ∷ 2 ∷ []) (search rules);
-      time = refl;
-      source = omega arith;
-      wholes = search rules;
-      tree = search rules;
-      bound = refl;
-      splits = refl;
-      within = omega arith;
-      spent = λ lower. absurd (omega (arith, lower));
-      first = λ same. absurd (omega (arith, same));
     }
 
 pub returns-clause-no_legal_order : goal.returns-clause-no_legal_order
