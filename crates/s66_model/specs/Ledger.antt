@@ -127,9 +127,13 @@ worker (Retire w) = w
 
 -- WHAT THE EVENTS MAKE OF A STATE
 
--- what a grant moves: 64 splits, or what is left where that is less
+-- the most splits that one grant moves
+abbrev pub grant_limit : ℕ
+grant_limit = 64
+
+-- what a grant moves: that, or what is left where that is less
 abbrev pub share_of : Ledger → ℕ
-share_of l = min 64 l.left
+share_of l = min grant_limit l.left
 
 abbrev pub after_grant : Ledger → ℕ → Ledger
 after_grant l w = record l { left = l.left - share_of l; allowances = with_allowance l w (allowance l w + share_of l) }

@@ -1,4 +1,4 @@
--- To be believed: pieces: trees over a prefix, with leaves and a frontier.
+-- To be believed: what a piece is, a tree over a prefix with leaves and a frontier.
 use Rattle.std.specs.Prelude.{ℕ, ◌≡◌, ◌<◌, ◌≤◌, ◌⊎◌, List}
 use Rattle.s66_model.specs.Timing.{Problem}
 use Rattle.s66_model.specs.LegalOrder.{IsComplete, IsIncomplete}

@@ -1,4 +1,4 @@
-use Rattle.std.proofs.Common.{◌≡◌, [], ◌∷◌, refl, sym, inl, true≢false, arith}
+use Rattle.std.proofs.Common.{rules, ◌≡◌, [], ◌∷◌, refl, sym, inl, true≢false, arith}
 use Rattle.s66_isa.specs.Table.{row}
 use Rattle.s66_isa.specs.declared.instr.Kind.TheVariants.{Boolean, Multiply}
 use Rattle.s66_model.specs.Dependence.{conflict}
@@ -11,11 +11,11 @@ use Rattle.s66_model.proofs.coverage.coverage_examples.Goals as goal
 
 pub returns-clause-child_not_covered : goal.returns-clause-child_not_covered
 unfolding row issue_of start_of point conflict
-returns-clause-child_not_covered c = λ covers. absurd (omega (arith, covers.once (3 ∷ 1 ∷ 2 ∷ []) (order-legal three_multiplies (3 ∷ 1 ∷ 2 ∷ []) ((refl, (refl, (refl, tt))), refl))))
+returns-clause-child_not_covered c = λ covers. absurd (omega (arith, covers.once (3 ∷ 1 ∷ 2 ∷ []) (order-legal three_multiplies (3 ∷ 1 ∷ 2 ∷ []) (search rules))))
 
 pub returns-clause-covered_twice : goal.returns-clause-covered_twice
 unfolding row issue_of start_of point conflict
-returns-clause-covered_twice c = λ covers. absurd (omega (arith, covers.once (1 ∷ 2 ∷ 3 ∷ []) (order-legal three_multiplies (1 ∷ 2 ∷ 3 ∷ []) ((refl, (refl, (refl, tt))), refl))))
+returns-clause-covered_twice c = λ covers. absurd (omega (arith, covers.once (1 ∷ 2 ∷ 3 ∷ []) (order-legal three_multiplies (1 ∷ 2 ∷ 3 ∷ []) (search rules))))
 
 pub returns-clause-closed_below_the_best : goal.returns-clause-closed_below_the_best
 unfolding row issue_of start_of point conflict
