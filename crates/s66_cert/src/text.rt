@@ -8,6 +8,7 @@ ghost use Rattle.s66_cert.specs.Document.{Document, IsText, document_text, profi
 ghost use Rattle.s66_cert.specs.Examples.{three_multiplies, three_multiplies_text, store_then_load, store_then_load_text, one_load, one_load_text, two_booleans, two_booleans_text, zero_register, zero_register_text, extremes, extremes_text, standard_numbers, with_order, unit_loads, unit_loads_lines};
 
 /// The text of each worked document, what is read of a text, and texts of which nothing is read.
+#[tactic(auto, unfolding(crate::specs::Examples::digits))]
 pub fn text_examples()
     ensures three_multiplies_text { document_text three_multiplies ≡ three_multiplies_text }
     ensures three_multiplies_is_read { IsText 64 three_multiplies_text (three_multiplies ∷ []) }

@@ -1,60 +1,32 @@
-use Rattle.std.proofs.Common.{rules, refl}
+use Rattle.std.proofs.Common.{rules}
 use Rattle.std.specs.Fmt.{digits}
 use Rattle.s66_line.proofs.InstructionTexts.{instruction}
 use Rattle.s66_cert.proofs.Texts.{only-nothing, other-version, unfinished-line}
 use Rattle.s66_cert.proofs.text.text_examples.Goals as goal
 
-pub returns-clause-three_multiplies_text : goal.returns-clause-three_multiplies_text
-unfolding digits
-returns-clause-three_multiplies_text c = refl
-
 pub returns-clause-three_multiplies_is_read : goal.returns-clause-three_multiplies_is_read
 unfolding digits
 returns-clause-three_multiplies_is_read c = search (rules, instruction)
-
-pub returns-clause-store_then_load_text : goal.returns-clause-store_then_load_text
-unfolding digits
-returns-clause-store_then_load_text c = refl
 
 pub returns-clause-store_then_load_is_read : goal.returns-clause-store_then_load_is_read
 unfolding digits
 returns-clause-store_then_load_is_read c = search (rules, instruction)
 
-pub returns-clause-one_load_text : goal.returns-clause-one_load_text
-unfolding digits
-returns-clause-one_load_text c = refl
-
 pub returns-clause-one_load_is_read : goal.returns-clause-one_load_is_read
 unfolding digits
 returns-clause-one_load_is_read c = search (rules, instruction)
-
-pub returns-clause-two_booleans_text : goal.returns-clause-two_booleans_text
-unfolding digits
-returns-clause-two_booleans_text c = refl
 
 pub returns-clause-two_booleans_is_read : goal.returns-clause-two_booleans_is_read
 unfolding digits
 returns-clause-two_booleans_is_read c = search (rules, instruction)
 
-pub returns-clause-zero_register_text : goal.returns-clause-zero_register_text
-unfolding digits
-returns-clause-zero_register_text c = refl
-
 pub returns-clause-zero_register_is_read : goal.returns-clause-zero_register_is_read
 unfolding digits
 returns-clause-zero_register_is_read c = search (rules, instruction)
 
-pub returns-clause-extremes_text : goal.returns-clause-extremes_text
-unfolding digits
-returns-clause-extremes_text c = refl
-
 pub returns-clause-extremes_is_read : goal.returns-clause-extremes_is_read
 unfolding digits
 returns-clause-extremes_is_read c = search (rules, instruction)
-
-pub returns-clause-each_unit_load : goal.returns-clause-each_unit_load
-unfolding digits
-returns-clause-each_unit_load c = refl
 
 pub returns-clause-two_documents : goal.returns-clause-two_documents
 unfolding digits
