@@ -24,6 +24,3 @@ pub use laws::{
 };
 pub use limits::{BLOCK_LIMIT, LINE_LIMIT, SOURCE_LIMIT, TEXT_LIMIT};
 pub use source::{Source, read_source};
-
-#[cfg(test)]
-mod tests;

@@ -6,6 +6,8 @@ mod command;
 mod deps_text;
 mod fields;
 mod limits;
+#[cfg(test)]
+mod line_tests;
 mod outcome;
 mod output;
 mod program;

@@ -1,7 +1,7 @@
-use crate::operand::{decode, operation_of};
-use crate::source::read_source;
 use s66_isa::Instr;
+use s66_line::{SourceError, is_instruction, read_source};
 use std::alloc::AllocError;
+use std::process::Abort;
 use std::test::Fail;
 
 /// An operation, spellings of its operand with blanks between, and the instruction as octal digits: code, i, j, k.
@@ -99,53 +99,94 @@ fn parcel_of(instr: Instr) -> u32 {
     u32::from(instr.op().code()) * 512 + digits
 }
 
-fn spelled(operation: &str, operand: &str) -> Option<u32> {
-    let (form, digit) = operation_of(operation.as_bytes())?;
-    let instr = decode(form, digit, operand.as_bytes())?;
-    Some(parcel_of(instr))
+/// The first instruction of a source, where it has one.
+fn first_parcel<R: AllocGlobal>(rt: &R, source: &str) -> Result<Option<u32>, SourceError> {
+    let source = read_source(rt.alloc(), source.as_bytes())?;
+    match source.blocks() {
+        [block, ..] if block.count() > 0 => Ok(Some(parcel_of(block.instr(1)))),
+        _ => Ok(None),
+    }
+}
+
+/// Checks what a line of this operation and operand is read as.
+fn check_line<R: AllocGlobal + Abort>(
+    rt: &R,
+    operation: &str,
+    operand: &str,
+    expected: Result<Option<u32>, SourceError>,
+) -> Result<(), Fail> {
+    let line = format!(in rt.alloc(); "  {operation} {operand}\n")?;
+    assert_eq!(rt;
+        first_parcel(rt, line.as_str()),
+        expected,
+        "{operation} {operand}"
+    );
+    Ok(())
 }
 
 #[test]
-fn takes_operands(rt: HostRuntime) {
+fn takes_operands(rt: HostRuntime) -> Result<(), Fail> {
     for (operation, operands, parcel) in ACCEPTED {
         for operand in operands.split(' ') {
-            assert_eq!(rt;
-                spelled(operation, operand),
-                Some(parcel),
-                "{operation} {operand}"
-            );
+            check_line(&rt, operation, operand, Ok(Some(parcel)))?;
         }
     }
+    Ok(())
 }
 
 #[test]
-fn refuses_operands(rt: HostRuntime) {
+fn refuses_operands(rt: HostRuntime) -> Result<(), Fail> {
     for (operation, operands) in REFUSED {
         for operand in operands.split(' ') {
-            assert_eq!(rt; spelled(operation, operand), None, "{operation} {operand}");
+            check_line(
+                &rt,
+                operation,
+                operand,
+                Err(SourceError::BadOperand { line: 1 }),
+            )?;
         }
     }
+    Ok(())
 }
 
 #[test]
-fn reads_absent_operands(rt: HostRuntime) {
+fn reads_absent_operands(rt: HostRuntime) -> Result<(), Fail> {
     for operation in ["BX1", "FX1", "SA1", "CX1", "LX1", "AX1", "MX1"] {
-        assert_eq!(rt; spelled(operation, ""), None, "{operation}");
+        check_line(&rt, operation, "", Err(SourceError::BadOperand { line: 1 }))?;
     }
-    assert_eq!(rt; spelled("NX1", ""), Some(0o24101));
-    assert_eq!(rt; spelled("PX7", ""), Some(0o27707));
+    check_line(&rt, "NX1", "", Ok(Some(0o24101)))?;
+    check_line(&rt, "PX7", "", Ok(Some(0o27707)))
 }
 
 #[test]
-fn knows_operations(rt: HostRuntime) {
-    for word in ["BX0", "LX7", "SA1", "SB0", "SX7", "CX3"] {
-        assert!(rt; operation_of(word.as_bytes()).is_some(), "{word}");
-    }
+fn knows_operations(rt: HostRuntime) -> Result<(), Fail> {
     for word in [
         "BX8", "BX", "BX11", "EX1", "NO1", "XS1", "SC1", "AB1", "NO", "",
     ] {
-        assert!(rt; operation_of(word.as_bytes()).is_none(), "{word}");
-        assert_eq!(rt; spelled(word, "X2"), None, "{word}");
+        check_line(&rt, word, "X2", Ok(None))?;
+    }
+    Ok(())
+}
+
+#[test]
+fn tells_instructions(rt: HostRuntime) {
+    for text in ["BX1 X2", "NX1", "SA1 A1+2*N", "LX1 -100"] {
+        assert!(rt; is_instruction(text.as_bytes()), "{text}");
+    }
+    for text in [
+        "",
+        "NO",
+        "bx1 X2",
+        "BX1 x2",
+        " BX1 X2",
+        "BX1  X2",
+        "BX1 X2 ",
+        "NX1 ",
+        "BX1",
+        "BX8 X2",
+        "BX1 X2 COPY",
+    ] {
+        assert!(rt; !is_instruction(text.as_bytes()), "{text}");
     }
 }
 
@@ -178,5 +219,33 @@ fn keeps_labels_and_bytes(rt: HostRuntime) -> Result<(), Fail> {
         assert_eq!(rt; block.bytes(1), bytes.as_bytes());
         assert_eq!(rt; block.text(1).as_slice(), text.as_bytes());
     }
+    Ok(())
+}
+
+/// 20,000 comments, and then a line.
+fn behind_comments<R: AllocGlobal>(rt: &R, line: &str) -> Result<String, AllocError> {
+    let mut text = String::new(rt.alloc());
+    for _ in 0..20_000 {
+        text.push_str("*\n")?;
+    }
+    text.push_str(line)?;
+    Ok(text)
+}
+
+#[test]
+fn refuses_line_20001(rt: HostRuntime) -> Result<(), Fail> {
+    let long = format!(in rt.alloc(); "*{:0>200}", 1)?;
+    let text = behind_comments(&rt, long.as_str())?;
+    assert_eq!(rt;
+        first_parcel(&rt, text.as_str()),
+        Err(SourceError::LineTooLong { line: 20_001 })
+    );
+    let text = behind_comments(&rt, "  BX1")?;
+    assert_eq!(rt;
+        first_parcel(&rt, text.as_str()),
+        Err(SourceError::TooLarge)
+    );
+    let text = behind_comments(&rt, "")?;
+    assert_eq!(rt; first_parcel(&rt, text.as_str()), Ok(None));
     Ok(())
 }
