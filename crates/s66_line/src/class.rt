@@ -6,7 +6,7 @@ ghost use Rattle.s66_line.specs.Source.{class_of, by_operation, is_code, is_loca
 ghost use Rattle.s66_line.specs.declared.limits.TheConstants.{LINE_LIMIT, TEXT_LIMIT};
 
 use crate::fields::{
-    body_of, fields_of, is_comment_line, is_continuation, operation_and_operand, upper_case_byte,
+    body_of, fields_of, is_comment_line, is_continuation, next_word, split_word, upper_case_byte,
 };
 use crate::instruction_text::upper_case;
 use crate::operand::{decode, operation_of};
@@ -42,14 +42,14 @@ fn class_by_operation(located: bool, bytes: &[u8]) -> Class
     ensures class { result ≡ by_operation located (operation_in bytes.now) (operand_in bytes.now) }
     ensures spelled { IsSpelled result bytes.now }
 {
-    let (operation, operand) = operation_and_operand(bytes);
+    let (operation, rest) = split_word(bytes);
     if is_pad_name(operation) {
         return Class::Pad { located };
     }
     let Some((form, digit)) = operation_of(operation) else {
         return Class::Other;
     };
-    match decode(form, digit, upper_case(operand).as_slice()) {
+    match decode(form, digit, upper_case(next_word(rest)).as_slice()) {
         Some(instr) => Class::Instruction { located, instr },
         None => Class::Refused,
     }

@@ -36,7 +36,7 @@ fn word_length(bytes: &[u8]) -> usize
 
 /// The bytes before the first blank, and those from it on.
 #[tactic(auto, using(crate::proofs::LineFields::word_steps))]
-fn split_word(bytes: &[u8]) -> (&[u8], &[u8])
+pub(crate) fn split_word(bytes: &[u8]) -> (&[u8], &[u8])
     ensures word { result.0.now ≡ word bytes.now }
     ensures rest { result.1.now ≡ after_word bytes.now }
     ensures word_within { length result.0.now ≤ length bytes.now }
@@ -122,6 +122,15 @@ pub(crate) fn fields_of(line: &[u8]) -> Fields<'_>
     }
 }
 
+/// The word behind the blanks in front of these bytes.
+pub(crate) fn next_word(bytes: &[u8]) -> &[u8]
+    ensures value { result.now ≡ word (skip_blanks bytes.now) }
+    ensures within { length result.now ≤ length bytes.now }
+{
+    let (word, _) = split_word(without_blanks(bytes));
+    word
+}
+
 /// The operation and the operand in front of these bytes.
 pub(crate) fn operation_and_operand(bytes: &[u8]) -> (&[u8], &[u8])
     ensures operation { result.0.now ≡ word bytes.now }
@@ -131,8 +140,7 @@ pub(crate) fn operation_and_operand(bytes: &[u8]) -> (&[u8], &[u8])
     ensures both_within { 0 < length result.1.now → length result.0.now + length result.1.now < length bytes.now }
 {
     let (operation, rest) = split_word(bytes);
-    let (operand, _) = split_word(without_blanks(rest));
-    (operation, operand)
+    (operation, next_word(rest))
 }
 
 pub(crate) fn upper_case_byte(byte: u8) -> u8

@@ -3,4 +3,4 @@ use Rattle.s66_line.proofs.fields.operation_and_operand.Goals as goal
 
 pub returns-clause-both_within : goal.returns-clause-both_within
 returns-clause-both_within c =
-    rw (c.split_word-2.ensures.word, c.without_blanks.ensures.value, c.split_word.ensures.rest, c.split_word.ensures.word) (spelling-fits c.args.bytes.now)
+    rw (c.next_word.ensures.value, c.split_word.ensures.rest, c.split_word.ensures.word) (spelling-fits c.args.bytes.now)
