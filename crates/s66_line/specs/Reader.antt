@@ -30,11 +30,11 @@ with_open blocks label [] = blocks
 with_open blocks label (e ∷ es) = blocks ++ record { label = label; entries = e ∷ es } ∷ []
 
 abbrev pub end_block : State → State
-end_block s = record { blocks = with_open s.blocks s.label s.entries; label = []; entries = []; count = s.count; after = s.after }
+end_block s = record s { blocks = with_open s.blocks s.label s.entries; label = []; entries = [] }
 
 -- the open block ends, and a run with this label begins
 abbrev pub begin_run : List ℕ → State → State
-begin_run label s = record { blocks = with_open s.blocks s.label s.entries; label = label; entries = []; count = s.count; after = s.after }
+begin_run label s = record (end_block s) { label = label }
 
 abbrev pub begin_run_if : Bool → List ℕ → State → State
 begin_run_if located label s = if located then begin_run label s else s
@@ -45,16 +45,10 @@ end_block_if_full s = if length s.entries == BLOCK_LIMIT then end_block s else s
 
 abbrev pub with_entry : Instr → List ℕ → State → State
 with_entry n bytes s =
-    end_block_if_full (record {
-      blocks = s.blocks;
-      label = s.label;
-      entries = s.entries ++ record { instr = n; line = suc s.count; bytes = bytes } ∷ [];
-      count = s.count;
-      after = s.after;
-    })
+    end_block_if_full (record s { entries = s.entries ++ record { instr = n; line = suc s.count; bytes = bytes } ∷ [] })
 
 abbrev pub count_line : Bool → State → State
-count_line after s = record { blocks = s.blocks; label = s.label; entries = s.entries; count = suc s.count; after = after }
+count_line after s = record s { count = suc s.count; after = after }
 
 -- the next line is of this class, with its label and its bytes from the operation on
 abbrev pub by_class : State → Class → List ℕ → List ℕ → Result State SourceError
@@ -67,10 +61,7 @@ by_class s (Instruction located n) label bytes = Ok (count_line true (with_entry
 -- what is known of the bytes that are kept of a line of this class
 abbrev pub IsSpelled : Class → List ℕ → Type 0
 IsSpelled (Instruction located n) bytes = Spells bytes n
-IsSpelled Comment bytes = Unit {0}
-IsSpelled Other bytes = Unit {0}
-IsSpelled Refused bytes = Unit {0}
-IsSpelled (Pad located) bytes = Unit {0}
+IsSpelled class bytes = Unit {0}
 
 abbrev pub line_step : State → List ℕ → Result State SourceError
 line_step s line =

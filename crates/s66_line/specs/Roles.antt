@@ -3,30 +3,21 @@ use Rattle.std.specs.Prelude.{◌&&◌, ◌||◌, ◌==◌, not, codes, ◌++◌
 use Rattle.std.specs.List.{filter}
 use Rattle.s66_isa.specs.Lists.{some_of}
 use Rattle.s66_line.specs.declared.class.Class.{Class}
-use Rattle.s66_line.specs.declared.class.Class.TheVariants.{Comment, Other, Refused, Pad, Instruction}
+use Rattle.s66_line.specs.declared.class.Class.TheVariants.{Comment, Other, Pad}
 use Rattle.s66_line.specs.Source.{Line, Block, is_instruction, classed_lines, blocks_of}
 use Rattle.s66_line.specs.Block.{line_of}
 
 abbrev pub is_comment_class : Class → Bool
 is_comment_class Comment = true
-is_comment_class Other = false
-is_comment_class Refused = false
-is_comment_class (Pad located) = false
-is_comment_class (Instruction located n) = false
+is_comment_class class = false
 
 abbrev pub is_pad_class : Class → Bool
 is_pad_class (Pad located) = true
-is_pad_class Comment = false
-is_pad_class Other = false
-is_pad_class Refused = false
-is_pad_class (Instruction located n) = false
+is_pad_class class = false
 
 abbrev pub is_other_class : Class → Bool
 is_other_class Other = true
-is_other_class Comment = false
-is_other_class Refused = false
-is_other_class (Pad located) = false
-is_other_class (Instruction located n) = false
+is_other_class class = false
 
 -- a comment between the first and the last instruction of the block: it moves in front of the block
 abbrev pub is_note_of : Line → Block → Bool

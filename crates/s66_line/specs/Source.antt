@@ -39,34 +39,24 @@ class_of after line =
 
 abbrev pub is_instruction : Class → Bool
 is_instruction (Instruction located n) = true
-is_instruction Comment = false
-is_instruction Other = false
-is_instruction Refused = false
-is_instruction (Pad located) = false
+is_instruction class = false
 
 -- an Instruction or a Pad
 abbrev pub is_code : Class → Bool
 is_code (Instruction located n) = true
 is_code (Pad located) = true
-is_code Comment = false
-is_code Other = false
-is_code Refused = false
+is_code class = false
 
 -- an Instruction or Pad with a location field begins a run
 abbrev pub begins_run : Class → Bool
 begins_run (Instruction located n) = located
 begins_run (Pad located) = located
-begins_run Comment = false
-begins_run Other = false
-begins_run Refused = false
+begins_run class = false
 
 -- an Other line ends one
 abbrev pub ends_run : Class → Bool
 ends_run Other = true
-ends_run Comment = false
-ends_run Refused = false
-ends_run (Pad located) = false
-ends_run (Instruction located n) = false
+ends_run class = false
 
 -- LINES with their numbers, from 1, classes and runs
 
@@ -121,10 +111,7 @@ classed_lines text = classes_from 1 0 0 [] false (lines_of text)
 
 abbrev pub operand_refusal : ℕ → Class → Option SourceError
 operand_refusal number Refused = Some (BadOperand number)
-operand_refusal number Comment = None
-operand_refusal number Other = None
-operand_refusal number (Pad located) = None
-operand_refusal number (Instruction located n) = None
+operand_refusal number class = None
 
 abbrev pub refusal_at : Line → Option SourceError
 refusal_at line =
@@ -162,10 +149,7 @@ parts_of (line ∷ lines) = put_before line (parts_of lines)
 
 abbrev pub instr_in : Class → Instr
 instr_in (Instruction located n) = n
-instr_in Comment = idle_instr
-instr_in Other = idle_instr
-instr_in Refused = idle_instr
-instr_in (Pad located) = idle_instr
+instr_in class = idle_instr
 
 -- an instruction of a block: the number of its line, and the bytes of that line from its operation on
 pub record Entry : Type 0 where
