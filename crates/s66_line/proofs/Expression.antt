@@ -1,5 +1,6 @@
 -- An expression is what gathers to no register.
 use Rattle.std.proofs.Common.{◌≡◌, ℕ, Bool, true, false, List, [], ◌∷◌, ◌++◌, Option, None, Some, length, refl, sym, ap, arith, ◌∙◌, ◌==◌, nat_le, is_some, ◌||◌, ◌&&◌, if◌then◌else◌}
+use Rattle.std.proofs.Math.Bool.{and-false}
 use Rattle.std.proofs.lemmas.Bool.{true≢false}
 use Rattle.std.proofs.lemmas.Bool.Decides.{nat_tests}
 use Rattle.s66_isa.specs.declared.reg.Bank.{Bank}
@@ -19,16 +20,12 @@ no_register (Some seen) = is_nil seen.1
 abbrev all_constant : List (Bool × List ℕ) → Bool
 all_constant ts = every (λ t. is_constant t.1) ts
 
-and_both : (b : Bool) → false ≡ (b && false)
-and_both true = refl
-and_both false = refl
-
 one-more : (minus constant : Bool) (r : Option (Bank × ℕ)) (ts : List (Bool × List ℕ)) → ((s : Bank × ℕ) → r ≡ Some s → constant ≡ false) → all_constant ts ≡ (are_terms ts && is_nil (registers_of ts)) →
     (constant && all_constant ts) ≡ (((is_some r || constant) && are_terms ts) && is_nil (with_sign minus r ++ registers_of ts))
 one-more minus false None ts h e = refl
 one-more minus true None ts h e = e
 one-more minus true (Some r) ts h e = absurd (true≢false (h r refl))
-one-more minus false (Some r) ts h e = and_both (are_terms ts)
+one-more minus false (Some r) ts h e = sym (and-false (are_terms ts))
 
 all_constant-is : (ts : List (Bool × List ℕ)) → all_constant ts ≡ (are_terms ts && is_nil (registers_of ts))
 all_constant-is [] = refl

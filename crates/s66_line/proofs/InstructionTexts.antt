@@ -1,21 +1,17 @@
 -- The text of an instruction: its words are the operation and the operand that it is made of.
 use Rattle.std.proofs.Common.{◌≡◌, ◌≤◌, ◌<◌, ◌+◌, ℕ, Bool, true, false, not, true≢false, List, [], ◌∷◌, ◌++◌, length, Option, None, Some, is_some, refl, sym, ap, ap₂, ◌∙◌, arith, length-append}
-use Rattle.std.proofs.lemmas.Bool.{and_parts}
+use Rattle.std.proofs.lemmas.Bool.{and_parts, not-true}
 use Rattle.s66_isa.specs.declared.instr.Instr.{Instr}
 use Rattle.s66_isa.specs.Lists.{every}
 use Rattle.s66_line.specs.declared.limits.TheConstants.{TEXT_LIMIT}
 use Rattle.s66_line.specs.Fields.{is_blank, upper, word, after_word, skip_blanks}
 use Rattle.s66_line.specs.Operand.{instr_of}
 use Rattle.s66_line.specs.InstructionText.{spelling, operation_in, operand_in, Spells, IsTextOf, IsInstruction}
-use Rattle.s66_line.proofs.LineFields.{word-length, spelling-fits}
+use Rattle.s66_line.proofs.LineFields.{word-length, skip_blanks-no, spelling-fits}
 use Rattle.s66_line.proofs.UpperCase.{length-upper, blank-kept, upper-twice}
 
 abbrev pub is_no_blank : ℕ → Bool
 is_no_blank b = not (is_blank b)
-
-not-true : (t : Bool) → not t ≡ true → t ≡ false
-not-true true h = sym h
-not-true false h = refl
 
 -- the first byte isn't blank, and so on
 filled-parts : (b : ℕ) (bytes : List ℕ) → every is_no_blank (b ∷ bytes) ≡ true → (is_blank b ≡ false) × (every is_no_blank bytes ≡ true)
@@ -47,9 +43,6 @@ after-before (b ∷ bytes) more h =
     let parts = filled-parts b bytes h in
     rw parts.0 (after-before bytes more parts.1)
 
-skip-none : (b : ℕ) (bytes : List ℕ) → is_blank b ≡ false → skip_blanks (b ∷ bytes) ≡ b ∷ bytes
-skip-none b bytes h = rw h refl
-
 operation-of : (operation operand : List ℕ) → every is_no_blank operation ≡ true → word (spelling operation operand) ≡ operation
 operation-of operation [] h = word-alone operation h
 operation-of operation (b ∷ operand) h = word-before operation (b ∷ operand) h
@@ -58,7 +51,7 @@ operand-of : (operation operand : List ℕ) → every is_no_blank operation ≡ 
     skip_blanks (after_word (spelling operation operand)) ≡ operand
 operand-of operation [] h k = ap skip_blanks (after-alone operation h)
 operand-of operation (b ∷ operand) h k =
-    ap skip_blanks (after-before operation (b ∷ operand) h) ∙ skip-none b operand (filled-parts b operand k).0
+    ap skip_blanks (after-before operation (b ∷ operand) h) ∙ skip_blanks-no b operand (filled-parts b operand k).0
 
 -- WORDS IN UPPER CASE
 

@@ -3,6 +3,7 @@ use Rattle.std.proofs.Common.{◌≡◌, ℕ, zero, suc, ◌+◌, ◌-◌, ◌�
 use Rattle.std.proofs.lemmas.Bool.{eqb-true}
 use Rattle.std.proofs.Math.Seq.{take-suc}
 use Rattle.std.proofs.Math.Dec.{eqb-zero-suc}
+use Rattle.std.proofs.Math.Bool.{and-true, and-false}
 use Rattle.std.specs.Prelude.{◌&&◌, ◌||◌, ◌==◌, nat_le}
 use Rattle.std.specs.List.{prefix_len}
 use Rattle.s66_isa.specs.Lists.{every}
@@ -89,7 +90,7 @@ label-cut (b ∷ bytes) = label-cut-by (b == 32) b bytes refl
 
 -- A COMMENT begins with a star or a blank
 
-skip_blanks-no : (b : ℕ) (bytes : List ℕ) → is_blank b ≡ false → skip_blanks (b ∷ bytes) ≡ b ∷ bytes
+pub skip_blanks-no : (b : ℕ) (bytes : List ℕ) → is_blank b ≡ false → skip_blanks (b ∷ bytes) ≡ b ∷ bytes
 skip_blanks-no b bytes other = rw other refl
 
 pub indented_no : (b : ℕ) (bytes : List ℕ) → is_blank b ≡ false → (blanks (b ∷ bytes) == length (b ∷ bytes) || nat_le 29 (blanks (b ∷ bytes))) ≡ false
@@ -98,10 +99,6 @@ indented_no b bytes other =
     rw (skip_blanks-no b bytes other, none, eqb-zero-suc (length bytes)) refl
 
 -- THE SPELLING of a line
-
-pub upper-length : (bytes : List ℕ) → length (upper bytes) ≡ length bytes
-upper-length [] = refl
-upper-length (b ∷ bytes) = ap suc (upper-length bytes)
 
 skip_blanks-length : (bytes : List ℕ) → length (skip_blanks bytes) ≤ length bytes
 skip_blanks-length [] = omega arith
@@ -165,14 +162,6 @@ spelling-none operation [] h = refl
 spelling-none operation (b ∷ operand) h = absurd (omega (arith, h))
 
 -- THE END OF A LINE
-
-and-true : (t : Bool) → (t && true) ≡ t
-and-true true = refl
-and-true false = refl
-
-and-false : (t : Bool) → (t && false) ≡ false
-and-false true = refl
-and-false false = refl
 
 every-push : (test : ℕ → Bool) (bytes : List ℕ) (b : ℕ) → every test (bytes ++ b ∷ []) ≡ (every test bytes && test b)
 every-push test [] b = and-true (test b)

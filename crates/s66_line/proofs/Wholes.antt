@@ -4,6 +4,7 @@ use Rattle.std.proofs.lemmas.Bool.{eqb-true, and_from, and_parts}
 use Rattle.std.proofs.lemmas.List.{append-nil}
 use Rattle.s66_isa.specs.Lists.{every}
 use Rattle.s66_line.specs.Fields.{last_line, lines_from, lines_of, is_newline, is_blank, skip_blanks, word, after_word, from_location, location, from_operation, operation, operand, label_bytes, with_newlines, AreLines, HasFields}
+use Rattle.s66_line.proofs.LineCuts.{lines_from-here, lines_from-later}
 use Rattle.s66_line.proofs.LineFields.{from_location-yes, from_location-no, label-yes, label-no}
 use Rattle.s66_line.proofs.InstructionTexts.{is_no_blank, no_blank-word}
 
@@ -25,12 +26,6 @@ last-inside : (line : List ℕ) → every is_inside line ≡ true → AreInside 
 last-inside [] h = refl
 last-inside (b ∷ line) h = and_from (every is_inside (b ∷ line)) true h refl
 
-lines-newline : (line bytes : List ℕ) (b : ℕ) → (b == 10) ≡ true → lines_from line (b ∷ bytes) ≡ line ∷ lines_from [] bytes
-lines-newline line bytes b told = rw told refl
-
-lines-other : (line bytes : List ℕ) (b : ℕ) → (b == 10) ≡ false → lines_from line (b ∷ bytes) ≡ lines_from (line ++ b ∷ []) bytes
-lines-other line bytes b told = rw told refl
-
 inside-other : (b : ℕ) → (b == 10) ≡ false → every is_inside (b ∷ []) ≡ true
 inside-other b told = rw told refl
 
@@ -44,8 +39,8 @@ whole-newline line bytes b told h rest = record {
   ended = line ∷ rest.ended;
   last = rest.last;
   whole = ap₂ (λ c more. line ++ c ∷ more) (eqb-true b 10 told) rest.whole ∙ sym (append_assoc line (10 ∷ with_newlines rest.ended) rest.last);
-  cut = lines-newline line bytes b told ∙ ap (λ lines. line ∷ lines) rest.cut;
-  no_newline = rw (lines-newline line bytes b told) (and_from (every is_inside line) (every (every is_inside) (lines_from [] bytes)) h rest.no_newline);
+  cut = lines_from-here line bytes b told ∙ ap (λ lines. line ∷ lines) rest.cut;
+  no_newline = rw (lines_from-here line bytes b told) (and_from (every is_inside line) (every (every is_inside) (lines_from [] bytes)) h rest.no_newline);
 }
 
 whole-other : (line bytes : List ℕ) (b : ℕ) → (b == 10) ≡ false → Whole (line ++ b ∷ []) bytes → Whole line (b ∷ bytes)
@@ -53,8 +48,8 @@ whole-other line bytes b told rest = record {
   ended = rest.ended;
   last = rest.last;
   whole = sym (append_assoc line (b ∷ []) bytes) ∙ rest.whole;
-  cut = lines-other line bytes b told ∙ rest.cut;
-  no_newline = rw (lines-other line bytes b told) rest.no_newline;
+  cut = lines_from-later line bytes b told ∙ rest.cut;
+  no_newline = rw (lines_from-later line bytes b told) rest.no_newline;
 }
 
 whole-step : (t : Bool) (line bytes : List ℕ) (b : ℕ) → (b == 10) ≡ t → every is_inside line ≡ true → Whole [] bytes → (every is_inside (line ++ b ∷ []) ≡ true → Whole (line ++ b ∷ []) bytes) → Whole line (b ∷ bytes)
