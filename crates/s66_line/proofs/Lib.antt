@@ -11,7 +11,7 @@ pub mod Digits
 pub mod SetForms
 pub mod Choices
 pub mod OperationLaw
-pub mod SpellingLaw
+pub mod CodeLaw
 pub mod UpperCase
 pub mod Names
 pub mod InstructionTexts

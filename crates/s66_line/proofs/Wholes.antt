@@ -60,8 +60,8 @@ whole-from : (line text : List ℕ) → every is_inside line ≡ true → Whole 
 whole-from line [] h = record { ended = []; last = line; whole = append-nil line; cut = refl; no_newline = last-inside line h }
 whole-from line (b ∷ bytes) h = whole-step (b == 10) line bytes b refl h (whole-from [] bytes refl) (λ k. whole-from (line ++ b ∷ []) bytes k)
 
-pub lines : (text : List ℕ) → AreLines text (lines_of text)
-lines text = whole-from [] text refl
+pub AreLines-lines_of : (text : List ℕ) → AreLines text (lines_of text)
+AreLines-lines_of text = whole-from [] text refl
 
 -- FIELDS
 
@@ -107,12 +107,12 @@ label-whole : (line : List ℕ) → line ≡ label_bytes line ++ after_word (fro
 label-whole [] = refl
 label-whole (b ∷ bytes) = label-by (b == 32) b bytes refl
 
-insert : (a b c d e f : List ℕ) → a ++ (b ++ (c ++ (d ++ (e ++ f)))) ≡ a ++ b ++ c ++ d ++ e ++ f
-insert a b c d e f =
+append-six : (a b c d e f : List ℕ) → a ++ (b ++ (c ++ (d ++ (e ++ f)))) ≡ a ++ b ++ c ++ d ++ e ++ f
+append-six a b c d e f =
     sym (append_assoc (a ++ b ++ c ++ d) e f ∙ append_assoc (a ++ b ++ c) d (e ++ f) ∙ append_assoc (a ++ b) c (d ++ (e ++ f)) ∙ append_assoc a b (c ++ (d ++ (e ++ f))))
 
-pub fields : (line : List ℕ) → HasFields line
-fields line =
+pub HasFields-all : (line : List ℕ) → HasFields line
+HasFields-all line =
     let behind_location : List ℕ = after_word (from_location line) in
     let behind_operation : List ℕ = after_word (from_operation line) in
     let remark : List ℕ = after_word (skip_blanks behind_operation) in
@@ -127,7 +127,7 @@ fields line =
           ∙ ap (λ more. leading behind_location ++ more) (word-whole (from_operation line)
           ∙ ap (λ more. operation line ++ more) (blanks-whole behind_operation
           ∙ ap (λ more. leading behind_operation ++ more) (word-whole (skip_blanks behind_operation)))))
-          ∙ insert (label_bytes line) (leading behind_location) (operation line) (leading behind_operation) (operand line) remark;
+          ∙ append-six (label_bytes line) (leading behind_location) (operation line) (leading behind_operation) (operand line) remark;
       blank = every-append is_blank (leading behind_location) (leading behind_operation) (leading-blank behind_location) (leading-blank behind_operation);
       words =
           every-append no_blank (location line ++ operation line) (operand line)

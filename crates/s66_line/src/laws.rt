@@ -31,7 +31,7 @@ pub fn operation_law()
 {}
 
 /// Each of the 55 codes is spelled, with all digits that it has.
-pub fn spelling_law()
+pub fn code_law()
     ensures codes { (i j k : ℕ) → map (λ spelling. spelling.2.op.code) (spellings i j k) ≡ all_codes }
     ensures read { (i j k : ℕ) → i ≤ 7 → j ≤ 7 → k ≤ 7 → map (λ spelling. instr_of spelling.0 spelling.1) (spellings i j k) ≡ map (λ spelling. Some spelling.2) (spellings i j k) }
 {}

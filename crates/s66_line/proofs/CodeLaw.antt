@@ -19,5 +19,5 @@ minus-no d = ne_eqb (48 + d) 45 (λ e. omega (arith, e))
 near-digit : (d : ℕ) → d ≤ 7 → is_near (48 + d) ≡ true
 near-digit d h = or_left (is_letter_or_digit (48 + d)) (48 + d == 46) (or_right (nat_le 65 (48 + d) && nat_le (48 + d) 90) (nat_le 48 (48 + d) && nat_le (48 + d) 57) (and_from (nat_le 48 (48 + d)) (nat_le (48 + d) 57) (le-leb 48 (48 + d) (omega arith)) (le-leb (48 + d) 57 (omega (arith, h)))))
 
-pub read : (i j k : ℕ) → i ≤ 7 → j ≤ 7 → k ≤ 7 → map (λ row. instr_of row.0 row.1) (spellings i j k) ≡ map (λ row. Some row.2) (spellings i j k)
-read i j k a b c = rw (octal-digit i a, octal-digit j b, octal-digit k c, digit-back i, digit-back j, digit-back k, plus-no j, plus-no k, minus-no j, minus-no k, near-digit j b, near-digit k c, octal-digit j b, octal-digit k c, digit-back j, digit-back k) refl
+pub instr_of-spellings : (i j k : ℕ) → i ≤ 7 → j ≤ 7 → k ≤ 7 → map (λ row. instr_of row.0 row.1) (spellings i j k) ≡ map (λ row. Some row.2) (spellings i j k)
+instr_of-spellings i j k a b c = rw (octal-digit i a, octal-digit j b, octal-digit k c, digit-back i, digit-back j, digit-back k, plus-no j, plus-no k, minus-no j, minus-no k, near-digit j b, near-digit k c, octal-digit j b, octal-digit k c, digit-back j, digit-back k) refl
