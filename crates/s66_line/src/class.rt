@@ -27,6 +27,7 @@ pub enum Class {
     Instruction { located: bool, instr: Instr },
 }
 
+#[tactic(auto, using(crate::proofs::Names::is_pad_short, crate::proofs::Names::is_pad_long))]
 fn is_pad_name(word: &[u8]) -> bool
     ensures { result ≡ is_pad (upper word.now) }
 {

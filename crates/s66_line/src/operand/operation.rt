@@ -91,6 +91,7 @@ fn syntax_of(first: u8, second: u8) -> Option<Syntax>
 }
 
 /// What an operation of the table takes, and its digit: two letters, in upper or in lower case, and a digit 0 to 7.
+#[tactic(auto, using(crate::proofs::Names::operation_of_short, crate::proofs::Names::operation_of_long))]
 pub(crate) fn operation_of(word: &[u8]) -> Option<(Syntax, u8)>
     ensures value { result ≡ operation_of (upper word.now) }
     ensures of_the_table { IfSome result (λ o. IsOfTheTable o.0 × (o.1 ≤ 7)) }
