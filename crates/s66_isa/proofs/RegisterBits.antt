@@ -132,7 +132,7 @@ with-register set more x few is r =
 
 -- TWO SETS THAT MEET
 
-some-has : (test : Reg → Bool) (r : Reg) (rs : List Reg) → has_reg r rs ≡ true → test r ≡ true → some_of test rs ≡ true
+pub some-has : (test : Reg → Bool) (r : Reg) (rs : List Reg) → has_reg r rs ≡ true → test r ≡ true → some_of test rs ≡ true
 some-has test r [] there passes = absurd (true≢false (sym there))
 some-has test r (s ∷ rs) there passes =
     elim (or_cases (same_reg r s) (has_reg r rs) there) [
@@ -140,7 +140,7 @@ some-has test r (s ∷ rs) there passes =
       | inr more ↦ or_right (test s) (some_of test rs) (some-has test r rs more passes)
     ]
 
-some-found : (test : Reg → Bool) (rs : List Reg) → some_of test rs ≡ true → (r : Reg) × (has_reg r rs ≡ true) × (test r ≡ true)
+pub some-found : (test : Reg → Bool) (rs : List Reg) → some_of test rs ≡ true → (r : Reg) × (has_reg r rs ≡ true) × (test r ≡ true)
 some-found test [] some = absurd (true≢false (sym some))
 some-found test (s ∷ rs) some =
     elim (or_cases (test s) (some_of test rs) some) [
