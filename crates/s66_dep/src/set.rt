@@ -1,4 +1,4 @@
-ghost use Rattle.std.specs.Prelude.{ℕ, ◌≡◌, ◌≤◌, ◌==◌, ◌||◌, ◌↔◌, IsTrue, true, [], length};
+ghost use Rattle.std.specs.Prelude.{ℕ, ◌≡◌, ◌≤◌, ◌==◌, ◌||◌, ◌↔◌, IsTrue, true, [], ◌∷◌, IfSome, IfNone, length};
 ghost use Rattle.s66_isa.specs.Lists.{has};
 ghost use Rattle.s66_dep.specs.Members.{numbers_in};
 
@@ -40,6 +40,21 @@ impl Set {
         ensures { IsTrue result ↔ ((m : ℕ) → has m (numbers_in self.now) ≡ true → has m (numbers_in other.now) ≡ true) }
     {
         self.bits & other.bits == self.bits
+    }
+
+    /// Takes the lowest number out, where there is one.
+    pub fn pop_first(&mut self) -> Option<u8>
+        ensures some { IfSome result (λ n. numbers_in self.old ≡ n ∷ numbers_in self.new) }
+        ensures none { IfNone result (numbers_in self.old ≡ []) }
+        ensures range { IfSome result (λ n. (1 ≤ n) × (n ≤ 64)) }
+        ensures same { IfNone result (self.new ≡ self.old) }
+    {
+        if self.bits == 0 {
+            return None;
+        }
+        let lowest = self.bits.trailing_zeros();
+        self.bits &= !(1 << lowest);
+        Some(lowest as u8 + 1)
     }
 
     /// How many numbers are there.

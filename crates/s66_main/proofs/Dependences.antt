@@ -1,15 +1,14 @@
--- The numbers of a set and of a block from a place on, and how many a set has.
-use Rattle.std.proofs.Common.{ℕ, zero, suc, ◌+◌, ◌-◌, ◌≤◌, ◌<◌, ◌≡◌, Bool, true, false, List, [], ◌∷◌, length, filter, drop, get_or, refl, sym, ap, arith, ◌∙◌}
+-- The numbers of a block from a place on, and how many a set has.
+use Rattle.std.proofs.Common.{ℕ, zero, suc, ◌+◌, ◌-◌, ◌≤◌, ◌<◌, ◌≡◌, Bool, List, ◌∷◌, length, filter, drop, get_or, ap, arith, ◌∙◌}
 use Rattle.std.proofs.lemmas.Bool.{cond_both}
 use Rattle.std.proofs.lemmas.List.{drop_more, length-map}
 use Rattle.s66_isa.specs.declared.instr.Instr.{Instr}
-use Rattle.s66_isa.specs.Lists.{has, rising, weigh}
+use Rattle.s66_isa.specs.Lists.{rising, weigh}
 use Rattle.s66_isa.specs.Table.{numbers}
 use Rattle.s66_model.specs.Dependence.{needs, all_needs}
 use Rattle.s66_model.proofs.Beginnings.{length-rising}
 use Rattle.s66_dep.specs.declared.set.Set.{Set}
 use Rattle.s66_dep.specs.Members.{is_member, numbers_in}
-use Rattle.s66_dep.proofs.Bits.{has-inside}
 
 -- THE NUMBERS THAT ARE LEFT
 
@@ -18,30 +17,6 @@ rising-next n i lt =
     let more : n - i ≡ suc (n - (i + 1)) = omega arith in
     let next : suc (i + 1) ≡ i + 1 + 1 = omega arith in
     ap (λ k. rising k (i + 1)) more ∙ ap (λ m. (i + 1) ∷ rising (n - (i + 1)) m) next
-
--- those of a set, where so many were looked at
-unfoldable pub members_from : Set → ℕ → List ℕ
-members_from set i = filter (is_member set.bits) (rising (64 - i) (i + 1))
-
-pub members-all : (set : Set) → members_from set 0 ≡ numbers_in set
-unfolding numbers_in members_from
-members-all set = refl
-
-pub members-next : (set : Set) (i : ℕ) → i < 64 → has (i + 1) (numbers_in set) ≡ true → members_from set i ≡ (i + 1) ∷ members_from set (i + 1)
-unfolding members_from
-members-next set i lt there =
-    let passes : is_member set.bits (i + 1) ≡ true = sym (has-inside set (i + 1) (omega arith) (omega arith)) ∙ there in
-    rw (rising-next 64 i lt, passes) refl
-
-pub members-pass : (set : Set) (i : ℕ) → i < 64 → has (i + 1) (numbers_in set) ≡ false → members_from set i ≡ members_from set (i + 1)
-unfolding members_from
-members-pass set i lt missing =
-    let fails : is_member set.bits (i + 1) ≡ false = sym (has-inside set (i + 1) (omega arith) (omega arith)) ∙ missing in
-    rw (rising-next 64 i lt, fails) refl
-
-pub members-none : (set : Set) → members_from set 64 ≡ []
-unfolding members_from
-members-none set = refl
 
 -- HOW MANY A SET HAS
 

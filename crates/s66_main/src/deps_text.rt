@@ -45,10 +45,9 @@ fn push_deps_line(
 fn push_set(out: &mut Vec<u8>, set: &Set) -> Result<(), AllocError>
     ensures { OnOk result (out.new.items ≡ out.old.items ++ spaced (numbers_in set.now)) }
 {
-    for position in 0..64u8 {
-        if set.has(position + 1) {
-            push_field(out, b" ", (position + 1) as usize)?;
-        }
+    let mut rest = *set;
+    while let Some(number) = rest.pop_first() {
+        push_field(out, b" ", number as usize)?;
     }
     Ok(())
 }
