@@ -40,7 +40,7 @@ CODE = [
     (DEP + "src/", token("there", "placed")),
     (DEP + "must-fail/", token("there", "placed")),
     (DEP + "proofs/(front|beginning)/", text(r"\bthere\b", "placed")),
-    (DEP + "proofs/dependences/", text(r"\bthere\b", "placed")),
+    (DEP + "proofs/dependences?/", text(r"\bthere\b", "placed")),
     (DEP, text(r"(?<=args\.)there\b", "placed")),
     (DEP, token("there", "prefix")),
     (MODEL, token("there", "prefix")),
