@@ -31,15 +31,12 @@ operator-few o =
     (λ e. either _ (o == 45) _ _ (λ e. lit≤ tt) (λ e. tt)))
 
 chosen-boolean : (i : ℕ) (text : List ℕ) → IfSome (boolean i text) (Chosen (choices Boolean) i)
-chosen-boolean i [] = tt
-chosen-boolean i (a ∷ []) = tt
 chosen-boolean i (a ∷ d ∷ []) = made IsDigit _ _ _ (digit-few 88 a d) (λ j few. (inl refl, refl, few, lit≤ tt))
 chosen-boolean i (s ∷ a ∷ d ∷ []) =
     either _ (s == 45) _ _
     (λ e. made IsDigit _ _ _ (digit-few 88 a d)
     (λ k few. (rising-among 8 0o10 0o14 (lit≤ tt) (lit≤ tt), refl, lit≤ tt, few)))
     (λ e. tt)
-chosen-boolean i (a ∷ b ∷ c ∷ d ∷ []) = tt
 chosen-boolean i (a ∷ d ∷ o ∷ c ∷ e ∷ []) =
     made (λ f. f ≤ 3) _ _ _ (operator-few o)
     (λ f least. made AreDigits _ _ _ (two-few a d c e)
@@ -50,7 +47,7 @@ chosen-boolean i (s ∷ a ∷ d ∷ o ∷ c ∷ e ∷ []) =
     (λ f least. made AreDigits _ _ _ (two-few a d c e)
     (λ r few. (rising-among 8 0o10 (0o14 + f) (omega arith) (omega (arith, least)), refl, few.1, few.0))))
     (λ minus. tt)
-chosen-boolean i (a ∷ b ∷ c ∷ d ∷ e ∷ f ∷ g ∷ more) = tt
+chosen-boolean i other = tt
 
 -- SHIFTS
 
@@ -91,11 +88,6 @@ arithmetic-among sum difference product quotient o =
 
 chosen-arithmetic : (sum difference : ℕ) (product quotient : Option ℕ) (i : ℕ) (text : List ℕ) →
     IfSome (arithmetic sum difference product quotient i text) (Chosen (choices (Arithmetic sum difference product quotient)) i)
-chosen-arithmetic sum difference product quotient i [] = tt
-chosen-arithmetic sum difference product quotient i (a ∷ []) = tt
-chosen-arithmetic sum difference product quotient i (a ∷ b ∷ []) = tt
-chosen-arithmetic sum difference product quotient i (a ∷ b ∷ c ∷ []) = tt
-chosen-arithmetic sum difference product quotient i (a ∷ b ∷ c ∷ d ∷ []) = tt
 chosen-arithmetic sum difference product quotient i (a ∷ d ∷ o ∷ c ∷ e ∷ []) =
     made (λ code. Among code (choices (Arithmetic sum difference product quotient))) _ _ _ (arithmetic-among sum difference product quotient o)
     (λ code among. made AreDigits _ _ _ (two-few a d c e) (λ r few. (among, refl, few.0, few.1)))
@@ -103,13 +95,11 @@ chosen-arithmetic sum difference product quotient i (s ∷ a ∷ d ∷ o ∷ c �
     either _ (s == 45 && o == 43) _ _
     (λ t. made AreDigits _ _ _ (two-few a d c e) (λ r few. (inr (inl refl), refl, few.1, few.0)))
     (λ t. tt)
-chosen-arithmetic sum difference product quotient i (a ∷ b ∷ c ∷ d ∷ e ∷ f ∷ g ∷ more) = tt
+chosen-arithmetic sum difference product quotient i other = tt
 
 chosen-population : (i : ℕ) (text : List ℕ) → IfSome (population i text) (Chosen (choices Population) i)
-chosen-population i [] = tt
-chosen-population i (a ∷ []) = tt
 chosen-population i (a ∷ d ∷ []) = made IsDigit _ _ _ (digit-few 88 a d) (λ k few. (inl refl, refl, lit≤ tt, few))
-chosen-population i (a ∷ b ∷ c ∷ more) = tt
+chosen-population i other = tt
 
 -- SET INSTRUCTIONS
 

@@ -54,10 +54,6 @@ two-insert i a d o c e =
     (λ t. either _ (is_some (b_digit a d)) _ _ (λ t. both-few a d c e) (λ t. both-few c e a d))
 
 pub b_and_x-few : (i : ℕ) (text : List ℕ) → i ≤ 7 → IfSome (b_and_x i text) AreDigits
-b_and_x-few i [] h = tt
-b_and_x-few i (a ∷ []) h = tt
 b_and_x-few i (a ∷ d ∷ []) h = two-alone i a d h
-b_and_x-few i (a ∷ b ∷ c ∷ []) h = tt
-b_and_x-few i (a ∷ b ∷ c ∷ d ∷ []) h = tt
 b_and_x-few i (a ∷ d ∷ o ∷ c ∷ e ∷ []) h = two-insert i a d o c e
-b_and_x-few i (a ∷ b ∷ c ∷ d ∷ e ∷ f ∷ more) h = tt
+b_and_x-few i other h = tt

@@ -73,14 +73,11 @@ abbrev Decoded : List ℕ → Syntax × ℕ → Type 0
 Decoded operation o = (o.1 ≤ 7) × ((n : Instr) → Chosen (choices o.0) o.1 n → CanMean operation n)
 
 class_of_operand : (operation : List ℕ) → IfSome (operation_of operation) (Decoded operation)
-class_of_operand [] = tt
-class_of_operand (p ∷ []) = tt
-class_of_operand (p ∷ q ∷ []) = tt
 class_of_operand (p ∷ q ∷ d ∷ []) =
     either _ (is_octal d) _ _
     (λ e. made (Listed p q) _ _ _ (all-listed p q) (λ syntax row. (octal-few d e, λ n h. can_mean p q d syntax n e row h)))
     (λ e. tt)
-class_of_operand (p ∷ q ∷ d ∷ e ∷ more) = tt
+class_of_operand other = tt
 
 meaning : (operation text : List ℕ) → IfSome (instr_of operation text) (CanMean operation)
 meaning operation text =

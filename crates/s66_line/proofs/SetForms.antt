@@ -10,15 +10,13 @@ Few [] = Unit {0}
 Few (r ∷ registers) = (r.2 ≤ 7) × Few registers
 
 register-few : (term : List ℕ) → IfSome (register_of term) (λ r. r.1 ≤ 7)
-register-few [] = tt
-register-few (a ∷ []) = tt
 register-few (a ∷ d ∷ []) =
     either _ (is_octal d) _ _
     (λ e. either _ (a == 65) _ _ (λ t. octal-few d e)
     (λ t. either _ (a == 66) _ _ (λ t. octal-few d e)
     (λ t. either _ (a == 88) _ _ (λ t. octal-few d e) (λ t. tt))))
     (λ e. tt)
-register-few (a ∷ b ∷ c ∷ more) = tt
+register-few other = tt
 
 Few-with_sign : (minus : Bool) (r : Option (Bank × ℕ)) (registers : List (Bool × Bank × ℕ)) → IfSome r (λ s. s.1 ≤ 7) → Few registers → Few (with_sign minus r ++ registers)
 Few-with_sign minus None registers h few = few
