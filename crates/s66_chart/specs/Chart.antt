@@ -1,5 +1,5 @@
 -- A timed order as a picture: a row for each instruction and for each NO between two of them, a column for each minor cycle.
-use Rattle.std.specs.Prelude.{ℕ, ◌+◌, ◌-◌, Bool, if◌then◌else◌, ◌&&◌, ◌==◌, not, List, [], ◌++◌, codes, decimal, flat_map, length, map, nat_lt, replicate}
+use Rattle.std.specs.Prelude.{ℕ, ◌+◌, ◌-◌, Bool, if◌then◌else◌, ◌&&◌, ◌==◌, not, List, [], ◌++◌, codes, decimal, flat_map, length, map, nat_le, nat_lt, replicate}
 use Rattle.std.specs.List.{range_with_len}
 use Rattle.s66_model.specs.Timing.{Point, latest_result, total_of}
 use Rattle.s66_isa.specs.Table.{latency_of}
@@ -13,22 +13,20 @@ use Rattle.s66_chart.specs.declared.activity.TheConstants.{ISSUES, WAITS, WORKS,
 abbrev pub activity : Point → Activity
 activity p = record { issue = p.issue; start = p.start; finish = p.start + latency_of p.row; done = latest_result p }
 
--- a NO issues after the parcels of the instruction before it, and does nothing more
+-- a NO issues after the parcels of the instruction before it, and is done
 abbrev pub filler_activity : Point → Activity
-filler_activity p = record { issue = p.issue + p.row.parcels; start = 0; finish = 0; done = 0 }
+filler_activity p =
+    let issue = p.issue + p.row.parcels in
+    record { issue = issue; start = issue; finish = issue; done = issue }
 
--- this letter in each minor cycle before the end, and from there on the others
-abbrev pub until : ℕ → ℕ → (ℕ → ℕ) → ℕ → ℕ
-until end letter others cycle = if nat_lt cycle end then letter else others cycle
-
--- the letter of each minor cycle
+-- the letter of a minor cycle: the first that fits
 abbrev pub letter : Activity → ℕ → ℕ
-letter a =
-    until a.issue IDLE
-    (until (a.issue + 1) ISSUES
-    (until a.start WAITS
-    (until a.finish WORKS
-    (until a.done WAITS_FOR_READERS (λ cycle. IDLE)))))
+letter a cycle =
+    if cycle == a.issue then ISSUES
+    else (if nat_lt a.issue cycle && nat_lt cycle a.start then WAITS
+    else (if nat_le a.start cycle && nat_lt cycle a.finish then WORKS
+    else (if nat_le a.finish cycle && nat_lt cycle a.done then WAITS_FOR_READERS
+    else IDLE)))
 
 -- THE ROWS
 

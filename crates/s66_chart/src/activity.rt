@@ -1,6 +1,7 @@
 ghost use Rattle.std.specs.Prelude.{◌≡◌, ◌<◌, length};
 ghost use Rattle.s66_time.specs.TimedOrder.{point_at};
 ghost use Rattle.s66_chart.specs.Chart.{activity, filler_activity};
+ghost use Rattle.s66_chart.specs.Runs.{IsInOrder};
 
 use s66_time::Timed;
 
@@ -34,7 +35,7 @@ impl Activity {
     pub fn of_instruction(timed: &Timed, position: usize) -> Activity
         requires { position < length timed.now.numbers }
         ensures value { result ≡ activity (point_at timed.now position) }
-        ensures early { result.issue < usize.MAX }
+        ensures in_order { IsInOrder result }
     {
         let times = timed.at(position);
         Activity {
@@ -45,17 +46,18 @@ impl Activity {
         }
     }
 
-    /// Of the `NO` after the instruction at a position: it does nothing once it has issued.
+    /// Of the `NO` after the instruction at a position: it is done as it issues.
     pub fn of_filler(timed: &Timed, position: usize) -> Activity
         requires { position < length timed.now.numbers }
         ensures value { result ≡ filler_activity (point_at timed.now position) }
-        ensures early { result.issue < usize.MAX }
+        ensures in_order { IsInOrder result }
     {
+        let issue = timed.at(position).issue as usize + timed.parcels(position) as usize;
         Activity {
-            issue: timed.at(position).issue as usize + timed.parcels(position) as usize,
-            start: 0,
-            finish: 0,
-            done: 0,
+            issue,
+            start: issue,
+            finish: issue,
+            done: issue,
         }
     }
 }

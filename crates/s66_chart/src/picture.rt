@@ -2,6 +2,7 @@ ghost use Rattle.std.specs.Prelude.{◌≡◌, ◌+◌, ◌-◌, ◌^◌, ◌<�
 ghost use Rattle.std.specs.Io.KnownBytes.{Appends};
 ghost use Rattle.s66_time.specs.declared.limits.TheConstants.{TOTAL_LIMIT};
 ghost use Rattle.s66_chart.specs.declared.row.TheConstants.{NAME_ROOM};
+ghost use Rattle.s66_chart.specs.Runs.{IsInOrder};
 ghost use Rattle.s66_chart.specs.Chart.{row_text, instruction_row, filler_row, has_filler, chart_text};
 
 use crate::activity::Activity;
@@ -20,7 +21,7 @@ fn write_row<S: Sink>(
 ) -> Result<(), WriteError>
     requires failures { S.failures writer.old < 2 ^ 64 - 1 }
     requires name { length name.now ≤ NAME_ROOM }
-    requires early { activity.now.issue < usize.MAX }
+    requires in_order { IsInOrder activity.now }
     requires cycles { cycles ≤ TOTAL_LIMIT }
     ensures ok { OnOk result (Appends (S.bytes writer.old) (S.bytes writer.new) (row_text name.now activity.now cycles)) }
     ensures same { OnOk result (S.failures writer.new ≡ S.failures writer.old) }

@@ -2,7 +2,8 @@ ghost use Rattle.std.specs.Prelude.{ℕ, ◌≡◌, ◌+◌, ◌<◌, ◌≤◌,
 ghost use Rattle.std.specs.List.{range_with_len};
 ghost use Rattle.s66_time.specs.declared.limits.TheConstants.{TOTAL_LIMIT};
 ghost use Rattle.s66_chart.specs.declared.row.TheConstants.{NAME_ROOM, ROW_FRAME};
-ghost use Rattle.s66_chart.specs.Chart.{until, letter, row_text};
+ghost use Rattle.s66_chart.specs.Chart.{letter, row_text};
+ghost use Rattle.s66_chart.specs.Runs.{until, IsInOrder};
 
 use crate::activity::{Activity, IDLE, ISSUES, WAITS, WAITS_FOR_READERS, WORKS};
 use s66_time::TOTAL_LIMIT;
@@ -37,7 +38,7 @@ fn fill_until(letters: &mut [u8], end: usize, letter: u8)
 /// Writes the letters of as many minor cycles as there is room for: a run of equal letters at once, the last run first, since each
 /// run is written over all that stands before its end.
 fn draw(letters: &mut [u8], activity: &Activity)
-    requires { activity.now.issue < usize.MAX }
+    requires { IsInOrder activity.now }
     ensures { letters.new ≡ map (letter activity.now) (range_with_len 0 (length letters.old)) }
 {
     letters.fill(IDLE);
@@ -52,7 +53,7 @@ fn draw(letters: &mut [u8], activity: &Activity)
 /// newline.
 pub fn draw_row(page: &mut [u8; ROW_LIMIT], name: &[u8], activity: &Activity, cycles: usize)
     requires name { length name.now ≤ NAME_ROOM }
-    requires early { activity.now.issue < usize.MAX }
+    requires in_order { IsInOrder activity.now }
     requires cycles { cycles ≤ TOTAL_LIMIT }
     ensures { take (cycles + ROW_FRAME) page.new ≡ row_text name.now activity.now cycles }
 {

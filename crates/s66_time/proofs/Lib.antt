@@ -4,4 +4,4 @@ pub mod Writes
 pub mod Free
 pub mod Points
 pub mod Kept
-pub mod Numbers
+pub mod Positions
