@@ -11,9 +11,13 @@ use std::process::Abort;
 use std::test::Fail;
 
 mod chart;
+mod codes;
 mod deps;
+mod devices;
+mod limits;
 mod lines;
 mod orders;
+mod program;
 mod trace;
 
 const TIME: Command = Command::Time { trace: false };
@@ -54,6 +58,32 @@ fn check_text<R: AllocGlobal + Abort>(
     let (result, written) = run(rt, command, source);
     assert_eq!(rt; result, Ok(Status::Done), "{name}");
     assert_eq!(rt; written.as_slice(), text.as_bytes(), "{name}");
+}
+
+/// The Adler-32 checksum of bytes.
+fn adler32(bytes: &[u8]) -> u32 {
+    let mut low = 1u32;
+    let mut high = 0u32;
+    for byte in bytes {
+        low = low.wrapping_add(*byte as u32) % 65521;
+        high = high.wrapping_add(low) % 65521;
+    }
+    high.wrapping_mul(65536).wrapping_add(low)
+}
+
+/// Checks how many bytes a command writes for a source, and their checksum.
+fn check_sum<R: AllocGlobal + Abort>(
+    rt: &R,
+    command: Command,
+    name: &str,
+    source: &[u8],
+    length: usize,
+    sum: u32,
+) {
+    let (result, written) = run(rt, command, source);
+    assert_eq!(rt; result, Ok(Status::Done), "{name}");
+    assert_eq!(rt; written.len(), length, "{name}");
+    assert_eq!(rt; adler32(written.as_slice()), sum, "{name}");
 }
 
 /// Checks what `time` writes for the lines of code.
