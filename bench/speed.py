@@ -1,77 +1,122 @@
 #!/usr/bin/env python3
-"""Measures `s66 time`, `deps` and `chart`: lines read and bytes written a second, and peak memory, over sources of 20,000 lines.
+"""Measures s66 over sources of 20,000 lines.
 
-    bench/speed.py [PROGRAM]
+    bench/speed.py [PROGRAM]                   time, lines and megabytes written a second, and peak memory
+    bench/speed.py --instructions [PROGRAM]    instructions a line, steady enough to show a regression of 1 in 100
 
-PROGRAM is the built program; without it, the one that `./s66` leaves when it has built it. Each source is run ten times
-and the best run counts. The sources are the same each time: a fixed seed makes them.
+PROGRAM is the built program; without it, the one that `./s66` leaves when it has built it. Of the times, the best of ten
+runs counts. Instructions are those of valgrind's callgrind less those of a run on an empty source. The sources are the
+same each time: a fixed seed makes them.
 """
+import argparse
+import fcntl
 import os
 import random
-import resource
+import re
 import subprocess
-import sys
 import tempfile
 import time
 
 LINES = 20_000
 RUNS = 10
 TOP = os.path.dirname(os.path.dirname(os.path.abspath(__file__)))
+PROGRAM = os.path.join(TOP, "crates/s66_main/out/s66_main")
 
-FORMS = [
+ALL = [
     "BX{i}    X{j}*X{k}", "BX{i}    -X{k}", "LX{i}    {k}", "AX{i}    B{j},X{k}", "NX{i}    B{j},X{k}",
     "UX{i}    B{j},X{k}", "FX{i}    X{j}+X{k}", "DX{i}    X{j}-X{k}", "IX{i}    X{j}+X{k}", "FX{i}    X{j}*X{k}",
     "RX{i}    X{j}/X{k}", "CX{i}    X{k}", "MX{i}    {k}", "SA{i}    A{j}+B{k}", "SA{i}    TABLE+{k}", "SB{i}    B{j}-B{k}",
     "SX{i}    X{j}+1", "SA{i}    B{j}+N",
 ]
+DIVIDES = ["FX{i}    X{j}/X{k}"]
 
 
-def instruction(rng):
-    digits = {name: rng.randrange(8) for name in "ijk"}
-    return rng.choice(FORMS).format(**digits)
-
-
-def source(rng, least, most):
-    """Lines of blocks of `least` to `most` instructions, with labels, remarks and comments."""
+def source(spellings, least, most, width=0):
+    """Lines of blocks of `least` to `most` instructions, with labels, remarks and comments; remarks fill lines to a width."""
+    rng = random.Random(6600)
     lines = []
     while len(lines) < LINES:
         for place in range(rng.randint(least, most)):
             label = "L%d" % rng.randrange(1000) if place == 0 and rng.random() < 0.3 else ""
             remark = "   LOAD THE NEXT WORD" if rng.random() < 0.3 else ""
-            lines.append("%-10s%s%s" % (label, instruction(rng), remark))
+            digits = {name: rng.randrange(8) for name in "ijk"}
+            line = "%-10s%s%s" % (label, rng.choice(spellings).format(**digits), remark)
+            lines.append((line + "  ").ljust(width, ".") if width else line)
             if rng.random() < 0.05:
                 lines.append("* A NOTE BETWEEN TWO INSTRUCTIONS")
         lines.append("          EQ     B1,B2,LOOP")
     return ("\n".join(lines[:LINES]) + "\n").encode()
 
 
-def measure(program, subcommand, path):
+BLOCKS = [("short blocks", source(ALL, 4, 16)), ("mixed blocks", source(ALL, 4, 64)), ("long blocks", source(ALL, 64, 64))]
+EXTREMES = [("divides", source(DIVIDES, 64, 64)), ("long lines", source(ALL, 4, 64, width=200))]
+
+
+def measured_time(words, text):
     """The seconds of the best run, and the bytes that it writes."""
     best = float("inf")
     for _ in range(RUNS):
-        with open(path, "rb") as text, tempfile.TemporaryFile() as out:
+        text.seek(0)
+        with tempfile.TemporaryFile() as out:
             begin = time.perf_counter()
-            subprocess.run([program, subcommand], stdin=text, stdout=out, check=True)
+            subprocess.run(words, stdin=text, stdout=out, check=True)
             best = min(best, time.perf_counter() - begin)
             size = os.fstat(out.fileno()).st_size
     return best, size
 
 
-def main():
-    program = sys.argv[1] if len(sys.argv) > 1 else os.path.join(TOP, "crates/s66_main/out/s66_main")
-    for name, least, most in [("short blocks", 4, 16), ("mixed blocks", 4, 64), ("long blocks", 64, 64)]:
-        text = source(random.Random(6600), least, most)
-        with tempfile.NamedTemporaryFile(suffix=".s66") as file:
+def peak_memory(words, text):
+    """The most bytes that the program itself held. It has built all its text when it first writes: there a full pipe stops
+    it, so that the kernel can be asked. (What a parent is told of an ended child counts the parent's own memory too.)"""
+    text.seek(0)
+    outlet, inlet = os.pipe()
+    os.write(inlet, bytes(fcntl.fcntl(inlet, fcntl.F_GETPIPE_SZ)))
+    with subprocess.Popen(words, stdin=text, stdout=inlet) as child, open(outlet, "rb") as out:
+        os.close(inlet)
+        status = ""
+        while "State:\tS" not in status:
+            if child.poll() is not None:
+                raise RuntimeError("the program wrote nothing")
+            with open("/proc/%d/status" % child.pid) as file:
+                status = file.read()
+        out.read()
+    return int(re.search(r"VmHWM:\s*(\d+) kB", status)[1]) * 1024
+
+
+def tell_speed(program):
+    for name, text in BLOCKS + EXTREMES:
+        with tempfile.TemporaryFile() as file:
             file.write(text)
-            file.flush()
-            for subcommand in ["time", "deps", "chart"]:
-                best, size = measure(program, subcommand, file.name)
+            for arguments in (["time"], ["time", "--trace"], ["deps"], ["chart"]):
+                words = [program] + arguments
+                best, size = measured_time(words, file)
                 print(
-                    "%s, %s: %d lines in %.1f ms, %.2f million lines a second, %.1f MB a second written"
-                    % (name, subcommand, LINES, best * 1e3, LINES / best / 1e6, size / best / 1e6)
+                    "%-13s %-13s %6.1f ms  %5.2f million lines/s  %6.1f MB/s written  %5.1f MB peak memory"
+                    % (name, " ".join(arguments), best * 1e3, LINES / best / 1e6, size / best / 1e6, peak_memory(words, file) / 1e6)
                 )
-    peak = resource.getrusage(resource.RUSAGE_CHILDREN).ru_maxrss
-    print("peak memory: %.1f MB" % (peak / 1024))
+
+
+def instructions(words, text):
+    """How many instructions the program runs on a text."""
+    valgrind = ["valgrind", "--tool=callgrind", "--callgrind-out-file=/dev/null"]
+    run = subprocess.run(valgrind + words, input=text, stdout=subprocess.DEVNULL, stderr=subprocess.PIPE, check=True)
+    return int(re.search(rb"Collected : (\d+)", run.stderr)[1])
+
+
+def tell_instructions(program):
+    for subcommand in ("time", "deps", "chart"):
+        words = [program, subcommand]
+        start = instructions(words, b"")
+        for name, text in BLOCKS:
+            print("%-13s %-13s %6.0f instructions a line" % (name, subcommand, (instructions(words, text) - start) / LINES))
+
+
+def main():
+    parser = argparse.ArgumentParser(description="Measures s66 over sources of 20,000 lines.")
+    parser.add_argument("--instructions", action="store_true", help="counts instructions under valgrind in place of seconds")
+    parser.add_argument("program", nargs="?", default=PROGRAM)
+    asked = parser.parse_args()
+    (tell_instructions if asked.instructions else tell_speed)(asked.program)
 
 
 if __name__ == "__main__":
