@@ -4,9 +4,9 @@
     bench/speed.py [PROGRAM]                   time, lines and megabytes written a second, and peak memory
     bench/speed.py --instructions [PROGRAM]    instructions a line, steady enough to show a regression of 1 in 100
 
-PROGRAM is the built program; without it, the one that `./s66` leaves when it has built it. Of the times, the best of ten
-runs counts. Instructions are those of valgrind's callgrind less those of a run on an empty source. The sources are the
-same each time: a fixed seed makes them.
+PROGRAM is the built program; without it, the one that `./s66` leaves when it has built it. Of the times, the best of
+ten runs counts. Instructions are those of valgrind's callgrind less those of a run on an empty source. The sources are
+the same each time: a fixed seed makes them.
 """
 import argparse
 import fcntl
@@ -25,14 +25,14 @@ PROGRAM = os.path.join(TOP, "crates/s66_main/out/s66_main")
 ALL = [
     "BX{i}    X{j}*X{k}", "BX{i}    -X{k}", "LX{i}    {k}", "AX{i}    B{j},X{k}", "NX{i}    B{j},X{k}",
     "UX{i}    B{j},X{k}", "FX{i}    X{j}+X{k}", "DX{i}    X{j}-X{k}", "IX{i}    X{j}+X{k}", "FX{i}    X{j}*X{k}",
-    "RX{i}    X{j}/X{k}", "CX{i}    X{k}", "MX{i}    {k}", "SA{i}    A{j}+B{k}", "SA{i}    TABLE+{k}", "SB{i}    B{j}-B{k}",
-    "SX{i}    X{j}+1", "SA{i}    B{j}+N",
+    "RX{i}    X{j}/X{k}", "CX{i}    X{k}", "MX{i}    {k}", "SA{i}    A{j}+B{k}", "SA{i}    TABLE+{k}",
+    "SB{i}    B{j}-B{k}", "SX{i}    X{j}+1", "SA{i}    B{j}+N",
 ]
 DIVIDES = ["FX{i}    X{j}/X{k}"]
 
 
 def source(spellings, least, most, width=0):
-    """Lines of blocks of `least` to `most` instructions, with labels, remarks and comments; remarks fill lines to a width."""
+    """Blocks of `least` to `most` instructions, with labels, remarks and comments; remarks fill lines to the width."""
     rng = random.Random(6600)
     lines = []
     while len(lines) < LINES:
@@ -48,8 +48,15 @@ def source(spellings, least, most, width=0):
     return ("\n".join(lines[:LINES]) + "\n").encode()
 
 
-BLOCKS = [("short blocks", source(ALL, 4, 16)), ("mixed blocks", source(ALL, 4, 64)), ("long blocks", source(ALL, 64, 64))]
-EXTREMES = [("divides", source(DIVIDES, 64, 64)), ("long lines", source(ALL, 4, 64, width=200))]
+BLOCKS = {
+    "short blocks": source(ALL, 4, 16),
+    "mixed blocks": source(ALL, 4, 64),
+    "long blocks": source(ALL, 64, 64),
+}
+EXTREMES = {
+    "divides": source(DIVIDES, 64, 64),
+    "long lines": source(ALL, 4, 64, width=200),
+}
 
 
 def measured_time(words, text):
@@ -66,8 +73,11 @@ def measured_time(words, text):
 
 
 def peak_memory(words, text):
-    """The most bytes that the program itself held. It has built all its text when it first writes: there a full pipe stops
-    it, so that the kernel can be asked. (What a parent is told of an ended child counts the parent's own memory too.)"""
+    """The most bytes that the program itself held.
+
+    It has built all its text when it first writes: there a full pipe stops it, so that the kernel can be asked. (What a
+    parent is told of a child that has ended counts the parent's own memory too.)
+    """
     text.seek(0)
     outlet, inlet = os.pipe()
     os.write(inlet, bytes(fcntl.fcntl(inlet, fcntl.F_GETPIPE_SZ)))
@@ -84,22 +94,23 @@ def peak_memory(words, text):
 
 
 def tell_speed(program):
-    for name, text in BLOCKS + EXTREMES:
+    for name, text in (BLOCKS | EXTREMES).items():
         with tempfile.TemporaryFile() as file:
             file.write(text)
-            for arguments in (["time"], ["time", "--trace"], ["deps"], ["chart"]):
-                words = [program] + arguments
+            for subcommand in ("time", "time --trace", "deps", "chart"):
+                words = [program] + subcommand.split()
                 best, size = measured_time(words, file)
+                peak = peak_memory(words, file)
                 print(
                     "%-13s %-13s %6.1f ms  %5.2f million lines/s  %6.1f MB/s written  %5.1f MB peak memory"
-                    % (name, " ".join(arguments), best * 1e3, LINES / best / 1e6, size / best / 1e6, peak_memory(words, file) / 1e6)
+                    % (name, subcommand, best * 1e3, LINES / best / 1e6, size / best / 1e6, peak / 1e6)
                 )
 
 
 def instructions(words, text):
     """How many instructions the program runs on a text."""
     valgrind = ["valgrind", "--tool=callgrind", "--callgrind-out-file=/dev/null"]
-    run = subprocess.run(valgrind + words, input=text, stdout=subprocess.DEVNULL, stderr=subprocess.PIPE, check=True)
+    run = subprocess.run(valgrind + words, input=text, capture_output=True, check=True)
     return int(re.search(rb"Collected : (\d+)", run.stderr)[1])
 
 
@@ -107,13 +118,14 @@ def tell_instructions(program):
     for subcommand in ("time", "deps", "chart"):
         words = [program, subcommand]
         start = instructions(words, b"")
-        for name, text in BLOCKS:
-            print("%-13s %-13s %6.0f instructions a line" % (name, subcommand, (instructions(words, text) - start) / LINES))
+        for name, text in BLOCKS.items():
+            a_line = (instructions(words, text) - start) / LINES
+            print("%-13s %-13s %6.0f instructions a line" % (name, subcommand, a_line))
 
 
 def main():
     parser = argparse.ArgumentParser(description="Measures s66 over sources of 20,000 lines.")
-    parser.add_argument("--instructions", action="store_true", help="counts instructions under valgrind in place of seconds")
+    parser.add_argument("--instructions", action="store_true", help="counts instructions, under valgrind")
     parser.add_argument("program", nargs="?", default=PROGRAM)
     asked = parser.parse_args()
     (tell_instructions if asked.instructions else tell_speed)(asked.program)
