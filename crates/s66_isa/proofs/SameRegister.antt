@@ -1,5 +1,5 @@
 -- Registers that the tests call the same are the same, and which stand in a list.
-use Rattle.std.proofs.Common.{ℕ, zero, suc, ◌≤◌, ◌≡◌, Bool, true, false, true≢false, cond, ◌||◌, List, [], ◌∷◌, ◌++◌, refl, sym, ap, arith, inl, inr, eqb, ◌∙◌, subst}
+use Rattle.std.proofs.Common.{ℕ, zero, suc, ◌≤◌, ◌≡◌, Bool, true, false, true≢false, cond, ◌||◌, List, [], ◌∷◌, ◌++◌, refl, sym, ap, arith, inl, inr, eqb, ◌∙◌}
 use Rattle.std.proofs.lemmas.Bool.{cases_Bool, or_cases, or_left, or_right, and_parts, and_from, eqb-true, eq-eqb}
 use Rattle.std.proofs.Math.Bool.{or_assoc, or-false}
 use Rattle.s66_isa.specs.declared.reg.Bank.{Bank}
@@ -29,8 +29,11 @@ pub same_reg-self : (r : Reg) → same_reg r r ≡ true
 same_reg-self r =
     and_from (eqb (bank_number r.bank) (bank_number r.bank)) (eqb r.digit r.digit) (eq-eqb (bank_number r.bank) (bank_number r.bank) refl) (eq-eqb r.digit r.digit refl)
 
-pub same_reg-turned : (r s : Reg) → same_reg r s ≡ true → same_reg s r ≡ true
-same_reg-turned r s h = subst (λ (x : Reg). same_reg x r ≡ true) (same_reg-true r s h) (same_reg-self r)
+eqb-sym : (a b : ℕ) → eqb a b ≡ eqb b a
+eqb-sym a b = grind arith
+
+pub same_reg-sym : (r s : Reg) → same_reg r s ≡ same_reg s r
+same_reg-sym r s = rw (eqb-sym (bank_number r.bank) (bank_number s.bank), eqb-sym r.digit s.digit) refl
 
 -- f of a register of a list is at most the greatest f of the list
 pub has_reg-le : (f : Reg → ℕ) (r : Reg) (rs : List Reg) → has_reg r rs ≡ true → f r ≤ greatest f rs
@@ -46,29 +49,16 @@ pub has_reg-from : (r : Reg) (rs : List Reg) → some_of (λ (s : Reg). same_reg
 has_reg-from r [] h = absurd cc
 has_reg-from r (s ∷ rs) h =
     elim (or_cases (same_reg s r) (some_of (λ (x : Reg). same_reg x r) rs) h) [
-      | inl here ↦ or_left (same_reg r s) (has_reg r rs) (same_reg-turned s r here)
+      | inl here ↦ or_left (same_reg r s) (has_reg r rs) (same_reg-sym r s ∙ here)
       | inr past ↦ or_right (same_reg r s) (has_reg r rs) (has_reg-from r rs past)
     ]
 
--- WHICH ARE THE SAME
-
-eqb-sym : (a b : ℕ) → eqb a b ≡ eqb b a
-eqb-sym a b = grind arith
-
-pub same_reg-sym : (r s : Reg) → same_reg r s ≡ same_reg s r
-same_reg-sym r s = rw (eqb-sym (bank_number r.bank) (bank_number s.bank), eqb-sym r.digit s.digit) refl
-
 -- registers that are the same are the same as the same others, and stand in the same sets
 same_reg-at : (r s : Reg) → same_reg r s ≡ true → (q : Reg) → same_reg r q ≡ same_reg s q
-same_reg-at r s h q =
-    let same = and_parts (eqb (bank_number r.bank) (bank_number s.bank)) (eqb r.digit s.digit) h in
-    let banks : bank_number r.bank ≡ bank_number s.bank = eqb-true (bank_number r.bank) (bank_number s.bank) same.0 in
-    let digits : r.digit ≡ s.digit = eqb-true r.digit s.digit same.1 in
-    rw (banks, digits) refl
+same_reg-at r s h q = ap (λ (x : Reg). same_reg x q) (same_reg-true r s h)
 
 pub has_reg-at : (r s : Reg) → same_reg r s ≡ true → (set : List Reg) → has_reg r set ≡ has_reg s set
-has_reg-at r s h [] = refl
-has_reg-at r s h (q ∷ qs) = rw (same_reg-at r s h q, has_reg-at r s h qs) refl
+has_reg-at r s h set = ap (λ (x : Reg). has_reg x set) (same_reg-true r s h)
 
 -- WHICH STAND IN A SET
 

@@ -4,7 +4,7 @@ use Rattle.std.proofs.lemmas.Option.{IfSome_then}
 use Rattle.s66_isa.specs.declared.instr.Instr.{Instr}
 use Rattle.s66_isa.specs.declared.reg.Bank.{Bank}
 use Rattle.s66_isa.specs.declared.reg.Bank.TheVariants.{A, B, X}
-use Rattle.s66_isa.specs.Lists.{Among, rising}
+use Rattle.s66_isa.specs.Lists.{Among}
 use Rattle.s66_isa.proofs.Lists.{rising-among}
 use Rattle.s66_line.specs.Operand.{spelled, boolean_operator, boolean, b_and_x, is_expression, shift, normalise, mask, arithmetic_code, arithmetic, population, terms_of, are_terms, set_code, set, decode}
 use Rattle.s66_line.specs.Choices.{at_most_one, choices}
