@@ -1,5 +1,4 @@
 pub mod CommandLine
-pub mod Consumed
 pub mod Dependences
 pub mod Flags
 pub mod Named
