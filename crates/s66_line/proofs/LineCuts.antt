@@ -7,7 +7,7 @@ use Rattle.memchr.specs.Find.{IsFirstByte, is_byte}
 use Rattle.s66_line.specs.Fields.{last_line, lines_from}
 use Rattle.s66_line.specs.Reader.{State, Steps, line_step, lines_step, and_then}
 use Rattle.s66_line.specs.declared.error.SourceError.{SourceError}
-use Rattle.s66_line.specs.declared.error.SourceError.TheVariants.{BadOperand, LineTooLong, TooLarge, OutOfMemory}
+use Rattle.s66_line.specs.declared.error.SourceError.TheVariants.{OutOfMemory}
 
 -- the first newline of these bytes
 abbrev pub IsFirstNewline : List ℕ → Option ℕ → Type 0
@@ -56,9 +56,7 @@ lines_step-found s t bytes k whole first made same =
 -- a line's refusal is that of all
 Steps-line : (e : SourceError) (s new any : State) (line : List ℕ) (lines : List (List ℕ)) (whole : Result State SourceError) → Steps new (Err e) (line_step s line) → lines_step s (line ∷ lines) ≡ whole → Steps any (Err e) whole
 Steps-line OutOfMemory s new any line lines whole h same = tt
-Steps-line (BadOperand n) s new any line lines whole h same = sym same ∙ ap (λ r. and_then r (λ t. lines_step t lines)) h
-Steps-line (LineTooLong n) s new any line lines whole h same = sym same ∙ ap (λ r. and_then r (λ t. lines_step t lines)) h
-Steps-line TooLarge s new any line lines whole h same = sym same ∙ ap (λ r. and_then r (λ t. lines_step t lines)) h
+Steps-line e s new any line lines whole h same = sym same ∙ ap (λ r. and_then r (λ t. lines_step t lines)) h
 
 pub Steps-found : (e : SourceError) (s new any : State) (bytes : List ℕ) (k : ℕ) (whole : Result State SourceError) → IsFirstNewline bytes (Some k) →
     Steps new (Err e) (line_step s (take k bytes)) → lines_step s (lines_from [] bytes) ≡ whole → Steps any (Err e) whole

@@ -1,29 +1,21 @@
 -- What is too short or too long for a name is none.
-use Rattle.std.proofs.Common.{◌≡◌, ◌≤◌, ◌<◌, ℕ, false, List, [], ◌∷◌, length, None, refl, arith}
+use Rattle.std.proofs.Common.{◌≡◌, ◌≤◌, ◌<◌, ℕ, false, List, ◌∷◌, length, None, refl, arith}
 use Rattle.s66_line.specs.Fields.{upper}
 use Rattle.s66_line.specs.Operand.{operation_of}
 use Rattle.s66_line.specs.Source.{is_pad}
 
 pub is_pad_short : (word : List ℕ) → length word < 2 → false ≡ is_pad (upper word)
-is_pad_short [] h = refl
-is_pad_short (n ∷ []) h = refl
 is_pad_short (n ∷ o ∷ more) h = absurd (omega (arith, h))
+is_pad_short other h = refl
 
 pub is_pad_long : (word : List ℕ) → 3 ≤ length word → false ≡ is_pad (upper word)
-is_pad_long [] h = absurd (omega (arith, h))
-is_pad_long (n ∷ []) h = absurd (omega (arith, h))
-is_pad_long (n ∷ o ∷ []) h = absurd (omega (arith, h))
 is_pad_long (n ∷ o ∷ p ∷ more) h = refl
+is_pad_long other h = absurd (omega (arith, h))
 
 pub operation_of_short : (word : List ℕ) → length word < 3 → None ≡ operation_of (upper word)
-operation_of_short [] h = refl
-operation_of_short (p ∷ []) h = refl
-operation_of_short (p ∷ q ∷ []) h = refl
 operation_of_short (p ∷ q ∷ d ∷ more) h = absurd (omega (arith, h))
+operation_of_short other h = refl
 
 pub operation_of_long : (word : List ℕ) → 4 ≤ length word → None ≡ operation_of (upper word)
-operation_of_long [] h = absurd (omega (arith, h))
-operation_of_long (p ∷ []) h = absurd (omega (arith, h))
-operation_of_long (p ∷ q ∷ []) h = absurd (omega (arith, h))
-operation_of_long (p ∷ q ∷ d ∷ []) h = absurd (omega (arith, h))
 operation_of_long (p ∷ q ∷ d ∷ e ∷ more) h = refl
+operation_of_long other h = absurd (omega (arith, h))

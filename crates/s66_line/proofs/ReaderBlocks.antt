@@ -15,7 +15,7 @@ use Rattle.s66_line.specs.Reader.{State, Steps, start, end_block, with_open, cou
 use Rattle.s66_line.specs.declared.class.Class.{Class}
 use Rattle.s66_line.specs.declared.class.Class.TheVariants.{Comment, Other, Refused, Pad, Instruction}
 use Rattle.s66_line.specs.declared.error.SourceError.{SourceError}
-use Rattle.s66_line.specs.declared.error.SourceError.TheVariants.{BadOperand, LineTooLong, TooLarge, OutOfMemory}
+use Rattle.s66_line.specs.declared.error.SourceError.TheVariants.{LineTooLong, TooLarge, OutOfMemory}
 
 -- the lines from one on, of this class
 abbrev from_class : ℕ → ℕ → ℕ → List ℕ → Class → List ℕ → List (List ℕ) → List Line
@@ -283,9 +283,5 @@ Gives-accepted text blocks h = accepted-blocks (refusal (classed_lines text)) (b
 -- the refusal
 pub Gives-refusal : {X : Type 0} (view : X → List Block) (e : SourceError) (text : List ℕ) (s new : State) → s ≡ start → Steps new (Err e) (lines_step s (lines_of text)) → Gives view (Err e) (source_of text)
 Gives-refusal view OutOfMemory text s new begin_run read = tt
-Gives-refusal view (BadOperand n) text s new begin_run read =
-    sym (read_from-start text) ∙ ap (λ u. read_from u (lines_of text)) (sym begin_run) ∙ ap (λ made. and_then made (λ u. Ok (with_open u.blocks u.label u.entries))) read
-Gives-refusal view (LineTooLong n) text s new begin_run read =
-    sym (read_from-start text) ∙ ap (λ u. read_from u (lines_of text)) (sym begin_run) ∙ ap (λ made. and_then made (λ u. Ok (with_open u.blocks u.label u.entries))) read
-Gives-refusal view TooLarge text s new begin_run read =
+Gives-refusal view e text s new begin_run read =
     sym (read_from-start text) ∙ ap (λ u. read_from u (lines_of text)) (sym begin_run) ∙ ap (λ made. and_then made (λ u. Ok (with_open u.blocks u.label u.entries))) read

@@ -84,6 +84,4 @@ read_from s lines = and_then (lines_step s lines) (λ t. Ok (with_open t.blocks 
 abbrev pub Steps : State → Result (Unit {0}) SourceError → Result State SourceError → Type 0
 Steps new (Ok u) made = made ≡ Ok new
 Steps new (Err OutOfMemory) made = Unit {0}
-Steps new (Err (BadOperand line)) made = made ≡ Err (BadOperand line)
-Steps new (Err (LineTooLong line)) made = made ≡ Err (LineTooLong line)
-Steps new (Err TooLarge) made = made ≡ Err TooLarge
+Steps new (Err e) made = made ≡ Err e
