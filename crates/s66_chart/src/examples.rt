@@ -3,7 +3,8 @@
 
 ghost use Rattle.std.specs.Prelude.{List, [], ◌∷◌, ◌≡◌, ◌++◌, codes};
 ghost use Rattle.s66_isa.specs.declared.instr.Instr.{Instr};
-ghost use Rattle.s66_model.specs.Examples.{instr, standard_problem, one_load, packing_gap, third_order, held_load};
+ghost use Rattle.s66_isa.specs.Table.{instr};
+ghost use Rattle.s66_model.specs.Examples.{standard_problem, one_load, packing_gap, third_order, held_load};
 ghost use Rattle.s66_chart.specs.Chart.{chart_text};
 
 /// Each block in the order in which it is written: an instruction that waits for a load, a `NO`, also after an instruction of two

@@ -30,6 +30,7 @@ pub record Instr : Type 0 where
   pub j : ℕ
   pub k : ℕ
 
+-- by its octal code and its digits
 abbrev pub instr : ℕ → ℕ → ℕ → ℕ → Instr
 instr code i j k = record { op = record { code = code }; i = i; j = j; k = k }
 

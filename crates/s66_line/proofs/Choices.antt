@@ -6,7 +6,8 @@ use Rattle.s66_isa.specs.declared.reg.Bank.{Bank}
 use Rattle.s66_isa.specs.declared.reg.Bank.TheVariants.{A, B, X}
 use Rattle.s66_isa.specs.Lists.{Among}
 use Rattle.s66_isa.proofs.Lists.{rising-among}
-use Rattle.s66_line.specs.Operand.{spelled, boolean_operator, boolean, b_and_x, is_expression, shift, normalise, mask, arithmetic_code, arithmetic, population, terms_of, are_terms, set_code, set, decode}
+use Rattle.s66_isa.specs.Table.{instr}
+use Rattle.s66_line.specs.Operand.{boolean_operator, boolean, b_and_x, is_expression, shift, normalise, mask, arithmetic_code, arithmetic, population, terms_of, are_terms, set_code, set, decode}
 use Rattle.s66_line.specs.Choices.{at_most_one, choices}
 use Rattle.s66_line.specs.declared.operand.operation.Syntax.{Syntax}
 use Rattle.s66_line.specs.declared.operand.operation.Syntax.TheVariants.{Boolean, Shift, Normalise, Arithmetic, Mask, Population, Set}
@@ -52,7 +53,7 @@ chosen-boolean i other = tt
 -- SHIFTS
 
 -- an instruction of these two digits
-chosen-two : (meanings : List ℕ) (code i : ℕ) (text : List ℕ) → i ≤ 7 → Among code meanings → IfSome (option_and_then (λ r. Some (spelled code i r.0 r.1)) (b_and_x i text)) (Chosen meanings i)
+chosen-two : (meanings : List ℕ) (code i : ℕ) (text : List ℕ) → i ≤ 7 → Among code meanings → IfSome (option_and_then (λ r. Some (instr code i r.0 r.1)) (b_and_x i text)) (Chosen meanings i)
 chosen-two meanings code i text h among = made AreDigits _ _ _ (b_and_x-few i text h) (λ r few. (among, refl, few.0, few.1))
 
 chosen-shift : (by_constant by_register i : ℕ) (text : List ℕ) → i ≤ 7 → IfSome (shift by_constant by_register i text) (Chosen (by_constant ∷ by_register ∷ []) i)

@@ -7,7 +7,7 @@ use Rattle.s66_isa.specs.declared.instr.Kind.TheVariants.{Boolean, Multiply}
 use Rattle.s66_isa.specs.declared.instr.Memory.{Memory}
 use Rattle.s66_isa.specs.declared.reg.Reg.{Reg}
 use Rattle.s66_isa.specs.declared.profile.Profile.{Profile}
-use Rattle.s66_isa.specs.Table.{Row, Write, standard, a_reg, b_reg, all_kinds, reads_of, results_of, memory_of, memory_pair}
+use Rattle.s66_isa.specs.Table.{instr, Row, Write, standard, a_reg, b_reg, all_kinds, reads_of, results_of, memory_of, memory_pair}
 use Rattle.s66_model.specs.Packing.{parcels_from, fillers, len_at}
 use Rattle.s66_model.specs.Dependence.{share}
 use Rattle.s66_model.specs.Meaning.{Term, Initial, Computed, Terms, NoTerms, Then, Storage, meaning}
@@ -17,10 +17,6 @@ use Rattle.s66_model.specs.Tree.{Tree, Parted, Kids, NoMore, Unsplit, Split}
 use Rattle.s66_model.specs.Answer.{Answer}
 use Rattle.s66_model.specs.Piece.{Tip, Carries, Frontier}
 use Rattle.s66_model.specs.Ledger.{State, Open, Out, Cut, Closed, Node, Ledger, Event, Grant, Claim, Graft, Offer, Reply, Granted, Claimed, Taken, NotOut, NotLower, Step, Run}
-
--- an instruction by its octal code and its digits, 0 where its form has none
-abbrev pub instr : ℕ → ℕ → ℕ → ℕ → Instr
-instr code i j k = record { op = record { code = code }; i = i; j = j; k = k }
 
 abbrev pub standard_problem : List Instr → Problem
 standard_problem block = record { block = block; profile = standard }

@@ -1,6 +1,5 @@
 ghost use Rattle.std.specs.Prelude.{◌≡◌, ◌≤◌};
-ghost use Rattle.s66_isa.specs.Table.{IsCode};
-ghost use Rattle.s66_line.specs.Operand.{spelled};
+ghost use Rattle.s66_isa.specs.Table.{IsCode, instr};
 
 use s66_isa::{Instr, Op};
 use std::marker::Model;
@@ -27,7 +26,7 @@ impl Model for Encoding {
 
 impl Encoding {
     pub(crate) fn new(code: u8, i: u8, j: u8, k: u8) -> Encoding
-        ensures { result ≡ spelled code i j k }
+        ensures { result ≡ instr code i j k }
     {
         Encoding { code, i, j, k }
     }
