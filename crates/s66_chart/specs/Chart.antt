@@ -6,6 +6,8 @@ use Rattle.s66_isa.specs.Table.{latency_of}
 use Rattle.s66_time.specs.TimedOrder.{TimedOrder, point_at}
 use Rattle.s66_chart.specs.declared.activity.Activity.{Activity}
 use Rattle.s66_chart.specs.declared.activity.TheConstants.{ISSUES, WAITS, WORKS, WAITS_FOR_READERS, IDLE}
+-- the examples open it, to compute numbers
+unfoldable pub use Rattle.std.specs.Fmt.{digits}
 
 -- WHAT A ROW SHOWS
 

@@ -6,7 +6,8 @@ use Rattle.s66_isa.specs.Table.{parcels_of, numbers}
 use Rattle.s66_model.specs.Packing.{fillers, len_at}
 use Rattle.s66_line.specs.Block.{instrs_of}
 use Rattle.s66_line.specs.Source.{Block}
-use Rattle.s66_time.specs.TimedOrder.{TimedOrder, point_at, latest_result}
+use Rattle.s66_model.specs.Timing.{latest_result}
+use Rattle.s66_time.specs.TimedOrder.{TimedOrder, point_at}
 use Rattle.s66_main.specs.AsWritten.{as_written, total_time}
 use Rattle.s66_main.specs.BlockHead.{block_head}
 
