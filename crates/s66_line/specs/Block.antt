@@ -1,4 +1,4 @@
--- What a block shows, by the numbers of its instructions, from 1.
+-- To be believed: what a block shows, by the numbers of its instructions, from 1.
 use Rattle.std.specs.Prelude.{ℕ, zero, suc, List, [], map, Option, None, Some, slice_get}
 use Rattle.s66_isa.specs.declared.instr.Instr.{Instr}
 use Rattle.s66_isa.specs.Table.{instr_at}

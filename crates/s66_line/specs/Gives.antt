@@ -1,4 +1,4 @@
--- What a call that may want memory gives.
+-- To be believed: what a call that may want memory gives.
 use Rattle.std.specs.Prelude.{◌≡◌, Result, Ok, Err}
 use Rattle.s66_line.specs.declared.error.SourceError.{SourceError}
 use Rattle.s66_line.specs.declared.error.SourceError.TheVariants.{OutOfMemory}

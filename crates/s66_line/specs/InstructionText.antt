@@ -1,4 +1,4 @@
--- The text of an instruction.
+-- To be believed: what the text of an instruction is.
 use Rattle.std.specs.Prelude.{◌≡◌, ◌≤◌, ℕ, List, [], ◌∷◌, ◌++◌, Some, length}
 use Rattle.s66_isa.specs.declared.instr.Instr.{Instr}
 use Rattle.s66_line.specs.declared.limits.TheConstants.{TEXT_LIMIT}

@@ -1,4 +1,4 @@
--- How the instruction lines of a source are cut into blocks, said without the way in which it is done; the runs are those of the lines.
+-- To be believed: how the instruction lines of a source are cut into blocks, said without the way in which it is done; the runs are those of the lines.
 use Rattle.std.specs.Prelude.{◌≡◌, ◌≤◌, List, [], ◌∷◌, ◌++◌, length}
 use Rattle.s66_isa.specs.Lists.{Among}
 use Rattle.s66_line.specs.Source.{Line, instructions}

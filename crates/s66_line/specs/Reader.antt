@@ -1,4 +1,4 @@
--- A source read line by line: the blocks so far, and the instructions of the open one.
+-- Used by contracts within the crate alone: a source read line by line: the blocks so far, and the instructions of the open one.
 use Rattle.std.specs.Prelude.{◌≡◌, ◌==◌, if◌then◌else◌, ℕ, suc, Bool, true, false, List, [], ◌∷◌, ◌++◌, Result, Ok, Err, nat_lt, nat_le, length}
 use Rattle.s66_isa.specs.declared.instr.Instr.{Instr}
 use Rattle.s66_line.specs.Fields.{body, from_operation, label_bytes}

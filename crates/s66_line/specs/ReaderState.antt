@@ -1,4 +1,4 @@
--- What a reader shows.
+-- Used by contracts within the crate alone: what a reader shows.
 use Rattle.s66_line.specs.declared.reader.Reader.{Reader}
 use Rattle.s66_line.specs.Reader.{State}
 

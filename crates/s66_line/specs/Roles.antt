@@ -1,4 +1,4 @@
--- What becomes of each line of a source when its blocks are printed in another order.
+-- To be believed: what becomes of each line of a source when its blocks are printed in another order.
 use Rattle.std.specs.Prelude.{◌&&◌, ◌||◌, ◌==◌, not, codes, ◌++◌, ℕ, Bool, true, false, List, [], ◌∷◌, length, map, nat_lt}
 use Rattle.std.specs.List.{filter}
 use Rattle.s66_isa.specs.Lists.{some_of}

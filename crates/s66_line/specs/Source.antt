@@ -1,4 +1,4 @@
--- The classes of lines, the blocks of a source, and its least refused line.
+-- To be believed: the classes of lines, the blocks of a source, and its least refused line.
 use Rattle.std.specs.Prelude.{◌&&◌, ◌==◌, if◌then◌else◌, ℕ, suc, Bool, true, false, List, [], ◌∷◌, ◌%◌, Option, None, Some, Result, Ok, Err, nat_lt, length, map, is_some}
 use Rattle.std.specs.List.{filter}
 use Rattle.s66_isa.specs.declared.instr.Instr.{Instr}

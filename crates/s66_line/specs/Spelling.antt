@@ -1,4 +1,4 @@
--- What the letters of an operation can mean, as the manual lists it, and a spelling of each octal code.
+-- To be believed: what the letters of an operation can mean, as the manual lists it, and a spelling of each octal code.
 use Rattle.std.specs.Prelude.{◌≡◌, ◌≤◌, ◌+◌, ℕ, List, [], ◌∷◌, ◌++◌, codes, map, Result, Ok, Err}
 use Rattle.s66_isa.specs.declared.instr.Instr.{Instr}
 use Rattle.s66_isa.specs.Lists.{Among, rising}
