@@ -1,4 +1,4 @@
--- A timed order as a picture: a row for each instruction and for each NO between two of them, a column for each minor cycle.
+-- To be believed: a timed order as a picture: a row for each instruction and for each NO between two of them, a column for each minor cycle.
 use Rattle.std.specs.Prelude.{ℕ, ◌+◌, ◌-◌, Bool, if◌then◌else◌, ◌&&◌, ◌==◌, not, List, [], ◌++◌, codes, decimal, flat_map, length, map, nat_le, nat_lt, replicate}
 use Rattle.std.specs.List.{range_with_len}
 use Rattle.s66_model.specs.Timing.{Point, latest_result, total_of}

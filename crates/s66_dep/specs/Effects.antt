@@ -1,4 +1,4 @@
--- What is kept of an instruction, in words, to tell its dependences.
+-- Used by contracts within the crate alone: what is kept of an instruction, in words, to tell its dependences.
 use Rattle.std.specs.Prelude.{ℕ, ◌+◌, ◌<◌, ◌≡◌, ◌||◌, Bool, List, length, get_or}
 use Rattle.s66_isa.specs.Table.{Reg, Instr, has_reg, reads_of, results_of, memory_of, memory_pair, instr_at}
 use Rattle.s66_isa.specs.Registers.{registers_in}

@@ -1,4 +1,4 @@
--- A set of registers in one word: a register is there where the bit of its index is set.
+-- Used by contracts: a set of registers in one word: a register is there where the bit of its index is set.
 use Rattle.std.specs.Prelude.{ℕ, ◌+◌, ◌*◌, ◌/◌, ◌^◌, ◌==◌, Bool, List, ◌++◌, map}
 use Rattle.std.specs.List.{filter}
 use Rattle.std.specs.Int.Bits.{bit_and}

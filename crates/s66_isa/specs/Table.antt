@@ -1,4 +1,4 @@
--- The table of instructions and the standard profile: CDC 6400/6500/6600 Computer Systems Reference Manual, publication 60100000, registers, instruction forms and functional units. The execution times are this project's.
+-- To be believed: the table of instructions and the standard profile: CDC 6400/6500/6600 Computer Systems Reference Manual, publication 60100000, registers, instruction forms and functional units. The execution times are this project's.
 use Rattle.std.specs.Prelude.{◌&&◌, ◌||◌, ◌==◌, if◌then◌else◌, ℕ, zero, suc, Bool, true, false, List, [], ◌∷◌, ◌++◌, ◌%◌, ◌≤◌, ◌≢◌, nat_le, nat_lt, map, get_or, length}
 use Rattle.std.proofs.Common.{lit≤}
 use Rattle.s66_isa.specs.Lists.{greatest, rising}

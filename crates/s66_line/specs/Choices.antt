@@ -1,4 +1,4 @@
--- The octal codes from which an operand chooses, by the syntax of its operation.
+-- Used by contracts within the crate alone: the octal codes from which an operand chooses, by the syntax of its operation.
 use Rattle.std.specs.Prelude.{ℕ, List, [], ◌∷◌, ◌++◌, Option, None, Some}
 use Rattle.s66_isa.specs.Lists.{Among, rising}
 use Rattle.s66_isa.specs.Table.{IsCode}

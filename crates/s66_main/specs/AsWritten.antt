@@ -1,4 +1,4 @@
--- A block in the order in which it was written, under the standard profile.
+-- To be believed: a block in the order in which it was written, under the standard profile.
 use Rattle.std.specs.Prelude.{ℕ, List}
 use Rattle.s66_isa.specs.declared.instr.Instr.{Instr}
 use Rattle.s66_isa.specs.Table.{numbers, standard}

@@ -1,4 +1,4 @@
--- How the first line of a block begins, whatever the command.
+-- To be believed: how the first line of a block begins, whatever the command.
 use Rattle.std.specs.Prelude.{ℕ, List, ◌++◌, codes, decimal}
 use Rattle.s66_line.specs.Block.{line_of}
 use Rattle.s66_line.specs.Source.{Block}

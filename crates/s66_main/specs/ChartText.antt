@@ -1,4 +1,4 @@
--- What `chart` writes of a block: a line, and the chart of the block as it was written.
+-- To be believed: what `chart` writes of a block: a line, and the chart of the block as it was written.
 use Rattle.std.specs.Prelude.{ℕ, List, ◌++◌, codes, decimal}
 use Rattle.s66_chart.specs.Chart.{chart_text}
 use Rattle.s66_line.specs.Block.{instrs_of}

@@ -1,4 +1,4 @@
--- What `deps` writes of a block: a line, and a line for each instruction that depends on some.
+-- To be believed: what `deps` writes of a block: a line, and a line for each instruction that depends on some.
 use Rattle.std.specs.Prelude.{ℕ, List, [], ◌∷◌, ◌++◌, length, codes, decimal}
 use Rattle.s66_isa.specs.declared.instr.Instr.{Instr}
 use Rattle.s66_isa.specs.Lists.{spaced, weigh}

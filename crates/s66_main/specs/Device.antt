@@ -1,4 +1,4 @@
--- What is seen of a reader and of a writer, and what calls of theirs leave.
+-- To be believed: what is seen of a reader and of a writer, and what calls of theirs leave.
 use Rattle.std.specs.Prelude.{◌≡◌, ◌⊎◌, ◌+◌, ◌*◌, ◌^◌, ◌<◌, ◌≤◌, ℕ, List, length, take, Option}
 use Rattle.std.specs.Io.KnownBytes.{Appends, Consumes, IsAtEnd, Keeps}
 use Rattle.s66_main.specs.declared.limits.TheConstants.{FEED_CALLS, FEED_ROOM}

@@ -1,4 +1,4 @@
--- The statuses of the program, and the line that standard error gets of a fault.
+-- To be believed: the statuses of the program, and the line that standard error gets of a fault.
 use Rattle.std.specs.Prelude.{ℕ, List, ◌++◌, codes, decimal}
 use Rattle.s66_line.specs.declared.error.SourceError.{SourceError}
 use Rattle.s66_line.specs.declared.error.SourceError.TheVariants.{BadOperand, LineTooLong, OutOfMemory, TooLarge}

@@ -1,4 +1,4 @@
--- What each command writes for what it reads.
+-- To be believed: what each command writes for what it reads.
 use Rattle.std.specs.Prelude.{ℕ, ◌+◌, List, [], ◌∷◌, ◌++◌, Result, Ok, Err}
 use Rattle.s66_line.specs.declared.error.SourceError.{SourceError}
 use Rattle.s66_line.specs.Source.{Block, source_of}

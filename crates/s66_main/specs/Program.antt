@@ -1,4 +1,4 @@
--- What the program does with its words, over a reader, a writer, and a writer for what goes wrong.
+-- To be believed: what the program does with its words, over a reader, a writer, and a writer for what goes wrong.
 use Rattle.std.specs.Prelude.{◌≡◌, ◌≢◌, ◌⊎◌, ℕ, List, ◌++◌, Result, Ok, Err, codes, string_bytes}
 use Rattle.std.specs.declared.io.ErrorKind.{ErrorKind}
 use Rattle.std.specs.declared.io.ErrorKind.TheVariants as kind

@@ -1,4 +1,4 @@
--- What a command leaves of its reader and its writer.
+-- To be believed: what a command leaves of its reader and its writer.
 use Rattle.std.specs.Prelude.{◌≡◌, ◌≢◌, ℕ, List, Result, Ok, Err}
 use Rattle.s66_line.specs.declared.error.SourceError.TheVariants.{OutOfMemory}
 use Rattle.s66_main.specs.declared.command.Command.{Command}

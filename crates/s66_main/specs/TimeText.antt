@@ -1,4 +1,4 @@
--- What `time` writes of a block: a line and, with its trace, a line for each instruction.
+-- To be believed: what `time` writes of a block: a line and, with its trace, a line for each instruction.
 use Rattle.std.specs.Prelude.{ℕ, ◌+◌, Bool, if◌then◌else◌, List, [], ◌∷◌, ◌++◌, length, map, codes, decimal}
 use Rattle.s66_isa.specs.declared.instr.Instr.{Instr}
 use Rattle.s66_isa.specs.Lists.{weigh}

@@ -1,4 +1,4 @@
--- The command line, by clap's rules: the subcommands `time`, with the flag `--trace`, `deps` and `chart`, and a version.
+-- To be believed: the command line, by clap's rules: the subcommands `time`, with the flag `--trace`, `deps` and `chart`, and a version.
 use Rattle.std.specs.Prelude.{◌≡◌, ◌≢◌, ◌⊎◌, ℕ, Bool, List, [], false, true, Option, Some, codes}
 use Rattle.std.specs.Option.{option_map, option_map_or}
 use Rattle.clap.specs.Words.{App, IsAmong, Rule, Text, app_of, fault_of, new_app, new_rule, subcommand_of, with_rule, with_subcommand}
