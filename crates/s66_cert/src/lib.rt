@@ -2,11 +2,9 @@
 #![tactic(auto)]
 
 mod document;
-mod instruction;
 mod limits;
 mod text;
 
 pub use document::document_examples;
-pub use instruction::instruction_examples;
 pub use limits::{PROFILE_LENGTH, PROFILE_LIMIT, SPLIT_LIMIT, TIME_LIMIT};
 pub use text::text_examples;

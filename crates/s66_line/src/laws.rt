@@ -4,6 +4,7 @@ ghost use Rattle.s66_isa.specs.declared.instr.Instr.{Instr};
 ghost use Rattle.s66_isa.specs.declared.reg.Bank.{Bank};
 ghost use Rattle.s66_isa.specs.Lists.{Among, tally, rising};
 ghost use Rattle.s66_line.specs.Fields.{is_blank, upper_byte, upper, body, lines_of, AreLines, HasFields};
+ghost use Rattle.s66_line.specs.InstructionText.{IsInstruction};
 ghost use Rattle.s66_line.specs.Operand.{register_of, is_constant, constant_of, instr_of, set_form_of};
 ghost use Rattle.s66_line.specs.Spelling.{CanMean, spellings, all_codes, upper_read};
 ghost use Rattle.s66_line.specs.Source.{Line, Block, classed_lines, instructions, is_instruction, parts_of, blocks_of, source_of};
@@ -86,4 +87,30 @@ pub fn constant_examples()
     ensures registers { constant_of 0o54 (codes "A1+B1") ≡ [] }
     ensures boolean { constant_of 0o11 (codes "X2*X3") ≡ [] }
     ensures of_a_block { map (λ block. map (constants_in block) (1 ∷ 2 ∷ 3 ∷ [])) (blocks_of (classed_lines (codes "  SA1 A1+n\n  BX6 X1\n  LX6 6\n"))) ≡ (codes "+N" ∷ [] ∷ codes "6" ∷ []) ∷ [] }
+{}
+
+/// Texts of instructions, and texts that are none.
+pub fn instruction_examples()
+    ensures no_operand { IsInstruction (codes "NX1") }
+    ensures both_registers { IsInstruction (codes "NX1 B0,X1") }
+    ensures product_of_constants { IsInstruction (codes "SA1 A1+2*N") }
+    ensures minus_in_front { IsInstruction (codes "BX1 -X2*X3") }
+    ensures plus_in_front { IsInstruction (codes "SA1 +A1") }
+    ensures lower_case_operation { ¬ IsInstruction (codes "fx1 X2*X3") }
+    ensures lower_case_operand { ¬ IsInstruction (codes "FX1 x2*X3") }
+    ensures lower_case_constant { ¬ IsInstruction (codes "SA1 A1+n") }
+    ensures pad { ¬ IsInstruction (codes "NO") }
+    ensures jump { ¬ IsInstruction (codes "ZR X1,L") }
+    ensures empty_text { ¬ IsInstruction [] }
+    ensures operand_missing { ¬ IsInstruction (codes "BX1") }
+    ensures bad_operand { ¬ IsInstruction (codes "SA1 A1+B1+5") }
+    ensures digit_8 { ¬ IsInstruction (codes "BX8 X1") }
+    ensures blank_in_front { ¬ IsInstruction (codes " BX1 X2") }
+    ensures return_at_the_end { ¬ IsInstruction (codes "BX1 X2" ++ 13 ∷ []) }
+    ensures newline_in_a_constant { ¬ IsInstruction (codes "SA1 A1+N" ++ 10 ∷ codes "T") }
+    ensures blank_at_the_end { ¬ IsInstruction (codes "NX1 ") }
+    ensures blank_after_operand { ¬ IsInstruction (codes "BX1 X2 ") }
+    ensures two_blanks { ¬ IsInstruction (codes "BX1  X2") }
+    ensures tab { ¬ IsInstruction (codes "BX1" ++ 9 ∷ codes "X2") }
+    ensures comment { ¬ IsInstruction (codes "BX1 X2 COPY") }
 {}

@@ -1,6 +1,6 @@
 use Rattle.std.proofs.Common.{rules}
 use Rattle.s66_line.proofs.InstructionTexts.{instruction}
-use Rattle.s66_cert.proofs.instruction.instruction_examples.Goals as goal
+use Rattle.s66_line.proofs.laws.instruction_examples.Goals as goal
 
 pub returns-clause-no_operand : goal.returns-clause-no_operand
 returns-clause-no_operand c = search (rules, instruction)
