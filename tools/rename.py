@@ -109,6 +109,12 @@ CODE = [
     (ANY, token("no_instr", "idle_instr")),
     (ANY, token("IsGood", "IsInRange")),
     (MODEL + "|" + TIME, token("last_of", "end_of")),
+    (ANY, token("spaced", "after_blanks")),
+    (MODEL, token("ungranted", "without_grants")),
+    (LINE + "(src/(operand/)?terms|specs/Terms|proofs/(operand/)?terms/)", token("seen", "terms_in")),
+    (ANY, text(r"(?<=\.)held\(\)", "held_registers()")),
+    (ANY, text(r"(?<=\.)loaded\(\)", "loaded_register()")),
+    (ANY, text(r"(?<=\.)copied\(\)", "duplicate()")),
     # how many instructions of its run stand before a line
     (LINE, text(r"(?<![\w])place(?!\w)", "index")),
 ]

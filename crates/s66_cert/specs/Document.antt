@@ -5,7 +5,7 @@ use Rattle.s66_isa.specs.declared.instr.Kind.TheVariants.{Boolean, Shift, Add, L
 use Rattle.s66_isa.specs.declared.profile.Profile.{Profile}
 use Rattle.s66_model.specs.Leaves.{Leaf, Whole, Chain, Load, Parcels}
 use Rattle.s66_model.specs.Tree.{Tree, Alone, Parted, Kids, NoMore, Unsplit, Split, Knot, AtTip, AtSplit, flat, splits}
-use Rattle.s66_isa.specs.Lists.{spaced}
+use Rattle.s66_isa.specs.Lists.{after_blanks}
 use Rattle.s66_line.specs.InstructionText.{IsInstruction}
 use Rattle.s66_cert.specs.declared.limits.TheConstants.{PROFILE_LENGTH, PROFILE_LIMIT, TIME_LIMIT, SPLIT_LIMIT}
 
@@ -83,14 +83,14 @@ kind_name Increment = codes "INCREMENT"
 
 abbrev pub leaf_line : Leaf → List ℕ
 leaf_line Whole = codes "T\n"
-leaf_line (Chain numbers) = codes "C" ++ spaced numbers ++ codes "\n"
+leaf_line (Chain numbers) = codes "C" ++ after_blanks numbers ++ codes "\n"
 leaf_line (Load kind) = codes "U " ++ kind_name kind ++ codes "\n"
 leaf_line Parcels = codes "P\n"
 
 abbrev pub tree_lines : List (Knot Leaf) → List ℕ
 tree_lines [] = []
 tree_lines (AtTip leaf ∷ knots) = leaf_line leaf ++ tree_lines knots
-tree_lines (AtSplit numbers ∷ knots) = codes "S" ++ spaced numbers ++ codes "\n" ++ tree_lines knots
+tree_lines (AtSplit numbers ∷ knots) = codes "S" ++ after_blanks numbers ++ codes "\n" ++ tree_lines knots
 
 abbrev pub instruction_lines : List (List ℕ) → List ℕ
 instruction_lines [] = []
@@ -98,8 +98,8 @@ instruction_lines (text ∷ texts) = codes "I " ++ text ++ codes "\n" ++ instruc
 
 abbrev pub document_text : Document → List ℕ
 document_text d =
-    codes "S66 CERTIFICATE 1\nPROFILE" ++ spaced d.profile ++ codes "\nBLOCK " ++ decimal (length d.block) ++ codes "\n" ++ instruction_lines d.block
-    ++ codes "TIME " ++ decimal d.time ++ codes "\nBOUND " ++ decimal d.bound ++ codes "\nORDER" ++ spaced d.numbers ++ codes "\n"
+    codes "S66 CERTIFICATE 1\nPROFILE" ++ after_blanks d.profile ++ codes "\nBLOCK " ++ decimal (length d.block) ++ codes "\n" ++ instruction_lines d.block
+    ++ codes "TIME " ++ decimal d.time ++ codes "\nBOUND " ++ decimal d.bound ++ codes "\nORDER" ++ after_blanks d.numbers ++ codes "\n"
     ++ tree_lines (flat d.tree) ++ codes "END\n"
 
 -- documents follow each other with nothing between

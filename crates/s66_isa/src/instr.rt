@@ -266,7 +266,7 @@ impl Instr {
     }
 
     /// The results that its unit holds: all but the X result of a load, B0 never.
-    pub fn held(&self) -> ArrayVec<Reg, 2>
+    pub fn held_registers(&self) -> ArrayVec<Reg, 2>
         ensures { result.items ≡ held_registers self.now }
     {
         let mut registers = ArrayVec::new();
@@ -289,7 +289,7 @@ impl Instr {
     }
 
     /// The X register that a load fetches.
-    pub fn loaded(&self) -> Option<Reg>
+    pub fn loaded_register(&self) -> Option<Reg>
         ensures { option_to_list result ≡ loaded_registers (memory_of self.now) self.now }
     {
         match self.memory() {
@@ -302,8 +302,8 @@ impl Instr {
     pub fn results(&self) -> ArrayVec<Reg, 2>
         ensures { result.items ≡ results_of self.now }
     {
-        let mut registers = self.held();
-        if let Some(register) = self.loaded() {
+        let mut registers = self.held_registers();
+        if let Some(register) = self.loaded_register() {
             registers.push(register);
         }
         registers

@@ -8,8 +8,8 @@ use Rattle.s66_line.specs.declared.operand.terms.Terms.{Terms}
 abbrev pub gather : List (Bool × List ℕ) → Option (Bool × List (Bool × Bank × ℕ))
 gather ts = if are_terms ts && nat_le (length (registers_of ts)) 2 then Some (some_constant ts, registers_of ts) else None
 
-abbrev pub seen : Terms → Bool × List (Bool × Bank × ℕ)
-seen terms = (terms.has_constant, terms.registers.items)
+abbrev pub terms_in : Terms → Bool × List (Bool × Bank × ℕ)
+terms_in terms = (terms.has_constant, terms.registers.items)
 
 abbrev pub with_register : Bool × List (Bool × Bank × ℕ) → Bool → Bool → Option (Bank × ℕ) → Option (Bool × List (Bool × Bank × ℕ))
 with_register so_far minus constant (Some r) = if nat_lt (length so_far.1) 2 then Some (so_far.0, so_far.1 ++ (minus, r.0, r.1) ∷ []) else None

@@ -1,7 +1,7 @@
 -- To be believed: what `deps` writes of a block: a line, and a line for each instruction that depends on some.
 use Rattle.std.specs.Prelude.{ℕ, List, [], ◌∷◌, ◌++◌, length, codes, decimal}
 use Rattle.s66_isa.specs.declared.instr.Instr.{Instr}
-use Rattle.s66_isa.specs.Lists.{spaced, weigh}
+use Rattle.s66_isa.specs.Lists.{after_blanks, weigh}
 use Rattle.s66_isa.specs.Table.{numbers}
 use Rattle.s66_model.specs.Dependence.{needs, all_needs}
 use Rattle.s66_line.specs.Block.{instrs_of}
@@ -21,7 +21,7 @@ deps_line n block =
 -- the line of an instruction, by the numbers on which it depends
 abbrev pub needs_line : ℕ → List ℕ → List ℕ
 needs_line n [] = []
-needs_line n (m ∷ ms) = decimal n ++ codes " AFTER" ++ spaced (m ∷ ms) ++ codes "\n"
+needs_line n (m ∷ ms) = decimal n ++ codes " AFTER" ++ after_blanks (m ∷ ms) ++ codes "\n"
 
 -- the lines of the instructions of these numbers
 abbrev pub needs_lines : List Instr → List ℕ → List ℕ

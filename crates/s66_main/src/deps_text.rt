@@ -1,5 +1,5 @@
 ghost use Rattle.std.specs.Prelude.{ℕ, List, ◌≡◌, ◌≤◌, ◌++◌, length, OnOk};
-ghost use Rattle.s66_isa.specs.Lists.{spaced, weigh};
+ghost use Rattle.s66_isa.specs.Lists.{after_blanks, weigh};
 ghost use Rattle.s66_isa.specs.Table.{numbers};
 ghost use Rattle.s66_line.specs.Block.{instrs_of};
 ghost use Rattle.s66_model.specs.Dependence.{all_needs};
@@ -43,7 +43,7 @@ fn push_deps_line(
 
 /// The numbers of a set, each after a blank.
 fn push_set(out: &mut Vec<u8>, set: &Set) -> Result<(), AllocError>
-    ensures { OnOk result (out.new.items ≡ out.old.items ++ spaced (numbers_in set.now)) }
+    ensures { OnOk result (out.new.items ≡ out.old.items ++ after_blanks (numbers_in set.now)) }
 {
     let mut rest = *set;
     while let Some(number) = rest.pop_first() {

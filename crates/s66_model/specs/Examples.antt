@@ -346,8 +346,8 @@ abbrev pub granted_to_2 : ℕ → ℕ → Ledger
 granted_to_2 left allowance = ledger (node [] Open ∷ []) (1 ∷ 2 ∷ 3 ∷ []) left (0 ∷ allowance ∷ []) 0
 
 -- a budget of 10 of which nothing is granted to the one worker: these nodes and this best order
-abbrev pub ungranted : List Node → List ℕ → Ledger
-ungranted nodes best = ledger nodes best 10 (0 ∷ []) 0
+abbrev pub without_grants : List Node → List ℕ → Ledger
+without_grants nodes best = ledger nodes best 10 (0 ∷ []) 0
 
 -- a grant, a claim, a graft of one split, the same graft again, an offer, a grant of nothing, and a claim of a child
 abbrev pub ledger_events : List (Event × Reply)

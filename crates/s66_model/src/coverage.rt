@@ -10,7 +10,7 @@ ghost use Rattle.s66_model.specs.Tree.{Alone};
 ghost use Rattle.s66_model.specs.Piece.{Carries};
 ghost use Rattle.s66_model.specs.Ledger.{Ledger, Event, Reply, Step, Run, opening, Open, Out, Cut, Closed, after_graft};
 ghost use Rattle.s66_model.specs.Coverage.{Covers, NeverRises, bound_of, begins, covers, live_floors, IsFinished};
-ghost use Rattle.s66_model.specs.Examples.{standard_problem, one_boolean, load_problem, multiply_problem, answer, every_order, node, ledger, first_node, root_split, ungranted, load_out, load_grafted};
+ghost use Rattle.s66_model.specs.Examples.{standard_problem, one_boolean, load_problem, multiply_problem, answer, every_order, node, ledger, first_node, root_split, without_grants, load_out, load_grafted};
 
 /// A ledger that was only opened covers every legal order.
 pub fn opening_law()
@@ -49,17 +49,17 @@ pub fn coverage_examples()
     ensures begins_and_ends { begins (1 ∷ 3 ∷ []) (1 ∷ []) ≡ false }
     ensures opening_covers { Covers multiply_problem 10 (opening multiply_problem 10 2) }
     ensures child_not_covered { ¬ Covers multiply_problem 10 (ledger (node [] Cut ∷ node (1 ∷ []) Open ∷ node (2 ∷ []) Open ∷ []) (1 ∷ 2 ∷ 3 ∷ []) 9 (0 ∷ []) 1) }
-    ensures covered_twice { ¬ Covers multiply_problem 10 (ungranted (node [] Open ∷ node (1 ∷ []) Open ∷ []) (1 ∷ 2 ∷ 3 ∷ [])) }
-    ensures closed_below_the_best { ¬ Covers multiply_problem 10 (ungranted (node [] (Closed (Load Multiply)) ∷ []) (1 ∷ 2 ∷ 3 ∷ [])) }
-    ensures closed_by_another_leaf { ¬ Covers (standard_problem one_boolean) 10 (ungranted (node [] (Closed (Load Boolean)) ∷ []) (1 ∷ [])) }
-    ensures node_that_no_order_has { ¬ Covers load_problem 10 (ungranted (node [] Open ∷ node (2 ∷ []) Open ∷ []) (1 ∷ 2 ∷ 3 ∷ [])) }
-    ensures best_not_legal { ¬ Covers load_problem 10 (ungranted (node [] Open ∷ []) (2 ∷ 1 ∷ 3 ∷ [])) }
+    ensures covered_twice { ¬ Covers multiply_problem 10 (without_grants (node [] Open ∷ node (1 ∷ []) Open ∷ []) (1 ∷ 2 ∷ 3 ∷ [])) }
+    ensures closed_below_the_best { ¬ Covers multiply_problem 10 (without_grants (node [] (Closed (Load Multiply)) ∷ []) (1 ∷ 2 ∷ 3 ∷ [])) }
+    ensures closed_by_another_leaf { ¬ Covers (standard_problem one_boolean) 10 (without_grants (node [] (Closed (Load Boolean)) ∷ []) (1 ∷ [])) }
+    ensures node_that_no_order_has { ¬ Covers load_problem 10 (without_grants (node [] Open ∷ node (2 ∷ []) Open ∷ []) (1 ∷ 2 ∷ 3 ∷ [])) }
+    ensures best_not_legal { ¬ Covers load_problem 10 (without_grants (node [] Open ∷ []) (2 ∷ 1 ∷ 3 ∷ [])) }
     ensures spent_without_a_split { ¬ Covers multiply_problem 10 (ledger (node [] Open ∷ []) (1 ∷ 2 ∷ 3 ∷ []) 9 (0 ∷ []) 1) }
-    ensures budget_lost { ¬ Covers multiply_problem 11 (ungranted (node [] Open ∷ []) (1 ∷ 2 ∷ 3 ∷ [])) }
+    ensures budget_lost { ¬ Covers multiply_problem 11 (without_grants (node [] Open ∷ []) (1 ∷ 2 ∷ 3 ∷ [])) }
     ensures fell { NeverRises load_problem (load_out (1 ∷ 2 ∷ 3 ∷ [])) (load_out (1 ∷ 3 ∷ 2 ∷ [])) }
     ensures rose { ¬ NeverRises load_problem (load_out (1 ∷ 3 ∷ 2 ∷ [])) (load_out (1 ∷ 2 ∷ 3 ∷ [])) }
     ensures finished { IsFinished multiply_problem 10 (root_split Open Out Open) (answer (1 ∷ 2 ∷ 3 ∷ []) 22 22 10 (every_order Whole)) }
     ensures finished_over_the_budget { ¬ IsFinished multiply_problem 9 (root_split Open Out Open) (answer (1 ∷ 2 ∷ 3 ∷ []) 22 22 10 (every_order Whole)) }
-    ensures finished_above_the_best { ¬ IsFinished load_problem 0 (ungranted (node [] Open ∷ []) (1 ∷ 3 ∷ 2 ∷ [])) (answer (3 ∷ 1 ∷ 2 ∷ []) 13 12 0 (Alone (Chain (1 ∷ 2 ∷ [])))) }
+    ensures finished_above_the_best { ¬ IsFinished load_problem 0 (without_grants (node [] Open ∷ []) (1 ∷ 3 ∷ 2 ∷ [])) (answer (3 ∷ 1 ∷ 2 ∷ []) 13 12 0 (Alone (Chain (1 ∷ 2 ∷ [])))) }
     ensures finished_without_a_split { ¬ IsFinished load_problem 10 (load_grafted (1 ∷ 3 ∷ 2 ∷ []) (Closed Whole)) (answer (1 ∷ 3 ∷ 2 ∷ []) 12 12 0 (Alone (Chain (1 ∷ 2 ∷ [])))) }
 {}

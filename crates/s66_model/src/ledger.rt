@@ -6,7 +6,7 @@ ghost use Rattle.s66_model.specs.Leaves.{Whole, Load};
 ghost use Rattle.s66_model.specs.Tree.{Alone, Parted};
 ghost use Rattle.s66_model.specs.Piece.{Carries, Frontier};
 ghost use Rattle.s66_model.specs.Ledger.{Step, Run, opening, Open, Out, Closed, Grant, Claim, Graft, Offer, Back, Retire, Granted, Claimed, Taken, NotOut, OtherPrefix, OverAllowance, Lower, NotLower, OtherBlock, Returned, Retired};
-ghost use Rattle.s66_model.specs.Examples.{boolean_problem, load_problem, multiply_problem, load_piece, children, one_split, child_omitted, node, first_node, root_split, second_split, granted_to_2, ungranted, ledger_events, load_out, load_grafted, NeverAnswers, NeverRuns};
+ghost use Rattle.s66_model.specs.Examples.{boolean_problem, load_problem, multiply_problem, load_piece, children, one_split, child_omitted, node, first_node, root_split, second_split, granted_to_2, without_grants, ledger_events, load_out, load_grafted, NeverAnswers, NeverRuns};
 
 /// Grants, retirements, and what no worker and no event gets.
 pub fn grant_examples()
@@ -46,7 +46,7 @@ pub fn claim_examples()
 /// Grafts of pieces.
 pub fn graft_examples()
     ensures leaf_below_the_best_is_open { Step multiply_problem (first_node Out) (Graft 1 0 true [] 0 (Some (Alone (Carries (Load Multiply))))) Taken (first_node Open) }
-    ensures leaf_at_the_best_is_closed { Step boolean_problem (ungranted (node [] Out ∷ []) (1 ∷ 2 ∷ [])) (Graft 1 0 true [] 0 (Some (Alone (Carries (Load Boolean))))) Taken (ungranted (node [] (Closed (Load Boolean)) ∷ []) (1 ∷ 2 ∷ [])) }
+    ensures leaf_at_the_best_is_closed { Step boolean_problem (without_grants (node [] Out ∷ []) (1 ∷ 2 ∷ [])) (Graft 1 0 true [] 0 (Some (Alone (Carries (Load Boolean))))) Taken (without_grants (node [] (Closed (Load Boolean)) ∷ []) (1 ∷ 2 ∷ [])) }
     ensures graft_while_16_is_the_best { Step load_problem (load_out (1 ∷ 2 ∷ 3 ∷ [])) (Graft 2 0 true [] 3 (Some load_piece)) Taken (load_grafted (1 ∷ 2 ∷ 3 ∷ []) Open) }
     ensures graft_while_12_is_the_best { Step load_problem (load_out (1 ∷ 3 ∷ 2 ∷ [])) (Graft 2 0 true [] 3 (Some load_piece)) Taken (load_grafted (1 ∷ 3 ∷ 2 ∷ []) (Closed Whole)) }
     ensures graft_behind_other_nodes { Step multiply_problem (root_split Open Out Open) (Graft 1 2 true (2 ∷ []) 1 (Some (Parted (1 ∷ 3 ∷ []) (children 2 Frontier)))) Taken second_split }

@@ -2,7 +2,7 @@ ghost use Rattle.std.specs.Prelude.{◌≡◌, ◌≤◌, [], IfSome};
 ghost use Rattle.arrayvec.specs.ArrayVec.{array_vec_len};
 ghost use Rattle.std.specs.Option.{option_map};
 ghost use Rattle.s66_line.specs.Operand.{is_near, near_front, may_stand, is_constant_from, register_of, is_symbol, is_constant, is_expression, is_sign, terms_from, terms_of};
-ghost use Rattle.s66_line.specs.Terms.{gather, seen, with_term};
+ghost use Rattle.s66_line.specs.Terms.{gather, terms_in, with_term};
 
 use arrayvec::ArrayVec;
 use s66_isa::Bank;
@@ -89,7 +89,7 @@ pub(crate) struct Terms {
 /// One term more, if it is a constant or a register that is no third one.
 fn with_term(mut terms: Terms, minus: bool, term: &[u8]) -> Option<Terms>
     requires { array_vec_len terms.registers ≤ 2 }
-    ensures value { option_map seen result ≡ with_term (seen terms) minus term.now }
+    ensures value { option_map terms_in result ≡ with_term (terms_in terms) minus term.now }
     ensures few { IfSome result (λ t. array_vec_len t.registers ≤ 2) }
 {
     match register_of(term) {
@@ -111,7 +111,7 @@ fn with_term(mut terms: Terms, minus: bool, term: &[u8]) -> Option<Terms>
 
 /// The terms after a sign, or after none.
 fn terms_after(first_minus: bool, text: &[u8]) -> Option<Terms>
-    ensures { option_map seen result ≡ gather (terms_from first_minus [] text.now) }
+    ensures { option_map terms_in result ≡ gather (terms_from first_minus [] text.now) }
 {
     let mut terms = Terms {
         has_constant: false,
@@ -131,7 +131,7 @@ fn terms_after(first_minus: bool, text: &[u8]) -> Option<Terms>
 
 /// The terms that `+` or `-` joins, with or without a first sign.
 pub(crate) fn terms_of(text: &[u8]) -> Option<Terms>
-    ensures { option_map seen result ≡ gather (terms_of text.now) }
+    ensures { option_map terms_in result ≡ gather (terms_of text.now) }
 {
     match text {
         [] => Some(Terms {
