@@ -15,7 +15,7 @@ fn run_words<R: AllocGlobal>(rt: &R, words: &[&str], source: &[u8]) -> (u8, Vec<
 }
 
 /// A writer that takes nothing.
-fn broken() -> TakesFew
+fn broken_writer() -> TakesFew
     ensures { result.failed ≡ 0 }
 {
     TakesFew {
@@ -94,7 +94,7 @@ fn keeps_the_status_untold(rt: HostRuntime) {
     for (words, wanted) in rows {
         let mut reader = OverRead::new(b"  SA1 *+2\n".as_slice());
         let mut writer = OverWrite::new(Vec::new(rt.alloc()));
-        let mut errors = broken();
+        let mut errors = broken_writer();
         let status = run_program(&rt, words, &mut reader, &mut writer, &mut errors);
         assert_eq!(rt; status, wanted);
         assert!(rt; writer.into_inner().is_empty());
@@ -104,7 +104,7 @@ fn keeps_the_status_untold(rt: HostRuntime) {
 #[test]
 fn tells_that_help_fails(rt: HostRuntime) {
     let mut reader = OverRead::new(b"".as_slice());
-    let mut writer = broken();
+    let mut writer = broken_writer();
     let mut errors = OverWrite::new(Vec::new(rt.alloc()));
     let status = run_program(
         &rt,
