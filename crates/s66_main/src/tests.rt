@@ -1,4 +1,4 @@
-ghost use Rattle.std.specs.Prelude.{None, Some};
+ghost use Rattle.std.specs.Prelude.{◌<◌, ◌-◌, ◌^◌, None, Some};
 
 use crate::command::Command;
 use crate::outcome::{Fault, Status};
@@ -307,6 +307,16 @@ impl Sink for TakesFew {
     }
 }
 
+/// Checks that `time` fails to read a device to its end, and writes nothing.
+fn check_read_fault<R: AllocGlobal + Abort, F: Feed>(rt: &R, reader: &mut F)
+    requires { F.failures reader.old < 2 ^ 64 - 1 }
+{
+    let mut writer = OverWrite::new(Vec::new(rt.alloc()));
+    let result = run_command(rt, TIME, reader, &mut writer);
+    assert_eq!(rt; result, Err(Fault::Read));
+    assert!(rt; writer.into_inner().is_empty());
+}
+
 #[test]
 fn tells_read_fault(rt: HostRuntime) {
     let mut reader = FailsSecond {
@@ -314,10 +324,7 @@ fn tells_read_fault(rt: HostRuntime) {
         failed: 0,
         offered: 0,
     };
-    let mut writer = OverWrite::new(Vec::new(rt.alloc()));
-    let result = run_command(&rt, TIME, &mut reader, &mut writer);
-    assert_eq!(rt; result, Err(Fault::Read));
-    assert!(rt; writer.into_inner().is_empty());
+    check_read_fault(&rt, &mut reader);
 }
 
 /// Runs `time` on a source of one block over a writer with room for so many bytes, 8 at most.

@@ -1,11 +1,9 @@
 ghost use Rattle.std.specs.Prelude.{None};
 
-use super::{TIME, check_refused, check_sum};
+use super::{TIME, check_read_fault, check_refused, check_sum};
 use crate::command::Command;
 use crate::limits::{FEED_CALLS, FEED_ROOM};
-use crate::outcome::Fault;
-use crate::run::run_command;
-use s66_line::{Failed, Feed, LINE_LIMIT, OverWrite, SOURCE_LIMIT, SourceError};
+use s66_line::{Failed, Feed, LINE_LIMIT, SOURCE_LIMIT, SourceError};
 use std::alloc::AllocError;
 use std::test::Fail;
 
@@ -124,9 +122,6 @@ fn reads_no_more_than_its_calls(rt: HostRuntime) {
         failed: 0,
         offered: 0,
     };
-    let mut writer = OverWrite::new(Vec::new(rt.alloc()));
-    let result = run_command(&rt, TIME, &mut reader, &mut writer);
-    assert_eq!(rt; result, Err(Fault::Read));
+    check_read_fault(&rt, &mut reader);
     assert_eq!(rt; reader.left, 0);
-    assert!(rt; writer.into_inner().is_empty());
 }
