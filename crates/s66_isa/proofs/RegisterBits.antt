@@ -14,7 +14,7 @@ use Rattle.s66_isa.proofs.SameRegister.{same_reg-true, same_reg-self}
 
 -- THE REGISTERS BY THEIR INDICES
 
-index-apart : (r s : Reg) → r.digit ≤ 7 → s.digit ≤ 7 → index_of r ≡ index_of s → same_reg r s ≡ true
+pub index-apart : (r s : Reg) → r.digit ≤ 7 → s.digit ≤ 7 → index_of r ≡ index_of s → same_reg r s ≡ true
 index-apart r s few more same =
     and_from (bank_number r.bank == bank_number s.bank) (r.digit == s.digit)
     (eq-eqb (bank_number r.bank) (bank_number s.bank) (omega arith)) (eq-eqb r.digit s.digit (omega arith))

@@ -34,7 +34,7 @@ kind-back Multiply = refl
 kind-back Divide = refl
 kind-back Increment = refl
 
-same_kind-true : (a b : Kind) → same_kind a b ≡ true → a ≡ b
+pub same_kind-true : (a b : Kind) → same_kind a b ≡ true → a ≡ b
 same_kind-true a b h = sym (kind-back a) ∙ ap kind_of_number (eqb-true (kind_number a) (kind_number b) h) ∙ kind-back b
 
 -- WHAT TIME DOES TO THE POINTS
@@ -172,14 +172,15 @@ module _ (b : Problem) (kind : Kind) where
   work-run s (n ∷ rest) end fits h1 h2 =
       omega (arith, work-run (point_of b s n ∷ s) rest end (fits-step s n fits) h1 h2, work-step s n fits)
 
-  fits-run : (s : List Point) (rest : List ℕ) → tally (busy_at kind (next s)) s ≤ copies b kind → tally (busy_at kind (next (points_after b s rest))) (points_after b s rest) ≤ copies b kind
+  -- no more units are busy than there are, when the last has issued and its parcels have passed
+  pub fits-run : (s : List Point) (rest : List ℕ) → tally (busy_at kind (next s)) s ≤ copies b kind → tally (busy_at kind (next (points_after b s rest))) (points_after b s rest) ≤ copies b kind
   fits-run s [] h = h
   fits-run s (n ∷ rest) h = fits-run (point_of b s n ∷ s) rest (fits-step s n h)
 
 -- THE BOUND
 
 -- the last issue and its parcels are no later than the total
-next-le-total : (b : Problem) (s : List Point) (rest : List ℕ) → next s ≤ total s → next (points_after b s rest) ≤ total (points_after b s rest)
+pub next-le-total : (b : Problem) (s : List Point) (rest : List ℕ) → next s ≤ total s → next (points_after b s rest) ≤ total (points_after b s rest)
 next-le-total b s [] h = h
 next-le-total b s (n ∷ rest) h =
     next-le-total b (point_of b s n ∷ s) rest (omega (arith, hold-le-free b s n, issue-le-start b s n, (good-at b n).parcels.1, (good-at b n).hold.0, ap (λ (r : Row). r.parcels) (point_of-row b s n)))

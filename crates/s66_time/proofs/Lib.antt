@@ -5,3 +5,9 @@ pub mod Free
 pub mod Points
 pub mod Kept
 pub mod Positions
+pub mod Back
+pub mod FreeUnits
+pub mod ClockPoints
+pub mod Clocks
+pub mod RowsOfBlock
+pub mod ReadySame

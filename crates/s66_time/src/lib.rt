@@ -1,13 +1,22 @@
 //! How an order of a block is packed, and when each of its instructions issues, starts and is done.
 #![tactic(auto)]
 
+mod clock;
 mod limits;
 mod packing;
 mod point;
+mod progress;
+mod registers;
 mod result;
+mod row;
+mod step;
+mod tick;
 mod timed;
 mod timeline;
+mod units;
+mod words;
 
+pub use clock::Clock;
 pub use limits::TOTAL_LIMIT;
 pub use packing::{Packing, pack};
 pub use timed::{Timed, Times, time_of};

@@ -1,0 +1,50 @@
+use Rattle.std.proofs.Common.{arith, ap, ◌∙◌, ◌-◌, get_or, sym, subst, true, ◌≡◌}
+use Rattle.s66_line.specs.Block.{instrs_of}
+use Rattle.s66_model.specs.Timing.{Problem, points_of}
+use Rattle.s66_model.specs.LegalOrder.{is_ready}
+use Rattle.s66_model.proofs.LegalOrders.{ready-parts}
+use Rattle.s66_isa.specs.Table.{Row, row, instr_at, kind_of, copies_of}
+use Rattle.s66_time.proofs.RowsOfBlock.{row-at, row-kind}
+use Rattle.s66_time.specs.Ticking.{Ticking, numbers_of}
+use Rattle.s66_time.proofs.Clocks.{clock-words, clock-turn, room-left, pushed-clock}
+use Rattle.s66_time.proofs.clock.Clock.push.Goals as goal
+
+pub push-step-requires : goal.push-step-requires
+push-step-requires c =
+    let b : Problem = record { block = instrs_of c.self.inside.block.now; profile = c.self.inside.profile } in
+    let ks = c.self.inside.steps.items in
+    let ready : is_ready (instrs_of c.self.inside.block.now) (numbers_of c.self.inside.steps.items) c.args.n ≡ true = subst (λ (t : Ticking). is_ready (instrs_of t.block) t.numbers c.args.n ≡ true) (sym c.self.view_is) c.requires in
+    let parts = ready-parts (instrs_of c.self.inside.block.now) (numbers_of ks) c.args.n ready in
+    record { number = (parts.0, omega (arith, parts.1, c.self.invariant.clock.few)); follows = (points_of b (numbers_of ks), clock-words b c.self.inside.words ks c.self.invariant.clock, clock-turn b c.self.inside.words ks c.self.invariant.clock) }
+
+pub push-requires : goal.push-requires
+push-requires c =
+    let b : Problem = record { block = instrs_of c.self.inside.block.now; profile = c.self.inside.profile } in
+    let ready : is_ready (instrs_of c.self.inside.block.now) (numbers_of c.self.inside.steps.items) c.args.n ≡ true = subst (λ (t : Ticking). is_ready (instrs_of t.block) t.numbers c.args.n ≡ true) (sym c.self.view_is) c.requires in
+    (omega arith, omega (arith, room-left b c.self.inside.words c.self.inside.steps.items c.args.n c.self.invariant.clock ready))
+
+pub invariant_of-self : goal.invariant_of-self
+invariant_of-self c =
+    let b : Problem = record { block = instrs_of c.self.inside.block.now; profile = c.self.inside.profile } in
+    let ks = c.self.inside.steps.items in
+    let ready : is_ready (instrs_of c.self.inside.block.now) (numbers_of c.self.inside.steps.items) c.args.n ≡ true = subst (λ (t : Ticking). is_ready (instrs_of t.block) t.numbers c.args.n ≡ true) (sym c.self.view_is) c.requires in
+    let parts = ready-parts (instrs_of c.self.inside.block.now) (numbers_of ks) c.args.n ready in
+    let row : c.index-deref-n.result ≡ row b.profile (instr_at b.block c.args.n) =
+    row-at b.profile b.block c.self.inside.rows.items (c.args.n - 1) c.args.n c.index-deref-n.result c.self.invariant.each (c.index-deref-n.is ∙ ap (λ xs. get_or xs (c.args.n - 1) c.index-deref-n.result) c.deref.ensures.0) (omega (arith, parts.0)) (omega (arith, parts.0, parts.1)) in
+    rw c.push.ensures.items (record {
+      clock = pushed-clock b c.self.inside.words c.push-step.new.self ks c.push-step.result c.args.n c.index-deref-n.result c.self.invariant.clock ready c.push-step.ensures.number row c.push-step.ensures.back c.push-step.ensures.words;
+      each = c.self.invariant.each;
+    })
+
+pub returns-clause-looks : goal.returns-clause-looks
+returns-clause-looks c =
+    let b : Problem = record { block = instrs_of c.self.inside.block.now; profile = c.self.inside.profile } in
+    let ks = c.self.inside.steps.items in
+    let ready : is_ready (instrs_of c.self.inside.block.now) (numbers_of c.self.inside.steps.items) c.args.n ≡ true = subst (λ (t : Ticking). is_ready (instrs_of t.block) t.numbers c.args.n ≡ true) (sym c.self.view_is) c.requires in
+    let parts = ready-parts (instrs_of c.self.inside.block.now) (numbers_of ks) c.args.n ready in
+    let row : c.index-deref-n.result ≡ row b.profile (instr_at b.block c.args.n) =
+    row-at b.profile b.block c.self.inside.rows.items (c.args.n - 1) c.args.n c.index-deref-n.result c.self.invariant.each (c.index-deref-n.is ∙ ap (λ xs. get_or xs (c.args.n - 1) c.index-deref-n.result) c.deref.ensures.0) (omega (arith, parts.0)) (omega (arith, parts.0, parts.1)) in
+    let kind : c.copies.result ≡ copies_of b.profile (kind_of (instr_at b.block c.args.n).op.code) =
+    c.copies.ensures.value ∙ ap (λ (x : Row). copies_of b.profile x.kind) (c.row.view_is ∙ row) ∙ ap (copies_of b.profile) (row-kind b.profile (instr_at b.block c.args.n)) in
+    let seen = ap (λ (t : Ticking). copies_of t.profile (kind_of (instr_at (instrs_of t.block) c.args.n).op.code)) c.self.view_is in
+    omega (arith, kind, seen, c.words.ensures)

@@ -1,0 +1,13 @@
+use Rattle.std.proofs.Common.{ap, ◌∙◌}
+use Rattle.s66_isa.specs.Lists.{has}
+use Rattle.s66_line.specs.Block.{instrs_of}
+use Rattle.s66_model.specs.Timing.{Problem}
+use Rattle.s66_time.specs.Ticking.{Ticking, numbers_of}
+use Rattle.s66_time.proofs.Clocks.{clock-words, has-points}
+use Rattle.s66_time.proofs.clock.Clock.pushed.Goals as goal
+
+pub returns : goal.returns
+returns c = λ m.
+    let b : Problem = record { block = instrs_of c.self.inside.block.now; profile = c.self.inside.profile } in
+    let ks = c.self.inside.steps.items in
+    (clock-words b c.self.inside.words ks c.self.invariant.clock).pushed m ∙ has-points b m (numbers_of ks) ∙ ap (λ (t : Ticking). has m t.numbers) c.self.view_is

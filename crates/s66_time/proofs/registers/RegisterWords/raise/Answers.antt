@@ -1,0 +1,22 @@
+use Rattle.std.proofs.Common.{ap, ◌∙◌, ◌≡◌, max, set, get_or, refl, length, ◌<◌, subst, rules}
+use Rattle.s66_isa.specs.Registers.{index_of}
+use Rattle.s66_time.specs.Places.{put_back, word_of}
+use Rattle.s66_time.proofs.Back.{put_back-saved, raised-word}
+use Rattle.s66_time.proofs.registers.RegisterWords.raise.Goals as goal
+
+pub returns-clause-saved : goal.returns-clause-saved
+returns-clause-saved c =
+    let place = c.index-place.result in
+    let words = c.args.self.now.words in
+    ap (λ ws. put_back ws (set words place c.max.result)) c.push.ensures.items
+    ∙ put_back-saved c.args.saved.now.items _ words c.max.result refl
+
+pub returns-clause-words : goal.returns-clause-words
+returns-clause-words c = λ r low.
+    let words = c.args.self.now.words in
+    let x = c.args.register in
+    let place : c.index-place.result ≡ index_of x = c.index-place.ensures.value in
+    let within : c.index-place.result < length words = search rules in
+    ap (λ v. word_of (set words c.index-place.result v) r) c.max.ensures
+    ∙ ap (λ k. word_of (set words k (max (get_or words k 0) c.args.time)) r) place
+    ∙ raised-word words x r c.args.time c.index-place.ensures.digit low (subst (λ i. i < length words) place within)

@@ -1,0 +1,21 @@
+use Rattle.std.proofs.Common.{ap, ◌∙◌, refl, ◌≡◌, length, ℕ}
+use Rattle.std.proofs.lemmas.List.{length-replicate}
+use Rattle.s66_isa.specs.Lists.{has}
+use Rattle.s66_time.proofs.ClockPoints.{zero-units}
+use Rattle.s66_time.proofs.words.Words.new.Goals as goal
+
+pub returns : goal.returns
+returns c = λ p.
+    let size : length c.new-3.result.words ≡ 700 = ap length c.new-3.ensures ∙ length-replicate {A = ℕ} 700 0 in
+    record {
+      done = λ r small. c.new.ensures r;
+      read = λ r small. c.new-2.ensures r;
+      units = λ kind t. zero-units p kind t c.new-3.result.words c.new-3.ensures;
+      size = size;
+      refs = refl;
+      stores = refl;
+      parcel = refl;
+      next = refl;
+      total = refl;
+      pushed = λ m. ap (has m) c.empty.ensures;
+    }

@@ -1,0 +1,108 @@
+-- Used by contracts within the crate alone: what the words of a clock are, by the points of what was pushed.
+use Rattle.std.specs.Prelude.{map, ◌==◌, ◌||◌, ℕ, ◌+◌, ◌≡◌, ◌≤◌, ◌<◌, if◌then◌else◌, max, min, List, [], ◌∷◌, length, get_or, set, nat_lt, ◌-◌}
+use Rattle.s66_isa.specs.Table.{Reg}
+use Rattle.s66_isa.specs.declared.instr.Kind.{Kind}
+use Rattle.s66_isa.specs.declared.instr.Memory.{Memory}
+use Rattle.s66_isa.specs.declared.instr.Memory.TheVariants as memory
+use Rattle.s66_isa.specs.declared.profile.Profile.{Profile}
+use Rattle.s66_isa.specs.Lists.{greatest, tally, has}
+use Rattle.s66_isa.specs.Table.{Row, touches, stores, copies_of, same_reg, has_reg}
+use Rattle.s66_model.specs.Timing.{Problem, Point, ResultAt, end_of, done_of, last_done, readers_wait, busy_at, next, next_parcel, total, point_of}
+use Rattle.s66_dep.specs.Members.{numbers_in}
+use Rattle.s66_time.specs.Places.{word_of, first_unit, units_of, put_back}
+use Rattle.s66_time.specs.declared.words.Words.{Words}
+use Rattle.s66_time.specs.declared.tick.Tick.{Tick}
+use Rattle.s66_time.specs.declared.step.Step.{Step}
+
+-- one after the greatest start of references, and of stores; 0 where there is none
+abbrev pub refs_wait : List Point → ℕ
+refs_wait s = greatest (λ (p : Point). if touches p.row.memory then p.start + 1 else 0) s
+
+abbrev pub stores_wait : List Point → ℕ
+stores_wait s = greatest (λ (p : Point). if stores p.row.memory then p.start + 1 else 0) s
+
+-- what a reference waits for
+abbrev pub wait_of : Memory → ℕ → ℕ → ℕ
+wait_of memory.None refs stored = 0
+wait_of memory.Load refs stored = stored
+wait_of memory.Store refs stored = refs
+
+-- the words of registers tell f
+abbrev pub Tells : List ℕ → (Reg → ℕ) → Type 0
+Tells words f = (r : Reg) → r.digit ≤ 7 → word_of words r ≡ f r
+
+pub record IsWords (p : Profile) (s : List Point) (w : Words) : Type 0 where
+  pub done : Tells w.done.words (done_of s)
+  pub read : Tells w.read.words (readers_wait s)
+  -- of each kind as many words are later than t as units are busy, where there are so many
+  pub units : (kind : Kind) (t : ℕ) → tally (λ (f : ℕ). nat_lt t f) (units_of p kind w.units.words) ≡ min (copies_of p kind) (tally (busy_at kind t) s)
+  pub size : length w.units.words ≡ 700
+  pub refs : w.progress.refs ≡ refs_wait s
+  pub stores : w.progress.stores ≡ stores_wait s
+  pub parcel : w.progress.parcel ≡ next_parcel s
+  pub next : w.progress.next ≡ next s
+  pub total : w.progress.total ≡ total s
+  pub pushed : (m : ℕ) → has m (numbers_in w.progress.pushed) ≡ has m (map (λ (p : Point). p.number) s)
+
+-- no unit of the kind is free before the one at this place
+pub record IsSoonest (p : Profile) (kind : Kind) (words : List ℕ) (place : ℕ) : Type 0 where
+  pub own : first_unit kind ≤ place
+  pub copy : place - first_unit kind < copies_of p kind
+  pub least : (i : ℕ) → i < copies_of p kind → get_or words place 0 ≤ get_or words (first_unit kind + i) 0
+
+-- points whose times are small, and in which each register's latest writer is done last
+pub record InTurn (s : List Point) : Type 0 where
+  pub early : total s ≤ 10000
+  pub starts : greatest (λ (p : Point). max p.issue p.start + 1) s ≤ total s
+  pub parcels : greatest (λ (p : Point). p.row.parcels) s ≤ 2
+  pub latest : (r : Reg) → last_done r s ≡ done_of s r
+  pub parcel : next_parcel s ≤ next s
+
+-- the words are those of some points
+abbrev pub Follows : Profile → Words → Type 0
+Follows p w = (s : List Point) × IsWords p s w × InTurn s
+
+-- what contracts see of a tick
+abbrev pub point_of_tick : ℕ → Row → Tick → Point
+point_of_tick n r t =
+    record {
+      number = n;
+      row = r;
+      parcel = t.parcel;
+      issue = t.issue;
+      start = t.start;
+      results = t.results.items;
+      free = t.free;
+    }
+
+-- the words that a point leaves
+pub record Takes (w w2 : Words) (q : Point) (place : ℕ) : Type 0 where
+  pub done : (r : Reg) → r.digit ≤ 7 → word_of w2.done.words r ≡ max (word_of w.done.words r) (greatest (λ (d : ResultAt). if same_reg d.reg r then d.time else 0) q.results)
+  pub read : (r : Reg) → r.digit ≤ 7 → word_of w2.read.words r ≡ max (word_of w.read.words r) (if has_reg r q.row.reads then q.start + 1 else 0)
+  pub units : w2.units.words ≡ set w.units.words place q.free
+  pub refs : w2.progress.refs ≡ max w.progress.refs (if touches q.row.memory then q.start + 1 else 0)
+  pub stores : w2.progress.stores ≡ max w.progress.stores (if stores q.row.memory then q.start + 1 else 0)
+  pub parcel : w2.progress.parcel ≡ q.parcel + q.row.parcels
+  pub next : w2.progress.next ≡ q.issue + q.row.parcels
+  pub total : w2.progress.total ≡ max w.progress.total (end_of q)
+  pub pushed : (m : ℕ) → has m (numbers_in w2.progress.pushed) ≡ (m == q.number || has m (numbers_in w.progress.pushed))
+
+-- what a step wrote over is put back
+abbrev pub after_undo : Words → Step → Words
+after_undo w k =
+    record {
+      done = record { words = put_back k.done.items w.done.words };
+      read = record { words = put_back k.read.items w.read.words };
+      units = record { words = set w.units.words k.unit k.free };
+      progress = k.progress;
+    }
+
+-- the points of steps, of which the newest stands first
+abbrev pub points_of_steps : Problem → List Step → List Point
+points_of_steps b [] = []
+points_of_steps b (k ∷ ks) = point_of b (points_of_steps b ks) k.number ∷ points_of_steps b ks
+
+-- the words are those of the steps, and so they are again after each undo
+abbrev pub AreKept : Problem → Words → List Step → Type 0
+AreKept b w [] = IsWords b.profile [] w
+AreKept b w (k ∷ ks) = IsWords b.profile (points_of_steps b (k ∷ ks)) w × AreKept b (after_undo w k) ks

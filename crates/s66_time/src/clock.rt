@@ -1,0 +1,149 @@
+use crate::row::{Row, rows_of};
+use crate::step::Step;
+use crate::words::Words;
+use arrayvec::ArrayVec;
+use s66_dep::Set;
+use s66_isa::{Kind, Profile, Reg};
+use s66_line::{BLOCK_LIMIT, Block};
+use std::marker::Model;
+
+/// The times of a beginning of a block's legal orders under a profile, in minor cycles from the issue of the first instruction:
+/// a number is pushed at its end, and the last one is undone.
+///
+/// It keeps a few words in place of the points, so that a push and an undo take a time that doesn't grow with the beginning.
+#[derive(Debug, Drop)]
+pub struct Clock<'a> {
+    block: &'a Block<'a>,
+    profile: Profile,
+    /// The rows of the block's instructions.
+    rows: ArrayVec<Row, BLOCK_LIMIT>,
+    words: Words,
+    /// What each push wrote over, the oldest first.
+    steps: ArrayVec<Step, BLOCK_LIMIT>,
+    looks: u32,
+}
+
+impl<'a> Model for Clock<'a> {
+    ghost use Rattle.s66_line.specs.Block.{instrs_of};
+    ghost use Rattle.s66_time.specs.Ticking.{Ticking, numbers_of, IsTicking};
+
+    ghost Value = { Ticking };
+
+    ghost view = { λ c. record { block = c.block.now; profile = c.profile; numbers = numbers_of c.steps.items; looks = c.looks } };
+
+    ghost invariant = { λ c. IsTicking (record { block = instrs_of c.block.now; profile = c.profile }) c.words c.steps.items c.rows.items };
+}
+
+impl<'a> Clock<'a> {
+    ghost use Rattle.std.specs.Prelude.{ℕ, ◌≡◌, ◌+◌, ◌-◌, ◌<◌, ◌≤◌, ◌++◌, [], ◌∷◌, true, length, take};
+    ghost use Rattle.s66_isa.specs.Lists.{weigh, has};
+    ghost use Rattle.s66_isa.specs.Table.{copies_of, kind_of, instr_at};
+    ghost use Rattle.s66_dep.specs.Members.{numbers_in};
+    ghost use Rattle.s66_line.specs.Block.{instrs_of};
+    ghost use Rattle.s66_model.specs.LegalOrder.{is_ready};
+    ghost use Rattle.s66_model.specs.Timing.{next, total, done_of};
+    ghost use Rattle.s66_model.specs.Leaves.{rest_busy};
+    ghost use Rattle.s66_time.specs.Ticking.{points};
+    ghost use Rattle.s66_time.specs.declared.limits.TheConstants.{TOTAL_LIMIT};
+
+    /// Before the first push, in time linear in the block's length.
+    pub fn new(block: &'a Block<'a>, profile: &Profile) -> Clock<'a>
+        ensures { result ≡ record { block = block.now; profile = profile.now; numbers = []; looks = 0 } }
+    {
+        prove!(block.count() <= BLOCK_LIMIT);
+        Clock {
+            block,
+            profile: *profile,
+            rows: rows_of(block, profile),
+            words: Words::new(),
+            steps: ArrayVec::new(),
+            looks: 0,
+        }
+    }
+
+    /// Pushes a number that is ready; the time is that of the copies of its unit, whatever was pushed before.
+    pub fn push(&mut self, n: u8)
+        requires { is_ready (instrs_of self.old.block) self.old.numbers n ≡ true }
+        ensures value { self.new ≡ record self.old { numbers = self.old.numbers ++ n ∷ []; looks = self.new.looks } }
+        ensures looks { self.new.looks ≤ 40 + copies_of self.old.profile (kind_of (instr_at (instrs_of self.old.block) n).op.code) }
+    {
+        let row = &self.rows[n as usize - 1];
+        let step = self.words.push(&self.profile, n, row);
+        self.looks = self.profile.copies(row.kind) + 2 * step.words() + 7;
+        self.steps.push(step);
+    }
+
+    /// Takes back the last push, in constant time.
+    pub fn undo(&mut self)
+        requires { 0 < length self.old.numbers }
+        ensures value { self.new ≡ record self.old { numbers = take (length self.old.numbers - 1) self.old.numbers; looks = self.new.looks } }
+        ensures looks { self.new.looks ≤ 40 }
+    {
+        let last = self.steps.len() - 1;
+        let step = &self.steps[last];
+        self.looks = step.words() + 8;
+        self.words.undo(step);
+        self.steps.truncate(last);
+    }
+
+    /// How many words the last push or undo read or wrote, its record counted as one; 0 before the first push.
+    pub fn looks(&self) -> u32
+        ensures { result ≡ self.now.looks }
+    {
+        self.looks
+    }
+
+    /// The block.
+    pub fn block(&self) -> &'a Block<'a>
+        ensures { result.now ≡ self.now.block }
+    {
+        self.block
+    }
+
+    /// The profile.
+    pub fn profile(&self) -> &Profile
+        ensures { result.now ≡ self.now.profile }
+    {
+        &self.profile
+    }
+
+    /// The set of the numbers that are pushed.
+    pub fn pushed(&self) -> Set
+        ensures { (m : ℕ) → has m (numbers_in result) ≡ has m self.now.numbers }
+    {
+        self.words.progress.pushed
+    }
+
+    /// The first minor cycle after the last issue in which an instruction can issue; 0 before the first push.
+    pub fn next(&self) -> u32
+        ensures value { result ≡ next (points self.now) }
+        ensures at_most { result ≤ TOTAL_LIMIT }
+    {
+        self.words.progress.next
+    }
+
+    /// The minor cycle in which all units are free and all results done; 0 before the first push.
+    pub fn total(&self) -> u32
+        ensures value { result ≡ total (points self.now) }
+        ensures at_most { result ≤ TOTAL_LIMIT }
+    {
+        self.words.progress.total
+    }
+
+    /// The minor cycle in which the last result in a register is done; 0 where none is written.
+    pub fn done_of(&self, register: Reg) -> u32
+        ensures { result ≡ done_of (points self.now) register }
+    {
+        self.words.done.at(register)
+    }
+
+    /// How many minor cycles the units of a kind work on from `next` until they are free, summed over the units; the time is that
+    /// of their number.
+    pub fn busy(&self, kind: Kind) -> u32
+        ensures { result ≡ weigh (rest_busy kind (next (points self.now))) (points self.now) }
+    {
+        self.words
+            .units
+            .rest(&self.profile, kind, self.words.progress.next)
+    }
+}

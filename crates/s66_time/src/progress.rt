@@ -1,0 +1,59 @@
+ghost use Rattle.std.specs.Prelude.{ℕ, ◌==◌, ◌||◌, ◌≡◌, ◌+◌, ◌≤◌, if◌then◌else◌, max};
+ghost use Rattle.s66_isa.specs.Lists.{greatest, has};
+ghost use Rattle.s66_isa.specs.Table.{touches, stores};
+ghost use Rattle.s66_dep.specs.Members.{numbers_in};
+ghost use Rattle.s66_model.specs.Timing.{ResultAt as ResultOf};
+
+use crate::result::last_time;
+use crate::row::Row;
+use crate::tick::Tick;
+use s66_dep::Set;
+use s66_isa::Memory;
+
+/// What a clock keeps in one word each.
+#[derive(Clone, Copy, Debug, Default, Drop)]
+pub struct Progress {
+    /// One minor cycle after the last start of a reference to memory, 0 where there is none.
+    pub refs: u32,
+    /// One minor cycle after the last start of a store, 0 where there is none.
+    pub stores: u32,
+    /// The parcel after those of the last instruction.
+    pub parcel: u32,
+    /// The first slot after the last issue.
+    pub next: u32,
+    /// When all units are free and all results done.
+    pub total: u32,
+    /// The numbers that are pushed.
+    pub pushed: Set,
+}
+
+impl Progress {
+    /// The progress after one more instruction, with its times.
+    pub fn after(&self, number: u8, row: &Row, tick: &Tick) -> Progress
+        requires number { (1 ≤ number) × (number ≤ 64) }
+        requires early { (tick.now.issue ≤ 20000) × (tick.now.parcel ≤ 20000) × (tick.now.start ≤ 20000) }
+        ensures refs { result.refs ≡ max self.now.refs (if touches row.now.memory then tick.now.start + 1 else 0) }
+        ensures stores { result.stores ≡ max self.now.stores (if stores row.now.memory then tick.now.start + 1 else 0) }
+        ensures parcel { result.parcel ≡ tick.now.parcel + row.now.parcels }
+        ensures next { result.next ≡ tick.now.issue + row.now.parcels }
+        ensures total { result.total ≡ max self.now.total (max tick.now.free (greatest (λ (d : ResultOf). d.time) tick.now.results.items)) }
+        ensures pushed { (m : ℕ) → has m (numbers_in result.pushed) ≡ (m == number || has m (numbers_in self.now.pushed)) }
+    {
+        let started = tick.start + 1;
+        let (references, stored) = match row.memory {
+            Memory::None => (0, 0),
+            Memory::Load => (started, 0),
+            Memory::Store => (started, started),
+        };
+        Progress {
+            refs: self.refs.max(references),
+            stores: self.stores.max(stored),
+            parcel: tick.parcel + row.parcels,
+            next: tick.issue + row.parcels,
+            total: self
+                .total
+                .max(tick.free.max(last_time(tick.results.as_slice()))),
+            pushed: self.pushed.with(number),
+        }
+    }
+}

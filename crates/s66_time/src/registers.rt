@@ -1,0 +1,124 @@
+ghost use Rattle.std.specs.Prelude.{ℕ, ◌≡◌, ◌+◌, ◌<◌, ◌≤◌, map, if◌then◌else◌, length, max};
+ghost use Rattle.s66_isa.specs.Lists.{greatest};
+ghost use Rattle.s66_isa.specs.Table.{Reg as RegOf, Write as WriteOf, same_reg, has_reg};
+ghost use Rattle.s66_model.specs.Timing.{ResultAt as ResultOf};
+ghost use Rattle.s66_time.specs.ClockWords.{Tells};
+ghost use Rattle.s66_time.specs.Places.{word_of, put_back};
+
+use crate::result::ResultAt;
+use crate::step::Saved;
+use arrayvec::ArrayVec;
+use s66_isa::{Reg, Write};
+
+/// A word for each register, by its index.
+#[derive(Debug, Drop)]
+pub struct RegisterWords {
+    pub words: [u32; 24],
+}
+
+impl RegisterWords {
+    /// All words are 0.
+    pub fn new() -> RegisterWords
+        ensures { (r : RegOf) → word_of result.words r ≡ 0 }
+    {
+        RegisterWords { words: [0; 24] }
+    }
+
+    /// The word of a register.
+    pub fn at(&self, register: Reg) -> u32
+        ensures { (f : RegOf → ℕ) → Tells self.now.words f → result ≡ f register }
+    {
+        self.words[register.index() as usize]
+    }
+
+    /// The greatest word of these registers.
+    pub fn greatest(&self, registers: &[Reg]) -> u32
+        ensures { (f : RegOf → ℕ) → Tells self.now.words f → result ≡ greatest f registers.now }
+    {
+        let mut last = 0u32;
+        for register in registers {
+            last = last.max(self.at(*register));
+        }
+        last
+    }
+
+    /// The greatest word of the registers that are written.
+    pub fn greatest_written(&self, writes: &[Write]) -> u32
+        ensures { (f : RegOf → ℕ) → Tells self.now.words f → result ≡ greatest (λ (w : WriteOf). f w.reg) writes.now }
+    {
+        let mut last = 0u32;
+        for write in writes {
+            last = last.max(self.at(write.reg));
+        }
+        last
+    }
+
+    /// When each result is done, where the unit starts then and these are the words of the readers.
+    pub fn results(&self, writes: &[Write], start: u32) -> ArrayVec<ResultAt, 2>
+        requires few { length writes.now ≤ 2 }
+        requires latencies { greatest (λ (w : WriteOf). w.latency) writes.now ≤ 100 }
+        requires start { start ≤ 20000 }
+        ensures { (f : RegOf → ℕ) → Tells self.now.words f → result.items ≡ map (λ (w : WriteOf). record { reg = w.reg; time = max (start + w.latency) (f w.reg); held = w.held }) writes.now }
+    {
+        let mut results = ArrayVec::new();
+        for write in writes {
+            results.push(ResultAt {
+                reg: write.reg,
+                time: (start + write.latency).max(self.at(write.reg)),
+                held: write.held,
+            });
+        }
+        results
+    }
+
+    /// Raises the word of a register to a time, and saves what stood there.
+    fn raise(&mut self, register: Reg, time: u32, saved: &mut ArrayVec<Saved, 4>)
+        requires { length saved.old.items < 4 }
+        ensures words { (r : RegOf) → r.digit ≤ 7 → word_of self.new.words r ≡ max (word_of self.old.words r) (if same_reg register r then time else 0) }
+        ensures saved { put_back saved.new.items self.new.words ≡ put_back saved.old.items self.old.words }
+        ensures len { length saved.new.items ≡ length saved.old.items + 1 }
+    {
+        let place = register.index();
+        let word = self.words[place as usize];
+        saved.push(Saved { place, word });
+        self.words[place as usize] = word.max(time);
+    }
+
+    /// Raises the words of the registers of results to the times at which they are done; it answers what stood there.
+    pub fn raise_results(&mut self, results: &[ResultAt]) -> ArrayVec<Saved, 4>
+        requires { length results.now ≤ 2 }
+        ensures words { (r : RegOf) → r.digit ≤ 7 → word_of self.new.words r ≡ max (word_of self.old.words r) (greatest (λ (d : ResultOf). if same_reg d.reg r then d.time else 0) results.now) }
+        ensures saved { put_back result.items self.new.words ≡ self.old.words }
+    {
+        let mut saved = ArrayVec::new();
+        for done in results {
+            self.raise(done.reg, done.time, &mut saved);
+        }
+        saved
+    }
+
+    /// Raises the words of registers to a time; it answers what stood there.
+    pub fn raise_all(&mut self, registers: &[Reg], time: u32) -> ArrayVec<Saved, 4>
+        requires { length registers.now ≤ 4 }
+        ensures words { (r : RegOf) → r.digit ≤ 7 → word_of self.new.words r ≡ max (word_of self.old.words r) (if has_reg r registers.now then time else 0) }
+        ensures saved { put_back result.items self.new.words ≡ self.old.words }
+    {
+        let mut saved = ArrayVec::new();
+        for register in registers {
+            self.raise(*register, time, &mut saved);
+        }
+        saved
+    }
+
+    /// Puts back what was saved, the last word first.
+    pub fn put_back(&mut self, saved: &[Saved])
+        ensures { self.new.words ≡ put_back saved.now self.old.words }
+    {
+        let mut left = saved.len();
+        while left > 0 {
+            left -= 1;
+            let before = saved[left];
+            self.words[before.place as usize] = before.word;
+        }
+    }
+}

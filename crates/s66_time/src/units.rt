@@ -1,0 +1,69 @@
+ghost use Rattle.std.specs.Prelude.{ℕ, ◌≡◌, ◌+◌, ◌-◌, ◌*◌, ◌<◌, ◌≤◌, ◌^◌, length, set, get_or, replicate};
+ghost use Rattle.s66_isa.specs.Lists.{greatest, weigh};
+ghost use Rattle.s66_isa.specs.Table.{copies_of};
+ghost use Rattle.s66_time.specs.Places.{first_unit, units_of};
+
+use s66_isa::{Kind, Profile};
+
+/// A word for each copy of a unit: when it is free.
+#[derive(Debug, Drop)]
+pub struct UnitWords {
+    pub words: [u32; 700],
+}
+
+/// The place of the first unit of a kind.
+fn first_unit(kind: Kind) -> usize
+    ensures value { result ≡ first_unit kind }
+    ensures within { result + 100 ≤ 700 }
+{
+    match kind {
+        Kind::Boolean => 0,
+        Kind::Shift => 100,
+        Kind::Add => 200,
+        Kind::LongAdd => 300,
+        Kind::Multiply => 400,
+        Kind::Divide => 500,
+        Kind::Increment => 600,
+    }
+}
+
+impl UnitWords {
+    /// All words are 0.
+    pub fn new() -> UnitWords
+        ensures { result.words ≡ replicate 700 0 }
+    {
+        UnitWords { words: [0; 700] }
+    }
+
+    /// The place of a unit of the kind that no other is free before.
+    pub fn soonest(&self, profile: &Profile, kind: Kind) -> usize
+        ensures within { result < 700 }
+        ensures own { first_unit kind ≤ result }
+        ensures copy { result - first_unit kind < copies_of profile.now kind }
+        ensures least { (i : ℕ) → i < copies_of profile.now kind → get_or self.now.words result 0 ≤ get_or self.now.words (first_unit kind + i) 0 }
+    {
+        let first = first_unit(kind);
+        let copies = profile.copies(kind) as usize;
+        let mut soonest = first;
+        for copy in 1..copies {
+            if self.words[first + copy] < self.words[soonest] {
+                soonest = first + copy;
+            }
+        }
+        soonest
+    }
+
+    /// How long the units of a kind are still to work after a time, all together.
+    pub fn rest(&self, profile: &Profile, kind: Kind, time: u32) -> u32
+        requires { greatest (λ (w : ℕ). w) (units_of profile.now kind self.now.words) ≤ 10000 }
+        ensures { result ≡ weigh (λ w. w - time) (units_of profile.now kind self.now.words) }
+    {
+        let first = first_unit(kind);
+        let copies = profile.copies(kind) as usize;
+        let mut rest = 0;
+        for copy in 0..copies {
+            rest += self.words[first + copy].saturating_sub(time);
+        }
+        rest
+    }
+}

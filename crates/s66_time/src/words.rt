@@ -1,0 +1,157 @@
+ghost use Rattle.std.specs.Prelude.{ℕ, ◌≡◌, ◌+◌, ◌-◌, ◌<◌, ◌≤◌, List, [], ◌∷◌};
+ghost use Rattle.s66_isa.specs.declared.profile.Profile.{Profile as ProfileOf};
+ghost use Rattle.s66_model.specs.Packing.{fits_at};
+ghost use Rattle.s66_model.specs.Timing.{IsInRange, Point, issue_of, start_of, point};
+ghost use Rattle.s66_time.specs.Seen.{under};
+ghost use Rattle.s66_time.specs.ClockWords.{IsWords, InTurn, IsSoonest, Follows, wait_of, point_of_tick, after_undo, Takes};
+
+use crate::packing::fits_at;
+use crate::progress::Progress;
+use crate::registers::RegisterWords;
+use crate::result::free_after;
+use crate::row::Row;
+use crate::step::Step;
+use crate::tick::Tick;
+use crate::units::UnitWords;
+use s66_dep::Set;
+use s66_isa::{Memory, Profile};
+
+/// The words of a clock: for each register when the last of its writers is done, and one minor cycle after the last start of its
+/// readers; for each unit when it is free; and the progress.
+#[derive(Debug, Drop)]
+pub struct Words {
+    pub done: RegisterWords,
+    pub read: RegisterWords,
+    pub units: UnitWords,
+    pub progress: Progress,
+}
+
+impl Words {
+    /// Before the first push.
+    pub fn new() -> Words
+        ensures { (p : ProfileOf) → IsWords p [] result }
+    {
+        Words {
+            done: RegisterWords::new(),
+            read: RegisterWords::new(),
+            units: UnitWords::new(),
+            progress: Progress {
+                refs: 0,
+                stores: 0,
+                parcel: 0,
+                next: 0,
+                total: 0,
+                pushed: Set::empty(),
+            },
+        }
+    }
+
+    /// The first slot of an instruction of so many parcels.
+    fn slot(&self, parcels: u32) -> u32
+        requires parcel { self.now.progress.parcel ≤ 20000 }
+        requires next { self.now.progress.next ≤ 20000 }
+        ensures { result ≡ self.now.progress.next + (fits_at self.now.progress.parcel parcels - self.now.progress.parcel) }
+    {
+        self.progress.next + (fits_at(self.progress.parcel, parcels) - self.progress.parcel)
+    }
+
+    /// From when on a reference to memory of this kind may start.
+    fn memory_wait(&self, memory: Memory) -> u32
+        ensures { result ≡ wait_of memory self.now.progress.refs self.now.progress.stores }
+    {
+        match memory {
+            Memory::None => 0,
+            Memory::Load => self.progress.stores,
+            Memory::Store => self.progress.refs,
+        }
+    }
+
+    /// When the instruction issues that takes this unit, the soonest of its kind.
+    fn issue(&self, profile: &Profile, row: &Row, unit: usize) -> u32
+        requires follows { Follows profile.now self.now }
+        requires within { unit < 700 }
+        requires soonest { IsSoonest profile.now row.now.kind self.now.units.words unit }
+        ensures { (s : List Point) → IsWords profile.now s self.now → result ≡ issue_of (under profile.now) s row.now }
+    {
+        let slot = self.slot(row.parcels);
+        let written = self.done.greatest_written(row.writes.as_slice());
+        slot.max(self.units.words[unit].max(written))
+    }
+
+    /// When the instruction starts that issues then.
+    fn start(&self, row: &Row, issue: u32) -> u32
+        ensures { (p : ProfileOf) (s : List Point) → IsWords p s self.now → InTurn s → issue ≡ issue_of (under p) s row.now → result ≡ start_of (under p) s row.now }
+    {
+        let done = self.done.greatest(row.reads.as_slice());
+        issue.max(done.max(self.memory_wait(row.memory)))
+    }
+
+    /// Where and when the instruction is placed next.
+    pub fn tick(&self, profile: &Profile, row: &Row) -> Tick
+        requires follows { Follows profile.now self.now }
+        ensures soonest { IsSoonest profile.now row.now.kind self.now.units.words result.unit }
+        ensures value { (s : List Point) (n : ℕ) → IsWords profile.now s self.now → InTurn s → point_of_tick n row.now result ≡ point (under profile.now) s n row.now }
+        ensures good { IsInRange row.now }
+        ensures early { (result.issue ≤ 20000) × (result.parcel ≤ 20000) × (result.start ≤ 20000) }
+    {
+        let unit = self.units.soonest(profile, row.kind);
+        let issue = self.issue(profile, row, unit);
+        let start = self.start(row, issue);
+        let results = self.read.results(row.writes.as_slice(), start);
+        let free = free_after(start, row.hold, results.as_slice());
+        Tick {
+            unit,
+            parcel: fits_at(self.progress.parcel, row.parcels),
+            issue,
+            start,
+            free,
+            results,
+        }
+    }
+
+    /// Places the next instruction there, and answers what was written over.
+    fn take(&mut self, number: u8, row: &Row, tick: &Tick) -> Step
+        requires number { (1 ≤ number) × (number ≤ 64) }
+        requires early { (tick.now.issue ≤ 20000) × (tick.now.parcel ≤ 20000) × (tick.now.start ≤ 20000) }
+        ensures number { result.number ≡ number }
+        ensures back { after_undo self.new result ≡ self.old }
+        ensures takes { Takes self.old self.new (point_of_tick number row.now tick.now) tick.now.unit }
+    {
+        let progress = self.progress;
+        let free = self.units.words[tick.unit];
+        let done = self.done.raise_results(tick.results.as_slice());
+        let read = self.read.raise_all(row.reads.as_slice(), tick.start + 1);
+        self.units.words[tick.unit] = tick.free;
+        self.progress = self.progress.after(number, row, tick);
+        Step {
+            number,
+            unit: tick.unit,
+            free,
+            done,
+            read,
+            progress,
+        }
+    }
+
+    /// Places the next instruction, and answers what was written over.
+    pub fn push(&mut self, profile: &Profile, number: u8, row: &Row) -> Step
+        requires number { (1 ≤ number) × (number ≤ 64) }
+        requires follows { Follows profile.now self.old }
+        ensures number { result.number ≡ number }
+        ensures back { after_undo self.new result ≡ self.old }
+        ensures words { (s : List Point) → IsWords profile.now s self.old → InTurn s → IsWords profile.now (point (under profile.now) s number row.now ∷ s) self.new }
+    {
+        let tick = self.tick(profile, row);
+        self.take(number, row, &tick)
+    }
+
+    /// Puts back what a push wrote over.
+    pub fn undo(&mut self, step: &Step)
+        ensures { self.new ≡ after_undo self.old step.now }
+    {
+        self.done.put_back(step.done.as_slice());
+        self.read.put_back(step.read.as_slice());
+        self.units.words[step.unit] = step.free;
+        self.progress = step.progress;
+    }
+}
