@@ -14,6 +14,7 @@ use Rattle.s66_isa.specs.Table.{Write, Row, memory_pair, touches, stores, copies
 use Rattle.s66_model.specs.Packing.{fits_at}
 use Rattle.s66_model.specs.Timing.{Point, ResultAt, slot_of, next, next_parcel, done_of, last_done, busy_at, issue_of, start_of, total, point, IsInRange, result_at, free_after}
 use Rattle.s66_time.specs.declared.words.Words.{Words}
+use Rattle.s66_time.specs.declared.limits.TheConstants.{COPIES_LIMIT, TOTAL_LIMIT, UNIT_LIMIT}
 use Rattle.s66_time.specs.Seen.{under}
 use Rattle.s66_time.specs.Places.{first_unit, units_of, put_back}
 use Rattle.s66_time.specs.ClockWords.{refs_wait, stores_wait, wait_of, IsWords, InTurn, IsSoonest, Follows, Takes}
@@ -50,7 +51,7 @@ pub slot-is : (s : List Point) (len : ℕ) → slot_of s len ≡ next s + (fits_
 slot-is [] len = omega (arith, none-first len)
 slot-is (p ∷ s) len = omega (arith, fits_at-ge (p.parcel + p.row.parcels) len)
 
-units-within : (p : Profile) (kind : Kind) → (1 ≤ copies_of p kind) × (copies_of p kind ≤ 100)
+units-within : (p : Profile) (kind : Kind) → (1 ≤ copies_of p kind) × (copies_of p kind ≤ COPIES_LIMIT)
 units-within p Boolean = (p.units.0, p.few.0)
 units-within p Shift = (p.units.1, p.few.1)
 units-within p Add = (p.units.2, p.few.2)
@@ -68,7 +69,7 @@ kinds-few Multiply = omega arith
 kinds-few Divide = omega arith
 kinds-few Increment = omega arith
 
-pub units-length : (p : Profile) (kind : Kind) (words : List ℕ) → length words ≡ 700 → length (units_of p kind words) ≡ copies_of p kind
+pub units-length : (p : Profile) (kind : Kind) (words : List ℕ) → length words ≡ UNIT_LIMIT → length (units_of p kind words) ≡ copies_of p kind
 units-length p kind words size =
     omega (arith, length-take (copies_of p kind) (drop (first_unit kind) words), length-drop (first_unit kind) words, units-within p kind, kinds-few kind, size)
 
@@ -80,7 +81,7 @@ soonest-word p kind words place is =
     let e : first_unit kind + (place - first_unit kind) ≡ place = omega (arith, is.own) in
     unit-at p kind words (place - first_unit kind) is.copy ∙ ap (λ k. get_or words k 0) e
 
-pub soonest-least : (p : Profile) (kind : Kind) (words : List ℕ) (place : ℕ) → length words ≡ 700 → IsSoonest p kind words place → IsLeast (units_of p kind words) (place - first_unit kind)
+pub soonest-least : (p : Profile) (kind : Kind) (words : List ℕ) (place : ℕ) → length words ≡ UNIT_LIMIT → IsSoonest p kind words place → IsLeast (units_of p kind words) (place - first_unit kind)
 soonest-least p kind words place size is =
     let len = units-length p kind words size in
     record {
@@ -224,7 +225,7 @@ next-small : (s : List Point) → InTurn s → next s ≤ total s + 2
 next-small [] turn = omega arith
 next-small (p ∷ s) turn = omega (arith, turn.starts, turn.parcels)
 
-pub follows-small : (p : Profile) (w : Words) → Follows p w → (w.progress.next ≤ 10002) × (w.progress.parcel ≤ 10002)
+pub follows-small : (p : Profile) (w : Words) → Follows p w → (w.progress.next ≤ TOTAL_LIMIT + 2) × (w.progress.parcel ≤ TOTAL_LIMIT + 2)
 follows-small p w (s, is, turn) = (omega (arith, is.next, next-small s turn, turn.early), omega (arith, is.parcel, next-small s turn, turn.early, turn.parcel))
 
 pub slot-words : (p : Profile) (s : List Point) (w : Words) (r : Row) → IsWords p s w → w.progress.next + (fits_at w.progress.parcel r.parcels - w.progress.parcel) ≡ slot_of s r.parcels
@@ -232,7 +233,7 @@ slot-words p s w r is =
     ap (λ n. n + (fits_at w.progress.parcel r.parcels - w.progress.parcel)) is.next
     ∙ ap (λ q. next s + (fits_at q r.parcels - q)) is.parcel ∙ sym (slot-is s r.parcels)
 
-pub start-early : (p : Profile) (s : List Point) (r : Row) (issue start : ℕ) → InTurn s → issue ≡ issue_of (under p) s r → start ≡ start_of (under p) s r → (issue ≤ 10003) × (start ≤ 10003)
+pub start-early : (p : Profile) (s : List Point) (r : Row) (issue start : ℕ) → InTurn s → issue ≡ issue_of (under p) s r → start ≡ start_of (under p) s r → (issue ≤ TOTAL_LIMIT + 3) × (start ≤ TOTAL_LIMIT + 3)
 start-early p s r issue start turn e1 e2 =
     let le : start_of (under p) s r ≤ total s + 3 = start-le (under p) s r (small-turn s turn) in
     (omega (arith, e1, start-ge (under p) s r, le, turn.early), omega (arith, e2, le, turn.early))
@@ -253,9 +254,9 @@ drop-zeros zero n = (n, refl)
 drop-zeros (suc c) zero = (0, refl)
 drop-zeros (suc c) (suc n) = drop-zeros c n
 
-pub zero-units : (p : Profile) (kind : Kind) (t : ℕ) (words : List ℕ) → words ≡ replicate 700 0 → tally (λ (f : ℕ). ltb t f) (units_of p kind words) ≡ min (copies_of p kind) (tally (busy_at kind t) [])
+pub zero-units : (p : Profile) (kind : Kind) (t : ℕ) (words : List ℕ) → words ≡ replicate UNIT_LIMIT 0 → tally (λ (f : ℕ). ltb t f) (units_of p kind words) ≡ min (copies_of p kind) (tally (busy_at kind t) [])
 zero-units p kind t words is =
-    let (m, e1) = drop-zeros (first_unit kind) 700 in
+    let (m, e1) = drop-zeros (first_unit kind) UNIT_LIMIT in
     let (k, e2) = take-zeros (copies_of p kind) m in
     let e : units_of p kind words ≡ replicate k 0 = ap (units_of p kind) is ∙ ap (take (copies_of p kind)) e1 ∙ e2 in
     omega (arith, ap (tally (λ (f : ℕ). ltb t f)) e, none-later t k)

@@ -15,6 +15,8 @@ use Rattle.s66_model.proofs.ChainBound.{last-is_greatest}
 use Rattle.s66_model.proofs.PointTimes.{good-at, point_of-row, point_of-number, issue-le-start, hold-le-free}
 use Rattle.s66_model.proofs.Issue.{issue-late}
 use Rattle.s66_dep.proofs.Fronts.{beginning-few}
+use Rattle.s66_line.specs.declared.limits.TheConstants.{BLOCK_LIMIT}
+use Rattle.s66_time.specs.declared.limits.TheConstants.{TOTAL_LIMIT}
 use Rattle.s66_time.specs.Seen.{under}
 use Rattle.s66_time.specs.ClockWords.{IsWords, InTurn, points_of_steps, AreKept, after_undo}
 use Rattle.s66_time.specs.Ticking.{numbers_of, IsClock}
@@ -49,7 +51,7 @@ fair-run : (b : Problem) (s : List Point) (ns : List ℕ) → AreFair s → AreF
 fair-run b s [] fair = fair
 fair-run b s (n ∷ ns) fair = fair-run b (point_of b s n ∷ s) ns (fair-step b s n fair)
 
-pub in-turn : (b : Problem) (ns : List ℕ) → length ns ≤ 64 → InTurn (points_of b ns)
+pub in-turn : (b : Problem) (ns : List ℕ) → length ns ≤ BLOCK_LIMIT → InTurn (points_of b ns)
 in-turn b ns few =
     let fair = fair-run b [] ns (record { starts = omega arith; parcels = omega arith; parcel = omega arith }) in
     record {
@@ -90,7 +92,7 @@ length-numbers (k ∷ ks) = ap suc (length-numbers ks)
 pub clock-turn : (b : Problem) (w : Words) (ks : List Step) → IsClock b w ks → InTurn (points_of b (numbers_of ks))
 clock-turn b w ks is = in-turn b (numbers_of ks) (omega (arith, beginning-few b.block (numbers_of ks) is.begins, is.few))
 
-pub clock-total : (b : Problem) (w : Words) (ks : List Step) → IsClock b w ks → total (points_of b (numbers_of ks)) ≤ 6656
+pub clock-total : (b : Problem) (w : Words) (ks : List Step) → IsClock b w ks → total (points_of b (numbers_of ks)) ≤ TOTAL_LIMIT
 clock-total b w ks is =
     omega (arith, total-le b (numbers_of ks), length-numbers ks, beginning-few b.block (numbers_of ks) is.begins, is.few)
 
@@ -115,7 +117,7 @@ has-points b m ns = has-points_after b m [] ns ∙ or-false (has m ns)
 ready-beginning : (block : List Instr) (ns : List ℕ) (n : ℕ) → IsBeginning block ns → is_ready block ns n ≡ true → IsBeginning block (ns ++ n ∷ [])
 ready-beginning block ns n h ready = GoesOn-join block [] ns (n ∷ []) h (ready, tt)
 
-pub room-left : (b : Problem) (w : Words) (ks : List Step) (n : ℕ) → IsClock b w ks → is_ready b.block (numbers_of ks) n ≡ true → length ks < 64
+pub room-left : (b : Problem) (w : Words) (ks : List Step) (n : ℕ) → IsClock b w ks → is_ready b.block (numbers_of ks) n ≡ true → length ks < BLOCK_LIMIT
 room-left b w ks n is ready =
     omega (arith, beginning-few b.block (numbers_of ks ++ n ∷ []) (ready-beginning b.block (numbers_of ks) n is.begins ready), length-append (numbers_of ks) (n ∷ []), length-numbers ks, is.few)
 
@@ -159,7 +161,7 @@ clock-fits b kind ns = fits-run b kind [] ns (omega arith)
 pub clock-next : (b : Problem) (ns : List ℕ) → next (points_of b ns) ≤ total (points_of b ns)
 clock-next b ns = next-le-total b [] ns (omega arith)
 
-pub clock-start : (b : Problem) (w : Words) (ks : List Step) → length b.block ≤ 64 → ks ≡ [] → ((p : Profile) → IsWords p [] w) → IsClock b w ks
+pub clock-start : (b : Problem) (w : Words) (ks : List Step) → length b.block ≤ BLOCK_LIMIT → ks ≡ [] → ((p : Profile) → IsWords p [] w) → IsClock b w ks
 clock-start b w ks few none words =
     subst (λ xs. IsClock b w xs) (sym none) (record { few = few; begins = tt; kept = words b.profile })
 

@@ -9,6 +9,7 @@ use Rattle.s66_isa.specs.Lists.{greatest, tally, has}
 use Rattle.s66_isa.specs.Table.{Row, touches, stores, copies_of, same_reg, has_reg}
 use Rattle.s66_model.specs.Timing.{Problem, Point, ResultAt, end_of, done_of, last_done, readers_wait, busy_at, next, next_parcel, total, point_of}
 use Rattle.s66_dep.specs.Members.{numbers_in}
+use Rattle.s66_time.specs.declared.limits.TheConstants.{TOTAL_LIMIT, UNIT_LIMIT}
 use Rattle.s66_time.specs.Places.{word_of, first_unit, units_of, put_back}
 use Rattle.s66_time.specs.declared.words.Words.{Words}
 use Rattle.s66_time.specs.declared.tick.Tick.{Tick}
@@ -36,7 +37,7 @@ pub record IsWords (p : Profile) (s : List Point) (w : Words) : Type 0 where
   pub read : Tells w.read.words (readers_wait s)
   -- of each kind as many words are later than t as units are busy, where there are so many
   pub units : (kind : Kind) (t : ℕ) → tally (λ (f : ℕ). nat_lt t f) (units_of p kind w.units.words) ≡ min (copies_of p kind) (tally (busy_at kind t) s)
-  pub size : length w.units.words ≡ 700
+  pub size : length w.units.words ≡ UNIT_LIMIT
   pub refs : w.progress.refs ≡ refs_wait s
   pub stores : w.progress.stores ≡ stores_wait s
   pub parcel : w.progress.parcel ≡ next_parcel s
@@ -52,7 +53,7 @@ pub record IsSoonest (p : Profile) (kind : Kind) (words : List ℕ) (place : ℕ
 
 -- points whose times are small, and in which each register's latest writer is done last
 pub record InTurn (s : List Point) : Type 0 where
-  pub early : total s ≤ 10000
+  pub early : total s ≤ TOTAL_LIMIT
   pub starts : greatest (λ (p : Point). max p.issue p.start + 1) s ≤ total s
   pub parcels : greatest (λ (p : Point). p.row.parcels) s ≤ 2
   pub latest : (r : Reg) → last_done r s ≡ done_of s r

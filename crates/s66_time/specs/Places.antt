@@ -5,6 +5,7 @@ use Rattle.s66_isa.specs.declared.instr.Kind.{Kind}
 use Rattle.s66_isa.specs.declared.profile.Profile.{Profile}
 use Rattle.s66_isa.specs.Registers.{index_of}
 use Rattle.s66_isa.specs.Table.{kind_number, copies_of}
+use Rattle.s66_time.specs.declared.limits.TheConstants.{COPIES_LIMIT}
 use Rattle.s66_time.specs.declared.step.Saved.{Saved}
 
 abbrev pub word_of : List ℕ → Reg → ℕ
@@ -16,7 +17,7 @@ put_back [] words = words
 put_back (w ∷ ws) words = set (put_back ws words) w.place w.word
 
 abbrev pub first_unit : Kind → ℕ
-first_unit kind = kind_number kind * 100
+first_unit kind = kind_number kind * COPIES_LIMIT
 
 -- the words of the units of a kind
 abbrev pub units_of : Profile → Kind → List ℕ → List ℕ

@@ -4,6 +4,7 @@ use Rattle.s66_isa.specs.declared.profile.Profile.{Profile}
 use Rattle.s66_isa.specs.Table.{Row, row}
 use Rattle.s66_model.specs.Timing.{Problem, Point, points_of}
 use Rattle.s66_model.specs.LegalOrder.{IsBeginning}
+use Rattle.s66_line.specs.declared.limits.TheConstants.{BLOCK_LIMIT}
 use Rattle.s66_line.specs.Source.{Block}
 use Rattle.s66_line.specs.Block.{instrs_of}
 use Rattle.s66_time.specs.ClockWords.{AreKept}
@@ -28,7 +29,7 @@ numbers_of steps = map (λ (k : Step). k.number) steps
 
 -- what is true of every clock
 pub record IsClock (b : Problem) (w : Words) (steps : List Step) : Type 0 where
-  pub few : length b.block ≤ 64
+  pub few : length b.block ≤ BLOCK_LIMIT
   pub begins : IsBeginning b.block (numbers_of steps)
   pub kept : AreKept b w (reverse steps)
 

@@ -44,7 +44,7 @@ impl<'a> Clock<'a> {
     ghost use Rattle.s66_model.specs.Timing.{next, total, done_of};
     ghost use Rattle.s66_model.specs.Leaves.{rest_busy};
     ghost use Rattle.s66_time.specs.Ticking.{points};
-    ghost use Rattle.s66_time.specs.declared.limits.TheConstants.{TOTAL_LIMIT};
+    ghost use Rattle.s66_time.specs.declared.limits.TheConstants.{LOOK_LIMIT, TOTAL_LIMIT};
 
     /// Before the first push, in time linear in the block's length.
     pub fn new(block: &'a Block<'a>, profile: &Profile) -> Clock<'a>
@@ -65,7 +65,7 @@ impl<'a> Clock<'a> {
     pub fn push(&mut self, n: u8)
         requires { is_ready (instrs_of self.old.block) self.old.numbers n ≡ true }
         ensures value { self.new ≡ record self.old { numbers = self.old.numbers ++ n ∷ []; looks = self.new.looks } }
-        ensures looks { self.new.looks ≤ 40 + copies_of self.old.profile (kind_of (instr_at (instrs_of self.old.block) n).op.code) }
+        ensures looks { self.new.looks ≤ LOOK_LIMIT + copies_of self.old.profile (kind_of (instr_at (instrs_of self.old.block) n).op.code) }
     {
         let row = &self.rows[n as usize - 1];
         let step = self.words.push(&self.profile, n, row);
@@ -77,7 +77,7 @@ impl<'a> Clock<'a> {
     pub fn undo(&mut self)
         requires { 0 < length self.old.numbers }
         ensures value { self.new ≡ record self.old { numbers = take (length self.old.numbers - 1) self.old.numbers; looks = self.new.looks } }
-        ensures looks { self.new.looks ≤ 40 }
+        ensures looks { self.new.looks ≤ LOOK_LIMIT }
     {
         let last = self.steps.len() - 1;
         let step = &self.steps[last];

@@ -17,6 +17,6 @@ mod units;
 mod words;
 
 pub use clock::Clock;
-pub use limits::TOTAL_LIMIT;
+pub use limits::{LOOK_LIMIT, TOTAL_LIMIT};
 pub use packing::{Packing, pack};
 pub use timed::{Timed, Times, time_of};

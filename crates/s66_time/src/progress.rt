@@ -2,7 +2,9 @@ ghost use Rattle.std.specs.Prelude.{ℕ, ◌==◌, ◌||◌, ◌≡◌, ◌+◌,
 ghost use Rattle.s66_isa.specs.Lists.{greatest, has};
 ghost use Rattle.s66_isa.specs.Table.{touches, stores};
 ghost use Rattle.s66_dep.specs.Members.{numbers_in};
+ghost use Rattle.s66_line.specs.declared.limits.TheConstants.{BLOCK_LIMIT};
 ghost use Rattle.s66_model.specs.Timing.{ResultAt as ResultOf};
+ghost use Rattle.s66_time.specs.declared.limits.TheConstants.{TOTAL_LIMIT};
 
 use crate::result::last_time;
 use crate::row::Row;
@@ -30,8 +32,8 @@ pub struct Progress {
 impl Progress {
     /// The progress after one more instruction, with its times.
     pub fn after(&self, number: u8, row: &Row, tick: &Tick) -> Progress
-        requires number { (1 ≤ number) × (number ≤ 64) }
-        requires early { (tick.now.issue ≤ 20000) × (tick.now.parcel ≤ 20000) × (tick.now.start ≤ 20000) }
+        requires number { (1 ≤ number) × (number ≤ BLOCK_LIMIT) }
+        requires early { (tick.now.issue ≤ TOTAL_LIMIT + 3) × (tick.now.parcel ≤ TOTAL_LIMIT + 3) × (tick.now.start ≤ TOTAL_LIMIT + 3) }
         ensures refs { result.refs ≡ max self.now.refs (if touches row.now.memory then tick.now.start + 1 else 0) }
         ensures stores { result.stores ≡ max self.now.stores (if stores row.now.memory then tick.now.start + 1 else 0) }
         ensures parcel { result.parcel ≡ tick.now.parcel + row.now.parcels }

@@ -2,9 +2,11 @@ ghost use Rattle.std.specs.Prelude.{ℕ, ◌≡◌, ◌+◌, ◌<◌, ◌≤◌,
 ghost use Rattle.s66_isa.specs.Lists.{greatest};
 ghost use Rattle.s66_isa.specs.Table.{Reg as RegOf, Write as WriteOf, same_reg, has_reg};
 ghost use Rattle.s66_model.specs.Timing.{ResultAt as ResultOf};
+ghost use Rattle.s66_time.specs.declared.limits.TheConstants.{TOTAL_LIMIT};
 ghost use Rattle.s66_time.specs.ClockWords.{Tells};
 ghost use Rattle.s66_time.specs.Places.{word_of, put_back};
 
+use crate::limits::REGISTER_COUNT;
 use crate::result::ResultAt;
 use crate::step::Saved;
 use arrayvec::ArrayVec;
@@ -13,7 +15,7 @@ use s66_isa::{Reg, Write};
 /// A word for each register, by its index.
 #[derive(Debug, Drop)]
 pub struct RegisterWords {
-    pub words: [u32; 24],
+    pub words: [u32; REGISTER_COUNT],
 }
 
 impl RegisterWords {
@@ -21,7 +23,9 @@ impl RegisterWords {
     pub fn new() -> RegisterWords
         ensures { (r : RegOf) → word_of result.words r ≡ 0 }
     {
-        RegisterWords { words: [0; 24] }
+        RegisterWords {
+            words: [0; REGISTER_COUNT],
+        }
     }
 
     /// The word of a register.
@@ -57,7 +61,7 @@ impl RegisterWords {
     pub fn results(&self, writes: &[Write], start: u32) -> ArrayVec<ResultAt, 2>
         requires few { length writes.now ≤ 2 }
         requires latencies { greatest (λ (w : WriteOf). w.latency) writes.now ≤ 100 }
-        requires start { start ≤ 20000 }
+        requires start { start ≤ TOTAL_LIMIT + 3 }
         ensures { (f : RegOf → ℕ) → Tells self.now.words f → result.items ≡ map (λ (w : WriteOf). record { reg = w.reg; time = max (start + w.latency) (f w.reg); held = w.held }) writes.now }
     {
         let mut results = ArrayVec::new();

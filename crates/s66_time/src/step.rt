@@ -1,4 +1,5 @@
 ghost use Rattle.std.specs.Prelude.{◌<◌, ◌≤◌};
+ghost use Rattle.s66_time.specs.declared.limits.TheConstants.{REGISTER_COUNT, UNIT_LIMIT};
 
 use crate::progress::Progress;
 use arrayvec::ArrayVec;
@@ -8,7 +9,7 @@ use arrayvec::ArrayVec;
 pub struct Saved {
     pub place: u8,
     pub word: u32,
-    ghost within: { place < 24 },
+    ghost within: { place < REGISTER_COUNT },
 }
 
 impl Default for Saved {
@@ -27,7 +28,7 @@ pub struct Step {
     pub done: ArrayVec<Saved, 4>,
     pub read: ArrayVec<Saved, 4>,
     pub progress: Progress,
-    ghost within: { unit < 700 },
+    ghost within: { unit < UNIT_LIMIT },
 }
 
 impl Default for Step {

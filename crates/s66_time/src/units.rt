@@ -1,43 +1,47 @@
 ghost use Rattle.std.specs.Prelude.{ℕ, ◌≡◌, ◌+◌, ◌-◌, ◌*◌, ◌<◌, ◌≤◌, ◌^◌, length, set, get_or, replicate};
 ghost use Rattle.s66_isa.specs.Lists.{greatest, weigh};
 ghost use Rattle.s66_isa.specs.Table.{copies_of};
+ghost use Rattle.s66_time.specs.declared.limits.TheConstants.{COPIES_LIMIT, TOTAL_LIMIT, UNIT_LIMIT};
 ghost use Rattle.s66_time.specs.Places.{first_unit, units_of};
 
+use crate::limits::{COPIES_LIMIT, UNIT_LIMIT};
 use s66_isa::{Kind, Profile};
 
 /// A word for each copy of a unit: when it is free.
 #[derive(Debug, Drop)]
 pub struct UnitWords {
-    pub words: [u32; 700],
+    pub words: [u32; UNIT_LIMIT],
 }
 
 /// The place of the first unit of a kind.
 fn first_unit(kind: Kind) -> usize
     ensures value { result ≡ first_unit kind }
-    ensures within { result + 100 ≤ 700 }
+    ensures within { result + COPIES_LIMIT ≤ UNIT_LIMIT }
 {
     match kind {
         Kind::Boolean => 0,
-        Kind::Shift => 100,
-        Kind::Add => 200,
-        Kind::LongAdd => 300,
-        Kind::Multiply => 400,
-        Kind::Divide => 500,
-        Kind::Increment => 600,
+        Kind::Shift => COPIES_LIMIT,
+        Kind::Add => 2 * COPIES_LIMIT,
+        Kind::LongAdd => 3 * COPIES_LIMIT,
+        Kind::Multiply => 4 * COPIES_LIMIT,
+        Kind::Divide => 5 * COPIES_LIMIT,
+        Kind::Increment => 6 * COPIES_LIMIT,
     }
 }
 
 impl UnitWords {
     /// All words are 0.
     pub fn new() -> UnitWords
-        ensures { result.words ≡ replicate 700 0 }
+        ensures { result.words ≡ replicate UNIT_LIMIT 0 }
     {
-        UnitWords { words: [0; 700] }
+        UnitWords {
+            words: [0; UNIT_LIMIT],
+        }
     }
 
     /// The place of a unit of the kind that no other is free before.
     pub fn soonest(&self, profile: &Profile, kind: Kind) -> usize
-        ensures within { result < 700 }
+        ensures within { result < UNIT_LIMIT }
         ensures own { first_unit kind ≤ result }
         ensures copy { result - first_unit kind < copies_of profile.now kind }
         ensures least { (i : ℕ) → i < copies_of profile.now kind → get_or self.now.words result 0 ≤ get_or self.now.words (first_unit kind + i) 0 }
@@ -55,7 +59,7 @@ impl UnitWords {
 
     /// How long the units of a kind are still to work after a time, all together.
     pub fn rest(&self, profile: &Profile, kind: Kind, time: u32) -> u32
-        requires { greatest (λ (w : ℕ). w) (units_of profile.now kind self.now.words) ≤ 10000 }
+        requires { greatest (λ (w : ℕ). w) (units_of profile.now kind self.now.words) ≤ TOTAL_LIMIT }
         ensures { result ≡ weigh (λ w. w - time) (units_of profile.now kind self.now.words) }
     {
         let first = first_unit(kind);

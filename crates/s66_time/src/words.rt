@@ -1,7 +1,9 @@
 ghost use Rattle.std.specs.Prelude.{ℕ, ◌≡◌, ◌+◌, ◌-◌, ◌<◌, ◌≤◌, List, [], ◌∷◌};
 ghost use Rattle.s66_isa.specs.declared.profile.Profile.{Profile as ProfileOf};
+ghost use Rattle.s66_line.specs.declared.limits.TheConstants.{BLOCK_LIMIT};
 ghost use Rattle.s66_model.specs.Packing.{fits_at};
 ghost use Rattle.s66_model.specs.Timing.{IsInRange, Point, issue_of, start_of, point};
+ghost use Rattle.s66_time.specs.declared.limits.TheConstants.{TOTAL_LIMIT, UNIT_LIMIT};
 ghost use Rattle.s66_time.specs.Seen.{under};
 ghost use Rattle.s66_time.specs.ClockWords.{IsWords, InTurn, IsSoonest, Follows, wait_of, point_of_tick, after_undo, Takes};
 
@@ -48,8 +50,8 @@ impl Words {
 
     /// The first slot of an instruction of so many parcels.
     fn slot(&self, parcels: u32) -> u32
-        requires parcel { self.now.progress.parcel ≤ 20000 }
-        requires next { self.now.progress.next ≤ 20000 }
+        requires parcel { self.now.progress.parcel ≤ TOTAL_LIMIT + 2 }
+        requires next { self.now.progress.next ≤ TOTAL_LIMIT + 2 }
         ensures { result ≡ self.now.progress.next + (fits_at self.now.progress.parcel parcels - self.now.progress.parcel) }
     {
         self.progress.next + (fits_at(self.progress.parcel, parcels) - self.progress.parcel)
@@ -69,7 +71,7 @@ impl Words {
     /// When the instruction issues that takes this unit, the soonest of its kind.
     fn issue(&self, profile: &Profile, row: &Row, unit: usize) -> u32
         requires follows { Follows profile.now self.now }
-        requires within { unit < 700 }
+        requires within { unit < UNIT_LIMIT }
         requires soonest { IsSoonest profile.now row.now.kind self.now.units.words unit }
         ensures { (s : List Point) → IsWords profile.now s self.now → result ≡ issue_of (under profile.now) s row.now }
     {
@@ -92,7 +94,7 @@ impl Words {
         ensures soonest { IsSoonest profile.now row.now.kind self.now.units.words result.unit }
         ensures value { (s : List Point) (n : ℕ) → IsWords profile.now s self.now → InTurn s → point_of_tick n row.now result ≡ point (under profile.now) s n row.now }
         ensures good { IsInRange row.now }
-        ensures early { (result.issue ≤ 20000) × (result.parcel ≤ 20000) × (result.start ≤ 20000) }
+        ensures early { (result.issue ≤ TOTAL_LIMIT + 3) × (result.parcel ≤ TOTAL_LIMIT + 3) × (result.start ≤ TOTAL_LIMIT + 3) }
     {
         let unit = self.units.soonest(profile, row.kind);
         let issue = self.issue(profile, row, unit);
@@ -111,8 +113,8 @@ impl Words {
 
     /// Places the next instruction there, and answers what was written over.
     fn take(&mut self, number: u8, row: &Row, tick: &Tick) -> Step
-        requires number { (1 ≤ number) × (number ≤ 64) }
-        requires early { (tick.now.issue ≤ 20000) × (tick.now.parcel ≤ 20000) × (tick.now.start ≤ 20000) }
+        requires number { (1 ≤ number) × (number ≤ BLOCK_LIMIT) }
+        requires early { (tick.now.issue ≤ TOTAL_LIMIT + 3) × (tick.now.parcel ≤ TOTAL_LIMIT + 3) × (tick.now.start ≤ TOTAL_LIMIT + 3) }
         ensures number { result.number ≡ number }
         ensures back { after_undo self.new result ≡ self.old }
         ensures takes { Takes self.old self.new (point_of_tick number row.now tick.now) tick.now.unit }
@@ -135,7 +137,7 @@ impl Words {
 
     /// Places the next instruction, and answers what was written over.
     pub fn push(&mut self, profile: &Profile, number: u8, row: &Row) -> Step
-        requires number { (1 ≤ number) × (number ≤ 64) }
+        requires number { (1 ≤ number) × (number ≤ BLOCK_LIMIT) }
         requires follows { Follows profile.now self.old }
         ensures number { result.number ≡ number }
         ensures back { after_undo self.new result ≡ self.old }

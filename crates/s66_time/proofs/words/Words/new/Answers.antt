@@ -1,12 +1,13 @@
 use Rattle.std.proofs.Common.{ap, ◌∙◌, refl, ◌≡◌, length, ℕ}
 use Rattle.std.proofs.lemmas.List.{length-replicate}
 use Rattle.s66_isa.specs.Lists.{has}
+use Rattle.s66_time.specs.declared.limits.TheConstants.{UNIT_LIMIT}
 use Rattle.s66_time.proofs.ClockPoints.{zero-units}
 use Rattle.s66_time.proofs.words.Words.new.Goals as goal
 
 pub returns : goal.returns
 returns c = λ p.
-    let size : length c.new-3.result.words ≡ 700 = ap length c.new-3.ensures ∙ length-replicate {A = ℕ} 700 0 in
+    let size : length c.new-3.result.words ≡ UNIT_LIMIT = ap length c.new-3.ensures ∙ length-replicate {A = ℕ} UNIT_LIMIT 0 in
     record {
       done = λ r small. c.new.ensures r;
       read = λ r small. c.new-2.ensures r;

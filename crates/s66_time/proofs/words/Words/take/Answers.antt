@@ -10,7 +10,7 @@ use Rattle.s66_time.proofs.words.Words.take.Goals as goal
 pub returns-clause-back : goal.returns-clause-back
 returns-clause-back c =
     let w = c.args.self.now in
-    words-back w.done.words c.raise_results-done.new.self.words w.read.words c.raise_all-read.new.self.words w.units.words w.progress c.raise_results-done.result.items c.raise_all-read.result.items c.args.tick.now.unit c.args.tick.now.free c.raise_results-done.ensures.saved c.raise_all-read.ensures.saved
+    words-back w.done.words c.raise_results-done.new.self.words w.read.words c.raise_all-read.new.self.words w.units.words w.progress c.raise_results-done.result.items c.raise_all-read.result.items c.args.tick.now.unit _ c.raise_results-done.ensures.saved c.raise_all-read.ensures.saved
 
 pub returns-clause-takes : goal.returns-clause-takes
 returns-clause-takes c =
