@@ -76,8 +76,8 @@ impl RegisterWords {
     }
 
     /// Raises the word of a register to a time, and saves what stood there.
-    fn raise(&mut self, register: Reg, time: u32, saved: &mut ArrayVec<Saved, 4>)
-        requires { length saved.old.items < 4 }
+    fn raise<const N: usize>(&mut self, register: Reg, time: u32, saved: &mut ArrayVec<Saved, N>)
+        requires { length saved.old.items < N }
         ensures words { (r : RegOf) → r.digit ≤ 7 → word_of self.new.words r ≡ max (word_of self.old.words r) (if same_reg register r then time else 0) }
         ensures saved { put_back saved.new.items self.new.words ≡ put_back saved.old.items self.old.words }
         ensures len { length saved.new.items ≡ length saved.old.items + 1 }
@@ -89,7 +89,7 @@ impl RegisterWords {
     }
 
     /// Raises the words of the registers of results to the times at which they are done; it answers what stood there.
-    pub fn raise_results(&mut self, results: &[ResultAt]) -> ArrayVec<Saved, 4>
+    pub fn raise_results(&mut self, results: &[ResultAt]) -> ArrayVec<Saved, 2>
         requires { length results.now ≤ 2 }
         ensures words { (r : RegOf) → r.digit ≤ 7 → word_of self.new.words r ≡ max (word_of self.old.words r) (greatest (λ (d : ResultOf). if same_reg d.reg r then d.time else 0) results.now) }
         ensures saved { put_back result.items self.new.words ≡ self.old.words }

@@ -23,9 +23,9 @@ impl Default for Saved {
 #[derive(Debug, Drop)]
 pub struct Step {
     pub number: u8,
-    pub unit: usize,
+    pub unit: u16,
     pub free: u32,
-    pub done: ArrayVec<Saved, 4>,
+    pub done: ArrayVec<Saved, 2>,
     pub read: ArrayVec<Saved, 4>,
     pub progress: Progress,
     ghost within: { unit < UNIT_LIMIT },
@@ -47,7 +47,7 @@ impl Default for Step {
 impl Step {
     /// How many words of registers stand in it.
     pub fn words(&self) -> u32
-        ensures { result ≤ 8 }
+        ensures { result ≤ 6 }
     {
         (self.done.len() + self.read.len()) as u32
     }

@@ -127,7 +127,7 @@ impl Words {
         self.progress = self.progress.after(number, row, tick);
         Step {
             number,
-            unit: tick.unit,
+            unit: tick.unit as u16,
             free,
             done,
             read,
@@ -153,7 +153,7 @@ impl Words {
     {
         self.done.put_back(step.done.as_slice());
         self.read.put_back(step.read.as_slice());
-        self.units.words[step.unit] = step.free;
+        self.units.words[step.unit as usize] = step.free;
         self.progress = step.progress;
     }
 }

@@ -5,14 +5,14 @@ use Rattle.s66_time.proofs.Back.{put_back-saved, raised-word}
 use Rattle.s66_time.proofs.registers.RegisterWords.raise.Goals as goal
 
 pub returns-clause-saved : goal.returns-clause-saved
-returns-clause-saved c =
+returns-clause-saved p c =
     let place = c.index-place.result in
     let words = c.args.self.now.words in
     ap (λ ws. put_back ws (set words place c.max.result)) c.push.ensures.items
     ∙ put_back-saved c.args.saved.now.items _ words c.max.result refl
 
 pub returns-clause-words : goal.returns-clause-words
-returns-clause-words c = λ r low.
+returns-clause-words p c = λ r low.
     let words = c.args.self.now.words in
     let x = c.args.register in
     let place : c.index-place.result ≡ index_of x = c.index-place.ensures.value in
