@@ -29,14 +29,14 @@ pub record AreSmall (s : List Point) : Type 0 where
   pub starts : greatest (λ (p : Point). max p.issue p.start + 1) s ≤ total s
   pub parcels : greatest (λ (p : Point). p.row.parcels) s ≤ 2
 
-fits_at-le : (q len : ℕ) → fits_at q len ≤ q + 1
+pub fits_at-le : (q len : ℕ) → fits_at q len ≤ q + 1
 fits_at-le q len = cond_both (eqb len 2 && eqb (q % 4) 3) (q + 1) q (λ x. x ≤ q + 1) (λ _. omega arith) (λ _. omega arith)
 
 pub fits_at-ge : (q len : ℕ) → q ≤ fits_at q len
 fits_at-ge q len = cond_both (eqb len 2 && eqb (q % 4) 3) (q + 1) q (λ x. q ≤ x) (λ _. omega arith) (λ _. omega arith)
 
 -- before the first instruction the next one begins in parcel 0
-none-first : (len : ℕ) → fits_at 0 len ≡ 0
+pub none-first : (len : ℕ) → fits_at 0 len ≡ 0
 none-first len =
     cond_both (eqb len 2 && eqb (0 % 4) 3) 1 0 (λ x. x ≡ 0) (λ e. absurd (true≢false (sym (and_parts (eqb len 2) (eqb (0 % 4) 3) e).1))) (λ _. refl)
 

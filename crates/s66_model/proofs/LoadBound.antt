@@ -72,11 +72,11 @@ fewer_one kind t d p =
       | inr is ↦ rw is (omega arith)
     ]
 
-fewer : (kind : Kind) (t d : ℕ) (s : List Point) → tally (busy_at kind (t + d)) s ≤ tally (busy_at kind t) s
+pub fewer : (kind : Kind) (t d : ℕ) (s : List Point) → tally (busy_at kind (t + d)) s ≤ tally (busy_at kind t) s
 fewer kind t d [] = omega arith
 fewer kind t d (p ∷ s) = omega (arith, fewer_one kind t d p, fewer kind t d s)
 
-all_drained : (kind : Kind) (t : ℕ) (s : List Point) → total s ≤ t → weigh (rest_busy kind t) s ≡ 0
+pub all_drained : (kind : Kind) (t : ℕ) (s : List Point) → total s ≤ t → weigh (rest_busy kind t) s ≡ 0
 all_drained kind t [] h = refl
 all_drained kind t (p ∷ s) h =
     elim (cases_Bool (same_kind p.row.kind kind)) [

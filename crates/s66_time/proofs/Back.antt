@@ -1,12 +1,12 @@
 -- What was saved of words comes back.
 use Rattle.std.proofs.Common.{max, cond, ◌≤◌, ◌≢◌, true≢false, ◌||◌, Bool, true, false, ℕ, ◌+◌, ◌≡◌, ◌<◌, List, [], ◌∷◌, ◌++◌, refl, sym, ap, ◌∙◌, set, get_or, length, take, replicate, arith, inl, inr}
 use Rattle.std.proofs.lemmas.List.{get_or-set_same, get_or-set_other, set-set, set-get_or, take_more, get_or-replicate, get_or_past, length-replicate}
-use Rattle.std.proofs.Math.Bool.{or_assoc, or-false}
+use Rattle.std.proofs.Math.Bool.{or-false}
 use Rattle.std.proofs.lemmas.Bool.{cases_Bool}
 use Rattle.s66_isa.specs.Table.{Reg}
 use Rattle.s66_isa.specs.Registers.{index_of}
 use Rattle.s66_isa.specs.Table.{same_reg, has_reg}
-use Rattle.s66_isa.proofs.SameRegister.{same_reg-sym, same_reg-true}
+use Rattle.s66_isa.proofs.SameRegister.{same_reg-sym, same_reg-true, has_reg-append}
 use Rattle.s66_isa.proofs.RegisterBits.{index-apart}
 use Rattle.s66_isa.proofs.Lists.{cases_le}
 use Rattle.s66_time.specs.declared.step.Saved.{Saved}
@@ -35,13 +35,11 @@ zeros n i =
       | inr lt ↦ get_or-replicate n i 0 0 lt
     ]
 
--- the elements so far and one more
-has_push : (r : Reg) (rs : List Reg) (d : Reg) → has_reg r (rs ++ d ∷ []) ≡ (has_reg r rs || same_reg r d)
-has_push r [] d = or-false (same_reg r d)
-has_push r (x ∷ xs) d = ap (λ t. same_reg r x || t) (has_push r xs d) ∙ sym (or_assoc (same_reg r x) (has_reg r xs) (same_reg r d))
-
+-- the registers so far and one more
 has_more : (r : Reg) (rs : List Reg) (i : ℕ) (d : Reg) → i < length rs → has_reg r (take (i + 1) rs) ≡ (has_reg r (take i rs) || same_reg r (get_or rs i d))
-has_more r rs i d lt = ap (has_reg r) (take_more rs i d lt) ∙ has_push r (take i rs) (get_or rs i d)
+has_more r rs i d lt =
+    let x : Reg = get_or rs i d in
+    ap (has_reg r) (take_more rs i d lt) ∙ has_reg-append r (take i rs) (x ∷ []) ∙ ap (λ t. has_reg r (take i rs) || t) (or-false (same_reg r x))
 
 either : (x y : Bool) (t w : ℕ) → max (max w (cond x t 0)) (cond y t 0) ≡ max w (cond (x || y) t 0)
 either true true t w = omega arith

@@ -1,8 +1,8 @@
 -- The point of the next instruction by the words of a clock.
-use Rattle.std.proofs.Common.{ℕ, zero, suc, ◌+◌, ◌-◌, ◌%◌, ◌≤◌, ◌<◌, ◌≡◌, ◌≢◌, Bool, false, true≢false, cond, ◌&&◌, ◌||◌, max, min, List, [], ◌∷◌, ◌++◌, length, take, drop, set, get_or, map, refl, sym, ap, arith, inl, inr, ltb, eqb, ◌∙◌, subst, length-take, length-drop, replicate}
+use Rattle.std.proofs.Common.{ℕ, zero, suc, ◌+◌, ◌-◌, ◌≤◌, ◌<◌, ◌≡◌, ◌≢◌, Bool, false, true≢false, cond, ◌||◌, max, min, List, [], ◌∷◌, ◌++◌, length, take, drop, set, get_or, map, refl, sym, ap, arith, inl, inr, ltb, eqb, ◌∙◌, subst, length-take, length-drop, replicate}
 use Rattle.std.proofs.lemmas.List.{take_more, map_push, drop-set-lt, drop-set-add, take-set-le, get_or-drop, get_or-take, length-set, set-set, set-get_or}
 use Rattle.std.proofs.Math.Seq.{take-set-lt}
-use Rattle.std.proofs.lemmas.Bool.{cond_both, cond-true, cond-false, lt-ltb, and_parts, and_left, cases_Bool, eq-eqb, le-ltb}
+use Rattle.std.proofs.lemmas.Bool.{cond-true, cond-false, lt-ltb, and_left, cases_Bool, eq-eqb, le-ltb}
 use Rattle.s66_isa.specs.Table.{Reg}
 use Rattle.s66_isa.specs.declared.instr.Kind.{Kind}
 use Rattle.s66_isa.specs.declared.instr.Kind.TheVariants.{Boolean, Shift, Add, LongAdd, Multiply, Divide, Increment}
@@ -24,7 +24,7 @@ use Rattle.s66_model.proofs.LoadBound.{same_kind-true}
 use Rattle.s66_isa.proofs.Lists.{cases_le}
 use Rattle.s66_time.specs.declared.progress.Progress.{Progress}
 use Rattle.s66_time.specs.declared.step.Saved.{Saved}
-use Rattle.s66_model.proofs.Growth.{AreSmall, fits_at-ge, start-le, start-ge, free-ge}
+use Rattle.s66_model.proofs.Growth.{AreSmall, none-first, fits_at-ge, start-le, start-ge, free-ge}
 use Rattle.s66_time.proofs.Free.{issue-join}
 use Rattle.s66_time.proofs.FreeUnits.{IsLeast, count-free, count-least, count-push, at-greatest, rest-same}
 
@@ -42,10 +42,6 @@ results-more f start ws i d reg latency held time word old new lt is view e1 e2 
     ∙ sym (ap (map (result_by f start)) (take_more ws i d lt) ∙ map_push (result_by f start) (take i ws) (get_or ws i d))
 
 -- WHEN IT ISSUES
-
-none-first : (len : ℕ) → fits_at 0 len ≡ 0
-none-first len =
-    cond_both (eqb len 2 && eqb (0 % 4) 3) 1 0 (λ x. x ≡ 0) (λ e. absurd (true≢false (sym (and_parts (eqb len 2) (eqb (0 % 4) 3) e).1))) (λ _. refl)
 
 pub slot-is : (s : List Point) (len : ℕ) → slot_of s len ≡ next s + (fits_at (next_parcel s) len - next_parcel s)
 slot-is [] len = omega (arith, none-first len)
@@ -263,9 +259,6 @@ zero-units p kind t words is =
 
 pub start-le3 : (p : Profile) (s : List Point) (r : Row) (issue start : ℕ) → InTurn s → issue ≡ issue_of (under p) s r → start ≡ start_of (under p) s r → start ≤ total s + 3
 start-le3 p s r issue start turn e1 e2 = omega (arith, e2, start-le (under p) s r (small-turn s turn))
-
-pub fits-soon : (q len : ℕ) → fits_at q len ≤ q + 1
-fits-soon q len = cond_both (eqb len 2 && eqb (q % 4) 3) (q + 1) q (λ x. x ≤ q + 1) (λ _. omega arith) (λ _. omega arith)
 
 -- A UNIT IS TAKEN AFTER IT IS FREE
 

@@ -1,6 +1,6 @@
 -- The words of a clock after its steps.
-use Rattle.std.proofs.Common.{ℕ, suc, ◌+◌, ◌≤◌, ◌<◌, ◌≡◌, Bool, ◌||◌, eqb, true, false, max, List, [], ◌∷◌, ◌++◌, length, take, map, reverse, refl, sym, ap, arith, ◌∙◌, subst, append_assoc, length-append, get_or}
-use Rattle.std.proofs.lemmas.List.{reverse-append, map_push, append-nil, take_all, take_more}
+use Rattle.std.proofs.Common.{ℕ, ◌+◌, ◌≤◌, ◌<◌, ◌≡◌, Bool, ◌||◌, eqb, true, false, max, List, [], ◌∷◌, ◌++◌, length, take, map, reverse, refl, sym, ap, arith, ◌∙◌, subst, append_assoc, length-append, get_or}
+use Rattle.std.proofs.lemmas.List.{length-map, reverse-append, map_push, append-nil, take_all, take_more}
 use Rattle.std.proofs.Math.Bool.{or-false}
 use Rattle.s66_isa.specs.Table.{Instr}
 use Rattle.s66_isa.specs.declared.instr.Kind.{Kind}
@@ -16,7 +16,6 @@ use Rattle.s66_model.proofs.PointTimes.{good-at, point_of-row, point_of-number, 
 use Rattle.s66_model.proofs.Issue.{issue-late}
 use Rattle.s66_dep.proofs.Fronts.{beginning-few}
 use Rattle.s66_line.specs.declared.limits.TheConstants.{BLOCK_LIMIT}
-use Rattle.s66_time.specs.declared.limits.TheConstants.{TOTAL_LIMIT}
 use Rattle.s66_time.specs.Seen.{under}
 use Rattle.s66_time.specs.ClockWords.{IsWords, InTurn, points_of_steps, AreKept, after_undo}
 use Rattle.s66_time.specs.Ticking.{numbers_of, IsClock}
@@ -86,15 +85,10 @@ pub clock-words : (b : Problem) (w : Words) (ks : List Step) → IsClock b w ks 
 clock-words b w ks is = subst (λ s. IsWords b.profile s w) (after-is b ks) (kept-words b w (reverse ks) is.kept)
 
 pub length-numbers : (ks : List Step) → length (numbers_of ks) ≡ length ks
-length-numbers [] = refl
-length-numbers (k ∷ ks) = ap suc (length-numbers ks)
+length-numbers ks = length-map ks (λ (k : Step). k.number)
 
 pub clock-turn : (b : Problem) (w : Words) (ks : List Step) → IsClock b w ks → InTurn (points_of b (numbers_of ks))
 clock-turn b w ks is = in-turn b (numbers_of ks) (omega (arith, beginning-few b.block (numbers_of ks) is.begins, is.few))
-
-pub clock-total : (b : Problem) (w : Words) (ks : List Step) → IsClock b w ks → total (points_of b (numbers_of ks)) ≤ TOTAL_LIMIT
-clock-total b w ks is =
-    omega (arith, total-le b (numbers_of ks), length-numbers ks, beginning-few b.block (numbers_of ks) is.begins, is.few)
 
 -- WHAT WAS PUSHED
 

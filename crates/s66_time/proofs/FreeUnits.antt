@@ -1,5 +1,5 @@
 -- The words of the units of a kind: as many of the greatest free times as there are copies.
-use Rattle.std.proofs.Common.{ℕ, zero, suc, ◌+◌, ◌-◌, ◌≤◌, ◌<◌, ◌≡◌, Bool, true, false, cond, max, min, List, [], ◌∷◌, length, take, drop, set, get_or, refl, ap, arith, inl, inr, ltb, length-drop}
+use Rattle.std.proofs.Common.{ℕ, zero, suc, ◌+◌, ◌-◌, ◌≤◌, ◌<◌, ◌≡◌, Bool, true, false, cond, max, min, List, [], ◌∷◌, length, take, drop, set, get_or, refl, ap, arith, inl, inr, ltb, length-drop, subst}
 use Rattle.std.proofs.lemmas.List.{take_more, get_or-drop}
 use Rattle.std.proofs.lemmas.Bool.{cond-true, cond-false, cases_Bool, cases_lt, le-ltb, lt-ltb}
 use Rattle.s66_isa.specs.Lists.{greatest, weigh, tally}
@@ -7,6 +7,7 @@ use Rattle.s66_isa.specs.Table.{same_kind}
 use Rattle.s66_isa.specs.declared.instr.Kind.{Kind}
 use Rattle.s66_model.specs.Timing.{Point, total, busy_at}
 use Rattle.s66_model.specs.Leaves.{rest_busy}
+use Rattle.s66_model.proofs.LoadBound.{fewer, all_drained}
 use Rattle.s66_isa.proofs.Lists.{cases_le, tally-set, weigh-append}
 
 -- WORDS THAT ARE LATER
@@ -98,40 +99,22 @@ none-left : (t : ℕ) (xs : List ℕ) → greatest (λ w. w) xs ≤ t → weigh 
 none-left t [] h = refl
 none-left t (x ∷ xs) h = omega (arith, none-left t xs (omega arith))
 
-none-busy : (kind : Kind) (t : ℕ) (s : List Point) → total s ≤ t → weigh (rest_busy kind t) s ≡ 0
-none-busy kind t [] h = refl
-none-busy kind t (p ∷ s) h =
-    elim (cases_Bool (same_kind p.row.kind kind)) [
-      | inl is ↦ rw is (omega (arith, none-busy kind t s (omega arith)))
-      | inr is ↦ rw is (omega (arith, none-busy kind t s (omega arith)))
-    ]
-
 rest-down : (kind : Kind) (xs : List ℕ) (s : List Point) (fuel t : ℕ) → ((u : ℕ) → t ≤ u → tally (λ w. ltb u w) xs ≡ tally (busy_at kind u) s) →
     greatest (λ w. w) xs ≤ t + fuel → total s ≤ t + fuel → weigh (λ w. w - t) xs ≡ weigh (rest_busy kind t) s
-rest-down kind xs s zero t h a b = omega (arith, none-left t xs (omega arith), none-busy kind t s (omega arith))
+rest-down kind xs s zero t h a b = omega (arith, none-left t xs (omega arith), all_drained kind t s (omega arith))
 rest-down kind xs s (suc fuel) t h a b =
     omega (arith, rest-words t xs, rest-points kind t s, h t (omega arith), rest-down kind xs s fuel (t + 1) (λ u le. h u (omega arith)) (omega arith) (omega arith))
-
-fewer_one : (kind : Kind) (t u : ℕ) (p : Point) → t ≤ u → cond (busy_at kind u p) 1 0 ≤ cond (busy_at kind t p) 1 0
-fewer_one kind t u p le =
-    elim (cases_Bool (same_kind p.row.kind kind)) [
-      | inl is ↦
-          elim (cases_lt u p.free) [
-            | inl lt ↦ rw (is, lt-ltb u p.free lt, lt-ltb t p.free (omega arith)) (omega arith)
-            | inr past ↦ rw (is, le-ltb u p.free past) (omega arith)
-          ]
-      | inr is ↦ rw is (omega arith)
-    ]
-
-pub fewer : (kind : Kind) (t u : ℕ) (s : List Point) → t ≤ u → tally (busy_at kind u) s ≤ tally (busy_at kind t) s
-fewer kind t u [] le = omega arith
-fewer kind t u (p ∷ s) le = omega (arith, fewer_one kind t u p le, fewer kind t u s le)
 
 -- where no more units are busy than there are copies, the words tell the work that is left
 pub rest-same : (kind : Kind) (c : ℕ) (xs : List ℕ) (s : List Point) (t : ℕ) → Counts c xs (λ u. tally (busy_at kind u) s) → tally (busy_at kind t) s ≤ c →
     weigh (λ w. w - t) xs ≡ weigh (rest_busy kind t) s
 rest-same kind c xs s t h fits =
-    rest-down kind xs s (max (greatest (λ w. w) xs) (total s)) t (λ u le. omega (arith, h u, fewer kind t u s le)) (omega arith) (omega arith)
+    rest-down kind xs s (max (greatest (λ w. w) xs) (total s)) t (λ u le. omega (arith, h u, fewer-later u le)) (omega arith) (omega arith)
+  where
+    fewer-later : (u : ℕ) → t ≤ u → tally (busy_at kind u) s ≤ tally (busy_at kind t) s
+    fewer-later u le =
+        let e : t + (u - t) ≡ u = omega arith in
+        subst (λ k. tally (busy_at kind k) s ≤ tally (busy_at kind t) s) e (fewer kind t (u - t) s)
 
 -- THE LOOP OVER THE UNITS OF A KIND
 

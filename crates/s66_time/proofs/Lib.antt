@@ -10,4 +10,3 @@ pub mod FreeUnits
 pub mod ClockPoints
 pub mod Clocks
 pub mod RowsOfBlock
-pub mod ReadySame

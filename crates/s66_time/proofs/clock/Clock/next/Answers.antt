@@ -2,7 +2,7 @@ use Rattle.std.proofs.Common.{ap, arith, ◌∙◌}
 use Rattle.s66_line.specs.Block.{instrs_of}
 use Rattle.s66_model.specs.Timing.{Problem, next}
 use Rattle.s66_time.specs.Ticking.{points, numbers_of}
-use Rattle.s66_time.proofs.Clocks.{clock-words, clock-total, clock-next}
+use Rattle.s66_time.proofs.Clocks.{clock-words, clock-turn, clock-next}
 use Rattle.s66_time.proofs.clock.Clock.next.Goals as goal
 
 pub returns-clause-value : goal.returns-clause-value
@@ -15,5 +15,5 @@ returns-clause-at_most c =
       arith,
       (clock-words b c.self.inside.words c.self.inside.steps.items c.self.invariant.clock).next,
       clock-next b (numbers_of c.self.inside.steps.items),
-      clock-total b c.self.inside.words c.self.inside.steps.items c.self.invariant.clock,
+      (clock-turn b c.self.inside.words c.self.inside.steps.items c.self.invariant.clock).early,
     )

@@ -1,4 +1,4 @@
-use Rattle.std.proofs.Common.{arith, ap, ◌∙◌, ◌-◌, get_or, sym, subst, true, ◌≡◌}
+use Rattle.std.proofs.Common.{arith, ap, ◌∙◌, ◌-◌, get_or, sym, subst, true, ◌≡◌, ℕ}
 use Rattle.s66_line.specs.Block.{instrs_of}
 use Rattle.s66_model.specs.Timing.{Problem, points_of}
 use Rattle.s66_model.specs.LegalOrder.{is_ready}
@@ -9,25 +9,28 @@ use Rattle.s66_time.specs.Ticking.{Ticking, numbers_of}
 use Rattle.s66_time.proofs.Clocks.{clock-words, clock-turn, room-left, pushed-clock}
 use Rattle.s66_time.proofs.clock.Clock.push.Goals as goal
 
+ready-inside : (t u : Ticking) (n : ℕ) → t ≡ u → is_ready (instrs_of u.block) u.numbers n ≡ true → is_ready (instrs_of t.block) t.numbers n ≡ true
+ready-inside t u n same ready = subst (λ (v : Ticking). is_ready (instrs_of v.block) v.numbers n ≡ true) (sym same) ready
+
 pub push-step-requires : goal.push-step-requires
 push-step-requires c =
     let b : Problem = record { block = instrs_of c.self.inside.block.now; profile = c.self.inside.profile } in
     let ks = c.self.inside.steps.items in
-    let ready : is_ready (instrs_of c.self.inside.block.now) (numbers_of c.self.inside.steps.items) c.args.n ≡ true = subst (λ (t : Ticking). is_ready (instrs_of t.block) t.numbers c.args.n ≡ true) (sym c.self.view_is) c.requires in
+    let ready = ready-inside _ _ c.args.n c.self.view_is c.requires in
     let parts = ready-parts (instrs_of c.self.inside.block.now) (numbers_of ks) c.args.n ready in
     record { number = (parts.0, omega (arith, parts.1, c.self.invariant.clock.few)); follows = (points_of b (numbers_of ks), clock-words b c.self.inside.words ks c.self.invariant.clock, clock-turn b c.self.inside.words ks c.self.invariant.clock) }
 
 pub push-requires : goal.push-requires
 push-requires c =
     let b : Problem = record { block = instrs_of c.self.inside.block.now; profile = c.self.inside.profile } in
-    let ready : is_ready (instrs_of c.self.inside.block.now) (numbers_of c.self.inside.steps.items) c.args.n ≡ true = subst (λ (t : Ticking). is_ready (instrs_of t.block) t.numbers c.args.n ≡ true) (sym c.self.view_is) c.requires in
+    let ready = ready-inside _ _ c.args.n c.self.view_is c.requires in
     (omega arith, omega (arith, room-left b c.self.inside.words c.self.inside.steps.items c.args.n c.self.invariant.clock ready))
 
 pub invariant_of-self : goal.invariant_of-self
 invariant_of-self c =
     let b : Problem = record { block = instrs_of c.self.inside.block.now; profile = c.self.inside.profile } in
     let ks = c.self.inside.steps.items in
-    let ready : is_ready (instrs_of c.self.inside.block.now) (numbers_of c.self.inside.steps.items) c.args.n ≡ true = subst (λ (t : Ticking). is_ready (instrs_of t.block) t.numbers c.args.n ≡ true) (sym c.self.view_is) c.requires in
+    let ready = ready-inside _ _ c.args.n c.self.view_is c.requires in
     let parts = ready-parts (instrs_of c.self.inside.block.now) (numbers_of ks) c.args.n ready in
     let row : c.index-deref-n.result ≡ row b.profile (instr_at b.block c.args.n) =
     row-at b.profile b.block c.self.inside.rows.items (c.args.n - 1) c.args.n c.index-deref-n.result c.self.invariant.each (c.index-deref-n.is ∙ ap (λ xs. get_or xs (c.args.n - 1) c.index-deref-n.result) c.deref.ensures.0) (omega (arith, parts.0)) (omega (arith, parts.0, parts.1)) in
@@ -40,7 +43,7 @@ pub returns-clause-looks : goal.returns-clause-looks
 returns-clause-looks c =
     let b : Problem = record { block = instrs_of c.self.inside.block.now; profile = c.self.inside.profile } in
     let ks = c.self.inside.steps.items in
-    let ready : is_ready (instrs_of c.self.inside.block.now) (numbers_of c.self.inside.steps.items) c.args.n ≡ true = subst (λ (t : Ticking). is_ready (instrs_of t.block) t.numbers c.args.n ≡ true) (sym c.self.view_is) c.requires in
+    let ready = ready-inside _ _ c.args.n c.self.view_is c.requires in
     let parts = ready-parts (instrs_of c.self.inside.block.now) (numbers_of ks) c.args.n ready in
     let row : c.index-deref-n.result ≡ row b.profile (instr_at b.block c.args.n) =
     row-at b.profile b.block c.self.inside.rows.items (c.args.n - 1) c.args.n c.index-deref-n.result c.self.invariant.each (c.index-deref-n.is ∙ ap (λ xs. get_or xs (c.args.n - 1) c.index-deref-n.result) c.deref.ensures.0) (omega (arith, parts.0)) (omega (arith, parts.0, parts.1)) in

@@ -1,7 +1,7 @@
 use Rattle.std.proofs.Common.{ap, arith, ◌∙◌}
 use Rattle.s66_model.specs.Timing.{total}
 use Rattle.s66_time.specs.Ticking.{points}
-use Rattle.s66_time.proofs.Clocks.{clock-words, clock-total}
+use Rattle.s66_time.proofs.Clocks.{clock-words, clock-turn}
 use Rattle.s66_time.proofs.clock.Clock.total.Goals as goal
 
 pub returns-clause-value : goal.returns-clause-value
@@ -9,4 +9,4 @@ returns-clause-value c = (clock-words _ c.self.inside.words c.self.inside.steps.
 
 pub returns-clause-at_most : goal.returns-clause-at_most
 returns-clause-at_most c =
-    omega (arith, (clock-words _ c.self.inside.words c.self.inside.steps.items c.self.invariant.clock).total, clock-total _ c.self.inside.words c.self.inside.steps.items c.self.invariant.clock)
+    omega (arith, (clock-words _ c.self.inside.words c.self.inside.steps.items c.self.invariant.clock).total, (clock-turn _ c.self.inside.words c.self.inside.steps.items c.self.invariant.clock).early)

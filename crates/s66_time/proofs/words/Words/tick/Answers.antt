@@ -4,8 +4,8 @@ use Rattle.s66_isa.specs.Table.{Write, Row}
 use Rattle.s66_model.specs.Packing.{fits_at}
 use Rattle.s66_model.specs.Timing.{IsInRange, ResultAt, free_after, readers_wait, result_at, next_parcel}
 use Rattle.s66_isa.proofs.Lists.{greatest-le}
-use Rattle.s66_model.proofs.Growth.{results-le}
-use Rattle.s66_time.proofs.ClockPoints.{follows-small, small-turn, start-early, start-le3, fits-soon, point-by}
+use Rattle.s66_model.proofs.Growth.{results-le, fits_at-le}
+use Rattle.s66_time.proofs.ClockPoints.{follows-small, small-turn, start-early, start-le3, point-by}
 use Rattle.s66_time.proofs.words.Words.tick.Goals as goal
 
 latencies : (writes ws : List Write) → ws ≡ writes → ((w : Write) → Among w writes → (1 ≤ w.latency) × (w.latency ≤ 100)) → greatest (λ (w : Write). w.latency) ws ≤ 100
@@ -55,7 +55,7 @@ returns-clause-early c =
     let (s, is, turn) = c.requires.follows in
     let issue = c.issue-issue.ensures s is in
     let early = start-early c.args.profile.now s c.args.row.now c.issue-issue.result c.start-start.result turn issue (c.start-start.ensures c.args.profile.now s is turn issue) in
-    (omega (arith, early), omega (arith, c.fits_at.ensures, fits-soon c.args.self.now.progress.parcel c.row.inside.parcels, follows-small c.args.profile.now c.args.self.now c.requires.follows), omega (arith, early))
+    (omega (arith, early), omega (arith, c.fits_at.ensures, fits_at-le c.args.self.now.progress.parcel c.row.inside.parcels, follows-small c.args.profile.now c.args.self.now c.requires.follows), omega (arith, early))
 
 pub returns-clause-good : goal.returns-clause-good
 returns-clause-good c = subst (λ (r : Row). IsInRange r) c.row.view_is c.row.invariant
