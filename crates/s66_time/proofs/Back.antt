@@ -3,9 +3,8 @@ use Rattle.std.proofs.Common.{max, cond, ◌≤◌, ◌≢◌, true≢false, ◌
 use Rattle.std.proofs.lemmas.List.{get_or-set_same, get_or-set_other, set-set, set-get_or, take_more, get_or-replicate, get_or_past, length-replicate}
 use Rattle.std.proofs.Math.Bool.{or-false}
 use Rattle.std.proofs.lemmas.Bool.{cases_Bool}
-use Rattle.s66_isa.specs.Table.{Reg}
+use Rattle.s66_isa.specs.Table.{Reg, same_reg, has_reg}
 use Rattle.s66_isa.specs.Registers.{index_of}
-use Rattle.s66_isa.specs.Table.{same_reg, has_reg}
 use Rattle.s66_isa.proofs.SameRegister.{same_reg-sym, same_reg-true, has_reg-append}
 use Rattle.s66_isa.proofs.RegisterBits.{index-apart}
 use Rattle.s66_isa.proofs.Lists.{cases_le}

@@ -3,14 +3,13 @@ use Rattle.std.proofs.Common.{ℕ, zero, suc, ◌+◌, ◌-◌, ◌≤◌, ◌<�
 use Rattle.std.proofs.lemmas.List.{take_more, map_push, drop-set-lt, drop-set-add, take-set-le, get_or-drop, get_or-take, length-set, set-set, set-get_or}
 use Rattle.std.proofs.Math.Seq.{take-set-lt}
 use Rattle.std.proofs.lemmas.Bool.{cond-true, cond-false, lt-ltb, and_left, cases_Bool, eq-eqb, le-ltb}
-use Rattle.s66_isa.specs.Table.{Reg}
+use Rattle.s66_isa.specs.Table.{Reg, Write, Row, memory_pair, touches, stores, copies_of, kind_number, same_kind}
 use Rattle.s66_isa.specs.declared.instr.Kind.{Kind}
 use Rattle.s66_isa.specs.declared.instr.Kind.TheVariants.{Boolean, Shift, Add, LongAdd, Multiply, Divide, Increment}
 use Rattle.s66_isa.specs.declared.instr.Memory.{Memory}
 use Rattle.s66_isa.specs.declared.instr.Memory.TheVariants as memory
 use Rattle.s66_isa.specs.declared.profile.Profile.{Profile}
 use Rattle.s66_isa.specs.Lists.{greatest, tally, weigh}
-use Rattle.s66_isa.specs.Table.{Write, Row, memory_pair, touches, stores, copies_of, kind_number, same_kind}
 use Rattle.s66_model.specs.Packing.{fits_at}
 use Rattle.s66_model.specs.Timing.{Point, ResultAt, slot_of, next, next_parcel, done_of, last_done, busy_at, issue_of, start_of, total, point, IsInRange, result_at, free_after}
 use Rattle.s66_time.specs.declared.words.Words.{Words}

@@ -1,11 +1,9 @@
 -- The rows that are worked out once.
 use Rattle.std.proofs.Common.{ℕ, ◌≡◌, ◌<◌, List, refl, ap, sym, ◌∙◌, map, get_or, length, zero, suc, arith, [], ◌∷◌}
-use Rattle.s66_isa.specs.Table.{Reg}
+use Rattle.s66_isa.specs.Table.{Reg, Instr, Row, Write, row, kind_of, parcels_of, reads_of, hold_of, memory_of, instr_at, idle_instr}
 use Rattle.s66_isa.specs.declared.instr.Kind.{Kind}
 use Rattle.s66_isa.specs.declared.instr.Memory.{Memory}
-use Rattle.s66_isa.specs.Table.{Instr}
 use Rattle.s66_isa.specs.declared.profile.Profile.{Profile}
-use Rattle.s66_isa.specs.Table.{Row, Write, row, kind_of, parcels_of, reads_of, hold_of, memory_of, instr_at, idle_instr}
 
 pub row-is : (p : Profile) (i : Instr) (kind : Kind) (parcels : ℕ) (reads : List Reg) (writes : List Write) (hold : ℕ) (memory : Memory) →
     kind ≡ kind_of i.op.code → parcels ≡ parcels_of i.op.code → reads ≡ reads_of i → writes ≡ (row p i).writes → hold ≡ hold_of p i.op.code → memory ≡ memory_of i →

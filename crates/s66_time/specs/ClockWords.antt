@@ -1,12 +1,11 @@
 -- Used by contracts within the crate alone: what the words of a clock are, by the points of what was pushed.
 use Rattle.std.specs.Prelude.{map, ◌==◌, ◌||◌, ℕ, ◌+◌, ◌≡◌, ◌≤◌, ◌<◌, if◌then◌else◌, max, min, List, [], ◌∷◌, length, get_or, set, nat_lt, ◌-◌}
-use Rattle.s66_isa.specs.Table.{Reg}
+use Rattle.s66_isa.specs.Table.{Reg, Row, touches, stores, copies_of, same_reg, has_reg}
 use Rattle.s66_isa.specs.declared.instr.Kind.{Kind}
 use Rattle.s66_isa.specs.declared.instr.Memory.{Memory}
 use Rattle.s66_isa.specs.declared.instr.Memory.TheVariants as memory
 use Rattle.s66_isa.specs.declared.profile.Profile.{Profile}
 use Rattle.s66_isa.specs.Lists.{greatest, tally, has}
-use Rattle.s66_isa.specs.Table.{Row, touches, stores, copies_of, same_reg, has_reg}
 use Rattle.s66_model.specs.Timing.{Problem, Point, ResultAt, end_of, done_of, last_done, readers_wait, busy_at, next, next_parcel, total, point_of}
 use Rattle.s66_dep.specs.Members.{numbers_in}
 use Rattle.s66_time.specs.declared.limits.TheConstants.{TOTAL_LIMIT, UNIT_LIMIT}

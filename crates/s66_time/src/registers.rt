@@ -12,7 +12,7 @@ use crate::step::Saved;
 use arrayvec::ArrayVec;
 use s66_isa::{Reg, Write};
 
-/// A word for each register, by its index.
+/// A word for each register, by its index: a minor cycle.
 #[derive(Debug, Drop)]
 pub struct RegisterWords {
     pub words: [u32; REGISTER_COUNT],

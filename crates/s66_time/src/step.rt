@@ -4,10 +4,12 @@ ghost use Rattle.s66_time.specs.declared.limits.TheConstants.{REGISTER_COUNT, UN
 use crate::progress::Progress;
 use arrayvec::ArrayVec;
 
-/// A word of a register before it was written: its place, and what stood there.
+/// A word of a register before it was written.
 #[derive(Clone, Copy, Debug)]
 pub struct Saved {
+    /// The register's index.
     pub place: u8,
+    /// What stood there, in minor cycles.
     pub word: u32,
     ghost within: { place < REGISTER_COUNT },
 }
@@ -18,14 +20,18 @@ impl Default for Saved {
     }
 }
 
-/// What a push wrote over: when the unit that it took was free before, the words of the registers that it writes and reads, and
-/// the progress.
+/// What a push wrote over, which its undo puts back.
 #[derive(Debug, Drop)]
 pub struct Step {
+    /// The number that was pushed.
     pub number: u8,
+    /// The unit that it took, by its place among the words.
     pub unit: u16,
+    /// When that unit was free before.
     pub free: u32,
+    /// The words `Words::done` of the registers that it writes.
     pub done: ArrayVec<Saved, 2>,
+    /// The words `Words::read` of the registers that it reads.
     pub read: ArrayVec<Saved, 4>,
     pub progress: Progress,
     ghost within: { unit < UNIT_LIMIT },

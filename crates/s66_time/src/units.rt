@@ -7,7 +7,7 @@ ghost use Rattle.s66_time.specs.Places.{first_unit, units_of};
 use crate::limits::{COPIES_LIMIT, UNIT_LIMIT};
 use s66_isa::{Kind, Profile};
 
-/// A word for each copy of a unit: when it is free.
+/// A word for each unit: when it is free. Those of a kind stand together, from a multiple of `COPIES_LIMIT` on.
 #[derive(Debug, Drop)]
 pub struct UnitWords {
     pub words: [u32; UNIT_LIMIT],

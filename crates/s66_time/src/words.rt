@@ -18,12 +18,14 @@ use crate::units::UnitWords;
 use s66_dep::Set;
 use s66_isa::{Memory, Profile};
 
-/// The words of a clock: for each register when the last of its writers is done, and one minor cycle after the last start of its
-/// readers; for each unit when it is free; and the progress.
+/// The words of a clock.
 #[derive(Debug, Drop)]
 pub struct Words {
+    /// When the last of a register's writers is done.
     pub done: RegisterWords,
+    /// One minor cycle after the last start of a register's readers.
     pub read: RegisterWords,
+    /// When each unit is free.
     pub units: UnitWords,
     pub progress: Progress,
 }

@@ -1,7 +1,6 @@
 use Rattle.std.proofs.Common.{ℕ, ◌≡◌, take}
-use Rattle.s66_isa.specs.Table.{Reg}
+use Rattle.s66_isa.specs.Table.{Reg, Write}
 use Rattle.s66_isa.specs.Lists.{greatest}
-use Rattle.s66_isa.specs.Table.{Write}
 use Rattle.s66_time.specs.ClockWords.{Tells}
 use Rattle.s66_time.proofs.registers.RegisterWords.greatest_written.Given as goal
 

@@ -1,6 +1,5 @@
 use Rattle.std.proofs.Common.{◌≡◌, ◌≤◌, max, take, length, if◌then◌else◌}
-use Rattle.s66_isa.specs.Table.{Reg}
-use Rattle.s66_isa.specs.Table.{has_reg}
+use Rattle.s66_isa.specs.Table.{Reg, has_reg}
 use Rattle.s66_time.specs.Places.{word_of, put_back}
 use Rattle.s66_time.proofs.registers.RegisterWords.raise_all.Given as goal
 

@@ -1,7 +1,6 @@
 use Rattle.std.proofs.Common.{◌≡◌, ◌≤◌, max, take, length, if◌then◌else◌}
-use Rattle.s66_isa.specs.Table.{Reg}
+use Rattle.s66_isa.specs.Table.{Reg, same_reg}
 use Rattle.s66_isa.specs.Lists.{greatest}
-use Rattle.s66_isa.specs.Table.{same_reg}
 use Rattle.s66_model.specs.Timing.{ResultAt}
 use Rattle.s66_time.specs.Places.{word_of, put_back}
 use Rattle.s66_time.proofs.registers.RegisterWords.raise_results.Given as goal

@@ -1,6 +1,5 @@
 use Rattle.std.proofs.Common.{ℕ, ◌≡◌, ◌+◌, take, map, max, length}
-use Rattle.s66_isa.specs.Table.{Reg}
-use Rattle.s66_isa.specs.Table.{Write}
+use Rattle.s66_isa.specs.Table.{Reg, Write}
 use Rattle.s66_time.specs.ClockWords.{Tells}
 use Rattle.s66_time.proofs.registers.RegisterWords.results.Given as goal
 
