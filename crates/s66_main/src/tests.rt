@@ -11,6 +11,7 @@ use std::process::Abort;
 use std::test::Fail;
 
 mod chart;
+mod clock;
 mod codes;
 mod deps;
 mod devices;
