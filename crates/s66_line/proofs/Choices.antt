@@ -1,4 +1,4 @@
--- The codes from which an operand chooses, by the form of its operation.
+-- The codes from which an operand chooses, by the syntax of its operation.
 use Rattle.std.proofs.Common.{◌≡◌, ◌≤◌, ◌+◌, ◌==◌, ◌&&◌, ℕ, List, [], ◌∷◌, ◌++◌, Option, None, Some, IfSome, option_and_then, refl, inl, inr, arith, lit≤}
 use Rattle.std.proofs.lemmas.Option.{IfSome_then}
 use Rattle.s66_isa.specs.declared.instr.Instr.{Instr}

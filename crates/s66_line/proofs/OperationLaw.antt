@@ -24,7 +24,7 @@ among-at (x ∷ xs) (suc n) d h = inr (among-at xs n d (omega (arith, h)))
 at_row : (n : ℕ) → n < 16 → Among (get_or operations n ([], [])) operations
 at_row n h = among-at operations n ([], []) h
 
--- these two letters and the choices of their form are a row of the table
+-- these two letters and the choices of their syntax are a row of the table
 abbrev Listed : ℕ → ℕ → Syntax → Type 0
 Listed p q syntax = Among (p ∷ q ∷ [], choices syntax) operations
 
@@ -68,7 +68,7 @@ can_mean p q d syntax n e row h =
       digits = (rw h.1 (octal-few d e), h.2, h.3);
     }
 
--- the digit of an operation, and what its form can choose
+-- the digit of an operation, and what its syntax can choose
 abbrev Decoded : List ℕ → Syntax × ℕ → Type 0
 Decoded operation o = (o.1 ≤ 7) × ((n : Instr) → Chosen (choices o.0) o.1 n → CanMean operation n)
 

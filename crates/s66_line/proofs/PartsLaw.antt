@@ -59,7 +59,7 @@ follow : (lines : List (List ℕ)) → Followed lines
 follow [] number run index label after = tt
 follow (line ∷ lines) number run index label after = follow-class (class_of after line) number run index label line lines (follow lines)
 
--- PARTS: each of one run, its places in order, no more than a block may have
+-- PARTS: each of one run, its lines by rising index, no more than a block may have
 
 abbrev Steady : ℕ → ℕ → List Line → Type 0
 Steady run index [] = Unit {0}

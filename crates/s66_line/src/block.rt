@@ -25,7 +25,7 @@ impl<'a> Model for Block<'a> {
 }
 
 impl<'a> Block<'a> {
-    ghost use Rattle.std.specs.Prelude.{◌≡◌, ◌≤◌, ◌<◌, Some, length};
+    ghost use Rattle.std.specs.Prelude.{◌≡◌, ◌*◌, ◌≤◌, ◌<◌, Some, length};
     ghost use Rattle.s66_isa.specs.Lists.{weigh};
     ghost use Rattle.s66_isa.specs.Table.{instr_at, parcels_of};
     ghost use Rattle.s66_isa.specs.declared.instr.Instr.{Instr};
@@ -107,10 +107,10 @@ impl<'a> Block<'a> {
         spell(self.bytes(number))
     }
 
-    /// The parcels of 15 bits of its instructions, NOs not counted: at most 128.
+    /// The parcels of 15 bits of its instructions, `NO`s not counted: at most two an instruction.
     pub fn parcels(&self) -> u32
         ensures value { result ≡ weigh (λ (n : Instr). parcels_of n.op.code) (instrs_of self.now) }
-        ensures at_most { result ≤ 128 }
+        ensures at_most { result ≤ 2 * BLOCK_LIMIT }
     {
         let mut sum = 0;
         for entry in &self.entries {

@@ -47,10 +47,10 @@ fn class_by_operation(located: bool, bytes: &[u8]) -> Class
     if is_pad_name(operation) {
         return Class::Pad { located };
     }
-    let Some((form, digit)) = operation_of(operation) else {
+    let Some((syntax, digit)) = operation_of(operation) else {
         return Class::Other;
     };
-    match decode(form, digit, upper_case(next_word(rest)).as_slice()) {
+    match decode(syntax, digit, upper_case(next_word(rest)).as_slice()) {
         Some(instr) => Class::Instruction { located, instr },
         None => Class::Refused,
     }

@@ -6,8 +6,8 @@ use thiserror::Error;
 
 /// Why a source was refused; lines count from 1, and the least refused line is told.
 ///
-/// On one line `LineTooLong` goes before `TooLarge`, and that before `BadOperand`. `OutOfMemory` is answered only where
-/// a growth was refused in the call, and may stand in the place of any other answer.
+/// On one line `LineTooLong` goes before `TooLarge`, and that before `BadOperand`. `OutOfMemory` is for a growth that was
+/// refused, and may stand in the place of any other answer.
 #[derive(Clone, Copy, Debug, Drop, Error, PartialEq, Eq)]
 pub enum SourceError {
     /// An operation of the table with an operand that it does not take, or a line with a comma in column 1 directly after

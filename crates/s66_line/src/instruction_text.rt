@@ -52,8 +52,8 @@ fn instruction_in(bytes: &[u8]) -> Option<Instr>
     ensures { result ≡ instr_of (operation_in bytes.now) (operand_in bytes.now) }
 {
     let (operation, operand) = operation_and_operand(bytes);
-    let (form, digit) = operation_of(operation)?;
-    decode(form, digit, upper_case(operand).as_slice())
+    let (syntax, digit) = operation_of(operation)?;
+    decode(syntax, digit, upper_case(operand).as_slice())
 }
 
 /// Whether this is the text of an instruction, as `Block::text` gives it.

@@ -58,8 +58,9 @@ fn read_all<F: Feed>(alloc: Global, reader: &mut F) -> Result<Vec<u8>, Fault>
 
 /// Runs a command: reads to the end, builds all text, and only then writes.
 ///
-/// Errors: `Source` tells why the source was refused, `Memory` that a growth was refused, `Read` and `Write` that a
-/// device failed; nothing is written but at `Write`, which leaves a beginning of the text.
+/// Errors: `Source` tells why the source was refused, `Memory` that memory was wanting, `Read` that the reader failed or none
+/// of `FEED_CALLS` calls gave the end, `Write` that the writer failed; nothing is written but at `Write`, which leaves a
+/// beginning of the text.
 pub fn run_command<R: AllocGlobal, F: Feed, S: Sink>(
     rt: &R,
     command: Command,

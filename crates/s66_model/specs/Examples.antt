@@ -305,7 +305,7 @@ abbrev pub load_piece : Tree Tip
 load_piece =
     Parted (1 ∷ 3 ∷ []) (Split (2 ∷ 3 ∷ []) (Unsplit (Carries (Load Boolean)) (Split (2 ∷ []) (Unsplit (Carries Whole) NoMore) NoMore)) (Unsplit Frontier NoMore))
 
--- so many children that aren't split, with the same mark
+-- so many children that aren't split, with the same tip
 abbrev pub children : {M : Type 0} → ℕ → M → Kids M
 children zero tip = NoMore
 children (suc count) tip = Unsplit tip (children count tip)

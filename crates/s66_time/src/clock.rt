@@ -69,6 +69,7 @@ impl<'a> Clock<'a> {
     {
         let row = &self.rows[n as usize - 1];
         let step = self.words.push(&self.profile, n, row);
+        // a word for each unit of the kind, each saved word twice, the six of the progress, and the record
         self.looks = self.profile.copies(row.kind) + 2 * step.words() + 7;
         self.steps.push(step);
     }
@@ -81,6 +82,7 @@ impl<'a> Clock<'a> {
     {
         let last = self.steps.len() - 1;
         let step = &self.steps[last];
+        // each saved word, the unit's, the six of the progress, and the record
         self.looks = step.words() + 8;
         self.words.undo(step);
         self.steps.truncate(last);

@@ -39,7 +39,7 @@ pub(crate) enum Syntax {
     },
 }
 
-/// The form of an operation by its two letters.
+/// The syntax of an operation by its two letters.
 fn syntax_of(first: u8, second: u8) -> Option<Syntax>
     ensures { result ≡ syntax_of first second }
 {
