@@ -14,9 +14,8 @@ use Rattle.s66_model.specs.Packing.{fits_at}
 use Rattle.s66_model.specs.Timing.{Point, ResultAt, slot_of, next, next_parcel, done_of, last_done, busy_at, issue_of, start_of, total, point, IsInRange, result_at, free_after}
 use Rattle.s66_time.specs.declared.words.Words.{Words}
 use Rattle.s66_time.specs.declared.limits.TheConstants.{COPIES_LIMIT, TOTAL_LIMIT, UNIT_LIMIT}
-use Rattle.s66_time.specs.Seen.{under}
 use Rattle.s66_time.specs.Places.{first_unit, units_of, put_back}
-use Rattle.s66_time.specs.ClockWords.{refs_wait, stores_wait, wait_of, IsWords, InTurn, IsSoonest, Follows, Takes}
+use Rattle.s66_time.specs.ClockWords.{under, refs_wait, stores_wait, wait_of, IsWords, InTurn, IsSoonest, Follows, Takes}
 use Rattle.s66_model.specs.Leaves.{rest_busy}
 use Rattle.s66_model.proofs.Issue.{none_busy}
 use Rattle.s66_model.proofs.LoadBound.{same_kind-true}

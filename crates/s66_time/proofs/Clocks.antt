@@ -6,7 +6,7 @@ use Rattle.s66_isa.specs.Table.{Instr, Row}
 use Rattle.s66_isa.specs.declared.instr.Kind.{Kind}
 use Rattle.s66_isa.specs.declared.profile.Profile.{Profile}
 use Rattle.s66_isa.specs.Lists.{greatest, tally, has}
-use Rattle.s66_model.specs.Timing.{Problem, Point, row_at, point_of, points_after, points_of, point, total, next, next_parcel, busy_at, copies}
+use Rattle.s66_model.specs.Timing.{Problem, Point, row_at, point_of, points_after, points_of, point, issue_of, start_of, total, next, next_parcel, busy_at, copies}
 use Rattle.s66_model.specs.LegalOrder.{IsBeginning, is_ready}
 use Rattle.s66_model.proofs.LegalOrders.{GoesOn-append, GoesOn-join}
 use Rattle.s66_model.proofs.Growth.{total-le, fits_at-ge}
@@ -15,12 +15,10 @@ use Rattle.s66_model.proofs.PointTimes.{good-at, point_of-row, point_of-number, 
 use Rattle.s66_model.proofs.Issue.{issue-late}
 use Rattle.s66_dep.proofs.Fronts.{beginning-few}
 use Rattle.s66_line.specs.declared.limits.TheConstants.{BLOCK_LIMIT}
-use Rattle.s66_time.specs.Seen.{under}
-use Rattle.s66_time.specs.ClockWords.{IsWords, InTurn, points_of_steps, AreKept, after_undo}
+use Rattle.s66_time.specs.ClockWords.{under, IsWords, InTurn, points_of_steps, AreKept, after_undo}
 use Rattle.s66_time.specs.Ticking.{numbers_of, IsClock}
 use Rattle.s66_time.specs.declared.words.Words.{Words}
 use Rattle.s66_time.specs.declared.step.Step.{Step}
-use Rattle.s66_time.proofs.Points.{point-under}
 use Rattle.s66_time.proofs.ClockPoints.{slot-is}
 use Rattle.s66_model.proofs.LoadBound.{fits-run, next-le-total}
 
@@ -31,7 +29,7 @@ record AreFair (s : List Point) : Type 0 where
   parcels : greatest (λ (p : Point). p.row.parcels) s ≤ 2
   parcel : next_parcel s ≤ next s
 
-early-point_of : (b : Problem) (s : List Point) (n : ℕ) → next_parcel s ≤ next s → (point_of b s n).parcel ≤ (point_of b s n).issue
+pub early-point_of : (b : Problem) (s : List Point) (n : ℕ) → next_parcel s ≤ next s → (point_of b s n).parcel ≤ (point_of b s n).issue
 unfolding point
 early-point_of b s n le =
     omega (arith, slot-is s (row_at b n).parcels, issue-late b s (row_at b n), fits_at-ge (next_parcel s) (row_at b n).parcels)
@@ -105,6 +103,11 @@ pub has-points : (b : Problem) (m : ℕ) (ns : List ℕ) → has m (map (λ (p :
 has-points b m ns = has-points_after b m [] ns ∙ or-false (has m ns)
 
 -- A PUSH
+
+-- only the profile of what is timed and the row matter
+pub point-under : (b : Problem) (s : List Point) (n : ℕ) (r : Row) → point (under b.profile) s n r ≡ point b s n r
+unfolding point start_of issue_of
+point-under b s n r = refl
 
 ready-beginning : (block : List Instr) (ns : List ℕ) (n : ℕ) → IsBeginning block ns → is_ready block ns n ≡ true → IsBeginning block (ns ++ n ∷ [])
 ready-beginning block ns n h ready = GoesOn-join block [] ns (n ∷ []) h (ready, tt)

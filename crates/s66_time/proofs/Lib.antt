@@ -1,12 +1,8 @@
 pub mod Loops
-pub mod History
-pub mod Writes
 pub mod Free
-pub mod Points
-pub mod Kept
-pub mod Positions
 pub mod Back
 pub mod FreeUnits
 pub mod ClockPoints
 pub mod Clocks
+pub mod Positions
 pub mod RowsOfBlock

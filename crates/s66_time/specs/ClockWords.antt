@@ -14,6 +14,10 @@ use Rattle.s66_time.specs.declared.words.Words.{Words}
 use Rattle.s66_time.specs.declared.tick.Tick.{Tick}
 use Rattle.s66_time.specs.declared.step.Step.{Step}
 
+-- a point depends on the block only by its row
+abbrev pub under : Profile → Problem
+under p = record { block = []; profile = p }
+
 -- one after the greatest start of references, and of stores; 0 where there is none
 abbrev pub refs_wait : List Point → ℕ
 refs_wait s = greatest (λ (p : Point). if touches p.row.memory then p.start + 1 else 0) s

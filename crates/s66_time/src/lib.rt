@@ -4,7 +4,6 @@
 mod clock;
 mod limits;
 mod packing;
-mod point;
 mod progress;
 mod registers;
 mod result;
@@ -12,7 +11,6 @@ mod row;
 mod step;
 mod tick;
 mod timed;
-mod timeline;
 mod units;
 mod words;
 

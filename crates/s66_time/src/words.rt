@@ -4,8 +4,7 @@ ghost use Rattle.s66_line.specs.declared.limits.TheConstants.{BLOCK_LIMIT};
 ghost use Rattle.s66_model.specs.Packing.{fits_at};
 ghost use Rattle.s66_model.specs.Timing.{IsInRange, Point, issue_of, start_of, point};
 ghost use Rattle.s66_time.specs.declared.limits.TheConstants.{TOTAL_LIMIT, UNIT_LIMIT};
-ghost use Rattle.s66_time.specs.Seen.{under};
-ghost use Rattle.s66_time.specs.ClockWords.{IsWords, InTurn, IsSoonest, Follows, wait_of, point_of_tick, after_undo, Takes};
+ghost use Rattle.s66_time.specs.ClockWords.{under, IsWords, InTurn, IsSoonest, Follows, wait_of, point_of_tick, after_undo, Takes};
 
 use crate::packing::fits_at;
 use crate::progress::Progress;
@@ -114,7 +113,7 @@ impl Words {
     }
 
     /// Places the next instruction there, and answers what was written over.
-    fn take(&mut self, number: u8, row: &Row, tick: &Tick) -> Step
+    pub fn take(&mut self, number: u8, row: &Row, tick: &Tick) -> Step
         requires number { (1 ≤ number) × (number ≤ BLOCK_LIMIT) }
         requires early { (tick.now.issue ≤ TOTAL_LIMIT + 3) × (tick.now.parcel ≤ TOTAL_LIMIT + 3) × (tick.now.start ≤ TOTAL_LIMIT + 3) }
         ensures number { result.number ≡ number }
