@@ -126,7 +126,7 @@ waits-bound done r most used [] h memory = omega arith
 waits-bound done r most used (q ∷ s) h memory =
     omega (arith, results-bound done r most used q.results (λ x. omega (arith, h x)), waits-bound done r most used s (λ x. omega (arith, h x)) (omega arith))
 
-writes-le : (f : Reg → ℕ) (r : Reg) (ws : List Write) → some_of (λ (w : Write). same_reg w.reg r) ws ≡ true → f r ≤ greatest (λ (w : Write). f w.reg) ws
+pub writes-le : (f : Reg → ℕ) (r : Reg) (ws : List Write) → some_of (λ (w : Write). same_reg w.reg r) ws ≡ true → f r ≤ greatest (λ (w : Write). f w.reg) ws
 writes-le f r [] h = absurd cc
 writes-le f r (w ∷ ws) h =
     elim (or_cases (same_reg w.reg r) (some_of (λ (v : Write). same_reg v.reg r) ws) h) [

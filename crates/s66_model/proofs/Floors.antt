@@ -129,7 +129,7 @@ whole-before b prefix is Parcels may = absurd (omega (arith, is, may))
 floor-whole : (b : Problem) (prefix : List ℕ) → IsComplete b.block prefix → floor b prefix ≡ Whole
 floor-whole b prefix is = rw (floor, eq-eqb (length prefix) (length b.block) is) refl
 
-floor-part : (b : Problem) (prefix : List ℕ) → length prefix ≢ length b.block → floor b prefix ≡ first_greatest (value b prefix) (Chain (longest_chain b prefix)) after_chain
+pub floor-part : (b : Problem) (prefix : List ℕ) → length prefix ≢ length b.block → floor b prefix ≡ first_greatest (value b prefix) (Chain (longest_chain b prefix)) after_chain
 floor-part b prefix past = rw (floor, ne_eqb (length prefix) (length b.block) past) refl
 
 whole-floor : (b : Problem) (prefix : List ℕ) → IsComplete b.block prefix → IsFloor b prefix Whole

@@ -17,6 +17,12 @@ pub mod Dictionary
 pub mod LongestChain
 pub mod Floors
 pub mod AnswerBound
+pub mod Longest
+pub mod ChainParts
+pub mod LateRegisters
+pub mod TailTable
+pub mod FloorParts
+pub mod UnitLoad
 pub mod OnceCovered
 pub mod LedgerSteps
 pub mod LedgerRuns

@@ -7,12 +7,13 @@ use Rattle.s66_isa.specs.declared.instr.Kind.TheVariants.{Boolean, Multiply}
 use Rattle.s66_isa.specs.declared.instr.Memory.{Memory}
 use Rattle.s66_isa.specs.declared.reg.Reg.{Reg}
 use Rattle.s66_isa.specs.declared.profile.Profile.{Profile}
-use Rattle.s66_isa.specs.Table.{instr, Row, Write, standard, a_reg, b_reg, all_kinds, reads_of, results_of, memory_of, memory_pair}
+use Rattle.s66_isa.specs.Table.{instr, numbers, Row, Write, standard, a_reg, b_reg, all_kinds, reads_of, results_of, memory_of, memory_pair}
 use Rattle.s66_model.specs.Packing.{parcels_from, fillers, len_at}
 use Rattle.s66_model.specs.Dependence.{share}
 use Rattle.s66_model.specs.Meaning.{Term, Initial, Computed, Terms, NoTerms, Then, Storage, meaning}
 use Rattle.s66_model.specs.Timing.{Problem, Point, row_at, points_of, latest_result}
 use Rattle.s66_model.specs.Leaves.{Leaf, Whole, Chain, Load, link, load, chain, longest_chain, floor, floor_value}
+use Rattle.s66_model.specs.Tails.{longest_tail}
 use Rattle.s66_model.specs.Tree.{Tree, Parted, Kids, NoMore, Unsplit, Split}
 use Rattle.s66_model.specs.Answer.{Answer}
 use Rattle.s66_model.specs.Piece.{Tip, Carries, Frontier}
@@ -253,6 +254,10 @@ loads_in block prefix = map (load (standard_problem block) prefix) all_kinds
 -- the link from one number to a later one
 abbrev pub link_in : List Instr → ℕ → ℕ → ℕ
 link_in block m n = link (row_at (standard_problem block) m) (row_at (standard_problem block) n)
+
+-- the longest tail of each number
+abbrev pub tails_in : List Instr → List ℕ
+tails_in block = map (longest_tail (standard_problem block)) (numbers block)
 
 -- TREES, ANSWERS AND PIECES
 

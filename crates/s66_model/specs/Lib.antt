@@ -6,6 +6,7 @@ pub mod Meaning
 pub mod BestAndBound
 pub mod Leaves
 pub mod Floor
+pub mod Tails
 pub mod Tree
 pub mod Answer
 pub mod Piece

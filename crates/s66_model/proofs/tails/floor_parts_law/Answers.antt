@@ -1,0 +1,24 @@
+use Rattle.std.proofs.Common.{◌-◌, get_or, refl}
+use Rattle.s66_isa.specs.Lists.{weigh}
+use Rattle.s66_model.specs.Timing.{points_of, next, copies}
+use Rattle.s66_model.specs.LegalOrder.{remaining}
+use Rattle.s66_model.specs.Leaves.{rest_busy}
+use Rattle.s66_model.proofs.FloorParts.{floor-parts, rest-some, parcels-static, left-sum, leaf-fits}
+use Rattle.s66_model.proofs.UnitLoad.{load-parts}
+use Rattle.s66_model.proofs.tails.floor_parts_law.Goals as goal
+
+pub returns-clause-greatest : goal.returns-clause-greatest
+returns-clause-greatest c = floor-parts
+
+pub returns-clause-parcels : goal.returns-clause-parcels
+returns-clause-parcels c = λ b prefix begins short. parcels-static b prefix (rest-some b prefix begins short)
+
+pub returns-clause-loads : goal.returns-clause-loads
+returns-clause-loads c = λ b prefix words kind known.
+    load-parts b prefix kind words (remaining b.block prefix) (weigh (λ n. get_or words (n - 1) 0) (remaining b.block prefix)) (weigh (rest_busy kind (next (points_of b prefix))) (points_of b prefix)) (copies b kind) (next (points_of b prefix)) known refl refl refl refl refl
+
+pub returns-clause-sums : goal.returns-clause-sums
+returns-clause-sums c = λ b prefix words f known. left-sum b prefix f words known
+
+pub returns-clause-fits : goal.returns-clause-fits
+returns-clause-fits c = leaf-fits

@@ -1,0 +1,47 @@
+-- Used by contracts of what computes a floor: the longest walk from each number, whatever is placed, and the registers that keep a chain from starting at the next slot. No definition of a floor rests on these.
+use Rattle.std.specs.Prelude.{ℕ, ◌+◌, ◌-◌, ◌≡◌, ◌≤◌, ◌<◌, if◌then◌else◌, List, [], length, get_or, true}
+use Rattle.s66_isa.specs.declared.reg.Reg.{Reg}
+use Rattle.s66_isa.specs.Lists.{greatest, Among}
+use Rattle.s66_isa.specs.Table.{Write, has_reg}
+use Rattle.s66_model.specs.Timing.{Problem, row_at, points_of, next, done_of}
+use Rattle.s66_model.specs.LegalOrder.{remaining}
+use Rattle.s66_model.specs.Leaves.{tail, uses, link, is_linked, longest}
+
+-- C, A CHAIN
+
+-- the time of the longest walk from n along the links to later numbers, none of them placed
+abbrev pub longest_tail : Problem → ℕ → ℕ
+longest_tail b n = longest b [] (length b.block) n
+
+-- the longest walk from n that goes on with m, 0 where they have no link
+abbrev pub walk_to : Problem → ℕ → ℕ → ℕ
+walk_to b n m = if is_linked b n m then link (row_at b n) (row_at b m) + longest_tail b m else 0
+
+-- the greatest longest tail of what remains
+abbrev pub tail_remaining : Problem → List ℕ → ℕ
+tail_remaining b prefix = greatest (longest_tail b) (remaining b.block prefix)
+
+-- the greatest chain that starts when x is done, at a number that reads or writes it; 0 where no such number remains
+abbrev pub chain_by : Problem → List ℕ → Reg → ℕ
+chain_by b prefix x =
+    greatest (λ n. if uses (row_at b n) x then done_of (points_of b prefix) x + longest_tail b n else 0) (remaining b.block prefix)
+
+-- among the registers is each that is done after the next slot
+abbrev pub HasLate : Problem → List ℕ → List Reg → Type 0
+HasLate b prefix xs = (x : Reg) → next (points_of b prefix) < done_of (points_of b prefix) x → has_reg x xs ≡ true
+
+-- among the registers is each that the block writes
+abbrev pub Covers : Problem → List Reg → Type 0
+Covers b xs = (n : ℕ) → 1 ≤ n → n ≤ length b.block → (w : Write) → Among w (row_at b n).writes → has_reg w.reg xs ≡ true
+
+-- P, THE PARCELS
+
+-- how much longer the tail of n is than its parcels
+abbrev pub spare : Problem → ℕ → ℕ
+spare b n = tail (row_at b n) - (row_at b n).parcels
+
+-- A TABLE
+
+-- a word for each number of the block, at the place below it: f of the number
+abbrev pub HasWords : Problem → (ℕ → ℕ) → List ℕ → Type 0
+HasWords b f words = (n : ℕ) → 1 ≤ n → n ≤ length b.block → get_or words (n - 1) 0 ≡ f n
