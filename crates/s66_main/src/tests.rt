@@ -18,6 +18,7 @@ mod devices;
 mod limits;
 mod lines;
 mod orders;
+mod plain_clock;
 mod program;
 mod trace;
 
