@@ -188,8 +188,8 @@ fn check_totals<R: AllocGlobal + Abort>(
     Ok(())
 }
 
-/// An order of the packing gap ends with its load's X1, 8 behind its issue: in 4 where it stands last, behind the gap, else in 2, 1
-/// or 0.
+/// An order of the packing gap ends with its load's X1, 8 behind its issue: in 4 where it stands last, behind the gap, else in 2,
+/// 1 or 0.
 #[test]
 fn clocks_all_orders(rt: HostRuntime) -> Result<(), Fail> {
     let rows: [(&str, &[u32]); 8] = [
@@ -210,10 +210,10 @@ fn clocks_all_orders(rt: HostRuntime) -> Result<(), Fail> {
     check_totals(&rt, &Profile::standard(), &rows)
 }
 
-/// The one multiply unit takes three multiplies one after another, each 5 behind the last; the two divide units take both divisions
-/// at once; a loaded X is done before its A.
+/// The one multiply unit takes the three multiplies one after another, each 5 behind the last. The two divide units take the
+/// population count and the divide at once. A load's X is done before its A.
 #[test]
-fn clocks_other_units(rt: HostRuntime) -> Result<(), Fail> {
+fn clocks_an_uneven_profile(rt: HostRuntime) -> Result<(), Fail> {
     let profile = Profile {
         boolean: 5,
         shift: 2,
@@ -281,8 +281,8 @@ fn readings_after<R: Abort>(
 /// The load issues in 0, its unit is free in 4, A1 is done in 3 and X1 in 8. The Boolean behind it issues in 1, its X7 is done in
 /// 4 and its unit free in 5. Two multiplies issue in 0 and 1 and their units are free in 11 and 12: 9 and 10 from 2 on.
 ///
-/// A divide issues in 0 and is done in 29. The Boolean behind it issues in 1, starts in 29, and its unit is free in 33. It reads X5,
-/// so the Increment behind it, which issues in 2, is done in 30 and its unit free in 31.
+/// A divide issues in 0 and is done in 29. The Boolean behind it issues in 1, starts in 29, and its unit is free in 33. It reads
+/// X5, so the Increment behind it, which issues in 2, is done in 30 and its unit free in 31.
 #[test]
 fn tells_units_and_registers(rt: HostRuntime) -> Result<(), Fail> {
     let a1 = Reg::new(Bank::A, 1);

@@ -119,10 +119,10 @@ impl PlainClock {
 
     /// The parcel in which an instruction begins that comes next.
     fn parcel(&self, instr: &Instr) -> u32 {
-        let mut empty = 0;
-        for point in &self.points {
-            empty = point.parcel.saturating_add(point.instr.parcels());
-        }
+        let empty = match self.points.last() {
+            Some(point) => point.parcel.saturating_add(point.instr.parcels()),
+            None => 0,
+        };
         begins_at(empty, instr.parcels())
     }
 
@@ -149,14 +149,13 @@ impl PlainClock {
 
     /// First order: a unit is free, and no register that it writes is still to be written.
     fn can_issue(&self, instr: &Instr, time: u32) -> bool {
-        let kind = instr.kind();
         let results = instr.results();
         for point in &self.points {
             if !point.is_done_by(results.as_slice(), time) {
                 return false;
             }
         }
-        self.busy_units(kind, time) < self.profile.copies(kind)
+        self.busy_units(instr.kind(), time) < self.profile.copies(instr.kind())
     }
 
     /// The first minor cycle from the slot on in which an instruction can issue: `total` later, everything is free and done.
@@ -258,10 +257,8 @@ impl PlainClock {
 
     /// Takes back the last push, and gives its number where there was one.
     pub fn undo(&mut self) -> Option<u8> {
-        match self.points.pop() {
-            Some(point) => Some(point.number),
-            None => None,
-        }
+        let point = self.points.pop()?;
+        Some(point.number)
     }
 
     /// Whether an instruction of this number is pushed.
