@@ -22,6 +22,7 @@ pub mod ChainParts
 pub mod LateRegisters
 pub mod TailTable
 pub mod FloorParts
+pub mod PrintedChain
 pub mod UnitLoad
 pub mod OnceCovered
 pub mod LedgerSteps

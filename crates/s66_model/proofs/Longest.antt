@@ -2,6 +2,7 @@
 use Rattle.std.proofs.Common.{ℕ, zero, suc, ◌+◌, ◌<◌, ◌≡◌, Bool, true, false, true≢false, ◌&&◌, max, List, [], ◌∷◌, ◌++◌, length, refl, sym, subst, ap, arith, inl, inr, ltb, eqb, append_assoc, ◌∙◌}
 use Rattle.std.proofs.lemmas.Bool.{and_parts, and_from, or_cases, or_right, eqb-true, ltb-true, cases_Bool}
 use Rattle.std.proofs.lemmas.List.{append-nil}
+use Rattle.std.specs.List.{filter}
 use Rattle.s66_isa.specs.declared.instr.Instr.{Instr}
 use Rattle.s66_isa.specs.Lists.{greatest, has}
 use Rattle.s66_isa.specs.Table.{instr_at, numbers}
@@ -12,7 +13,7 @@ use Rattle.s66_model.specs.Leaves.{tail, link, is_linked, links_from, longest, h
 use Rattle.s66_model.specs.Tails.{longest_tail}
 use Rattle.s66_isa.proofs.Lists.{greatest-same, filter-filter, filter-same}
 use Rattle.s66_model.proofs.LegalOrders.{has-push, ready-parts, needs-each, depends-lt, depends-from}
-use Rattle.s66_model.proofs.Remaining.{remaining-parts, filter-among, remaining-among}
+use Rattle.s66_model.proofs.Remaining.{remaining-parts, filter-among, remaining-among, all-remain}
 use Rattle.s66_model.proofs.ChainBound.{link-conflict}
 
 -- WHAT DEPENDS ON A NUMBER THAT REMAINS, REMAINS
@@ -76,6 +77,9 @@ links_from-same b prefix n begins stays =
           | inl is ↦ rw (linked-new b prefix n m begins stays is) refl
           | inr off ↦ and-off (is_remaining b.block prefix m) (is_remaining b.block [] m) (is_linked b n m) off
         ]
+
+pub links_from-static : (b : Problem) (prefix : List ℕ) (n : ℕ) → IsBeginning b.block prefix → is_remaining b.block prefix n ≡ true → links_from b prefix n ≡ filter (is_linked b n) (numbers b.block)
+links_from-static b prefix n begins stays = links_from-same b prefix n begins stays ∙ ap (filter (is_linked b n)) (all-remain b.block)
 
 -- THE LONGEST TAIL
 

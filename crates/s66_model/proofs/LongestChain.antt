@@ -92,21 +92,21 @@ remaining-rises block prefix = Rises-filter (is_remaining block prefix) 1 (numbe
 -- THE WALK AFTER A NUMBER
 
 -- the value keeps so long a walk, from n on to m
-abbrev keeps : Problem → List ℕ → ℕ → ℕ → ℕ → ℕ → Bool
+abbrev pub keeps : Problem → List ℕ → ℕ → ℕ → ℕ → ℕ → Bool
 keeps b prefix links n time m = eqb (link (row_at b n) (row_at b m) + longest b prefix links m) time
 
-abbrev onward : Problem → List ℕ → ℕ → ℕ → ℕ → ℕ
+abbrev pub onward : Problem → List ℕ → ℕ → ℕ → ℕ → ℕ
 onward b prefix links n time = first_that (keeps b prefix links n time) (links_from b prefix n)
 
-walk-ends : (b : Problem) (prefix : List ℕ) (links n time : ℕ) → tail (row_at b n) ≡ time → longest_walk b prefix (suc links) n time ≡ []
+pub walk-ends : (b : Problem) (prefix : List ℕ) (links n time : ℕ) → tail (row_at b n) ≡ time → longest_walk b prefix (suc links) n time ≡ []
 walk-ends b prefix links n time is = rw (longest_walk, eq-eqb (tail (row_at b n)) time is) refl
 
-walk-goes : (b : Problem) (prefix : List ℕ) (links n time : ℕ) → tail (row_at b n) ≢ time →
+pub walk-goes : (b : Problem) (prefix : List ℕ) (links n time : ℕ) → tail (row_at b n) ≢ time →
     longest_walk b prefix (suc links) n time ≡ onward b prefix links n time ∷ longest_walk b prefix links (onward b prefix links n time) (time - link (row_at b n) (row_at b (onward b prefix links n time)))
 walk-goes b prefix links n time past = rw (longest_walk, ne_eqb (tail (row_at b n)) time past) refl
 
 -- the walk goes on to a number with a link, from which on it takes what is left of the time
-onward-keeps : (b : Problem) (prefix : List ℕ) (links n time : ℕ) → time ≡ longest b prefix (suc links) n → tail (row_at b n) ≢ time →
+pub onward-keeps : (b : Problem) (prefix : List ℕ) (links n time : ℕ) → time ≡ longest b prefix (suc links) n → tail (row_at b n) ≢ time →
     Among (onward b prefix links n time) (links_from b prefix n) × (link (row_at b n) (row_at b (onward b prefix links n time)) + longest b prefix links (onward b prefix links n time) ≡ time)
 onward-keeps b prefix links n time is past =
     let f : ℕ → ℕ = λ m. link (row_at b n) (row_at b m) + longest b prefix links m in
@@ -131,13 +131,13 @@ longest-walk b prefix (suc links) n time stays is =
 
 -- THE CHAIN
 
-abbrev heads : Problem → List ℕ → ℕ → Bool
+abbrev pub heads : Problem → List ℕ → ℕ → Bool
 heads b prefix n = eqb (head (points_of b prefix) (row_at b n) + longest b prefix (length b.block) n) (chain b prefix)
 
-abbrev front : Problem → List ℕ → ℕ
+abbrev pub front : Problem → List ℕ → ℕ
 front b prefix = first_that (heads b prefix) (remaining b.block prefix)
 
-front-heads : (b : Problem) (prefix : List ℕ) (n : ℕ) → is_remaining b.block prefix n ≡ true →
+pub front-heads : (b : Problem) (prefix : List ℕ) (n : ℕ) → is_remaining b.block prefix n ≡ true →
     (is_remaining b.block prefix (front b prefix) ≡ true) × (head (points_of b prefix) (row_at b (front b prefix)) + longest b prefix (length b.block) (front b prefix) ≡ chain b prefix)
 front-heads b prefix n stays =
     let f : ℕ → ℕ = λ m. head (points_of b prefix) (row_at b m) + longest b prefix (length b.block) m in

@@ -6,7 +6,7 @@ use Rattle.s66_isa.specs.declared.instr.Instr.{Instr}
 use Rattle.s66_isa.specs.Lists.{tally, has, Among}
 use Rattle.s66_isa.specs.Table.{numbers}
 use Rattle.s66_model.specs.LegalOrder.{IsLegal, is_ready, is_remaining, ready, remaining, IsBeginning, IsIncomplete, IsOrder, Completes}
-use Rattle.s66_isa.proofs.Lists.{rising-among}
+use Rattle.s66_isa.proofs.Lists.{rising-among, among-rising, filter-all}
 use Rattle.s66_model.proofs.LegalOrders.{legal-order, order-legal, GoesOn-append, GoesOn-join, ready-parts}
 
 -- WHAT PASSES
@@ -50,6 +50,13 @@ among-remaining block prefix n h =
 
 pub remaining-among : (block : List Instr) (prefix : List ℕ) (n : ℕ) → Among n (remaining block prefix) → is_remaining block prefix n ≡ true
 remaining-among block prefix n h = (filter-among (is_remaining block prefix) n (numbers block) h).1
+
+-- before anything is placed all numbers remain
+pub all-remain : (block : List Instr) → remaining block [] ≡ numbers block
+all-remain block =
+    filter-all (is_remaining block []) (numbers block) (λ n among.
+    let (low, high) = among-rising (length block) 1 n among in
+    rw (le-leb 1 n low, le-leb n (length block) (omega (arith, high))) refl)
 
 has-front : (n : ℕ) (xs ys : List ℕ) → has n (xs ++ ys) ≡ false → has n xs ≡ false
 has-front n [] ys h = refl

@@ -1,21 +1,20 @@
 -- The longest tails, each by those of later numbers, and how great they are at most.
-use Rattle.std.proofs.Common.{ℕ, zero, suc, ◌+◌, ◌*◌, ◌≤◌, ◌<◌, ◌≡◌, cond, max, List, [], length, refl, ap, arith, ltb, ◌∙◌}
-use Rattle.std.proofs.lemmas.Bool.{and_parts, and_from, and_right, ltb-true, lt-ltb, le-ltb, le-leb, cond-true, cond-false, cond_both}
+use Rattle.std.proofs.Common.{ℕ, zero, suc, ◌+◌, ◌*◌, ◌≤◌, ◌<◌, ◌≡◌, cond, max, List, [], length, ap, arith, ltb, ◌∙◌}
+use Rattle.std.proofs.lemmas.Bool.{and_parts, and_from, and_right, ltb-true, lt-ltb, le-ltb, cond-true, cond-false, cond_both}
 use Rattle.std.specs.List.{filter}
-use Rattle.s66_isa.specs.declared.instr.Instr.{Instr}
 use Rattle.s66_isa.specs.Lists.{greatest, Among}
 use Rattle.s66_isa.specs.Table.{Row, Write, numbers, memory_pair}
 use Rattle.s66_model.specs.Timing.{Problem, row_at}
-use Rattle.s66_model.specs.LegalOrder.{is_remaining, remaining}
+use Rattle.s66_model.specs.LegalOrder.{remaining}
 use Rattle.s66_model.specs.Leaves.{tail, uses, link, is_linked, links_from, longest}
 use Rattle.s66_model.specs.Tails.{longest_tail, walk_to}
-use Rattle.s66_isa.proofs.Lists.{greatest-le, greatest-same, greatest-filter, filter-all, among-rising}
+use Rattle.s66_isa.proofs.Lists.{greatest-le, greatest-same, greatest-filter}
 use Rattle.s66_model.proofs.PointTimes.{good-at}
-use Rattle.s66_model.proofs.Remaining.{remaining-parts, filter-among, remaining-among}
+use Rattle.s66_model.proofs.Remaining.{remaining-parts, filter-among, remaining-among, all-remain}
 
 -- A TAIL BY LATER ONES
 
-links_from-parts : (b : Problem) (n m : ℕ) → Among m (links_from b [] n) → (n < m) × (m ≤ length b.block)
+pub links_from-parts : (b : Problem) (n m : ℕ) → Among m (links_from b [] n) → (n < m) × (m ≤ length b.block)
 links_from-parts b n m among =
     let both = filter-among (is_linked b n) m (remaining b.block []) among in
     let (low, high, new) = remaining-parts b.block [] m (remaining-among b.block [] m both.0) in
@@ -23,7 +22,7 @@ links_from-parts b n m among =
     (lt, high)
 
 -- no walk has more links than numbers follow
-enough : (b : Problem) (links n : ℕ) → length b.block ≤ n + links → longest b [] links n ≡ longest b [] (suc links) n
+pub enough : (b : Problem) (links n : ℕ) → length b.block ≤ n + links → longest b [] links n ≡ longest b [] (suc links) n
 enough b zero n few =
     let f : ℕ → ℕ = λ m. link (row_at b n) (row_at b m) + longest b [] 0 m in
     omega (arith, greatest-le f 0 (links_from b [] n) (λ m among. let (lt, high) = links_from-parts b n m among in absurd (omega (arith, lt, high, few))))
@@ -33,12 +32,6 @@ enough b (suc links) n few =
     ap (max (tail (row_at b n))) (greatest-same f g (links_from b [] n) (λ m among.
     let (lt, high) = links_from-parts b n m among in
     ap (λ k. link (row_at b n) (row_at b m) + k) (enough b links m (omega (arith, lt, few)))))
-
-all-remain : (block : List Instr) → remaining block [] ≡ numbers block
-all-remain block =
-    filter-all (is_remaining block []) (numbers block) (λ n among.
-    let (low, high) = among-rising (length block) 1 n among in
-    rw (le-leb 1 n low, le-leb n (length block) (omega (arith, high))) refl)
 
 pub table-step : (b : Problem) (n : ℕ) → 1 ≤ n → n ≤ length b.block → longest_tail b n ≡ max (tail (row_at b n)) (greatest (walk_to b n) (numbers b.block))
 table-step b n low high =

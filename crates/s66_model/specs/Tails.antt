@@ -1,11 +1,12 @@
 -- Used by contracts of what computes a floor: the longest walk from each number, whatever is placed, and the registers that keep a chain from starting at the next slot. No definition of a floor rests on these.
-use Rattle.std.specs.Prelude.{ℕ, ◌+◌, ◌-◌, ◌≡◌, ◌≤◌, ◌<◌, if◌then◌else◌, List, [], length, get_or, true}
+use Rattle.std.specs.Prelude.{ℕ, zero, suc, ◌+◌, ◌-◌, ◌≡◌, ◌≤◌, ◌<◌, ◌==◌, if◌then◌else◌, List, [], ◌∷◌, length, get_or, true, false}
+use Rattle.std.specs.List.{filter}
 use Rattle.s66_isa.specs.declared.reg.Reg.{Reg}
-use Rattle.s66_isa.specs.Lists.{greatest, Among}
-use Rattle.s66_isa.specs.Table.{Write, has_reg}
+use Rattle.s66_isa.specs.Lists.{greatest, first_that, Among}
+use Rattle.s66_isa.specs.Table.{Write, has_reg, numbers}
 use Rattle.s66_model.specs.Timing.{Problem, row_at, points_of, next, done_of}
 use Rattle.s66_model.specs.LegalOrder.{remaining}
-use Rattle.s66_model.specs.Leaves.{tail, uses, link, is_linked, longest}
+use Rattle.s66_model.specs.Leaves.{tail, uses, link, is_linked, longest, head, chain}
 
 -- C, A CHAIN
 
@@ -33,6 +34,28 @@ HasLate b prefix xs = (x : Reg) → next (points_of b prefix) < done_of (points_
 -- among the registers is each that the block writes
 abbrev pub Covers : Problem → List Reg → Type 0
 Covers b xs = (n : ℕ) → 1 ≤ n → n ≤ length b.block → (w : Write) → Among w (row_at b n).writes → has_reg w.reg xs ≡ true
+
+-- THE PRINTED CHAIN
+
+-- the number after n on its longest walk, the lowest that keeps it; 0 where it ends with n
+abbrev pub walk_next : Problem → ℕ → ℕ
+walk_next b n =
+    if tail (row_at b n) == longest_tail b n then 0
+    else first_that (λ m. link (row_at b n) (row_at b m) + longest_tail b m == longest_tail b n) (filter (is_linked b n) (numbers b.block))
+
+-- the numbers after n on its longest walk, at most so many
+abbrev pub walk_after : Problem → ℕ → ℕ → List ℕ
+walk_after b zero n = []
+walk_after b (suc links) n =
+    elim (walk_next b n == 0) [
+      | true ↦ []
+      | false ↦ walk_next b n ∷ walk_after b links (walk_next b n)
+    ]
+
+-- the lowest number that heads a greatest chain
+abbrev pub chain_front : Problem → List ℕ → ℕ
+chain_front b prefix =
+    first_that (λ n. head (points_of b prefix) (row_at b n) + longest_tail b n == chain b prefix) (remaining b.block prefix)
 
 -- P, THE PARCELS
 

@@ -30,6 +30,6 @@ pub use meaning::{meaning_examples, meaning_law, needed_law};
 pub use packing::{packing_examples, packing_law};
 pub use piece::piece_examples;
 pub use table::{profile_examples, row_law, table_examples};
-pub use tails::{floor_parts_law, tail_examples, tail_law};
+pub use tails::{floor_parts_law, printed_chain_law, tail_examples, tail_law};
 pub use timing::{issue_law, timing_examples, total_law};
 pub use tree::{tree_examples, tree_law};

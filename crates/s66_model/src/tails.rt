@@ -1,14 +1,15 @@
 //! Static tails: a floor by what is known of each number before anything is placed.
 
 ghost use Rattle.std.specs.Prelude.{ℕ, List, length, get_or, max, true, ◌+◌, ◌-◌, ◌/◌, ◌≡◌, ◌≤◌, [], ◌∷◌};
+ghost use Rattle.std.specs.List.{filter};
 ghost use Rattle.s66_isa.specs.declared.instr.Kind.{Kind};
 ghost use Rattle.s66_isa.specs.declared.reg.Reg.{Reg};
 ghost use Rattle.s66_isa.specs.Lists.{greatest, least, weigh};
 ghost use Rattle.s66_isa.specs.Table.{numbers, a_reg, x_reg};
 ghost use Rattle.s66_model.specs.Timing.{Problem, row_at, copies, points_of, next};
 ghost use Rattle.s66_model.specs.LegalOrder.{is_remaining, remaining, sum_remaining, IsBeginning, IsIncomplete};
-ghost use Rattle.s66_model.specs.Leaves.{Leaf, MayStand, tail, head, longest, chain, rest_busy, work_of, load, parcels, value, after_chain, floor_value};
-ghost use Rattle.s66_model.specs.Tails.{longest_tail, walk_to, tail_remaining, chain_by, HasLate, Covers, spare, HasWords};
+ghost use Rattle.s66_model.specs.Leaves.{Leaf, MayStand, tail, is_linked, head, links_from, longest, longest_walk, longest_chain, chain, rest_busy, work_of, load, parcels, value, after_chain, floor_value};
+ghost use Rattle.s66_model.specs.Tails.{longest_tail, walk_to, tail_remaining, chain_by, HasLate, Covers, walk_next, walk_after, chain_front, spare, HasWords};
 ghost use Rattle.s66_model.specs.Examples.{standard_problem, load_problem, tails_in};
 ghost use Rattle.s66_model.specs.Examples as examples;
 
@@ -22,6 +23,15 @@ pub fn tail_law()
     ensures late { (b : Problem) (prefix : List ℕ) (xs : List Reg) → Covers b xs → IsBeginning b.block prefix → HasLate b prefix xs }
 {}
 
+/// What the printed chain asks of a number that remains is known before anything is placed: its longest walk, its links, and the
+/// number after it. So from its front on, the printed chain is the same after every beginning.
+pub fn printed_chain_law()
+    ensures tails { (b : Problem) (prefix : List ℕ) (links n : ℕ) → IsBeginning b.block prefix → is_remaining b.block prefix n ≡ true → length b.block ≤ n + links → longest b prefix links n ≡ longest_tail b n }
+    ensures links { (b : Problem) (prefix : List ℕ) (n : ℕ) → IsBeginning b.block prefix → is_remaining b.block prefix n ≡ true → links_from b prefix n ≡ filter (is_linked b n) (numbers b.block) }
+    ensures walk { (b : Problem) (prefix : List ℕ) (links n : ℕ) → IsBeginning b.block prefix → is_remaining b.block prefix n ≡ true → length b.block ≤ n + links → longest_walk b prefix links n (longest_tail b n) ≡ walk_after b links n }
+    ensures chain { (b : Problem) (prefix : List ℕ) → IsBeginning b.block prefix → IsIncomplete b.block prefix → longest_chain b prefix ≡ chain_front b prefix ∷ walk_after b (length b.block) (chain_front b prefix) }
+{}
+
 /// The value of an incomplete floor is the greatest of its chains, the load of each kind of unit, and its parcels: those of all
 /// that remains, and the least that a tail is longer than its own. A table with a word for each number gives the sums over what
 /// remains. No leaf of a block of at most 64 instructions is above 6656 minor cycles.
@@ -33,7 +43,7 @@ pub fn floor_parts_law()
     ensures fits { (b : Problem) (prefix : List ℕ) (leaf : Leaf) → IsBeginning b.block prefix → length b.block ≤ 64 → MayStand b prefix leaf → value b prefix leaf ≤ 6656 }
 {}
 
-/// The longest tail of each number of a block, and what chains, links and parcels make of it.
+/// The longest tail of each number of a block, the walk that takes it, and what heads, registers and parcels make of them.
 pub fn tail_examples()
     ensures one_load { tails_in examples.one_load ≡ 12 ∷ 4 ∷ 4 ∷ [] }
     ensures late_store { tails_in examples.late_store ≡ 19 ∷ 9 ∷ 8 ∷ [] }
@@ -43,6 +53,10 @@ pub fn tail_examples()
     ensures remaining_after_1 { tail_remaining load_problem (1 ∷ []) ≡ 4 }
     ensures by_the_loaded_register { chain_by load_problem (1 ∷ []) (x_reg 1) ≡ 12 }
     ensures by_a_register_that_none_uses { chain_by load_problem (1 ∷ []) (a_reg 1) ≡ 0 }
+    ensures walk_of_three { walk_after (standard_problem examples.late_store) 3 1 ≡ 2 ∷ 3 ∷ [] }
+    ensures lowest_of_two { walk_next (standard_problem examples.forked_chain) 1 ≡ 2 }
+    ensures ends_with_the_tail { walk_next (standard_problem examples.early_end) 1 ≡ 0 }
+    ensures front_after_1 { chain_front load_problem (1 ∷ []) ≡ 2 }
     ensures spare_of_a_load { spare load_problem 1 ≡ 7 }
     ensures spare_of_two_parcels { spare (standard_problem examples.zero_register) 2 ≡ 2 }
 {}
