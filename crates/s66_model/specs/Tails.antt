@@ -1,4 +1,4 @@
--- Used by contracts of what computes a floor: the longest walk from each number, whatever is placed, and the registers that keep a chain from starting at the next slot. No definition of a floor rests on these.
+-- Used by contracts of what computes floors: what of a floor is known before anything is placed, and which registers keep a chain from starting at the next slot.
 use Rattle.std.specs.Prelude.{ℕ, zero, suc, ◌+◌, ◌-◌, ◌≡◌, ◌≤◌, ◌<◌, ◌==◌, if◌then◌else◌, List, [], ◌∷◌, length, get_or, true, false}
 use Rattle.std.specs.List.{filter}
 use Rattle.s66_isa.specs.declared.reg.Reg.{Reg}

@@ -1,4 +1,4 @@
-use Rattle.std.proofs.Common.{◌-◌, get_or, refl}
+use Rattle.std.proofs.Common.{◌-◌, get_or, refl, sym}
 use Rattle.s66_isa.specs.Lists.{weigh}
 use Rattle.s66_model.specs.Timing.{points_of, next, copies}
 use Rattle.s66_model.specs.LegalOrder.{remaining}
@@ -15,7 +15,9 @@ returns-clause-parcels c = λ b prefix begins short. parcels-static b prefix (re
 
 pub returns-clause-loads : goal.returns-clause-loads
 returns-clause-loads c = λ b prefix words kind known.
-    load-parts b prefix kind words (remaining b.block prefix) (weigh (λ n. get_or words (n - 1) 0) (remaining b.block prefix)) (weigh (rest_busy kind (next (points_of b prefix))) (points_of b prefix)) (copies b kind) (next (points_of b prefix)) known refl refl refl refl refl
+    let sum = weigh (λ n. get_or words (n - 1) 0) (remaining b.block prefix) in
+    let busy = weigh (rest_busy kind (next (points_of b prefix))) (points_of b prefix) in
+    sym (load-parts b prefix kind words (remaining b.block prefix) sum busy (copies b kind) (next (points_of b prefix)) known refl refl refl refl refl)
 
 pub returns-clause-sums : goal.returns-clause-sums
 returns-clause-sums c = λ b prefix words f known. left-sum b prefix f words known
