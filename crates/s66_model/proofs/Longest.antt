@@ -62,7 +62,7 @@ linked-new b prefix n m begins stays is =
 pub links_from-same : (b : Problem) (prefix : List ℕ) (n : ℕ) → IsBeginning b.block prefix → is_remaining b.block prefix n ≡ true → links_from b prefix n ≡ links_from b [] n
 links_from-same b prefix n begins stays =
     filter-filter (is_linked b n) (is_remaining b.block prefix) (numbers b.block)
-    ∙ filter-same (λ m. is_remaining b.block prefix m && is_linked b n m) (λ m. is_remaining b.block [] m && is_linked b n m) same (numbers b.block)
+    ∙ filter-same (λ m. is_remaining b.block prefix m && is_linked b n m) (λ m. is_remaining b.block [] m && is_linked b n m) (numbers b.block) (λ m among. same m)
     ∙ sym (filter-filter (is_linked b n) (is_remaining b.block []) (numbers b.block))
   where
     and-off : (x y z : Bool) → z ≡ false → (x && z) ≡ (y && z)
