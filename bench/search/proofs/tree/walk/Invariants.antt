@@ -1,0 +1,9 @@
+use Rattle.std.proofs.Common.{◌≡◌, ◌<◌, length}
+use Rattle.bench_search.proofs.tree.walk.Given as goal
+
+abbrev pub invariant-loop-step : goal.invariant-loop-step
+invariant-loop-step l = record {
+  block : l.clock.block ≡ l.initial.clock.block;
+  depth : length l.clock.numbers ≡ l.depth;
+  within : l.depth < l.count;
+}
