@@ -1,5 +1,5 @@
 use crate::row::{Row, rows_of};
-use crate::step::Step;
+use crate::steps::Steps;
 use crate::words::Words;
 use arrayvec::ArrayVec;
 use s66_dep::Set;
@@ -19,7 +19,7 @@ pub struct Clock<'a> {
     rows: ArrayVec<Row, BLOCK_LIMIT>,
     words: Words,
     /// What each push wrote over, the oldest first.
-    steps: ArrayVec<Step, BLOCK_LIMIT>,
+    steps: Steps,
     looks: u32,
 }
 
@@ -29,9 +29,9 @@ impl<'a> Model for Clock<'a> {
 
     ghost Value = { Ticking };
 
-    ghost view = { λ c. record { block = c.block.now; profile = c.profile; numbers = numbers_of c.steps.items; looks = c.looks } };
+    ghost view = { λ c. record { block = c.block.now; profile = c.profile; numbers = numbers_of c.steps; looks = c.looks } };
 
-    ghost invariant = { λ c. IsTicking (record { block = instrs_of c.block.now; profile = c.profile }) c.words c.steps.items c.rows.items };
+    ghost invariant = { λ c. IsTicking (record { block = instrs_of c.block.now; profile = c.profile }) c.words c.steps c.rows.items };
 }
 
 impl<'a> Clock<'a> {
@@ -56,7 +56,7 @@ impl<'a> Clock<'a> {
             profile: *profile,
             rows: rows_of(block, profile),
             words: Words::new(),
-            steps: ArrayVec::new(),
+            steps: Steps::new(),
             looks: 0,
         }
     }
@@ -80,12 +80,11 @@ impl<'a> Clock<'a> {
         ensures value { self.new ≡ record self.old { numbers = take (length self.old.numbers - 1) self.old.numbers; looks = self.new.looks } }
         ensures looks { self.new.looks ≤ LOOK_LIMIT }
     {
-        let last = self.steps.len() - 1;
-        let step = &self.steps[last];
+        let step = self.steps.last();
         // each saved word, the unit's, the six of the progress, and the record
         self.looks = step.words() + 8;
         self.words.undo(step);
-        self.steps.truncate(last);
+        self.steps.remove_last();
     }
 
     /// How many words the last push or undo read or wrote, its record counted as one; 0 before the first push.

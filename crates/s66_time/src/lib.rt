@@ -9,6 +9,7 @@ mod registers;
 mod result;
 mod row;
 mod step;
+mod steps;
 mod tick;
 mod timed;
 mod units;

@@ -6,6 +6,6 @@ use Rattle.s66_time.proofs.clock.Clock.new.Goals as goal
 pub invariant_of-result : goal.invariant_of-result
 invariant_of-result c =
     record {
-      clock = clock-start (record { block = instrs_of c.args.block.now; profile = c.args.profile.now }) c.new.result c.new-2.result.items (omega (arith, c.count.ensures)) c.new-2.ensures c.new.ensures;
+      clock = clock-start (record { block = instrs_of c.args.block.now; profile = c.args.profile.now }) c.new.result c.new-2.result (omega (arith, c.count.ensures)) c.new-2.ensures c.new.ensures;
       each = c.rows_of.ensures;
     }

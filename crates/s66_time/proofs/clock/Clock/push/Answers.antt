@@ -15,7 +15,7 @@ ready-inside t u n same ready = subst (λ (v : Ticking). is_ready (instrs_of v.b
 pub push-step-requires : goal.push-step-requires
 push-step-requires c =
     let b : Problem = record { block = instrs_of c.self.inside.block.now; profile = c.self.inside.profile } in
-    let ks = c.self.inside.steps.items in
+    let ks = c.self.inside.steps in
     let ready = ready-inside _ _ c.args.n c.self.view_is c.requires in
     let parts = ready-parts (instrs_of c.self.inside.block.now) (numbers_of ks) c.args.n ready in
     record { number = (parts.0, omega (arith, parts.1, c.self.invariant.clock.few)); follows = (points_of b (numbers_of ks), clock-words b c.self.inside.words ks c.self.invariant.clock, clock-turn b c.self.inside.words ks c.self.invariant.clock) }
@@ -24,17 +24,17 @@ pub push-requires : goal.push-requires
 push-requires c =
     let b : Problem = record { block = instrs_of c.self.inside.block.now; profile = c.self.inside.profile } in
     let ready = ready-inside _ _ c.args.n c.self.view_is c.requires in
-    (omega arith, omega (arith, room-left b c.self.inside.words c.self.inside.steps.items c.args.n c.self.invariant.clock ready))
+    omega (arith, room-left b c.self.inside.words c.self.inside.steps c.args.n c.self.invariant.clock ready)
 
 pub invariant_of-self : goal.invariant_of-self
 invariant_of-self c =
     let b : Problem = record { block = instrs_of c.self.inside.block.now; profile = c.self.inside.profile } in
-    let ks = c.self.inside.steps.items in
+    let ks = c.self.inside.steps in
     let ready = ready-inside _ _ c.args.n c.self.view_is c.requires in
     let parts = ready-parts (instrs_of c.self.inside.block.now) (numbers_of ks) c.args.n ready in
     let row : c.index-deref-n.result ≡ row b.profile (instr_at b.block c.args.n) =
     row-at b.profile b.block c.self.inside.rows.items (c.args.n - 1) c.args.n c.index-deref-n.result c.self.invariant.each (c.index-deref-n.is ∙ ap (λ xs. get_or xs (c.args.n - 1) c.index-deref-n.result) c.deref.ensures.0) (omega (arith, parts.0)) (omega (arith, parts.0, parts.1)) in
-    rw c.push.ensures.items (record {
+    rw c.push.ensures (record {
       clock = pushed-clock b c.self.inside.words c.push-step.new.self ks c.push-step.result c.args.n c.index-deref-n.result c.self.invariant.clock ready c.push-step.ensures.number row c.push-step.ensures.back c.push-step.ensures.words;
       each = c.self.invariant.each;
     })
@@ -42,7 +42,7 @@ invariant_of-self c =
 pub returns-clause-looks : goal.returns-clause-looks
 returns-clause-looks c =
     let b : Problem = record { block = instrs_of c.self.inside.block.now; profile = c.self.inside.profile } in
-    let ks = c.self.inside.steps.items in
+    let ks = c.self.inside.steps in
     let ready = ready-inside _ _ c.args.n c.self.view_is c.requires in
     let parts = ready-parts (instrs_of c.self.inside.block.now) (numbers_of ks) c.args.n ready in
     let row : c.index-deref-n.result ≡ row b.profile (instr_at b.block c.args.n) =

@@ -9,5 +9,5 @@ use Rattle.s66_time.proofs.clock.Clock.pushed.Goals as goal
 pub returns : goal.returns
 returns c = λ m.
     let b : Problem = record { block = instrs_of c.self.inside.block.now; profile = c.self.inside.profile } in
-    let ks = c.self.inside.steps.items in
+    let ks = c.self.inside.steps in
     (clock-words b c.self.inside.words ks c.self.invariant.clock).pushed m ∙ has-points b m (numbers_of ks) ∙ ap (λ (t : Ticking). has m t.numbers) c.self.view_is
