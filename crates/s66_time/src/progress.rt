@@ -6,7 +6,6 @@ ghost use Rattle.s66_line.specs.declared.limits.TheConstants.{BLOCK_LIMIT};
 ghost use Rattle.s66_model.specs.Timing.{ResultAt as ResultOf};
 ghost use Rattle.s66_time.specs.declared.limits.TheConstants.{TOTAL_LIMIT};
 
-use crate::result::last_time;
 use crate::row::Row;
 use crate::tick::Tick;
 use s66_dep::Set;
@@ -52,9 +51,7 @@ impl Progress {
             stores: self.stores.max(stored),
             parcel: tick.parcel + row.parcels,
             next: tick.issue + row.parcels,
-            total: self
-                .total
-                .max(tick.free.max(last_time(tick.results.as_slice()))),
+            total: self.total.max(tick.end()),
             pushed: self.pushed.with(number),
         }
     }

@@ -46,18 +46,37 @@ impl RegisterWords {
         last
     }
 
-    /// The greatest word of the registers that are written.
+    /// The greatest word of the registers that are written, two at most.
     pub fn greatest_written(&self, writes: &[Write]) -> u32
+        requires { length writes.now ≤ 2 }
         ensures { (f : RegOf → ℕ) → Tells self.now.words f → result ≡ greatest (λ (w : WriteOf). f w.reg) writes.now }
     {
-        let mut last = 0u32;
-        for write in writes {
-            last = last.max(self.at(write.reg));
+        if writes.is_empty() {
+            return 0;
         }
-        last
+        let first = writes[0];
+        let done = self.at(first.reg);
+        if writes.len() == 1 {
+            return done;
+        }
+        let second = writes[1];
+        done.max(self.at(second.reg))
     }
 
-    /// When each result is done, where the unit starts then and these are the words of the readers.
+    /// When a result is done, where the unit starts then and these are the words of the readers.
+    fn result(&self, write: &Write, start: u32) -> ResultAt
+        requires latency { write.now.latency ≤ 100 }
+        requires start { start ≤ TOTAL_LIMIT + 3 }
+        ensures { (f : RegOf → ℕ) → Tells self.now.words f → result ≡ record { reg = write.now.reg; time = max (start + write.now.latency) (f write.now.reg); held = write.now.held } }
+    {
+        ResultAt {
+            reg: write.reg,
+            time: (start + write.latency).max(self.at(write.reg)),
+            held: write.held,
+        }
+    }
+
+    /// When each result is done, two at most, where the unit starts then and these are the words of the readers.
     pub fn results(&self, writes: &[Write], start: u32) -> ArrayVec<ResultAt, 2>
         requires few { length writes.now ≤ 2 }
         requires latencies { greatest (λ (w : WriteOf). w.latency) writes.now ≤ 100 }
@@ -65,13 +84,14 @@ impl RegisterWords {
         ensures { (f : RegOf → ℕ) → Tells self.now.words f → result.items ≡ map (λ (w : WriteOf). record { reg = w.reg; time = max (start + w.latency) (f w.reg); held = w.held }) writes.now }
     {
         let mut results = ArrayVec::new();
-        for write in writes {
-            results.push(ResultAt {
-                reg: write.reg,
-                time: (start + write.latency).max(self.at(write.reg)),
-                held: write.held,
-            });
+        if writes.is_empty() {
+            return results;
         }
+        results.push(self.result(&writes[0], start));
+        if writes.len() == 1 {
+            return results;
+        }
+        results.push(self.result(&writes[1], start));
         results
     }
 
@@ -95,9 +115,16 @@ impl RegisterWords {
         ensures saved { put_back result.items self.new.words ≡ self.old.words }
     {
         let mut saved = ArrayVec::new();
-        for done in results {
-            self.raise(done.reg, done.time, &mut saved);
+        if results.is_empty() {
+            return saved;
         }
+        let first = results[0];
+        self.raise(first.reg, first.time, &mut saved);
+        if results.len() == 1 {
+            return saved;
+        }
+        let second = results[1];
+        self.raise(second.reg, second.time, &mut saved);
         saved
     }
 

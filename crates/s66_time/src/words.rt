@@ -9,10 +9,9 @@ ghost use Rattle.s66_time.specs.ClockWords.{under, IsWords, InTurn, IsSoonest, F
 use crate::packing::fits_at;
 use crate::progress::Progress;
 use crate::registers::RegisterWords;
-use crate::result::free_after;
 use crate::row::Row;
 use crate::step::Step;
-use crate::tick::Tick;
+use crate::tick::{Tick, unit_free_after};
 use crate::units::UnitWords;
 use s66_dep::Set;
 use s66_isa::{Memory, Profile};
@@ -101,7 +100,7 @@ impl Words {
         let issue = self.issue(profile, row, unit);
         let start = self.start(row, issue);
         let results = self.read.results(row.writes.as_slice(), start);
-        let free = free_after(start, row.hold, results.as_slice());
+        let free = unit_free_after(start, row.hold, results.as_slice());
         Tick {
             unit,
             parcel: fits_at(self.progress.parcel, row.parcels),
