@@ -1,6 +1,6 @@
 -- Used by contracts within the crate alone: what the words of a clock are, by the points of what was pushed.
 use Rattle.std.specs.Prelude.{map, ◌==◌, ◌||◌, ℕ, ◌+◌, ◌≡◌, ◌≤◌, ◌<◌, if◌then◌else◌, max, min, List, [], ◌∷◌, length, get_or, set, nat_lt, ◌-◌}
-use Rattle.s66_isa.specs.Table.{Reg, Row, touches, stores, copies_of, same_reg, has_reg}
+use Rattle.s66_isa.specs.Table.{Reg, Row, touches, stores, kind_number, copies_of, same_reg, has_reg}
 use Rattle.s66_isa.specs.declared.instr.Kind.{Kind}
 use Rattle.s66_isa.specs.declared.instr.Memory.{Memory}
 use Rattle.s66_isa.specs.declared.instr.Memory.TheVariants as memory
@@ -10,6 +10,7 @@ use Rattle.s66_model.specs.Timing.{Problem, Point, ResultAt, end_of, done_of, la
 use Rattle.s66_dep.specs.Members.{numbers_in}
 use Rattle.s66_time.specs.declared.limits.TheConstants.{TOTAL_LIMIT, UNIT_LIMIT}
 use Rattle.s66_time.specs.Places.{word_of, first_unit, units_of, put_back}
+use Rattle.s66_time.specs.declared.copies.Copies.{Copies}
 use Rattle.s66_time.specs.declared.words.Words.{Words}
 use Rattle.s66_time.specs.declared.tick.Tick.{Tick}
 use Rattle.s66_time.specs.declared.step.Step.{Step}
@@ -30,6 +31,10 @@ abbrev pub wait_of : Memory → ℕ → ℕ → ℕ
 wait_of memory.None refs stored = 0
 wait_of memory.Load refs stored = stored
 wait_of memory.Store refs stored = refs
+
+-- of each kind as many units as the profile has
+abbrev pub AreCopies : Profile → Copies → Type 0
+AreCopies p c = (kind : Kind) → get_or c.counts (kind_number kind) 0 ≡ copies_of p kind
 
 -- the words of registers tell f
 abbrev pub Tells : List ℕ → (Reg → ℕ) → Type 0

@@ -7,7 +7,8 @@ use Rattle.s66_model.specs.LegalOrder.{IsBeginning}
 use Rattle.s66_line.specs.declared.limits.TheConstants.{BLOCK_LIMIT}
 use Rattle.s66_line.specs.Source.{Block}
 use Rattle.s66_line.specs.Block.{instrs_of}
-use Rattle.s66_time.specs.ClockWords.{AreKept}
+use Rattle.s66_time.specs.ClockWords.{AreKept, AreCopies}
+use Rattle.s66_time.specs.declared.copies.Copies.{Copies}
 use Rattle.s66_time.specs.declared.words.Words.{Words}
 use Rattle.s66_time.specs.declared.step.Step.{Step}
 
@@ -33,6 +34,7 @@ pub record IsClock (b : Problem) (w : Words) (steps : List Step) : Type 0 where
   pub begins : IsBeginning b.block (numbers_of steps)
   pub kept : AreKept b w (reverse steps)
 
-pub record IsTicking (b : Problem) (w : Words) (steps : List Step) (rows : List Row) : Type 0 where
+pub record IsTicking (b : Problem) (w : Words) (steps : List Step) (copies : Copies) (rows : List Row) : Type 0 where
   pub clock : IsClock b w steps
+  pub counted : AreCopies b.profile copies
   pub each : rows ≡ map (row b.profile) b.block

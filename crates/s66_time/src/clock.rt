@@ -1,3 +1,4 @@
+use crate::copies::Copies;
 use crate::row::{Row, rows_of};
 use crate::steps::Steps;
 use crate::words::Words;
@@ -15,6 +16,8 @@ use std::marker::Model;
 pub struct Clock<'a> {
     block: &'a Block<'a>,
     profile: Profile,
+    /// How many units the profile has of each kind.
+    copies: Copies,
     /// The rows of the block's instructions.
     rows: ArrayVec<Row, BLOCK_LIMIT>,
     words: Words,
@@ -31,7 +34,7 @@ impl<'a> Model for Clock<'a> {
 
     ghost view = { λ c. record { block = c.block.now; profile = c.profile; numbers = numbers_of c.steps; looks = c.looks } };
 
-    ghost invariant = { λ c. IsTicking (record { block = instrs_of c.block.now; profile = c.profile }) c.words c.steps c.rows.items };
+    ghost invariant = { λ c. IsTicking (record { block = instrs_of c.block.now; profile = c.profile }) c.words c.steps c.copies c.rows.items };
 }
 
 impl<'a> Clock<'a> {
@@ -54,6 +57,7 @@ impl<'a> Clock<'a> {
         Clock {
             block,
             profile: *profile,
+            copies: Copies::of(profile),
             rows: rows_of(block, profile),
             words: Words::new(),
             steps: Steps::new(),
@@ -68,9 +72,10 @@ impl<'a> Clock<'a> {
         ensures looks { self.new.looks ≤ LOOK_LIMIT + copies_of self.old.profile (kind_of (instr_at (instrs_of self.old.block) n).op.code) }
     {
         let row = &self.rows[n as usize - 1];
-        let step = self.words.push(&self.profile, n, row);
+        let copies = self.copies.at(row.kind);
+        let step = self.words.push(&self.profile, copies, n, row);
         // a word for each unit of the kind, each saved word twice, the six of the progress, and the record
-        self.looks = self.profile.copies(row.kind) + 2 * step.words() + 7;
+        self.looks = copies + 2 * step.words() + 7;
         self.steps.push(step);
     }
 

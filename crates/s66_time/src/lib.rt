@@ -2,6 +2,7 @@
 #![tactic(auto)]
 
 mod clock;
+mod copies;
 mod limits;
 mod packing;
 mod progress;

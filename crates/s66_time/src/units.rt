@@ -39,15 +39,16 @@ impl UnitWords {
         }
     }
 
-    /// The place of a unit of the kind that no other is free before.
-    pub fn soonest(&self, profile: &Profile, kind: Kind) -> usize
+    /// The place of a unit of the kind that no other is free before, where there are so many.
+    pub fn soonest(&self, copies: u32, kind: Kind) -> usize
+        requires { (1 ≤ copies) × (copies ≤ COPIES_LIMIT) }
         ensures within { result < UNIT_LIMIT }
         ensures own { first_unit kind ≤ result }
-        ensures copy { result - first_unit kind < copies_of profile.now kind }
-        ensures least { (i : ℕ) → i < copies_of profile.now kind → get_or self.now.words result 0 ≤ get_or self.now.words (first_unit kind + i) 0 }
+        ensures copy { result - first_unit kind < copies }
+        ensures least { (i : ℕ) → i < copies → get_or self.now.words result 0 ≤ get_or self.now.words (first_unit kind + i) 0 }
     {
         let first = first_unit(kind);
-        let copies = profile.copies(kind) as usize;
+        let copies = copies as usize;
         let mut soonest = first;
         for copy in 1..copies {
             if self.words[first + copy] < self.words[soonest] {

@@ -1,9 +1,10 @@
 ghost use Rattle.std.specs.Prelude.{ℕ, ◌≡◌, ◌+◌, ◌-◌, ◌<◌, ◌≤◌, List, [], ◌∷◌};
+ghost use Rattle.s66_isa.specs.Table.{copies_of};
 ghost use Rattle.s66_isa.specs.declared.profile.Profile.{Profile as ProfileOf};
 ghost use Rattle.s66_line.specs.declared.limits.TheConstants.{BLOCK_LIMIT};
 ghost use Rattle.s66_model.specs.Packing.{fits_at};
 ghost use Rattle.s66_model.specs.Timing.{IsInRange, Point, issue_of, start_of, point};
-ghost use Rattle.s66_time.specs.declared.limits.TheConstants.{TOTAL_LIMIT, UNIT_LIMIT};
+ghost use Rattle.s66_time.specs.declared.limits.TheConstants.{COPIES_LIMIT, TOTAL_LIMIT, UNIT_LIMIT};
 ghost use Rattle.s66_time.specs.ClockWords.{under, IsWords, InTurn, IsSoonest, Follows, wait_of, point_of_tick, after_undo, Takes};
 
 use crate::packing::fits_at;
@@ -96,7 +97,20 @@ impl Words {
         ensures good { IsInRange row.now }
         ensures early { (result.issue ≤ TOTAL_LIMIT + 3) × (result.parcel ≤ TOTAL_LIMIT + 3) × (result.start ≤ TOTAL_LIMIT + 3) }
     {
-        let unit = self.units.soonest(profile, row.kind);
+        self.tick_among(profile, profile.copies(row.kind), row)
+    }
+
+    /// The same, where so many units are of the instruction's kind.
+    fn tick_among(&self, profile: &Profile, copies: u32, row: &Row) -> Tick
+        requires copies { copies ≡ copies_of profile.now row.now.kind }
+        requires some { (1 ≤ copies) × (copies ≤ COPIES_LIMIT) }
+        requires follows { Follows profile.now self.now }
+        ensures soonest { IsSoonest profile.now row.now.kind self.now.units.words result.unit }
+        ensures value { (s : List Point) (n : ℕ) → IsWords profile.now s self.now → InTurn s → point_of_tick n row.now result ≡ point (under profile.now) s n row.now }
+        ensures good { IsInRange row.now }
+        ensures early { (result.issue ≤ TOTAL_LIMIT + 3) × (result.parcel ≤ TOTAL_LIMIT + 3) × (result.start ≤ TOTAL_LIMIT + 3) }
+    {
+        let unit = self.units.soonest(copies, row.kind);
         let issue = self.issue(profile, row, unit);
         let start = self.start(row, issue);
         let results = self.read.results(row.writes.as_slice(), start);
@@ -135,15 +149,17 @@ impl Words {
         }
     }
 
-    /// Places the next instruction, and answers what was written over.
-    pub fn push(&mut self, profile: &Profile, number: u8, row: &Row) -> Step
+    /// Places the next instruction, and answers what was written over; so many units are of its kind.
+    pub fn push(&mut self, profile: &Profile, copies: u32, number: u8, row: &Row) -> Step
+        requires copies { copies ≡ copies_of profile.now row.now.kind }
+        requires some { (1 ≤ copies) × (copies ≤ COPIES_LIMIT) }
         requires number { (1 ≤ number) × (number ≤ BLOCK_LIMIT) }
         requires follows { Follows profile.now self.old }
         ensures number { result.number ≡ number }
         ensures back { after_undo self.new result ≡ self.old }
         ensures words { (s : List Point) → IsWords profile.now s self.old → InTurn s → IsWords profile.now (point (under profile.now) s number row.now ∷ s) self.new }
     {
-        let tick = self.tick(profile, row);
+        let tick = self.tick_among(profile, copies, row);
         self.take(number, row, &tick)
     }
 

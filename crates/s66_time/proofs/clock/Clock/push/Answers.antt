@@ -18,7 +18,12 @@ push-step-requires c =
     let ks = c.self.inside.steps in
     let ready = ready-inside _ _ c.args.n c.self.view_is c.requires in
     let parts = ready-parts (instrs_of c.self.inside.block.now) (numbers_of ks) c.args.n ready in
-    record { number = (parts.0, omega (arith, parts.1, c.self.invariant.clock.few)); follows = (points_of b (numbers_of ks), clock-words b c.self.inside.words ks c.self.invariant.clock, clock-turn b c.self.inside.words ks c.self.invariant.clock) }
+    record {
+      copies = c.at-copies.ensures.value ∙ c.self.invariant.counted c.row.inside.kind ∙ ap (λ (x : Row). copies_of b.profile x.kind) c.row.view_is;
+      some = (c.at-copies.ensures.at_least, c.at-copies.ensures.at_most);
+      number = (parts.0, omega (arith, parts.1, c.self.invariant.clock.few));
+      follows = (points_of b (numbers_of ks), clock-words b c.self.inside.words ks c.self.invariant.clock, clock-turn b c.self.inside.words ks c.self.invariant.clock);
+    }
 
 pub push-requires : goal.push-requires
 push-requires c =
@@ -36,6 +41,7 @@ invariant_of-self c =
     row-at b.profile b.block c.self.inside.rows.items (c.args.n - 1) c.args.n c.index-deref-n.result c.self.invariant.each (c.index-deref-n.is ∙ ap (λ xs. get_or xs (c.args.n - 1) c.index-deref-n.result) c.deref.ensures.0) (omega (arith, parts.0)) (omega (arith, parts.0, parts.1)) in
     rw c.push.ensures (record {
       clock = pushed-clock b c.self.inside.words c.push-step.new.self ks c.push-step.result c.args.n c.index-deref-n.result c.self.invariant.clock ready c.push-step.ensures.number row c.push-step.ensures.back c.push-step.ensures.words;
+      counted = c.self.invariant.counted;
       each = c.self.invariant.each;
     })
 
@@ -47,7 +53,7 @@ returns-clause-looks c =
     let parts = ready-parts (instrs_of c.self.inside.block.now) (numbers_of ks) c.args.n ready in
     let row : c.index-deref-n.result ≡ row b.profile (instr_at b.block c.args.n) =
     row-at b.profile b.block c.self.inside.rows.items (c.args.n - 1) c.args.n c.index-deref-n.result c.self.invariant.each (c.index-deref-n.is ∙ ap (λ xs. get_or xs (c.args.n - 1) c.index-deref-n.result) c.deref.ensures.0) (omega (arith, parts.0)) (omega (arith, parts.0, parts.1)) in
-    let kind : c.copies.result ≡ copies_of b.profile (kind_of (instr_at b.block c.args.n).op.code) =
-    c.copies.ensures.value ∙ ap (λ (x : Row). copies_of b.profile x.kind) (c.row.view_is ∙ row) ∙ ap (copies_of b.profile) (row-kind b.profile (instr_at b.block c.args.n)) in
+    let kind : c.at-copies.result ≡ copies_of b.profile (kind_of (instr_at b.block c.args.n).op.code) =
+    c.at-copies.ensures.value ∙ c.self.invariant.counted c.row.inside.kind ∙ ap (λ (x : Row). copies_of b.profile x.kind) (c.row.view_is ∙ row) ∙ ap (copies_of b.profile) (row-kind b.profile (instr_at b.block c.args.n)) in
     let seen = ap (λ (t : Ticking). copies_of t.profile (kind_of (instr_at (instrs_of t.block) c.args.n).op.code)) c.self.view_is in
     omega (arith, kind, seen, c.words.ensures)

@@ -6,7 +6,7 @@ use Rattle.s66_model.specs.Timing.{IsInRange, ResultAt, free_after, readers_wait
 use Rattle.s66_isa.proofs.Lists.{greatest-le}
 use Rattle.s66_model.proofs.Growth.{results-le, fits_at-le}
 use Rattle.s66_time.proofs.ClockPoints.{follows-small, small-turn, start-early, start-le3, point-by}
-use Rattle.s66_time.proofs.words.Words.tick.Goals as goal
+use Rattle.s66_time.proofs.words.Words.tick_among.Goals as goal
 
 latencies : (writes ws : List Write) → ws ≡ writes → ((w : Write) → Among w writes → (1 ≤ w.latency) × (w.latency ≤ 100)) → greatest (λ (w : Write). w.latency) ws ≤ 100
 latencies writes ws is short = greatest-le (λ (w : Write). w.latency) 100 ws (λ w among. (short w (subst (λ vs. Among w vs) is among)).1)

@@ -1,0 +1,58 @@
+ghost use Rattle.std.specs.Prelude.{ℕ, ◌≡◌, ◌<◌, ◌≤◌, get_or};
+ghost use Rattle.s66_isa.specs.Table.{kind_number, copies_of};
+ghost use Rattle.s66_isa.specs.declared.instr.Kind.{Kind as KindOf};
+ghost use Rattle.s66_time.specs.declared.limits.TheConstants.{COPIES_LIMIT};
+
+use s66_isa::{Kind, Profile};
+
+/// How many units a profile has of each kind, by the kind's number.
+#[derive(Debug, Drop)]
+pub struct Copies {
+    counts: [u32; 7],
+    ghost some: { (i : ℕ) → i < 7 → 1 ≤ get_or counts i 0 },
+    ghost few: { (i : ℕ) → i < 7 → get_or counts i 0 ≤ COPIES_LIMIT },
+}
+
+/// The number of a kind, from 0.
+fn kind_number(kind: Kind) -> usize
+    ensures value { result ≡ kind_number kind }
+    ensures within { result < 7 }
+{
+    match kind {
+        Kind::Boolean => 0,
+        Kind::Shift => 1,
+        Kind::Add => 2,
+        Kind::LongAdd => 3,
+        Kind::Multiply => 4,
+        Kind::Divide => 5,
+        Kind::Increment => 6,
+    }
+}
+
+impl Copies {
+    /// Those of a profile.
+    pub fn of(profile: &Profile) -> Copies
+        ensures { (kind : KindOf) → get_or result.counts (kind_number kind) 0 ≡ copies_of profile.now kind }
+    {
+        Copies {
+            counts: [
+                profile.copies(Kind::Boolean),
+                profile.copies(Kind::Shift),
+                profile.copies(Kind::Add),
+                profile.copies(Kind::LongAdd),
+                profile.copies(Kind::Multiply),
+                profile.copies(Kind::Divide),
+                profile.copies(Kind::Increment),
+            ],
+        }
+    }
+
+    /// How many units there are of a kind.
+    pub fn at(&self, kind: Kind) -> u32
+        ensures value { result ≡ get_or self.now.counts (kind_number kind) 0 }
+        ensures at_least { 1 ≤ result }
+        ensures at_most { result ≤ COPIES_LIMIT }
+    {
+        self.counts[kind_number(kind)]
+    }
+}
