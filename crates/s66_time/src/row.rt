@@ -45,8 +45,16 @@ pub fn row_of(instr: &Instr, profile: &Profile) -> Row
 }
 
 impl Default for Row {
+    /// A blank, as cheap as can be: a list makes one for each place that isn't taken.
     fn default() -> Row {
-        row_of(&Instr::default(), &Profile::standard())
+        Row {
+            kind: Kind::Boolean,
+            parcels: 1,
+            reads: ArrayVec::new(),
+            writes: ArrayVec::new(),
+            hold: 1,
+            memory: Memory::None,
+        }
     }
 }
 
