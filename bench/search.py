@@ -9,6 +9,7 @@ valgrind's callgrind, and what is the same in two runs is taken off by their dif
 sorts; a fixed seed makes them.
 """
 import argparse
+import hashlib
 import os
 import random
 import shutil
@@ -37,7 +38,8 @@ def sync(source, target):
 
 def build():
     """The built program, from the repository's crates as they are now."""
-    workspace = os.path.join(tempfile.gettempdir(), "s66_bench_%d" % os.getuid())
+    repository = hashlib.sha256(TOP.encode()).hexdigest()[:8]
+    workspace = os.path.join(tempfile.gettempdir(), "s66_bench_" + repository)
     os.makedirs(workspace, exist_ok=True)
     shutil.copy(os.path.join(TOP, "HANDLES"), workspace)
     with open(os.path.join(TOP, "crates.txt")) as file:
@@ -62,10 +64,10 @@ def blocks_of(length):
         yield "".join("          %s\n" % line for line in lines).encode()
 
 
-def added(program, mode, text, count):
-    """The instructions of so many rounds, beside those of a run without any."""
-    start = instructions([program, mode, "0"], text)
-    return instructions([program, mode, str(count)], text) - start
+def added(program, mode, text, rounds):
+    """The instructions of so many rounds, which stand behind a first that isn't counted."""
+    first = instructions([program, mode, "1"], text)
+    return instructions([program, mode, str(1 + rounds)], text) - first
 
 
 def tell_steps(program, length, texts):
