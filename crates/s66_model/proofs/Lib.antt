@@ -13,6 +13,7 @@ pub mod ParcelsBound
 pub mod LoadBound
 pub mod ChainBound
 pub mod Trees
+pub mod TreesHold
 pub mod Dictionary
 pub mod LongestChain
 pub mod Floors

@@ -301,9 +301,9 @@ load_tree =
     Parted (1 ∷ 3 ∷ []) (Split (2 ∷ 3 ∷ []) (Unsplit (Load Boolean) (Split (2 ∷ []) (Unsplit Whole NoMore) NoMore)) (Unsplit (Chain (1 ∷ 2 ∷ [])) NoMore))
 
 -- its tree that is split down to each order: 16, 12 and 13
-abbrev pub load_orders : Tree Leaf
-load_orders =
-    Parted (1 ∷ 3 ∷ []) (Split (2 ∷ 3 ∷ []) (both_orders Whole 2 3) (Split (1 ∷ []) (Split (2 ∷ []) (Unsplit Whole NoMore) NoMore) NoMore))
+abbrev pub load_orders : {M : Type 0} → M → Tree M
+load_orders tip =
+    Parted (1 ∷ 3 ∷ []) (Split (2 ∷ 3 ∷ []) (both_orders tip 2 3) (Split (1 ∷ []) (Split (2 ∷ []) (Unsplit tip NoMore) NoMore) NoMore))
 
 -- load_tree as a piece for the best time 16: below that is the floor of 3, which is the frontier
 abbrev pub load_piece : Tree Tip

@@ -10,6 +10,7 @@ pub mod Tails
 pub mod Tree
 pub mod Answer
 pub mod Piece
+pub mod Expansion
 pub mod Ledger
 pub mod Coverage
 pub mod Examples

@@ -21,7 +21,7 @@ pub fn answer_examples()
     ensures one_load { IsAnswer load_problem 100000 (answer (1 ∷ 3 ∷ 2 ∷ []) 12 12 0 (Alone (Chain (1 ∷ 2 ∷ [])))) }
     ensures one_load_cut { IsAnswer load_problem 0 (answer (1 ∷ 2 ∷ 3 ∷ []) 16 12 0 (Alone (Chain (1 ∷ 2 ∷ [])))) }
     ensures one_load_split { IsAnswer load_problem 100000 (answer (1 ∷ 3 ∷ 2 ∷ []) 12 12 3 load_tree) }
-    ensures one_load_split_down { IsAnswer load_problem 6 (answer (1 ∷ 3 ∷ 2 ∷ []) 12 12 6 load_orders) }
+    ensures one_load_split_down { IsAnswer load_problem 6 (answer (1 ∷ 3 ∷ 2 ∷ []) 12 12 6 (load_orders Whole)) }
     ensures two_booleans { IsAnswer boolean_problem 0 (answer (1 ∷ 2 ∷ []) 8 8 0 (Alone (Load Boolean))) }
     ensures three_multiplies { IsAnswer multiply_problem 10 (answer (1 ∷ 2 ∷ 3 ∷ []) 22 22 10 (every_order Whole)) }
     ensures three_multiplies_cut { IsAnswer multiply_problem 9 (answer (1 ∷ 2 ∷ 3 ∷ []) 22 17 9 all_but_one) }

@@ -48,8 +48,8 @@ pub fn tree_examples()
     ensures ten_splits { splits (every_order Whole) ≡ 10 }
     ensures no_splits { splits (Alone Whole) ≡ 0 }
     ensures prefixes_that_are_split { split_at [] load_tree ≡ [] ∷ (1 ∷ []) ∷ (1 ∷ 3 ∷ []) ∷ [] }
-    ensures values_of_whole_orders { tree_values (leaf_values load_problem) [] load_orders ≡ 16 ∷ 12 ∷ 13 ∷ [] }
+    ensures values_of_whole_orders { tree_values (leaf_values load_problem) [] (load_orders Whole) ≡ 16 ∷ 12 ∷ 13 ∷ [] }
     ensures values_of_leaves { tree_values (leaf_values load_problem) [] load_tree ≡ 16 ∷ 12 ∷ 13 ∷ [] }
     ensures prefixes_of_leaves { tree_values (λ prefix leaf. prefix) [] load_tree ≡ 1 ∷ 2 ∷ 1 ∷ 3 ∷ 2 ∷ 3 ∷ [] }
-    ensures leaves_without_values { tree_values (λ prefix leaf. []) [] load_tree ≡ [] }
+    ensures leaves_without_values { tree_values {V = ℕ} (λ prefix leaf. []) [] load_tree ≡ [] }
 {}

@@ -39,7 +39,7 @@ returns-clause-one_load_split c = best-answer 100000 load_tree (search rules) (s
 
 pub returns-clause-one_load_split_down : goal.returns-clause-one_load_split_down
 unfolding row issue_of start_of point conflict
-returns-clause-one_load_split_down c = best-answer 6 load_orders (search rules) (search rules) refl (omega arith)
+returns-clause-one_load_split_down c = best-answer 6 (load_orders Whole) (search rules) (search rules) refl (omega arith)
 
 pub returns-clause-one_load_cut : goal.returns-clause-one_load_cut
 unfolding row issue_of start_of point conflict

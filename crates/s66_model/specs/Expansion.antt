@@ -1,0 +1,44 @@
+-- To be believed: what an expansion of a prefix is: a tree over it, grown while a best time is in hand, and the best of its whole orders.
+use Rattle.std.specs.Prelude.{ℕ, ◌≡◌, ◌≤◌, ◌<◌, ◌⊎◌, List, [], ◌∷◌, Option, Some, None}
+use Rattle.s66_isa.specs.Lists.{Among}
+use Rattle.s66_model.specs.Timing.{Problem, total_of}
+use Rattle.s66_model.specs.LegalOrder.{IsComplete, IsIncomplete}
+use Rattle.s66_model.specs.Leaves.{Leaf, Whole, Chain, Load, Parcels, value, floor, floor_value}
+use Rattle.s66_model.specs.Tree.{Tree, TreeHolds, splits, split_at, tree_values}
+use Rattle.s66_model.specs.Piece.{Tip, Carries, Frontier}
+
+-- The best time may fall while the tree is grown, from high to low. Where it doesn't, low is high.
+
+-- a leaf is the floor, of a complete prefix or of a value that is at least low; in the frontier stands an incomplete prefix whose floor is below high
+abbrev pub TipHoldsWhile : Problem → ℕ → ℕ → List ℕ → Tip → Type 0
+TipHoldsWhile b high low prefix (Carries leaf) = (leaf ≡ floor b prefix) × (IsComplete b.block prefix ⊎ (low ≤ value b prefix leaf))
+TipHoldsWhile b high low prefix Frontier = IsIncomplete b.block prefix × (floor_value b prefix < high)
+
+pub record IsExpansion (b : Problem) (high low allowance : ℕ) (prefix : List ℕ) (tree : Tree Tip) : Type 0 where
+  -- a tree over the prefix whose splits have exactly the ready children
+  pub piece : TreeHolds b.block (TipHoldsWhile b high low) prefix tree
+  -- of at most so many splits
+  pub within : splits tree ≤ allowance
+  -- a prefix whose floor is at least the best time isn't split
+  pub below : (at : List ℕ) → Among at (split_at prefix tree) → floor_value b at < high
+  -- and one that may be split is
+  pub due : 1 ≤ allowance → IsIncomplete b.block prefix → floor_value b prefix < low → 1 ≤ splits tree
+
+-- WHOLE ORDERS
+
+abbrev pub whole_at : List ℕ → Tip → List (List ℕ)
+whole_at prefix (Carries Whole) = prefix ∷ []
+whole_at prefix (Carries (Chain numbers)) = []
+whole_at prefix (Carries (Load kind)) = []
+whole_at prefix (Carries Parcels) = []
+whole_at prefix Frontier = []
+
+-- the prefixes of a tree that carry a leaf T, in preorder
+abbrev pub whole_orders : List ℕ → Tree Tip → List (List ℕ)
+whole_orders prefix tree = tree_values whole_at prefix tree
+
+-- one of the least total among them, and none where there are none
+abbrev pub IsBestWhole : Problem → List ℕ → Tree Tip → Option (List ℕ) → Type 0
+IsBestWhole b prefix tree None = whole_orders prefix tree ≡ []
+IsBestWhole b prefix tree (Some order) =
+    Among order (whole_orders prefix tree) × ((other : List ℕ) → Among other (whole_orders prefix tree) → total_of b order ≤ total_of b other)

@@ -1,0 +1,52 @@
+//! Expansions: pieces that are grown while a best time is in hand.
+
+ghost use Rattle.std.specs.Prelude.{ℕ, List, ◌≡◌, [], ◌∷◌, Some, None};
+ghost use Rattle.s66_isa.specs.declared.instr.Kind.TheVariants.{Multiply};
+ghost use Rattle.s66_model.specs.Timing.{Problem};
+ghost use Rattle.s66_model.specs.Leaves.{Whole, Load, Parcels};
+ghost use Rattle.s66_model.specs.Tree.{Tree, Alone};
+ghost use Rattle.s66_model.specs.Piece.{Tip, Carries, Frontier, IsPiece};
+ghost use Rattle.s66_model.specs.Expansion.{IsExpansion, IsBestWhole, whole_orders};
+ghost use Rattle.s66_model.specs.Examples.{load_problem, multiply_problem, load_piece, one_split, child_omitted, every_order, load_orders};
+
+/// An expansion is a piece, whatever the best time does meanwhile.
+pub fn expansion_law()
+    ensures { (b : Problem) (high low allowance : ℕ) (prefix : List ℕ) (tree : Tree Tip) → IsExpansion b high low allowance prefix tree → IsPiece b prefix tree }
+{}
+
+/// What expansions of a prefix are: by best times before and after, and by the number of splits.
+pub fn expansion_examples()
+    ensures one_split_below_22 { IsExpansion multiply_problem 22 22 1 [] (one_split Frontier) }
+    ensures nothing_else_below_22 { (tree : Tree Tip) → IsExpansion multiply_problem 22 22 1 [] tree → tree ≡ one_split Frontier }
+    ensures floor_at_17 { IsExpansion multiply_problem 17 17 1 [] (Alone (Carries (Load Multiply))) }
+    ensures nothing_else_at_17 { (tree : Tree Tip) → IsExpansion multiply_problem 17 17 1 [] tree → tree ≡ Alone (Carries (Load Multiply)) }
+    ensures whole_order { IsExpansion multiply_problem 22 22 0 (1 ∷ 2 ∷ 3 ∷ []) (Alone (Carries Whole)) }
+    ensures nothing_else_of_a_whole_order { (tree : Tree Tip) → IsExpansion multiply_problem 22 22 0 (1 ∷ 2 ∷ 3 ∷ []) tree → tree ≡ Alone (Carries Whole) }
+    ensures whole_order_below_the_best { IsExpansion load_problem 16 16 0 (1 ∷ 3 ∷ 2 ∷ []) (Alone (Carries Whole)) }
+    ensures three_splits { IsExpansion load_problem 16 16 3 [] load_piece }
+    ensures no_allowance { IsExpansion multiply_problem 22 22 0 [] (Alone Frontier) }
+    ensures fell_to_the_floor { IsExpansion multiply_problem 22 17 1 [] (Alone (Carries (Load Multiply))) }
+    ensures not_seen_to_fall { IsExpansion multiply_problem 22 17 1 [] (Alone Frontier) }
+    ensures no_split_where_one_is_due { ¬ IsExpansion multiply_problem 22 22 1 [] (Alone Frontier) }
+    ensures one_split_too_many { ¬ IsExpansion load_problem 16 16 2 [] load_piece }
+    ensures split_at_the_best { ¬ IsExpansion multiply_problem 17 17 1 [] (one_split (Carries (Load Multiply))) }
+    ensures frontier_at_the_best { ¬ IsExpansion load_problem 13 13 3 [] load_piece }
+    ensures leaf_below_the_best { ¬ IsExpansion load_problem 17 17 3 [] load_piece }
+    ensures leaf_below_both { ¬ IsExpansion load_problem 20 17 3 [] load_piece }
+    ensures leaf_that_is_no_floor { ¬ IsExpansion multiply_problem 13 13 1 [] (Alone (Carries Parcels)) }
+    ensures child_left_out { ¬ IsExpansion multiply_problem 22 22 1 [] (child_omitted Frontier) }
+    ensures whole_order_to_go_on { ¬ IsExpansion load_problem 16 16 0 (1 ∷ 3 ∷ 2 ∷ []) (Alone Frontier) }
+{}
+
+/// Which whole order comes with a tree.
+pub fn best_whole_examples()
+    ensures orders_in_preorder { whole_orders [] (load_orders (Carries Whole)) ≡ (1 ∷ 2 ∷ 3 ∷ []) ∷ (1 ∷ 3 ∷ 2 ∷ []) ∷ (3 ∷ 1 ∷ 2 ∷ []) ∷ [] }
+    ensures one_of_12 { IsBestWhole load_problem [] (load_orders (Carries Whole)) (Some (1 ∷ 3 ∷ 2 ∷ [])) }
+    ensures not_one_of_13 { ¬ IsBestWhole load_problem [] (load_orders (Carries Whole)) (Some (3 ∷ 1 ∷ 2 ∷ [])) }
+    ensures one_at_least { ¬ IsBestWhole load_problem [] (load_orders (Carries Whole)) None }
+    ensures the_only_one { IsBestWhole load_problem [] load_piece (Some (1 ∷ 3 ∷ 2 ∷ [])) }
+    ensures any_of_22 { IsBestWhole multiply_problem [] (every_order (Carries Whole)) (Some (2 ∷ 3 ∷ 1 ∷ [])) }
+    ensures itself { IsBestWhole multiply_problem (1 ∷ 2 ∷ 3 ∷ []) (Alone (Carries Whole)) (Some (1 ∷ 2 ∷ 3 ∷ [])) }
+    ensures none_in_the_frontier { IsBestWhole multiply_problem [] (one_split Frontier) None }
+    ensures none_that_is_no_leaf { ¬ IsBestWhole load_problem [] load_piece (Some (3 ∷ 1 ∷ 2 ∷ [])) }
+{}
