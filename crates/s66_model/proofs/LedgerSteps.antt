@@ -24,7 +24,7 @@ open_closed leaf e = true≢false (ap is_open_state e)
 pub out_closed : (leaf : Leaf) → Out ≢ Closed leaf
 out_closed leaf e = cc
 
-cut_closed : (leaf : Leaf) → Cut ≢ Closed leaf
+pub cut_closed : (leaf : Leaf) → Cut ≢ Closed leaf
 cut_closed leaf e = true≢false (ap is_cut_state e)
 
 -- THE OPENING

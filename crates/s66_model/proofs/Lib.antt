@@ -28,3 +28,4 @@ pub mod UnitLoad
 pub mod OnceCovered
 pub mod LedgerSteps
 pub mod LedgerRuns
+pub mod OneTree

@@ -24,7 +24,7 @@ begins-rest (n ∷ prefix) (m ∷ ms) h =
     let same : n ≡ m = eqb-true n m parts.0 in
     (rest, cc)
 
-and_true : (x : Bool) → (x && true) ≡ x
+pub and_true : (x : Bool) → (x && true) ≡ x
 and_true true = refl
 and_true false = refl
 
@@ -52,7 +52,7 @@ rising-past test m (suc k) low h =
       | inr is ↦ rw (is, rising-past test m k (suc low) (omega arith)) refl
     ]
 
-rising-once : (test : ℕ → Bool) (m k low : ℕ) → test m ≡ true → low ≤ m → m < low + k → tally (λ n. eqb n m) (filter test (rising k low)) ≡ 1
+pub rising-once : (test : ℕ → Bool) (m k low : ℕ) → test m ≡ true → low ≤ m → m < low + k → tally (λ n. eqb n m) (filter test (rising k low)) ≡ 1
 rising-once test m zero low passes h1 h2 = absurd (omega arith)
 rising-once test m (suc k) low passes h1 h2 =
     elim (cases_eq low m) [
@@ -121,7 +121,7 @@ cut_either : (at : List ℕ) (leaf : Leaf) (t : Bool) → is_cut (record { prefi
 cut_either at leaf true = refl
 cut_either at leaf false = refl
 
-cut_none : (b : Problem) (best : ℕ) (at : List ℕ) (tip : Tip) → is_cut (record { prefix = at; state = state_of b best at tip }) ≡ false
+pub cut_none : (b : Problem) (best : ℕ) (at : List ℕ) (tip : Tip) → is_cut (record { prefix = at; state = state_of b best at tip }) ≡ false
 cut_none b best at (Carries leaf) = cut_either at leaf (leb best (value b at leaf))
 cut_none b best at Frontier = refl
 

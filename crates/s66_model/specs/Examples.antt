@@ -369,6 +369,10 @@ abbrev pub load_grafted : List ℕ → State → Ledger
 load_grafted best whole =
     ledger (node [] Cut ∷ node (1 ∷ []) Cut ∷ node (1 ∷ 2 ∷ []) (Closed (Load Boolean)) ∷ node (1 ∷ 3 ∷ []) Cut ∷ node (1 ∷ 3 ∷ 2 ∷ []) whole ∷ node (3 ∷ []) Open ∷ []) best 7 (0 ∷ 0 ∷ []) 3
 
+-- one_load with a budget of 1 that was spent on a split at 1, below node 0, which is open
+abbrev pub loose_split : Ledger
+loose_split = ledger (node [] Open ∷ node (1 ∷ []) Cut ∷ []) (1 ∷ 2 ∷ 3 ∷ []) 0 (0 ∷ []) 1
+
 -- the event doesn't get this reply, whatever it leads to
 abbrev pub NeverAnswers : Problem → Ledger → Event → Reply → Type 0
 NeverAnswers b old event reply = (new : Ledger) → ¬ Step b old event reply new

@@ -13,6 +13,7 @@ pub mod Piece
 pub mod Expansion
 pub mod Ledger
 pub mod Coverage
+pub mod NodeTable
 pub mod Examples
 pub use Rattle.s66_isa.specs.Lists
 pub use Rattle.s66_isa.specs.Table
