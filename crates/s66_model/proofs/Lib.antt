@@ -29,3 +29,4 @@ pub mod OnceCovered
 pub mod LedgerSteps
 pub mod LedgerRuns
 pub mod OneTree
+pub mod Histories

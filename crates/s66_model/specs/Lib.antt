@@ -14,6 +14,8 @@ pub mod Expansion
 pub mod Ledger
 pub mod Coverage
 pub mod NodeTable
+pub mod Reached
+pub mod Recorded
 pub mod Examples
 pub use Rattle.s66_isa.specs.Lists
 pub use Rattle.s66_isa.specs.Table

@@ -1,0 +1,61 @@
+//! Histories of the ledger: their fronts, the states to which they lead, and what their entries record and spend.
+
+ghost use Rattle.std.specs.Prelude.{ℕ, List, ◌≡◌, ◌≤◌, [], ◌∷◌, ◌++◌, true, false, Some, None};
+ghost use Rattle.s66_isa.specs.Lists.{weigh, rising};
+ghost use Rattle.s66_model.specs.Timing.{Problem};
+ghost use Rattle.s66_model.specs.Tree.{Tree};
+ghost use Rattle.s66_model.specs.Piece.{Tip, Frontier};
+ghost use Rattle.s66_model.specs.Answer.{source_time};
+ghost use Rattle.s66_model.specs.Ledger.{Ledger, Event, Reply, Step, Run, opening, best_time, Graft, Offer, Taken, NotOut, OtherPrefix, OverAllowance};
+ghost use Rattle.s66_model.specs.Coverage.{Covers, NeverRises};
+ghost use Rattle.s66_model.specs.NodeTable.{IsTable};
+ghost use Rattle.s66_model.specs.Reached.{IsReached};
+ghost use Rattle.s66_model.specs.Recorded.{IsGraftOf, IsOfferOf, spent_by};
+ghost use Rattle.s66_model.specs.Examples.{load_problem, multiply_problem, one_split, ledger_events};
+
+/// The front of a history is one, histories that follow each other are one, and a history leads to one state. After each
+/// entry every legal order is covered, and later the best time isn't higher. What the workers' entries spend adds up to what
+/// was spent.
+pub fn history_law()
+    ensures front { (b : Problem) (front rest : List (Event × Reply)) (old new : Ledger) → Run b old (front ++ rest) new → (mid : Ledger) × Run b old front mid × Run b mid rest new }
+    ensures joined { (b : Problem) (front rest : List (Event × Reply)) (old mid new : Ledger) → Run b old front mid → Run b mid rest new → Run b old (front ++ rest) new }
+    ensures one_state { (b : Problem) (history : List (Event × Reply)) (old new other : Ledger) → Run b old history new → Run b old history other → new ≡ other }
+    ensures after_each { (b : Problem) (budget workers : ℕ) (front rest : List (Event × Reply)) (new : Ledger) → Run b (opening b budget workers) (front ++ rest) new → (mid : Ledger) × Run b (opening b budget workers) front mid × Covers b budget mid × NeverRises b mid new }
+    ensures spent { (b : Problem) (budget workers : ℕ) (history : List (Event × Reply)) (l : Ledger) → Run b (opening b budget workers) history l → weigh (λ w. spent_by w history) (rising workers 1) ≡ l.spent }
+{}
+
+/// A ledger that was only opened is reached, and so is what a step makes of one that is. Whatever is reached covers every
+/// legal order, has the nodes of one tree, and is no slower than the source order.
+pub fn reached_law()
+    ensures opening { (b : Problem) (budget workers : ℕ) → IsReached b budget workers (opening b budget workers) }
+    ensures step { (b : Problem) (budget workers : ℕ) (old new : Ledger) (event : Event) (reply : Reply) → IsReached b budget workers old → Step b old event reply new → IsReached b budget workers new }
+    ensures covers { (b : Problem) (budget workers : ℕ) (l : Ledger) → IsReached b budget workers l → Covers b budget l }
+    ensures table { (b : Problem) (budget workers : ℕ) (l : Ledger) → IsReached b budget workers l → IsTable b l }
+    ensures source { (b : Problem) (budget workers : ℕ) (l : Ledger) → IsReached b budget workers l → best_time b l ≤ source_time b }
+{}
+
+/// A graft and an offer have one event each: it tells of this piece or order, also where that is refused.
+pub fn recorded_law()
+    ensures graft { (b : Problem) (w node : ℕ) (p : Problem) (prefix : List ℕ) (tree : Tree Tip) (reply : Reply) (event other : Event) → IsGraftOf b w node p prefix tree reply event → IsGraftOf b w node p prefix tree reply other → event ≡ other }
+    ensures offer { (b : Problem) (w : ℕ) (p : Problem) (order : List ℕ) (event other : Event) → IsOfferOf b w p order event → IsOfferOf b w p order other → event ≡ other }
+{}
+
+/// What is recorded of pieces and orders, and what it spends.
+pub fn recorded_examples()
+    ensures taken { IsGraftOf multiply_problem 1 0 multiply_problem [] (one_split Frontier) Taken (Graft 1 0 true [] 1 (Some (one_split Frontier))) }
+    ensures refused { IsGraftOf multiply_problem 1 0 multiply_problem [] (one_split Frontier) NotOut (Graft 1 0 true [] 1 None) }
+    ensures refused_at_another_prefix { IsGraftOf multiply_problem 1 0 multiply_problem (2 ∷ []) (one_split Frontier) OtherPrefix (Graft 1 0 true (2 ∷ []) 1 None) }
+    ensures refused_for_another_block { IsGraftOf multiply_problem 1 0 load_problem [] (one_split Frontier) OtherPrefix (Graft 1 0 false [] 1 None) }
+    ensures refused_without_its_splits { ¬ IsGraftOf multiply_problem 1 0 multiply_problem [] (one_split Frontier) OverAllowance (Graft 1 0 true [] 0 None) }
+    ensures refused_with_another_prefix { ¬ IsGraftOf multiply_problem 1 0 multiply_problem [] (one_split Frontier) OtherPrefix (Graft 1 0 true (2 ∷ []) 1 None) }
+    ensures refused_as_of_another_block { ¬ IsGraftOf multiply_problem 1 0 multiply_problem [] (one_split Frontier) OtherPrefix (Graft 1 0 false [] 1 None) }
+    ensures refused_with_its_tree { ¬ IsGraftOf multiply_problem 1 0 multiply_problem [] (one_split Frontier) NotOut (Graft 1 0 true [] 1 (Some (one_split Frontier))) }
+    ensures taken_without_its_tree { ¬ IsGraftOf multiply_problem 1 0 multiply_problem [] (one_split Frontier) Taken (Graft 1 0 true [] 1 None) }
+    ensures graft_of_another_worker { ¬ IsGraftOf multiply_problem 1 0 multiply_problem [] (one_split Frontier) NotOut (Graft 2 0 true [] 1 None) }
+    ensures offered { IsOfferOf load_problem 1 load_problem (1 ∷ 3 ∷ 2 ∷ []) (Offer 1 true (1 ∷ 3 ∷ 2 ∷ []) 12) }
+    ensures offered_of_another_block { IsOfferOf load_problem 1 multiply_problem (2 ∷ 1 ∷ 3 ∷ []) (Offer 1 false (2 ∷ 1 ∷ 3 ∷ []) 22) }
+    ensures offered_with_another_time { ¬ IsOfferOf load_problem 1 load_problem (1 ∷ 3 ∷ 2 ∷ []) (Offer 1 true (1 ∷ 3 ∷ 2 ∷ []) 11) }
+    ensures offered_as_of_another_block { ¬ IsOfferOf load_problem 1 load_problem (1 ∷ 3 ∷ 2 ∷ []) (Offer 1 false (1 ∷ 3 ∷ 2 ∷ []) 12) }
+    ensures spent_by_1 { spent_by 1 ledger_events ≡ 1 }
+    ensures spent_by_2 { spent_by 2 ledger_events ≡ 0 }
+{}
