@@ -13,6 +13,7 @@ pub mod ParcelsBound
 pub mod LoadBound
 pub mod ChainBound
 pub mod Trees
+pub mod Forests
 pub mod TreesHold
 pub mod Dictionary
 pub mod LongestChain

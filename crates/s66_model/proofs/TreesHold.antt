@@ -1,7 +1,9 @@
--- What holds at the tips of a tree: of weaker properties, and of tips that are seen otherwise.
-use Rattle.std.proofs.Common.{ℕ, List, [], ◌∷◌, ◌++◌}
+-- What holds at the tips of a tree, and of a tree with other tips.
+use Rattle.std.proofs.Common.{ℕ, ◌+◌, ◌≡◌, List, [], ◌∷◌, ◌++◌, refl, ap, arith}
 use Rattle.s66_isa.specs.declared.instr.Instr.{Instr}
-use Rattle.s66_model.specs.Tree.{Tree, Alone, Parted, Kids, NoMore, Unsplit, Split, KidsHold, TreeHolds}
+use Rattle.s66_model.specs.Tree.{Tree, Alone, Parted, Kids, NoMore, Unsplit, Split, KidsHold, TreeHolds, kid_splits, splits, kids_split_at, split_at, kid_values, tree_values}
+use Rattle.s66_model.specs.Preorder.{KidsMatch, TreeMatches}
+use Rattle.s66_model.specs.Told.{map_kids, map_tips}
 
 -- what is implied at each tip holds of the tree
 module _ {M : Type 0} (block : List Instr) (Q R : List ℕ → M → Type 0) (each : (at : List ℕ) (tip : M) → Q at tip → R at tip) where
@@ -17,3 +19,98 @@ module _ {M : Type 0} (block : List Instr) (Q R : List ℕ → M → Type 0) (ea
   pub tree-weaken : (tree : Tree M) (prefix : List ℕ) → TreeHolds block Q prefix tree → TreeHolds block R prefix tree
   tree-weaken (Alone tip) prefix h = each prefix tip h
   tree-weaken (Parted numbers kids) prefix h = (h.0, h.1, kids-weaken kids prefix numbers h.2)
+
+-- what is the same at each tip where this holds is the same of the tree
+module _ {M V : Type 0} (block : List Instr) (Q : List ℕ → M → Type 0) (f g : List ℕ → M → List V) (each : (at : List ℕ) (tip : M) → Q at tip → f at tip ≡ g at tip) where
+  kids-alike : (kids : Kids M) (prefix ns : List ℕ) → KidsHold block Q prefix ns kids → kid_values f prefix ns kids ≡ kid_values g prefix ns kids
+  kids-alike kids prefix [] h = refl
+  kids-alike NoMore prefix (n ∷ ns) h = refl
+  kids-alike (Unsplit tip kids) prefix (n ∷ ns) h = rw (each (prefix ++ n ∷ []) tip h.0, kids-alike kids prefix ns h.1) refl
+  kids-alike (Split numbers sub kids) prefix (n ∷ ns) h =
+      rw (kids-alike sub (prefix ++ n ∷ []) numbers h.2, kids-alike kids prefix ns h.3) refl
+
+  pub values-alike : (tree : Tree M) (prefix : List ℕ) → TreeHolds block Q prefix tree → tree_values f prefix tree ≡ tree_values g prefix tree
+  values-alike (Alone tip) prefix h = each prefix tip h
+  values-alike (Parted numbers kids) prefix h = kids-alike kids prefix numbers h.2
+
+-- OTHER TIPS
+
+module _ {M N : Type 0} (f : List ℕ → M → N) where
+  module _ (block : List Instr) (Q : List ℕ → N → Type 0) where
+    kids-map : (kids : Kids M) (prefix ns : List ℕ) → KidsHold block (λ at tip. Q at (f at tip)) prefix ns kids → KidsHold block Q prefix ns (map_kids f prefix ns kids)
+    kids-map NoMore prefix [] h = tt
+    kids-map NoMore prefix (n ∷ ns) h = absurd h
+    kids-map (Unsplit tip kids) prefix [] h = absurd h
+    kids-map (Unsplit tip kids) prefix (n ∷ ns) h = (h.0, kids-map kids prefix ns h.1)
+    kids-map (Split numbers sub kids) prefix [] h = absurd h
+    kids-map (Split numbers sub kids) prefix (n ∷ ns) h = (h.0, h.1, kids-map sub (prefix ++ n ∷ []) numbers h.2, kids-map kids prefix ns h.3)
+
+    -- what holds of the other tips is seen of the tree that has them
+    pub tree-map : (tree : Tree M) (prefix : List ℕ) → TreeHolds block (λ at tip. Q at (f at tip)) prefix tree → TreeHolds block Q prefix (map_tips f prefix tree)
+    tree-map (Alone tip) prefix h = h
+    tree-map (Parted numbers kids) prefix h = (h.0, h.1, kids-map kids prefix numbers h.2)
+
+    map-kids : (kids : Kids M) (prefix ns : List ℕ) → KidsMatch ns kids → KidsHold block Q prefix ns (map_kids f prefix ns kids) → KidsHold block (λ at tip. Q at (f at tip)) prefix ns kids
+    map-kids NoMore prefix [] is h = tt
+    map-kids NoMore prefix (n ∷ ns) is h = absurd is
+    map-kids (Unsplit tip kids) prefix [] is h = absurd is
+    map-kids (Unsplit tip kids) prefix (n ∷ ns) is h = (h.0, map-kids kids prefix ns is h.1)
+    map-kids (Split numbers sub kids) prefix [] is h = absurd is
+    map-kids (Split numbers sub kids) prefix (n ∷ ns) is h =
+        (h.0, h.1, map-kids sub (prefix ++ n ∷ []) numbers is.0 h.2, map-kids kids prefix ns is.1 h.3)
+
+    -- and the other way round
+    pub map-tree : (tree : Tree M) (prefix : List ℕ) → TreeMatches tree → TreeHolds block Q prefix (map_tips f prefix tree) → TreeHolds block (λ at tip. Q at (f at tip)) prefix tree
+    map-tree (Alone tip) prefix is h = h
+    map-tree (Parted numbers kids) prefix is h = (h.0, h.1, map-kids kids prefix numbers is h.2)
+
+  map-match_kids : (kids : Kids M) (prefix ns : List ℕ) → KidsMatch ns kids → KidsMatch ns (map_kids f prefix ns kids)
+  map-match_kids NoMore prefix [] is = tt
+  map-match_kids NoMore prefix (n ∷ ns) is = absurd is
+  map-match_kids (Unsplit tip kids) prefix [] is = absurd is
+  map-match_kids (Unsplit tip kids) prefix (n ∷ ns) is = map-match_kids kids prefix ns is
+  map-match_kids (Split numbers sub kids) prefix [] is = absurd is
+  map-match_kids (Split numbers sub kids) prefix (n ∷ ns) is = (map-match_kids sub (prefix ++ n ∷ []) numbers is.0, map-match_kids kids prefix ns is.1)
+
+  pub map-match : (tree : Tree M) (prefix : List ℕ) → TreeMatches tree → TreeMatches (map_tips f prefix tree)
+  map-match (Alone tip) prefix is = tt
+  map-match (Parted numbers kids) prefix is = map-match_kids kids prefix numbers is
+
+  map-splits_kids : (kids : Kids M) (prefix ns : List ℕ) → KidsMatch ns kids → kid_splits (map_kids f prefix ns kids) ≡ kid_splits kids
+  map-splits_kids NoMore prefix [] is = refl
+  map-splits_kids NoMore prefix (n ∷ ns) is = refl
+  map-splits_kids (Unsplit tip kids) prefix [] is = absurd is
+  map-splits_kids (Unsplit tip kids) prefix (n ∷ ns) is = map-splits_kids kids prefix ns is
+  map-splits_kids (Split numbers sub kids) prefix [] is = absurd is
+  map-splits_kids (Split numbers sub kids) prefix (n ∷ ns) is =
+      omega (arith, map-splits_kids sub (prefix ++ n ∷ []) numbers is.0, map-splits_kids kids prefix ns is.1)
+
+  -- it has as many splits
+  pub map-splits : (tree : Tree M) (prefix : List ℕ) → TreeMatches tree → splits (map_tips f prefix tree) ≡ splits tree
+  map-splits (Alone tip) prefix is = refl
+  map-splits (Parted numbers kids) prefix is = ap (λ k. 1 + k) (map-splits_kids kids prefix numbers is)
+
+  map-split_at_kids : (kids : Kids M) (prefix ns : List ℕ) → kids_split_at prefix ns (map_kids f prefix ns kids) ≡ kids_split_at prefix ns kids
+  map-split_at_kids kids prefix [] = refl
+  map-split_at_kids NoMore prefix (n ∷ ns) = refl
+  map-split_at_kids (Unsplit tip kids) prefix (n ∷ ns) = map-split_at_kids kids prefix ns
+  map-split_at_kids (Split numbers sub kids) prefix (n ∷ ns) =
+      rw (map-split_at_kids sub (prefix ++ n ∷ []) numbers, map-split_at_kids kids prefix ns) refl
+
+  -- at the same prefixes
+  pub map-split_at : (tree : Tree M) (prefix : List ℕ) → split_at prefix (map_tips f prefix tree) ≡ split_at prefix tree
+  map-split_at (Alone tip) prefix = refl
+  map-split_at (Parted numbers kids) prefix = ap (λ l. prefix ∷ l) (map-split_at_kids kids prefix numbers)
+
+  module _ {V : Type 0} (g : List ℕ → N → List V) where
+    map-values_kids : (kids : Kids M) (prefix ns : List ℕ) → kid_values g prefix ns (map_kids f prefix ns kids) ≡ kid_values (λ at tip. g at (f at tip)) prefix ns kids
+    map-values_kids kids prefix [] = refl
+    map-values_kids NoMore prefix (n ∷ ns) = refl
+    map-values_kids (Unsplit tip kids) prefix (n ∷ ns) = ap (λ l. g (prefix ++ n ∷ []) (f (prefix ++ n ∷ []) tip) ++ l) (map-values_kids kids prefix ns)
+    map-values_kids (Split numbers sub kids) prefix (n ∷ ns) =
+        rw (map-values_kids sub (prefix ++ n ∷ []) numbers, map-values_kids kids prefix ns) refl
+
+    -- and its values are those of the other tips
+    pub map-values : (tree : Tree M) (prefix : List ℕ) → tree_values g prefix (map_tips f prefix tree) ≡ tree_values (λ at tip. g at (f at tip)) prefix tree
+    map-values (Alone tip) prefix = refl
+    map-values (Parted numbers kids) prefix = map-values_kids kids prefix numbers

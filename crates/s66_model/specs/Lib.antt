@@ -8,8 +8,10 @@ pub mod Leaves
 pub mod Floor
 pub mod Tails
 pub mod Tree
+pub mod Preorder
 pub mod Answer
 pub mod Piece
+pub mod Told
 pub mod Expansion
 pub mod Ledger
 pub mod Coverage
