@@ -8,6 +8,7 @@ pub mod Registers
 pub mod Exchange
 pub mod MeaningOfOrders
 pub mod Remaining
+pub mod SameSet
 pub mod PointTimes
 pub mod ParcelsBound
 pub mod LoadBound

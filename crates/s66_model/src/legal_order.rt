@@ -2,6 +2,7 @@
 
 ghost use Rattle.std.specs.Prelude.{ℕ, List, ◌≡◌, ◌↔◌, [], ◌∷◌};
 ghost use Rattle.s66_isa.specs.declared.instr.Instr.{Instr};
+ghost use Rattle.s66_isa.specs.Lists.{has};
 ghost use Rattle.s66_isa.specs.Table.{numbers};
 ghost use Rattle.s66_model.specs.LegalOrder.{IsLegal, IsOrder, IsFront, IsBeginning, ready, remaining, sum_remaining};
 ghost use Rattle.s66_model.specs.Examples.{one_load};
@@ -19,6 +20,13 @@ pub fn beginning_law()
 /// The source order of every block is legal.
 pub fn source_law()
     ensures { (block : List Instr) → IsLegal block (numbers block) }
+{}
+
+/// What is ready, what remains and sums over it depend on which numbers are placed, and not on their order.
+pub fn same_set_law()
+    ensures ready { (block : List Instr) (placed others : List ℕ) → ((m : ℕ) → has m placed ≡ has m others) → ready block placed ≡ ready block others }
+    ensures remaining { (block : List Instr) (placed others : List ℕ) → ((m : ℕ) → has m placed ≡ has m others) → remaining block placed ≡ remaining block others }
+    ensures sum { (block : List Instr) (placed others : List ℕ) (w : ℕ → ℕ) → ((m : ℕ) → has m placed ≡ has m others) → sum_remaining block placed w ≡ sum_remaining block others w }
 {}
 
 /// Which orders of a block are legal, and what is ready after a beginning.

@@ -32,7 +32,7 @@ pub use expansion::{best_whole_examples, expansion_examples, expansion_law};
 pub use history::{history_law, reached_law, recorded_examples, recorded_law};
 pub use leaves::{floor_examples, floor_law, leaf_examples, leaf_law};
 pub use ledger::{claim_examples, graft_examples, grant_examples, offer_examples, run_examples};
-pub use legal_order::{beginning_law, order_examples, order_law, source_law};
+pub use legal_order::{beginning_law, order_examples, order_law, same_set_law, source_law};
 pub use meaning::{meaning_examples, meaning_law, needed_law};
 pub use node_table::{loose_split_law, node_table_examples, node_table_law};
 pub use packing::{packing_examples, packing_law};
