@@ -44,7 +44,7 @@ module _ {M : Type 0} where
   forest-flat_kids (n ∷ ns) (Split numbers sub kids) knots h =
       let later : forest (flat_kids kids ++ knots) ≡ and_kids kids (forest knots) = forest-flat_kids ns kids knots h.1 in
       let all : forest ((flat_kids sub ++ flat_kids kids) ++ knots) ≡ and_kids sub (and_kids kids (forest knots)) =
-          ap forest (append_assoc (flat_kids sub) (flat_kids kids) knots) ∙ forest-flat_kids numbers sub (flat_kids kids ++ knots) h.0 ∙ ap (and_kids sub) later in
+      ap forest (append_assoc (flat_kids sub) (flat_kids kids) knots) ∙ forest-flat_kids numbers sub (flat_kids kids ++ knots) h.0 ∙ ap (and_kids sub) later in
       rw all (rw (first-match numbers sub (and_kids kids (forest knots)) h.0, later-match numbers sub (and_kids kids (forest knots)) h.0) refl)
 
   -- a tree beside no other

@@ -1,6 +1,6 @@
 -- Histories of the ledger: their fronts, the one state to which each leads, what they spend, and what holds of a state that is reached.
-use Rattle.std.proofs.Common.{ℕ, zero, suc, ◌+◌, ◌≤◌, ◌<◌, ◌≡◌, Bool, true, false, cond, ◌-◌, List, [], ◌∷◌, ◌++◌, length, refl, sym, ap, arith, inl, inr, eqb, subst, ◌∙◌, Some, None, replicate}
-use Rattle.std.proofs.lemmas.Bool.{eq-eqb, ne_eqb, cases_eq, cases_Bool, cond-true, cond-false}
+use Rattle.std.proofs.Common.{ℕ, zero, suc, ◌+◌, ◌≤◌, ◌<◌, ◌≡◌, cond, ◌-◌, List, [], ◌∷◌, ◌++◌, length, refl, sym, ap, arith, inl, inr, eqb, subst, ◌∙◌, Some, None}
+use Rattle.std.proofs.lemmas.Bool.{eq-eqb, ne_eqb, cases_eq, cond-true, cond-false}
 use Rattle.std.proofs.lemmas.List.{length-set, length-replicate}
 use Rattle.s66_isa.specs.Lists.{weigh, rising}
 use Rattle.s66_model.specs.Timing.{Problem}
@@ -104,10 +104,12 @@ AreWorkers workers (e ∷ h) = (1 ≤ worker e.0) × (worker e.0 ≤ workers) ×
 all-splits : (workers : ℕ) (h : List (Event × Reply)) → AreWorkers workers h → weigh (λ w. weigh (by w) h) (rising workers 1) ≡ weigh (λ e. spends e.0 e.1) h
 all-splits workers [] is = weigh-nothing (rising workers 1)
 all-splits workers (e ∷ h) is =
-    omega (arith,
+    omega (
+      arith,
       weigh-plus (λ w. by w e) (λ w. weigh (by w) h) (rising workers 1),
       the-one (worker e.0) (spends e.0 e.1) workers 1 is.0 (omega (arith, is.1)),
-      all-splits workers h is.2)
+      all-splits workers h is.2,
+    )
 
 -- THE WORKERS STAY
 

@@ -187,10 +187,16 @@ module _ (b : Problem) where
       record {
         root = state-stands [] l.nodes i state lt ∙ h.root;
         children = λ at n now. (
-          let before : is_cut_at at (node_at l.nodes i) ≡ false = and_left (is_cut (node_at l.nodes i)) (stands_at at (node_at l.nodes i)) was in
-          let after : is_cut_at at node ≡ false = and_left (is_cut node) (stands_at at node) is in
-          omega (arith, state-stands (at ++ n ∷ []) l.nodes i state lt, h.children at n now, tally-set (is_cut_at at) l.nodes i node no_node lt,
-            ap (λ t. cond {A = ℕ} t 1 0) before, ap (λ t. cond {A = ℕ} t 1 0) after));
+            let before : is_cut_at at (node_at l.nodes i) ≡ false = and_left (is_cut (node_at l.nodes i)) (stands_at at (node_at l.nodes i)) was in
+            let after : is_cut_at at node ≡ false = and_left (is_cut node) (stands_at at node) is in
+            omega (
+              arith,
+              state-stands (at ++ n ∷ []) l.nodes i state lt,
+              h.children at n now,
+              tally-set (is_cut_at at) l.nodes i node no_node lt,
+              ap (λ t. cond {A = ℕ} t 1 0) before,
+              ap (λ t. cond {A = ℕ} t 1 0) after,
+            ));
         cuts = cuts-set b l.nodes i node (λ e. absurd (true≢false (sym (ap is_cut_state e) ∙ is))) h.cuts;
         first = h.first;
       }

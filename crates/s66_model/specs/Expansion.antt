@@ -3,7 +3,7 @@ use Rattle.std.specs.Prelude.{ℕ, ◌≡◌, ◌≤◌, ◌<◌, ◌⊎◌, Lis
 use Rattle.s66_isa.specs.Lists.{Among}
 use Rattle.s66_model.specs.Timing.{Problem, total_of}
 use Rattle.s66_model.specs.LegalOrder.{IsComplete, IsIncomplete}
-use Rattle.s66_model.specs.Leaves.{Leaf, Whole, Chain, Load, Parcels, value, floor, floor_value}
+use Rattle.s66_model.specs.Leaves.{Whole, Chain, Load, Parcels, value, floor, floor_value}
 use Rattle.s66_model.specs.Tree.{Tree, TreeHolds, splits, split_at, tree_values}
 use Rattle.s66_model.specs.Piece.{Tip, Carries, Frontier}
 

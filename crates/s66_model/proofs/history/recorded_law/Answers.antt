@@ -1,4 +1,4 @@
-use Rattle.std.proofs.Common.{ℕ, ◌≡◌, Bool, true, false, true≢false, List, refl, sym, ap, ◌∙◌}
+use Rattle.std.proofs.Common.{◌≡◌, Bool, true, false, true≢false, refl, sym, ap, ◌∙◌}
 use Rattle.s66_model.specs.Timing.{Problem, total_of}
 use Rattle.s66_model.specs.Ledger.{Offer}
 use Rattle.s66_model.specs.Recorded.{IsOwn, graft_event}
