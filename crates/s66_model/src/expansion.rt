@@ -3,8 +3,8 @@
 ghost use Rattle.std.specs.Prelude.{ℕ, List, ◌≡◌, [], ◌∷◌, Some, None};
 ghost use Rattle.s66_isa.specs.declared.instr.Kind.TheVariants.{Multiply};
 ghost use Rattle.s66_model.specs.Timing.{Problem};
-ghost use Rattle.s66_model.specs.Leaves.{Whole, Load, Parcels};
-ghost use Rattle.s66_model.specs.Tree.{Tree, Alone};
+ghost use Rattle.s66_model.specs.Leaves.{Whole, Chain, Load, Parcels};
+ghost use Rattle.s66_model.specs.Tree.{Tree, Alone, Parted, NoMore, Unsplit};
 ghost use Rattle.s66_model.specs.Piece.{Tip, Carries, Frontier, IsPiece};
 ghost use Rattle.s66_model.specs.Expansion.{IsExpansion, IsBestWhole, whole_orders};
 ghost use Rattle.s66_model.specs.Examples.{load_problem, multiply_problem, load_piece, one_split, child_omitted, every_order, load_orders};
@@ -41,6 +41,7 @@ pub fn expansion_examples()
 /// Which whole order comes with a tree.
 pub fn best_whole_examples()
     ensures orders_in_preorder { whole_orders [] (load_orders (Carries Whole)) ≡ (1 ∷ 2 ∷ 3 ∷ []) ∷ (1 ∷ 3 ∷ 2 ∷ []) ∷ (3 ∷ 1 ∷ 2 ∷ []) ∷ [] }
+    ensures no_order_of_other_tips { whole_orders [] (Parted (1 ∷ 2 ∷ 3 ∷ 4 ∷ []) (Unsplit (Carries (Chain (1 ∷ []))) (Unsplit (Carries (Load Multiply)) (Unsplit (Carries Parcels) (Unsplit Frontier NoMore))))) ≡ [] }
     ensures one_of_12 { IsBestWhole load_problem [] (load_orders (Carries Whole)) (Some (1 ∷ 3 ∷ 2 ∷ [])) }
     ensures not_one_of_13 { ¬ IsBestWhole load_problem [] (load_orders (Carries Whole)) (Some (3 ∷ 1 ∷ 2 ∷ [])) }
     ensures one_at_least { ¬ IsBestWhole load_problem [] (load_orders (Carries Whole)) None }

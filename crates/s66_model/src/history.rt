@@ -49,6 +49,7 @@ pub fn recorded_examples()
     ensures refused_without_its_splits { ¬ IsGraftOf multiply_problem 1 0 multiply_problem [] (one_split Frontier) OverAllowance (Graft 1 0 true [] 0 None) }
     ensures refused_with_another_prefix { ¬ IsGraftOf multiply_problem 1 0 multiply_problem [] (one_split Frontier) OtherPrefix (Graft 1 0 true (2 ∷ []) 1 None) }
     ensures refused_as_of_another_block { ¬ IsGraftOf multiply_problem 1 0 multiply_problem [] (one_split Frontier) OtherPrefix (Graft 1 0 false [] 1 None) }
+    ensures refused_as_of_this_block { ¬ IsGraftOf multiply_problem 1 0 load_problem [] (one_split Frontier) OtherPrefix (Graft 1 0 true [] 1 None) }
     ensures refused_with_its_tree { ¬ IsGraftOf multiply_problem 1 0 multiply_problem [] (one_split Frontier) NotOut (Graft 1 0 true [] 1 (Some (one_split Frontier))) }
     ensures taken_without_its_tree { ¬ IsGraftOf multiply_problem 1 0 multiply_problem [] (one_split Frontier) Taken (Graft 1 0 true [] 1 None) }
     ensures graft_of_another_worker { ¬ IsGraftOf multiply_problem 1 0 multiply_problem [] (one_split Frontier) NotOut (Graft 2 0 true [] 1 None) }
@@ -56,6 +57,7 @@ pub fn recorded_examples()
     ensures offered_of_another_block { IsOfferOf load_problem 1 multiply_problem (2 ∷ 1 ∷ 3 ∷ []) (Offer 1 false (2 ∷ 1 ∷ 3 ∷ []) 22) }
     ensures offered_with_another_time { ¬ IsOfferOf load_problem 1 load_problem (1 ∷ 3 ∷ 2 ∷ []) (Offer 1 true (1 ∷ 3 ∷ 2 ∷ []) 11) }
     ensures offered_as_of_another_block { ¬ IsOfferOf load_problem 1 load_problem (1 ∷ 3 ∷ 2 ∷ []) (Offer 1 false (1 ∷ 3 ∷ 2 ∷ []) 12) }
+    ensures offered_as_of_this_block { ¬ IsOfferOf load_problem 1 multiply_problem (2 ∷ 1 ∷ 3 ∷ []) (Offer 1 true (2 ∷ 1 ∷ 3 ∷ []) 22) }
     ensures spent_by_1 { spent_by 1 ledger_events ≡ 1 }
     ensures spent_by_2 { spent_by 2 ledger_events ≡ 0 }
 {}
