@@ -3,7 +3,7 @@ use Rattle.std.proofs.Common.{◌≡◌, ℕ, List, [], ◌∷◌, ◌++◌, ref
 use Rattle.std.proofs.lemmas.List.{append-nil}
 use Rattle.s66_isa.specs.declared.instr.Instr.{Instr}
 use Rattle.s66_model.specs.Tree.{Tree, Alone, Parted, Kids, NoMore, Unsplit, Split, Knot, AtTip, AtSplit, KidsHold, TreeHolds, flat_kids, flat}
-use Rattle.s66_model.specs.Preorder.{first_kids, later_kids, forest, first_tree, tree_of, KidsMatch, TreeMatches}
+use Rattle.s66_model.specs.Preorder.{first_kids, later_kids, forest, first_tree, read_tree, KidsMatch, TreeMatches}
 
 module _ {M : Type 0} where
   -- FROM TREES TO KNOTS AND BACK
@@ -64,8 +64,8 @@ module _ {M : Type 0} where
   first-one none (Alone tip) = refl
   first-one none (Parted numbers kids) = refl
 
-  pub tree-flat : (tip : M) (tree : Tree M) → TreeMatches tree → tree_of tip (flat tree) ≡ tree
-  tree-flat tip tree h = ap (first_tree (Alone tip)) (forest-flat tree h) ∙ first-one (Alone tip) tree
+  pub read-flat : (other : M) (tree : Tree M) → TreeMatches tree → read_tree other (flat tree) ≡ tree
+  read-flat other tree h = ap (first_tree (Alone other)) (forest-flat tree h) ∙ first-one (Alone other) tree
 
   -- the knots tell the tree
   pub flat-once : (tree other : Tree M) → TreeMatches tree → TreeMatches other → flat tree ≡ flat other → tree ≡ other

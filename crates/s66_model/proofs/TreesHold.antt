@@ -3,7 +3,7 @@ use Rattle.std.proofs.Common.{ℕ, ◌+◌, ◌≡◌, List, [], ◌∷◌, ◌+
 use Rattle.s66_isa.specs.declared.instr.Instr.{Instr}
 use Rattle.s66_model.specs.Tree.{Tree, Alone, Parted, Kids, NoMore, Unsplit, Split, KidsHold, TreeHolds, kid_splits, splits, kids_split_at, split_at, kid_values, tree_values}
 use Rattle.s66_model.specs.Preorder.{KidsMatch, TreeMatches}
-use Rattle.s66_model.specs.Told.{map_kids, map_tips}
+use Rattle.s66_model.specs.Told.{kids_seen, tree_seen}
 
 -- what is implied at each tip holds of the tree
 module _ {M : Type 0} (block : List Instr) (Q R : List ℕ → M → Type 0) (each : (at : List ℕ) (tip : M) → Q at tip → R at tip) where
@@ -37,80 +37,80 @@ module _ {M V : Type 0} (block : List Instr) (Q : List ℕ → M → Type 0) (f 
 
 module _ {M N : Type 0} (f : List ℕ → M → N) where
   module _ (block : List Instr) (Q : List ℕ → N → Type 0) where
-    kids-map : (kids : Kids M) (prefix ns : List ℕ) → KidsHold block (λ at tip. Q at (f at tip)) prefix ns kids → KidsHold block Q prefix ns (map_kids f prefix ns kids)
-    kids-map NoMore prefix [] h = tt
-    kids-map NoMore prefix (n ∷ ns) h = absurd h
-    kids-map (Unsplit tip kids) prefix [] h = absurd h
-    kids-map (Unsplit tip kids) prefix (n ∷ ns) h = (h.0, kids-map kids prefix ns h.1)
-    kids-map (Split numbers sub kids) prefix [] h = absurd h
-    kids-map (Split numbers sub kids) prefix (n ∷ ns) h = (h.0, h.1, kids-map sub (prefix ++ n ∷ []) numbers h.2, kids-map kids prefix ns h.3)
+    seen-holds_kids : (kids : Kids M) (prefix ns : List ℕ) → KidsHold block (λ at tip. Q at (f at tip)) prefix ns kids → KidsHold block Q prefix ns (kids_seen f prefix ns kids)
+    seen-holds_kids NoMore prefix [] h = tt
+    seen-holds_kids NoMore prefix (n ∷ ns) h = absurd h
+    seen-holds_kids (Unsplit tip kids) prefix [] h = absurd h
+    seen-holds_kids (Unsplit tip kids) prefix (n ∷ ns) h = (h.0, seen-holds_kids kids prefix ns h.1)
+    seen-holds_kids (Split numbers sub kids) prefix [] h = absurd h
+    seen-holds_kids (Split numbers sub kids) prefix (n ∷ ns) h = (h.0, h.1, seen-holds_kids sub (prefix ++ n ∷ []) numbers h.2, seen-holds_kids kids prefix ns h.3)
 
     -- what holds of the other tips is seen of the tree that has them
-    pub tree-map : (tree : Tree M) (prefix : List ℕ) → TreeHolds block (λ at tip. Q at (f at tip)) prefix tree → TreeHolds block Q prefix (map_tips f prefix tree)
-    tree-map (Alone tip) prefix h = h
-    tree-map (Parted numbers kids) prefix h = (h.0, h.1, kids-map kids prefix numbers h.2)
+    pub seen-holds : (tree : Tree M) (prefix : List ℕ) → TreeHolds block (λ at tip. Q at (f at tip)) prefix tree → TreeHolds block Q prefix (tree_seen f prefix tree)
+    seen-holds (Alone tip) prefix h = h
+    seen-holds (Parted numbers kids) prefix h = (h.0, h.1, seen-holds_kids kids prefix numbers h.2)
 
-    map-kids : (kids : Kids M) (prefix ns : List ℕ) → KidsMatch ns kids → KidsHold block Q prefix ns (map_kids f prefix ns kids) → KidsHold block (λ at tip. Q at (f at tip)) prefix ns kids
-    map-kids NoMore prefix [] is h = tt
-    map-kids NoMore prefix (n ∷ ns) is h = absurd is
-    map-kids (Unsplit tip kids) prefix [] is h = absurd is
-    map-kids (Unsplit tip kids) prefix (n ∷ ns) is h = (h.0, map-kids kids prefix ns is h.1)
-    map-kids (Split numbers sub kids) prefix [] is h = absurd is
-    map-kids (Split numbers sub kids) prefix (n ∷ ns) is h =
-        (h.0, h.1, map-kids sub (prefix ++ n ∷ []) numbers is.0 h.2, map-kids kids prefix ns is.1 h.3)
+    holds-seen_kids : (kids : Kids M) (prefix ns : List ℕ) → KidsMatch ns kids → KidsHold block Q prefix ns (kids_seen f prefix ns kids) → KidsHold block (λ at tip. Q at (f at tip)) prefix ns kids
+    holds-seen_kids NoMore prefix [] is h = tt
+    holds-seen_kids NoMore prefix (n ∷ ns) is h = absurd is
+    holds-seen_kids (Unsplit tip kids) prefix [] is h = absurd is
+    holds-seen_kids (Unsplit tip kids) prefix (n ∷ ns) is h = (h.0, holds-seen_kids kids prefix ns is h.1)
+    holds-seen_kids (Split numbers sub kids) prefix [] is h = absurd is
+    holds-seen_kids (Split numbers sub kids) prefix (n ∷ ns) is h =
+        (h.0, h.1, holds-seen_kids sub (prefix ++ n ∷ []) numbers is.0 h.2, holds-seen_kids kids prefix ns is.1 h.3)
 
     -- and the other way round
-    pub map-tree : (tree : Tree M) (prefix : List ℕ) → TreeMatches tree → TreeHolds block Q prefix (map_tips f prefix tree) → TreeHolds block (λ at tip. Q at (f at tip)) prefix tree
-    map-tree (Alone tip) prefix is h = h
-    map-tree (Parted numbers kids) prefix is h = (h.0, h.1, map-kids kids prefix numbers is h.2)
+    pub holds-seen : (tree : Tree M) (prefix : List ℕ) → TreeMatches tree → TreeHolds block Q prefix (tree_seen f prefix tree) → TreeHolds block (λ at tip. Q at (f at tip)) prefix tree
+    holds-seen (Alone tip) prefix is h = h
+    holds-seen (Parted numbers kids) prefix is h = (h.0, h.1, holds-seen_kids kids prefix numbers is h.2)
 
-  map-match_kids : (kids : Kids M) (prefix ns : List ℕ) → KidsMatch ns kids → KidsMatch ns (map_kids f prefix ns kids)
-  map-match_kids NoMore prefix [] is = tt
-  map-match_kids NoMore prefix (n ∷ ns) is = absurd is
-  map-match_kids (Unsplit tip kids) prefix [] is = absurd is
-  map-match_kids (Unsplit tip kids) prefix (n ∷ ns) is = map-match_kids kids prefix ns is
-  map-match_kids (Split numbers sub kids) prefix [] is = absurd is
-  map-match_kids (Split numbers sub kids) prefix (n ∷ ns) is = (map-match_kids sub (prefix ++ n ∷ []) numbers is.0, map-match_kids kids prefix ns is.1)
+  seen-match_kids : (kids : Kids M) (prefix ns : List ℕ) → KidsMatch ns kids → KidsMatch ns (kids_seen f prefix ns kids)
+  seen-match_kids NoMore prefix [] is = tt
+  seen-match_kids NoMore prefix (n ∷ ns) is = absurd is
+  seen-match_kids (Unsplit tip kids) prefix [] is = absurd is
+  seen-match_kids (Unsplit tip kids) prefix (n ∷ ns) is = seen-match_kids kids prefix ns is
+  seen-match_kids (Split numbers sub kids) prefix [] is = absurd is
+  seen-match_kids (Split numbers sub kids) prefix (n ∷ ns) is = (seen-match_kids sub (prefix ++ n ∷ []) numbers is.0, seen-match_kids kids prefix ns is.1)
 
-  pub map-match : (tree : Tree M) (prefix : List ℕ) → TreeMatches tree → TreeMatches (map_tips f prefix tree)
-  map-match (Alone tip) prefix is = tt
-  map-match (Parted numbers kids) prefix is = map-match_kids kids prefix numbers is
+  pub seen-match : (tree : Tree M) (prefix : List ℕ) → TreeMatches tree → TreeMatches (tree_seen f prefix tree)
+  seen-match (Alone tip) prefix is = tt
+  seen-match (Parted numbers kids) prefix is = seen-match_kids kids prefix numbers is
 
-  map-splits_kids : (kids : Kids M) (prefix ns : List ℕ) → KidsMatch ns kids → kid_splits (map_kids f prefix ns kids) ≡ kid_splits kids
-  map-splits_kids NoMore prefix [] is = refl
-  map-splits_kids NoMore prefix (n ∷ ns) is = refl
-  map-splits_kids (Unsplit tip kids) prefix [] is = absurd is
-  map-splits_kids (Unsplit tip kids) prefix (n ∷ ns) is = map-splits_kids kids prefix ns is
-  map-splits_kids (Split numbers sub kids) prefix [] is = absurd is
-  map-splits_kids (Split numbers sub kids) prefix (n ∷ ns) is =
-      omega (arith, map-splits_kids sub (prefix ++ n ∷ []) numbers is.0, map-splits_kids kids prefix ns is.1)
+  seen-splits_kids : (kids : Kids M) (prefix ns : List ℕ) → KidsMatch ns kids → kid_splits (kids_seen f prefix ns kids) ≡ kid_splits kids
+  seen-splits_kids NoMore prefix [] is = refl
+  seen-splits_kids NoMore prefix (n ∷ ns) is = refl
+  seen-splits_kids (Unsplit tip kids) prefix [] is = absurd is
+  seen-splits_kids (Unsplit tip kids) prefix (n ∷ ns) is = seen-splits_kids kids prefix ns is
+  seen-splits_kids (Split numbers sub kids) prefix [] is = absurd is
+  seen-splits_kids (Split numbers sub kids) prefix (n ∷ ns) is =
+      omega (arith, seen-splits_kids sub (prefix ++ n ∷ []) numbers is.0, seen-splits_kids kids prefix ns is.1)
 
   -- it has as many splits
-  pub map-splits : (tree : Tree M) (prefix : List ℕ) → TreeMatches tree → splits (map_tips f prefix tree) ≡ splits tree
-  map-splits (Alone tip) prefix is = refl
-  map-splits (Parted numbers kids) prefix is = ap (λ k. 1 + k) (map-splits_kids kids prefix numbers is)
+  pub seen-splits : (tree : Tree M) (prefix : List ℕ) → TreeMatches tree → splits (tree_seen f prefix tree) ≡ splits tree
+  seen-splits (Alone tip) prefix is = refl
+  seen-splits (Parted numbers kids) prefix is = ap (λ k. 1 + k) (seen-splits_kids kids prefix numbers is)
 
-  map-split_at_kids : (kids : Kids M) (prefix ns : List ℕ) → kids_split_at prefix ns (map_kids f prefix ns kids) ≡ kids_split_at prefix ns kids
-  map-split_at_kids kids prefix [] = refl
-  map-split_at_kids NoMore prefix (n ∷ ns) = refl
-  map-split_at_kids (Unsplit tip kids) prefix (n ∷ ns) = map-split_at_kids kids prefix ns
-  map-split_at_kids (Split numbers sub kids) prefix (n ∷ ns) =
-      rw (map-split_at_kids sub (prefix ++ n ∷ []) numbers, map-split_at_kids kids prefix ns) refl
+  seen-split_at_kids : (kids : Kids M) (prefix ns : List ℕ) → kids_split_at prefix ns (kids_seen f prefix ns kids) ≡ kids_split_at prefix ns kids
+  seen-split_at_kids kids prefix [] = refl
+  seen-split_at_kids NoMore prefix (n ∷ ns) = refl
+  seen-split_at_kids (Unsplit tip kids) prefix (n ∷ ns) = seen-split_at_kids kids prefix ns
+  seen-split_at_kids (Split numbers sub kids) prefix (n ∷ ns) =
+      rw (seen-split_at_kids sub (prefix ++ n ∷ []) numbers, seen-split_at_kids kids prefix ns) refl
 
   -- at the same prefixes
-  pub map-split_at : (tree : Tree M) (prefix : List ℕ) → split_at prefix (map_tips f prefix tree) ≡ split_at prefix tree
-  map-split_at (Alone tip) prefix = refl
-  map-split_at (Parted numbers kids) prefix = ap (λ l. prefix ∷ l) (map-split_at_kids kids prefix numbers)
+  pub seen-split_at : (tree : Tree M) (prefix : List ℕ) → split_at prefix (tree_seen f prefix tree) ≡ split_at prefix tree
+  seen-split_at (Alone tip) prefix = refl
+  seen-split_at (Parted numbers kids) prefix = ap (λ l. prefix ∷ l) (seen-split_at_kids kids prefix numbers)
 
   module _ {V : Type 0} (g : List ℕ → N → List V) where
-    map-values_kids : (kids : Kids M) (prefix ns : List ℕ) → kid_values g prefix ns (map_kids f prefix ns kids) ≡ kid_values (λ at tip. g at (f at tip)) prefix ns kids
-    map-values_kids kids prefix [] = refl
-    map-values_kids NoMore prefix (n ∷ ns) = refl
-    map-values_kids (Unsplit tip kids) prefix (n ∷ ns) = ap (λ l. g (prefix ++ n ∷ []) (f (prefix ++ n ∷ []) tip) ++ l) (map-values_kids kids prefix ns)
-    map-values_kids (Split numbers sub kids) prefix (n ∷ ns) =
-        rw (map-values_kids sub (prefix ++ n ∷ []) numbers, map-values_kids kids prefix ns) refl
+    seen-values_kids : (kids : Kids M) (prefix ns : List ℕ) → kid_values g prefix ns (kids_seen f prefix ns kids) ≡ kid_values (λ at tip. g at (f at tip)) prefix ns kids
+    seen-values_kids kids prefix [] = refl
+    seen-values_kids NoMore prefix (n ∷ ns) = refl
+    seen-values_kids (Unsplit tip kids) prefix (n ∷ ns) = ap (λ l. g (prefix ++ n ∷ []) (f (prefix ++ n ∷ []) tip) ++ l) (seen-values_kids kids prefix ns)
+    seen-values_kids (Split numbers sub kids) prefix (n ∷ ns) =
+        rw (seen-values_kids sub (prefix ++ n ∷ []) numbers, seen-values_kids kids prefix ns) refl
 
     -- and its values are those of the other tips
-    pub map-values : (tree : Tree M) (prefix : List ℕ) → tree_values g prefix (map_tips f prefix tree) ≡ tree_values (λ at tip. g at (f at tip)) prefix tree
-    map-values (Alone tip) prefix = refl
-    map-values (Parted numbers kids) prefix = map-values_kids kids prefix numbers
+    pub seen-values : (tree : Tree M) (prefix : List ℕ) → tree_values g prefix (tree_seen f prefix tree) ≡ tree_values (λ at tip. g at (f at tip)) prefix tree
+    seen-values (Alone tip) prefix = refl
+    seen-values (Parted numbers kids) prefix = seen-values_kids kids prefix numbers

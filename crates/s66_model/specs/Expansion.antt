@@ -21,7 +21,7 @@ pub record IsExpansion (b : Problem) (high low allowance : ℕ) (prefix : List �
   pub within : splits tree ≤ allowance
   -- a prefix whose floor is at least the best time isn't split
   pub below : (at : List ℕ) → Among at (split_at prefix tree) → floor_value b at < high
-  -- and one that may be split is
+  -- one split at least, where any is allowed, the prefix isn't complete and its floor is below the best time
   pub due : 1 ≤ allowance → IsIncomplete b.block prefix → floor_value b prefix < low → 1 ≤ splits tree
 
 -- WHOLE ORDERS

@@ -30,9 +30,9 @@ first_tree none NoMore = none
 first_tree none (Unsplit tip kids) = Alone tip
 first_tree none (Split numbers sub kids) = Parted numbers sub
 
--- the tree that the knots are; without knots it is a tip alone
-abbrev pub tree_of : {M : Type 0} → M → List (Knot M) → Tree M
-tree_of tip knots = first_tree (Alone tip) (forest knots)
+-- the tree that the knots are; without knots it is the other tip alone
+abbrev pub read_tree : {M : Type 0} → M → List (Knot M) → Tree M
+read_tree other knots = first_tree (Alone other) (forest knots)
 
 -- TREES THAT THEIR KNOTS TELL: each split has a child for each of its numbers
 

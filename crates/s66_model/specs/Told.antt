@@ -6,18 +6,18 @@ use Rattle.s66_model.specs.Leaves.{floor, floor_value}
 use Rattle.s66_model.specs.Tree.{Tree, Alone, Parted, Kids, NoMore, Unsplit, Split}
 use Rattle.s66_model.specs.Piece.{Tip, Carries, Frontier}
 
--- OTHER TIPS: at each prefix that isn't split, what f makes of it and of its tip
+-- A TREE SEEN WITH OTHER TIPS: at each prefix that isn't split, what f makes of it and of its tip
 
-abbrev pub map_kids : {M N : Type 0} → (List ℕ → M → N) → List ℕ → List ℕ → Kids M → Kids N
-map_kids f prefix [] kids = NoMore
-map_kids f prefix (n ∷ ns) NoMore = NoMore
-map_kids f prefix (n ∷ ns) (Unsplit tip kids) = Unsplit (f (prefix ++ n ∷ []) tip) (map_kids f prefix ns kids)
-map_kids f prefix (n ∷ ns) (Split numbers sub kids) =
-    Split numbers (map_kids f (prefix ++ n ∷ []) numbers sub) (map_kids f prefix ns kids)
+abbrev pub kids_seen : {M N : Type 0} → (List ℕ → M → N) → List ℕ → List ℕ → Kids M → Kids N
+kids_seen f prefix [] kids = NoMore
+kids_seen f prefix (n ∷ ns) NoMore = NoMore
+kids_seen f prefix (n ∷ ns) (Unsplit tip kids) = Unsplit (f (prefix ++ n ∷ []) tip) (kids_seen f prefix ns kids)
+kids_seen f prefix (n ∷ ns) (Split numbers sub kids) =
+    Split numbers (kids_seen f (prefix ++ n ∷ []) numbers sub) (kids_seen f prefix ns kids)
 
-abbrev pub map_tips : {M N : Type 0} → (List ℕ → M → N) → List ℕ → Tree M → Tree N
-map_tips f prefix (Alone tip) = Alone (f prefix tip)
-map_tips f prefix (Parted numbers kids) = Parted numbers (map_kids f prefix numbers kids)
+abbrev pub tree_seen : {M N : Type 0} → (List ℕ → M → N) → List ℕ → Tree M → Tree N
+tree_seen f prefix (Alone tip) = Alone (f prefix tip)
+tree_seen f prefix (Parted numbers kids) = Parted numbers (kids_seen f prefix numbers kids)
 
 -- VALUES IN PLACE OF LEAVES
 
@@ -35,10 +35,10 @@ abbrev pub told_value : Told → ℕ
 told_value (ToldLeaf value) = value
 told_value (ToldFrontier value) = value
 
-abbrev pub tip_told : Problem → List ℕ → Told → Tip
-tip_told b prefix (ToldLeaf value) = Carries (floor b prefix)
-tip_told b prefix (ToldFrontier value) = Frontier
+abbrev pub tip_of : Problem → List ℕ → Told → Tip
+tip_of b prefix (ToldLeaf value) = Carries (floor b prefix)
+tip_of b prefix (ToldFrontier value) = Frontier
 
 -- the piece's tree of which the values are told
 abbrev pub tree_told : Problem → List ℕ → Tree Told → Tree Tip
-tree_told b prefix told = map_tips (tip_told b) prefix told
+tree_told b prefix told = tree_seen (tip_of b) prefix told

@@ -6,14 +6,14 @@ ghost use Rattle.s66_model.specs.Leaves.{floor_value};
 ghost use Rattle.s66_model.specs.Tree.{Tree, Alone, Parted, NoMore, Unsplit, Split, TreeHolds, splits, split_at, tree_values};
 ghost use Rattle.s66_model.specs.Preorder.{TreeMatches};
 ghost use Rattle.s66_model.specs.Piece.{TipHolds, IsPiece};
-ghost use Rattle.s66_model.specs.Told.{Told, ToldLeaf, ToldFrontier, ToldHolds, told_value, tip_told, tree_told};
+ghost use Rattle.s66_model.specs.Told.{Told, ToldLeaf, ToldFrontier, ToldHolds, told_value, tip_of, tree_told};
 ghost use Rattle.s66_model.specs.Examples.{load_problem, load_piece};
 
 /// A tree of true values over a prefix stands for a piece, with the same splits at the same prefixes, and its values are those
 /// of the floors.
 pub fn told_law()
     ensures piece { (b : Problem) (prefix : List ℕ) (told : Tree Told) → TreeHolds b.block (ToldHolds b) prefix told → IsPiece b prefix (tree_told b prefix told) }
-    ensures tips { (b : Problem) (prefix : List ℕ) (told : Tree Told) → TreeMatches told → IsPiece b prefix (tree_told b prefix told) → TreeHolds b.block (λ at tip. TipHolds b at (tip_told b at tip)) prefix told }
+    ensures tips { (b : Problem) (prefix : List ℕ) (told : Tree Told) → TreeMatches told → IsPiece b prefix (tree_told b prefix told) → TreeHolds b.block (λ at tip. TipHolds b at (tip_of b at tip)) prefix told }
     ensures matches { (b : Problem) (prefix : List ℕ) (told : Tree Told) → TreeMatches told → TreeMatches (tree_told b prefix told) }
     ensures splits { (b : Problem) (prefix : List ℕ) (told : Tree Told) → TreeMatches told → splits (tree_told b prefix told) ≡ splits told }
     ensures split_at { (b : Problem) (prefix : List ℕ) (told : Tree Told) → split_at prefix (tree_told b prefix told) ≡ split_at prefix told }

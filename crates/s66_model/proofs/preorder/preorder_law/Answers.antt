@@ -2,14 +2,14 @@ use Rattle.std.proofs.Common.{[], ◌≡◌}
 use Rattle.s66_model.specs.Leaves.{floor}
 use Rattle.s66_model.specs.Tree.{LeafShows}
 use Rattle.s66_model.specs.Piece.{TipHolds}
-use Rattle.s66_model.proofs.Forests.{flat-forest, tree-flat, flat-once, tree-match}
+use Rattle.s66_model.proofs.Forests.{flat-forest, read-flat, flat-once, tree-match}
 use Rattle.s66_model.proofs.preorder.preorder_law.Goals as goal
 
 pub returns-clause-knots : goal.returns-clause-knots
 returns-clause-knots c = flat-forest
 
 pub returns-clause-tree : goal.returns-clause-tree
-returns-clause-tree c = tree-flat
+returns-clause-tree c = read-flat
 
 pub returns-clause-once : goal.returns-clause-once
 returns-clause-once c = flat-once
