@@ -19,7 +19,7 @@ index-apart r s few more same =
     and_from (bank_number r.bank == bank_number s.bank) (r.digit == s.digit)
     (eq-eqb (bank_number r.bank) (bank_number s.bank) (omega arith)) (eq-eqb r.digit s.digit (omega arith))
 
-index-few : (r : Reg) → r.digit ≤ 7 → index_of r < 24
+pub index-few : (r : Reg) → r.digit ≤ 7 → index_of r < 24
 index-few r few = omega (arith, bank-few r.bank)
   where
     bank-few : (bank : Bank) → bank_number bank ≤ 2

@@ -17,7 +17,7 @@ use Rattle.s66_model.proofs.Longest.{chain-static}
 -- THE LATEST REGISTER OF A ROW
 
 -- the greatest f of the registers that the row reads or writes
-abbrev used_of : (Reg → ℕ) → Row → ℕ
+abbrev pub used_of : (Reg → ℕ) → Row → ℕ
 used_of f r = max (greatest f r.reads) (greatest (λ (w : Write). f w.reg) r.writes)
 
 reads-late : (f : Reg → ℕ) (low : ℕ) (rs : List Reg) → low < greatest f rs → (x : Reg) × (has_reg x rs ≡ true) × (f x ≡ greatest f rs)
@@ -37,14 +37,14 @@ writes-late f low (w ∷ ws) h =
     ]
 
 -- one of them reaches it
-used-late : (f : Reg → ℕ) (low : ℕ) (r : Row) → low < used_of f r → (x : Reg) × (uses r x ≡ true) × (f x ≡ used_of f r)
+pub used-late : (f : Reg → ℕ) (low : ℕ) (r : Row) → low < used_of f r → (x : Reg) × (uses r x ≡ true) × (f x ≡ used_of f r)
 used-late f low r h =
     elim (cases_le (greatest (λ (w : Write). f w.reg) r.writes) (greatest f r.reads)) [
       | inl le ↦ (let (x, among, is) = reads-late f low r.reads (omega (arith, h)) in (x, or_left (has_reg x r.reads) (some_of (λ (w : Write). same_reg w.reg x) r.writes) among, omega (arith, is, le)))
       | inr lt ↦ (let (x, among, is) = writes-late f low r.writes (omega (arith, h)) in (x, or_right (has_reg x r.reads) (some_of (λ (w : Write). same_reg w.reg x) r.writes) among, omega (arith, is, lt)))
     ]
 
-used-le : (f : Reg → ℕ) (r : Row) (x : Reg) → uses r x ≡ true → f x ≤ used_of f r
+pub used-le : (f : Reg → ℕ) (r : Row) (x : Reg) → uses r x ≡ true → f x ≤ used_of f r
 used-le f r x used =
     elim (or_cases (has_reg x r.reads) (some_of (λ (w : Write). same_reg w.reg x) r.writes) used) [
       | inl read ↦ omega (arith, has_reg-le f x r.reads read)

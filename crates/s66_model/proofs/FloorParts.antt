@@ -64,7 +64,7 @@ by-fits b prefix x begins few short =
 
 -- SUMS OVER WHAT REMAINS
 
-sum_remaining-weigh : (b : Problem) (prefix : List ℕ) (f : ℕ → ℕ) → sum_remaining b.block prefix f ≡ weigh f (remaining b.block prefix)
+pub sum_remaining-weigh : (b : Problem) (prefix : List ℕ) (f : ℕ → ℕ) → sum_remaining b.block prefix f ≡ weigh f (remaining b.block prefix)
 sum_remaining-weigh b prefix f =
     weigh-same (λ n. cond (has n prefix) 0 (f n)) (λ n. cond (is_remaining b.block prefix n) (f n) 0) (numbers b.block)
     (λ n among.
@@ -77,7 +77,7 @@ sum_remaining-weigh b prefix f =
     turned false k = refl
 
 -- a word for each number that remains
-words-remaining : (b : Problem) (prefix : List ℕ) (f : ℕ → ℕ) (words : List ℕ) → HasWords b f words → (n : ℕ) → Among n (remaining b.block prefix) → get_or words (n - 1) 0 ≡ f n
+pub words-remaining : (b : Problem) (prefix : List ℕ) (f : ℕ → ℕ) (words : List ℕ) → HasWords b f words → (n : ℕ) → Among n (remaining b.block prefix) → get_or words (n - 1) 0 ≡ f n
 words-remaining b prefix f words known n among =
     let (low, high, new) = remaining-parts b.block prefix n (remaining-among b.block prefix n among) in
     known n low high

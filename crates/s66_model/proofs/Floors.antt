@@ -126,7 +126,7 @@ whole-before b prefix is Parcels may = absurd (omega (arith, is, may))
 
 -- THE FLOOR
 
-floor-whole : (b : Problem) (prefix : List ℕ) → IsComplete b.block prefix → floor b prefix ≡ Whole
+pub floor-whole : (b : Problem) (prefix : List ℕ) → IsComplete b.block prefix → floor b prefix ≡ Whole
 floor-whole b prefix is = rw (floor, eq-eqb (length prefix) (length b.block) is) refl
 
 pub floor-part : (b : Problem) (prefix : List ℕ) → length prefix ≢ length b.block → floor b prefix ≡ first_greatest (value b prefix) (Chain (longest_chain b prefix)) after_chain

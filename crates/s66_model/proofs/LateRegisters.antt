@@ -6,7 +6,7 @@ use Rattle.s66_isa.specs.Lists.{greatest, Among}
 use Rattle.s66_isa.specs.Table.{Write, has_reg, same_reg}
 use Rattle.s66_model.specs.Timing.{Problem, Point, ResultAt, row_at, done_at, done_of, readers_wait, result_at, start_of, point, point_of, points_after}
 use Rattle.s66_model.specs.LegalOrder.{GoesOn, IsBeginning}
-use Rattle.s66_model.specs.Tails.{HasLate, Covers}
+use Rattle.s66_model.specs.Tails.{HasLate, HasWritten}
 use Rattle.s66_isa.proofs.Lists.{cases_le}
 use Rattle.s66_isa.proofs.SameRegister.{same_reg-true}
 use Rattle.s66_model.proofs.LegalOrders.{ready-parts}
@@ -24,7 +24,7 @@ point-late : (b : Problem) (xs : List Reg) (s : List Point) (n : ℕ) (x : Reg) 
 unfolding point
 point-late b xs s n x covers lt = writes-in xs x s (start_of b s (row_at b n)) (row_at b n).writes covers lt
 
-run-late : (b : Problem) (xs : List Reg) (x : Reg) → Covers b xs → (s : List Point) (prefix rest : List ℕ) → (0 < done_of s x → has_reg x xs ≡ true) → GoesOn b.block prefix rest → 0 < done_of (points_after b s rest) x → has_reg x xs ≡ true
+run-late : (b : Problem) (xs : List Reg) (x : Reg) → HasWritten b xs → (s : List Point) (prefix rest : List ℕ) → (0 < done_of s x → has_reg x xs ≡ true) → GoesOn b.block prefix rest → 0 < done_of (points_after b s rest) x → has_reg x xs ≡ true
 run-late b xs x covers s prefix [] h goes lt = h lt
 run-late b xs x covers s prefix (n ∷ rest) h goes lt =
     let (low, high, new, met) = ready-parts b.block prefix n goes.0 in
@@ -35,5 +35,5 @@ run-late b xs x covers s prefix (n ∷ rest) h goes lt =
     ])
     goes.1 lt
 
-pub has-late : (b : Problem) (prefix : List ℕ) (xs : List Reg) → Covers b xs → IsBeginning b.block prefix → HasLate b prefix xs
+pub has-late : (b : Problem) (prefix : List ℕ) (xs : List Reg) → HasWritten b xs → IsBeginning b.block prefix → HasLate b prefix xs
 has-late b prefix xs covers begins x lt = run-late b xs x covers [] [] prefix (λ some. absurd (omega (arith, some))) begins (omega (arith, lt))

@@ -27,6 +27,9 @@ pub mod TailTable
 pub mod FloorParts
 pub mod PrintedChain
 pub mod UnitLoad
+pub mod WalkOver
+pub mod HeadByRegisters
+pub mod FloorWalk
 pub mod OnceCovered
 pub mod LedgerSteps
 pub mod LedgerRuns

@@ -43,7 +43,7 @@ first-passes test n (m ∷ ms) h is =
     ])
 
 -- each number is above the one before it, and the first at least low
-abbrev Rises : ℕ → List ℕ → Type 0
+abbrev pub Rises : ℕ → List ℕ → Type 0
 Rises low [] = Unit {0}
 Rises low (n ∷ ns) = (low ≤ n) × Rises (suc n) ns
 
@@ -62,7 +62,7 @@ Rises-filter test low (n ∷ ns) h =
     (λ passes. (h.0, Rises-filter test (suc n) ns h.1))
     (λ fails. Rises-lower low (suc n) (filter test ns) (omega (arith, h.0)) (Rises-filter test (suc n) ns h.1))
 
-Rises-among : (low n : ℕ) (ns : List ℕ) → Rises low ns → Among n ns → low ≤ n
+pub Rises-among : (low n : ℕ) (ns : List ℕ) → Rises low ns → Among n ns → low ≤ n
 Rises-among low n [] h among = absurd among
 Rises-among low n (m ∷ ms) h among =
     elim among [
@@ -86,7 +86,7 @@ first-lowest test low n (m ∷ ms) h among is =
 
 -- WHAT REMAINS
 
-remaining-rises : (block : List Instr) (prefix : List ℕ) → Rises 1 (remaining block prefix)
+pub remaining-rises : (block : List Instr) (prefix : List ℕ) → Rises 1 (remaining block prefix)
 remaining-rises block prefix = Rises-filter (is_remaining block prefix) 1 (numbers block) (Rises-rising (length block) 1)
 
 -- THE WALK AFTER A NUMBER

@@ -80,7 +80,7 @@ module _ (b : Problem) (prefix : List ℕ) (begins : IsBeginning b.block prefix)
 
   -- THE CHAIN
 
-  front-static : front b prefix ≡ chain_front b prefix
+  pub front-static : front b prefix ≡ chain_front b prefix
   front-static =
       first_that-same (heads b prefix) (λ n. eqb (head (points_of b prefix) (row_at b n) + longest_tail b n) (chain b prefix)) (remaining b.block prefix)
       (λ n among. ap (λ k. eqb (head (points_of b prefix) (row_at b n) + k) (chain b prefix)) (longest-same b prefix begins (length b.block) n (remaining-among b.block prefix n among)))

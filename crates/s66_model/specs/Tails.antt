@@ -32,8 +32,8 @@ abbrev pub HasLate : Problem → List ℕ → List Reg → Type 0
 HasLate b prefix xs = (x : Reg) → next (points_of b prefix) < done_of (points_of b prefix) x → has_reg x xs ≡ true
 
 -- among the registers is each that the block writes
-abbrev pub Covers : Problem → List Reg → Type 0
-Covers b xs = (n : ℕ) → 1 ≤ n → n ≤ length b.block → (w : Write) → Among w (row_at b n).writes → has_reg w.reg xs ≡ true
+abbrev pub HasWritten : Problem → List Reg → Type 0
+HasWritten b xs = (n : ℕ) → 1 ≤ n → n ≤ length b.block → (w : Write) → Among w (row_at b n).writes → has_reg w.reg xs ≡ true
 
 -- THE PRINTED CHAIN
 

@@ -9,7 +9,7 @@ ghost use Rattle.s66_isa.specs.Table.{numbers, a_reg, x_reg};
 ghost use Rattle.s66_model.specs.Timing.{Problem, row_at, copies, points_of, next};
 ghost use Rattle.s66_model.specs.LegalOrder.{is_remaining, remaining, sum_remaining, IsBeginning, IsIncomplete};
 ghost use Rattle.s66_model.specs.Leaves.{Leaf, MayStand, tail, is_linked, head, links_from, longest, longest_walk, longest_chain, chain, rest_busy, work_of, over, load, parcels, value, after_chain, floor_value};
-ghost use Rattle.s66_model.specs.Tails.{longest_tail, walk_to, tail_remaining, chain_by, HasLate, Covers, walk_next, walk_after, chain_front, spare, HasWords};
+ghost use Rattle.s66_model.specs.Tails.{longest_tail, walk_to, tail_remaining, chain_by, HasLate, HasWritten, walk_next, walk_after, chain_front, spare, HasWords};
 ghost use Rattle.s66_model.specs.Examples.{standard_problem, load_problem, tails_in};
 ghost use Rattle.s66_model.specs.Examples as examples;
 
@@ -20,7 +20,7 @@ pub fn tail_law()
     ensures step { (b : Problem) (n : ℕ) → 1 ≤ n → n ≤ length b.block → longest_tail b n ≡ max (tail (row_at b n)) (greatest (walk_to b n) (numbers b.block)) }
     ensures heads { (b : Problem) (prefix : List ℕ) → IsBeginning b.block prefix → chain b prefix ≡ greatest (λ n. head (points_of b prefix) (row_at b n) + longest_tail b n) (remaining b.block prefix) }
     ensures registers { (b : Problem) (prefix : List ℕ) (xs : List Reg) → IsBeginning b.block prefix → IsIncomplete b.block prefix → HasLate b prefix xs → chain b prefix ≡ max (next (points_of b prefix) + tail_remaining b prefix) (greatest (chain_by b prefix) xs) }
-    ensures late { (b : Problem) (prefix : List ℕ) (xs : List Reg) → Covers b xs → IsBeginning b.block prefix → HasLate b prefix xs }
+    ensures late { (b : Problem) (prefix : List ℕ) (xs : List Reg) → HasWritten b xs → IsBeginning b.block prefix → HasLate b prefix xs }
 {}
 
 /// What the printed chain asks of a number that remains is known before anything is placed: its longest walk, its links, and the
