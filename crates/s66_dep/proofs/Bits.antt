@@ -1,10 +1,10 @@
 -- The numbers in a set, and the bits of its word.
-use Rattle.std.proofs.Common.{ℕ, zero, suc, ◌+◌, ◌-◌, ◌*◌, ◌/◌, ◌%◌, ◌^◌, ◌≤◌, ◌<◌, ◌≡◌, ◌⊎◌, ◌↔◌, Bool, true, false, cond, ◌||◌, ◌==◌, IsTrue, ◌∷◌, length, filter, bit_and, bit_or, count_ones, w64, eqb-true, eq-eqb, ne_eqb, true≢false, refl, sym, ap, subst, ◌∙◌, inl, inr, arith, add-one, div-one, shr-shr, pow-suc}
-use Rattle.std.specs.Int.{bit_at}
+use Rattle.std.proofs.Common.{ℕ, zero, suc, ◌+◌, ◌-◌, ◌*◌, ◌/◌, ◌%◌, ◌^◌, ◌≤◌, ◌<◌, ◌≡◌, ◌⊎◌, ◌↔◌, Bool, true, false, cond, ◌||◌, ◌&&◌, not, ◌==◌, IsTrue, ◌∷◌, length, filter, min, bit_and, bit_or, count_ones, w64, eqb-true, eq-eqb, ne_eqb, true≢false, refl, sym, ap, subst, ◌∙◌, inl, inr, arith, add-one, div-one, shr-shr, pow-suc}
+use Rattle.std.specs.Int.{bit_at, bit_not}
 use Rattle.std.specs.Int.Count.{ones_step}
 use Rattle.std.proofs.lemmas.Bool.{cases_eq, cases_lt, cond_both, or_from, eqb-false}
 use Rattle.std.proofs.lemmas.Nat.{ones_le_self}
-use Rattle.std.proofs.lemmas.Nat.Bits.{shr_and_one, bit_at-lt, bit_at_and, bit_at_above, bit_at_set_same, bit_at_set_other, same_from_bits}
+use Rattle.std.proofs.lemmas.Nat.Bits.{shr_and_one, bit_at-lt, bit_at_and, bit_at_not, bit_at_above, bit_at_set_same, bit_at_set_other, same_from_bits}
 use Rattle.s66_isa.specs.Lists.{has, rising}
 use Rattle.s66_dep.specs.declared.set.Set.{Set}
 use Rattle.s66_dep.specs.Members.{is_member, numbers_in}
@@ -130,3 +130,35 @@ ones-rising bits (suc count) low fits =
 pub count-numbers : (set : Set) → set.bits < 2 ^ 64 → count_ones set.bits ≡ length (numbers_in set)
 unfolding numbers_in
 count-numbers set fits = ap count_ones (sym (div-one set.bits)) ∙ ones-rising set.bits 64 0 (rw (div-one set.bits) fits)
+
+-- WITHOUT ANOTHER, AND IN BOTH
+
+pub without-numbers : (set other : Set) → other.bits < 2 ^ 64 → (m : ℕ) → has m (numbers_in (record { bits = bit_and set.bits (bit_not w64 other.bits) })) ≡ (has m (numbers_in set) && not (has m (numbers_in other)))
+without-numbers set other fits zero =
+    has-outside (record { bits = bit_and set.bits (bit_not w64 other.bits) }) 0 (inl (omega arith)) ∙ sym (rw (has-outside set 0 (inl (omega arith))) refl)
+without-numbers set other fits (suc i) =
+    let all : Set = record { bits = bit_and set.bits (bit_not w64 other.bits) } in
+    elim (cases_lt i 64) [
+      | inl lt ↦
+          has-bit all i lt ∙ tells (bit_at set.bits i) (bit_at other.bits i) (bit_at all.bits i) (bit_at-lt set.bits i) (bit_at-lt other.bits i) (bit_at-lt all.bits i)
+          (bit_at_and set.bits (bit_not w64 other.bits) i ∙ ap (min (bit_at set.bits i)) (bit_at_not w64 other.bits i fits lt)) ∙ sym (rw (has-bit set i lt, has-bit other i lt) refl)
+      | inr ge ↦ has-outside all (suc i) (inr (omega arith)) ∙ sym (rw (has-outside set (suc i) (inr (omega arith))) refl)
+    ]
+  where
+    tells : (x y z : ℕ) → x < 2 → y < 2 → z < 2 → z ≡ min x (1 - y) → (z == 1) ≡ ((x == 1) && not (y == 1))
+    tells x y z h1 h2 h3 e = grind (arith, h1, h2, h3, e)
+
+pub both-numbers : (set other : Set) (m : ℕ) → has m (numbers_in (record { bits = bit_and set.bits other.bits })) ≡ (has m (numbers_in set) && has m (numbers_in other))
+both-numbers set other zero =
+    has-outside (record { bits = bit_and set.bits other.bits }) 0 (inl (omega arith)) ∙ sym (rw (has-outside set 0 (inl (omega arith))) refl)
+both-numbers set other (suc i) =
+    let all : Set = record { bits = bit_and set.bits other.bits } in
+    elim (cases_lt i 64) [
+      | inl lt ↦
+          has-bit all i lt ∙ tells (bit_at set.bits i) (bit_at other.bits i) (bit_at all.bits i) (bit_at-lt set.bits i) (bit_at-lt other.bits i) (bit_at-lt all.bits i) (bit_at_and set.bits other.bits i)
+          ∙ sym (rw (has-bit set i lt, has-bit other i lt) refl)
+      | inr ge ↦ has-outside all (suc i) (inr (omega arith)) ∙ sym (rw (has-outside set (suc i) (inr (omega arith))) refl)
+    ]
+  where
+    tells : (x y z : ℕ) → x < 2 → y < 2 → z < 2 → z ≡ min x y → (z == 1) ≡ ((x == 1) && (y == 1))
+    tells x y z h1 h2 h3 e = grind (arith, h1, h2, h3, e)

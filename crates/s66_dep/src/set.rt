@@ -1,5 +1,5 @@
-ghost use Rattle.std.specs.Prelude.{ℕ, ◌≡◌, ◌≤◌, ◌==◌, ◌||◌, ◌↔◌, IsTrue, true, [], ◌∷◌, IfSome, IfNone, length};
-ghost use Rattle.s66_isa.specs.Lists.{has};
+ghost use Rattle.std.specs.Prelude.{ℕ, ◌≡◌, ◌≤◌, ◌==◌, ◌||◌, ◌&&◌, not, ◌↔◌, IsTrue, true, [], ◌∷◌, IfSome, IfNone, length};
+ghost use Rattle.s66_isa.specs.Lists.{has, rising};
 ghost use Rattle.s66_dep.specs.Members.{numbers_in};
 
 /// A set of instruction numbers of a block, in one word. A word has 64 bits, so the numbers are 1 to 64, and a block's limit is at
@@ -16,6 +16,18 @@ impl Set {
         ensures { numbers_in result ≡ [] }
     {
         Set { bits: 0 }
+    }
+
+    /// The numbers from 1 to a count; the time is linear in the count.
+    pub fn up_to(count: usize) -> Set
+        requires { count ≤ 64 }
+        ensures { numbers_in result ≡ rising count 1 }
+    {
+        let mut set = Set::empty();
+        for position in 0..count {
+            set = set.with((position + 1) as u8);
+        }
+        set
     }
 
     /// The numbers of this set, and n.
@@ -40,6 +52,24 @@ impl Set {
         ensures { IsTrue result ↔ ((m : ℕ) → has m (numbers_in self.now) ≡ true → has m (numbers_in other.now) ≡ true) }
     {
         self.bits & other.bits == self.bits
+    }
+
+    /// The numbers of this set that aren't in the other.
+    pub fn without(&self, other: &Set) -> Set
+        ensures { (m : ℕ) → has m (numbers_in result) ≡ (has m (numbers_in self.now) && not (has m (numbers_in other.now))) }
+    {
+        Set {
+            bits: self.bits & !other.bits,
+        }
+    }
+
+    /// The numbers that are in both sets.
+    pub fn both(&self, other: &Set) -> Set
+        ensures { (m : ℕ) → has m (numbers_in result) ≡ (has m (numbers_in self.now) && has m (numbers_in other.now)) }
+    {
+        Set {
+            bits: self.bits & other.bits,
+        }
     }
 
     /// Takes the lowest number out, where there is one.
