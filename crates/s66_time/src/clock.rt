@@ -38,16 +38,17 @@ impl<'a> Model for Clock<'a> {
 }
 
 impl<'a> Clock<'a> {
-    ghost use Rattle.std.specs.Prelude.{ℕ, ◌≡◌, ◌+◌, ◌-◌, ◌<◌, ◌≤◌, ◌++◌, [], ◌∷◌, true, length, take};
+    ghost use Rattle.std.specs.Prelude.{ℕ, ◌≡◌, ◌+◌, ◌-◌, ◌*◌, ◌<◌, ◌≤◌, ◌++◌, [], ◌∷◌, true, length, take};
     ghost use Rattle.s66_isa.specs.Lists.{weigh, has};
     ghost use Rattle.s66_isa.specs.Table.{copies_of, kind_of, instr_at};
     ghost use Rattle.s66_dep.specs.Members.{numbers_in};
     ghost use Rattle.s66_line.specs.Block.{instrs_of};
-    ghost use Rattle.s66_model.specs.LegalOrder.{is_ready};
+    ghost use Rattle.s66_line.specs.declared.limits.TheConstants.{BLOCK_LIMIT};
+    ghost use Rattle.s66_model.specs.LegalOrder.{is_ready, IsBeginning};
     ghost use Rattle.s66_model.specs.Timing.{next, total, done_of};
     ghost use Rattle.s66_model.specs.Leaves.{rest_busy};
     ghost use Rattle.s66_time.specs.Ticking.{points};
-    ghost use Rattle.s66_time.specs.declared.limits.TheConstants.{LOOK_LIMIT, TOTAL_LIMIT};
+    ghost use Rattle.s66_time.specs.declared.limits.TheConstants.{COPIES_LIMIT, LOOK_LIMIT, TOTAL_LIMIT};
 
     /// Before the first push, in time linear in the block's length.
     pub fn new(block: &'a Block<'a>, profile: &Profile) -> Clock<'a>
@@ -115,7 +116,9 @@ impl<'a> Clock<'a> {
 
     /// The set of the numbers that are pushed.
     pub fn pushed(&self) -> Set
-        ensures { (m : ℕ) → has m (numbers_in result) ≡ has m self.now.numbers }
+        ensures value { (m : ℕ) → has m (numbers_in result) ≡ has m self.now.numbers }
+        ensures begins { IsBeginning (instrs_of self.now.block) self.now.numbers }
+        ensures few { length (instrs_of self.now.block) ≤ BLOCK_LIMIT }
     {
         self.words.progress.pushed
     }
@@ -146,7 +149,8 @@ impl<'a> Clock<'a> {
     /// How many minor cycles the units of a kind work on from `next` until they are free, summed over the units; the time is that
     /// of their number.
     pub fn busy(&self, kind: Kind) -> u32
-        ensures { result ≡ weigh (rest_busy kind (next (points self.now))) (points self.now) }
+        ensures value { result ≡ weigh (rest_busy kind (next (points self.now))) (points self.now) }
+        ensures at_most { result ≤ COPIES_LIMIT * TOTAL_LIMIT }
     {
         self.words
             .units

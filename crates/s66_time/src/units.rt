@@ -61,7 +61,8 @@ impl UnitWords {
     /// How long the units of a kind are still to work after a time, all together.
     pub fn rest(&self, profile: &Profile, kind: Kind, time: u32) -> u32
         requires { greatest (λ (w : ℕ). w) (units_of profile.now kind self.now.words) ≤ TOTAL_LIMIT }
-        ensures { result ≡ weigh (λ w. w - time) (units_of profile.now kind self.now.words) }
+        ensures value { result ≡ weigh (λ w. w - time) (units_of profile.now kind self.now.words) }
+        ensures at_most { result ≤ COPIES_LIMIT * TOTAL_LIMIT }
     {
         let first = first_unit(kind);
         let copies = profile.copies(kind) as usize;

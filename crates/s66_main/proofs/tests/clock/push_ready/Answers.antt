@@ -12,5 +12,5 @@ push-requires c =
     let pushed = c.args.clock.now.numbers in
     let n = c.args.n in
     ap (λ (b : Block). is_ready (instrs_of b) pushed n) (sym c.block.ensures)
-    ∙ (sym (has-ready_same (instrs_of block) (numbers_in c.pushed.result) pushed (numbers_in c.ready.result) n c.ready.ensures c.pushed.ensures)
+    ∙ (sym (has-ready_same (instrs_of block) (numbers_in c.pushed.result) pushed (numbers_in c.ready.result) n c.ready.ensures c.pushed.ensures.value)
     ∙ (sym c.has-is_ready.ensures ∙ c.if-is_ready.true))

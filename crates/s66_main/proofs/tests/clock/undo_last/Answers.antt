@@ -11,4 +11,4 @@ some-there (x ∷ xs) (y ∷ ys) same some = omega arith
 
 pub undo-requires : goal.undo-requires
 undo-requires c =
-    some-there (numbers_in c.pushed.result) c.args.clock.now.numbers c.pushed.ensures (omega (arith, c.count-is_pushed.ensures, c.if-is_pushed.true))
+    some-there (numbers_in c.pushed.result) c.args.clock.now.numbers c.pushed.ensures.value (omega (arith, c.count-is_pushed.ensures, c.if-is_pushed.true))

@@ -15,10 +15,10 @@ rest-requires c =
     let s = points_of b (numbers_of ks) in
     omega (arith, units-small b.profile s c.self.inside.words c.args.kind (clock-words b c.self.inside.words ks c.self.invariant.clock), (clock-turn b c.self.inside.words ks c.self.invariant.clock).early)
 
-pub returns : goal.returns
-returns c =
+pub returns-clause-value : goal.returns-clause-value
+returns-clause-value c =
     let b : Problem = record { block = instrs_of c.self.inside.block.now; profile = c.self.inside.profile } in
     let ks = c.self.inside.steps in
     let s = points_of b (numbers_of ks) in
-    c.rest.ensures ∙ busy-words b.profile s c.self.inside.words c.args.kind (clock-words b c.self.inside.words ks c.self.invariant.clock) (clock-fits b c.args.kind (numbers_of ks))
+    c.rest.ensures.value ∙ busy-words b.profile s c.self.inside.words c.args.kind (clock-words b c.self.inside.words ks c.self.invariant.clock) (clock-fits b c.args.kind (numbers_of ks))
     ∙ ap (λ t. weigh (rest_busy c.args.kind (next (points t))) (points t)) c.self.view_is
