@@ -1,0 +1,11 @@
+pub mod SetWalks
+pub mod EntryTables
+pub mod Heads
+pub mod EntryOfNumber
+pub mod FirstGreatest
+pub mod KindTables
+pub mod WrittenRegisters
+pub mod Walks
+pub mod RemainingSets
+pub mod RemainingSums
+pub mod ValueBounds

@@ -1,0 +1,115 @@
+-- Work, parcels and chains of what remains, by sets of its numbers.
+use Rattle.std.proofs.Common.{ℕ, ◌+◌, ◌-◌, ◌*◌, ◌≤◌, ◌<◌, ◌≡◌, ◌==◌, Bool, cond, List, [], ◌∷◌, length, get_or, refl, sym, subst, ap, arith, inl, inr, div-one, ◌∙◌}
+use Rattle.std.proofs.Math.Nat.{div-le_self}
+use Rattle.std.proofs.lemmas.Bool.{cases_Bool, cond-true, cond-false, cond_both, eqb-true, eqb-false}
+use Rattle.std.specs.List.{filter}
+use Rattle.s66_isa.specs.declared.instr.Kind.{Kind}
+use Rattle.s66_isa.specs.Lists.{greatest, least, weigh, Among}
+use Rattle.s66_isa.specs.Table.{Reg, same_kind}
+use Rattle.s66_isa.proofs.Lists.{greatest-same, greatest-plus, greatest-filter, least-same, weigh-same, weigh-filter}
+use Rattle.s66_model.specs.Timing.{Problem, row_at, points_of, next, done_of, copies}
+use Rattle.s66_model.specs.LegalOrder.{remaining, sum_remaining}
+use Rattle.s66_model.specs.Leaves.{uses, work_of, rest_busy, over, load, parcels}
+use Rattle.s66_model.specs.Tails.{longest_tail, chain_by, spare, HasWords}
+use Rattle.s66_model.proofs.FloorParts.{sum_remaining-weigh, words-remaining, parcels-static}
+use Rattle.s66_model.proofs.PointTimes.{good-at}
+use Rattle.s66_model.proofs.Remaining.{filter-among}
+
+-- a word for each of what remains and passes
+words-those : (b : Problem) (prefix : List ℕ) (f : ℕ → ℕ) (words ns : List ℕ) (test : ℕ → Bool) → HasWords b f words → ns ≡ filter test (remaining b.block prefix) → (n : ℕ) → Among n ns → get_or words (n - 1) 0 ≡ f n
+words-those b prefix f words ns test known is n among =
+    words-remaining b prefix f words known n (filter-among test n (remaining b.block prefix) (subst (λ ms. Among n ms) is among)).0
+
+-- THE WORK OF A KIND
+
+abbrev pub is_kind : Problem → Kind → ℕ → Bool
+is_kind b kind n = same_kind (row_at b n).kind kind
+
+pub work-is : (b : Problem) (prefix words ns : List ℕ) (kind : Kind) → HasWords b (λ n. (row_at b n).hold + 1) words → ns ≡ filter (is_kind b kind) (remaining b.block prefix) →
+    weigh (λ n. get_or words (n - 1) 0) ns ≡ sum_remaining b.block prefix (λ n. work_of kind (row_at b n))
+work-is b prefix words ns kind known is =
+    weigh-same (λ n. get_or words (n - 1) 0) (λ n. (row_at b n).hold + 1) ns (words-those b prefix (λ n. (row_at b n).hold + 1) words ns (is_kind b kind) known is)
+    ∙ (ap (weigh (λ n. (row_at b n).hold + 1)) is
+    ∙ (weigh-filter (is_kind b kind) (λ n. (row_at b n).hold + 1) (remaining b.block prefix)
+    ∙ sym (sum_remaining-weigh b prefix (λ n. work_of kind (row_at b n)))))
+
+-- the load by the work that remains and that is busy
+pub load-is : (b : Problem) (prefix : List ℕ) (kind : Kind) (sum busy count slot : ℕ) → sum ≡ sum_remaining b.block prefix (λ n. work_of kind (row_at b n)) →
+    busy ≡ weigh (rest_busy kind (next (points_of b prefix))) (points_of b prefix) → count ≡ copies b kind → slot ≡ next (points_of b prefix) → over (sum + busy) count + slot ≡ load b prefix kind
+load-is b prefix kind sum busy count slot e1 e2 e3 e4 = rw (e1, e2, e3, e4) refl
+
+pub over-small : (x c : ℕ) → over x c ≤ x + (c - 1)
+over-small x c = div-le_self (x + (c - 1)) c
+
+pub over-one : (x : ℕ) → over x 1 ≡ x
+over-one x = div-one (x + (1 - 1)) ∙ (let e : x + (1 - 1) ≡ x = omega arith in e)
+
+weigh-most : (f : ℕ → ℕ) (most : ℕ) (ns : List ℕ) → ((n : ℕ) → Among n ns → f n ≤ most) → weigh f ns ≤ most * length ns
+weigh-most f most [] h = omega arith
+weigh-most f most (n ∷ ns) h = omega (arith, h n (inl refl), weigh-most f most ns (λ m among. h m (inr among)))
+
+pub work-small : (b : Problem) (prefix words ns : List ℕ) (test : ℕ → Bool) → HasWords b (λ n. (row_at b n).hold + 1) words → ns ≡ filter test (remaining b.block prefix) → length ns ≤ 64 →
+    weigh (λ n. get_or words (n - 1) 0) ns ≤ 6464
+work-small b prefix words ns test known is few =
+    omega (arith, weigh-most (λ n. get_or words (n - 1) 0) 101 ns (λ n among. omega (arith, words-those b prefix (λ n. (row_at b n).hold + 1) words ns test known is n among, (good-at b n).hold.1)), few)
+
+-- PARCELS
+
+abbrev pub is_long : Problem → ℕ → Bool
+is_long b n = (row_at b n).parcels == 2
+
+length-filter : (test : ℕ → Bool) (n : ℕ) (ns : List ℕ) → length (filter test (n ∷ ns)) ≡ cond (test n) 1 0 + length (filter test ns)
+length-filter test n ns =
+    cond_both (test n) (n ∷ filter test ns) (filter test ns) (λ ms. length ms ≡ cond (test n) 1 0 + length (filter test ns))
+    (λ is. omega (arith, cond-true {A = ℕ} (test n) 1 0 is))
+    (λ off. omega (arith, cond-false {A = ℕ} (test n) 1 0 off))
+
+-- one for each number, and one more for each long one
+parcels-sum : (b : Problem) (ns : List ℕ) → weigh (λ n. (row_at b n).parcels) ns ≡ length ns + length (filter (is_long b) ns)
+parcels-sum b [] = refl
+parcels-sum b (n ∷ ns) =
+    let own : (row_at b n).parcels ≡ 1 + cond (is_long b n) 1 0 =
+    elim (cases_Bool (is_long b n)) [
+      | inl is ↦ omega (arith, eqb-true (row_at b n).parcels 2 is, cond-true {A = ℕ} (is_long b n) 1 0 is)
+      | inr off ↦ grind (arith, eqb-false (row_at b n).parcels 2 off, cond-false {A = ℕ} (is_long b n) 1 0 off, (good-at b n).parcels.0, (good-at b n).parcels.1)
+    ]
+    in
+    omega (arith, own, parcels-sum b ns, length-filter (is_long b) n ns)
+
+pub parcels-are : (b : Problem) (prefix spares rest long : List ℕ) → rest ≡ remaining b.block prefix → long ≡ filter (is_long b) (remaining b.block prefix) → 0 < length rest → HasWords b (spare b) spares →
+    next (points_of b prefix) + (length rest + length long) + least (λ n. get_or spares (n - 1) 0) rest ≡ parcels b prefix
+parcels-are b prefix spares rest long is_rest is_long some known =
+    omega (
+      arith,
+      parcels-static b prefix (subst (λ ns. 0 < length ns) is_rest some),
+      sum_remaining-weigh b prefix (λ n. (row_at b n).parcels),
+      parcels-sum b (remaining b.block prefix),
+      ap length is_rest,
+      ap length is_long,
+      ap (least (λ n. get_or spares (n - 1) 0)) is_rest,
+      least-same (λ n. get_or spares (n - 1) 0) (spare b) (remaining b.block prefix) (words-remaining b prefix (spare b) spares known),
+    )
+
+-- THE CHAINS FROM A REGISTER
+
+abbrev pub is_user : Problem → Reg → ℕ → Bool
+is_user b x n = uses (row_at b n) x
+
+by-is : (b : Problem) (prefix users : List ℕ) (x : Reg) → users ≡ filter (is_user b x) (remaining b.block prefix) → chain_by b prefix x ≡ greatest (λ n. done_of (points_of b prefix) x + longest_tail b n) users
+by-is b prefix users x is =
+    sym (greatest-filter (is_user b x) (λ n. done_of (points_of b prefix) x + longest_tail b n) (remaining b.block prefix))
+    ∙ ap (greatest (λ n. done_of (points_of b prefix) x + longest_tail b n)) (sym is)
+
+pub by-none : (b : Problem) (prefix users : List ℕ) (x : Reg) → users ≡ filter (is_user b x) (remaining b.block prefix) → length users ≡ 0 → chain_by b prefix x ≡ 0
+by-none b prefix users x is none = by-is b prefix users x is ∙ empty users none
+  where
+    empty : (ns : List ℕ) → length ns ≡ 0 → greatest (λ n. done_of (points_of b prefix) x + longest_tail b n) ns ≡ 0
+    empty [] e = refl
+    empty (n ∷ ns) e = absurd (omega (arith, e))
+
+pub by-some : (b : Problem) (prefix words users : List ℕ) (x : Reg) → HasWords b (longest_tail b) words → users ≡ filter (is_user b x) (remaining b.block prefix) → 0 < length users →
+    chain_by b prefix x ≡ done_of (points_of b prefix) x + greatest (λ n. get_or words (n - 1) 0) users
+by-some b prefix words users x known is some =
+    by-is b prefix users x is
+    ∙ (greatest-plus (done_of (points_of b prefix) x) (longest_tail b) users some
+    ∙ ap (λ k. done_of (points_of b prefix) x + k) (sym (greatest-same (λ n. get_or words (n - 1) 0) (longest_tail b) users (words-those b prefix (longest_tail b) words users (is_user b x) known is))))

@@ -1,0 +1,13 @@
+use Rattle.std.proofs.Common.{ℕ, List, ◌≤◌, ◌<◌, ◌++◌, length, sym, subst, arith}
+use Rattle.s66_model.specs.Timing.{Problem, total_of}
+use Rattle.s66_model.specs.LegalOrder.{IsLegal}
+use Rattle.s66_time.specs.Ticking.{problem_of}
+use Rattle.s66_bound.proofs.ValueBounds.{chain-bound}
+use Rattle.s66_bound.proofs.bounds.Bounds.chain_value.Goals as goal
+
+pub returns-clause-bound : goal.returns-clause-bound
+returns-clause-bound c =
+    let t = c.args.clock.now in
+    subst (λ (b : Problem). length t.numbers < length b.block → (rest : List ℕ) → IsLegal b.block (t.numbers ++ rest) → c.chain_of.result ≤ total_of b (t.numbers ++ rest)) (sym c.requires.same)
+    (λ short rest legal. omega (arith, c.chain_of.ensures, chain-bound (problem_of t) t.numbers rest short legal))
+    c.requires.some

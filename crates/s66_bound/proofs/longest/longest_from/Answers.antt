@@ -1,0 +1,27 @@
+use Rattle.std.proofs.Common.{◌+◌, max, ap, sym, arith, ◌∙◌}
+use Rattle.s66_isa.specs.Lists.{greatest, rising}
+use Rattle.s66_model.specs.Timing.{row_at}
+use Rattle.s66_model.specs.Leaves.{tail}
+use Rattle.s66_model.specs.Tails.{walk_to}
+use Rattle.s66_model.proofs.TailTable.{table-step}
+use Rattle.s66_bound.specs.declared.entry.Entry.{Entry}
+use Rattle.s66_bound.proofs.EntryTables.{entry-at}
+use Rattle.s66_bound.proofs.Walks.{walks-back, greatest-next}
+use Rattle.s66_bound.proofs.longest.longest_from.Goals as goal
+
+pub loop-later-init : goal.loop-later-init
+loop-later-init c = λ b are known.
+    let n = c.args.place + 1 in
+    let first = entry-at b c.args.entries.now c.args.place c.index-entries-place.result are c.requires.place c.index-entries-place.is in
+    omega (arith, ap (λ (e : Entry). e.tail) c.index-entries-place.is, first.tail, walks-back b n n (omega arith))
+
+pub loop-later-preserved : goal.loop-later-preserved
+loop-later-preserved c = λ b are known.
+    omega (arith, c.max-last.ensures, c.walk_to.ensures b are known, c.loop-later.invariant b are known, greatest-next (walk_to b (c.args.place + 1)) c.loop-later.later)
+
+pub returns : goal.returns
+returns c = λ b are known.
+    let n = c.args.place + 1 in
+    c.loop-later.invariant b are known
+    ∙ (ap (λ k. max (tail (row_at b n)) (greatest (walk_to b n) (rising k 1))) (omega (arith, c.loop-later-test.false, c.loop-later.auto.later-end, are.count))
+    ∙ sym (table-step b n (omega arith) (omega (arith, are.count, c.requires.place))))

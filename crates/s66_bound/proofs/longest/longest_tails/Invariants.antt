@@ -1,0 +1,15 @@
+use Rattle.std.proofs.Common.{ℕ, ◌≡◌, ◌-◌, ◌<◌, ◌≤◌, length, get_or}
+use Rattle.s66_model.specs.Timing.{Problem}
+use Rattle.s66_model.specs.Tails.{longest_tail}
+use Rattle.s66_bound.specs.Entries.{AreEntries}
+use Rattle.s66_bound.proofs.longest.longest_tails.Given as goal
+
+abbrev pub decreases-loop-place : goal.decreases-loop-place
+decreases-loop-place l = l.place
+
+abbrev pub invariant-loop-place : goal.invariant-loop-place
+invariant-loop-place l = record {
+  size : length l.longest ≡ 64;
+  within : l.place ≤ length l.entries;
+  known : (b : Problem) → AreEntries b l.entries → (n : ℕ) → l.place < n → n ≤ length b.block → get_or l.longest (n - 1) 0 ≡ longest_tail b n;
+}

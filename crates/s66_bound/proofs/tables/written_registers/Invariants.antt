@@ -1,0 +1,9 @@
+use Rattle.std.proofs.Common.{◌≤◌, length}
+use Rattle.s66_bound.proofs.WrittenRegisters.{AreListed}
+use Rattle.s66_bound.proofs.tables.written_registers.Given as goal
+
+abbrev pub invariant-loop-index : goal.invariant-loop-index
+invariant-loop-index l = record {
+  few : length l.written.items ≤ l.index;
+  listed : AreListed l.entries l.index l.written.items;
+}

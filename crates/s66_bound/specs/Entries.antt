@@ -1,0 +1,22 @@
+-- Used by contracts within the crate alone: what is kept of an instruction to find links, tails and work.
+use Rattle.std.specs.Prelude.{ℕ, ◌+◌, ◌<◌, ◌≡◌, List, length, get_or}
+use Rattle.s66_isa.specs.Table.{Reg, Row, has_reg}
+use Rattle.s66_isa.specs.Registers.{registers_in}
+use Rattle.s66_model.specs.Timing.{Problem, row_at}
+use Rattle.s66_model.specs.Leaves.{uses, tail}
+use Rattle.s66_bound.specs.declared.entry.Entry.{Entry}
+
+pub record IsEntry (r : Row) (e : Entry) : Type 0 where
+  pub kind : e.kind ≡ r.kind
+  pub parcels : e.parcels ≡ r.parcels
+  pub writes : e.writes.items ≡ r.writes
+  -- the registers that it reads or writes
+  pub used : (x : Reg) → has_reg x (registers_in e.used) ≡ uses r x
+  pub memory : e.memory ≡ r.memory
+  pub work : e.work ≡ r.hold + 1
+  pub tail : e.tail ≡ tail r
+
+-- those of a block, in order
+pub record AreEntries (b : Problem) (entries : List Entry) : Type 0 where
+  pub count : length entries ≡ length b.block
+  pub each : (i : ℕ) (d : Entry) → i < length entries → IsEntry (row_at b (i + 1)) (get_or entries i d)

@@ -1,0 +1,3 @@
+pub mod LeafValues
+pub mod Entries
+pub mod TableWords

@@ -1,0 +1,55 @@
+-- Used by contracts within the crate alone: what the tables of a block hold.
+use Rattle.std.specs.Prelude.{ℕ, ◌+◌, ◌-◌, ◌≡◌, ◌≤◌, ◌<◌, ◌==◌, Bool, List, length, get_or}
+use Rattle.std.specs.List.{filter}
+use Rattle.s66_isa.specs.declared.profile.Profile.{Profile}
+use Rattle.s66_isa.specs.declared.instr.Kind.{Kind}
+use Rattle.s66_isa.specs.Table.{Reg, kind_number, same_kind, numbers}
+use Rattle.s66_isa.specs.Registers.{index_of}
+use Rattle.s66_line.specs.declared.limits.TheConstants.{BLOCK_LIMIT}
+use Rattle.s66_line.specs.Source.{Block}
+use Rattle.s66_line.specs.Block.{instrs_of}
+use Rattle.s66_model.specs.Timing.{Problem, row_at}
+use Rattle.s66_model.specs.LegalOrder.{remaining, IsBeginning}
+use Rattle.s66_model.specs.Leaves.{uses}
+use Rattle.s66_model.specs.Tails.{longest_tail, spare, HasWritten, HasWords}
+use Rattle.s66_dep.specs.declared.set.Set.{Set}
+use Rattle.s66_dep.specs.Members.{numbers_in}
+use Rattle.s66_time.specs.Ticking.{Ticking}
+use Rattle.s66_bound.specs.declared.tables.Tables.{Tables}
+
+abbrev pub timed_by : Block → Profile → Problem
+timed_by block profile = record { block = instrs_of block; profile = profile }
+
+-- the words of the numbers behind a place are their longest tails
+abbrev pub HasLater : Problem → ℕ → List ℕ → Type 0
+HasLater b place words = (n : ℕ) → place + 1 < n → n ≤ length b.block → get_or words (n - 1) 0 ≡ longest_tail b n
+
+-- the numbers of the block that pass
+abbrev pub AreThose : Problem → (ℕ → Bool) → Set → Type 0
+AreThose b test set = numbers_in set ≡ filter test (numbers b.block)
+
+abbrev pub no_set : Set
+no_set = record { bits = 0 }
+
+abbrev pub HasKinds : Problem → List Set → Type 0
+HasKinds b sets = (kind : Kind) → AreThose b (λ n. same_kind (row_at b n).kind kind) (get_or sets (kind_number kind) no_set)
+
+abbrev pub HasUsers : Problem → List Set → Type 0
+HasUsers b sets = (x : Reg) → x.digit ≤ 7 → AreThose b (λ n. uses (row_at b n) x) (get_or sets (index_of x) no_set)
+
+-- the tables of a block under a profile
+pub record IsTables (b : Problem) (t : Tables) : Type 0 where
+  pub all : numbers_in t.all ≡ numbers b.block
+  pub long : AreThose b (λ n. (row_at b n).parcels == 2) t.long
+  pub longest : HasWords b (longest_tail b) t.longest
+  pub spare : HasWords b (spare b) t.spare
+  pub work : HasWords b (λ n. (row_at b n).hold + 1) t.work
+  pub kinds : HasKinds b t.kinds
+  pub users : HasUsers b t.users
+  pub written : HasWritten b t.written.items
+
+-- the set holds what a clock hasn't pushed of its block
+pub record AreRemaining (t : Ticking) (rest : Set) : Type 0 where
+  pub numbers : numbers_in rest ≡ remaining (instrs_of t.block) t.numbers
+  pub begins : IsBeginning (instrs_of t.block) t.numbers
+  pub few : length (instrs_of t.block) ≤ BLOCK_LIMIT

@@ -1,0 +1,152 @@
+use crate::entry::{Entry, entries_of};
+use crate::floors::{floor_of, floor_until_of};
+use crate::leaf::{ChainLeaf, Leaf};
+use crate::printed::chain_numbers;
+use crate::tables::Tables;
+use crate::values::{chain_of, floor_value_of, load_of, parcels_of, remaining_numbers};
+use arrayvec::ArrayVec;
+use s66_isa::{Kind, Profile};
+use s66_line::{BLOCK_LIMIT, Block};
+use s66_time::Clock;
+use std::marker::Model;
+
+/// What the lower bounds of all beginnings of a block have in common, worked out once.
+#[derive(Debug, Drop)]
+pub struct Bounds<'a> {
+    block: &'a Block<'a>,
+    profile: Profile,
+    entries: ArrayVec<Entry, BLOCK_LIMIT>,
+    tables: Tables,
+}
+
+impl<'a> Model for Bounds<'a> {
+    ghost use Rattle.s66_model.specs.Timing.{Problem};
+    ghost use Rattle.s66_bound.specs.Entries.{AreEntries};
+    ghost use Rattle.s66_bound.specs.TableWords.{timed_by, IsTables};
+
+    ghost Value = { Problem };
+
+    ghost view = { λ b. timed_by b.block.now b.profile };
+
+    ghost invariant = { λ b. AreEntries (timed_by b.block.now b.profile) b.entries.items × IsTables (timed_by b.block.now b.profile) b.tables };
+}
+
+impl<'a> Bounds<'a> {
+    ghost use Rattle.std.specs.Prelude.{ℕ, List, ◌≡◌, ◌<◌, ◌≤◌, ◌↔◌, ◌++◌, length};
+    ghost use Rattle.s66_line.specs.Block.{instrs_of};
+    ghost use Rattle.s66_model.specs.Timing.{total_of};
+    ghost use Rattle.s66_model.specs.LegalOrder.{IsLegal};
+    ghost use Rattle.s66_model.specs.Leaves.{chain, longest_chain, load, parcels, floor, floor_value};
+    ghost use Rattle.s66_time.specs.Ticking.{problem_of};
+    ghost use Rattle.s66_bound.specs.LeafValues.{leaf_of, value_of};
+
+    /// Of a block under a profile, in time quadratic in the block's length.
+    pub fn of(block: &'a Block<'a>, profile: &Profile) -> Bounds<'a>
+        ensures { result ≡ record { block = instrs_of block.now; profile = profile.now } }
+    {
+        let entries = entries_of(block, profile);
+        let tables = Tables::of(entries.as_slice());
+        Bounds {
+            block,
+            profile: *profile,
+            entries,
+            tables,
+        }
+    }
+
+    /// The greatest value of a chain, in minor cycles.
+    pub fn chain_value(&self, clock: &Clock<'_>) -> u32
+        requires same { self.now ≡ problem_of clock.now }
+        requires some { length clock.now.numbers < length self.now.block }
+        ensures value { result ≡ chain self.now clock.now.numbers }
+        ensures bound { (rest : List ℕ) → IsLegal self.now.block (clock.now.numbers ++ rest) → result ≤ total_of self.now (clock.now.numbers ++ rest) }
+    {
+        chain_of(&self.tables, clock, &remaining_numbers(&self.tables, clock))
+    }
+
+    /// The load of a kind of unit, in minor cycles: what remains for its copies and what they still work on, after the next slot.
+    pub fn load(&self, clock: &Clock<'_>, kind: Kind) -> u32
+        requires same { self.now ≡ problem_of clock.now }
+        ensures value { result ≡ load self.now clock.now.numbers kind }
+        ensures bound { length clock.now.numbers < length self.now.block → (rest : List ℕ) → IsLegal self.now.block (clock.now.numbers ++ rest) → result ≤ total_of self.now (clock.now.numbers ++ rest) }
+    {
+        load_of(
+            &self.tables,
+            clock,
+            &remaining_numbers(&self.tables, clock),
+            kind,
+        )
+    }
+
+    /// The parcels that remain, and the least tail behind them, after the next slot: in minor cycles.
+    pub fn parcels(&self, clock: &Clock<'_>) -> u32
+        requires same { self.now ≡ problem_of clock.now }
+        requires some { length clock.now.numbers < length self.now.block }
+        ensures value { result ≡ parcels self.now clock.now.numbers }
+        ensures bound { (rest : List ℕ) → IsLegal self.now.block (clock.now.numbers ++ rest) → result ≤ total_of self.now (clock.now.numbers ++ rest) }
+    {
+        parcels_of(&self.tables, clock, &remaining_numbers(&self.tables, clock))
+    }
+
+    /// The greatest of all these bounds, in minor cycles; the total where nothing remains.
+    pub fn floor_value(&self, clock: &Clock<'_>) -> u32
+        requires same { self.now ≡ problem_of clock.now }
+        ensures value { result ≡ floor_value self.now clock.now.numbers }
+        ensures bound { (rest : List ℕ) → IsLegal self.now.block (clock.now.numbers ++ rest) → result ≤ total_of self.now (clock.now.numbers ++ rest) }
+    {
+        let rest = remaining_numbers(&self.tables, clock);
+        if rest.count() == 0 {
+            return clock.total();
+        }
+        floor_value_of(&self.tables, clock, &rest)
+    }
+
+    /// The greatest chain, and of equal ones the first in a dictionary.
+    pub fn chain(&self, clock: &Clock<'_>) -> ChainLeaf
+        requires same { self.now ≡ problem_of clock.now }
+        requires some { length clock.now.numbers < length self.now.block }
+        ensures numbers { result.numbers.items ≡ longest_chain self.now clock.now.numbers }
+        ensures value { result.value ≡ chain self.now clock.now.numbers }
+        ensures bound { (rest : List ℕ) → IsLegal self.now.block (clock.now.numbers ++ rest) → result.value ≤ total_of self.now (clock.now.numbers ++ rest) }
+    {
+        let rest = remaining_numbers(&self.tables, clock);
+        let value = chain_of(&self.tables, clock, &rest);
+        let entries = self.entries.as_slice();
+        ChainLeaf {
+            numbers: chain_numbers(entries, &self.tables, clock, &rest, value),
+            value,
+        }
+    }
+
+    /// The floor's value, or where that is at least the time some number from the time to it, in minor cycles: it stops as soon as
+    /// one bound meets the time.
+    pub fn floor_until(&self, clock: &Clock<'_>, time: u32) -> u32
+        requires same { self.now ≡ problem_of clock.now }
+        ensures met { time ≤ result ↔ time ≤ floor_value self.now clock.now.numbers }
+        ensures below { result < time → result ≡ floor_value self.now clock.now.numbers }
+        ensures at_most { result ≤ floor_value self.now clock.now.numbers }
+        ensures bound { (rest : List ℕ) → IsLegal self.now.block (clock.now.numbers ++ rest) → result ≤ total_of self.now (clock.now.numbers ++ rest) }
+    {
+        let rest = remaining_numbers(&self.tables, clock);
+        if rest.count() == 0 {
+            return clock.total();
+        }
+        floor_until_of(&self.tables, clock, &rest, time)
+    }
+
+    /// The greatest of all bounds, of equal ones the first; the total where nothing remains.
+    pub fn floor(&self, clock: &Clock<'_>) -> Leaf
+        requires same { self.now ≡ problem_of clock.now }
+        ensures leaf { leaf_of result ≡ floor self.now clock.now.numbers }
+        ensures value { value_of result ≡ floor_value self.now clock.now.numbers }
+        ensures bound { (rest : List ℕ) → IsLegal self.now.block (clock.now.numbers ++ rest) → value_of result ≤ total_of self.now (clock.now.numbers ++ rest) }
+    {
+        let rest = remaining_numbers(&self.tables, clock);
+        if rest.count() == 0 {
+            return Leaf::Whole {
+                value: clock.total(),
+            };
+        }
+        floor_of(self.entries.as_slice(), &self.tables, clock, &rest)
+    }
+}

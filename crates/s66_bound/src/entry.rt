@@ -1,0 +1,109 @@
+ghost use Rattle.std.specs.Prelude.{ℕ, ◌≡◌, ◌≤◌, if◌then◌else◌};
+ghost use Rattle.s66_isa.specs.Lists.{greatest};
+ghost use Rattle.s66_isa.specs.Table.{Row, Write as WriteOf, Reg as RegOf, row, has_reg};
+ghost use Rattle.s66_isa.specs.Registers.{registers_in};
+ghost use Rattle.s66_line.specs.Block.{instrs_of};
+ghost use Rattle.s66_model.specs.Leaves.{uses, link, tail};
+ghost use Rattle.s66_bound.specs.Entries.{IsEntry, AreEntries};
+ghost use Rattle.s66_bound.specs.TableWords.{timed_by};
+
+use arrayvec::ArrayVec;
+use s66_isa::{Instr, Kind, Memory, Profile, Reg, Registers, Write, is_memory_conflict, writes_of};
+use s66_line::{BLOCK_LIMIT, Block};
+
+/// What the bounds know of an instruction under a profile, worked out once. Times are in minor cycles.
+#[derive(Debug, Drop)]
+pub struct Entry {
+    pub kind: Kind,
+    pub parcels: u32,
+    pub writes: ArrayVec<Write, 2>,
+    /// The registers that it reads or writes.
+    pub used: Registers,
+    pub memory: Memory,
+    /// For how long it takes its unit: its hold and one.
+    pub work: u32,
+    /// What it takes at least from its start to its last free or done.
+    pub tail: u32,
+}
+
+impl Default for Entry {
+    fn default() -> Entry {
+        entry_of(&Instr::default(), &Profile::standard())
+    }
+}
+
+/// The registers that are read, and those that are written.
+fn used_registers(reads: &[Reg], writes: &[Write]) -> Registers
+    ensures { (r : Row) → r.reads ≡ reads.now → r.writes ≡ writes.now → (x : RegOf) → has_reg x (registers_in result) ≡ uses r x }
+{
+    let mut used = Registers::of(reads);
+    for write in writes {
+        used = used.with(write.reg);
+    }
+    used
+}
+
+/// The greatest latency of these results.
+fn greatest_latency(writes: &[Write]) -> u32
+    ensures { result ≡ greatest (λ (w : WriteOf). w.latency) writes.now }
+{
+    let mut last = 0u32;
+    for write in writes {
+        last = last.max(write.latency);
+    }
+    last
+}
+
+/// The entry of an instruction.
+pub fn entry_of(instr: &Instr, profile: &Profile) -> Entry
+    ensures { IsEntry (row profile.now instr.now) result }
+{
+    let writes = writes_of(instr, profile);
+    let work = instr.hold(profile) + 1;
+    let latency = greatest_latency(writes.as_slice());
+    Entry {
+        kind: instr.kind(),
+        parcels: instr.parcels(),
+        used: used_registers(instr.reads().as_slice(), writes.as_slice()),
+        writes,
+        memory: instr.memory(),
+        work,
+        tail: work.max(latency),
+    }
+}
+
+/// The entries of a block's instructions.
+pub fn entries_of(block: &Block<'_>, profile: &Profile) -> ArrayVec<Entry, BLOCK_LIMIT>
+    ensures { AreEntries (timed_by block.now profile.now) result.items }
+{
+    let mut entries = ArrayVec::new();
+    for position in 0..block.count() {
+        entries.push(entry_of(&block.instr(position + 1), profile));
+    }
+    entries
+}
+
+/// The greatest latency of the results that are among these registers.
+fn greatest_shared(writes: &[Write], used: &Registers) -> u32
+    ensures { result ≡ greatest (λ (w : WriteOf). if has_reg w.reg (registers_in used.now) then w.latency else 0) writes.now }
+{
+    let mut last = 0u32;
+    for write in writes {
+        if used.has(write.reg) {
+            last = last.max(write.latency);
+        }
+    }
+    last
+}
+
+/// How long a later instruction waits at least from the start of this one, 0 where they have no link.
+pub fn link(from: &Entry, to: &Entry) -> u32
+    ensures { (r s : Row) → IsEntry r from.now → IsEntry s to.now → result ≡ link r s }
+{
+    let shared = greatest_shared(from.writes.as_slice(), &to.used);
+    if is_memory_conflict(from.memory, to.memory) {
+        shared.max(1)
+    } else {
+        shared
+    }
+}

@@ -1,0 +1,50 @@
+use arrayvec::ArrayVec;
+use s66_isa::Kind;
+use s66_line::BLOCK_LIMIT;
+
+/// A lower bound of the total of every legal order that begins with a prefix. Values are in minor cycles.
+#[derive(Debug, Drop)]
+pub enum Leaf {
+    /// The prefix is a whole order: its total.
+    Whole {
+        value: u32,
+    },
+    /// Instructions that wait for one another, by rising number.
+    Chain {
+        numbers: ArrayVec<u8, BLOCK_LIMIT>,
+        value: u32,
+    },
+    /// The work that remains for a kind of unit.
+    Load {
+        kind: Kind,
+        value: u32,
+    },
+    /// The parcels that remain.
+    Parcels {
+        value: u32,
+    },
+}
+
+impl Leaf {
+    ghost use Rattle.std.specs.Prelude.{◌≡◌};
+    ghost use Rattle.s66_bound.specs.LeafValues.{value_of};
+
+    /// The bound, in minor cycles.
+    pub fn value(&self) -> u32
+        ensures { result ≡ value_of self.now }
+    {
+        match self {
+            Leaf::Whole { value }
+            | Leaf::Chain { value, .. }
+            | Leaf::Load { value, .. }
+            | Leaf::Parcels { value } => *value,
+        }
+    }
+}
+
+/// A greatest chain: instructions that wait for one another, by rising number, and its value in minor cycles.
+#[derive(Debug, Drop)]
+pub struct ChainLeaf {
+    pub numbers: ArrayVec<u8, BLOCK_LIMIT>,
+    pub value: u32,
+}

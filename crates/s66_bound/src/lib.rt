@@ -1,0 +1,17 @@
+//! Lower bounds of all orders that begin with what a clock has placed.
+#![tactic(auto)]
+
+mod bounds;
+mod entry;
+mod floors;
+mod leaf;
+mod longest;
+mod numbers;
+mod once;
+mod printed;
+mod tables;
+mod values;
+
+pub use bounds::Bounds;
+pub use leaf::{ChainLeaf, Leaf};
+pub use once::{chain, floor, load, parcels};

@@ -1,0 +1,112 @@
+//! The chain that is printed: of the greatest ones the first in a dictionary.
+
+ghost use Rattle.std.specs.Prelude.{ℕ, List, ◌≡◌, ◌≤◌, ◌<◌, ◌+◌, ◌&&◌, ◌==◌, ◌∷◌, not, true, length};
+ghost use Rattle.s66_isa.specs.Lists.{Among};
+ghost use Rattle.s66_line.specs.declared.limits.TheConstants.{BLOCK_LIMIT};
+ghost use Rattle.s66_line.specs.Block.{instrs_of};
+ghost use Rattle.s66_model.specs.Timing.{Problem, row_at};
+ghost use Rattle.s66_model.specs.LegalOrder.{IsBeginning, is_remaining, remaining};
+ghost use Rattle.s66_model.specs.Leaves.{tail, link, is_linked, head, chain, longest_chain};
+ghost use Rattle.s66_model.specs.Tails.{longest_tail, chain_front, walk_after};
+ghost use Rattle.s66_dep.specs.Members.{numbers_in};
+ghost use Rattle.s66_time.specs.Ticking.{problem_of, points};
+ghost use Rattle.s66_bound.specs.Entries.{AreEntries};
+ghost use Rattle.s66_bound.specs.TableWords.{AreRemaining, IsTables};
+
+use crate::entry::{Entry, link};
+use crate::tables::Tables;
+use arrayvec::ArrayVec;
+use s66_dep::Set;
+use s66_line::BLOCK_LIMIT;
+use s66_time::Clock;
+
+/// When an instruction can start at the soonest: in the next slot, or when the last register is done that it reads or writes.
+fn head_of(tables: &Tables, clock: &Clock<'_>, number: u8) -> u32
+    requires tables { IsTables (problem_of clock.now) tables.now }
+    requires begins { IsBeginning (instrs_of clock.now.block) clock.now.numbers }
+    requires number { (1 ≤ number) × (number ≤ length (instrs_of clock.now.block)) }
+    ensures { result ≡ head (points clock.now) (row_at (problem_of clock.now) number) }
+{
+    let mut head = clock.next();
+    for register in tables.written.as_slice() {
+        if tables.users[register.index() as usize].has(number) {
+            head = head.max(clock.done_of(*register));
+        }
+    }
+    head
+}
+
+/// The lowest number that heads a greatest chain.
+fn first_of_chain(tables: &Tables, clock: &Clock<'_>, rest: &Set, value: u32) -> u8
+    requires tables { IsTables (problem_of clock.now) tables.now }
+    requires rest { AreRemaining clock.now rest.now }
+    requires some { length clock.now.numbers < length (instrs_of clock.now.block) }
+    requires value { value ≡ chain (problem_of clock.now) clock.now.numbers }
+    ensures { result ≡ chain_front (problem_of clock.now) clock.now.numbers }
+{
+    let mut numbers = *rest;
+    while let Some(number) = numbers.pop_first() {
+        if head_of(tables, clock, number) + tables.longest[number as usize - 1] == value {
+            return number;
+        }
+    }
+    0
+}
+
+/// Whether the longest walk from one number goes on with another: the tail of the one is shorter than the walk, and the other, to
+/// which it has a link, keeps the walk as long.
+fn goes_on(entries: &[Entry], tables: &Tables, number: u8, other: u8) -> bool
+    requires numbers { (1 ≤ number) × (number ≤ length entries.now) × (1 ≤ other) × (other ≤ length entries.now) }
+    requires few { length entries.now ≤ BLOCK_LIMIT }
+    requires known { (b : Problem) × AreEntries b entries.now × IsTables b tables.now }
+    ensures { (b : Problem) → AreEntries b entries.now → IsTables b tables.now → result ≡ (not (tail (row_at b number) == longest_tail b number) && (is_linked b number other && link (row_at b number) (row_at b other) + longest_tail b other == longest_tail b number)) }
+{
+    let from = &entries[number as usize - 1];
+    let longest = tables.longest[number as usize - 1];
+    if from.tail == longest || other <= number {
+        return false;
+    }
+    let link = link(from, &entries[other as usize - 1]);
+    0 < link && link + tables.longest[other as usize - 1] == longest
+}
+
+/// A number, and those after it on its longest walk: each time the lowest with which the walk goes on. Links lead to later
+/// numbers, so one pass over what remains meets them all.
+fn walk_from(entries: &[Entry], tables: &Tables, rest: &Set, first: u8) -> ArrayVec<u8, BLOCK_LIMIT>
+    requires few { length entries.now ≤ BLOCK_LIMIT }
+    requires rest { (n : ℕ) → Among n (numbers_in rest.now) → (1 ≤ n) × (n ≤ length entries.now) }
+    requires first { (1 ≤ first) × (first ≤ length entries.now) }
+    requires known { (b : Problem) × AreEntries b entries.now × IsTables b tables.now }
+    ensures { (b : Problem) (prefix : List ℕ) → AreEntries b entries.now → IsTables b tables.now → IsBeginning b.block prefix → numbers_in rest.now ≡ remaining b.block prefix → is_remaining b.block prefix first ≡ true → result.items ≡ first ∷ walk_after b (length b.block) first }
+{
+    let mut numbers = ArrayVec::new();
+    numbers.push(first);
+    let mut last = first;
+    let mut others = *rest;
+    while let Some(number) = others.pop_first() {
+        if goes_on(entries, tables, last, number) {
+            numbers.push(number);
+            last = number;
+        }
+    }
+    numbers
+}
+
+/// The numbers of the greatest chain, whose value this is: of equal ones the first in a dictionary.
+pub fn chain_numbers(
+    entries: &[Entry],
+    tables: &Tables,
+    clock: &Clock<'_>,
+    rest: &Set,
+    value: u32,
+) -> ArrayVec<u8, BLOCK_LIMIT>
+    requires entries { AreEntries (problem_of clock.now) entries.now }
+    requires tables { IsTables (problem_of clock.now) tables.now }
+    requires rest { AreRemaining clock.now rest.now }
+    requires some { length clock.now.numbers < length (instrs_of clock.now.block) }
+    requires value { value ≡ chain (problem_of clock.now) clock.now.numbers }
+    ensures { result.items ≡ longest_chain (problem_of clock.now) clock.now.numbers }
+{
+    let first = first_of_chain(tables, clock, rest, value);
+    walk_from(entries, tables, rest, first)
+}

@@ -1,0 +1,221 @@
+ghost use Rattle.std.specs.Prelude.{ℕ, ◌≡◌, ◌+◌, ◌≤◌, ◌<◌, ◌==◌, length};
+ghost use Rattle.s66_isa.specs.Lists.{some_of};
+ghost use Rattle.s66_isa.specs.Registers.{index_of};
+ghost use Rattle.s66_isa.specs.Table.{kind_number, same_kind, same_reg, Write as WriteOf};
+ghost use Rattle.s66_line.specs.declared.limits.TheConstants.{BLOCK_LIMIT};
+ghost use Rattle.s66_model.specs.Timing.{Problem, row_at};
+ghost use Rattle.s66_model.specs.Leaves.{uses};
+ghost use Rattle.s66_model.specs.Tails.{spare, HasWords, HasWritten};
+ghost use Rattle.s66_bound.specs.Entries.{AreEntries};
+ghost use Rattle.s66_bound.specs.declared.entry.Entry.{Entry as EntryOf};
+ghost use Rattle.s66_bound.specs.TableWords.{AreThose, HasKinds, HasUsers, IsTables};
+
+use crate::entry::Entry;
+use crate::longest::longest_tails;
+use arrayvec::ArrayVec;
+use s66_dep::Set;
+use s66_isa::{Bank, Kind, Reg, Write, is_same_kind, is_same_register};
+use s66_line::BLOCK_LIMIT;
+
+/// What bounds look up of the numbers of a block; the word of n stands at n - 1. Times are in minor cycles.
+#[derive(Debug, Drop)]
+pub struct Tables {
+    /// All numbers of the block.
+    pub all: Set,
+    /// The numbers of two parcels: what remains has as many parcels as numbers, and one more for each of these.
+    pub long: Set,
+    /// The longest tail of each number along the links to later ones.
+    pub longest: [u32; BLOCK_LIMIT],
+    /// By how much its own tail is longer than its parcels.
+    pub spare: [u32; BLOCK_LIMIT],
+    /// For how long it takes its unit: its hold and one.
+    pub work: [u32; BLOCK_LIMIT],
+    /// The numbers of each kind, by the place of the kind.
+    pub kinds: [Set; 7],
+    /// The numbers that read or write each register, by its index.
+    pub users: [Set; 24],
+    /// The registers that the block writes, each once.
+    pub written: ArrayVec<Reg, 24>,
+}
+
+impl Tables {
+    /// The tables of a block of these entries.
+    pub fn of(entries: &[Entry]) -> Tables
+        requires few { length entries.now ≤ BLOCK_LIMIT }
+        requires known { (b : Problem) × AreEntries b entries.now }
+        ensures { (b : Problem) → AreEntries b entries.now → IsTables b result }
+    {
+        Tables {
+            all: Set::up_to(entries.len()),
+            long: long_numbers(entries),
+            longest: longest_tails(entries),
+            spare: spares(entries),
+            work: works(entries),
+            kinds: numbers_by_kind(entries),
+            users: users_by_register(entries),
+            written: written_registers(entries),
+        }
+    }
+}
+
+/// The place of a kind in the order of the kinds.
+pub fn kind_place(kind: Kind) -> usize
+    ensures value { result ≡ kind_number kind }
+    ensures within { result < 7 }
+{
+    match kind {
+        Kind::Boolean => 0,
+        Kind::Shift => 1,
+        Kind::Add => 2,
+        Kind::LongAdd => 3,
+        Kind::Multiply => 4,
+        Kind::Divide => 5,
+        Kind::Increment => 6,
+    }
+}
+
+/// The numbers of two parcels.
+fn long_numbers(entries: &[Entry]) -> Set
+    requires few { length entries.now ≤ BLOCK_LIMIT }
+    ensures { (b : Problem) → AreEntries b entries.now → AreThose b (λ n. (row_at b n).parcels == 2) result }
+{
+    let mut long = Set::empty();
+    for place in 0..entries.len() {
+        if entries[place].parcels == 2 {
+            long = long.with((place + 1) as u8);
+        }
+    }
+    long
+}
+
+/// By how much each tail is longer than the parcels.
+fn spares(entries: &[Entry]) -> [u32; BLOCK_LIMIT]
+    requires few { length entries.now ≤ BLOCK_LIMIT }
+    ensures { (b : Problem) → AreEntries b entries.now → HasWords b (spare b) result }
+{
+    let mut spares = [0; BLOCK_LIMIT];
+    for place in 0..entries.len() {
+        spares[place] = entries[place].tail.saturating_sub(entries[place].parcels);
+    }
+    spares
+}
+
+/// For how long each takes its unit.
+fn works(entries: &[Entry]) -> [u32; BLOCK_LIMIT]
+    requires few { length entries.now ≤ BLOCK_LIMIT }
+    ensures { (b : Problem) → AreEntries b entries.now → HasWords b (λ n. (row_at b n).hold + 1) result }
+{
+    let mut works = [0; BLOCK_LIMIT];
+    for place in 0..entries.len() {
+        works[place] = entries[place].work;
+    }
+    works
+}
+
+/// The numbers of a kind.
+fn numbers_of_kind(entries: &[Entry], kind: Kind) -> Set
+    requires few { length entries.now ≤ BLOCK_LIMIT }
+    ensures { (b : Problem) → AreEntries b entries.now → AreThose b (λ n. same_kind (row_at b n).kind kind) result }
+{
+    let mut numbers = Set::empty();
+    for place in 0..entries.len() {
+        if is_same_kind(entries[place].kind, kind) {
+            numbers = numbers.with((place + 1) as u8);
+        }
+    }
+    numbers
+}
+
+/// The numbers of each kind, by the place of the kind.
+fn numbers_by_kind(entries: &[Entry]) -> [Set; 7]
+    requires few { length entries.now ≤ BLOCK_LIMIT }
+    ensures { (b : Problem) → AreEntries b entries.now → HasKinds b result }
+{
+    [
+        numbers_of_kind(entries, Kind::Boolean),
+        numbers_of_kind(entries, Kind::Shift),
+        numbers_of_kind(entries, Kind::Add),
+        numbers_of_kind(entries, Kind::LongAdd),
+        numbers_of_kind(entries, Kind::Multiply),
+        numbers_of_kind(entries, Kind::Divide),
+        numbers_of_kind(entries, Kind::Increment),
+    ]
+}
+
+/// The numbers that read or write a register.
+fn users_of(entries: &[Entry], register: Reg) -> Set
+    requires few { length entries.now ≤ BLOCK_LIMIT }
+    ensures { (b : Problem) → AreEntries b entries.now → AreThose b (λ n. uses (row_at b n) register) result }
+{
+    let mut users = Set::empty();
+    for place in 0..entries.len() {
+        if entries[place].used.has(register) {
+            users = users.with((place + 1) as u8);
+        }
+    }
+    users
+}
+
+/// The register of an index.
+fn register_at(index: usize) -> Reg
+    requires { index < 24 }
+    ensures value { index_of result ≡ index }
+    ensures digit { result.digit ≤ 7 }
+{
+    let bank = match index / 8 {
+        0 => Bank::A,
+        1 => Bank::B,
+        _ => Bank::X,
+    };
+    Reg::new(bank, (index % 8) as u8)
+}
+
+/// The numbers that read or write each register, by its index.
+fn users_by_register(entries: &[Entry]) -> [Set; 24]
+    requires few { length entries.now ≤ BLOCK_LIMIT }
+    ensures { (b : Problem) → AreEntries b entries.now → HasUsers b result }
+{
+    let mut users = [Set::empty(); 24];
+    for index in 0..24 {
+        users[index] = users_of(entries, register_at(index));
+    }
+    users
+}
+
+/// Whether some instruction writes the register.
+fn is_written(entries: &[Entry], register: Reg) -> bool
+    ensures { result ≡ some_of (λ (e : EntryOf). some_of (λ (w : WriteOf). same_reg w.reg register) e.writes.items) entries.now }
+{
+    for entry in entries {
+        if writes_register(entry.writes.as_slice(), register) {
+            return true;
+        }
+    }
+    false
+}
+
+/// Whether one of these results is the register's.
+fn writes_register(writes: &[Write], register: Reg) -> bool
+    ensures { result ≡ some_of (λ (w : WriteOf). same_reg w.reg register) writes.now }
+{
+    for write in writes {
+        if is_same_register(write.reg, register) {
+            return true;
+        }
+    }
+    false
+}
+
+/// The registers that are written, each once.
+fn written_registers(entries: &[Entry]) -> ArrayVec<Reg, 24>
+    ensures { (b : Problem) → AreEntries b entries.now → HasWritten b result.items }
+{
+    let mut written = ArrayVec::new();
+    for index in 0..24 {
+        let register = register_at(index);
+        if is_written(entries, register) {
+            written.push(register);
+        }
+    }
+    written
+}
