@@ -18,7 +18,7 @@ import tempfile
 
 from speed import ALL, TOP, instructions
 
-CRATES = ["s66_isa", "s66_model", "s66_line", "s66_dep", "s66_time"]
+CRATES = ["s66_isa", "s66_model", "s66_line", "s66_dep", "s66_time", "s66_bound"]
 PROGRAM = "bench_search"
 LENGTHS = [24, 40]
 BLOCKS = 4

@@ -24,5 +24,5 @@ returns-then-not-has c = λ within.
     let new : has (i + 1) pushed ≡ false = ap (λ m. has m pushed) here ∙ (sym c.has.ensures ∙ c.if-not-has.true) in
     let met : (m : ℕ) → has m (get_or (all_needs block) i []) ≡ true → has m pushed ≡ true =
     λ m is. c.is_within.ensures.0 within m (ap (has m) (c.needs.ensures ∙ ap (λ (all : List (List ℕ)). get_or all i []) c.requires) ∙ is) in
-    sym (is_ready-same block pushed c.args.clock.now.numbers n c.pushed-pushed.ensures)
+    sym (is_ready-same block pushed c.args.clock.now.numbers n c.pushed-pushed.ensures.value)
     ∙ (sym (is_free-ready block pushed n (omega arith) last) ∙ subst (λ m. is_free (all_needs block) pushed m ≡ true) here (free-from (all_needs block) pushed i new met))
