@@ -18,3 +18,6 @@ pub mod InstructionTexts
 pub mod CaseLaw
 pub mod LineLaw
 pub mod Wholes
+pub mod PadsLaw
+pub mod PlacedBlocks
+pub mod PrintedLines

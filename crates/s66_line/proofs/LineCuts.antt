@@ -27,7 +27,7 @@ pub lines_from-later : (line bytes : List ℕ) (b : ℕ) → (b == 10) ≡ false
 lines_from-later line bytes b told = rw told refl
 
 -- the line that is begun ends there
-lines_from-found : (line bytes : List ℕ) (k : ℕ) → IsFirstNewline bytes (Some k) → lines_from line bytes ≡ (line ++ take k bytes) ∷ lines_from [] (drop (k + 1) bytes)
+pub lines_from-found : (line bytes : List ℕ) (k : ℕ) → IsFirstNewline bytes (Some k) → lines_from line bytes ≡ (line ++ take k bytes) ∷ lines_from [] (drop (k + 1) bytes)
 lines_from-found line [] k h = absurd (let high = h.0.high in omega (arith, high))
 lines_from-found line (b ∷ bytes) zero h = lines_from-here line bytes b h.1 ∙ ap (λ l. l ∷ lines_from [] bytes) (sym (append-nil line))
 lines_from-found line (b ∷ bytes) (suc k) h =

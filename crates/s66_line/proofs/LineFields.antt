@@ -1,5 +1,5 @@
 -- Words and blanks at the front of a line by their lengths, and a line without the end that passes.
-use Rattle.std.proofs.Common.{◌≡◌, ℕ, zero, suc, ◌+◌, ◌-◌, ◌≤◌, ◌<◌, Bool, true, false, not, cond, List, [], ◌∷◌, ◌++◌, length, take, drop, refl, sym, ap, ◌∙◌, arith, length-drop, get_or, eq-eqb, append_assoc}
+use Rattle.std.proofs.Common.{◌≡◌, ℕ, zero, suc, ◌+◌, ◌-◌, ◌≤◌, ◌<◌, Bool, true, false, not, cond, List, [], ◌∷◌, ◌++◌, length, take, drop, refl, sym, ap, ◌∙◌, arith, length-drop, get_or, append_assoc}
 use Rattle.std.proofs.lemmas.Bool.{eqb-true}
 use Rattle.std.proofs.Math.Seq.{take-suc}
 use Rattle.std.proofs.Math.Dec.{eqb-zero-suc}
@@ -7,7 +7,7 @@ use Rattle.std.proofs.Math.Bool.{and-true, and-false}
 use Rattle.std.specs.Prelude.{◌&&◌, ◌||◌, ◌==◌, nat_le}
 use Rattle.std.specs.List.{prefix_len}
 use Rattle.s66_isa.specs.Lists.{every}
-use Rattle.s66_line.specs.Fields.{is_blank, blanks, skip_blanks, word, after_word, trim, is_return, upper, from_location, label_bytes}
+use Rattle.s66_line.specs.Fields.{is_blank, blanks, skip_blanks, word, after_word, trim, upper, from_location, label_bytes}
 use Rattle.s66_line.specs.InstructionText.{spelling}
 use Rattle.std.proofs.lemmas.List.{take_rest}
 use Rattle.std.proofs.lemmas.List.Sums.{prefix_len-le-length}
@@ -185,22 +185,22 @@ trim-push_no test (a ∷ bytes) b fails =
     let e : every test (bytes ++ b ∷ []) ≡ false = every-push test bytes b ∙ (rw fails (and-false (every test bytes))) in
     rw (e, h, and-false (test a)) refl
 
--- A LINE'S BODY, found from the end
+-- THE END THAT PASSES, found from behind
 
-pub body-cut : (line : List ℕ) (end : ℕ) → 0 < end → end ≤ length line → get_or line (end - 1) 0 ≡ 13 → trim is_return (take (end - 1) line) ≡ trim is_return (take end line)
-body-cut line zero some within return = absurd (omega (arith, some))
-body-cut line (suc n) some within return =
+pub trim-cut : (test : ℕ → Bool) (line : List ℕ) (end : ℕ) → 0 < end → end ≤ length line → test (get_or line (end - 1) 0) ≡ true → trim test (take (end - 1) line) ≡ trim test (take end line)
+trim-cut test line zero some within passes = absurd (omega (arith, some))
+trim-cut test line (suc n) some within passes =
     let less : suc n - 1 ≡ n = omega arith in
-    let here : get_or line n 0 ≡ 13 = rw (← less) return in
-    rw (less, take-suc line n 0 (omega (arith, within))) (sym (trim-push_yes is_return (take n line) (get_or line n 0) (eq-eqb (get_or line n 0) 13 here)))
+    let here : test (get_or line n 0) ≡ true = rw (← less) passes in
+    rw (less, take-suc line n 0 (omega (arith, within))) (sym (trim-push_yes test (take n line) (get_or line n 0) here))
 
-pub body-none : (line : List ℕ) (end : ℕ) → end ≤ 0 → trim is_return (take end line) ≡ take end line
-body-none line zero none = refl
-body-none line (suc n) none = absurd (omega (arith, none))
+pub trim-none : (test : ℕ → Bool) (line : List ℕ) (end : ℕ) → end ≤ 0 → trim test (take end line) ≡ take end line
+trim-none test line zero none = refl
+trim-none test line (suc n) none = absurd (omega (arith, none))
 
-pub body-end : (line : List ℕ) (end : ℕ) → 0 < end → end ≤ length line → (get_or line (end - 1) 0 ≡ 13 → ⊥) → trim is_return (take end line) ≡ take end line
-body-end line zero some within other = absurd (omega (arith, some))
-body-end line (suc n) some within other =
+pub trim-end : (test : ℕ → Bool) (line : List ℕ) (end : ℕ) → 0 < end → end ≤ length line → test (get_or line (end - 1) 0) ≡ false → trim test (take end line) ≡ take end line
+trim-end test line zero some within fails = absurd (omega (arith, some))
+trim-end test line (suc n) some within fails =
     let less : suc n - 1 ≡ n = omega arith in
-    let here : get_or line n 0 ≡ 13 → ⊥ = rw (← less) other in
-    rw (take-suc line n 0 (omega (arith, within))) (trim-push_no is_return (take n line) (get_or line n 0) (grind (arith, here)))
+    let here : test (get_or line n 0) ≡ false = rw (← less) fails in
+    rw (take-suc line n 0 (omega (arith, within))) (trim-push_no test (take n line) (get_or line n 0) here)

@@ -18,11 +18,11 @@ use Rattle.s66_line.proofs.PartsLaw.{parts}
 
 -- NO LINE OF AN ACCEPTED SOURCE IS REFUSED
 
-no_refusal : (e : Option SourceError) (made blocks : List Block) → unless_refused e made ≡ Ok blocks → e ≡ None
+pub no_refusal : (e : Option SourceError) (made blocks : List Block) → unless_refused e made ≡ Ok blocks → e ≡ None
 no_refusal None made blocks h = refl
 no_refusal (Some e) made blocks h = cc
 
-neither : (e f : Option SourceError) → or_else e f ≡ None → (e ≡ None) × (f ≡ None)
+pub neither : (e f : Option SourceError) → or_else e f ≡ None → (e ≡ None) × (f ≡ None)
 neither None f h = (refl, h)
 neither (Some e) f h = cc
 
@@ -36,7 +36,7 @@ last_none true many e f o h = cc
 last_none false true e f o h = cc
 last_none false false e f o h = h
 
-operand-none : (lines : List Line) (l : Line) → refusal lines ≡ None → Among l lines → operand_refusal l.number l.class ≡ None
+pub operand-none : (lines : List Line) (l : Line) → refusal lines ≡ None → Among l lines → operand_refusal l.number l.class ≡ None
 operand-none lines l h among =
     last_none (nat_lt LINE_LIMIT (length l.bytes)) (nat_lt SOURCE_LIMIT l.number) (LineTooLong l.number) TooLarge (operand_refusal l.number l.class) (none-at lines l h among)
 
@@ -69,11 +69,11 @@ one text blocks line accepted among =
 -- NUMBERS RISE
 
 -- each is at least low, and greater than those before it
-abbrev Rising : ℕ → List Line → Type 0
+abbrev pub Rising : ℕ → List Line → Type 0
 Rising low [] = Unit {0}
 Rising low (l ∷ lines) = (low ≤ l.number) × Rising (suc l.number) lines
 
-Rising-lower : (low high : ℕ) (lines : List Line) → low ≤ high → Rising high lines → Rising low lines
+pub Rising-lower : (low high : ℕ) (lines : List Line) → low ≤ high → Rising high lines → Rising low lines
 Rising-lower low high [] le h = tt
 Rising-lower low high (l ∷ lines) le h = (omega (arith, le, h.0), h.1)
 
@@ -83,7 +83,7 @@ rising-classed (line ∷ lines) number run index label after =
     let c : Class = class_of after line in
     (omega arith, rising-classed lines (suc number) (run_after run c) (place_after index c) (label_after label c line) (is_code c))
 
-rising-instructions : (low : ℕ) (lines : List Line) → Rising low lines → Rising low (instructions lines)
+pub rising-instructions : (low : ℕ) (lines : List Line) → Rising low lines → Rising low (instructions lines)
 rising-instructions low [] h = tt
 rising-instructions low (l ∷ lines) h =
     let rest : Rising (suc l.number) (instructions lines) = rising-instructions (suc l.number) lines h.1 in
@@ -92,7 +92,7 @@ rising-instructions low (l ∷ lines) h =
 
 -- THE LAST LINE OF A BLOCK
 
-abbrev last_number : Line → List Line → ℕ
+abbrev pub last_number : Line → List Line → ℕ
 last_number l [] = l.number
 last_number l (m ∷ more) = last_number m more
 
@@ -101,7 +101,7 @@ line_of-last l [] = refl
 line_of-last l (m ∷ more) = line_of-last m more
 
 -- it is not before the first, and all that follows the block is after it
-Rising-behind : (low : ℕ) (l : Line) (more lines : List Line) → Rising low (l ∷ more ++ lines) → (l.number ≤ last_number l more) × Rising (suc (last_number l more)) lines
+pub Rising-behind : (low : ℕ) (l : Line) (more lines : List Line) → Rising low (l ∷ more ++ lines) → (l.number ≤ last_number l more) × Rising (suc (last_number l more)) lines
 Rising-behind low l [] lines h = (omega arith, h.1)
 Rising-behind low l (m ∷ more) lines h = let rest = Rising-behind (suc l.number) m more lines h.1 in (omega (arith, h.1.0, rest.0), rest.1)
 
@@ -111,7 +111,7 @@ abbrev AreFilled : List (List Line) → Type 0
 AreFilled parts = (part : List Line) → Among part parts → 1 ≤ length part
 
 -- a line up to the first of a block, or from its last on, is no note of it
-outside : (comment : Bool) (first n last : ℕ) → (n ≤ first) ⊎ (last ≤ n) → (comment && nat_lt first n && nat_lt n last) ≡ false
+pub outside : (comment : Bool) (first n last : ℕ) → (n ≤ first) ⊎ (last ≤ n) → (comment && nat_lt first n && nat_lt n last) ≡ false
 outside true first n last (inl h) = rw (le-ltb first n h) refl
 outside true first n last (inr h) = rw (le-ltb n last h) (and-false (nat_lt first n))
 outside false first n last h = refl

@@ -16,7 +16,7 @@ use Rattle.s66_line.proofs.Choices.{Chosen, chosen}
 
 -- A ROW OF THE TABLE
 
-among-at : {X : Type 0} (xs : List X) (n : ℕ) (d : X) → n < length xs → Among (get_or xs n d) xs
+pub among-at : {X : Type 0} (xs : List X) (n : ℕ) (d : X) → n < length xs → Among (get_or xs n d) xs
 among-at [] n d h = absurd (omega (arith, h))
 among-at (x ∷ xs) zero d h = inl refl
 among-at (x ∷ xs) (suc n) d h = inr (among-at xs n d (omega (arith, h)))

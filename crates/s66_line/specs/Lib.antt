@@ -8,6 +8,9 @@ pub mod Parts
 pub mod InstructionText
 pub mod Block
 pub mod Roles
+pub mod Printed
 pub mod Gives
+pub mod Pads
+pub mod Printer
 pub mod Reader
 pub mod ReaderState

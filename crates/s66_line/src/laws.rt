@@ -1,4 +1,4 @@
-ghost use Rattle.std.specs.Prelude.{◌≡◌, ◌≤◌, ℕ, List, ◌∷◌, ◌++◌, Some, Ok, Bool, true, false, map, codes, [], not, ◌==◌};
+ghost use Rattle.std.specs.Prelude.{◌≡◌, ◌≤◌, ℕ, List, ◌∷◌, ◌++◌, Some, None, Ok, Bool, true, false, map, codes, [], not, ◌==◌};
 ghost use Rattle.std.specs.List.{filter};
 ghost use Rattle.s66_isa.specs.declared.instr.Instr.{Instr};
 ghost use Rattle.s66_isa.specs.declared.reg.Bank.{Bank};
@@ -10,6 +10,7 @@ ghost use Rattle.s66_line.specs.Spelling.{CanMean, spellings, all_codes, upper_r
 ghost use Rattle.s66_line.specs.Source.{Line, Block, classed_lines, instructions, is_instruction, parts_of, blocks_of, source_of};
 ghost use Rattle.s66_line.specs.Block.{constants_in};
 ghost use Rattle.s66_line.specs.Parts.{AreParts};
+ghost use Rattle.s66_line.specs.Printed.{Placed, label_field, printed};
 ghost use Rattle.s66_line.specs.Roles.{is_note, is_note_of, is_dropped, is_copied, roles, lines_that, mixed_source, outside_source};
 
 /// A text is its lines with their newlines, and a line its fields with blanks between, and a remark: nothing is lost.
@@ -113,4 +114,41 @@ pub fn instruction_examples()
     ensures two_blanks { ¬ IsInstruction (codes "BX1  X2") }
     ensures tab { ¬ IsInstruction (codes "BX1" ++ 9 ∷ codes "X2") }
     ensures comment { ¬ IsInstruction (codes "BX1 X2 COPY") }
+{}
+
+/// Sources printed: one with lines of each sort; one with comments and `NO`s around a block; a label that stands on a `NO`;
+/// and two instructions exchanged, with a label in column 2, a tab, carriage returns, and a bound alone.
+#[tactic(auto, unfolding(crate::specs::Printed::digits))]
+pub fn printed_examples()
+    ensures mixed { printed mixed_source (record { order = 1 ∷ 2 ∷ []; source = 12; time = 12; bound = 12; splits = None } ∷ record { order = 1 ∷ []; source = 4; time = 4; bound = 4; splits = None } ∷ record { order = 1 ∷ []; source = 4; time = 4; bound = 4; splits = None } ∷ []) ≡
+        codes "* TEST\n" ++
+        codes "* BLOCK 1 COUNT 2 SOURCE 12 TIME 12 BEST\n" ++
+        codes "* NOTE\n" ++
+        codes "LOOP      SA1 A1+1     LOAD\n" ++
+        codes "          BX6 X1\n" ++
+        codes "* BLOCK 2 COUNT 1 SOURCE 4 TIME 4 BEST\n" ++
+        codes "+         SA6 A6+B1    STORE\n" ++
+        codes "          ZR X1,LOOP\n" ++
+        codes "* BLOCK 3 COUNT 1 SOURCE 4 TIME 4 BEST\n" ++
+        codes "          BX1 X2\n" ++
+        codes "          VFD 60/0\n" }
+    ensures outside { printed outside_source (record { order = 1 ∷ []; source = 4; time = 4; bound = 4; splits = None } ∷ []) ≡
+        codes "* BEFORE\n" ++
+        codes "  NO\n" ++
+        codes "  ZR X1,L\n" ++
+        codes "* BETWEEN\n" ++
+        codes "* BLOCK 1 COUNT 1 SOURCE 4 TIME 4 BEST\n" ++
+        codes "          BX1 X2\n" ++
+        codes "* AFTER\n" }
+    ensures label_on_a_pad { printed (codes "LOOP NO  WAIT\n* LOADED\n  BX1 X2\n") (record { order = 1 ∷ []; source = 4; time = 4; bound = 4; splits = None } ∷ []) ≡
+        codes "* LOADED\n" ++
+        codes "* BLOCK 1 COUNT 1 SOURCE 4 TIME 4 BEST\n" ++
+        codes "LOOP      BX1 X2\n" }
+    ensures exchanged { printed (codes " LP       SA1    A1+B1   NEXT WORD\r\n\tBX6 X2 \r\r\n") (record { order = 2 ∷ 1 ∷ []; source = 9; time = 8; bound = 7; splits = Some 3 } ∷ []) ≡
+        codes "* BLOCK 1 COUNT 2 SOURCE 9 TIME 8 AT LEAST 7\n" ++
+        codes "* SPLITS 3\n" ++
+        codes " LP       BX6 X2\n" ++
+        codes "          SA1    A1+B1   NEXT WORD\n" }
+    ensures long_label { label_field (codes " ABCDEFGHI") ≡ codes " ABCDEFGHI " }
+    ensures short_label { label_field (codes "ABCDEFGHI") ≡ codes "ABCDEFGHI " }
 {}

@@ -2,6 +2,7 @@
 #![tactic(auto)]
 
 mod block;
+mod block_text;
 mod class;
 mod device;
 mod entry;
@@ -11,6 +12,9 @@ mod instruction_text;
 mod laws;
 mod limits;
 mod operand;
+mod pads;
+mod placed;
+mod printer;
 mod reader;
 mod source;
 
@@ -20,7 +24,9 @@ pub use error::SourceError;
 pub use instruction_text::is_instruction;
 pub use laws::{
     byte_examples, case_law, code_law, constant_examples, instruction_examples, line_examples,
-    line_law, operation_law, parts_law, set_form_law, term_law, whole_law,
+    line_law, operation_law, parts_law, printed_examples, set_form_law, term_law, whole_law,
 };
 pub use limits::{BLOCK_LIMIT, LINE_LIMIT, SOURCE_LIMIT, TEXT_LIMIT};
+pub use placed::Placed;
+pub use printer::print_source;
 pub use source::{Source, read_source};

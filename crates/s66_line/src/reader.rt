@@ -1,8 +1,11 @@
-ghost use Rattle.std.specs.Prelude.{◌≡◌, ◌≤◌, ◌<◌, [], length, OnOk};
+ghost use Rattle.std.specs.Prelude.{◌≡◌, ◌≤◌, ◌<◌, suc, [], length, OnOk};
 ghost use Rattle.s66_line.specs.Fields.{lines_from};
 ghost use Rattle.s66_line.specs.InstructionText.{Spells};
+ghost use Rattle.s66_line.specs.Pads.{settle, pads_by_class, pads_of_lines};
+ghost use Rattle.s66_line.specs.Pads as pads;
 ghost use Rattle.s66_line.specs.Reader.{Steps, IsSpelled, end_block, begin_run, with_entry, by_class, line_step, lines_step};
 ghost use Rattle.s66_line.specs.ReaderState.{state};
+ghost use Rattle.s66_line.specs.Source.{class_of, is_code};
 ghost use Rattle.s66_line.specs.declared.limits.TheConstants.{BLOCK_LIMIT, SOURCE_LIMIT, TEXT_LIMIT};
 
 use crate::block::Block;
@@ -10,6 +13,7 @@ use crate::class::{Class, Classified, classify};
 use crate::entry::Entry;
 use crate::error::SourceError;
 use crate::limits::{BLOCK_LIMIT, LINE_LIMIT, SOURCE_LIMIT};
+use crate::pads::Pads;
 use memchr::memchr;
 use s66_isa::Instr;
 use std::alloc::{AllocError, Global};
@@ -23,6 +27,7 @@ pub struct Reader<'a> {
     pub label: &'a [u8],
     /// The instructions of the open block, fewer than `BLOCK_LIMIT`.
     pub entries: Vec<Entry<'a>>,
+    pub pads: Pads,
     /// How many lines were read.
     pub lines: u32,
     /// Whether the last of them is an Instruction or a Pad.
@@ -33,7 +38,8 @@ impl<'a> Reader<'a> {
     /// Ends the open block, where it has an instruction.
     pub(crate) fn end_block(&mut self, alloc: Global) -> Result<(), AllocError>
         requires { length self.old.entries.items ≤ BLOCK_LIMIT }
-        ensures { OnOk result (state self.new ≡ end_block (state self.old)) }
+        ensures step { OnOk result (state self.new ≡ end_block (state self.old)) }
+        ensures pads { self.new.pads ≡ self.old.pads }
     {
         if !self.entries.is_empty() {
             let entries = mem::replace(&mut self.entries, Vec::new(alloc));
@@ -43,12 +49,23 @@ impl<'a> Reader<'a> {
         Ok(())
     }
 
-    /// Ends the open block, and begins a run with this label.
+    /// Ends the open run, and its open block.
+    fn end_run(&mut self, alloc: Global) -> Result<(), AllocError>
+        requires { length self.old.entries.items ≤ BLOCK_LIMIT }
+        ensures step { OnOk result (state self.new ≡ end_block (state self.old)) }
+        ensures pads { OnOk result (self.new.pads ≡ pads.end_run self.old.pads) }
+    {
+        self.pads.end_run();
+        self.end_block(alloc)
+    }
+
+    /// Ends the open run, and begins one with this label.
     fn begin_run(&mut self, alloc: Global, label: &'a [u8]) -> Result<(), AllocError>
         requires { length self.old.entries.items ≤ BLOCK_LIMIT }
-        ensures { OnOk result (state self.new ≡ begin_run label.now (state self.old)) }
+        ensures step { OnOk result (state self.new ≡ begin_run label.now (state self.old)) }
+        ensures pads { OnOk result (self.new.pads ≡ pads.end_run self.old.pads) }
     {
-        self.end_block(alloc)?;
+        self.end_run(alloc)?;
         self.label = label;
         Ok(())
     }
@@ -60,9 +77,11 @@ impl<'a> Reader<'a> {
         requires bytes { length bytes.now ≤ TEXT_LIMIT }
         requires spelled { Spells bytes.now instr }
         ensures step { OnOk result (state self.new ≡ with_entry instr bytes.now (state self.old)) }
+        ensures pads { OnOk result (self.new.pads ≡ settle self.old.pads) }
         ensures few { OnOk result (length self.new.entries.items < BLOCK_LIMIT) }
     {
         let line = self.lines + 1;
+        self.pads.settle()?;
         self.entries.push(Entry { instr, line, bytes })?;
         if self.entries.len() == BLOCK_LIMIT {
             self.end_block(alloc)?;
@@ -77,6 +96,9 @@ impl<'a> Reader<'a> {
         requires bytes { length line.bytes.now ≤ TEXT_LIMIT }
         requires spelled { IsSpelled line.class line.bytes.now }
         ensures step { Steps (state self.new) result (by_class (state self.old) line.entry.class line.entry.label.now line.entry.bytes.now) }
+        ensures pads { OnOk result (self.new.pads ≡ pads_by_class line.entry.class (suc self.old.lines) self.old.pads) }
+        ensures count { OnOk result (self.new.lines ≡ suc self.old.lines) }
+        ensures after_code { OnOk result (self.new.after_code ≡ is_code line.entry.class) }
         ensures few { OnOk result (length self.new.entries.items < BLOCK_LIMIT) }
         ensures lines { OnOk result (self.new.lines ≤ SOURCE_LIMIT) }
     {
@@ -84,7 +106,7 @@ impl<'a> Reader<'a> {
         let class = line.class;
         match class {
             Class::Comment => {}
-            Class::Other => self.end_block(alloc)?,
+            Class::Other => self.end_run(alloc)?,
             Class::Refused => {
                 return Err(SourceError::BadOperand {
                     line: self.lines + 1,
@@ -94,6 +116,7 @@ impl<'a> Reader<'a> {
                 if located {
                     self.begin_run(alloc, line.label)?;
                 }
+                self.pads.put(self.lines + 1)?;
                 after_code = true;
             }
             Class::Instruction { located, instr } => {
@@ -114,6 +137,9 @@ impl<'a> Reader<'a> {
         requires few { length self.old.entries.items < BLOCK_LIMIT }
         requires lines { self.old.lines ≤ SOURCE_LIMIT }
         ensures step { Steps (state self.new) result (line_step (state self.old) line.now) }
+        ensures pads { OnOk result (self.new.pads ≡ pads_by_class (class_of self.old.after_code line.now) (suc self.old.lines) self.old.pads) }
+        ensures count { OnOk result (self.new.lines ≡ suc self.old.lines) }
+        ensures after_code { OnOk result (self.new.after_code ≡ is_code (class_of self.old.after_code line.now)) }
         ensures few { OnOk result (length self.new.entries.items < BLOCK_LIMIT) }
         ensures lines { OnOk result (self.new.lines ≤ SOURCE_LIMIT) }
     {
@@ -133,6 +159,7 @@ impl<'a> Reader<'a> {
         requires few { length self.old.entries.items < BLOCK_LIMIT }
         requires lines { self.old.lines ≤ SOURCE_LIMIT }
         ensures step { Steps (state self.new) result (lines_step (state self.old) (lines_from line.now [])) }
+        ensures pads { OnOk result (self.new.pads ≡ pads_of_lines self.old.lines self.old.after_code self.old.pads (lines_from line.now [])) }
         ensures few { OnOk result (length self.new.entries.items < BLOCK_LIMIT) }
     {
         if line.is_empty() {
@@ -146,6 +173,7 @@ impl<'a> Reader<'a> {
         requires few { length self.old.entries.items < BLOCK_LIMIT }
         requires lines { self.old.lines ≤ SOURCE_LIMIT }
         ensures step { Steps (state self.new) result (lines_step (state self.old) (lines_from [] text.now)) }
+        ensures pads { OnOk result (self.new.pads ≡ pads_of_lines self.old.lines self.old.after_code self.old.pads (lines_from [] text.now)) }
         ensures few { OnOk result (length self.new.entries.items < BLOCK_LIMIT) }
     {
         let mut rest = text;

@@ -4,6 +4,7 @@ ghost use Rattle.s66_line.specs.Gives.{Gives};
 
 use crate::block::Block;
 use crate::error::SourceError;
+use crate::pads::Pads;
 use crate::reader::Reader;
 use std::alloc::Global;
 use std::marker::Model;
@@ -13,21 +14,25 @@ use std::marker::Model;
 pub struct Source<'a> {
     text: &'a [u8],
     blocks: Vec<Block<'a>>,
+    /// The lines of the `NO`s that are left out where it is printed.
+    dropped: Vec<u32>,
 }
 
 impl<'a> Model for Source<'a> {
     ghost use Rattle.std.specs.Prelude.{◌≡◌, ℕ, List, Ok};
+    ghost use Rattle.s66_line.specs.Roles.{is_dropped, lines_that};
     ghost use Rattle.s66_line.specs.Source.{source_of};
 
     ghost Value = { List ℕ };
 
     ghost view = { λ s. s.text.now };
 
-    ghost invariant = { λ s. source_of s.text.now ≡ Ok s.blocks.items };
+    ghost invariant = { λ s. (source_of s.text.now ≡ Ok s.blocks.items) × (s.dropped.items ≡ lines_that is_dropped s.text.now) };
 }
 
 impl<'a> Source<'a> {
     ghost use Rattle.std.specs.Prelude.{◌≡◌, Ok};
+    ghost use Rattle.s66_line.specs.Roles.{is_dropped, lines_that};
     ghost use Rattle.s66_line.specs.Source.{source_of};
 
     /// The blocks, in the order of their lines.
@@ -35,6 +40,19 @@ impl<'a> Source<'a> {
         ensures { source_of self.now ≡ Ok result.now }
     {
         self.blocks.as_slice()
+    }
+
+    pub(crate) fn text(&self) -> &'a [u8]
+        ensures { result.now ≡ self.now }
+    {
+        self.text
+    }
+
+    /// The lines of the `NO`s that are left out where it is printed, in order.
+    pub(crate) fn dropped(&self) -> &[u32]
+        ensures { result.now ≡ lines_that is_dropped self.now }
+    {
+        self.dropped.as_slice()
     }
 }
 
@@ -47,6 +65,7 @@ pub fn read_source(alloc: Global, text: &[u8]) -> Result<Source<'_>, SourceError
         blocks: Vec::new(alloc),
         label: &[],
         entries: Vec::new(alloc),
+        pads: Pads::new(alloc),
         lines: 0,
         after_code: false,
     };
@@ -56,8 +75,13 @@ pub fn read_source(alloc: Global, text: &[u8]) -> Result<Source<'_>, SourceError
         blocks,
         label: _,
         entries: _,
+        pads,
         lines: _,
         after_code: _,
     } = reader;
-    Ok(Source { text, blocks })
+    Ok(Source {
+        text,
+        blocks,
+        dropped: pads.into_dropped(),
+    })
 }
