@@ -1,0 +1,6 @@
+pub mod Growing
+pub mod Leasts
+pub mod Pieces
+pub mod Standing
+pub mod Tips
+pub mod Walks

@@ -1,0 +1,88 @@
+-- What is told of a prefix that isn't split, by its floor.
+use Rattle.std.proofs.Common.{ℕ, ◌≡◌, ◌≢◌, Bool, true, false, nat_lt, ◌&&◌, List, [], ◌∷◌, ◌++◌, length, refl, sym, ap, arith, inl, inr, ◌∙◌, subst, Option}
+use Rattle.std.proofs.lemmas.Bool.{eq-eqb, cases_Bool}
+use Rattle.std.proofs.lemmas.List.{append-nil}
+use Rattle.s66_isa.specs.Lists.{every}
+use Rattle.s66_model.specs.Timing.{Problem, total_of}
+use Rattle.s66_model.specs.LegalOrder.{IsBeginning, IsComplete, IsLegal}
+use Rattle.s66_model.specs.Leaves.{Leaf, Whole, Chain, Load, Parcels, value, longest_chain, first_greatest, after_chain, floor}
+use Rattle.s66_model.specs.Piece.{Carries, TipHolds}
+use Rattle.s66_model.specs.Expansion.{TipHoldsWhile, whole_at}
+use Rattle.s66_model.specs.Tree.{AtTip}
+use Rattle.s66_model.proofs.LegalOrders.{order-legal}
+use Rattle.s66_model.proofs.Floors.{floor-part}
+use Rattle.s66_node.specs.declared.knot.Knot as code
+use Rattle.s66_node.specs.declared.knot.Knot.TheVariants as line
+use Rattle.s66_node.specs.declared.whole_order.WholeOrder.{WholeOrder}
+use Rattle.s66_model.specs.Told.{Told, ToldLeaf, ToldFrontier, ToldHolds, tip_of}
+use Rattle.s66_node.specs.SeenKnots.{seen_knot}
+use Rattle.s66_node.specs.Walking.{IsTold, IsLeast, whole_told}
+
+pub complete-whole : (b : Problem) (at : List ℕ) → IsComplete b.block at → floor b at ≡ Whole
+complete-whole b at h = rw (eq-eqb (length at) (length b.block) h, floor) refl
+
+-- THE FLOOR OF AN INCOMPLETE PREFIX is no whole order
+
+abbrev is_bound : Leaf → Bool
+is_bound Whole = false
+is_bound (Chain numbers) = true
+is_bound (Load kind) = true
+is_bound Parcels = true
+
+bound-none : (at : List ℕ) (leaf : Leaf) → is_bound leaf ≡ true → whole_at at (Carries leaf) ≡ []
+bound-none at Whole h = absurd cc
+bound-none at (Chain numbers) h = refl
+bound-none at (Load kind) h = refl
+bound-none at Parcels h = refl
+
+and-parts : (x y : Bool) → (x && y) ≡ true → (x ≡ true) × (y ≡ true)
+and-parts true y h = (refl, h)
+and-parts false y h = absurd cc
+
+first-bound : (f : Leaf → ℕ) (leaf : Leaf) (others : List Leaf) → is_bound leaf ≡ true → every is_bound others ≡ true → is_bound (first_greatest f leaf others) ≡ true
+first-bound f leaf [] h each = h
+first-bound f leaf (other ∷ others) h each =
+    let parts = and-parts (is_bound other) (every is_bound others) each in
+    elim (cases_Bool (nat_lt (f leaf) (f other))) [
+      | inl is ↦ rw is (first-bound f other others parts.0 parts.1)
+      | inr is ↦ rw is (first-bound f leaf others h parts.1)
+    ]
+
+part-none : (b : Problem) (at : List ℕ) → length at ≢ length b.block → whole_at at (Carries (floor b at)) ≡ []
+part-none b at ne =
+    bound-none at (floor b at) (ap is_bound (floor-part b at ne) ∙ first-bound (value b at) (Chain (longest_chain b at)) after_chain refl refl)
+
+-- WHOLE ORDERS that are told of
+
+pub told-none : (b : Problem) (best : ℕ) (at : List ℕ) (told : Told) → IsTold b best at told → ((v : ℕ) → told ≡ ToldLeaf v → length at ≢ length b.block) → whole_told b at told ≡ []
+told-none b best at (ToldLeaf v) h part = part-none b at (part v refl)
+told-none b best at (ToldFrontier v) h part = refl
+
+pub told-order : (b : Problem) (at : List ℕ) (v : ℕ) → IsComplete b.block at → whole_told b at (ToldLeaf v) ≡ at ∷ []
+told-order b at v h = ap (λ leaf. whole_at at (Carries leaf)) (complete-whole b at h)
+
+pub told-total : (b : Problem) (best : ℕ) (at : List ℕ) (v : ℕ) → IsComplete b.block at → IsTold b best at (ToldLeaf v) → v ≡ total_of b at
+told-total b best at v h told = told.0 ∙ ap (value b at) (complete-whole b at h)
+
+pub told-legal : (b : Problem) (at : List ℕ) → IsBeginning b.block at → IsComplete b.block at → IsLegal b.block at
+told-legal b at begins h = order-legal b.block at (begins, h)
+
+pub least-same : (b : Problem) (found orders : List (List ℕ)) (least : Option WholeOrder) → orders ≡ [] → IsLeast b found least → IsLeast b (found ++ orders) least
+least-same b found orders least none h = subst (λ xs. IsLeast b xs least) (sym (ap (λ xs. found ++ xs) none ∙ append-nil found)) h
+
+pub leaf-told : (knot : code.Knot) (v : ℕ) (told : Told) → knot ≡ line.Leaf v → seen_knot knot ≡ AtTip told → told ≡ ToldLeaf v
+leaf-told knot v told is seen = let e : seen_knot (line.Leaf v) ≡ AtTip told = ap seen_knot (sym is) ∙ seen in cc
+
+-- WHAT IS TOLD IS TRUE
+
+pub told-true : (b : Problem) (best : ℕ) (at : List ℕ) (told : Told) → IsTold b best at told → ToldHolds b at told
+told-true b best at (ToldLeaf v) h = h.0
+told-true b best at (ToldFrontier v) h = (h.0, h.1.0)
+
+pub told-tip : (b : Problem) (best : ℕ) (at : List ℕ) (told : Told) → IsTold b best at told → TipHoldsWhile b best best at (tip_of b at told)
+told-tip b best at (ToldLeaf v) h = (refl, elim h.1 [ inl whole ↦ inl whole | inr le ↦ inr (omega (arith, le, h.0)) ])
+told-tip b best at (ToldFrontier v) h = h.1
+
+pub holds-tip : (b : Problem) (at : List ℕ) (told : Told) → ToldHolds b at told → TipHolds b at (tip_of b at told)
+holds-tip b at (ToldLeaf v) h = refl
+holds-tip b at (ToldFrontier v) h = h.1

@@ -1,0 +1,23 @@
+use Rattle.std.proofs.Common.{◌≤◌, ◌⊎◌, true≢false, ◌∙◌, sym, refl, arith, inl, inr}
+use Rattle.s66_model.specs.LegalOrder.{IsComplete, IsIncomplete}
+use Rattle.s66_model.specs.Told.{ToldLeaf, ToldFrontier}
+use Rattle.s66_node.proofs.grow.look.Goals as goal
+use Rattle.s66_node.proofs.grow.look.Goals.{then-is_complete-via-then-is_complete, then-is_complete-via-else-is_complete+then-value-best}
+
+pub returns-then-is_complete-clause-told : goal.returns-then-is_complete-clause-told
+returns-then-is_complete-clause-told c =
+    let either : IsComplete c.args.walk.now.problem.block c.args.walk.now.numbers ⊎ (c.args.best ≤ c.floor_value-value.result) =
+    elim c.then-is_complete.branch [
+      | then-is_complete-via-then-is_complete w ↦ inl (c.is_complete.ensures.complete.0 w.if-is_complete.true)
+      | then-is_complete-via-else-is_complete+then-value-best w ↦ inr (omega (arith, w.if-value-best.true))
+    ] in
+    (ToldLeaf c.floor_value-value.result, refl, (c.floor_value-value.ensures, either))
+
+pub returns-else-may_split-clause-told : goal.returns-else-may_split-clause-told
+returns-else-may_split-clause-told c =
+    let part : IsIncomplete c.args.walk.now.problem.block c.args.walk.now.numbers =
+    elim c.is_complete.ensures.incomplete [
+      | inl whole ↦ absurd (true≢false (sym whole ∙ c.if-is_complete.false))
+      | inr part ↦ part
+    ] in
+    (ToldFrontier c.floor_value-value.result, refl, (c.floor_value-value.ensures, (part, omega (arith, c.floor_value-value.ensures, c.if-value-best.false))))

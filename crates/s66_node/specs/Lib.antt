@@ -1,0 +1,5 @@
+pub mod SeenKnots
+pub mod Pieces
+pub mod Walked
+pub mod Growing
+pub mod Walking

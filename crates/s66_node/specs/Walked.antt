@@ -1,0 +1,24 @@
+-- To be believed: what contracts see of a walk: what is timed, and the prefix at which it stands.
+use Rattle.std.specs.Prelude.{ℕ, ◌-◌, ◌≡◌, ◌≤◌, List, length, take}
+use Rattle.s66_line.specs.Block.{instrs_of}
+use Rattle.s66_line.specs.declared.limits.TheConstants.{BLOCK_LIMIT}
+use Rattle.s66_model.specs.Dependence.{all_needs}
+use Rattle.s66_model.specs.LegalOrder.{IsBeginning}
+use Rattle.s66_model.specs.Timing.{Problem}
+use Rattle.s66_time.specs.Ticking.{Ticking, problem_of}
+
+pub record Walked : Type 0 where
+  pub problem : Problem
+  pub numbers : List ℕ
+
+-- the prefix without its last number
+abbrev pub front : List ℕ → List ℕ
+front prefix = take (length prefix - 1) prefix
+
+-- what is true of every walk: its clock, its bounds, its dependences and its numbers go together
+pub record IsWalked (c : Ticking) (b : Problem) (d : List (List ℕ)) (ns : List ℕ) : Type 0 where
+  pub bounds : b ≡ problem_of c
+  pub needs : d ≡ all_needs (instrs_of c.block)
+  pub numbers : ns ≡ c.numbers
+  pub begins : IsBeginning (instrs_of c.block) c.numbers
+  pub few : length (instrs_of c.block) ≤ BLOCK_LIMIT

@@ -1,0 +1,68 @@
+-- Used by contracts within the crate alone: what holds while a tree is made, and of it when it is made.
+use Rattle.std.specs.Prelude.{ℕ, ◌+◌, ◌≡◌, ◌<◌, ◌≤◌, ◌⊎◌, true, List, [], ◌∷◌, length, map, reverse, Option, None, Some}
+use Rattle.s66_isa.specs.declared.instr.Instr.{Instr}
+use Rattle.s66_isa.specs.Lists.{Among}
+use Rattle.s66_model.specs.Timing.{Problem, total_of}
+use Rattle.s66_model.specs.LegalOrder.{IsBeginning, IsComplete, IsIncomplete, IsLegal, is_ready}
+use Rattle.s66_model.specs.Leaves.{floor_value}
+use Rattle.s66_model.specs.Tree.{Tree, Knot, flat, splits, tree_values}
+use Rattle.s66_model.specs.Told.{Told, ToldLeaf, ToldFrontier, tip_of}
+use Rattle.s66_model.specs.Expansion.{whole_at}
+use Rattle.s66_dep.specs.declared.set.Set.{Set}
+use Rattle.s66_dep.specs.Members.{numbers_in}
+use Rattle.s66_node.specs.Walked.{front}
+use Rattle.s66_node.specs.Growing.{TreeGrows, Grows}
+use Rattle.s66_node.specs.SeenKnots.{seen}
+use Rattle.s66_node.specs.declared.whole_order.WholeOrder.{WholeOrder}
+use Rattle.s66_node.specs.declared.grow.Grown.{Grown}
+
+-- the prefix may be split: it is incomplete, and its floor is below the best time
+abbrev pub IsDue : Problem → ℕ → List ℕ → Type 0
+IsDue b best at = IsIncomplete b.block at × (floor_value b at < best)
+
+-- what is told is true, and a prefix that may be split has no leaf
+abbrev pub IsTold : Problem → ℕ → List ℕ → Told → Type 0
+IsTold b best at (ToldLeaf value) = (value ≡ floor_value b at) × (IsComplete b.block at ⊎ (best ≤ value))
+IsTold b best at (ToldFrontier value) = (value ≡ floor_value b at) × IsDue b best at
+
+-- the whole order that is told of, if one is
+abbrev pub whole_told : Problem → List ℕ → Told → List (List ℕ)
+whole_told b at told = whole_at at (tip_of b at told)
+
+-- a least one of these legal orders, and none where there are none
+abbrev pub IsLeast : Problem → List (List ℕ) → Option WholeOrder → Type 0
+IsLeast b orders None = orders ≡ []
+IsLeast b orders (Some least) =
+    IsLegal b.block least.numbers.items × Among least.numbers.items orders × (least.total ≡ total_of b least.numbers.items)
+    × ((other : List ℕ) → Among other orders → least.total ≤ total_of b other)
+
+-- a tree was made over the root: by its lines, with its splits and a least one of its whole orders
+pub record IsGrown (b : Problem) (best allowance : ℕ) (root : List ℕ) (grown : Grown) (tree : Tree Told) : Type 0 where
+  pub grows : TreeGrows b.block (IsDue b best) (IsTold b best) root tree
+  pub knots : flat tree ≡ seen grown.knots.items
+  pub splits : splits tree ≡ grown.splits
+  pub least : IsLeast b (tree_values (whole_told b) root tree) grown.least
+  pub within : grown.splits ≤ allowance
+  pub due : 1 ≤ allowance → IsDue b best root → 1 ≤ grown.splits
+
+-- of frames with the last on top, the numbers still to come, those of the top first
+abbrev pub lefts : List Set → List (List ℕ)
+lefts frames = map numbers_in (reverse frames)
+
+-- a walk that stands at a beginning may go on with each number that is still to come, and so may each prefix above it
+abbrev pub AreOpen : List Instr → List ℕ → List (List ℕ) → Type 0
+AreOpen block at [] = Unit {0}
+AreOpen block at (ns ∷ above) =
+    IsBeginning block at × ((n : ℕ) → Among n ns → is_ready block at n ≡ true) × AreOpen block (front at) above
+
+-- while a tree over the root is made: what Grows says of its splits, of what is told of its tips, and of its whole orders
+abbrev pub GrowsFor : Problem → ℕ → List ℕ → List ℕ → List (List ℕ) → List (Knot Told) → List (List ℕ) → List (List ℕ) → Type 0
+GrowsFor b best root at frames knots found cuts = Grows b.block (IsDue b best) (IsTold b best) (whole_told b) root at frames knots found cuts
+
+-- a tree over the root is being made: the walk stands at a prefix with these frames, the last on top, one for each prefix from the root down to it
+pub record IsWalk (b : Problem) (best allowance : ℕ) (root at : List ℕ) (frames : List Set) (knots : List (Knot Told)) (count : ℕ) (least : Option WholeOrder) : Type 0 where
+  pub standing : AreOpen b.block at (lefts frames)
+  pub depth : length root + length frames ≤ length at + 1
+  pub within : count ≤ allowance
+  pub some : 1 ≤ count
+  pub grows : (found cuts : List (List ℕ)) × GrowsFor b best root at (lefts frames) knots found cuts × (length cuts ≡ count) × IsLeast b found least

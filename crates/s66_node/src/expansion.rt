@@ -1,0 +1,74 @@
+ghost use Rattle.std.specs.Prelude.{◌≡◌, ℕ, List, IfOk};
+ghost use Rattle.s66_line.specs.Block.{instrs_of};
+ghost use Rattle.s66_model.specs.Timing.{Problem};
+ghost use Rattle.s66_model.specs.LegalOrder.{IsBeginning};
+ghost use Rattle.s66_model.specs.Tree.{Tree};
+ghost use Rattle.s66_model.specs.Piece.{Tip};
+ghost use Rattle.s66_model.specs.Expansion.{IsExpansion, whole_orders};
+ghost use Rattle.s66_node.specs.Pieces.{tree_of, IsBestTimed};
+ghost use Rattle.s66_node.specs.Walking.{IsLeast};
+
+use crate::grow::{Grown, grow};
+use crate::piece::Piece;
+use crate::walk::Walk;
+use crate::whole_order::{WholeOrder, copy_of};
+use s66_dep::Order;
+use s66_isa::Profile;
+use s66_line::{BLOCK_LIMIT, Block};
+use s66_time::{Timed, time_of};
+use std::alloc::{AllocError, Global};
+
+/// The least order with its times.
+fn timed_of(block: &Block, profile: &Profile, least: Option<WholeOrder>) -> Option<Timed>
+    ensures { let b : Problem = record { block = instrs_of block.now; profile = profile.now } in (prefix : List ℕ) (tree : Tree Tip) → IsLeast b (whole_orders prefix tree) least → IsBestTimed b prefix tree result }
+{
+    let least = least?;
+    match Order::new(block, least.numbers.as_slice()) {
+        Ok(order) => Some(time_of(block, profile, &order)),
+        Err(_) => None,
+    }
+}
+
+/// Expands a prefix of a block's legal orders: a tree over it with at most `allowance` splits, made depth first by rising number.
+///
+/// A prefix whose floor is at least the best time isn't split, and carries its floor as leaf, as a whole order does; the others
+/// that aren't split are the frontier. There is a split where one is allowed and the prefix may be split. With the tree comes a
+/// least one of its whole orders, timed. Times are in minor cycles.
+///
+/// The tables of the block are made once, in time quadratic in its length. Each split then costs a push, a floor and an undo for
+/// each of its children, and a look at each instruction. It takes no lock and waits for nobody. `Err` is want of memory, and
+/// leaves nothing behind.
+pub fn expand(
+    alloc: Global,
+    block: &Block,
+    profile: &Profile,
+    prefix: &[u8],
+    best: u32,
+    allowance: u32,
+) -> Result<Piece, AllocError>
+    requires { IsBeginning (instrs_of block.now) prefix.now }
+    ensures problem { IfOk result (λ p. p.problem ≡ record { block = instrs_of block.now; profile = profile.now }) }
+    ensures prefix { IfOk result (λ p. p.prefix ≡ prefix.now) }
+    ensures expansion { IfOk result (λ p. IsExpansion (record { block = instrs_of block.now; profile = profile.now }) best best allowance prefix.now (tree_of p)) }
+    ensures timed { IfOk result (λ p. IsBestTimed (record { block = instrs_of block.now; profile = profile.now }) prefix.now (tree_of p) p.timed) }
+{
+    // so the prefix fits
+    prove!(block.count() <= BLOCK_LIMIT);
+    let mut walk = Walk::new(block, profile);
+    for number in prefix {
+        walk.push(*number);
+    }
+    let Grown {
+        knots,
+        splits,
+        least,
+    } = grow(alloc, &mut walk, best, allowance)?;
+    Ok(Piece {
+        source: Order::source(block),
+        profile: *profile,
+        prefix: copy_of(prefix),
+        knots,
+        splits,
+        timed: timed_of(block, profile, least),
+    })
+}

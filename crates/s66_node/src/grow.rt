@@ -1,0 +1,111 @@
+ghost use Rattle.std.specs.Prelude.{◌≡◌, ◌++◌, ℕ, List, IfOk, IfSome, IfNone, IsTrue};
+ghost use Rattle.s66_model.specs.Tree.{Tree, AtTip};
+ghost use Rattle.s66_model.specs.Told.{Told};
+ghost use Rattle.s66_node.specs.SeenKnots.{seen_knot};
+ghost use Rattle.s66_node.specs.Walking.{IsDue, IsTold, IsLeast, IsGrown, whole_told};
+
+use crate::knot::Knot;
+use crate::walk::Walk;
+use crate::whole_order::{WholeOrder, keep_lesser};
+use arrayvec::ArrayVec;
+use s66_dep::Set;
+use s66_line::BLOCK_LIMIT;
+use std::alloc::{AllocError, Global};
+
+/// A tree by its lines in preorder, how many of them are splits, and a least one of its whole orders.
+#[derive(Debug, Drop)]
+pub(crate) struct Grown {
+    pub knots: Vec<Knot>,
+    pub splits: u32,
+    pub least: Option<WholeOrder>,
+}
+
+/// What the walk's prefix has where it isn't split: its floor as leaf where that is at least the best time or the prefix is
+/// complete, else a place in the frontier; nothing where it is to be split.
+fn look(walk: &Walk<'_>, best: u32, may_split: bool) -> Option<Knot>
+    ensures told { IfSome result (λ k. (told : Told) × (seen_knot k ≡ AtTip told) × IsTold walk.now.problem best walk.now.numbers told) }
+    ensures unsplit { IfSome result (λ k. IsTrue may_split → ¬ IsDue walk.now.problem best walk.now.numbers) }
+    ensures due { IfNone result (IsDue walk.now.problem best walk.now.numbers) }
+    ensures may { IfNone result (IsTrue may_split) }
+{
+    let value = walk.floor_value();
+    if walk.is_complete() || value >= best {
+        return Some(Knot::Leaf { value });
+    }
+    if may_split {
+        None
+    } else {
+        Some(Knot::Frontier { value })
+    }
+}
+
+/// Keeps the lesser of the least whole order so far and that of the walk's prefix, where this line is its leaf.
+fn keep_whole(least: &mut Option<WholeOrder>, walk: &Walk<'_>, knot: &Knot)
+    ensures { (best : ℕ) (told : Told) (found : List (List ℕ)) → seen_knot knot.now ≡ AtTip told → IsTold walk.now.problem best walk.now.numbers told → IsLeast walk.now.problem found least.old → IsLeast walk.now.problem (found ++ whole_told walk.now.problem walk.now.numbers told) least.new }
+{
+    if let Knot::Leaf { value } = knot {
+        if walk.is_complete() {
+            keep_lesser(least, walk.numbers(), *value);
+        }
+    }
+}
+
+/// The tree over the walk's prefix, made depth first by rising number: at most so many splits, each at an incomplete prefix whose
+/// floor is below the best time.
+///
+/// A split costs one look at each instruction, and each of its children a push, an undo and a floor. Nothing is allocated but
+/// room for lines.
+pub(crate) fn grow(
+    alloc: Global,
+    walk: &mut Walk<'_>,
+    best: u32,
+    allowance: u32,
+) -> Result<Grown, AllocError>
+    ensures { IfOk result (λ grown. (tree : Tree Told) × IsGrown walk.old.problem best allowance walk.old.numbers grown tree) }
+{
+    // so each prefix has a frame
+    prove!(walk.numbers().len() <= BLOCK_LIMIT);
+    let mut knots = Vec::new(alloc);
+    let mut least = None;
+    if let Some(knot) = look(walk, best, 0 < allowance) {
+        keep_whole(&mut least, walk, &knot);
+        knots.push(knot)?;
+        return Ok(Grown {
+            knots,
+            splits: 0,
+            least,
+        });
+    }
+    let ready = walk.ready();
+    knots.push(Knot::Split(ready))?;
+    let mut splits = 1;
+    // of each prefix from the first one down to the walk's, the children that are still to come
+    let mut frames: ArrayVec<Set, BLOCK_LIMIT> = ArrayVec::new();
+    frames.push(ready);
+    while let Some(mut frame) = frames.pop() {
+        if let Some(n) = frame.pop_first() {
+            frames.push(frame);
+            walk.push(n);
+            match look(walk, best, splits < allowance) {
+                Some(knot) => {
+                    keep_whole(&mut least, walk, &knot);
+                    knots.push(knot)?;
+                    walk.undo();
+                }
+                None => {
+                    let ready = walk.ready();
+                    knots.push(Knot::Split(ready))?;
+                    frames.push(ready);
+                    splits += 1;
+                }
+            }
+        } else if !frames.is_empty() {
+            walk.undo();
+        }
+    }
+    Ok(Grown {
+        knots,
+        splits,
+        least,
+    })
+}

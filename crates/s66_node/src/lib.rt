@@ -1,0 +1,14 @@
+//! Expansion of one subtree of a search: a walk over the beginnings of a block's legal orders, and the piece that it makes.
+#![tactic(auto)]
+
+mod expansion;
+mod grow;
+mod knot;
+mod piece;
+mod walk;
+mod whole_order;
+
+pub use expansion::expand;
+pub use knot::Knot;
+pub use piece::Piece;
+pub use walk::Walk;

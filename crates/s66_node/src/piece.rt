@@ -1,0 +1,79 @@
+use crate::knot::Knot;
+use arrayvec::ArrayVec;
+use s66_dep::Order;
+use s66_isa::{Profile, is_same_profile};
+use s66_line::{BLOCK_LIMIT, Block};
+use s66_time::Timed;
+use std::marker::Model;
+
+/// A tree over a prefix of a block's legal orders: splits with exactly the ready numbers, leaves that are floors, and a frontier.
+#[derive(Debug, Drop)]
+pub struct Piece {
+    pub(crate) source: Order,
+    pub(crate) profile: Profile,
+    pub(crate) prefix: ArrayVec<u8, BLOCK_LIMIT>,
+    pub(crate) knots: Vec<Knot>,
+    pub(crate) splits: u32,
+    pub(crate) timed: Option<Timed>,
+}
+
+impl Model for Piece {
+    ghost use Rattle.s66_node.specs.Pieces.{PieceOf, IsKept};
+    ghost use Rattle.s66_node.specs.SeenKnots.{seen};
+
+    ghost Value = { PieceOf };
+
+    ghost view = { λ p. record { problem = record { block = p.source.block; profile = p.profile }; prefix = p.prefix.items; knots = seen p.knots.items; timed = p.timed } };
+
+    ghost invariant = { λ p. IsKept (record { problem = record { block = p.source.block; profile = p.profile }; prefix = p.prefix.items; knots = seen p.knots.items; timed = p.timed }) p.splits };
+}
+
+impl Piece {
+    ghost use Rattle.std.specs.Prelude.{◌≡◌, ◌↔◌, IsTrue};
+    ghost use Rattle.std.specs.Option.{option_copied};
+    ghost use Rattle.s66_line.specs.Block.{instrs_of};
+    ghost use Rattle.s66_model.specs.Tree.{TreeHolds, flat, splits};
+    ghost use Rattle.s66_model.specs.Piece.{IsPiece};
+    ghost use Rattle.s66_node.specs.Pieces.{told_tree, tree_of, IsBestTimed};
+    ghost use Rattle.s66_model.specs.Told.{ToldHolds};
+    ghost use Rattle.s66_node.specs.SeenKnots.{seen};
+
+    /// Whether it is of this block under this profile, in time linear in the block's length.
+    pub fn is_of(&self, block: &Block, profile: &Profile) -> bool
+        ensures { IsTrue result ↔ (self.now.problem ≡ record { block = instrs_of block.now; profile = profile.now }) }
+    {
+        self.source.is_of(block) && is_same_profile(&self.profile, profile)
+    }
+
+    /// The prefix, by its numbers.
+    pub fn prefix(&self) -> &[u8]
+        ensures value { result.now ≡ self.now.prefix }
+    {
+        self.prefix.as_slice()
+    }
+
+    /// How many splits the tree has.
+    pub fn splits(&self) -> u32
+        ensures { result ≡ splits (tree_of self.now) }
+    {
+        self.splits
+    }
+
+    /// The lines of the tree in preorder, with the value of each floor in minor cycles.
+    pub fn knots(&self) -> &[Knot]
+        ensures value { seen result.now ≡ self.now.knots }
+        ensures preorder { flat (told_tree self.now) ≡ self.now.knots }
+        ensures told { TreeHolds self.now.problem.block (ToldHolds self.now.problem) self.now.prefix (told_tree self.now) }
+        ensures piece { IsPiece self.now.problem self.now.prefix (tree_of self.now) }
+    {
+        self.knots.as_slice()
+    }
+
+    /// A least one of the tree's whole orders, timed, where it has some.
+    pub fn timed(&self) -> Option<&Timed>
+        ensures value { option_copied result ≡ self.now.timed }
+        ensures best { IsBestTimed self.now.problem self.now.prefix (tree_of self.now) self.now.timed }
+    {
+        self.timed.as_ref()
+    }
+}

@@ -1,0 +1,43 @@
+ghost use Rattle.std.specs.Prelude.{◌≡◌, ◌≤◌, ◌++◌, [], ◌∷◌, List, ℕ, length};
+ghost use Rattle.s66_line.specs.declared.limits.TheConstants.{BLOCK_LIMIT};
+ghost use Rattle.s66_model.specs.Timing.{Problem, total_of};
+ghost use Rattle.s66_model.specs.LegalOrder.{IsLegal};
+ghost use Rattle.s66_node.specs.Walking.{IsLeast};
+
+use arrayvec::ArrayVec;
+use s66_line::BLOCK_LIMIT;
+
+/// A whole order and its total in minor cycles.
+#[derive(Debug, Drop)]
+pub(crate) struct WholeOrder {
+    pub numbers: ArrayVec<u8, BLOCK_LIMIT>,
+    pub total: u32,
+}
+
+/// The same numbers.
+pub(crate) fn copy_of(numbers: &[u8]) -> ArrayVec<u8, BLOCK_LIMIT>
+    requires { length numbers.now ≤ BLOCK_LIMIT }
+    ensures { result.items ≡ numbers.now }
+{
+    let mut copy = ArrayVec::new();
+    for number in numbers {
+        copy.push(*number);
+    }
+    copy
+}
+
+/// Keeps the lesser of the least order so far and this one; of equal ones the first stays.
+pub(crate) fn keep_lesser(least: &mut Option<WholeOrder>, numbers: &[u8], total: u32)
+    requires { length numbers.now ≤ BLOCK_LIMIT }
+    ensures { (b : Problem) (orders : List (List ℕ)) → IsLegal b.block numbers.now → total ≡ total_of b numbers.now → IsLeast b orders least.old → IsLeast b (orders ++ numbers.now ∷ []) least.new }
+{
+    if let Some(found) = least {
+        if found.total <= total {
+            return;
+        }
+    }
+    *least = Some(WholeOrder {
+        numbers: copy_of(numbers),
+        total,
+    });
+}
