@@ -21,3 +21,4 @@ pub mod Wholes
 pub mod PadsLaw
 pub mod PlacedBlocks
 pub mod PrintedLines
+pub mod ReadBack

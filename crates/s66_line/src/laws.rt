@@ -2,12 +2,12 @@ ghost use Rattle.std.specs.Prelude.{◌≡◌, ◌≤◌, ℕ, List, ◌∷◌, 
 ghost use Rattle.std.specs.List.{filter};
 ghost use Rattle.s66_isa.specs.declared.instr.Instr.{Instr};
 ghost use Rattle.s66_isa.specs.declared.reg.Bank.{Bank};
-ghost use Rattle.s66_isa.specs.Lists.{Among, tally, rising};
-ghost use Rattle.s66_line.specs.Fields.{is_blank, upper_byte, upper, body, lines_of, AreLines, HasFields};
+ghost use Rattle.s66_isa.specs.Lists.{Among, tally, every, rising};
+ghost use Rattle.s66_line.specs.Fields.{is_blank, is_newline, upper_byte, upper, body, lines_of, AreLines, HasFields};
 ghost use Rattle.s66_line.specs.InstructionText.{IsInstruction};
 ghost use Rattle.s66_line.specs.Operand.{register_of, is_constant, constant_of, instr_of, set_form_of};
 ghost use Rattle.s66_line.specs.Spelling.{CanMean, spellings, all_codes, upper_read};
-ghost use Rattle.s66_line.specs.Source.{Line, Block, classed_lines, instructions, is_instruction, parts_of, blocks_of, source_of};
+ghost use Rattle.s66_line.specs.Source.{Line, Block, class_of, classed_lines, instructions, is_instruction, parts_of, blocks_of, source_of};
 ghost use Rattle.s66_line.specs.Block.{constants_in};
 ghost use Rattle.s66_line.specs.Parts.{AreParts};
 ghost use Rattle.s66_line.specs.Printed.{Placed, label_field, printed};
@@ -65,6 +65,12 @@ pub fn parts_law()
 pub fn line_law()
     ensures one { (text : List ℕ) (blocks : List Block) (line : Line) → source_of text ≡ Ok blocks → Among line (classed_lines text) → tally (λ is. is) (roles (classed_lines text) line) ≡ 1 }
     ensures note { (text : List ℕ) (line : Line) → Among line (classed_lines text) → is_note (classed_lines text) line ≡ true → tally (is_note_of line) (blocks_of (classed_lines text)) ≡ 1 }
+{}
+
+/// A line that is printed where it stands is cut out again at its newline, and is of the same class as before, behind code or not.
+pub fn copied_law()
+    ensures cut { (line text : List ℕ) → every (λ b. not (is_newline b)) line ≡ true → lines_of (line ++ codes "\n" ++ text) ≡ line ∷ lines_of text }
+    ensures class { (after : Bool) (line : List ℕ) → class_of after (body line) ≡ class_of after line }
 {}
 
 /// What becomes of the lines of a small source, and of comments and a `NO` outside of blocks.

@@ -23,8 +23,9 @@ pub use device::{Failed, Feed, OverRead, OverWrite, Sink, WriteError, write_all}
 pub use error::SourceError;
 pub use instruction_text::is_instruction;
 pub use laws::{
-    byte_examples, case_law, code_law, constant_examples, instruction_examples, line_examples,
-    line_law, operation_law, parts_law, printed_examples, set_form_law, term_law, whole_law,
+    byte_examples, case_law, code_law, constant_examples, copied_law, instruction_examples,
+    line_examples, line_law, operation_law, parts_law, printed_examples, set_form_law, term_law,
+    whole_law,
 };
 pub use limits::{BLOCK_LIMIT, LINE_LIMIT, SOURCE_LIMIT, TEXT_LIMIT};
 pub use placed::Placed;

@@ -63,8 +63,10 @@ impl Pads {
     pub(crate) fn settle(&mut self) -> Result<(), AllocError>
         ensures { OnOk result (self.new ≡ settle self.old) }
     {
-        self.dropped.extend_from_slice(self.undecided.as_slice())?;
-        self.undecided.clear();
+        if !self.undecided.is_empty() {
+            self.dropped.extend_from_slice(self.undecided.as_slice())?;
+            self.undecided.clear();
+        }
         self.has_instruction = true;
         Ok(())
     }
