@@ -11,9 +11,9 @@ use std::test::Fail;
 /// How many steps walk through the orders of four instructions: each of the 65 beginnings tries four numbers and is left once.
 const STEPS: u32 = 65 * 5;
 
-const ONE_LOAD: &str = "SA1 A1+B1\nBX6 X1\nBX7 X2";
+pub const ONE_LOAD: &str = "SA1 A1+B1\nBX6 X1\nBX7 X2";
 
-const MULTIPLIES: &str = "FX1 X2*X3\nFX4 X5*X6\nFX0 X7*X7";
+pub const MULTIPLIES: &str = "FX1 X2*X3\nFX4 X5*X6\nFX0 X7*X7";
 
 const PACKING_GAP: &str = "BX7 X2\nLX3 1\nIX4 X5+X6\nSA1 A1+100";
 
@@ -41,7 +41,7 @@ const KINDS: [Kind; 7] = [
 ];
 
 /// Pushes a number where it is ready, and tells whether it was.
-fn push_ready(clock: &mut Clock, n: u8) -> bool {
+pub fn push_ready(clock: &mut Clock, n: u8) -> bool {
     let is_ready = ready(clock.block(), &clock.pushed()).has(n);
     if is_ready {
         clock.push(n);
