@@ -1,4 +1,4 @@
--- To be believed: what contracts see of a piece.
+-- Used by contracts: what they see of a piece.
 use Rattle.std.specs.Prelude.{ℕ, ◌≡◌, List, Option, None, Some}
 use Rattle.s66_model.specs.Timing.{Problem}
 use Rattle.s66_model.specs.Tree.{Tree, TreeHolds, Knot, flat, splits}

@@ -1,4 +1,4 @@
--- To be believed: what contracts see of the lines of a piece: its splits, and the values that are told of its other prefixes.
+-- Used by contracts: what they see of the lines of a piece: its splits, and the values that are told of its other prefixes.
 use Rattle.std.specs.Prelude.{List, map}
 use Rattle.s66_model.specs.Tree.{Knot, AtTip, AtSplit}
 use Rattle.s66_model.specs.Told.{Told, ToldLeaf, ToldFrontier}

@@ -1,4 +1,4 @@
--- To be believed: what contracts see of a walk: what is timed, and the prefix at which it stands.
+-- Used by contracts: what they see of a walk: what is timed, and the prefix at which it stands.
 use Rattle.std.specs.Prelude.{ℕ, ◌-◌, ◌≡◌, ◌≤◌, List, length, take}
 use Rattle.s66_line.specs.Block.{instrs_of}
 use Rattle.s66_line.specs.declared.limits.TheConstants.{BLOCK_LIMIT}
