@@ -22,7 +22,7 @@ pub(crate) struct Grown {
 
 /// What the walk's prefix has where it isn't split: its floor as leaf where that is at least the best time or the prefix is
 /// complete, else a place in the frontier; nothing where it is to be split.
-fn look(walk: &Walk<'_>, best: u32, may_split: bool) -> Option<Knot>
+fn unsplit_knot(walk: &Walk<'_>, best: u32, may_split: bool) -> Option<Knot>
     ensures told { IfSome result (λ k. (told : Told) × (seen_knot k ≡ AtTip told) × IsTold walk.now.problem best walk.now.numbers told) }
     ensures unsplit { IfSome result (λ k. IsTrue may_split → ¬ IsDue walk.now.problem best walk.now.numbers) }
     ensures due { IfNone result (IsDue walk.now.problem best walk.now.numbers) }
@@ -67,7 +67,7 @@ pub(crate) fn grow(
     prove!(walk.numbers().len() <= BLOCK_LIMIT);
     let mut knots = Vec::new(alloc);
     let mut least = None;
-    if let Some(knot) = look(walk, best, 0 < allowance) {
+    if let Some(knot) = unsplit_knot(walk, best, 0 < allowance) {
         keep_whole(&mut least, walk, &knot);
         knots.push(knot)?;
         return Ok(Grown {
@@ -86,7 +86,7 @@ pub(crate) fn grow(
         if let Some(n) = frame.pop_first() {
             frames.push(frame);
             walk.push(n);
-            match look(walk, best, splits < allowance) {
+            match unsplit_knot(walk, best, splits < allowance) {
                 Some(knot) => {
                     keep_whole(&mut least, walk, &knot);
                     knots.push(knot)?;

@@ -50,13 +50,13 @@ push-requires-in-Some-pop_first c =
     let room = next-room b c.args.best c.args.allowance root lf.walk.numbers lf.frames.items c.pop.new.self.items c.in-Some-pop.frame (seen lf.knots.items) lf.splits lf.least lf.invariant.walk c.in-Some-pop.ensures.items in
     (omega arith, omega (arith, few, room, c.numbers.ensures.few))
 
-pub loop-frame-smaller-in-Some-look : goal.loop-frame-smaller-in-Some-look
-loop-frame-smaller-in-Some-look c =
+pub loop-frame-smaller-in-Some-unsplit_knot : goal.loop-frame-smaller-in-Some-unsplit_knot
+loop-frame-smaller-in-Some-unsplit_knot c =
     let lf = c.loop-frame in
     work-tip ((c.args.allowance - lf.splits) * 66) lf.frames.items c.push-in-Some-pop_first.new.self.items c.pop.new.self.items c.in-Some-pop.frame c.pop_first.new.self c.in-Some-pop_first.n c.in-Some-pop.ensures.items c.push-in-Some-pop_first.ensures.items c.in-Some-pop_first.ensures.some
 
-pub loop-frame-preserved-in-Some-look : goal.loop-frame-preserved-in-Some-look
-loop-frame-preserved-in-Some-look c =
+pub loop-frame-preserved-in-Some-unsplit_knot : goal.loop-frame-preserved-in-Some-unsplit_knot
+loop-frame-preserved-in-Some-unsplit_knot c =
     let b = c.args.walk.now.problem in
     let root = c.args.walk.now.numbers in
     let lf = c.loop-frame in
@@ -64,14 +64,14 @@ loop-frame-preserved-in-Some-look c =
     let own : now.problem ≡ b = ap (λ (w : Walked). w.problem) c.push-in-Some-pop_first-2.ensures ∙ lf.invariant.problem in
     let next : now.numbers ≡ lf.walk.numbers ++ c.in-Some-pop_first.n ∷ [] = ap (λ (w : Walked). w.numbers) c.push-in-Some-pop_first-2.ensures in
     let up : c.undo.new.self.numbers ≡ front now.numbers = ap (λ (w : Walked). w.numbers) c.undo.ensures in
-    let (told, line, holds) = c.in-Some-look.ensures.told in
-    let knots = seen-push lf.knots.items c.push-in-Some-look.new.self.items c.in-Some-look.knot (AtTip told) c.in_ok-push-in-Some-look.ensures.items line in
-    let lower : (found : List (List ℕ)) → IsLeast now.problem found lf.least → IsLeast now.problem (found ++ whole_told now.problem now.numbers told) c.keep_whole-in-Some-look.new.least =
-    λ found h. c.keep_whole-in-Some-look.ensures c.args.best told found line holds h in
+    let (told, line, holds) = c.in-Some-unsplit_knot.ensures.told in
+    let knots = seen-push lf.knots.items c.push-in-Some-unsplit_knot.new.self.items c.in-Some-unsplit_knot.knot (AtTip told) c.in_ok-push-in-Some-unsplit_knot.ensures.items line in
+    let lower : (found : List (List ℕ)) → IsLeast now.problem found lf.least → IsLeast now.problem (found ++ whole_told now.problem now.numbers told) c.keep_whole-in-Some-unsplit_knot.new.least =
+    λ found h. c.keep_whole-in-Some-unsplit_knot.ensures c.args.best told found line holds h in
     record {
       problem = ap (λ (w : Walked). w.problem) c.undo.ensures ∙ own;
       walk = walk-tip b c.args.best c.args.allowance root lf.walk.numbers lf.frames.items c.pop.new.self.items c.in-Some-pop.frame (seen lf.knots.items) lf.splits lf.least lf.invariant.walk c.in-Some-pop.ensures.items
-          c.in-Some-pop_first.n c.pop_first.new.self c.push-in-Some-pop_first.new.self.items (seen c.push-in-Some-look.new.self.items) c.keep_whole-in-Some-look.new.least told now.problem now.numbers c.undo.new.self.numbers
+          c.in-Some-pop_first.n c.pop_first.new.self c.push-in-Some-pop_first.new.self.items (seen c.push-in-Some-unsplit_knot.new.self.items) c.keep_whole-in-Some-unsplit_knot.new.least told now.problem now.numbers c.undo.new.self.numbers
           c.in-Some-pop_first.ensures.some c.push-in-Some-pop_first.ensures.items own next up holds knots lower;
     }
 

@@ -1,8 +1,8 @@
 use Rattle.std.proofs.Common.{◌≤◌, ◌⊎◌, true≢false, ◌∙◌, sym, refl, arith, inl, inr}
 use Rattle.s66_model.specs.LegalOrder.{IsComplete, IsIncomplete}
 use Rattle.s66_model.specs.Told.{ToldLeaf, ToldFrontier}
-use Rattle.s66_node.proofs.grow.look.Goals as goal
-use Rattle.s66_node.proofs.grow.look.Goals.{then-is_complete-via-then-is_complete, then-is_complete-via-else-is_complete+then-value-best}
+use Rattle.s66_node.proofs.grow.unsplit_knot.Goals as goal
+use Rattle.s66_node.proofs.grow.unsplit_knot.Goals.{then-is_complete-via-then-is_complete, then-is_complete-via-else-is_complete+then-value-best}
 
 pub returns-then-is_complete-clause-told : goal.returns-then-is_complete-clause-told
 returns-then-is_complete-clause-told c =
