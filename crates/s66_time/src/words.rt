@@ -12,7 +12,7 @@ use crate::progress::Progress;
 use crate::registers::RegisterWords;
 use crate::row::Row;
 use crate::step::Step;
-use crate::tick::{Tick, unit_free_after};
+use crate::tick::{Tick, free_after};
 use crate::units::UnitWords;
 use s66_dep::Set;
 use s66_isa::{Memory, Profile};
@@ -114,7 +114,7 @@ impl Words {
         let issue = self.issue(profile, row, unit);
         let start = self.start(row, issue);
         let results = self.read.results(row.writes.as_slice(), start);
-        let free = unit_free_after(start, row.hold, results.as_slice());
+        let free = free_after(start, row.hold, results.as_slice());
         Tick {
             unit,
             parcel: fits_at(self.progress.parcel, row.parcels),

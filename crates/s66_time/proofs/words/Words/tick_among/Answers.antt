@@ -21,15 +21,15 @@ results-results-requires-clause-start c =
     let early = start-early c.args.profile.now s c.args.row.now c.issue-issue.result c.start-start.result turn issue (c.start-start.ensures c.args.profile.now s is turn issue) in
     omega (arith, early)
 
-pub unit_free_after-free-requires-clause-start : goal.unit_free_after-free-requires-clause-start
-unit_free_after-free-requires-clause-start c =
+pub free_after-free-requires-clause-start : goal.free_after-free-requires-clause-start
+free_after-free-requires-clause-start c =
     let (s, is, turn) = c.requires.follows in
     let issue = c.issue-issue.ensures s is in
     let early = start-early c.args.profile.now s c.args.row.now c.issue-issue.result c.start-start.result turn issue (c.start-start.ensures c.args.profile.now s is turn issue) in
     omega (arith, c.row.invariant.hold, early)
 
-pub unit_free_after-free-requires-clause-results : goal.unit_free_after-free-requires-clause-results
-unit_free_after-free-requires-clause-results c =
+pub free_after-free-requires-clause-results : goal.free_after-free-requires-clause-results
+free_after-free-requires-clause-results c =
     let (s, is, turn) = c.requires.follows in
     let ws = c.as_slice.result.now in
     let start = c.start-start.result in
@@ -44,11 +44,11 @@ returns-clause-value c = λ s n is turn.
     let r = c.args.row.now in
     let start = c.start-start.result in
     let issue = c.issue-issue.ensures s is in
-    point-by p s n r c.fits_at.result c.issue-issue.result start c.results-results.result.items c.unit_free_after-free.result
+    point-by p s n r c.fits_at.result c.issue-issue.result start c.results-results.result.items c.free_after-free.result
     (c.fits_at.ensures ∙ ap (λ q. fits_at q c.row.inside.parcels) is.parcel ∙ ap (λ (x : Row). fits_at (next_parcel s) x.parcels) c.row.view_is)
     issue (c.start-start.ensures p s is turn issue)
     (c.results-results.ensures (readers_wait s) is.read ∙ ap (map (result_at s start)) c.as_slice.ensures.value ∙ ap (λ (x : Row). map (result_at s start) x.writes) c.row.view_is)
-    (c.unit_free_after-free.ensures ∙ ap (free_after start c.row.inside.hold) c.as_slice-2.ensures.value ∙ ap (λ (x : Row). free_after start x.hold c.results-results.result.items) c.row.view_is)
+    (c.free_after-free.ensures ∙ ap (free_after start c.row.inside.hold) c.as_slice-2.ensures.value ∙ ap (λ (x : Row). free_after start x.hold c.results-results.result.items) c.row.view_is)
 
 pub returns-clause-early : goal.returns-clause-early
 returns-clause-early c =
