@@ -14,19 +14,8 @@ use crate::printed::chain_numbers;
 use crate::tables::Tables;
 use crate::values::{chain_of, greatest_load, load_of, parcels_of};
 use s66_dep::Set;
-use s66_isa::Kind;
+use s66_isa::KINDS;
 use s66_time::Clock;
-
-/// The kinds of units, in the order of the loads.
-const KINDS: [Kind; 7] = [
-    Kind::Boolean,
-    Kind::Shift,
-    Kind::Add,
-    Kind::LongAdd,
-    Kind::Multiply,
-    Kind::Divide,
-    Kind::Increment,
-];
 
 /// The first greatest of the loads and the parcels, where it is greater than the greatest chain.
 fn beyond_chain(tables: &Tables, clock: &Clock<'_>, rest: &Set, chain_value: u32) -> Option<Leaf>

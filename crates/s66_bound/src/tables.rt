@@ -1,7 +1,7 @@
 ghost use Rattle.std.specs.Prelude.{ℕ, ◌≡◌, ◌+◌, ◌≤◌, ◌<◌, ◌==◌, length};
 ghost use Rattle.s66_isa.specs.Lists.{some_of};
 ghost use Rattle.s66_isa.specs.Registers.{index_of};
-ghost use Rattle.s66_isa.specs.Table.{kind_number, same_kind, same_reg, Write as WriteOf};
+ghost use Rattle.s66_isa.specs.Table.{same_kind, same_reg, Write as WriteOf};
 ghost use Rattle.s66_line.specs.declared.limits.TheConstants.{BLOCK_LIMIT};
 ghost use Rattle.s66_model.specs.Timing.{Problem, row_at};
 ghost use Rattle.s66_model.specs.Leaves.{uses};
@@ -55,22 +55,6 @@ impl Tables {
             users: users_by_register(entries),
             written: written_registers(entries),
         }
-    }
-}
-
-/// The place of a kind in the order of the kinds.
-pub fn kind_place(kind: Kind) -> usize
-    ensures value { result ≡ kind_number kind }
-    ensures within { result < 7 }
-{
-    match kind {
-        Kind::Boolean => 0,
-        Kind::Shift => 1,
-        Kind::Add => 2,
-        Kind::LongAdd => 3,
-        Kind::Multiply => 4,
-        Kind::Divide => 5,
-        Kind::Increment => 6,
     }
 }
 

@@ -15,9 +15,9 @@ ghost use Rattle.s66_time.specs.Ticking.{problem_of, points};
 ghost use Rattle.s66_bound.specs.TableWords.{AreRemaining, IsTables};
 
 use crate::numbers::{greatest_of, least_of, sum_of};
-use crate::tables::{Tables, kind_place};
+use crate::tables::Tables;
 use s66_dep::Set;
-use s66_isa::{Kind, Reg};
+use s66_isa::{Kind, Reg, kind_number};
 use s66_time::Clock;
 
 /// The numbers that aren't pushed.
@@ -76,7 +76,7 @@ fn remaining_work(tables: &Tables, clock: &Clock<'_>, rest: &Set, kind: Kind) ->
     ensures value { result ≡ sum_remaining (instrs_of clock.now.block) clock.now.numbers (λ n. work_of kind (row_at (problem_of clock.now) n)) }
     ensures at_most { result ≤ TOTAL_LIMIT }
 {
-    sum_of(&tables.work, &rest.both(&tables.kinds[kind_place(kind)]))
+    sum_of(&tables.work, &rest.both(&tables.kinds[kind_number(kind)]))
 }
 
 /// How long so many units work, where the work is parted among them: rounded up.

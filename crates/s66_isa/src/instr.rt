@@ -1,6 +1,6 @@
 ghost use Rattle.std.specs.Prelude.{◌≡◌, ◌+◌, ◌<◌, ◌≤◌, ◌++◌, [], ◌∷◌, ℕ, map};
 ghost use Rattle.arrayvec.specs.ArrayVec.{array_vec_len};
-ghost use Rattle.s66_isa.specs.Table.{insert, same_kind, memory_pair, a_reg, b_reg, x_reg, idle_instr};
+ghost use Rattle.s66_isa.specs.Table.{insert, kind_number, same_kind, memory_pair, a_reg, b_reg, x_reg, idle_instr};
 
 use crate::op::Op;
 use crate::profile::Profile;
@@ -20,6 +20,17 @@ pub enum Kind {
     Divide,
     Increment,
 }
+
+/// All kinds, in the order in which they are counted.
+pub const KINDS: [Kind; 7] = [
+    Kind::Boolean,
+    Kind::Shift,
+    Kind::Add,
+    Kind::LongAdd,
+    Kind::Multiply,
+    Kind::Divide,
+    Kind::Increment,
+];
 
 /// How an instruction references memory.
 #[derive(Clone, Copy, Debug, PartialEq, Eq)]
@@ -43,6 +54,22 @@ pub enum Operands {
     XjBk,
     AjBk,
     BjBk,
+}
+
+/// The number of a kind, from 0.
+pub fn kind_number(kind: Kind) -> usize
+    ensures value { result ≡ kind_number kind }
+    ensures within { result < 7 }
+{
+    match kind {
+        Kind::Boolean => 0,
+        Kind::Shift => 1,
+        Kind::Add => 2,
+        Kind::LongAdd => 3,
+        Kind::Multiply => 4,
+        Kind::Divide => 5,
+        Kind::Increment => 6,
+    }
 }
 
 /// Whether the two are one kind.

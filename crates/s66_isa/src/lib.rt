@@ -8,7 +8,9 @@ mod reg;
 mod registers;
 mod write;
 
-pub use instr::{Instr, Kind, Memory, Operands, is_memory_conflict, is_same_kind};
+pub use instr::{
+    Instr, KINDS, Kind, Memory, Operands, is_memory_conflict, is_same_kind, kind_number,
+};
 pub use op::Op;
 pub use profile::{Profile, is_same_profile};
 pub use reg::{Bank, Reg, has_register, is_same_register, is_zero_register};

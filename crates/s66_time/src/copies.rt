@@ -3,7 +3,7 @@ ghost use Rattle.s66_isa.specs.Table.{kind_number, copies_of};
 ghost use Rattle.s66_isa.specs.declared.instr.Kind.{Kind as KindOf};
 ghost use Rattle.s66_time.specs.declared.limits.TheConstants.{COPIES_LIMIT};
 
-use s66_isa::{Kind, Profile};
+use s66_isa::{Kind, Profile, kind_number};
 
 /// How many units a profile has of each kind, by the kind's number.
 #[derive(Debug, Drop)]
@@ -11,22 +11,6 @@ pub struct Copies {
     counts: [u32; 7],
     ghost some: { (i : ℕ) → i < 7 → 1 ≤ get_or counts i 0 },
     ghost few: { (i : ℕ) → i < 7 → get_or counts i 0 ≤ COPIES_LIMIT },
-}
-
-/// The number of a kind, from 0.
-fn kind_number(kind: Kind) -> usize
-    ensures value { result ≡ kind_number kind }
-    ensures within { result < 7 }
-{
-    match kind {
-        Kind::Boolean => 0,
-        Kind::Shift => 1,
-        Kind::Add => 2,
-        Kind::LongAdd => 3,
-        Kind::Multiply => 4,
-        Kind::Divide => 5,
-        Kind::Increment => 6,
-    }
 }
 
 impl Copies {

@@ -1,7 +1,7 @@
 use super::plain_clock::PlainClock;
 use super::source_of;
 use s66_dep::{Order, ready};
-use s66_isa::{Bank, Kind, Profile, Reg};
+use s66_isa::{Bank, KINDS, Kind, Profile, Reg};
 use s66_line::{Block, read_source};
 use s66_time::{Clock, time_of};
 use std::alloc::AllocError;
@@ -29,16 +29,6 @@ const STORE_THEN_LOAD: &str = "FX6 X2*X3\nSA6 A6+B1\nSA1 A2+B2";
 
 /// The first load waits for its operand, and the store behind it for the load; the second load waits for neither.
 const LOADS_THEN_STORE: &str = "FX2 X3*X4\nSA1 X2+B1\nSA5 A5+B2\nSA6 A6+B3";
-
-const KINDS: [Kind; 7] = [
-    Kind::Boolean,
-    Kind::Shift,
-    Kind::Add,
-    Kind::LongAdd,
-    Kind::Multiply,
-    Kind::Divide,
-    Kind::Increment,
-];
 
 /// Pushes a number where it is ready, and tells whether it was.
 pub fn push_ready(clock: &mut Clock, n: u8) -> bool {

@@ -1,7 +1,7 @@
 use super::clock::{MULTIPLIES, ONE_LOAD, push_ready};
 use super::source_of;
 use s66_bound::{Bounds, ChainLeaf, Leaf, chain, floor, load, parcels};
-use s66_isa::{Kind, Profile};
+use s66_isa::{KINDS, Kind, Profile};
 use s66_line::{Block, read_source};
 use s66_time::Clock;
 use std::process::Abort;
@@ -95,16 +95,6 @@ fn floors_of_beginnings(rt: HostRuntime) -> Result<(), Fail> {
     }
     Ok(())
 }
-
-const KINDS: [Kind; 7] = [
-    Kind::Boolean,
-    Kind::Shift,
-    Kind::Add,
-    Kind::LongAdd,
-    Kind::Multiply,
-    Kind::Divide,
-    Kind::Increment,
-];
 
 /// The parcels of all others and a tail: of the first block 3 and 5, 2 and 4 or 3 and 4, as `NX1`, `SB0` or `SX3` is last. A loaded
 /// X1 has a link of 8 to each Boolean that reads it, whose tail is 4: of two such chains the lower is told.
