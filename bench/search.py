@@ -3,57 +3,29 @@
 
     bench/search.py [--budget SPLITS]    machine instructions a push, an undo, a new clock and a split
 
-The program of bench/search is proved and built in a workspace beside copies of the crates that it uses, under the
-folder for temporary files; it stays there, so that a later run proves only what has changed. Instructions are those of
+The program is the crate s66_bench, which `rt run` proves and builds where that is needed. Instructions are those of
 valgrind's callgrind, and what is the same in two runs is taken off by their difference. The blocks are random and of all
 sorts; a fixed seed makes them.
 """
 import argparse
-import hashlib
 import os
 import random
-import shutil
 import subprocess
-import tempfile
 
 from speed import ALL, TOP, instructions
 
-CRATES = ["s66_isa", "s66_model", "s66_line", "s66_dep", "s66_time", "s66_bound"]
-PROGRAM = "bench_search"
+CRATE = os.path.join(TOP, "crates/s66_bench")
 LENGTHS = [24, 40]
 BLOCKS = 4
 ROUNDS = 50
 
 
-def sync(source, target):
-    """Copies a crate; what checks of the target have left in its out/ stays, and is copied too where there is none."""
-    for part in ("src", "specs", "proofs"):
-        shutil.rmtree(os.path.join(target, part), ignore_errors=True)
-        if os.path.isdir(os.path.join(source, part)):
-            shutil.copytree(os.path.join(source, part), os.path.join(target, part))
-    out = os.path.join(source, "out")
-    if os.path.isdir(out) and not os.path.isdir(os.path.join(target, "out")):
-        shutil.copytree(out, os.path.join(target, "out"), symlinks=True)
-
-
 def build():
-    """The built program, from the repository's crates as they are now."""
-    repository = hashlib.sha256(TOP.encode()).hexdigest()[:8]
-    workspace = os.path.join(tempfile.gettempdir(), "s66_bench_" + repository)
-    os.makedirs(workspace, exist_ok=True)
-    shutil.copy(os.path.join(TOP, "HANDLES"), workspace)
-    with open(os.path.join(TOP, "crates.txt")) as file:
-        lines = [line for line in file if line.split(":")[0] in CRATES]
-    with open(os.path.join(workspace, "crates.txt"), "w") as file:
-        file.writelines(lines + ["%s: %s\n" % (PROGRAM, " ".join(CRATES))])
-    for crate in CRATES:
-        sync(os.path.join(TOP, "crates", crate), os.path.join(workspace, "crates", crate))
-    crate = os.path.join(workspace, "crates", PROGRAM)
-    sync(os.path.join(TOP, "bench/search"), crate)
-    said = subprocess.run(["rt", "run", "--", "new", "0"], cwd=crate, stdin=subprocess.DEVNULL, capture_output=True)
+    """The built program."""
+    said = subprocess.run(["rt", "run", "--", "tree", "1"], cwd=CRATE, stdin=subprocess.DEVNULL, capture_output=True)
     if said.returncode != 0:
         raise SystemExit(said.stderr.decode())
-    return os.path.join(crate, "out", PROGRAM)
+    return os.path.join(CRATE, "out/s66_bench")
 
 
 def blocks_of(length):

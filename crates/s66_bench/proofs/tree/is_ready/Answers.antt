@@ -5,8 +5,8 @@ use Rattle.s66_line.specs.Block.{instrs_of}
 use Rattle.s66_model.specs.Dependence.{all_needs}
 use Rattle.s66_dep.specs.Members.{numbers_in}
 use Rattle.s66_dep.proofs.Readiness.{free-from, is_free, is_free-ready, is_ready-same}
-use Rattle.bench_search.proofs.SourceOrder.{length-needs}
-use Rattle.bench_search.proofs.tree.is_ready.Goals as goal
+use Rattle.s66_bench.proofs.SourceOrder.{length-needs}
+use Rattle.s66_bench.proofs.tree.is_ready.Goals as goal
 
 pub needs-requires : goal.needs-requires
 needs-requires c =

@@ -1,6 +1,6 @@
 use Rattle.std.proofs.Common.{◌≡◌}
 use Rattle.s66_isa.specs.Lists.{rising}
-use Rattle.bench_search.proofs.rounds.push_first.Given as goal
+use Rattle.s66_bench.proofs.rounds.push_first.Given as goal
 
 abbrev pub invariant-loop-position : goal.invariant-loop-position
 invariant-loop-position l = record {

@@ -1,6 +1,6 @@
 use Rattle.std.proofs.Common.{◌≡◌, ◌<◌, length}
 use Rattle.s66_line.specs.Block.{instrs_of}
-use Rattle.bench_search.proofs.tree.walk.Given as goal
+use Rattle.s66_bench.proofs.tree.walk.Given as goal
 
 abbrev pub invariant-loop-step : goal.invariant-loop-step
 invariant-loop-step l = record {

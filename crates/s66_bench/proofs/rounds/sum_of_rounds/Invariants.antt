@@ -1,5 +1,5 @@
 use Rattle.std.proofs.Common.{◌≡◌, []}
-use Rattle.bench_search.proofs.rounds.sum_of_rounds.Given as goal
+use Rattle.s66_bench.proofs.rounds.sum_of_rounds.Given as goal
 
 abbrev pub invariant-loop-round : goal.invariant-loop-round
 invariant-loop-round l = record {

@@ -5,8 +5,8 @@ use Rattle.s66_model.specs.LegalOrder.{is_ready}
 use Rattle.s66_model.proofs.Beginnings.{length-rising}
 use Rattle.s66_dep.proofs.Numbers.{rising-more}
 use Rattle.s66_time.specs.Ticking.{Ticking}
-use Rattle.bench_search.proofs.SourceOrder.{source-ready}
-use Rattle.bench_search.proofs.rounds.push_first.Goals as goal
+use Rattle.s66_bench.proofs.SourceOrder.{source-ready}
+use Rattle.s66_bench.proofs.rounds.push_first.Goals as goal
 
 pub push-requires : goal.push-requires
 push-requires c =
