@@ -1,0 +1,123 @@
+-- Each reply to a piece.
+use Rattle.std.proofs.Common.{ℕ, ◌+◌, ◌-◌, ◌*◌, ◌≤◌, ◌<◌, ◌≡◌, ◌↔◌, IsTrue, Bool, true, false, true≢false, cond, List, [], ◌∷◌, ◌++◌, length, get_or, set, refl, sym, ap, arith, subst, ◌∙◌, Some, None, length-append}
+use Rattle.std.proofs.lemmas.List.{length-set}
+use Rattle.s66_isa.specs.Lists.{weigh}
+use Rattle.s66_isa.proofs.Lists.{ones, weigh-filter}
+use Rattle.s66_isa.specs.declared.instr.Instr.{Instr}
+use Rattle.s66_isa.specs.Table.{numbers}
+use Rattle.s66_model.specs.Timing.{Problem, total_of}
+use Rattle.s66_model.specs.LegalOrder.{ready, is_ready}
+use Rattle.s66_model.specs.Tree.{Tree, Alone, Parted, Kids, NoMore, Unsplit, Split, KidsHold, TreeHolds, flat_kids, flat, kid_splits, splits}
+use Rattle.s66_model.specs.Piece.{IsPiece}
+use Rattle.s66_model.specs.Ledger as model
+use Rattle.s66_model.specs.Ledger.{Graft, Taken, NotOut, OtherPrefix, OverAllowance, Moves, root_state, new_nodes}
+use Rattle.s66_model.proofs.Beginnings.{length-rising}
+use Rattle.s66_time.specs.TimedOrder.{TimedOrder}
+use Rattle.s66_model.specs.Told.{Told, ToldHolds, tip_of}
+use Rattle.s66_node.specs.Pieces as piece
+use Rattle.s66_node.specs.Pieces.{PieceOf, told_tree, tree_of}
+use Rattle.s66_model.proofs.TreesHold.{seen-splits}
+use Rattle.s66_model.proofs.Forests.{tree-match}
+use Rattle.s66_ledger.specs.declared.node.Node.{Node}
+use Rattle.s66_ledger.specs.Nodes.{prefixes, nodes_of, HaveFloors}
+use Rattle.s66_ledger.specs.OpenNodes.{IsOut}
+use Rattle.s66_ledger.specs.Handed.{TicketOf}
+use Rattle.s66_ledger.specs.Kept.{LedgerOf, state_of, ledger_of, IsKept}
+use Rattle.s66_ledger.specs.Grafts.{IsGraft}
+use Rattle.s66_ledger.proofs.SeenNodes.{at-nodes}
+use Rattle.s66_ledger.proofs.Events.{is-out, not-out, kept-next}
+
+-- HOW MANY LINES
+
+ready-few : (block : List Instr) (prefix : List ℕ) → length (ready block prefix) ≤ length block
+ready-few block prefix =
+    omega (arith, ones (ready block prefix), weigh-filter (is_ready block prefix) (λ _. 1) (numbers block), passing-few (is_ready block prefix) (numbers block), length-rising (length block) 1)
+  where
+    at-most : (x : Bool) → cond {A = ℕ} x 1 0 ≤ 1
+    at-most true = omega arith
+    at-most false = omega arith
+
+    passing-few : (test : ℕ → Bool) (ns : List ℕ) → weigh (λ n. cond (test n) 1 0) ns ≤ length ns
+    passing-few test [] = omega arith
+    passing-few test (n ∷ ns) = omega (arith, at-most (test n), passing-few test ns)
+
+module _ (block : List Instr) (Q : List ℕ → Told → Type 0) (few : length block ≤ 64) where
+  kids-lines : (prefix ns : List ℕ) (kids : Kids Told) → KidsHold block Q prefix ns kids → length (flat_kids kids) ≤ length ns + 64 * kid_splits kids
+  kids-lines prefix [] NoMore h = omega arith
+  kids-lines prefix (n ∷ ns) NoMore h = absurd h
+  kids-lines prefix [] (Unsplit t kids) h = absurd h
+  kids-lines prefix (n ∷ ns) (Unsplit t kids) h = omega (arith, kids-lines prefix ns kids h.1)
+  kids-lines prefix [] (Split numbers sub kids) h = absurd h
+  kids-lines prefix (n ∷ ns) (Split numbers sub kids) h =
+      omega (arith, kids-lines (prefix ++ n ∷ []) numbers sub h.2, kids-lines prefix ns kids h.3, length-append (flat_kids sub) (flat_kids kids), ap length h.1, ready-few block (prefix ++ n ∷ []), few)
+
+  tree-lines : (prefix : List ℕ) (tree : Tree Told) → TreeHolds block Q prefix tree → length (flat tree) ≤ 1 + 64 * splits tree
+  tree-lines prefix (Alone t) h = omega arith
+  tree-lines prefix (Parted numbers kids) h = omega (arith, kids-lines prefix numbers kids h.2, ap length h.1, ready-few block prefix, few)
+
+-- a piece has at most a line for its root and one for each child of a split
+pub piece-lines : (q p : PieceOf) (count : ℕ) → piece.IsKept q count → q ≡ p → length p.problem.block ≤ 64 → length p.knots ≤ 1 + 64 * splits (tree_of p)
+piece-lines q p count kept is few =
+    let told : TreeHolds p.problem.block (ToldHolds p.problem) p.prefix (told_tree p) = subst (λ (r : PieceOf). TreeHolds r.problem.block (ToldHolds r.problem) r.prefix (told_tree r)) is kept.told in
+    let lines : flat (told_tree p) ≡ p.knots = subst (λ (r : PieceOf). flat (told_tree r) ≡ r.knots) is kept.knots in
+    omega (arith, ap length lines, tree-lines p.problem.block (ToldHolds p.problem) few p.prefix (told_tree p) told, seen-splits (tip_of p.problem) (told_tree p) p.prefix (tree-match p.problem.block (ToldHolds p.problem) (told_tree p) p.prefix told))
+
+-- REPLIES
+
+module _ (b : Problem) (budget : ℕ) (nodes : List Node) (best : TimedOrder) (left : ℕ) (allowances : List ℕ) (spent : ℕ) (h : IsKept b budget nodes best left allowances spent) (w : ℕ) (t : TicketOf) (p : PieceOf) (one : 1 ≤ w) (le : w ≤ length allowances) (own : Bool) (owns : IsTrue own ↔ (p.problem ≡ b)) where
+  abbrev here : LedgerOf
+  here = ledger_of b budget nodes best.numbers left allowances spent
+
+  prefix-is : t.node < length nodes → (model.node_at (nodes_of b nodes) t.node).prefix ≡ get_or (prefixes nodes) t.node []
+  prefix-is lt = ap (λ (n : model.Node). n.prefix) (at-nodes b nodes t.node lt)
+
+  pub graft-not-out : (l : LedgerOf) → here ≡ l → ¬ IsOut nodes t.node → IsGraft l w t p NotOut l
+  graft-not-out l is never =
+      subst (λ (l : LedgerOf). IsGraft l w t p NotOut l) is
+      (Graft w t.node own p.prefix (splits (tree_of p)) None, (own, owns, refl), (refl, refl, refl, ((one, le), (not-out b nodes best.numbers left allowances spent t.node never, refl))))
+
+  pub graft-other : (l : LedgerOf) → here ≡ l → IsOut nodes t.node → own ≡ false → IsGraft l w t p OtherPrefix l
+  graft-other l is out other =
+      subst (λ (l : LedgerOf). IsGraft l w t p OtherPrefix l) is
+      (Graft w t.node own p.prefix (splits (tree_of p)) None, (own, owns, refl), (refl, refl, refl, ((one, le), (is-out b nodes best.numbers left allowances spent t.node out, (λ over. true≢false (sym over.0 ∙ other)), refl))))
+
+  pub graft-other-prefix : (l : LedgerOf) → here ≡ l → IsOut nodes t.node → ¬ (get_or (prefixes nodes) t.node [] ≡ p.prefix) → IsGraft l w t p OtherPrefix l
+  graft-other-prefix l is out other =
+      subst (λ (l : LedgerOf). IsGraft l w t p OtherPrefix l) is
+      (Graft w t.node own p.prefix (splits (tree_of p)) None, (own, owns, refl), (refl, refl, refl, ((one, le), (is-out b nodes best.numbers left allowances spent t.node out, (λ over. other (sym (over.1 ∙ prefix-is out.0))), refl))))
+
+  pub graft-over : (l : LedgerOf) → here ≡ l → IsOut nodes t.node → own ≡ true → get_or (prefixes nodes) t.node [] ≡ p.prefix → get_or allowances (w - 1) 0 < splits (tree_of p) → IsGraft l w t p OverAllowance l
+  graft-over l is out mine over lt =
+      subst (λ (l : LedgerOf). IsGraft l w t p OverAllowance l) is
+      (Graft w t.node own p.prefix (splits (tree_of p)) None, (own, owns, refl), (refl, refl, refl, ((one, le), (is-out b nodes best.numbers left allowances spent t.node out, (mine, sym over ∙ sym (prefix-is out.0)), lt, refl))))
+
+  module _ (mine : own ≡ true) where
+    abbrev same : p.problem ≡ b
+    same = owns.0 mine
+
+    pub piece-floors : HaveFloors p.problem nodes
+    piece-floors = subst (λ (q : Problem). HaveFloors q nodes) (sym same) h.floors
+
+    module _ (new : List Node) (count : ℕ) (out : IsOut nodes t.node) (over : get_or (prefixes nodes) t.node [] ≡ p.prefix) (counts : count ≡ splits (tree_of p)) (within : count ≤ get_or allowances (w - 1) 0) (piece : IsPiece p.problem p.prefix (tree_of p)) (planted : nodes_of p.problem new ≡ model.with_state (nodes_of p.problem nodes) t.node (root_state p.problem (total_of best.problem best.numbers) p.prefix (tree_of p)) ++ new_nodes p.problem (total_of best.problem best.numbers) p.prefix (tree_of p)) where
+      abbrev after : LedgerOf
+      after = ledger_of b budget new best.numbers left (set allowances (w - 1) (get_or allowances (w - 1) 0 - count)) (spent + count)
+
+      taken-moves : Moves b (state_of b nodes best.numbers left allowances spent) (Graft w t.node true p.prefix (splits (tree_of p)) (Some (tree_of p))) Taken after.state
+      taken-moves =
+          let made : nodes_of b new ≡ model.with_state (nodes_of b nodes) t.node (root_state b (total_of b best.numbers) p.prefix (tree_of p)) ++ new_nodes b (total_of b best.numbers) p.prefix (tree_of p) =
+          subst (λ (q : Problem). nodes_of b new ≡ model.with_state (nodes_of b nodes) t.node (root_state b (total_of q best.numbers) p.prefix (tree_of p)) ++ new_nodes b (total_of q best.numbers) p.prefix (tree_of p)) h.own
+          (subst (λ (q : Problem). nodes_of q new ≡ model.with_state (nodes_of q nodes) t.node (root_state q (total_of best.problem best.numbers) p.prefix (tree_of p)) ++ new_nodes q (total_of best.problem best.numbers) p.prefix (tree_of p)) same planted) in
+          let state : after.state ≡ model.after_graft b (state_of b nodes best.numbers left allowances spent) w t.node p.prefix (tree_of p) =
+          ap (λ n. record { nodes = nodes_of b new; best = best.numbers; left = left; allowances = set allowances (w - 1) (get_or allowances (w - 1) 0 - n); spent = spent + n }) counts
+          ∙ ap (λ (ns : List model.Node). record { nodes = ns; best = best.numbers; left = left; allowances = set allowances (w - 1) (get_or allowances (w - 1) 0 - splits (tree_of p)); spent = spent + splits (tree_of p) }) made in
+          (is-out b nodes best.numbers left allowances spent t.node out, (refl, sym over ∙ sym (prefix-is out.0)), omega (arith, counts, within), refl, subst (λ (q : Problem). IsPiece q p.prefix (tree_of p)) same piece, state)
+
+      pub graft-taken : (l : LedgerOf) → here ≡ l → IsGraft l w t p Taken after
+      graft-taken l is =
+          subst (λ (l : LedgerOf). IsGraft l w t p Taken after) is
+          (Graft w t.node true p.prefix (splits (tree_of p)) (Some (tree_of p)), (true, ((λ e. same), (λ e. refl)), refl), (refl, refl, length-set allowances (w - 1) (get_or allowances (w - 1) 0 - count), ((one, le), taken-moves)))
+
+      pub kept-taken : HaveFloors p.problem new → length new + 1 ≡ length nodes + length p.knots → length p.knots ≤ 1 + 64 * splits (tree_of p) → IsKept b budget new best left (set allowances (w - 1) (get_or allowances (w - 1) 0 - count)) (spent + count)
+      kept-taken floors made lines =
+          kept-next b budget nodes best left allowances spent h new best left (set allowances (w - 1) (get_or allowances (w - 1) 0 - count)) (spent + count) (Graft w t.node true p.prefix (splits (tree_of p)) (Some (tree_of p))) Taken h.own
+          (subst (λ (q : Problem). HaveFloors q new) same floors) (omega (arith, made, lines, counts, h.room)) (length-set allowances (w - 1) (get_or allowances (w - 1) 0 - count)) ((one, le), taken-moves)

@@ -1,0 +1,10 @@
+pub mod Events
+pub mod Floors
+pub mod GraftSteps
+pub mod LiveFloors
+pub mod OpenHeap
+pub mod Planted
+pub mod Prefixes
+pub mod Reading
+pub mod SeenNodes
+pub mod Walks

@@ -1,0 +1,9 @@
+use Rattle.std.proofs.Common.{arith, ap}
+use Rattle.s66_ledger.specs.Kept.{LedgerOf}
+use Rattle.s66_ledger.proofs.Events.{kept-room}
+use Rattle.s66_ledger.proofs.ledger.Ledger.splits.Goals as goal
+
+pub returns-clause-within : goal.returns-clause-within
+returns-clause-within c =
+    let s = c.self.inside in
+    omega (arith, kept-room _ s.budget s.table s.best s.left s.allowances.items s.spent c.self.invariant 0, ap (λ (l : LedgerOf). l.budget) c.self.view_is)

@@ -1,0 +1,27 @@
+use Rattle.std.proofs.Common.{ℕ, true, ◌≡◌, ◌≤◌, ◌∙◌, ap, refl, subst, heap_items}
+use Rattle.std.proofs.lemmas.List.Sorted.{first_le_from_greatest}
+use Rattle.std.specs.Ordering.{nat_cmp}
+use Rattle.s66_ledger.specs.declared.node.Node.{Node}
+use Rattle.s66_ledger.specs.Nodes.{no_node, node_at}
+use Rattle.s66_ledger.specs.OpenNodes.{is_open, ranked}
+use Rattle.s66_ledger.proofs.Prefixes.{get_or-any}
+use Rattle.s66_ledger.proofs.OpenHeap.{taken, taken-within, greatest-least}
+use Rattle.s66_ledger.proofs.node_table.NodeTable.claim.Goals as goal
+
+pub invariant_of-self-2 : goal.invariant_of-self-2
+invariant_of-self-2 c =
+    let t = c.self.inside in
+    let popped = c.in_ok-node.ensures.permutation in
+    let within = taken-within t.nodes.items (heap_items t.open) c.self.invariant.1 (heap_items c.pop.new.self) c.in_ok-node.field-0-0 c.in_ok-node.node popped in (
+      (c.in_ok-node.ensures.heap_order c.self.invariant.0).0,
+      taken t.nodes.items (heap_items t.open) c.self.invariant.1 (heap_items c.pop.new.self) c.in_ok-node.field-0-0 c.in_ok-node.node popped _ refl
+          (ap (λ (x : Node). x.value) c.index_mut.ensures.value ∙ get_or-any t.nodes.items c.in_ok-node.node c.index_mut.result.now no_node (λ x. x.value) within),
+    )
+
+pub returns-clause-least : goal.returns-clause-least
+returns-clause-least c =
+    let t = c.self.inside in
+    let popped = c.in_ok-node.ensures.permutation in
+    subst (λ ns. (j : ℕ) → is_open (node_at ns j) ≡ true → ranked (node_at ns c.in_ok-node.node).value ≤ ranked (node_at ns j).value) c.self.view_is
+    (greatest-least t.nodes.items (heap_items t.open) (heap_items c.pop.new.self) c.in_ok-node.field-0-0 c.in_ok-node.node c.self.invariant.1 popped
+    (first_le_from_greatest nat_cmp (c.in_ok-node.field-0-0, c.in_ok-node.node) (heap_items t.open) (c.in_ok-node.ensures.heap_order c.self.invariant.0).1))

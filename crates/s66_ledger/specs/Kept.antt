@@ -1,0 +1,39 @@
+-- To be believed: what contracts see of a ledger, and what one call of it is. Used by an invariant: what is true of every ledger that is kept.
+use Rattle.std.specs.Prelude.{ℕ, ◌+◌, ◌*◌, ◌≡◌, ◌≤◌, List, length}
+use Rattle.s66_line.specs.declared.limits.TheConstants.{BLOCK_LIMIT}
+use Rattle.s66_model.specs.Timing.{Problem}
+use Rattle.s66_model.specs.Ledger.{Ledger, Event, Reply, Step}
+use Rattle.s66_model.specs.Reached.{IsReached}
+use Rattle.s66_time.specs.TimedOrder.{TimedOrder}
+use Rattle.s66_ledger.specs.declared.node.Node.{Node}
+use Rattle.s66_ledger.specs.declared.limits.TheConstants.{BUDGET_LIMIT}
+use Rattle.s66_ledger.specs.Nodes.{nodes_of, HaveFloors}
+
+-- a problem's ledger, for a budget and so many workers
+pub record LedgerOf : Type 0 where
+  pub problem : Problem
+  pub budget : ℕ
+  pub workers : ℕ
+  pub state : Ledger
+
+-- one event with its reply: a step of the machine
+abbrev pub IsEvent : LedgerOf → Event → Reply → LedgerOf → Type 0
+IsEvent old event reply new =
+    (new.problem ≡ old.problem) × (new.budget ≡ old.budget) × (new.workers ≡ old.workers) × Step old.problem old.state event reply new.state
+
+abbrev pub state_of : Problem → List Node → List ℕ → ℕ → List ℕ → ℕ → Ledger
+state_of b nodes best left allowances spent =
+    record { nodes = nodes_of b nodes; best = best; left = left; allowances = allowances; spent = spent }
+
+abbrev pub ledger_of : Problem → ℕ → List Node → List ℕ → ℕ → List ℕ → ℕ → LedgerOf
+ledger_of b budget nodes best left allowances spent =
+    record { problem = b; budget = budget; workers = length allowances; state = state_of b nodes best left allowances spent }
+
+pub record IsKept (b : Problem) (budget : ℕ) (nodes : List Node) (best : TimedOrder) (left : ℕ) (allowances : List ℕ) (spent : ℕ) : Type 0 where
+  -- some history leads here from the opening
+  pub reached : IsReached b budget (length allowances) (state_of b nodes best.numbers left allowances spent)
+  pub own : best.problem ≡ b
+  pub floors : HaveFloors b nodes
+  -- each split makes a node of each of its children
+  pub room : length nodes ≤ 1 + BLOCK_LIMIT * spent
+  pub few : budget ≤ BUDGET_LIMIT

@@ -1,0 +1,9 @@
+pub mod Claims
+pub mod Grafts
+pub mod Handed
+pub mod Kept
+pub mod LiveNodes
+pub mod Nodes
+pub mod OpenNodes
+pub mod Planting
+pub mod Replies

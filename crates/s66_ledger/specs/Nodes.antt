@@ -1,0 +1,53 @@
+-- Used by contracts: the nodes that a ledger keeps, each by its parent and its last number, as the definition's nodes with whole prefixes.
+use Rattle.std.specs.Prelude.{ℕ, ◌≡◌, ◌≢◌, ◌<◌, List, [], ◌∷◌, ◌++◌, length, get_or, set}
+use Rattle.s66_model.specs.Timing.{Problem}
+use Rattle.s66_model.specs.Leaves.{floor, floor_value}
+use Rattle.s66_model.specs.Ledger as model
+use Rattle.s66_ledger.specs.declared.node.Node.{Node}
+use Rattle.s66_ledger.specs.declared.node.State.{State}
+use Rattle.s66_ledger.specs.declared.node.State.TheVariants as state
+
+-- past the last one stands a node that is split
+abbrev pub no_node : Node
+no_node = record { parent = 0; value = 0; number = 0; depth = 0; state = state.Split; from = 0 }
+
+abbrev pub node_at : List Node → ℕ → Node
+node_at nodes i = get_or nodes i no_node
+
+abbrev pub with_state : List Node → ℕ → State → List Node
+with_state nodes i s = set nodes i (record (node_at nodes i) { state = s })
+
+-- PREFIXES
+
+-- each is its parent's and then its own last number; a parent stands before it
+abbrev pub prefixes_from : List (List ℕ) → List Node → List (List ℕ)
+prefixes_from made [] = made
+prefixes_from made (x ∷ xs) = prefixes_from (made ++ (get_or made x.parent [] ++ x.number ∷ []) ∷ []) xs
+
+-- node 0 is the empty prefix
+abbrev pub prefixes : List Node → List (List ℕ)
+prefixes [] = []
+prefixes (x ∷ xs) = prefixes_from ([] ∷ []) xs
+
+-- STATES
+
+abbrev pub seen_state : Problem → List ℕ → State → model.State
+seen_state b prefix state.Open = model.Open
+seen_state b prefix state.Out = model.Out
+seen_state b prefix state.Closed = model.Closed (floor b prefix)
+seen_state b prefix state.Split = model.Cut
+
+abbrev pub nodes_at : Problem → List (List ℕ) → List Node → List model.Node
+nodes_at b [] xs = []
+nodes_at b (at ∷ ats) [] = []
+nodes_at b (at ∷ ats) (x ∷ xs) = record { prefix = at; state = seen_state b at x.state } ∷ nodes_at b ats xs
+
+abbrev pub nodes_of : Problem → List Node → List model.Node
+nodes_of b xs = nodes_at b (prefixes xs) xs
+
+-- FLOORS
+
+-- of each node that isn't split the value is the floor's
+abbrev pub HaveFloors : Problem → List Node → Type 0
+HaveFloors b nodes =
+    (i : ℕ) → i < length nodes → (node_at nodes i).state ≢ state.Split → (node_at nodes i).value ≡ floor_value b (get_or (prefixes nodes) i [])

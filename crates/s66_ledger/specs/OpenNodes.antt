@@ -1,0 +1,47 @@
+-- Used by contracts within the crate alone: the open nodes in a heap, each with its rank: the least floor first, of equal ones the deepest, of these the newest.
+use Rattle.std.specs.Prelude.{ℕ, ◌+◌, ◌-◌, ◌*◌, ◌≡◌, ◌<◌, ◌==◌, min, length, Bool, true, false, if◌then◌else◌, List}
+use Rattle.std.specs.List.{All}
+use Rattle.std.specs.Ordering.{nat_cmp, ordering_then}
+use Rattle.std.specs.declared.cmp.Ordering.{Ordering}
+use Rattle.s66_isa.specs.Lists.{tally}
+use Rattle.s66_ledger.specs.declared.node.Node.{Node}
+use Rattle.s66_ledger.specs.declared.node.State.{State}
+use Rattle.s66_ledger.specs.declared.node.State.TheVariants as state
+use Rattle.s66_ledger.specs.declared.limits.TheConstants.{RANKED_LIMIT, DEPTH_RANKS}
+use Rattle.s66_ledger.specs.Nodes.{node_at}
+
+abbrev pub is_open_state : State → Bool
+is_open_state state.Open = true
+is_open_state state.Out = false
+is_open_state state.Closed = false
+is_open_state state.Split = false
+
+abbrev pub is_open : Node → Bool
+is_open node = is_open_state node.state
+
+-- the node is handed out
+abbrev pub IsOut : List Node → ℕ → Type 0
+IsOut nodes i = (i < length nodes) × ((node_at nodes i).state ≡ state.Out)
+
+-- floors past the limit count as the limit
+abbrev pub ranked : ℕ → ℕ
+ranked value = min value RANKED_LIMIT
+
+-- the greatest is taken first
+abbrev pub rank_of : (value depth : ℕ) → ℕ
+rank_of value depth = (RANKED_LIMIT - ranked value) * DEPTH_RANKS + depth
+
+-- of a rank and a node's number
+abbrev pub compare_ranked : ℕ × ℕ → ℕ × ℕ → Ordering
+compare_ranked x y = ordering_then (nat_cmp x.0 y.0) (nat_cmp x.1 y.1)
+
+-- of an open node, with the length of its prefix
+abbrev pub IsRanked : List Node → ℕ × ℕ → Type 0
+IsRanked nodes entry =
+    (entry.1 < length nodes) × ((depth : ℕ) × (depth < DEPTH_RANKS) × (entry.0 ≡ rank_of (node_at nodes entry.1).value depth))
+
+pub record AreOpenNodes (nodes : List Node) (entries : List (ℕ × ℕ)) : Type 0 where
+  -- a number stands there once where its node is open, and not else
+  pub once : (i : ℕ) → tally (λ (entry : ℕ × ℕ). entry.1 == i) entries ≡ (if is_open (node_at nodes i) then 1 else 0)
+  pub count : length entries ≡ tally is_open nodes
+  pub ranks : All (IsRanked nodes) entries

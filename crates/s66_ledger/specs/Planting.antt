@@ -1,0 +1,75 @@
+-- Used by contracts within the crate alone: what a piece's lines are as nodes, and what holds while they are appended in preorder.
+use Rattle.std.specs.Prelude.{ℕ, ◌+◌, ◌≡◌, ◌<◌, ◌≤◌, if◌then◌else◌, nat_le, List, [], ◌∷◌, ◌++◌, length, get_or, map, reverse}
+use Rattle.s66_model.specs.Timing.{Problem}
+use Rattle.s66_model.specs.Tree.{Tree, Alone, Parted, Kids, NoMore, Knot, KidsHold}
+use Rattle.s66_model.specs.Ledger as model
+use Rattle.s66_model.specs.Ledger.{kid_nodes}
+use Rattle.s66_dep.specs.Members.{numbers_in}
+use Rattle.s66_node.specs.declared.knot.Knot as code
+use Rattle.s66_node.specs.declared.knot.Knot.TheVariants as line
+use Rattle.s66_model.specs.Told.{Told, ToldLeaf, ToldFrontier, ToldHolds, tip_of, kids_seen}
+use Rattle.s66_node.specs.Walked.{front}
+use Rattle.s66_node.specs.Growing.{flat_rests}
+use Rattle.s66_ledger.specs.declared.node.Node.{Node}
+use Rattle.s66_ledger.specs.declared.node.State.{State}
+use Rattle.s66_ledger.specs.declared.node.State.TheVariants as state
+use Rattle.s66_ledger.specs.declared.planting.Place.{Place}
+use Rattle.s66_ledger.specs.Nodes.{prefixes, nodes_of, HaveFloors}
+
+-- the children of a tree's root
+abbrev pub kids_of : {M : Type 0} → Tree M → Kids M
+kids_of (Alone tip) = NoMore
+kids_of (Parted numbers kids) = kids
+
+-- A LINE as a node
+
+abbrev pub knot_state : ℕ → code.Knot → State
+knot_state best (line.Split numbers) = state.Split
+knot_state best (line.Leaf value) = if nat_le best value then state.Closed else state.Open
+knot_state best (line.Frontier value) = state.Open
+
+abbrev pub knot_value : code.Knot → ℕ
+knot_value (line.Split numbers) = 0
+knot_value (line.Leaf value) = value
+knot_value (line.Frontier value) = value
+
+abbrev pub told_state : ℕ → Told → State
+told_state best (ToldLeaf value) = if nat_le best value then state.Closed else state.Open
+told_state best (ToldFrontier value) = state.Open
+
+abbrev pub told_value : Told → ℕ
+told_value (ToldLeaf value) = value
+told_value (ToldFrontier value) = value
+
+-- IN PREORDER: of a prefix and of each above it, nearest first, these children are still to come
+
+abbrev pub RestsHold : Problem → List ℕ → List (List ℕ) → List (Kids Told) → Type 0
+RestsHold b at [] [] = Unit {0}
+RestsHold b at (ns ∷ above) (kids ∷ rests) = KidsHold b.block (ToldHolds b) at ns kids × RestsHold b (front at) above rests
+RestsHold b at [] (kids ∷ rests) = ⊥
+RestsHold b at (ns ∷ above) [] = ⊥
+
+-- the nodes that are still to come
+abbrev pub rest_nodes : Problem → ℕ → List ℕ → List (List ℕ) → List (Kids Told) → List model.Node
+rest_nodes b best at [] rests = []
+rest_nodes b best at (ns ∷ above) [] = []
+rest_nodes b best at (ns ∷ above) (kids ∷ rests) =
+    kid_nodes b best at ns (kids_seen (tip_of b) at ns kids) ++ rest_nodes b best (front at) above rests
+
+-- of places with the last on top, the numbers still to come, those of the top first
+abbrev pub place_lefts : List Place → List (List ℕ)
+place_lefts places = map (λ (p : Place). numbers_in p.left) (reverse places)
+
+-- the places are nodes that were made, the top one at this prefix, and each below it at the one before
+abbrev pub PlacesStand : List (List ℕ) → List ℕ → List Place → Type 0
+PlacesStand made at [] = Unit {0}
+PlacesStand made at (place ∷ places) = (place.node < length made) × (get_or made place.node [] ≡ at) × PlacesStand made (front at) places
+
+-- lines are read in preorder: the places have children to come, the nodes that were made and those to come are the total
+pub record IsReading (b : Problem) (best : ℕ) (total : List model.Node) (at : List ℕ) (places : List Place) (made : List Node) (later : List (Knot Told)) : Type 0 where
+  pub depth : length places ≤ length at + 1
+  pub part : length at < length b.block
+  pub stands : PlacesStand (prefixes made) at (reverse places)
+  pub some : 0 < length made
+  pub floors : HaveFloors b made
+  pub rests : (rests : List (Kids Told)) × RestsHold b at (place_lefts places) rests × (flat_rests rests ≡ later) × (nodes_of b made ++ rest_nodes b best at (place_lefts places) rests ≡ total)

@@ -1,0 +1,265 @@
+use crate::limits::{BUDGET_LIMIT, GRANT_LIMIT};
+use crate::node_table::NodeTable;
+use crate::reply::{BackError, GraftError, Offered};
+use crate::ticket::Ticket;
+use s66_bound::Bounds;
+use s66_dep::Order;
+use s66_isa::Profile;
+use s66_line::{BLOCK_LIMIT, Block};
+use s66_node::Piece;
+use s66_time::{Clock, Timed, time_of};
+use std::alloc::{AllocError, Global};
+use std::marker::Model;
+
+/// The ledger of a search over one block's orders, for one thread; it borrows the block.
+#[derive(Drop)]
+pub struct Ledger<'a> {
+    block: &'a Block<'a>,
+    profile: Profile,
+    budget: u32,
+    table: NodeTable,
+    best: Timed,
+    left: u32,
+    allowances: Vec<u32>,
+    spent: u32,
+}
+
+impl<'a> Model for Ledger<'a> {
+    ghost use Rattle.s66_line.specs.Block.{instrs_of};
+    ghost use Rattle.s66_ledger.specs.Kept.{LedgerOf, ledger_of, IsKept};
+
+    ghost Value = { LedgerOf };
+
+    ghost view = { λ l. ledger_of (record { block = instrs_of l.block.now; profile = l.profile }) l.budget l.table l.best.numbers l.left l.allowances.items l.spent };
+
+    ghost invariant = { λ l. IsKept (record { block = instrs_of l.block.now; profile = l.profile }) l.budget l.table l.best l.left l.allowances.items l.spent };
+}
+
+impl<'a> Ledger<'a> {
+    ghost use Rattle.std.specs.Prelude.{ℕ, Bool, true, false, Some, None, ◌≡◌, ◌≤◌, ◌↔◌, IfOk, IfErr, OnOk, OnErr, IsTrue, if◌then◌else◌};
+    ghost use Rattle.s66_line.specs.Block.{instrs_of};
+    ghost use Rattle.s66_isa.specs.Lists.{tally};
+    ghost use Rattle.s66_model.specs.Timing.{total_of};
+    ghost use Rattle.s66_model.specs.Leaves.{floor_value};
+    ghost use Rattle.s66_model.specs.Ledger.{Event, opening, best_time, is_open, node_at, IsWorker, Grant, Granted, Claim, Claimed, Back, Returned, NotOut, Retire, Retired, Offer, Taken};
+    ghost use Rattle.s66_model.specs.Recorded.{IsOfferOf};
+    ghost use Rattle.s66_model.specs.Coverage.{Covers, bound_of};
+    ghost use Rattle.s66_model.specs.BestAndBound.{IsBound};
+    ghost use Rattle.s66_model.specs.NodeTable.{IsTable};
+    ghost use Rattle.s66_ledger.specs.Kept.{IsEvent};
+    ghost use Rattle.s66_ledger.specs.Grafts.{IsGraft, IsRefusedGraft};
+    ghost use Rattle.s66_ledger.specs.Claims.{claimed_node, IsTicketOf, IsLeastOpen};
+    ghost use Rattle.s66_ledger.specs.Replies.{offered_reply};
+    ghost use Rattle.s66_ledger.specs.declared.limits.TheConstants.{BUDGET_LIMIT};
+    ghost use Rattle.s66_ledger.specs.declared.reply.BackError.TheVariants as refused;
+
+    /// A ledger of one open node, the empty prefix, whose best order is the source order; the workers count from 1.
+    pub fn new(
+        alloc: Global,
+        block: &'a Block<'a>,
+        profile: &Profile,
+        budget: u32,
+        workers: u8,
+    ) -> Result<Ledger<'a>, AllocError>
+        requires { budget ≤ BUDGET_LIMIT }
+        ensures problem { IfOk result (λ l. l.problem ≡ record { block = instrs_of block.now; profile = profile.now }) }
+        ensures budget { IfOk result (λ l. l.budget ≡ budget) }
+        ensures workers { IfOk result (λ l. l.workers ≡ workers) }
+        ensures state { IfOk result (λ l. l.state ≡ opening l.problem budget workers) }
+    {
+        let mut allowances = Vec::new(alloc);
+        for _ in 0..workers {
+            allowances.push(0)?;
+        }
+        let floor = Bounds::of(block, profile).floor_value(&Clock::new(block, profile));
+        let table = NodeTable::new(alloc, floor)?;
+        let source = Order::source(block);
+        Ok(Ledger {
+            block,
+            profile: *profile,
+            budget,
+            table,
+            best: time_of(block, profile, &source),
+            left: budget,
+            allowances,
+            spent: 0,
+        })
+    }
+
+    /// The block.
+    pub fn block(&self) -> &'a Block<'a>
+        ensures { instrs_of result.now ≡ self.now.problem.block }
+    {
+        self.block
+    }
+
+    /// The profile.
+    pub fn profile(&self) -> &Profile
+        ensures { result.now ≡ self.now.problem.profile }
+    {
+        &self.profile
+    }
+
+    /// The most splits of the search.
+    pub fn budget(&self) -> u32
+        ensures value { result ≡ self.now.budget }
+        ensures few { result ≤ BUDGET_LIMIT }
+    {
+        self.budget
+    }
+
+    /// How many splits are spent.
+    pub fn splits(&self) -> u32
+        ensures value { result ≡ self.now.state.spent }
+        ensures within { result ≤ self.now.budget }
+    {
+        self.spent
+    }
+
+    /// How many nodes are open.
+    pub fn open_nodes(&self) -> usize
+        ensures { result ≡ tally is_open self.now.state.nodes }
+    {
+        self.table.open_count()
+    }
+
+    /// The best time, in minor cycles. Whatever happened to the ledger, every legal order begins with the prefix of exactly one of
+    /// its nodes that aren't split, and its nodes are those of one tree.
+    pub fn best(&self) -> u32
+        ensures value { result ≡ best_time self.now.problem self.now.state }
+        ensures covers { Covers self.now.problem self.now.budget self.now.state }
+        ensures table { IsTable self.now.problem self.now.state }
+    {
+        self.best.total()
+    }
+
+    /// A lower bound of the totals of all legal orders, in minor cycles: the least of the best time and the floors of the nodes that
+    /// are open or out. In time linear in the number of nodes.
+    pub fn bound(&self) -> u32
+        ensures value { result ≡ bound_of self.now.problem self.now.state }
+        ensures bound { IsBound self.now.problem result }
+    {
+        self.table.least_floor(self.best.total())
+    }
+
+    /// Moves `GRANT_LIMIT` splits of the budget to the worker, or what is left of it, and tells how many.
+    pub fn grant(&mut self, w: u8) -> Result<u32, AllocError>
+        requires { IsWorker self.old.state w }
+        ensures ok { IfOk result (λ n. IsEvent self.old (Grant w) (Granted n) self.new) }
+        ensures err { OnErr result (self.new ≡ self.old) }
+    {
+        let share = self.left.min(GRANT_LIMIT);
+        self.left -= share;
+        self.allowances[w as usize - 1] += share;
+        Ok(share)
+    }
+
+    /// Gives the worker's allowance back to the budget.
+    pub fn retire(&mut self, w: u8) -> Result<(), AllocError>
+        requires { IsWorker self.old.state w }
+        ensures ok { OnOk result (IsEvent self.old (Retire w) Retired self.new) }
+        ensures err { OnErr result (self.new ≡ self.old) }
+    {
+        let at = w as usize - 1;
+        self.left += self.allowances[at];
+        self.allowances[at] = 0;
+        Ok(())
+    }
+
+    /// Hands out the open node of the least floor, of equal ones the deepest, and of these the newest; None only where no node is
+    /// open. In time logarithmic in the number of open nodes.
+    pub fn claim(&mut self, w: u8) -> Result<Option<Ticket>, AllocError>
+        requires { IsWorker self.old.state w }
+        ensures ok { IfOk result (λ ticket. IsEvent self.old (Claim w) (Claimed (claimed_node ticket)) self.new) }
+        ensures ticket { IfOk result (λ ticket. IsTicketOf self.old.state ticket) }
+        ensures least { IfOk result (λ ticket. IsLeastOpen self.old.problem self.old.state ticket) }
+        ensures err { OnErr result (self.new ≡ self.old) }
+    {
+        prove!(self.block.count() <= BLOCK_LIMIT);
+        let Some(node) = self.table.claim() else {
+            return Ok(None);
+        };
+        let prefix = self.table.prefix_of(node);
+        Ok(Some(Ticket::new(node, prefix)))
+    }
+
+    /// Takes a node back that was handed out, so that it is open again.
+    pub fn back(&mut self, w: u8, ticket: Ticket) -> Result<(), (BackError, Ticket)>
+        requires { IsWorker self.old.state w }
+        ensures ok { OnOk result (IsEvent self.old (Back w ticket.node) Returned self.new) }
+        ensures not_out { IfErr result (λ e. e.0 ≡ refused.NotOut → IsEvent self.old (Back w ticket.node) NotOut self.new) }
+        ensures err { OnErr result (self.new ≡ self.old) }
+        ensures handed_back { IfErr result (λ e. e.1 ≡ ticket) }
+    {
+        if !self.table.is_out(ticket.node()) {
+            return Err((BackError::NotOut, ticket));
+        }
+        let Ok(()) = self.table.give_back(ticket.node()) else {
+            return Err((BackError::OutOfMemory, ticket));
+        };
+        Ok(())
+    }
+
+    /// Makes an order the best if it is faster.
+    pub fn offer(&mut self, w: u8, timed: Timed) -> Result<Offered, AllocError>
+        requires { IsWorker self.old.state w }
+        ensures ok { IfOk result (λ offered. (event : Event) × IsOfferOf self.old.problem w timed.problem timed.numbers event × IsEvent self.old event (offered_reply offered) self.new) }
+        ensures err { OnErr result (self.new ≡ self.old) }
+    {
+        if !timed.is_of(self.block, &self.profile) {
+            return Ok(Offered::OtherBlock);
+        }
+        let _legal = timed.order();
+        let least = self.best.total();
+        if timed.total() < least {
+            self.best = timed;
+            Ok(Offered::Lower)
+        } else {
+            Ok(Offered::NotLower { least })
+        }
+    }
+
+    /// Puts a piece in the place of a node that was handed out, and spends its splits: the node takes the state of the piece's root,
+    /// and the piece's other prefixes become nodes. A leaf that is below the best time is kept open.
+    ///
+    /// In time linear in the piece's lines, with a logarithm of the number of open nodes for each that is open; all room is made
+    /// before anything changes.
+    pub fn graft(
+        &mut self,
+        w: u8,
+        ticket: Ticket,
+        piece: Piece,
+    ) -> Result<(), (GraftError, Ticket, Piece)>
+        requires { IsWorker self.old.state w }
+        ensures ok { OnOk result (IsGraft self.old w ticket piece Taken self.new) }
+        ensures refused { IfErr result (λ e. IsRefusedGraft self.old w ticket piece e.0 self.new) }
+        ensures err { OnErr result (self.new ≡ self.old) }
+        ensures handed_back { IfErr result (λ e. (e.1 ≡ ticket) × (e.2 ≡ piece)) }
+    {
+        // so the numbers of its nodes fit
+        prove!(self.block.count() <= BLOCK_LIMIT);
+        let own = piece.is_of(self.block, &self.profile);
+        let node = ticket.node();
+        if !self.table.is_out(node) {
+            return Err((GraftError::NotOut, ticket, piece));
+        }
+        if !own {
+            return Err((GraftError::OtherPrefix, ticket, piece));
+        }
+        if !self.table.is_over(node, piece.prefix()) {
+            return Err((GraftError::OtherPrefix, ticket, piece));
+        }
+        let splits = piece.splits();
+        let at = w as usize - 1;
+        if self.allowances[at] < splits {
+            return Err((GraftError::OverAllowance, ticket, piece));
+        }
+        let best = self.best.total();
+        let Ok(()) = self.table.plant(node, best, &piece) else {
+            return Err((GraftError::OutOfMemory, ticket, piece));
+        };
+        self.allowances[at] -= splits;
+        self.spent += splits;
+        Ok(())
+    }
+}

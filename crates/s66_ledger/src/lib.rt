@@ -1,0 +1,19 @@
+//! The ledger of a search over one block's orders: which prefixes are open, handed out, split or closed, the best order so far,
+//! and who may spend how many splits.
+#![tactic(auto)]
+
+mod ledger;
+mod limits;
+mod live;
+mod node;
+mod node_table;
+mod path;
+mod planting;
+mod rank;
+mod reply;
+mod ticket;
+
+pub use ledger::Ledger;
+pub use limits::{BUDGET_LIMIT, GRANT_LIMIT};
+pub use reply::{BackError, GraftError, Offered};
+pub use ticket::Ticket;

@@ -1,0 +1,18 @@
+ghost use Rattle.std.specs.Prelude.{◌≡◌, ◌∷◌};
+ghost use Rattle.s66_isa.specs.Lists.{least};
+ghost use Rattle.s66_ledger.specs.LiveNodes.{live_values};
+
+use crate::node::Node;
+
+/// The least of a value and the floors of the nodes that are open or out.
+pub fn least_floor(nodes: &[Node], value: u32) -> u32
+    ensures { result ≡ least (λ v. v) (value ∷ live_values nodes.now) }
+{
+    let mut least = value;
+    for i in 0..nodes.len() {
+        if nodes[i].state.is_live() {
+            least = least.min(nodes[i].value);
+        }
+    }
+    least
+}

@@ -1,0 +1,61 @@
+/// What a node of a ledger is: it can be claimed, is handed out, is closed with its floor, or is split.
+#[derive(Clone, Copy, Debug, PartialEq, Eq)]
+pub enum State {
+    Open,
+    Out,
+    Closed,
+    Split,
+}
+
+impl State {
+    ghost use Rattle.std.specs.Prelude.{◌≡◌};
+    ghost use Rattle.s66_ledger.specs.OpenNodes.{is_open_state};
+    ghost use Rattle.s66_ledger.specs.LiveNodes.{is_live_state};
+
+    /// Whether it can be claimed.
+    pub fn is_open(self) -> bool
+        ensures { result ≡ is_open_state self }
+    {
+        matches!(self, State::Open)
+    }
+
+    /// Whether it is open or out.
+    pub fn is_live(self) -> bool
+        ensures { result ≡ is_live_state self }
+    {
+        matches!(self, State::Open | State::Out)
+    }
+}
+
+/// A prefix of a ledger: its parent's, and then its own last number.
+#[derive(Clone, Copy, Debug)]
+pub struct Node {
+    pub parent: u32,
+    /// The floor's value in minor cycles; of a node that was split in the piece that made it, 0.
+    pub value: u32,
+    pub number: u8,
+    /// How many numbers the prefix has.
+    pub depth: u8,
+    pub state: State,
+    /// The first of the nodes below it where a later piece split it, and else 0: then they stand behind it, in preorder.
+    pub from: u32,
+}
+
+impl Node {
+    ghost use Rattle.std.specs.Prelude.{◌≡◌};
+    ghost use Rattle.s66_ledger.specs.declared.node.Node.{Node};
+
+    /// The empty prefix, open.
+    pub fn root(value: u32) -> Node
+        ensures { result ≡ record { parent = 0; value = value; number = 0; depth = 0; state = State.Open; from = 0 } }
+    {
+        Node {
+            parent: 0,
+            value,
+            number: 0,
+            depth: 0,
+            state: State::Open,
+            from: 0,
+        }
+    }
+}

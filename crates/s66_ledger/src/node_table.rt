@@ -1,0 +1,188 @@
+use crate::node::{Node, State};
+use crate::planting::{Place, append, list_open, state_of};
+use crate::rank::rank_of;
+use crate::{live, path};
+use arrayvec::ArrayVec;
+use s66_dep::Set;
+use s66_line::BLOCK_LIMIT;
+use s66_node::{Knot, Piece};
+use std::alloc::{AllocError, Global};
+use std::collections::BinaryHeap;
+use std::marker::Model;
+
+/// The nodes of a ledger, by number from 0, and which of them are open.
+#[derive(Drop)]
+pub struct NodeTable {
+    nodes: Vec<Node>,
+    /// The rank and the number of each open node.
+    open: BinaryHeap<(u32, u32)>,
+}
+
+impl Model for NodeTable {
+    ghost use Rattle.std.specs.Prelude.{List};
+    ghost use Rattle.std.specs.BinaryHeap.{IsHeap, heap_items};
+    ghost use Rattle.s66_ledger.specs.declared.node.Node.{Node};
+    ghost use Rattle.s66_ledger.specs.OpenNodes.{AreOpenNodes, compare_ranked};
+
+    ghost Value = { List Node };
+
+    ghost view = { λ t. t.nodes.items };
+
+    ghost invariant = { λ t. IsHeap compare_ranked (heap_items t.open) × AreOpenNodes t.nodes.items (heap_items t.open) };
+}
+
+impl NodeTable {
+    ghost use Rattle.std.specs.Prelude.{ℕ, [], ◌∷◌, ◌++◌, ◌+◌, ◌^◌, ◌≡◌, ◌<◌, ◌≤◌, ◌↔◌, true, IsTrue, IfOk, OnOk, OnErr, IfSome, IfNone, length, get_or};
+    ghost use Rattle.s66_isa.specs.Lists.{tally, least};
+    ghost use Rattle.s66_ledger.specs.LiveNodes.{live_values};
+    ghost use Rattle.s66_line.specs.declared.limits.TheConstants.{BLOCK_LIMIT};
+    ghost use Rattle.s66_ledger.specs.declared.node.State.{State};
+    ghost use Rattle.s66_model.specs.Ledger as model;
+    ghost use Rattle.s66_model.specs.Ledger.{root_state, new_nodes};
+    ghost use Rattle.s66_model.specs.Tree.{Parted};
+    ghost use Rattle.s66_dep.specs.Members.{numbers_in};
+    ghost use Rattle.s66_node.specs.Pieces.{told_tree, tree_of};
+    ghost use Rattle.s66_ledger.specs.Planting.{kids_of};
+    ghost use Rattle.s66_ledger.specs.Nodes.{node_at, with_state, prefixes, nodes_of, HaveFloors};
+    ghost use Rattle.s66_ledger.specs.OpenNodes.{is_open, IsOut, ranked};
+
+    /// One node, the empty prefix with its floor, open.
+    pub fn new(alloc: Global, floor: u32) -> Result<NodeTable, AllocError>
+        ensures { IfOk result (λ t. t ≡ (record { parent = 0; value = floor; number = 0; depth = 0; state = State.Open; from = 0 }) ∷ []) }
+    {
+        let mut nodes = Vec::new(alloc);
+        nodes.push(Node::root(floor))?;
+        let mut open = BinaryHeap::new(alloc);
+        open.push((rank_of(floor, 0), 0))?;
+        Ok(NodeTable { nodes, open })
+    }
+
+    /// How many nodes are open.
+    pub fn open_count(&self) -> usize
+        ensures { result ≡ tally is_open self.now }
+    {
+        self.open.len()
+    }
+
+    /// The least of this value and the floors of the nodes that are open or out, in time linear in the number of nodes.
+    pub fn least_floor(&self, value: u32) -> u32
+        ensures { result ≡ least (λ v. v) (value ∷ live_values self.now) }
+    {
+        live::least_floor(self.nodes.as_slice(), value)
+    }
+
+    /// Whether this node is handed out.
+    pub fn is_out(&self, node: u32) -> bool
+        ensures { IsTrue result ↔ IsOut self.now node }
+    {
+        let i = node as usize;
+        i < self.nodes.len() && self.nodes[i].state == State::Out
+    }
+
+    /// Whether this is the prefix of a node.
+    pub fn is_over(&self, node: u32, prefix: &[u8]) -> bool
+        requires { node < length self.now }
+        ensures { IsTrue result ↔ (get_or (prefixes self.now) node [] ≡ prefix.now) }
+    {
+        path::is_over(self.nodes.as_slice(), node, prefix)
+    }
+
+    /// The prefix of a node.
+    pub fn prefix_of(&self, node: u32) -> ArrayVec<u8, BLOCK_LIMIT>
+        requires within { node < length self.now }
+        requires few { length (get_or (prefixes self.now) node []) ≤ BLOCK_LIMIT }
+        ensures { result.items ≡ get_or (prefixes self.now) node [] }
+    {
+        path::prefix_of(self.nodes.as_slice(), node)
+    }
+
+    /// Hands out the open node of the least floor, of equal ones the deepest, and of these the newest; None only where no node is
+    /// open. In time logarithmic in the number of open nodes.
+    pub fn claim(&mut self) -> Option<u32>
+        ensures within { IfSome result (λ i. i < length self.old) }
+        ensures was { IfSome result (λ i. (node_at self.old i).state ≡ State.Open) }
+        ensures moved { IfSome result (λ i. self.new ≡ with_state self.old i State.Out) }
+        ensures least { IfSome result (λ i. (j : ℕ) → is_open (node_at self.old j) ≡ true → ranked (node_at self.old i).value ≤ ranked (node_at self.old j).value) }
+        ensures none { IfNone result (tally is_open self.old ≡ 0) }
+        ensures same { IfNone result (self.new ≡ self.old) }
+    {
+        let (_, node) = self.open.pop()?;
+        self.nodes[node as usize].state = State::Out;
+        Some(node)
+    }
+
+    /// Opens a node that is handed out, in time logarithmic in the number of open nodes.
+    pub fn give_back(&mut self, node: u32) -> Result<(), AllocError>
+        requires { IsOut self.old node }
+        ensures ok { OnOk result (self.new ≡ with_state self.old node State.Open) }
+        ensures err { OnErr result (self.new ≡ self.old) }
+    {
+        let i = node as usize;
+        let rank = rank_of(self.nodes[i].value, self.nodes[i].depth);
+        self.open.push((rank, node))?;
+        self.nodes[i].state = State::Open;
+        Ok(())
+    }
+
+    /// Puts a piece in the place of a node that is handed out: the node takes the state of the piece's root, and the piece's other
+    /// prefixes become nodes, the first of them the one that the node names. In time linear in the piece's lines, with a
+    /// logarithm of the number of open nodes for each that is open. `Err` leaves all as it was.
+    pub fn plant(&mut self, root: u32, best: u32, piece: &Piece) -> Result<(), AllocError>
+        requires few { length piece.now.problem.block ≤ BLOCK_LIMIT }
+        requires out { IsOut self.old root }
+        requires over { get_or (prefixes self.old) root [] ≡ piece.now.prefix }
+        requires floors { HaveFloors piece.now.problem self.old }
+        requires room { length self.old + length piece.now.knots < 2 ^ 32 }
+        ensures err { OnErr result (self.new ≡ self.old) }
+        ensures count { OnOk result (length self.new + 1 ≡ length self.old + length piece.now.knots) }
+        ensures floors { OnOk result (HaveFloors piece.now.problem self.new) }
+        ensures ok { OnOk result (nodes_of piece.now.problem self.new ≡ model.with_state (nodes_of piece.now.problem self.old) root (root_state piece.now.problem best piece.now.prefix (tree_of piece.now)) ++ new_nodes piece.now.problem best piece.now.prefix (tree_of piece.now)) }
+    {
+        let knots = piece.knots();
+        let knot = &knots[0];
+        if let Knot::Split(numbers) = knot {
+            return self.plant_split(root, *numbers, best, piece);
+        }
+        if state_of(knot, best).is_open() {
+            self.give_back(root)?;
+            return Ok(());
+        }
+        self.nodes[root as usize].state = State::Closed;
+        Ok(())
+    }
+
+    /// Puts a piece whose root is split in the place of a node that is handed out.
+    fn plant_split(
+        &mut self,
+        root: u32,
+        numbers: Set,
+        best: u32,
+        piece: &Piece,
+    ) -> Result<(), AllocError>
+        requires few { length piece.now.problem.block ≤ BLOCK_LIMIT }
+        requires split { told_tree piece.now ≡ Parted (numbers_in numbers) (kids_of (told_tree piece.now)) }
+        requires out { IsOut self.old root }
+        requires over { get_or (prefixes self.old) root [] ≡ piece.now.prefix }
+        requires floors { HaveFloors piece.now.problem self.old }
+        requires room { length self.old + length piece.now.knots < 2 ^ 32 }
+        ensures err { OnErr result (self.new ≡ self.old) }
+        ensures count { OnOk result (length self.new + 1 ≡ length self.old + length piece.now.knots) }
+        ensures floors { OnOk result (HaveFloors piece.now.problem self.new) }
+        ensures ok { OnOk result (nodes_of piece.now.problem self.new ≡ model.with_state (nodes_of piece.now.problem self.old) root (root_state piece.now.problem best piece.now.prefix (tree_of piece.now)) ++ new_nodes piece.now.problem best piece.now.prefix (tree_of piece.now)) }
+    {
+        self.open.reserve(piece.knots().len())?;
+        let at = root as usize;
+        let made = self.nodes.len();
+        let place = Place {
+            node: root,
+            depth: self.nodes[at].depth,
+            left: numbers,
+        };
+        append(&mut self.nodes, place, best, piece)?;
+        let node = &mut self.nodes[at];
+        node.state = State::Split;
+        node.from = made as u32;
+        list_open(self.nodes.as_slice(), &mut self.open, made);
+        Ok(())
+    }
+}

@@ -1,0 +1,54 @@
+ghost use Rattle.std.specs.Prelude.{[], ◌∷◌, ◌++◌, ◌≡◌, ◌<◌, ◌≤◌, ◌↔◌, length, get_or, IsTrue};
+ghost use Rattle.s66_line.specs.declared.limits.TheConstants.{BLOCK_LIMIT};
+ghost use Rattle.s66_ledger.specs.Nodes.{node_at, prefixes};
+
+use crate::node::Node;
+use arrayvec::ArrayVec;
+use s66_line::BLOCK_LIMIT;
+
+/// Whether this is the prefix of a node: up its parents, in time linear in the prefix's length.
+pub fn is_over(nodes: &[Node], node: u32, prefix: &[u8]) -> bool
+    requires { node < length nodes.now }
+    ensures { IsTrue result ↔ (get_or (prefixes nodes.now) node [] ≡ prefix.now) }
+{
+    let mut i = node as usize;
+    let mut rest = prefix.len();
+    while 0 < i {
+        if rest == 0 {
+            return false;
+        }
+        rest -= 1;
+        if nodes[i].number != prefix[rest] {
+            return false;
+        }
+        i = up(nodes, i);
+    }
+    rest == 0
+}
+
+/// The prefix of a node: up its parents, and then turned around, in time linear in its length.
+pub fn prefix_of(nodes: &[Node], node: u32) -> ArrayVec<u8, BLOCK_LIMIT>
+    requires within { node < length nodes.now }
+    requires few { length (get_or (prefixes nodes.now) node []) ≤ BLOCK_LIMIT }
+    ensures { result.items ≡ get_or (prefixes nodes.now) node [] }
+{
+    let mut i = node as usize;
+    let mut prefix = ArrayVec::new();
+    while 0 < i {
+        prefix.push(nodes[i].number);
+        i = up(nodes, i);
+    }
+    prefix.as_mut_slice().reverse();
+    prefix
+}
+
+/// The parent of a node, which stands before it.
+fn up(nodes: &[Node], i: usize) -> usize
+    requires some { 0 < i }
+    requires within { i < length nodes.now }
+    ensures before { result < i }
+    ensures prefix { get_or (prefixes nodes.now) i [] ≡ get_or (prefixes nodes.now) result [] ++ (node_at nodes.now i).number ∷ [] }
+{
+    let parent = nodes[i].parent as usize;
+    if parent < i { parent } else { 0 }
+}
