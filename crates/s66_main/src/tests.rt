@@ -15,6 +15,7 @@ mod clock;
 mod codes;
 mod deps;
 mod devices;
+mod expansion;
 mod floors;
 mod limits;
 mod lines;
