@@ -21,6 +21,7 @@ mod limits;
 mod lines;
 mod orders;
 mod plain_clock;
+mod printing;
 mod program;
 mod trace;
 

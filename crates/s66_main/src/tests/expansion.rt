@@ -70,7 +70,7 @@ fn expands_prefixes(rt: HostRuntime) -> Result<(), Fail> {
     Ok(())
 }
 
-/// The legal orders take 16 (1 2 3), 12 (1 3 2) and 13 (3 1 2), all less than 17, so each prefix of them is split.
+/// The legal orders take 16 (1 2 3), 12 (1 3 2) and 13 (3 1 2), all less than 17, so each incomplete prefix is split.
 #[test]
 fn expands_to_whole_orders(rt: HostRuntime) -> Result<(), Fail> {
     let one = Set::empty().with(1);
