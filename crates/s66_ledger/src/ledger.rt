@@ -41,7 +41,7 @@ impl<'a> Ledger<'a> {
     ghost use Rattle.s66_isa.specs.Lists.{tally};
     ghost use Rattle.s66_model.specs.Timing.{total_of};
     ghost use Rattle.s66_model.specs.Leaves.{floor_value};
-    ghost use Rattle.s66_model.specs.Ledger.{Event, opening, best_time, is_open, node_at, IsWorker, Grant, Granted, Claim, Claimed, Back, Returned, NotOut, Retire, Retired, Offer, Taken};
+    ghost use Rattle.s66_model.specs.Ledger.{Event, opening, best_time, is_open, node_at, Grant, Granted, Claim, Claimed, Back, Returned, NotOut, Retire, Retired, Offer, Taken};
     ghost use Rattle.s66_model.specs.Recorded.{IsOfferOf};
     ghost use Rattle.s66_model.specs.Coverage.{Covers, bound_of};
     ghost use Rattle.s66_model.specs.BestAndBound.{IsBound};
@@ -144,7 +144,7 @@ impl<'a> Ledger<'a> {
 
     /// Moves `GRANT_LIMIT` splits of the budget to the worker, or what is left of it, and tells how many.
     pub fn grant(&mut self, w: u8) -> Result<u32, AllocError>
-        requires { IsWorker self.old.state w }
+        requires { (1 ≤ w) × (w ≤ self.old.workers) }
         ensures ok { IfOk result (λ n. IsEvent self.old (Grant w) (Granted n) self.new) }
         ensures err { OnErr result (self.new ≡ self.old) }
     {
@@ -156,7 +156,7 @@ impl<'a> Ledger<'a> {
 
     /// Gives the worker's allowance back to the budget.
     pub fn retire(&mut self, w: u8) -> Result<(), AllocError>
-        requires { IsWorker self.old.state w }
+        requires { (1 ≤ w) × (w ≤ self.old.workers) }
         ensures ok { OnOk result (IsEvent self.old (Retire w) Retired self.new) }
         ensures err { OnErr result (self.new ≡ self.old) }
     {
@@ -169,7 +169,7 @@ impl<'a> Ledger<'a> {
     /// Hands out the open node of the least floor, of equal ones the deepest, and of these the newest; None only where no node is
     /// open. In time logarithmic in the number of open nodes.
     pub fn claim(&mut self, w: u8) -> Result<Option<Ticket>, AllocError>
-        requires { IsWorker self.old.state w }
+        requires { (1 ≤ w) × (w ≤ self.old.workers) }
         ensures ok { IfOk result (λ ticket. IsEvent self.old (Claim w) (Claimed (claimed_node ticket)) self.new) }
         ensures ticket { IfOk result (λ ticket. IsTicketOf self.old.state ticket) }
         ensures least { IfOk result (λ ticket. IsLeastOpen self.old.problem self.old.state ticket) }
@@ -185,7 +185,7 @@ impl<'a> Ledger<'a> {
 
     /// Takes a node back that was handed out, so that it is open again.
     pub fn back(&mut self, w: u8, ticket: Ticket) -> Result<(), (BackError, Ticket)>
-        requires { IsWorker self.old.state w }
+        requires { (1 ≤ w) × (w ≤ self.old.workers) }
         ensures ok { OnOk result (IsEvent self.old (Back w ticket.node) Returned self.new) }
         ensures not_out { IfErr result (λ e. e.0 ≡ refused.NotOut → IsEvent self.old (Back w ticket.node) NotOut self.new) }
         ensures err { OnErr result (self.new ≡ self.old) }
@@ -202,7 +202,7 @@ impl<'a> Ledger<'a> {
 
     /// Makes an order the best if it is faster.
     pub fn offer(&mut self, w: u8, timed: Timed) -> Result<Offered, AllocError>
-        requires { IsWorker self.old.state w }
+        requires { (1 ≤ w) × (w ≤ self.old.workers) }
         ensures ok { IfOk result (λ offered. (event : Event) × IsOfferOf self.old.problem w timed.problem timed.numbers event × IsEvent self.old event (offered_reply offered) self.new) }
         ensures err { OnErr result (self.new ≡ self.old) }
     {
@@ -230,7 +230,7 @@ impl<'a> Ledger<'a> {
         ticket: Ticket,
         piece: Piece,
     ) -> Result<(), (GraftError, Ticket, Piece)>
-        requires { IsWorker self.old.state w }
+        requires { (1 ≤ w) × (w ≤ self.old.workers) }
         ensures ok { OnOk result (IsGraft self.old w ticket piece Taken self.new) }
         ensures refused { IfErr result (λ e. IsRefusedGraft self.old w ticket piece e.0 self.new) }
         ensures err { OnErr result (self.new ≡ self.old) }

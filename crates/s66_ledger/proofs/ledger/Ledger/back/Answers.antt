@@ -13,7 +13,7 @@ pub returns-then-not-is_out-clause-not_out : goal.returns-then-not-is_out-clause
 returns-then-not-is_out-clause-not_out c refused =
     let s = c.self.inside in
     let b : Problem = record { block = instrs_of s.block.now; profile = s.profile } in
-    let le : c.args.w ≤ length s.allowances.items = omega (arith, c.requires.1, ap (λ (l : LedgerOf). length l.state.allowances) c.self.view_is) in
+    let le : c.args.w ≤ length s.allowances.items = omega (arith, c.requires.1, ap (λ (l : LedgerOf). l.workers) c.self.view_is) in
     event-not-out b s.budget s.table s.best s.left s.allowances.items s.spent c.self.invariant c.args.self.now c.args.w c.args.ticket.node c.self.view_is c.requires.0 le
     (λ out. true≢false (sym (c.is_out.ensures.1 (subst (λ i. IsOut s.table i) (sym c.node.ensures) out)) ∙ c.if-not-is_out.true))
 
@@ -21,7 +21,7 @@ pub invariant_of-self-2 : goal.invariant_of-self-2
 invariant_of-self-2 c =
     let s = c.self.inside in
     let b : Problem = record { block = instrs_of s.block.now; profile = s.profile } in
-    let le : c.args.w ≤ length s.allowances.items = omega (arith, c.requires.1, ap (λ (l : LedgerOf). length l.state.allowances) c.self.view_is) in
+    let le : c.args.w ≤ length s.allowances.items = omega (arith, c.requires.1, ap (λ (l : LedgerOf). l.workers) c.self.view_is) in
     let out = subst (λ i. IsOut s.table i) (c.node.ensures ∙ sym c.node-2.ensures) (c.is_out.ensures.0 c.if-not-is_out.false) in
     subst (λ ns. IsKept b s.budget ns s.best s.left s.allowances.items s.spent) (sym c.in-Ok.ensures.ok)
     (kept-back b s.budget s.table s.best s.left s.allowances.items s.spent c.self.invariant c.args.w c.node-2.result c.requires.0 le out)
@@ -30,7 +30,7 @@ pub returns-clause-ok : goal.returns-clause-ok
 returns-clause-ok c =
     let s = c.self.inside in
     let b : Problem = record { block = instrs_of s.block.now; profile = s.profile } in
-    let le : c.args.w ≤ length s.allowances.items = omega (arith, c.requires.1, ap (λ (l : LedgerOf). length l.state.allowances) c.self.view_is) in
+    let le : c.args.w ≤ length s.allowances.items = omega (arith, c.requires.1, ap (λ (l : LedgerOf). l.workers) c.self.view_is) in
     let out = subst (λ i. IsOut s.table i) c.node.ensures (c.is_out.ensures.0 c.if-not-is_out.false) in
     let moved = c.in-Ok.ensures.ok ∙ ap (λ i. with_state s.table i state.Open) c.node-2.ensures in
     subst (λ ns. IsEvent c.args.self.now (model.Back c.args.w c.args.ticket.node) model.Returned (ledger_of b s.budget ns s.best.numbers s.left s.allowances.items s.spent)) (sym moved)

@@ -17,7 +17,7 @@ pub returns-in_default-clause-ok : goal.returns-in_default-clause-ok
 returns-in_default-clause-ok c =
     let s = c.self.inside in
     let b : Problem = record { block = instrs_of s.block.now; profile = s.profile } in
-    let le : c.args.w ≤ length s.allowances.items = omega (arith, c.requires.1, ap (λ (l : LedgerOf). length l.state.allowances) c.self.view_is) in
+    let le : c.args.w ≤ length s.allowances.items = omega (arith, c.requires.1, ap (λ (l : LedgerOf). l.workers) c.self.view_is) in
     subst (λ (ns : List Node). IsEvent c.args.self.now (model.Claim c.args.w) (model.Claimed None) (ledger_of b s.budget ns s.best.numbers s.left s.allowances.items s.spent)) (sym c.in_default.ensures.same)
     (subst (λ (l : LedgerOf). IsEvent c.args.self.now (model.Claim c.args.w) (model.Claimed None) l) (sym c.self.view_is)
     (event-none b s.budget s.table s.best s.left s.allowances.items s.spent c.self.invariant c.args.self.now c.args.w c.self.view_is c.requires.0 le c.in_default.ensures.none))
@@ -32,7 +32,7 @@ pub invariant_of-self-2 : goal.invariant_of-self-2
 invariant_of-self-2 c =
     let s = c.self.inside in
     let b : Problem = record { block = instrs_of s.block.now; profile = s.profile } in
-    let le : c.args.w ≤ length s.allowances.items = omega (arith, c.requires.1, ap (λ (l : LedgerOf). length l.state.allowances) c.self.view_is) in
+    let le : c.args.w ≤ length s.allowances.items = omega (arith, c.requires.1, ap (λ (l : LedgerOf). l.workers) c.self.view_is) in
     subst (λ ns. IsKept b s.budget ns s.best s.left s.allowances.items s.spent) (sym c.in-Some.ensures.moved)
     (kept-claim b s.budget s.table s.best s.left s.allowances.items s.spent c.self.invariant c.args.w c.in-Some.node c.requires.0 le c.in-Some.ensures.within c.in-Some.ensures.was)
 
@@ -40,7 +40,7 @@ pub returns-clause-ok : goal.returns-clause-ok
 returns-clause-ok c =
     let s = c.self.inside in
     let b : Problem = record { block = instrs_of s.block.now; profile = s.profile } in
-    let le : c.args.w ≤ length s.allowances.items = omega (arith, c.requires.1, ap (λ (l : LedgerOf). length l.state.allowances) c.self.view_is) in
+    let le : c.args.w ≤ length s.allowances.items = omega (arith, c.requires.1, ap (λ (l : LedgerOf). l.workers) c.self.view_is) in
     subst (λ (t : TicketOf). IsEvent c.args.self.now (model.Claim c.args.w) (model.Claimed (Some t.node)) (ledger_of b s.budget c.claim.new.self s.best.numbers s.left s.allowances.items s.spent)) (sym c.new.ensures)
     (subst (λ ns. IsEvent c.args.self.now (model.Claim c.args.w) (model.Claimed (Some c.in-Some.node)) (ledger_of b s.budget ns s.best.numbers s.left s.allowances.items s.spent)) (sym c.in-Some.ensures.moved)
     (event-claim b s.budget s.table s.best s.left s.allowances.items s.spent c.self.invariant c.args.self.now c.args.w c.in-Some.node c.self.view_is c.requires.0 le c.in-Some.ensures.within c.in-Some.ensures.was))

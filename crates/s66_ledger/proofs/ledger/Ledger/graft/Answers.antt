@@ -20,7 +20,7 @@ returns-then-not-is_out-clause-refused c =
     let b : Problem = record { block = instrs_of s.block.now; profile = s.profile } in
     let p = c.args.piece in
     let t = c.args.ticket in
-    let le : c.args.w ≤ length s.allowances.items = omega (arith, c.requires.1, ap (λ (l : LedgerOf). length l.state.allowances) c.self.view_is) in
+    let le : c.args.w ≤ length s.allowances.items = omega (arith, c.requires.1, ap (λ (l : LedgerOf). l.workers) c.self.view_is) in
     graft-not-out b s.budget s.table s.best s.left s.allowances.items s.spent c.self.invariant c.args.w t p c.requires.0 le c.is_of-own.result c.is_of-own.ensures c.args.self.now c.self.view_is (λ out. true≢false (sym (c.is_out.ensures.1 (subst (λ i. IsOut s.table i) (sym c.node-node.ensures) out)) ∙ c.if-not-is_out.true))
 
 pub returns-then-not-own-clause-refused : goal.returns-then-not-own-clause-refused
@@ -29,7 +29,7 @@ returns-then-not-own-clause-refused c =
     let b : Problem = record { block = instrs_of s.block.now; profile = s.profile } in
     let p = c.args.piece in
     let t = c.args.ticket in
-    let le : c.args.w ≤ length s.allowances.items = omega (arith, c.requires.1, ap (λ (l : LedgerOf). length l.state.allowances) c.self.view_is) in
+    let le : c.args.w ≤ length s.allowances.items = omega (arith, c.requires.1, ap (λ (l : LedgerOf). l.workers) c.self.view_is) in
     let out : IsOut s.table t.node = subst (λ i. IsOut s.table i) c.node-node.ensures (c.is_out.ensures.0 c.if-not-is_out.false) in
     graft-other b s.budget s.table s.best s.left s.allowances.items s.spent c.self.invariant c.args.w t p c.requires.0 le c.is_of-own.result c.is_of-own.ensures c.args.self.now c.self.view_is out c.if-not-own.true
 
@@ -39,7 +39,7 @@ returns-then-not-is_over-clause-refused c =
     let b : Problem = record { block = instrs_of s.block.now; profile = s.profile } in
     let p = c.args.piece in
     let t = c.args.ticket in
-    let le : c.args.w ≤ length s.allowances.items = omega (arith, c.requires.1, ap (λ (l : LedgerOf). length l.state.allowances) c.self.view_is) in
+    let le : c.args.w ≤ length s.allowances.items = omega (arith, c.requires.1, ap (λ (l : LedgerOf). l.workers) c.self.view_is) in
     let out : IsOut s.table t.node = subst (λ i. IsOut s.table i) c.node-node.ensures (c.is_out.ensures.0 c.if-not-is_out.false) in
     graft-other-prefix b s.budget s.table s.best s.left s.allowances.items s.spent c.self.invariant c.args.w t p c.requires.0 le c.is_of-own.result c.is_of-own.ensures c.args.self.now c.self.view_is out (λ over. true≢false (sym (c.is_over.ensures.1 (subst (λ i. get_or (prefixes s.table) i [] ≡ p.prefix) (sym c.node-node.ensures) over ∙ sym c.prefix.ensures.value)) ∙ c.if-not-is_over.true))
 
@@ -49,7 +49,7 @@ returns-then-index-splits-clause-refused c =
     let b : Problem = record { block = instrs_of s.block.now; profile = s.profile } in
     let p = c.args.piece in
     let t = c.args.ticket in
-    let le : c.args.w ≤ length s.allowances.items = omega (arith, c.requires.1, ap (λ (l : LedgerOf). length l.state.allowances) c.self.view_is) in
+    let le : c.args.w ≤ length s.allowances.items = omega (arith, c.requires.1, ap (λ (l : LedgerOf). l.workers) c.self.view_is) in
     let out : IsOut s.table t.node = subst (λ i. IsOut s.table i) c.node-node.ensures (c.is_out.ensures.0 c.if-not-is_out.false) in
     let over : get_or (prefixes s.table) t.node [] ≡ p.prefix = subst (λ i. get_or (prefixes s.table) i [] ≡ p.prefix) c.node-node.ensures (c.is_over.ensures.0 c.if-not-is_over.false ∙ c.prefix.ensures.value) in
     let was = c.index.ensures ∙ get_or-any s.allowances.items (c.args.w - 1) c.index.result.now 0 (λ n. n) (omega (arith, c.requires.0, le)) in
@@ -61,7 +61,7 @@ plant-requires-clause-floors c =
     let b : Problem = record { block = instrs_of s.block.now; profile = s.profile } in
     let p = c.args.piece in
     let t = c.args.ticket in
-    let le : c.args.w ≤ length s.allowances.items = omega (arith, c.requires.1, ap (λ (l : LedgerOf). length l.state.allowances) c.self.view_is) in
+    let le : c.args.w ≤ length s.allowances.items = omega (arith, c.requires.1, ap (λ (l : LedgerOf). l.workers) c.self.view_is) in
     piece-floors b s.budget s.table s.best s.left s.allowances.items s.spent c.self.invariant c.args.w t p c.requires.0 le c.is_of-own.result c.is_of-own.ensures c.if-not-own.false
 
 pub plant-requires-clause-room : goal.plant-requires-clause-room
@@ -70,7 +70,7 @@ plant-requires-clause-room c =
     let b : Problem = record { block = instrs_of s.block.now; profile = s.profile } in
     let p = c.args.piece in
     let t = c.args.ticket in
-    let le : c.args.w ≤ length s.allowances.items = omega (arith, c.requires.1, ap (λ (l : LedgerOf). length l.state.allowances) c.self.view_is) in
+    let le : c.args.w ≤ length s.allowances.items = omega (arith, c.requires.1, ap (λ (l : LedgerOf). l.workers) c.self.view_is) in
     let few : length p.problem.block ≤ 64 = omega (arith, c.count.ensures.value, c.count.ensures.few, ap (λ (q : Problem). length q.block) (c.is_of-own.ensures.0 c.if-not-own.false)) in
     let lines = piece-lines _ p _ c.piece.invariant c.piece.view_is few in
     let was = c.index.ensures ∙ get_or-any s.allowances.items (c.args.w - 1) c.index.result.now 0 (λ n. n) (omega (arith, c.requires.0, le)) in
@@ -83,7 +83,7 @@ overflow_add-self c =
     let b : Problem = record { block = instrs_of s.block.now; profile = s.profile } in
     let p = c.args.piece in
     let t = c.args.ticket in
-    let le : c.args.w ≤ length s.allowances.items = omega (arith, c.requires.1, ap (λ (l : LedgerOf). length l.state.allowances) c.self.view_is) in
+    let le : c.args.w ≤ length s.allowances.items = omega (arith, c.requires.1, ap (λ (l : LedgerOf). l.workers) c.self.view_is) in
     let few : length p.problem.block ≤ 64 = omega (arith, c.count.ensures.value, c.count.ensures.few, ap (λ (q : Problem). length q.block) (c.is_of-own.ensures.0 c.if-not-own.false)) in
     let lines = piece-lines _ p _ c.piece.invariant c.piece.view_is few in
     let was = c.index.ensures ∙ get_or-any s.allowances.items (c.args.w - 1) c.index.result.now 0 (λ n. n) (omega (arith, c.requires.0, le)) in
@@ -96,7 +96,7 @@ invariant_of-self-2 c =
     let b : Problem = record { block = instrs_of s.block.now; profile = s.profile } in
     let p = c.args.piece in
     let t = c.args.ticket in
-    let le : c.args.w ≤ length s.allowances.items = omega (arith, c.requires.1, ap (λ (l : LedgerOf). length l.state.allowances) c.self.view_is) in
+    let le : c.args.w ≤ length s.allowances.items = omega (arith, c.requires.1, ap (λ (l : LedgerOf). l.workers) c.self.view_is) in
     let out : IsOut s.table t.node = subst (λ i. IsOut s.table i) c.node-node.ensures (c.is_out.ensures.0 c.if-not-is_out.false) in
     let over : get_or (prefixes s.table) t.node [] ≡ p.prefix = subst (λ i. get_or (prefixes s.table) i [] ≡ p.prefix) c.node-node.ensures (c.is_over.ensures.0 c.if-not-is_over.false ∙ c.prefix.ensures.value) in
     let few : length p.problem.block ≤ 64 = omega (arith, c.count.ensures.value, c.count.ensures.few, ap (λ (q : Problem). length q.block) (c.is_of-own.ensures.0 c.if-not-own.false)) in
@@ -118,7 +118,7 @@ returns-clause-ok c =
     let b : Problem = record { block = instrs_of s.block.now; profile = s.profile } in
     let p = c.args.piece in
     let t = c.args.ticket in
-    let le : c.args.w ≤ length s.allowances.items = omega (arith, c.requires.1, ap (λ (l : LedgerOf). length l.state.allowances) c.self.view_is) in
+    let le : c.args.w ≤ length s.allowances.items = omega (arith, c.requires.1, ap (λ (l : LedgerOf). l.workers) c.self.view_is) in
     let out : IsOut s.table t.node = subst (λ i. IsOut s.table i) c.node-node.ensures (c.is_out.ensures.0 c.if-not-is_out.false) in
     let over : get_or (prefixes s.table) t.node [] ≡ p.prefix = subst (λ i. get_or (prefixes s.table) i [] ≡ p.prefix) c.node-node.ensures (c.is_over.ensures.0 c.if-not-is_over.false ∙ c.prefix.ensures.value) in
     let few : length p.problem.block ≤ 64 = omega (arith, c.count.ensures.value, c.count.ensures.few, ap (λ (q : Problem). length q.block) (c.is_of-own.ensures.0 c.if-not-own.false)) in

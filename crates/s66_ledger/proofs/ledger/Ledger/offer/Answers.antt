@@ -10,14 +10,14 @@ pub returns-then-not-is_of-clause-ok : goal.returns-then-not-is_of-clause-ok
 returns-then-not-is_of-clause-ok c =
     let s = c.self.inside in
     let b : Problem = record { block = instrs_of s.block.now; profile = s.profile } in
-    let le : c.args.w ≤ length s.allowances.items = omega (arith, c.requires.1, ap (λ (l : LedgerOf). length l.state.allowances) c.self.view_is) in
+    let le : c.args.w ≤ length s.allowances.items = omega (arith, c.requires.1, ap (λ (l : LedgerOf). l.workers) c.self.view_is) in
     event-other b s.budget s.table s.best s.left s.allowances.items s.spent c.self.invariant c.args.self.now c.args.w c.args.timed c.self.view_is c.requires.0 le _ c.is_of.ensures c.if-not-is_of.true
 
 pub invariant_of-self : goal.invariant_of-self
 invariant_of-self c =
     let s = c.self.inside in
     let b : Problem = record { block = instrs_of s.block.now; profile = s.profile } in
-    let le : c.args.w ≤ length s.allowances.items = omega (arith, c.requires.1, ap (λ (l : LedgerOf). length l.state.allowances) c.self.view_is) in
+    let le : c.args.w ≤ length s.allowances.items = omega (arith, c.requires.1, ap (λ (l : LedgerOf). l.workers) c.self.view_is) in
     let own : c.args.timed.problem ≡ b = c.is_of.ensures.0 c.if-not-is_of.false in
     let legal : IsLegal b.block c.args.timed.numbers = subst (λ (p : Problem). IsLegal p.block c.args.timed.numbers) own c.order-legal.ensures.legal in
     kept-lower b s.budget s.table s.best s.left s.allowances.items s.spent c.self.invariant c.args.w c.args.timed c.requires.0 le own legal
@@ -27,7 +27,7 @@ pub returns-then-total-least-clause-ok : goal.returns-then-total-least-clause-ok
 returns-then-total-least-clause-ok c =
     let s = c.self.inside in
     let b : Problem = record { block = instrs_of s.block.now; profile = s.profile } in
-    let le : c.args.w ≤ length s.allowances.items = omega (arith, c.requires.1, ap (λ (l : LedgerOf). length l.state.allowances) c.self.view_is) in
+    let le : c.args.w ≤ length s.allowances.items = omega (arith, c.requires.1, ap (λ (l : LedgerOf). l.workers) c.self.view_is) in
     let own : c.args.timed.problem ≡ b = c.is_of.ensures.0 c.if-not-is_of.false in
     let legal : IsLegal b.block c.args.timed.numbers = subst (λ (p : Problem). IsLegal p.block c.args.timed.numbers) own c.order-legal.ensures.legal in
     event-lower b s.budget s.table s.best s.left s.allowances.items s.spent c.self.invariant c.args.self.now c.args.w c.args.timed c.self.view_is c.requires.0 le own legal
@@ -37,7 +37,7 @@ pub returns-else-total-least-clause-ok : goal.returns-else-total-least-clause-ok
 returns-else-total-least-clause-ok c =
     let s = c.self.inside in
     let b : Problem = record { block = instrs_of s.block.now; profile = s.profile } in
-    let le : c.args.w ≤ length s.allowances.items = omega (arith, c.requires.1, ap (λ (l : LedgerOf). length l.state.allowances) c.self.view_is) in
+    let le : c.args.w ≤ length s.allowances.items = omega (arith, c.requires.1, ap (λ (l : LedgerOf). l.workers) c.self.view_is) in
     let own : c.args.timed.problem ≡ b = c.is_of.ensures.0 c.if-not-is_of.false in
     let legal : IsLegal b.block c.args.timed.numbers = subst (λ (p : Problem). IsLegal p.block c.args.timed.numbers) own c.order-legal.ensures.legal in
     let least = c.total-least.ensures.value ∙ ap (λ p. total_of p s.best.numbers) c.self.invariant.own in
