@@ -17,6 +17,7 @@ mod deps;
 mod devices;
 mod expansion;
 mod floors;
+mod ledger;
 mod limits;
 mod lines;
 mod orders;

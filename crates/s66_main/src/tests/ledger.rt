@@ -1,0 +1,111 @@
+ghost use Rattle.std.specs.Prelude.{◌≡◌, ◌≤◌};
+
+use super::clock::MULTIPLIES;
+use super::source_of;
+use s66_dep::{Order, is_beginning};
+use s66_isa::Profile;
+use s66_ledger::{Ledger, Offered, Ticket};
+use s66_line::{Block, read_source};
+use s66_node::expand;
+use s66_time::time_of;
+use std::process::Abort;
+use std::test::Fail;
+
+/// The most splits of the search.
+const BUDGET: u32 = 10;
+
+/// What a ledger tells of its search: the best time, the bound, how many splits are spent and how many nodes are open.
+fn readings(ledger: &Ledger) -> (u32, u32, u32, usize) {
+    (
+        ledger.best(),
+        ledger.bound(),
+        ledger.splits(),
+        ledger.open_nodes(),
+    )
+}
+
+/// Claims a node for a worker, and checks its number and its prefix.
+fn claim_node<R: Abort>(
+    rt: &R,
+    ledger: &mut Ledger,
+    w: u8,
+    node: u32,
+    prefix: &[u8],
+) -> Result<Ticket, Fail>
+    requires { (1 ≤ w) × (w ≤ ledger.old.workers) }
+    ensures { ledger.new.workers ≡ ledger.old.workers }
+{
+    let ticket = ledger.claim(w)?.expect(rt, "no node is open");
+    assert_eq!(rt; ticket.node(), node);
+    assert_eq!(rt; ticket.prefix(), prefix);
+    Ok(ticket)
+}
+
+/// Splits a claimed node once, for worker 1.
+fn split_node<R: AllocGlobal + Abort>(
+    rt: &R,
+    ledger: &mut Ledger,
+    ticket: Ticket,
+) -> Result<(), Fail>
+    requires { 1 ≤ ledger.old.workers }
+    ensures { ledger.new.workers ≡ ledger.old.workers }
+{
+    let block = ledger.block();
+    assert!(rt; is_beginning(block, ticket.prefix()));
+    let piece = expand(
+        rt.alloc(),
+        block,
+        ledger.profile(),
+        ticket.prefix(),
+        ledger.best(),
+        1,
+    )?;
+    assert!(rt; ledger.graft(1, ticket, piece).is_ok());
+    Ok(())
+}
+
+/// Offers the source order for worker 2.
+fn offer_source(ledger: &mut Ledger) -> Result<Offered, Fail>
+    requires { 2 ≤ ledger.old.workers }
+    ensures { ledger.new.workers ≡ ledger.old.workers }
+{
+    let block = ledger.block();
+    let timed = time_of(block, ledger.profile(), &Order::source(block));
+    let offered = ledger.offer(2, timed)?;
+    Ok(offered)
+}
+
+/// Checks a search of two workers, whose first has the whole budget until it retires.
+fn check_search<R: AllocGlobal + Abort>(rt: &R, block: &Block) -> Result<(), Fail> {
+    let mut ledger = Ledger::new(rt.alloc(), block, &Profile::standard(), BUDGET, 2)?;
+    assert_eq!(rt; readings(&ledger), (22, 17, 0, 1));
+    assert_eq!(rt; ledger.grant(1)?, BUDGET);
+    let root = claim_node(rt, &mut ledger, 1, 0, &[])?;
+    assert_eq!(rt; readings(&ledger), (22, 17, 0, 0));
+    split_node(rt, &mut ledger, root)?;
+    assert_eq!(rt; readings(&ledger), (22, 17, 1, 3));
+    assert_eq!(rt; offer_source(&mut ledger)?, Offered::NotLower { least: 22 });
+    assert_eq!(rt; ledger.grant(2)?, 0);
+    let child = claim_node(rt, &mut ledger, 2, 3, &[3])?;
+    assert_eq!(rt; readings(&ledger), (22, 17, 1, 2));
+    assert!(rt; ledger.back(2, child).is_ok());
+    assert_eq!(rt; readings(&ledger), (22, 17, 1, 3));
+    claim_node(rt, &mut ledger, 2, 3, &[3])?;
+    assert_eq!(rt; readings(&ledger), (22, 17, 1, 2));
+    ledger.retire(1)?;
+    assert_eq!(rt; ledger.grant(2)?, BUDGET - 1);
+    Ok(())
+}
+
+/// Three multiplies take 22 in any order, and at least 17 where fewer than three are placed. Of the root's children, whose floors
+/// are equal, the newest is handed out.
+#[test]
+fn follows_a_search(rt: HostRuntime) -> Result<(), Fail> {
+    let text = source_of(&rt, MULTIPLIES)?;
+    let source = read_source(rt.alloc(), text.as_bytes())?;
+    assert_eq!(rt; source.blocks().len(), 1);
+    for block in source.blocks() {
+        check_search(&rt, block)?;
+    }
+    Ok(())
+}
