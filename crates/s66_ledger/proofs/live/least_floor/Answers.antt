@@ -1,5 +1,4 @@
-use Rattle.std.proofs.Common.{◌≡◌, ◌∙◌, ◌∷◌, ap, sym, arith, true, false, take, get_or}
-use Rattle.s66_ledger.specs.declared.node.Node.{Node}
+use Rattle.std.proofs.Common.{◌∙◌, sym, arith}
 use Rattle.s66_ledger.proofs.LiveFloors.{least-live, least-dead}
 use Rattle.s66_ledger.proofs.live.least_floor.Goals as goal
 use Rattle.s66_ledger.proofs.live.least_floor.Goals.{then-is_live, else-is_live}

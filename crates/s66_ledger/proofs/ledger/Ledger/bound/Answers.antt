@@ -1,4 +1,4 @@
-use Rattle.std.proofs.Common.{◌≡◌, ◌∙◌, ◌∷◌, ap, sym, subst, length}
+use Rattle.std.proofs.Common.{◌∙◌, ◌∷◌, ap, sym, subst}
 use Rattle.s66_isa.specs.Lists.{least}
 use Rattle.s66_line.specs.Block.{instrs_of}
 use Rattle.s66_model.specs.Timing.{Problem, total_of}
@@ -6,7 +6,7 @@ use Rattle.s66_model.specs.BestAndBound.{IsBound}
 use Rattle.s66_model.specs.Coverage.{Covers, bound_of}
 use Rattle.s66_model.proofs.LedgerRuns.{covers-bound}
 use Rattle.s66_ledger.specs.LiveNodes.{live_values}
-use Rattle.s66_ledger.specs.Kept.{LedgerOf, state_of}
+use Rattle.s66_ledger.specs.Kept.{LedgerOf}
 use Rattle.s66_ledger.proofs.Events.{kept-covers}
 use Rattle.s66_ledger.proofs.LiveFloors.{live-same}
 use Rattle.s66_ledger.proofs.ledger.Ledger.bound.Goals as goal
