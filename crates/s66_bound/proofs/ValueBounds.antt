@@ -1,17 +1,17 @@
 -- Chains by late registers, the greatest of all leaves, and that each is a lower bound of all orders that go on from a beginning.
-use Rattle.std.proofs.Common.{ℕ, ◌+◌, ◌≤◌, ◌<◌, ◌≡◌, max, List, [], ◌∷◌, ◌++◌, length, length-append, map, true, true≢false, refl, sym, ap, arith, inl, inr, ◌∙◌}
+use Rattle.std.proofs.Common.{ℕ, ◌+◌, ◌≤◌, ◌<◌, ◌≡◌, max, List, [], ◌∷◌, ◌++◌, length, length-append, true, true≢false, refl, sym, arith, inl, inr, ◌∙◌}
 use Rattle.std.proofs.lemmas.Bool.{cases_lt, eq-eqb}
-use Rattle.s66_isa.specs.declared.instr.Kind.{Kind}
 use Rattle.s66_isa.specs.Lists.{greatest, Among}
 use Rattle.s66_isa.specs.Table.{Reg, all_kinds}
 use Rattle.s66_model.specs.Timing.{Problem, points_of, next, total_of}
 use Rattle.s66_model.specs.LegalOrder.{IsLegal, IsBeginning, IsIncomplete, IsComplete, is_remaining, remaining}
-use Rattle.s66_model.specs.Leaves.{Leaf, Chain, Load, Parcels, value, chain, load, parcels, longest_chain, MayStand, floor, floor_value}
+use Rattle.s66_model.specs.Leaves.{Leaf, Chain, value, chain, load, parcels, longest_chain, MayStand, floor, floor_value}
 use Rattle.s66_model.specs.Tails.{tail_remaining, chain_by, HasWritten}
 use Rattle.s66_model.proofs.Beginnings.{beginning-front}
 use Rattle.s66_model.proofs.ChainParts.{chain-parts}
 use Rattle.s66_model.proofs.LateRegisters.{has-late}
-use Rattle.s66_model.proofs.FloorParts.{floor-parts, rest-some}
+use Rattle.s66_model.proofs.FloorParts.{rest-some}
+use Rattle.s66_model.proofs.FloorWalk.{floor-sorts}
 use Rattle.s66_model.proofs.Floors.{some-remains, floor-stands}
 use Rattle.s66_model.proofs.LongestChain.{longest-is_chain}
 use Rattle.s66_model.proofs.Remaining.{legal-parts, order-has, remaining-among, remaining-parts}
@@ -25,14 +25,10 @@ chain-covered b prefix xs begins short covers =
 
 -- THE GREATEST
 
-greatest-loads : (f : Leaf → ℕ) (kinds : List Kind) → greatest f (map Load kinds ++ Parcels ∷ []) ≡ max (greatest (λ kind. f (Load kind)) kinds) (f Parcels)
-greatest-loads f [] = omega arith
-greatest-loads f (kind ∷ kinds) = omega (arith, greatest-loads f kinds)
-
 pub floor-greatest : (b : Problem) (prefix : List ℕ) (most loads last : ℕ) → IsBeginning b.block prefix → IsIncomplete b.block prefix → most ≡ chain b prefix → loads ≡ greatest (load b prefix) all_kinds → last ≡ parcels b prefix →
     max most (max loads last) ≡ floor_value b prefix
 floor-greatest b prefix most loads last begins short e1 e2 e3 =
-    rw (e1, e2, e3) (sym (floor-parts b prefix begins short ∙ ap (max (chain b prefix)) (greatest-loads (value b prefix) all_kinds)))
+    rw (e1, e2, e3) (sym (floor-sorts b prefix begins short))
 
 -- LOWER BOUNDS
 

@@ -1,5 +1,5 @@
-use Rattle.std.proofs.Common.{arith, ap, length}
-use Rattle.s66_model.specs.Leaves.{Parcels}
+use Rattle.std.proofs.Common.{◌≡◌, ◌+◌, arith, ap, length}
+use Rattle.s66_model.specs.Leaves.{Parcels, parcels}
 use Rattle.s66_model.proofs.FloorParts.{leaf-fits, rest-some}
 use Rattle.s66_dep.specs.Members.{numbers_in}
 use Rattle.s66_time.specs.Ticking.{problem_of}
@@ -19,35 +19,27 @@ least_of-requires c =
     let t = c.args.clock.now in
     omega (arith, ap length c.requires.rest.numbers, rest-some (problem_of t) t.numbers c.requires.rest.begins c.requires.some)
 
+-- the next slot, the parcels and the least that a tail is longer are the bound
+sum-is : (c : goal.After-least_of) → c.next.result + (c.count.result + c.count-2.result) + c.least_of.result ≡ parcels (problem_of c.args.clock.now) c.args.clock.now.numbers
+sum-is c =
+    let t = c.args.clock.now in
+    let b = problem_of t in
+    omega (
+      arith,
+      c.next.ensures.value,
+      c.count.ensures,
+      c.count-2.ensures,
+      c.least_of.ensures,
+      parcels-are b t.numbers c.args.tables.now.spare (numbers_in c.args.rest.now) (numbers_in c.both.result) c.requires.rest.numbers
+          (both-are b t.numbers (is_long b) c.args.rest.now c.args.tables.now.long c.both.result c.requires.rest.few c.requires.rest.numbers c.requires.tables.long c.both.ensures)
+          (omega (arith, ap length c.requires.rest.numbers, rest-some b t.numbers c.requires.rest.begins c.requires.some))
+          c.requires.tables.spare,
+    )
+
 pub overflow_add-result-2 : goal.overflow_add-result-2
 overflow_add-result-2 c =
     let t = c.args.clock.now in
-    let b = problem_of t in
-    omega (
-      arith,
-      c.next.ensures.value,
-      c.count.ensures,
-      c.count-2.ensures,
-      c.least_of.ensures,
-      parcels-are b t.numbers c.args.tables.now.spare (numbers_in c.args.rest.now) (numbers_in c.both.result) c.requires.rest.numbers
-          (both-are b t.numbers (is_long b) c.args.rest.now c.args.tables.now.long c.both.result c.requires.rest.few c.requires.rest.numbers c.requires.tables.long c.both.ensures)
-          (omega (arith, ap length c.requires.rest.numbers, rest-some b t.numbers c.requires.rest.begins c.requires.some))
-          c.requires.tables.spare,
-      leaf-fits b t.numbers Parcels c.requires.rest.begins c.requires.rest.few c.requires.some,
-    )
+    omega (arith, sum-is c, leaf-fits (problem_of t) t.numbers Parcels c.requires.rest.begins c.requires.rest.few c.requires.some)
 
 pub returns : goal.returns
-returns c =
-    let t = c.args.clock.now in
-    let b = problem_of t in
-    omega (
-      arith,
-      c.next.ensures.value,
-      c.count.ensures,
-      c.count-2.ensures,
-      c.least_of.ensures,
-      parcels-are b t.numbers c.args.tables.now.spare (numbers_in c.args.rest.now) (numbers_in c.both.result) c.requires.rest.numbers
-          (both-are b t.numbers (is_long b) c.args.rest.now c.args.tables.now.long c.both.result c.requires.rest.few c.requires.rest.numbers c.requires.tables.long c.both.ensures)
-          (omega (arith, ap length c.requires.rest.numbers, rest-some b t.numbers c.requires.rest.begins c.requires.some))
-          c.requires.tables.spare,
-    )
+returns c = omega (arith, sum-is c)
