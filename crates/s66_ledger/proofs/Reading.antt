@@ -11,7 +11,7 @@ use Rattle.s66_dep.specs.declared.set.Set.{Set}
 use Rattle.s66_dep.specs.Members.{numbers_in}
 use Rattle.s66_node.specs.declared.knot.Knot as code
 use Rattle.s66_node.specs.declared.knot.Knot.TheVariants as line
-use Rattle.s66_model.specs.Told.{Told, ToldLeaf, ToldFrontier, ToldHolds, tip_of, kids_seen}
+use Rattle.s66_model.specs.Told.{Told, ToldLeaf, ToldFrontier, ToldHolds, tip_of, kids_seen, told_value}
 use Rattle.s66_node.specs.SeenKnots.{seen_knot, seen}
 use Rattle.s66_node.specs.Walked.{front}
 use Rattle.s66_node.specs.Growing.{flat_rests}
@@ -20,7 +20,7 @@ use Rattle.s66_ledger.specs.declared.node.Node.{Node}
 use Rattle.s66_ledger.specs.declared.node.State.TheVariants as state
 use Rattle.s66_ledger.specs.declared.planting.Place.{Place}
 use Rattle.s66_ledger.specs.Nodes.{prefixes, seen_state, nodes_of, HaveFloors}
-use Rattle.s66_ledger.specs.Planting.{kids_of, knot_state, knot_value, told_state, told_value, RestsHold, rest_nodes, place_lefts, PlacesStand, IsReading}
+use Rattle.s66_ledger.specs.Planting.{kids_of, knot_state, knot_value, told_state, RestsHold, rest_nodes, place_lefts, PlacesStand, IsReading}
 use Rattle.s66_ledger.proofs.Prefixes.{get_or-front, get_or-last, length-prefixes, prefixes-push}
 use Rattle.s66_ledger.proofs.Floors.{floors-push}
 use Rattle.s66_ledger.proofs.SeenNodes.{nodes-push}

@@ -37,10 +37,6 @@ abbrev pub told_state : ℕ → Told → State
 told_state best (ToldLeaf value) = if nat_le best value then state.Closed else state.Open
 told_state best (ToldFrontier value) = state.Open
 
-abbrev pub told_value : Told → ℕ
-told_value (ToldLeaf value) = value
-told_value (ToldFrontier value) = value
-
 -- IN PREORDER: of a prefix and of each above it, nearest first, these children are still to come
 
 abbrev pub RestsHold : Problem → List ℕ → List (List ℕ) → List (Kids Told) → Type 0
