@@ -13,6 +13,9 @@ use arrayvec::ArrayVec;
 use s66_isa::{Reg, Write};
 
 /// A word for each register, by its index: a minor cycle.
+///
+/// An instruction has two results at most: they are taken one by one and not in a loop, so that the compiler keeps them out of
+/// memory.
 #[derive(Debug, Drop)]
 pub struct RegisterWords {
     pub words: [u32; REGISTER_COUNT],

@@ -5,7 +5,7 @@ ghost use Rattle.s66_time.specs.declared.limits.TheConstants.{COPIES_LIMIT, TOTA
 ghost use Rattle.s66_time.specs.Places.{first_unit, units_of};
 
 use crate::limits::{COPIES_LIMIT, UNIT_LIMIT};
-use s66_isa::{Kind, Profile};
+use s66_isa::{Kind, Profile, kind_number};
 
 /// A word for each unit: when it is free. Those of a kind stand together, from a multiple of `COPIES_LIMIT` on.
 #[derive(Debug, Drop)]
@@ -18,15 +18,7 @@ fn first_unit(kind: Kind) -> usize
     ensures value { result ≡ first_unit kind }
     ensures within { result + COPIES_LIMIT ≤ UNIT_LIMIT }
 {
-    match kind {
-        Kind::Boolean => 0,
-        Kind::Shift => COPIES_LIMIT,
-        Kind::Add => 2 * COPIES_LIMIT,
-        Kind::LongAdd => 3 * COPIES_LIMIT,
-        Kind::Multiply => 4 * COPIES_LIMIT,
-        Kind::Divide => 5 * COPIES_LIMIT,
-        Kind::Increment => 6 * COPIES_LIMIT,
-    }
+    kind_number(kind) * COPIES_LIMIT
 }
 
 impl UnitWords {
