@@ -7,20 +7,11 @@ ghost use Rattle.s66_line.specs.declared.limits.TheConstants.{BLOCK_LIMIT};
 use crate::block::Block;
 use crate::fields::body_of;
 use crate::placed::Placed;
-use itoa::Buffer;
+use crate::text::push_field;
 use std::alloc::AllocError;
 
 /// The bytes before the operation of an instruction that is printed.
 const LABEL_WIDTH: usize = 10;
-
-/// A text, and a number after it.
-fn push_field(out: &mut Vec<u8>, name: &[u8], number: u32) -> Result<(), AllocError>
-    ensures { OnOk result (out.new.items ≡ out.old.items ++ name.now ++ decimal number) }
-{
-    let mut buffer = Buffer::new();
-    out.extend_from_slice(name)?;
-    out.extend_from_slice(buffer.format(number).as_bytes())
-}
 
 /// That this order is best, or what every order takes at least.
 fn push_bound(out: &mut Vec<u8>, placed: &Placed) -> Result<(), AllocError>
@@ -29,7 +20,7 @@ fn push_bound(out: &mut Vec<u8>, placed: &Placed) -> Result<(), AllocError>
     if placed.bound == placed.time {
         return out.extend_from_slice(b" BEST\n");
     }
-    push_field(out, b" AT LEAST ", placed.bound)?;
+    push_field(out, b" AT LEAST ", placed.bound as usize)?;
     out.extend_from_slice(b"\n")
 }
 
@@ -39,7 +30,7 @@ fn push_splits(out: &mut Vec<u8>, splits: Option<u32>) -> Result<(), AllocError>
     match splits {
         None => Ok(()),
         Some(splits) => {
-            push_field(out, b"* SPLITS ", splits)?;
+            push_field(out, b"* SPLITS ", splits as usize)?;
             out.extend_from_slice(b"\n")
         }
     }
@@ -57,10 +48,10 @@ fn push_times(
     requires { count ≤ BLOCK_LIMIT }
     ensures { OnOk result (out.new.items ≡ out.old.items ++ times_text number count source time) }
 {
-    push_field(out, b"* BLOCK ", number)?;
-    push_field(out, b" COUNT ", count as u32)?;
-    push_field(out, b" SOURCE ", source)?;
-    push_field(out, b" TIME ", time)
+    push_field(out, b"* BLOCK ", number as usize)?;
+    push_field(out, b" COUNT ", count)?;
+    push_field(out, b" SOURCE ", source as usize)?;
+    push_field(out, b" TIME ", time as usize)
 }
 
 /// The report of a block, whose number is from 1, with so many instructions.

@@ -17,6 +17,7 @@ mod placed;
 mod printer;
 mod reader;
 mod source;
+mod text;
 
 pub use block::Block;
 pub use device::{Failed, Feed, OverRead, OverWrite, Sink, WriteError, write_all};
@@ -31,3 +32,4 @@ pub use limits::{BLOCK_LIMIT, LINE_LIMIT, SOURCE_LIMIT, TEXT_LIMIT};
 pub use placed::Placed;
 pub use printer::print_source;
 pub use source::{Source, read_source};
+pub use text::push_field;

@@ -4,11 +4,11 @@ ghost use Rattle.s66_chart.specs.Chart.{chart_text};
 ghost use Rattle.s66_main.specs.AsWritten.{as_written, total_time};
 ghost use Rattle.s66_main.specs.ChartText.{chart_line, chart_lines};
 
-use crate::fields::{push_block_head, push_field};
+use crate::fields::push_block_head;
 use s66_chart::chart;
 use s66_dep::Order;
 use s66_isa::Profile;
-use s66_line::{Block, OverWrite};
+use s66_line::{Block, OverWrite, push_field};
 use s66_time::{Timed, time_of};
 use std::alloc::{AllocError, Global};
 use std::mem;

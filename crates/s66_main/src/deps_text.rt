@@ -6,9 +6,9 @@ ghost use Rattle.s66_model.specs.Dependence.{all_needs};
 ghost use Rattle.s66_dep.specs.Members.{numbers_in};
 ghost use Rattle.s66_main.specs.DepsText.{dependences_in, deps_line, needs_line, needs_lines, deps_lines};
 
-use crate::fields::{push_block_head, push_field};
+use crate::fields::push_block_head;
 use s66_dep::{Dependences, Set};
-use s66_line::Block;
+use s66_line::{Block, push_field};
 use std::alloc::AllocError;
 
 /// How many pairs depend in a block of so many instructions.

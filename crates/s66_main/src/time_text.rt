@@ -3,10 +3,10 @@ ghost use Rattle.s66_line.specs.Block.{instrs_of};
 ghost use Rattle.s66_main.specs.AsWritten.{as_written, total_time};
 ghost use Rattle.s66_main.specs.TimeText.{fillers_as_written, time_line, trace_line, trace_lines, time_lines};
 
-use crate::fields::{push_block_head, push_field};
+use crate::fields::push_block_head;
 use s66_dep::Order;
 use s66_isa::Profile;
-use s66_line::Block;
+use s66_line::{Block, push_field};
 use s66_time::{Timed, pack, time_of};
 use std::alloc::AllocError;
 
