@@ -1,4 +1,5 @@
 ghost use Rattle.std.specs.Prelude.{ℕ, ◌≡◌, ◌+◌, ◌≤◌, ◌<◌, ◌==◌, length};
+ghost use Rattle.s66_isa.specs.declared.reg.TheConstants.{REGISTER_COUNT};
 ghost use Rattle.s66_isa.specs.Lists.{some_of};
 ghost use Rattle.s66_isa.specs.Registers.{index_of};
 ghost use Rattle.s66_isa.specs.Table.{same_kind, same_reg, Write as WriteOf};
@@ -14,7 +15,7 @@ use crate::entry::Entry;
 use crate::longest::longest_tails;
 use arrayvec::ArrayVec;
 use s66_dep::Set;
-use s66_isa::{Bank, Kind, Reg, Write, is_same_kind, is_same_register};
+use s66_isa::{Bank, KIND_COUNT, Kind, REGISTER_COUNT, Reg, Write, is_same_kind, is_same_register};
 use s66_line::BLOCK_LIMIT;
 
 /// What bounds look up of the numbers of a block; the word of n stands at n - 1. Times are in minor cycles.
@@ -31,11 +32,11 @@ pub struct Tables {
     /// For how long it takes its unit: its hold and one.
     pub work: [u32; BLOCK_LIMIT],
     /// The numbers of each kind, by the place of the kind.
-    pub kinds: [Set; 7],
+    pub kinds: [Set; KIND_COUNT],
     /// The numbers that read or write each register, by its index.
-    pub users: [Set; 24],
+    pub users: [Set; REGISTER_COUNT],
     /// The registers that the block writes, each once.
-    pub written: ArrayVec<Reg, 24>,
+    pub written: ArrayVec<Reg, REGISTER_COUNT>,
 }
 
 impl Tables {
@@ -111,7 +112,7 @@ fn numbers_of_kind(entries: &[Entry], kind: Kind) -> Set
 }
 
 /// The numbers of each kind, by the place of the kind.
-fn numbers_by_kind(entries: &[Entry]) -> [Set; 7]
+fn numbers_by_kind(entries: &[Entry]) -> [Set; KIND_COUNT]
     requires few { length entries.now ≤ BLOCK_LIMIT }
     ensures { (b : Problem) → AreEntries b entries.now → HasKinds b result }
 {
@@ -142,7 +143,7 @@ fn users_of(entries: &[Entry], register: Reg) -> Set
 
 /// The register of an index.
 fn register_at(index: usize) -> Reg
-    requires { index < 24 }
+    requires { index < REGISTER_COUNT }
     ensures value { index_of result ≡ index }
     ensures digit { result.digit ≤ 7 }
 {
@@ -155,12 +156,12 @@ fn register_at(index: usize) -> Reg
 }
 
 /// The numbers that read or write each register, by its index.
-fn users_by_register(entries: &[Entry]) -> [Set; 24]
+fn users_by_register(entries: &[Entry]) -> [Set; REGISTER_COUNT]
     requires few { length entries.now ≤ BLOCK_LIMIT }
     ensures { (b : Problem) → AreEntries b entries.now → HasUsers b result }
 {
-    let mut users = [Set::empty(); 24];
-    for index in 0..24 {
+    let mut users = [Set::empty(); REGISTER_COUNT];
+    for index in 0..REGISTER_COUNT {
         users[index] = users_of(entries, register_at(index));
     }
     users
@@ -191,11 +192,11 @@ fn writes_register(writes: &[Write], register: Reg) -> bool
 }
 
 /// The registers that are written, each once.
-fn written_registers(entries: &[Entry]) -> ArrayVec<Reg, 24>
+fn written_registers(entries: &[Entry]) -> ArrayVec<Reg, REGISTER_COUNT>
     ensures { (b : Problem) → AreEntries b entries.now → HasWritten b result.items }
 {
     let mut written = ArrayVec::new();
-    for index in 0..24 {
+    for index in 0..REGISTER_COUNT {
         let register = register_at(index);
         if is_written(entries, register) {
             written.push(register);

@@ -1,5 +1,6 @@
 ghost use Rattle.std.specs.Prelude.{◌≡◌, ◌+◌, ◌<◌, ◌≤◌, ◌++◌, [], ◌∷◌, ℕ, map};
 ghost use Rattle.arrayvec.specs.ArrayVec.{array_vec_len};
+ghost use Rattle.s66_isa.specs.declared.instr.TheConstants.{KIND_COUNT};
 ghost use Rattle.s66_isa.specs.Table.{insert, kind_number, same_kind, memory_pair, a_reg, b_reg, x_reg, idle_instr};
 
 use crate::op::Op;
@@ -21,8 +22,11 @@ pub enum Kind {
     Increment,
 }
 
+/// How many kinds there are.
+pub const KIND_COUNT: usize = 7;
+
 /// All kinds, in the order in which they are counted.
-pub const KINDS: [Kind; 7] = [
+pub const KINDS: [Kind; KIND_COUNT] = [
     Kind::Boolean,
     Kind::Shift,
     Kind::Add,
@@ -59,7 +63,7 @@ pub enum Operands {
 /// The number of a kind, from 0.
 pub fn kind_number(kind: Kind) -> usize
     ensures value { result ≡ kind_number kind }
-    ensures within { result < 7 }
+    ensures within { result < KIND_COUNT }
 {
     match kind {
         Kind::Boolean => 0,

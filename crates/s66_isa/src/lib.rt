@@ -9,10 +9,10 @@ mod registers;
 mod write;
 
 pub use instr::{
-    Instr, KINDS, Kind, Memory, Operands, is_memory_conflict, is_same_kind, kind_number,
+    Instr, KIND_COUNT, KINDS, Kind, Memory, Operands, is_memory_conflict, is_same_kind, kind_number,
 };
 pub use op::Op;
 pub use profile::{Profile, is_same_profile};
-pub use reg::{Bank, Reg, has_register, is_same_register, is_zero_register};
+pub use reg::{Bank, REGISTER_COUNT, Reg, has_register, is_same_register, is_zero_register};
 pub use registers::Registers;
 pub use write::{Write, longest_latency, writes_of};

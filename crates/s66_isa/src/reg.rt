@@ -3,6 +3,9 @@ ghost use Rattle.s66_isa.specs.Table.{same_reg, is_b0, has_reg};
 
 use std::marker::Model;
 
+/// How many registers there are: three banks of eight.
+pub const REGISTER_COUNT: usize = 24;
+
 /// A bank of eight registers.
 #[derive(Clone, Copy, Debug, Default, PartialEq, Eq)]
 pub enum Bank {

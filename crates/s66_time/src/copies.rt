@@ -1,16 +1,17 @@
 ghost use Rattle.std.specs.Prelude.{ℕ, ◌≡◌, ◌<◌, ◌≤◌, get_or};
+ghost use Rattle.s66_isa.specs.declared.instr.TheConstants.{KIND_COUNT};
 ghost use Rattle.s66_isa.specs.Table.{kind_number, copies_of};
 ghost use Rattle.s66_isa.specs.declared.instr.Kind.{Kind as KindOf};
 ghost use Rattle.s66_time.specs.declared.limits.TheConstants.{COPIES_LIMIT};
 
-use s66_isa::{Kind, Profile, kind_number};
+use s66_isa::{KIND_COUNT, Kind, Profile, kind_number};
 
 /// How many units a profile has of each kind, by the kind's number.
 #[derive(Debug, Drop)]
 pub struct Copies {
-    counts: [u32; 7],
-    ghost some: { (i : ℕ) → i < 7 → 1 ≤ get_or counts i 0 },
-    ghost few: { (i : ℕ) → i < 7 → get_or counts i 0 ≤ COPIES_LIMIT },
+    counts: [u32; KIND_COUNT],
+    ghost some: { (i : ℕ) → i < KIND_COUNT → 1 ≤ get_or counts i 0 },
+    ghost few: { (i : ℕ) → i < KIND_COUNT → get_or counts i 0 ≤ COPIES_LIMIT },
 }
 
 impl Copies {

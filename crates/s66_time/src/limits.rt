@@ -1,3 +1,4 @@
+use s66_isa::KIND_COUNT;
 use s66_line::BLOCK_LIMIT;
 
 /// The most minor cycles by which one more instruction lengthens an order.
@@ -6,14 +7,11 @@ const STEP_LIMIT: u32 = 104;
 /// The most minor cycles that an order of a block takes.
 pub const TOTAL_LIMIT: u32 = STEP_LIMIT * BLOCK_LIMIT as u32;
 
-/// How many registers there are.
-pub const REGISTER_COUNT: usize = 24;
-
 /// The most units of a kind that a profile has.
 pub const COPIES_LIMIT: usize = 100;
 
 /// How many units the seven kinds have at most, all together.
-pub const UNIT_LIMIT: usize = 7 * COPIES_LIMIT;
+pub const UNIT_LIMIT: usize = KIND_COUNT * COPIES_LIMIT;
 
 /// The most words that a clock's push reads or writes beside one for each unit of the kind, and the most that its undo does.
 pub const LOOK_LIMIT: u32 = 40;

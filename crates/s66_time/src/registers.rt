@@ -6,11 +6,10 @@ ghost use Rattle.s66_time.specs.declared.limits.TheConstants.{TOTAL_LIMIT};
 ghost use Rattle.s66_time.specs.ClockWords.{Tells};
 ghost use Rattle.s66_time.specs.Places.{word_of, put_back};
 
-use crate::limits::REGISTER_COUNT;
 use crate::result::ResultAt;
 use crate::step::Saved;
 use arrayvec::ArrayVec;
-use s66_isa::{Reg, Write};
+use s66_isa::{REGISTER_COUNT, Reg, Write};
 
 /// A word for each register, by its index: a minor cycle.
 ///

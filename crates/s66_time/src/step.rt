@@ -1,5 +1,6 @@
 ghost use Rattle.std.specs.Prelude.{◌<◌, ◌≤◌};
-ghost use Rattle.s66_time.specs.declared.limits.TheConstants.{REGISTER_COUNT, UNIT_LIMIT};
+ghost use Rattle.s66_isa.specs.declared.reg.TheConstants.{REGISTER_COUNT};
+ghost use Rattle.s66_time.specs.declared.limits.TheConstants.{UNIT_LIMIT};
 
 use crate::progress::Progress;
 use arrayvec::ArrayVec;
