@@ -35,3 +35,6 @@ pub mod LedgerSteps
 pub mod LedgerRuns
 pub mod OneTree
 pub mod Histories
+pub mod GrownTrees
+pub mod NodeTrees
+pub mod EndedLedgers

@@ -16,6 +16,8 @@ pub mod Expansion
 pub mod Ledger
 pub mod Coverage
 pub mod NodeTable
+pub mod NodeTree
+pub mod Ended
 pub mod Reached
 pub mod Recorded
 pub mod Examples

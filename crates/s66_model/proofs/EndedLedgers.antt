@@ -1,0 +1,251 @@
+-- Where the steps of a search have ended, the answer that the last state is finishes the ledger with which they began.
+use Rattle.std.proofs.Common.{ℕ, ◌≤◌, ◌<◌, ◌≡◌, ◌⊎◌, Bool, true, false, cond, List, [], ◌∷◌, ◌++◌, length, refl, sym, ap, arith, inl, inr, subst, Some, None}
+use Rattle.std.proofs.lemmas.Bool.{and_left, cases_lt}
+use Rattle.s66_isa.specs.Lists.{tally, least, Among}
+use Rattle.s66_isa.specs.Table.{numbers}
+use Rattle.s66_model.specs.Timing.{Problem}
+use Rattle.s66_model.specs.LegalOrder.{IsBeginning, IsComplete}
+use Rattle.s66_model.specs.Leaves.{Leaf, Whole, value, leaf_values, floor, floor_value, MayStand}
+use Rattle.s66_model.specs.Tree.{Kids, NoMore, Unsplit, Split, Tree, Alone, Parted, KidsHold, TreeHolds, kid_values, tree_values}
+use Rattle.s66_model.specs.Answer.{source_time, IsAnswer}
+use Rattle.s66_model.specs.Ledger.{Ledger, Node, State, Open, Out, Cut, Closed, is_cut, is_cut_state, is_live, is_live_state, node_at, no_node, with_state, root_state, new_nodes, best_time, opening, Event, Grant, Claim, Graft, Offer, Back, Retire, Reply, Granted, Claimed, Taken, NotOut, OtherPrefix, OverAllowance, Lower, NotLower, OtherBlock, Returned, Retired, Moves, Run}
+use Rattle.s66_model.specs.Coverage.{NodeHolds, NodesHold, Covers, live_floors, bound_of, IsFinished}
+use Rattle.s66_model.specs.NodeTable.{stands_at, is_cut_at, IsTable}
+use Rattle.s66_model.specs.NodeTree.{node_tree}
+use Rattle.s66_model.specs.Ended.{IsEnded, ended_answer}
+use Rattle.s66_model.specs.Reached.{IsReached}
+use Rattle.s66_isa.proofs.Lists.{tally-append, tally-set, least-le, among-rest}
+use Rattle.s66_model.proofs.Floors.{floor-stands}
+use Rattle.s66_model.proofs.LedgerRuns.{run-falls}
+use Rattle.s66_model.proofs.Histories.{run-join, reached-covers, reached-table, reached-source}
+use Rattle.s66_model.proofs.NodeTrees.{cut-counts, node_tree-splits, node_tree-holds, node_tree-keeps, node_tree-values}
+
+-- THE LEAST OF A LIST
+
+least-ge : (low t : ℕ) (vs : List ℕ) → low ≤ t → ((v : ℕ) → Among v vs → low ≤ v) → low ≤ least (λ v. v) (t ∷ vs)
+least-ge low t [] le each = le
+least-ge low t (v ∷ vs) le each = omega (arith, le, least-ge low v vs (each v (inl refl)) (λ w among. each w (inr among)))
+
+least-some : (low t : ℕ) (vs : List ℕ) → least (λ v. v) (t ∷ vs) < low → low ≤ t → (v : ℕ) × Among v vs × (v < low)
+least-some low t [] lt le = absurd (omega (arith, lt, le))
+least-some low t (v ∷ vs) lt le =
+    elim (cases_lt v low) [
+      | inl less ↦ (v, inl refl, less)
+      | inr more ↦
+          (let (w, among, less) = least-some low v vs (omega (arith, lt, le)) more in
+          (w, inr among, less))
+    ]
+
+-- THE NODES THAT ARE OPEN OR OUT
+
+live-floor : (b : Problem) (node : Node) (nodes : List Node) → Among node nodes → is_live node ≡ true → Among (floor_value b node.prefix) (live_floors b nodes)
+live-floor b node [] among live = absurd among
+live-floor b node (x ∷ nodes) (inl here) live =
+    let is : is_live x ≡ true = subst (λ (y : Node). is_live y ≡ true) here live in
+    rw is (inl (ap (λ (y : Node). floor_value b y.prefix) here))
+live-floor b node (x ∷ nodes) (inr past) live =
+    among-rest (floor_value b node.prefix) (cond (is_live x) (floor_value b x.prefix ∷ []) []) (live_floors b nodes) (live-floor b node nodes past live)
+
+floor-live : (b : Problem) (v : ℕ) (nodes : List Node) → Among v (live_floors b nodes) → (node : Node) × Among node nodes × (is_live node ≡ true) × (v ≡ floor_value b node.prefix)
+floor-live b v [] among = absurd among
+floor-live b v (x ∷ nodes) among =
+    elim (first (is_live x) among) [
+      | inl here ↦ (x, inl refl, here.0, here.1)
+      | inr past ↦
+          (let (node, later, live, is) = floor-live b v nodes past in
+          (node, inr later, live, is))
+    ]
+  where
+    first : (live : Bool) → Among v (cond live (floor_value b x.prefix ∷ []) [] ++ live_floors b nodes) → ((live ≡ true) × (v ≡ floor_value b x.prefix)) ⊎ Among v (live_floors b nodes)
+    first true (inl here) = inl (refl, here)
+    first true (inr past) = inr past
+    first false past = inr past
+
+live-uncut : (state : State) → is_live_state state ≡ true → is_cut_state state ≡ false
+live-uncut Open h = refl
+live-uncut Out h = refl
+live-uncut Cut h = absurd cc
+live-uncut (Closed leaf) h = refl
+
+live-or-closed : (state : State) → is_cut_state state ≡ false → (is_live_state state ≡ true) ⊎ ((leaf : Leaf) × (state ≡ Closed leaf))
+live-or-closed Open h = inl refl
+live-or-closed Out h = inl refl
+live-or-closed Cut h = absurd cc
+live-or-closed (Closed leaf) h = inr (leaf, refl)
+
+-- VALUES OF A TREE
+
+append-each : (low : ℕ) (vs ws : List ℕ) → ((v : ℕ) → Among v vs → low ≤ v) → ((v : ℕ) → Among v ws → low ≤ v) → (v : ℕ) → Among v (vs ++ ws) → low ≤ v
+append-each low [] ws f g v among = g v among
+append-each low (x ∷ vs) ws f g v (inl here) = f v (inl here)
+append-each low (x ∷ vs) ws f g v (inr past) = append-each low vs ws (λ w among. f w (inr among)) g v past
+
+module _ (b : Problem) (low : ℕ) where
+  kids-each : (kids : Kids Leaf) (prefix ns : List ℕ) → KidsHold b.block (λ at leaf. low ≤ value b at leaf) prefix ns kids → (v : ℕ) → Among v (kid_values (leaf_values b) prefix ns kids) → low ≤ v
+  kids-each kids prefix [] h v among = absurd among
+  kids-each NoMore prefix (n ∷ ns) h v among = absurd among
+  kids-each (Unsplit leaf kids) prefix (n ∷ ns) h v (inl here) = omega (arith, here, h.0)
+  kids-each (Unsplit leaf kids) prefix (n ∷ ns) h v (inr past) = kids-each kids prefix ns h.1 v past
+  kids-each (Split numbers sub kids) prefix (n ∷ ns) h v among =
+      append-each low (kid_values (leaf_values b) (prefix ++ n ∷ []) numbers sub) (kid_values (leaf_values b) prefix ns kids)
+      (kids-each sub (prefix ++ n ∷ []) numbers h.2) (kids-each kids prefix ns h.3) v among
+
+  -- what is at most the value of each leaf
+  tree-each : (tree : Tree Leaf) → TreeHolds b.block (λ at leaf. low ≤ value b at leaf) [] tree → (v : ℕ) → Among v (tree_values (leaf_values b) [] tree) → low ≤ v
+  tree-each (Alone leaf) h v (inl here) = omega (arith, here, h)
+  tree-each (Alone leaf) h v (inr past) = absurd past
+  tree-each (Parted numbers kids) h v among = kids-each kids [] numbers h.2 v among
+
+-- THE ANSWER
+
+holds-among : (b : Problem) (best : ℕ) (nodes : List Node) (node : Node) → NodesHold b best nodes → Among node nodes → NodeHolds b best node
+holds-among b best [] node h among = absurd among
+holds-among b best (x ∷ nodes) node h (inl here) = subst (λ (y : Node). NodeHolds b best y) (sym here) h.0
+holds-among b best (x ∷ nodes) node h (inr past) = holds-among b best nodes node h.1 past
+
+module _ (b : Problem) (budget workers : ℕ) (l : Ledger) (reached : IsReached b budget workers l) where
+  c : Covers b budget l
+  c = reached-covers b budget workers l reached
+
+  table : IsTable b l
+  table = reached-table b budget workers l reached
+
+  pub beginnings : (node : Node) → Among node l.nodes → IsBeginning b.block node.prefix
+  beginnings node among = (holds-among b (best_time b l) l.nodes node c.nodes among).0
+
+  closed-above : (node : Node) (leaf : Leaf) → Among node l.nodes → node.state ≡ Closed leaf → best_time b l ≤ floor_value b node.prefix
+  closed-above node leaf among is =
+      let holds = (holds-among b (best_time b l) l.nodes node c.nodes among).1 leaf is in
+      subst (λ f. best_time b l ≤ value b node.prefix f) holds.0 holds.1
+
+  values : List ℕ
+  values = tree_values (leaf_values b) [] (node_tree b l.nodes)
+
+  bound-below : (v : ℕ) → Among v values → bound_of b l ≤ v
+  unfolding values
+  bound-below =
+      tree-each b (bound_of b l) (node_tree b l.nodes)
+      (node_tree-holds b l table beginnings (λ at leaf. bound_of b l ≤ value b at leaf) each)
+    where
+      each : (node : Node) → Among node l.nodes → is_cut node ≡ false → bound_of b l ≤ floor_value b node.prefix
+      each node among off =
+          elim (live-or-closed node.state off) [
+            | inl live ↦ least-le (λ v. v) (floor_value b node.prefix) (best_time b l ∷ live_floors b l.nodes) (inr (live-floor b node l.nodes among live))
+            | inr closed ↦ omega (arith, closed-above node closed.0 among closed.1, least-le (λ v. v) (best_time b l) (best_time b l ∷ live_floors b l.nodes) (inl refl))
+          ]
+
+  values-below : (v : ℕ) → Among v (live_floors b l.nodes) → least (λ v. v) (best_time b l ∷ values) ≤ v
+  unfolding values
+  values-below v among =
+      let (node, there, live, is) = floor-live b v l.nodes among in
+      omega (arith, is, least-le (λ v. v) (floor_value b node.prefix) (best_time b l ∷ values) (inr (node_tree-values b l table beginnings node there (live-uncut node.state live))))
+
+  -- closed leaves take at least the best time, and every other leaf is of a node that is open or out
+  bound-same : bound_of b l ≡ least (λ v. v) (best_time b l ∷ values)
+  bound-same =
+      let least-best = least-le (λ v. v) (best_time b l) (best_time b l ∷ values) (inl refl) in
+      let bound-best = least-le (λ v. v) (best_time b l) (best_time b l ∷ live_floors b l.nodes) (inl refl) in
+      omega (
+        arith,
+        least-ge (bound_of b l) (best_time b l) values bound-best bound-below,
+        least-ge (least (λ v. v) (best_time b l ∷ values)) (best_time b l) (live_floors b l.nodes) least-best values-below,
+      )
+
+  module _ (ended : IsEnded b budget l) where
+    whole-above : (node : Node) → Among node l.nodes → is_cut node ≡ false → floor b node.prefix ≡ Whole → best_time b l ≤ floor_value b node.prefix
+    whole-above node among off is =
+        elim (live-or-closed node.state off) [
+          | inr closed ↦ closed-above node closed.0 among closed.1
+          | inl live ↦
+              elim (ended node among live) [
+                | inl le ↦ le
+                | inr short ↦
+                    (let whole : IsComplete b.block node.prefix = subst (λ leaf. MayStand b node.prefix leaf) is (floor-stands b node.prefix (beginnings node among)) in
+                    absurd (omega (arith, short.0, whole)))
+              ]
+        ]
+
+    all-spent : bound_of b l < best_time b l → l.spent ≡ budget
+    all-spent lt =
+        let (v, among, less) = least-some (best_time b l) (best_time b l) (live_floors b l.nodes) lt (omega arith) in
+        let (node, there, live, is) = floor-live b v l.nodes among in
+        elim (ended node there live) [
+          | inl le ↦ absurd (omega (arith, le, less, is))
+          | inr short ↦ short.1
+        ]
+
+    source-first : source_time b ≡ best_time b l → l.best ≡ numbers b.block
+    source-first same =
+        elim table.best [
+          | inl is ↦ is
+          | inr lt ↦ absurd (omega (arith, lt, same))
+        ]
+
+    pub ended-answer : IsAnswer b budget (ended_answer b l)
+    unfolding values
+    ended-answer =
+        record {
+          legal = c.best;
+          time = refl;
+          source = reached-source b budget workers l reached;
+          wholes = node_tree-holds b l table beginnings (λ at leaf. leaf ≡ Whole → best_time b l ≤ value b at leaf) whole-above;
+          tree = node_tree-holds b l table beginnings (λ at leaf. leaf ≡ floor b at) (λ node among off. refl);
+          bound = bound-same;
+          splits = omega (arith, c.spent, node_tree-splits b l table beginnings);
+          within = omega (arith, c.sum);
+          spent = all-spent;
+          first = source-first;
+        }
+
+-- A SPLIT NODE STAYS SPLIT
+
+module _ (b : Problem) (at : List ℕ) where
+  abbrev cuts : Ledger → ℕ
+  cuts l = tally (is_cut_at at) l.nodes
+
+  -- where a node that isn't split takes another state
+  state-cuts : (nodes : List Node) (i : ℕ) (state : State) → i < length nodes → is_cut (node_at nodes i) ≡ false → tally (is_cut_at at) nodes ≤ tally (is_cut_at at) (with_state nodes i state)
+  state-cuts nodes i state lt was =
+      let node : Node = record { prefix = (node_at nodes i).prefix; state = state } in
+      let before : is_cut_at at (node_at nodes i) ≡ false = and_left (is_cut (node_at nodes i)) (stands_at at (node_at nodes i)) was in
+      omega (arith, tally-set (is_cut_at at) nodes i node no_node lt, ap (λ t. cond {A = ℕ} t 1 0) before)
+
+  moves-cuts : (old : Ledger) (event : Event) (reply : Reply) (new : Ledger) → Moves b old event reply new → cuts old ≤ cuts new
+  moves-cuts old (Grant w) (Granted n) new h = omega (arith, ap (λ (l : Ledger). tally (is_cut_at at) l.nodes) h.1)
+  moves-cuts old (Claim w) (Claimed (Some i)) new h =
+      omega (arith, ap (λ (l : Ledger). tally (is_cut_at at) l.nodes) h.2, state-cuts old.nodes i Out h.0 (ap is_cut_state h.1))
+  moves-cuts old (Claim w) (Claimed None) new h = omega (arith, ap (λ (l : Ledger). tally (is_cut_at at) l.nodes) h.1)
+  moves-cuts old (Graft w i own prefix count None) NotOut new h = omega (arith, ap (λ (l : Ledger). tally (is_cut_at at) l.nodes) h.1)
+  moves-cuts old (Graft w i own prefix count None) OtherPrefix new h = omega (arith, ap (λ (l : Ledger). tally (is_cut_at at) l.nodes) h.2)
+  moves-cuts old (Graft w i own prefix count None) OverAllowance new h = omega (arith, ap (λ (l : Ledger). tally (is_cut_at at) l.nodes) h.3)
+  moves-cuts old (Graft w i own prefix count (Some tree)) Taken new h =
+      let state = root_state b (best_time b old) prefix tree in
+      omega (
+        arith,
+        ap (λ (l : Ledger). tally (is_cut_at at) l.nodes) h.5,
+        tally-append (is_cut_at at) (with_state old.nodes i state) (new_nodes b (best_time b old) prefix tree),
+        state-cuts old.nodes i state h.0.0 (ap is_cut_state h.0.1),
+      )
+  moves-cuts old (Offer w own order time) OtherBlock new h = omega (arith, ap (λ (l : Ledger). tally (is_cut_at at) l.nodes) h.1)
+  moves-cuts old (Offer w own order time) Lower new h = omega (arith, ap (λ (l : Ledger). tally (is_cut_at at) l.nodes) h.2)
+  moves-cuts old (Offer w own order time) (NotLower n) new h = omega (arith, ap (λ (l : Ledger). tally (is_cut_at at) l.nodes) h.3)
+  moves-cuts old (Back w i) NotOut new h = omega (arith, ap (λ (l : Ledger). tally (is_cut_at at) l.nodes) h.1)
+  moves-cuts old (Back w i) Returned new h =
+      omega (arith, ap (λ (l : Ledger). tally (is_cut_at at) l.nodes) h.1, state-cuts old.nodes i Open h.0.0 (ap is_cut_state h.0.1))
+  moves-cuts old (Retire w) Retired new h = omega (arith, ap (λ (l : Ledger). tally (is_cut_at at) l.nodes) h)
+  moves-cuts old event reply new h = absurd h
+
+  run-cuts : (events : List (Event × Reply)) (old new : Ledger) → Run b old events new → cuts old ≤ cuts new
+  run-cuts [] old new r = omega (arith, ap (λ (l : Ledger). tally (is_cut_at at) l.nodes) r)
+  run-cuts (e ∷ events) old new r = omega (arith, moves-cuts old e.0 e.1 r.0 r.1.1, run-cuts events r.0 new r.2)
+
+-- however a ledger was reached, and whatever steps went on from it
+pub ended-finishes : (b : Problem) (budget workers : ℕ) (l new : Ledger) (events : List (Event × Reply)) → IsReached b budget workers l → Run b l events new → IsEnded b budget new → IsFinished b budget l (ended_answer b new)
+ended-finishes b budget workers l new events (history, r) run ended =
+    let reached : IsReached b budget workers new = (history ++ events, run-join b history events (opening b budget workers) l new r run) in
+    record {
+      answer = ended-answer b budget workers new reached ended;
+      time = run-falls b events l new run;
+      kept = λ node among is. node_tree-keeps b new (reached-table b budget workers new reached) (beginnings b budget workers new reached) node.prefix (beginnings b budget workers l (history, r) node among)
+          (omega (arith, cut-counts node l.nodes among is, run-cuts b node.prefix events l new run));
+    }
