@@ -37,6 +37,7 @@ impl<'a> Bounds<'a> {
     ghost use Rattle.s66_model.specs.Timing.{total_of};
     ghost use Rattle.s66_model.specs.LegalOrder.{IsLegal};
     ghost use Rattle.s66_model.specs.Leaves.{chain, longest_chain, load, parcels, floor, floor_value};
+    ghost use Rattle.s66_model.specs.Tails.{longest_tail};
     ghost use Rattle.s66_time.specs.Ticking.{problem_of};
     ghost use Rattle.s66_bound.specs.LeafValues.{leaf_of, value_of};
 
@@ -52,6 +53,15 @@ impl<'a> Bounds<'a> {
             entries,
             tables,
         }
+    }
+
+    /// The time of the longest walk from a number of the block along the links to later ones, in minor cycles: in constant time.
+    pub fn tail(&self, n: u8) -> u32
+        requires { (1 ≤ n) × (n ≤ length self.now.block) }
+        ensures { result ≡ longest_tail self.now n }
+    {
+        prove!(self.block.count() <= BLOCK_LIMIT);
+        self.tables.longest[n as usize - 1]
     }
 
     /// The greatest value of a chain, in minor cycles.

@@ -24,6 +24,7 @@ mod orders;
 mod plain_clock;
 mod printing;
 mod program;
+mod schedule;
 mod trace;
 
 const TIME: Command = Command::Time { trace: false };

@@ -1,6 +1,7 @@
 pub mod Growing
 pub mod Leasts
 pub mod Pieces
+pub mod Schedules
 pub mod Standing
 pub mod Tips
 pub mod Walks

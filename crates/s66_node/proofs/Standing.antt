@@ -1,15 +1,22 @@
 -- A walk stands at a beginning, before and after each step.
-use Rattle.std.proofs.Common.{ℕ, ◌-◌, ◌<◌, ◌≡◌, ◌⊎◌, true, List, [], ◌∷◌, ◌++◌, length, take, sym, ap, arith, inl, inr, ◌∙◌, length-append, subst, eqb}
+use Rattle.std.proofs.Common.{ℕ, ◌+◌, ◌-◌, ◌<◌, ◌≡◌, ◌⊎◌, true, List, [], ◌∷◌, ◌++◌, length, take, get_or, sym, ap, arith, inl, inr, ◌∙◌, length-append, subst, eqb}
 use Rattle.std.proofs.lemmas.Bool.{cases_eq, eq-eqb}
+use Rattle.std.proofs.lemmas.List.{take_more}
+use Rattle.s66_isa.specs.declared.instr.Instr.{Instr}
 use Rattle.s66_line.specs.Block.{instrs_of}
 use Rattle.s66_line.specs.declared.limits.TheConstants.{BLOCK_LIMIT}
 use Rattle.s66_model.specs.Timing.{Problem}
-use Rattle.s66_model.specs.LegalOrder.{IsBeginning, IsIncomplete, is_ready}
+use Rattle.s66_model.specs.LegalOrder.{IsBeginning, IsFront, IsIncomplete, is_ready}
 use Rattle.s66_model.proofs.Remaining.{step-begins}
 use Rattle.s66_model.proofs.Beginnings.{front-beginning, beginning-front}
-use Rattle.s66_dep.proofs.Fronts.{beginning-few, front-take}
+use Rattle.s66_dep.proofs.Fronts.{beginning-few, front-take, push-ready}
 use Rattle.s66_time.specs.Ticking.{Ticking, problem_of}
 use Rattle.s66_node.specs.Walked.{Walked, IsWalked}
+
+-- each number of a beginning is ready after those before it
+pub ready-at : (block : List Instr) (ns : List ℕ) (i : ℕ) → IsBeginning block ns → i < length ns → is_ready block (take i ns) (get_or ns i 0) ≡ true
+ready-at block ns i begins lt =
+    push-ready block (take i ns) (get_or ns i 0) (subst (IsFront block) (take_more ns i 0 lt) (front-take block ns (i + 1) (beginning-front block ns begins)))
 
 module _ (c : Ticking) (b : Problem) (d : List (List ℕ)) (ns : List ℕ) (w : Walked) (h : IsWalked c b d ns) (seen : record { problem = problem_of c; numbers = c.numbers } ≡ w) where
   ready-here : (n : ℕ) → is_ready w.problem.block w.numbers n ≡ true → is_ready (instrs_of c.block) c.numbers n ≡ true

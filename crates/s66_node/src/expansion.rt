@@ -14,7 +14,7 @@ use crate::walk::Walk;
 use crate::whole_order::{WholeOrder, copy_of};
 use s66_dep::Order;
 use s66_isa::Profile;
-use s66_line::{BLOCK_LIMIT, Block};
+use s66_line::Block;
 use s66_time::{Timed, time_of};
 use std::alloc::{AllocError, Global};
 
@@ -52,23 +52,46 @@ pub fn expand(
     ensures expansion { IfOk result (λ p. IsExpansion (record { block = instrs_of block.now; profile = profile.now }) best best allowance prefix.now (tree_of p)) }
     ensures timed { IfOk result (λ p. IsBestTimed (record { block = instrs_of block.now; profile = profile.now }) prefix.now (tree_of p) p.timed) }
 {
-    // so the prefix fits
-    prove!(block.count() <= BLOCK_LIMIT);
-    let mut walk = Walk::new(block, profile);
-    for number in prefix {
-        walk.push(*number);
+    Walk::new(block, profile).expand(alloc, prefix, best, allowance)
+}
+
+impl Walk<'_> {
+    ghost use Rattle.std.specs.Prelude.{◌≡◌, IfOk};
+    ghost use Rattle.s66_model.specs.LegalOrder.{IsBeginning};
+    ghost use Rattle.s66_model.specs.Expansion.{IsExpansion};
+    ghost use Rattle.s66_node.specs.Pieces.{tree_of, IsBestTimed};
+
+    /// Goes to a prefix and expands it, as `expand` does; the tables of the block are there already. On `Err` it stands at some
+    /// prefix of the same block.
+    pub fn expand(
+        &mut self,
+        alloc: Global,
+        prefix: &[u8],
+        best: u32,
+        allowance: u32,
+    ) -> Result<Piece, AllocError>
+        requires { IsBeginning self.old.problem.block prefix.now }
+        ensures same { self.new.problem ≡ self.old.problem }
+        ensures problem { IfOk result (λ p. p.problem ≡ self.old.problem) }
+        ensures prefix { IfOk result (λ p. p.prefix ≡ prefix.now) }
+        ensures expansion { IfOk result (λ p. IsExpansion self.old.problem best best allowance prefix.now (tree_of p)) }
+        ensures timed { IfOk result (λ p. IsBestTimed self.old.problem prefix.now (tree_of p) p.timed) }
+    {
+        self.go_to(prefix);
+        let Grown {
+            knots,
+            splits,
+            least,
+        } = grow(alloc, self, best, allowance)?;
+        let block = self.clock.block();
+        let profile = self.clock.profile();
+        Ok(Piece {
+            source: Order::source(block),
+            profile: *profile,
+            prefix: copy_of(prefix),
+            knots,
+            splits,
+            timed: timed_of(block, profile, least),
+        })
     }
-    let Grown {
-        knots,
-        splits,
-        least,
-    } = grow(alloc, &mut walk, best, allowance)?;
-    Ok(Piece {
-        source: Order::source(block),
-        profile: *profile,
-        prefix: copy_of(prefix),
-        knots,
-        splits,
-        timed: timed_of(block, profile, least),
-    })
 }

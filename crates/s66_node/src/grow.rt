@@ -61,7 +61,8 @@ pub(crate) fn grow(
     best: u32,
     allowance: u32,
 ) -> Result<Grown, AllocError>
-    ensures { IfOk result (λ grown. (tree : Tree Told) × IsGrown walk.old.problem best allowance walk.old.numbers grown tree) }
+    ensures same { walk.new.problem ≡ walk.old.problem }
+    ensures grown { IfOk result (λ grown. (tree : Tree Told) × IsGrown walk.old.problem best allowance walk.old.numbers grown tree) }
 {
     // so each prefix has a frame
     prove!(walk.numbers().len() <= BLOCK_LIMIT);

@@ -5,10 +5,12 @@ mod expansion;
 mod grow;
 mod knot;
 mod piece;
+mod schedule;
 mod walk;
 mod whole_order;
 
 pub use expansion::expand;
 pub use knot::Knot;
 pub use piece::Piece;
+pub use schedule::list_schedule;
 pub use walk::Walk;

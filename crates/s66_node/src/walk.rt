@@ -1,16 +1,33 @@
+ghost use Rattle.std.specs.Prelude.{ℕ, ◌≡◌, ◌≢◌, ◌≤◌, ◌<◌, length, take, get_or};
+
 use arrayvec::ArrayVec;
 use s66_bound::Bounds;
 use s66_dep::{Dependences, Set};
-use s66_isa::Profile;
+use s66_isa::{Profile, Reg};
 use s66_line::{BLOCK_LIMIT, Block};
 use s66_time::Clock;
 use std::marker::Model;
+
+/// How many numbers two lists have in common from the first on.
+fn common_length(left: &[u8], right: &[u8]) -> usize
+    ensures few { (result ≤ length left.now) × (result ≤ length right.now) }
+    ensures common { take result left.now ≡ take result right.now }
+    ensures longest { (d : ℕ) → result < length left.now → result < length right.now → get_or left.now result d ≢ get_or right.now result d }
+{
+    let shorter = left.len().min(right.len());
+    for position in 0..shorter {
+        if left[position] != right[position] {
+            return position;
+        }
+    }
+    shorter
+}
 
 /// A walk over the beginnings of a block's legal orders: it stands at a prefix, which grows and shrinks by a number at its end,
 /// and tells the prefix's floor and what is ready after it.
 #[derive(Debug, Drop)]
 pub struct Walk<'a> {
-    clock: Clock<'a>,
+    pub(crate) clock: Clock<'a>,
     bounds: Bounds<'a>,
     dependences: Dependences,
     numbers: ArrayVec<u8, BLOCK_LIMIT>,
@@ -33,6 +50,8 @@ impl<'a> Walk<'a> {
     ghost use Rattle.s66_line.specs.declared.limits.TheConstants.{BLOCK_LIMIT};
     ghost use Rattle.s66_model.specs.LegalOrder.{is_ready, ready, IsBeginning, IsComplete, IsIncomplete};
     ghost use Rattle.s66_model.specs.Leaves.{floor_value};
+    ghost use Rattle.s66_model.specs.Timing.{row_at, next, done_of, points_of};
+    ghost use Rattle.s66_model.specs.Tails.{longest_tail};
     ghost use Rattle.s66_dep.specs.Members.{numbers_in};
     ghost use Rattle.s66_node.specs.Walked.{front};
 
@@ -67,6 +86,21 @@ impl<'a> Walk<'a> {
         self.numbers.pop();
     }
 
+    /// Goes to another prefix, back to the longest front in common and on from there: an undo or a push for each number in which
+    /// the two differ.
+    pub fn go_to(&mut self, prefix: &[u8])
+        requires { IsBeginning self.old.problem.block prefix.now }
+        ensures { self.new ≡ record self.old { numbers = prefix.now } }
+    {
+        let common = common_length(self.numbers(), prefix);
+        while common < self.numbers().len() {
+            self.undo();
+        }
+        for position in common..prefix.len() {
+            self.push(prefix[position]);
+        }
+    }
+
     /// The prefix.
     pub fn numbers(&self) -> &[u8]
         ensures value { result.now ≡ self.now.numbers }
@@ -97,5 +131,45 @@ impl<'a> Walk<'a> {
         ensures { numbers_in result ≡ ready self.now.problem.block self.now.numbers }
     {
         self.dependences.ready(&self.clock.pushed())
+    }
+
+    /// The first minor cycle after the last issue in which an instruction can issue.
+    pub(crate) fn next(&self) -> u32
+        ensures { result ≡ next (points_of self.now.problem self.now.numbers) }
+    {
+        self.clock.next()
+    }
+
+    /// The parcels of a number.
+    #[tactic(auto, unfolding(s66_isa::specs::Table::row))]
+    pub(crate) fn parcels(&self, n: u8) -> u32
+        requires { (1 ≤ n) × (n ≤ length self.now.problem.block) }
+        ensures { result ≡ (row_at self.now.problem n).parcels }
+    {
+        self.clock.block().instr(n as usize).parcels()
+    }
+
+    /// The registers that a number reads.
+    #[tactic(auto, unfolding(s66_isa::specs::Table::row))]
+    pub(crate) fn reads(&self, n: u8) -> ArrayVec<Reg, 4>
+        requires { (1 ≤ n) × (n ≤ length self.now.problem.block) }
+        ensures { result.items ≡ (row_at self.now.problem n).reads }
+    {
+        self.clock.block().instr(n as usize).reads()
+    }
+
+    /// When the last result in a register is done; 0 where none is written.
+    pub(crate) fn done_of(&self, register: Reg) -> u32
+        ensures { result ≡ done_of (points_of self.now.problem self.now.numbers) register }
+    {
+        self.clock.done_of(register)
+    }
+
+    /// The time of the longest walk from a number along the links to later ones, in minor cycles.
+    pub(crate) fn tail(&self, n: u8) -> u32
+        requires { (1 ≤ n) × (n ≤ length self.now.problem.block) }
+        ensures { result ≡ longest_tail self.now.problem n }
+    {
+        self.bounds.tail(n)
     }
 }

@@ -15,8 +15,8 @@ pub prove-unreachable-requires : goal.prove-unreachable-requires
 prove-unreachable-requires c =
     omega (arith, c.if-prove.true, c.numbers.ensures.few, ap length c.numbers.ensures.value, beginning-few c.args.walk.now.problem.block c.args.walk.now.numbers c.numbers.ensures.begins)
 
-pub returns-in-Some : goal.returns-in-Some
-returns-in-Some c =
+pub returns-in-Some-clause-grown : goal.returns-in-Some-clause-grown
+returns-in-Some-clause-grown c =
     let (told, line, holds) = c.in-Some.ensures.told in
     let knots = seen-push c.new-knots.result.items c.push.new.self.items c.in-Some.knot (AtTip told) c.in_ok-push.ensures.items line ∙ ap (λ ks. seen ks ++ AtTip told ∷ []) c.new-knots.ensures.items in (
       Alone told,
@@ -131,8 +131,8 @@ loop-frame-preserved c =
       walk = walk-last c.args.walk.now.problem c.args.best c.args.allowance c.args.walk.now.numbers lf.walk.numbers lf.frames.items c.pop.new.self.items c.in-Some-pop.frame (seen lf.knots.items) lf.splits lf.least lf.invariant.walk c.in-Some-pop.ensures.items c.in_default-pop_first.ensures.none (is-empty c.pop.new.self.items (sym c.is_empty.ensures ∙ c.if-not-is_empty.false));
     }
 
-pub returns : goal.returns
-returns c =
+pub returns-clause-grown : goal.returns-clause-grown
+returns-clause-grown c =
     let lf = c.loop-frame in
     let walk = lf.invariant.walk in
     let none : lf.frames.items ≡ [] = none-empty lf.frames.items (λ lt. true≢false (sym (c.in_default-pop.ensures.variant.1 lt))) in

@@ -1,0 +1,117 @@
+ghost use Rattle.std.specs.Prelude.{◌≡◌, ◌||◌, ◌&&◌, ◌==◌, nat_lt, true, [], IfSome, IfNone};
+ghost use Rattle.s66_isa.specs.Lists.{greatest};
+ghost use Rattle.s66_model.specs.LegalOrder.{is_ready, ready, IsComplete};
+ghost use Rattle.s66_model.specs.Timing.{points_of, point_of, done_of};
+
+use crate::walk::Walk;
+use s66_dep::Order;
+use s66_isa::Reg;
+use s66_time::{Timed, time_of};
+
+/// A number that is ready, and what tells whether it comes next: its start and its longest tail, in minor cycles.
+#[derive(Clone, Copy, Debug)]
+struct Candidate {
+    number: u8,
+    start: u32,
+    tail: u32,
+}
+
+impl Candidate {
+    /// A number that is ready after the walk's prefix.
+    fn of(walk: &mut Walk<'_>, number: u8) -> Candidate
+        requires { is_ready walk.old.problem.block walk.old.numbers number ≡ true }
+        ensures number { result.number ≡ number }
+        ensures same { walk.new ≡ walk.old }
+    {
+        Candidate {
+            number,
+            start: start_of(walk, number),
+            tail: walk.tail(number),
+        }
+    }
+
+    /// Whether it is placed rather than another of a lower number: it starts first, or with the other, and its tail is longer.
+    fn is_better_than(&self, other: &Candidate) -> bool
+        ensures { result ≡ (nat_lt self.now.start other.now.start || self.now.start == other.now.start && nat_lt other.now.tail self.now.tail) }
+    {
+        self.start < other.start || self.start == other.start && other.tail < self.tail
+    }
+}
+
+/// When a ready number would issue: its push tells it, and is undone.
+fn issue_of(walk: &mut Walk<'_>, n: u8) -> u32
+    requires { is_ready walk.old.problem.block walk.old.numbers n ≡ true }
+    ensures issue { result ≡ (point_of walk.old.problem (points_of walk.old.problem walk.old.numbers) n).issue }
+    ensures same { walk.new ≡ walk.old }
+{
+    let parcels = walk.parcels(n);
+    walk.push(n);
+    let next = walk.next();
+    walk.undo();
+    next - parcels
+}
+
+/// When the last of these registers is done.
+fn last_done(walk: &Walk<'_>, registers: &[Reg]) -> u32
+    ensures { result ≡ greatest (λ x. done_of (points_of walk.now.problem walk.now.numbers) x) registers.now }
+{
+    let mut last = 0u32;
+    for register in registers {
+        last = last.max(walk.done_of(*register));
+    }
+    last
+}
+
+/// When a ready number would start if it waited for no memory: it has issued, and its operands are done.
+fn start_of(walk: &mut Walk<'_>, n: u8) -> u32
+    requires { is_ready walk.old.problem.block walk.old.numbers n ≡ true }
+    ensures same { walk.new ≡ walk.old }
+{
+    let operands = last_done(walk, walk.reads(n).as_slice());
+    operands.max(issue_of(walk, n))
+}
+
+/// The ready number that starts first; of equal ones that with the longest tail, and of these the lowest.
+fn first_to_start(walk: &mut Walk<'_>) -> Option<u8>
+    ensures ready { IfSome result (λ n. is_ready walk.old.problem.block walk.old.numbers n ≡ true) }
+    ensures none { IfNone result (ready walk.old.problem.block walk.old.numbers ≡ []) }
+    ensures same { walk.new ≡ walk.old }
+{
+    let mut rest = walk.ready();
+    let mut best = Candidate::of(walk, rest.pop_first()?);
+    while let Some(number) = rest.pop_first() {
+        let other = Candidate::of(walk, number);
+        if other.is_better_than(&best) {
+            best = other;
+        }
+    }
+    Some(best.number)
+}
+
+/// The whole order at which a walk stands, with its times.
+fn timed_of(walk: &Walk<'_>) -> Timed
+    requires { IsComplete walk.now.problem.block walk.now.numbers }
+    ensures { result.problem ≡ walk.now.problem }
+{
+    let block = walk.clock.block();
+    let Ok(order) = Order::new(block, walk.numbers()) else {
+        unreachable!()
+    };
+    time_of(block, walk.clock.profile(), &order)
+}
+
+/// A list schedule, which is a good order to begin a search with: from the empty prefix on it goes on with the ready number that
+/// starts first; of equal ones with that of the longest tail, and of these with the lowest. What issues first would be worse: it
+/// may wait for its operands, and keep a unit from what is ready to start. The walk ends at the whole order.
+///
+/// Each place of the order costs a push and an undo for each number that is ready there, and a push; nothing is allocated.
+pub fn list_schedule(walk: &mut Walk<'_>) -> Timed
+    ensures problem { result.problem ≡ walk.old.problem }
+    ensures same { walk.new.problem ≡ walk.old.problem }
+{
+    walk.go_to(&[]);
+    while let Some(n) = first_to_start(walk) {
+        walk.push(n);
+    }
+    timed_of(walk)
+}
