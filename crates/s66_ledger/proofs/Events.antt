@@ -45,7 +45,7 @@ at-most-all [] i = omega arith
 at-most-all (x ∷ xs) zero = omega arith
 at-most-all (x ∷ xs) (suc i) = omega (arith, at-most-all xs i)
 
-holds-at : (b : Problem) (best : ℕ) (nodes : List model.Node) (i : ℕ) → NodesHold b best nodes → i < length nodes → IsBeginning b.block (model.node_at nodes i).prefix
+pub holds-at : (b : Problem) (best : ℕ) (nodes : List model.Node) (i : ℕ) → NodesHold b best nodes → i < length nodes → IsBeginning b.block (model.node_at nodes i).prefix
 holds-at b best [] i h lt = absurd (omega arith)
 holds-at b best (node ∷ nodes) zero h lt = h.0.0
 holds-at b best (node ∷ nodes) (suc i) h lt = holds-at b best nodes i h.1 (omega (arith, lt))

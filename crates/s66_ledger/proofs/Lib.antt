@@ -1,10 +1,16 @@
+pub mod Ends
 pub mod Events
 pub mod Floors
 pub mod GraftSteps
+pub mod Leading
 pub mod LiveFloors
 pub mod OpenHeap
 pub mod Planted
 pub mod Prefixes
+pub mod Progress
 pub mod Reading
+pub mod Rounds
 pub mod SeenNodes
+pub mod TakingBack
 pub mod Walks
+pub mod WholeOffers

@@ -1,4 +1,6 @@
+pub mod Answers
 pub mod Claims
+pub mod Finishing
 pub mod Grafts
 pub mod Handed
 pub mod Kept

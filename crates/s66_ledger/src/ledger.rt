@@ -1,12 +1,14 @@
+use crate::answer::Answer;
 use crate::limits::{BUDGET_LIMIT, GRANT_LIMIT};
 use crate::node_table::NodeTable;
 use crate::reply::{BackError, GraftError, Offered};
 use crate::ticket::Ticket;
+use arrayvec::ArrayVec;
 use s66_bound::Bounds;
 use s66_dep::Order;
 use s66_isa::Profile;
 use s66_line::{BLOCK_LIMIT, Block};
-use s66_node::Piece;
+use s66_node::{Piece, Walk, list_schedule};
 use s66_time::{Clock, Timed, time_of};
 use std::alloc::{AllocError, Global};
 use std::marker::Model;
@@ -17,10 +19,10 @@ pub struct Ledger<'a> {
     block: &'a Block<'a>,
     profile: Profile,
     budget: u32,
-    table: NodeTable,
+    pub(crate) table: NodeTable,
     best: Timed,
     left: u32,
-    allowances: Vec<u32>,
+    pub(crate) allowances: Vec<u32>,
     spent: u32,
 }
 
@@ -36,17 +38,21 @@ impl<'a> Model for Ledger<'a> {
 }
 
 impl<'a> Ledger<'a> {
-    ghost use Rattle.std.specs.Prelude.{ℕ, Bool, true, false, Some, None, ◌≡◌, ◌≤◌, ◌↔◌, IfOk, IfErr, OnOk, OnErr, IsTrue, if◌then◌else◌};
+    ghost use Rattle.std.specs.Prelude.{ℕ, Bool, true, false, Some, None, ◌+◌, ◌≡◌, ◌<◌, ◌≤◌, ◌↔◌, length, IfOk, IfErr, IfSome, IfNone, OnOk, OnErr, IsTrue, if◌then◌else◌};
     ghost use Rattle.s66_line.specs.Block.{instrs_of};
     ghost use Rattle.s66_isa.specs.Lists.{tally};
     ghost use Rattle.s66_model.specs.Timing.{total_of};
+    ghost use Rattle.s66_model.specs.LegalOrder.{IsBeginning};
     ghost use Rattle.s66_model.specs.Leaves.{floor_value};
-    ghost use Rattle.s66_model.specs.Ledger.{Event, opening, best_time, is_open, node_at, Grant, Granted, Claim, Claimed, Back, Returned, NotOut, Retire, Retired, Offer, Taken};
+    ghost use Rattle.s66_model.specs.Ledger.{Event, opening, best_time, is_open, is_live, node_at, Grant, Granted, Claim, Claimed, Back, Returned, NotOut, Retire, Retired, Offer, Taken};
     ghost use Rattle.s66_model.specs.Recorded.{IsOfferOf};
-    ghost use Rattle.s66_model.specs.Coverage.{Covers, bound_of};
+    ghost use Rattle.s66_model.specs.Coverage.{Covers, bound_of, IsFinished};
     ghost use Rattle.s66_model.specs.BestAndBound.{IsBound};
     ghost use Rattle.s66_model.specs.NodeTable.{IsTable};
     ghost use Rattle.s66_ledger.specs.Kept.{IsEvent};
+    ghost use Rattle.s66_model.specs.Ended.{IsEnded, ended_answer};
+    ghost use Rattle.s66_ledger.specs.Answers.{answer_of};
+    ghost use Rattle.s66_ledger.specs.Finishing.{IsReopening};
     ghost use Rattle.s66_ledger.specs.Grafts.{IsGraft, IsRefusedGraft};
     ghost use Rattle.s66_ledger.specs.Claims.{claimed_node, IsTicketOf, IsLeastOpen};
     ghost use Rattle.s66_ledger.specs.Replies.{offered_reply};
@@ -160,10 +166,17 @@ impl<'a> Ledger<'a> {
         ensures ok { OnOk result (IsEvent self.old (Retire w) Retired self.new) }
         ensures err { OnErr result (self.new ≡ self.old) }
     {
-        let at = w as usize - 1;
+        self.retire_at(w as usize - 1);
+        Ok(())
+    }
+
+    /// Gives the allowance of the worker at this place, from 0, back to the budget.
+    pub(crate) fn retire_at(&mut self, at: usize)
+        requires { at < self.old.workers }
+        ensures { IsEvent self.old (Retire (at + 1)) Retired self.new }
+    {
         self.left += self.allowances[at];
         self.allowances[at] = 0;
-        Ok(())
     }
 
     /// Hands out the open node of the least floor, of equal ones the deepest, and of these the newest; None only where no node is
@@ -198,6 +211,49 @@ impl<'a> Ledger<'a> {
             return Err((BackError::OutOfMemory, ticket));
         };
         Ok(())
+    }
+
+    /// Takes a node back where it is out, as worker 1.
+    pub(crate) fn reopen(&mut self, node: u32) -> Result<(), AllocError>
+        requires { 1 ≤ self.old.workers }
+        ensures ok { OnOk result (IsReopening self.old node self.new) }
+        ensures err { OnErr result (self.new ≡ self.old) }
+    {
+        if self.table.is_out(node) {
+            self.table.give_back(node)?;
+        }
+        Ok(())
+    }
+
+    /// How many workers there are.
+    pub(crate) fn worker_count(&self) -> usize
+        ensures value { result ≡ self.now.workers }
+        ensures allowances { result ≡ length self.now.state.allowances }
+    {
+        self.allowances.len()
+    }
+
+    /// How many nodes there are.
+    pub(crate) fn node_count(&self) -> u32
+        ensures { result ≡ length self.now.state.nodes }
+    {
+        self.table.count() as u32
+    }
+
+    /// The prefix of a node, where it is open or out and its floor is below the best time.
+    pub(crate) fn promising_prefix(&self, node: u32) -> Option<ArrayVec<u8, BLOCK_LIMIT>>
+        requires { node < length self.now.state.nodes }
+        ensures prefix { IfSome result (λ prefix. prefix.items ≡ (node_at self.now.state.nodes node).prefix) }
+        ensures begins { IfSome result (λ prefix. IsBeginning self.now.problem.block prefix.items) }
+        ensures none { IfNone result (is_live (node_at self.now.state.nodes node) ≡ true → best_time self.now.problem self.now.state ≤ floor_value self.now.problem (node_at self.now.state.nodes node).prefix) }
+    {
+        // so the prefix fits
+        prove!(self.block.count() <= BLOCK_LIMIT);
+        if self.table.is_live_below(node, self.best.total()) {
+            Some(self.table.prefix_of(node))
+        } else {
+            None
+        }
     }
 
     /// Makes an order the best if it is faster.
@@ -261,5 +317,48 @@ impl<'a> Ledger<'a> {
         self.allowances[at] -= splits;
         self.spent += splits;
         Ok(())
+    }
+
+    /// Brings the search to its end: takes back every allowance and every node that is out, and goes on until no open node's floor is
+    /// below the best time, or the budget is spent and no whole order is below it. It offers a list schedule first.
+    ///
+    /// The time is that of expanding what it claims, and linear in the number of nodes. `Err` is want of memory.
+    pub fn finish(mut self, alloc: Global) -> Result<Answer, AllocError>
+        requires { 1 ≤ self.workers }
+        ensures problem { IfOk result (λ a. a.problem ≡ self.entry.problem) }
+        ensures budget { IfOk result (λ a. a.budget ≡ self.entry.budget) }
+        ensures finished { IfOk result (λ a. IsFinished self.entry.problem self.entry.budget self.entry.state (answer_of a)) }
+    {
+        let mut walk = Walk::new(self.block, &self.profile);
+        let timed = list_schedule(&mut walk);
+        self.offer(1, timed)?;
+        self.take_back()?;
+        self.search(alloc, &mut walk)?;
+        self.offer_wholes()?;
+        Ok(self.into_answer())
+    }
+
+    /// The answer that the ledger is where its steps have ended.
+    fn into_answer(self) -> Answer
+        requires { IsEnded self.problem self.budget self.state }
+        ensures problem { result.problem ≡ self.entry.problem }
+        ensures budget { result.budget ≡ self.entry.budget }
+        ensures answer { answer_of result ≡ ended_answer self.entry.problem self.entry.state }
+    {
+        let bound = self.bound();
+        let Ledger {
+            budget,
+            table,
+            best,
+            spent,
+            ..
+        } = self;
+        Answer {
+            best,
+            budget,
+            nodes: table.into_nodes(),
+            bound,
+            splits: spent,
+        }
     }
 }

@@ -2,6 +2,7 @@
 //! and who may spend how many splits.
 #![tactic(auto)]
 
+mod answer;
 mod ledger;
 mod limits;
 mod live;
@@ -11,8 +12,11 @@ mod path;
 mod planting;
 mod rank;
 mod reply;
+mod search;
+mod taking;
 mod ticket;
 
+pub use answer::Answer;
 pub use ledger::Ledger;
 pub use limits::{BUDGET_LIMIT, GRANT_LIMIT};
 pub use reply::{BackError, GraftError, Offered};

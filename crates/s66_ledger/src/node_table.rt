@@ -34,7 +34,7 @@ impl Model for NodeTable {
 impl NodeTable {
     ghost use Rattle.std.specs.Prelude.{ℕ, [], ◌∷◌, ◌++◌, ◌+◌, ◌^◌, ◌≡◌, ◌<◌, ◌≤◌, ◌↔◌, true, IsTrue, IfOk, OnOk, OnErr, IfSome, IfNone, length, get_or};
     ghost use Rattle.s66_isa.specs.Lists.{tally, least};
-    ghost use Rattle.s66_ledger.specs.LiveNodes.{live_values};
+    ghost use Rattle.s66_ledger.specs.LiveNodes.{is_live_state, live_values};
     ghost use Rattle.s66_line.specs.declared.limits.TheConstants.{BLOCK_LIMIT};
     ghost use Rattle.s66_ledger.specs.declared.node.State.{State};
     ghost use Rattle.s66_model.specs.Ledger as model;
@@ -57,11 +57,25 @@ impl NodeTable {
         Ok(NodeTable { nodes, open })
     }
 
+    /// How many nodes there are.
+    pub fn count(&self) -> usize
+        ensures { result ≡ length self.now }
+    {
+        self.nodes.len()
+    }
+
     /// How many nodes are open.
     pub fn open_count(&self) -> usize
         ensures { result ≡ tally is_open self.now }
     {
         self.open.len()
+    }
+
+    /// The nodes by number.
+    pub fn into_nodes(self) -> Vec<Node>
+        ensures { result.items ≡ self }
+    {
+        self.nodes
     }
 
     /// The least of this value and the floors of the nodes that are open or out, in time linear in the number of nodes.
@@ -79,6 +93,15 @@ impl NodeTable {
         i < self.nodes.len() && self.nodes[i].state == State::Out
     }
 
+    /// Whether a node is open or out, with a floor below this value.
+    pub fn is_live_below(&self, node: u32, value: u32) -> bool
+        requires { node < length self.now }
+        ensures { IsTrue result ↔ (IsTrue (is_live_state (node_at self.now node).state) × ((node_at self.now node).value < value)) }
+    {
+        let node = &self.nodes[node as usize];
+        node.state.is_live() && node.value < value
+    }
+
     /// Whether this is the prefix of a node.
     pub fn is_over(&self, node: u32, prefix: &[u8]) -> bool
         requires { node < length self.now }
@@ -94,6 +117,14 @@ impl NodeTable {
         ensures { result.items ≡ get_or (prefixes self.now) node [] }
     {
         path::prefix_of(self.nodes.as_slice(), node)
+    }
+
+    /// The value that a node has: its floor's, where it isn't split.
+    pub fn value_of(&self, node: u32) -> u32
+        requires { node < length self.now }
+        ensures { result ≡ (node_at self.now node).value }
+    {
+        self.nodes[node as usize].value
     }
 
     /// Hands out the open node of the least floor, of equal ones the deepest, and of these the newest; None only where no node is

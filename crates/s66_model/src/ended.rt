@@ -36,6 +36,7 @@ pub fn ended_examples()
     ensures ended_with_a_budget_of_1 { IsEnded multiply_problem 1 (ledger (root_split Open Out Open).nodes (1 ∷ 2 ∷ 3 ∷ []) 0 (0 ∷ []) 1) }
     ensures ended_by_a_floor_as_high_as_the_best { IsEnded boolean_problem 10 (without_grants (node [] Open ∷ []) (1 ∷ 2 ∷ [])) }
     ensures ended_with_splits_left { IsEnded load_problem 10 (load_grafted (1 ∷ 3 ∷ 2 ∷ []) (Closed Whole)) }
+    ensures ended_by_every_order { IsEnded multiply_problem 11 (ledger (after_graft multiply_problem (first_node Out) 1 0 [] (every_order (Carries Whole))).nodes (1 ∷ 2 ∷ 3 ∷ []) 1 (0 ∷ []) 10) }
     ensures not_ended_with_a_budget_of_2 { ¬ IsEnded multiply_problem 2 (ledger (root_split Open Out Open).nodes (1 ∷ 2 ∷ 3 ∷ []) 1 (0 ∷ []) 1) }
     ensures not_ended_while_one_is_out { ¬ IsEnded multiply_problem 10 (first_node Out) }
     ensures not_ended_by_a_whole_order_below_the_best { ¬ IsEnded load_problem 3 (load_grafted (1 ∷ 2 ∷ 3 ∷ []) Open) }

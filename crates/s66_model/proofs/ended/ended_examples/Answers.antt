@@ -1,13 +1,14 @@
-use Rattle.std.proofs.Common.{ℕ, ◌≡◌, ◌≤◌, ◌⊎◌, true, List, [], ◌∷◌, refl, sym, inl, inr, arith, subst}
+use Rattle.std.proofs.Common.{ℕ, ◌≡◌, ◌≤◌, ◌⊎◌, true, cond, List, [], ◌∷◌, refl, sym, ap, inl, inr, arith, subst}
 use Rattle.s66_isa.specs.Table.{row}
-use Rattle.s66_isa.specs.Lists.{Among}
+use Rattle.s66_isa.specs.Lists.{tally, Among}
 use Rattle.s66_model.specs.Dependence.{conflict}
 use Rattle.s66_model.specs.Timing.{Problem, issue_of, start_of, point}
 use Rattle.s66_model.specs.LegalOrder.{IsIncomplete}
 use Rattle.s66_model.specs.Leaves.{Whole, floor_value}
-use Rattle.s66_model.specs.Ledger.{Ledger, Node, Open, Out, Closed, is_live, opening, best_time}
+use Rattle.s66_model.specs.Piece.{Carries}
+use Rattle.s66_model.specs.Ledger.{Ledger, Node, Open, Out, Closed, is_live, opening, best_time, after_graft}
 use Rattle.s66_model.specs.Ended.{IsEnded}
-use Rattle.s66_model.specs.Examples.{boolean_problem, load_problem, multiply_problem, node, ledger, root_split, without_grants, load_grafted}
+use Rattle.s66_model.specs.Examples.{boolean_problem, load_problem, multiply_problem, every_order, node, ledger, first_node, root_split, without_grants, load_grafted}
 use Rattle.s66_model.proofs.ended.ended_examples.Goals as goal
 
 -- of each of these nodes what an ended ledger asks of one
@@ -23,6 +24,12 @@ ended b budget l h = by l.nodes h
     by [] h node among = absurd among
     by (x ∷ nodes) h node (inl here) = subst (λ (y : Node). is_live y ≡ true → (best_time b l ≤ floor_value b y.prefix) ⊎ (IsIncomplete b.block y.prefix × (l.spent ≡ budget))) (sym here) h.0
     by (x ∷ nodes) h node (inr past) = by nodes h.1 node past
+
+-- where no node is open or out
+none-live : (b : Problem) (budget : ℕ) (l : Ledger) (nodes : List Node) → tally is_live nodes ≡ 0 → Each b budget l nodes
+none-live b budget l [] none = tt
+none-live b budget l (x ∷ nodes) none =
+    (λ live. absurd (omega (arith, none, ap (λ t. cond {A = ℕ} t 1 0) live)), none-live b budget l nodes (omega (arith, none)))
 
 pub returns-clause-ended_at_the_opening : goal.returns-clause-ended_at_the_opening
 unfolding row issue_of start_of point conflict
@@ -44,6 +51,13 @@ unfolding row issue_of start_of point conflict
 returns-clause-ended_with_splits_left c =
     ended load_problem 10 (load_grafted (1 ∷ 3 ∷ 2 ∷ []) (Closed Whole))
     (λ live. absurd cc, (λ live. absurd cc, (λ live. absurd cc, (λ live. absurd cc, (λ live. absurd cc, (λ live. inl (omega arith), tt))))))
+
+pub returns-clause-ended_by_every_order : goal.returns-clause-ended_by_every_order
+unfolding row issue_of start_of point conflict
+returns-clause-ended_by_every_order c =
+    let nodes = (after_graft multiply_problem (first_node Out) 1 0 [] (every_order (Carries Whole))).nodes in
+    let l = ledger nodes (1 ∷ 2 ∷ 3 ∷ []) 1 (0 ∷ []) 10 in
+    ended multiply_problem 11 l (none-live multiply_problem 11 l nodes refl)
 
 pub returns-clause-not_ended_with_a_budget_of_2 : goal.returns-clause-not_ended_with_a_budget_of_2
 unfolding row issue_of start_of point conflict

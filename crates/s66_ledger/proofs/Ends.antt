@@ -1,0 +1,87 @@
+-- A ledger that some events lead to its end: that it has ended, and what its answer is then.
+use Rattle.std.proofs.Common.{ℕ, ◌≤◌, ◌≡◌, ◌≢◌, ◌⊎◌, true, List, [], ◌∷◌, ◌++◌, length, refl, sym, ap, arith, inl, inr, ◌∙◌, subst}
+use Rattle.std.proofs.lemmas.Bool.{cases_eq}
+use Rattle.s66_isa.specs.Lists.{Among}
+use Rattle.s66_model.specs.Timing.{Problem}
+use Rattle.s66_model.specs.LegalOrder.{IsBeginning, IsComplete, IsIncomplete}
+use Rattle.s66_model.specs.Answer.{IsAnswer}
+use Rattle.s66_model.specs.Ledger.{Ledger, Node, Open, Out, Cut, Closed, State, Event, Reply, Run, is_open, is_open_state, is_live, is_live_state, best_time}
+use Rattle.s66_model.specs.Leaves.{floor_value}
+use Rattle.s66_model.specs.Coverage.{Covers, NodesHold, IsFinished, bound_of}
+use Rattle.s66_model.specs.Reached.{IsReached}
+use Rattle.s66_model.specs.Recorded.{IsOfferOf}
+use Rattle.s66_model.specs.Ended.{IsEnded, ended_answer}
+use Rattle.s66_dep.proofs.Fronts.{beginning-few}
+use Rattle.s66_model.proofs.LedgerRuns.{run-falls}
+use Rattle.s66_model.proofs.Histories.{run-join, reached-covers}
+use Rattle.s66_model.proofs.EndedLedgers.{ended-finishes}
+use Rattle.s66_time.specs.TimedOrder.{TimedOrder}
+use Rattle.s66_ledger.specs.declared.node.Node as declared
+use Rattle.s66_ledger.specs.Kept.{LedgerOf, IsEvent, IsKept, state_of, ledger_of}
+use Rattle.s66_ledger.specs.Answers.{IsKeptAnswer, ended_of}
+use Rattle.s66_ledger.specs.Finishing.{Leads, NoneOut, IsSearched, WholesAreTimed}
+use Rattle.s66_ledger.proofs.Leading.{leads-on}
+
+-- WHAT LEADS
+
+pub leads-reached : (old new : LedgerOf) → IsReached old.problem old.budget old.workers old.state → Leads old new → IsReached new.problem new.budget new.workers new.state
+leads-reached old new (h, r) (problem, budget, workers, (k, s)) =
+    subst (λ b. IsReached b new.budget new.workers new.state) (sym problem)
+    (subst (λ n. IsReached old.problem n new.workers new.state) (sym budget)
+    (subst (λ n. IsReached old.problem old.budget n new.state) (sym workers) (h ++ k, run-join old.problem h k _ old.state new.state r s)))
+
+-- THE END
+
+begin-among : (b : Problem) (best : ℕ) (nodes : List Node) (node : Node) → NodesHold b best nodes → Among node nodes → IsBeginning b.block node.prefix
+begin-among b best [] node h among = absurd among
+begin-among b best (x ∷ nodes) node h (inl e) = subst (λ (y : Node). IsBeginning b.block y.prefix) (sym e) h.0.0
+begin-among b best (x ∷ nodes) node h (inr past) = begin-among b best nodes node h.1 past
+
+live-open : (state : State) → is_live_state state ≡ true → state ≢ Out → is_open_state state ≡ true
+live-open Open live not = refl
+live-open Out live not = absurd (not refl)
+live-open Cut live not = live
+live-open (Closed leaf) live not = live
+
+-- where nothing more is to be expanded, and no whole order that is open is below the best time, the steps have ended
+pub has-ended : (mid new : LedgerOf) → Covers new.problem new.budget new.state → Leads mid new → IsSearched mid.problem mid.budget mid.state → new.state.nodes ≡ mid.state.nodes → new.state.spent ≡ mid.state.spent → WholesAreTimed new.problem new.state → IsEnded new.problem new.budget new.state
+has-ended mid new covers (problem, budget, workers, (h, r)) searched nodes spent wholes node among live =
+    let b = new.problem in
+    let before : Among node mid.state.nodes = subst (Among node) nodes among in
+    let begins = begin-among b (best_time b new.state) new.state.nodes node covers.nodes among in
+    let falls : best_time b new.state ≤ best_time b mid.state = subst (λ (p : Problem). best_time p new.state ≤ best_time p mid.state) (sym problem) (run-falls mid.problem h mid.state new.state r) in
+    elim searched.open_or_spent [
+      | inl below ↦
+          (let least = subst (λ (p : Problem). best_time p mid.state ≤ floor_value p node.prefix) (sym problem) (below node before (live-open node.state live (searched.none_out node before))) in
+          inl (omega (arith, falls, least)))
+      | inr all ↦
+          elim (cases_eq (length node.prefix) (length b.block)) [
+            | inl whole ↦ inl (wholes node among live whole)
+            | inr part ↦ inr (omega (arith, beginning-few b.block node.prefix begins, part), spent ∙ (all ∙ sym budget))
+          ]
+    ]
+
+pub finishes : (old new : LedgerOf) → IsReached old.problem old.budget old.workers old.state → Leads old new → IsEnded new.problem new.budget new.state → IsFinished old.problem old.budget old.state (ended_answer new.problem new.state)
+finishes old new reached (problem, budget, workers, (h, r)) ended =
+    subst (λ (p : Problem). IsFinished old.problem old.budget old.state (ended_answer p new.state)) (sym problem)
+    (ended-finishes old.problem old.budget old.workers old.state new.state h reached r
+    (subst (λ (p : Problem). IsEnded p old.budget new.state) problem (subst (λ n. IsEnded new.problem n new.state) budget ended)))
+
+-- THE ANSWER of a ledger that has ended
+
+pub kept-answer : (b : Problem) (budget : ℕ) (nodes : List declared.Node) (best : TimedOrder) (left : ℕ) (allowances : List ℕ) (spent : ℕ) (l : LedgerOf) (low : ℕ) → IsKept b budget nodes best left allowances spent → ledger_of b budget nodes best.numbers left allowances spent ≡ l → IsEnded l.problem l.budget l.state → low ≡ bound_of l.problem l.state → IsKeptAnswer (ended_of best.problem budget nodes best.numbers spent) low
+kept-answer b budget nodes best left allowances spent l low kept view ended bound =
+    let state = state_of b nodes best.numbers left allowances spent in
+    let ends : IsEnded b budget state = subst (λ (m : LedgerOf). IsEnded m.problem m.budget m.state) (sym view) ended in
+    let done = ended-finishes b budget (length allowances) state state [] kept.reached refl ends in
+    subst (λ (p : Problem). IsKeptAnswer (ended_of p budget nodes best.numbers spent) low) (sym kept.own)
+    (record { answer = done.answer; bound = sym (bound ∙ ap (λ (m : LedgerOf). bound_of m.problem m.state) (sym view)) })
+
+pub kept-reached : (b : Problem) (budget : ℕ) (nodes : List declared.Node) (best : TimedOrder) (left : ℕ) (allowances : List ℕ) (spent : ℕ) (l : LedgerOf) → IsKept b budget nodes best left allowances spent → ledger_of b budget nodes best.numbers left allowances spent ≡ l → IsReached l.problem l.budget l.workers l.state
+kept-reached b budget nodes best left allowances spent l kept view =
+    subst (λ (m : LedgerOf). IsReached m.problem m.budget m.workers m.state) view kept.reached
+
+-- where the events went on from a ledger that was reached
+pub reached-end : (first mid new : LedgerOf) → IsReached first.problem first.budget first.workers first.state → Leads first mid → Leads mid new → IsSearched mid.problem mid.budget mid.state → new.state.nodes ≡ mid.state.nodes → new.state.spent ≡ mid.state.spent → WholesAreTimed new.problem new.state → IsEnded new.problem new.budget new.state
+reached-end first mid new reached before after searched nodes spent wholes =
+    has-ended mid new (reached-covers new.problem new.budget new.workers new.state (leads-reached first new reached (leads-on first mid new before after))) after searched nodes spent wholes

@@ -1,0 +1,30 @@
+-- Events lead from one ledger to another, and on; what holds at each place of a list.
+use Rattle.std.proofs.Common.{ℕ, suc, ◌+◌, ◌-◌, ◌≤◌, ◌<◌, List, [], ◌∷◌, ◌++◌, length, get_or, refl, sym, arith, inl, inr, subst, ◌∙◌}
+use Rattle.s66_isa.specs.Lists.{Among}
+use Rattle.s66_model.specs.Timing.{Problem}
+use Rattle.s66_model.specs.Ledger.{best_time, Event, Reply, Run}
+use Rattle.s66_model.proofs.Histories.{run-join}
+use Rattle.s66_model.proofs.LedgerRuns.{run-falls}
+use Rattle.s66_ledger.specs.Finishing.{Leads}
+use Rattle.s66_ledger.specs.Kept.{LedgerOf, IsEvent}
+
+pub leads-nowhere : (l : LedgerOf) → Leads l l
+leads-nowhere l = (refl, refl, refl, ([], refl))
+
+pub event-leads : (old new : LedgerOf) (event : Event) (reply : Reply) → IsEvent old event reply new → Leads old new
+event-leads old new event reply h = (h.0, h.1, h.2, ((event, reply) ∷ [], (new.state, h.3, refl)))
+
+pub leads-on : (old mid new : LedgerOf) → Leads old mid → Leads mid new → Leads old new
+leads-on old mid new (p, q, r, (h, go)) (p2, q2, r2, (k, on)) =
+    (p2 ∙ p, q2 ∙ q, r2 ∙ r, (h ++ k, run-join old.problem h k old.state mid.state new.state go (subst (λ (b : Problem). Run b mid.state k new.state) p on)))
+
+pub leads-fall : (old new : LedgerOf) → Leads old new → best_time new.problem new.state ≤ best_time new.problem old.state
+leads-fall old new (p, q, r, (h, go)) = run-falls new.problem h old.state new.state (subst (λ (b : Problem). Run b old.state h new.state) (sym p) go)
+
+-- LISTS
+
+-- what holds at each place holds of each that is in the list
+pub each-among : {X : Type 0} (P : X → Type 0) (d : X) (xs : List X) → ((i : ℕ) → i < length xs → P (get_or xs i d)) → (x : X) → Among x xs → P x
+each-among P d [] h x is = absurd is
+each-among P d (y ∷ ys) h x (inl e) = subst P (sym e) (h 0 (omega arith))
+each-among P d (y ∷ ys) h x (inr later) = each-among P d ys (λ i lt. h (suc i) (omega (arith, lt))) x later

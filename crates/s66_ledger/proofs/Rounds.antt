@@ -1,0 +1,177 @@
+-- What the events of a search's round do to the nodes that are out and to the allowances.
+use Rattle.std.proofs.Common.{ℕ, ◌+◌, ◌-◌, ◌≤◌, ◌<◌, ◌≡◌, ◌≢◌, Bool, true, false, cond, List, [], ◌∷◌, ◌++◌, length, get_or, set, refl, sym, ap, arith, subst, ◌∙◌, inl, inr, Some}
+use Rattle.std.specs.Prelude.{nat_le}
+use Rattle.std.proofs.lemmas.List.{length-set, get_or-set_same, set-set, set-get_or}
+use Rattle.s66_isa.specs.Lists.{tally, weigh, Among}
+use Rattle.s66_isa.proofs.Lists.{tally-append, tally-set, weigh-set}
+use Rattle.s66_model.specs.Timing.{Problem}
+use Rattle.s66_model.specs.Leaves.{value}
+use Rattle.s66_model.specs.Tree.{Tree, Alone, Parted, Kids, NoMore, Unsplit, Split, splits}
+use Rattle.s66_model.specs.Piece.{Tip, Carries, Frontier}
+use Rattle.s66_model.specs.Ledger.{Ledger, Node, State, Open, Out, Cut, Closed, Event, Grant, Claim, Graft, Back, Reply, Granted, Claimed, Taken, Returned, no_node, node_at, with_state, best_time, allowance, share_of, state_of, root_state, kid_nodes, new_nodes, after_offer, after_graft, Run}
+use Rattle.s66_model.specs.Coverage.{Covers}
+use Rattle.s66_node.specs.Pieces.{PieceOf, tree_of}
+use Rattle.s66_ledger.specs.Handed.{TicketOf}
+use Rattle.s66_ledger.specs.Kept.{LedgerOf, IsEvent}
+use Rattle.s66_ledger.specs.Grafts.{IsGraft}
+use Rattle.s66_ledger.proofs.Leading.{event-leads}
+use Rattle.s66_ledger.specs.Finishing.{Leads, is_out_state, is_out, IsBetween, IsWithin}
+
+-- NODES THAT ARE OUT, counted
+
+not-out : (s : State) → s ≢ Out → is_out_state s ≡ false
+not-out Open h = refl
+not-out Out h = absurd (h refl)
+not-out Cut h = refl
+not-out (Closed leaf) h = refl
+
+none-counted : (nodes : List Node) → ((node : Node) → Among node nodes → node.state ≢ Out) → tally is_out nodes ≡ 0
+none-counted [] h = refl
+none-counted (x ∷ nodes) h =
+    omega (arith, ap (λ t. cond {A = ℕ} t 1 0) (not-out x.state (h x (inl refl))), none-counted nodes (λ node later. h node (inr later)))
+
+none-among : (nodes : List Node) → tally is_out nodes ≡ 0 → (node : Node) → Among node nodes → node.state ≢ Out
+none-among [] none node among = absurd among
+none-among (x ∷ nodes) none node (inl e) = λ out.
+    let counted : cond {A = ℕ} (is_out_state x.state) 1 0 ≡ 1 = ap (λ s. cond {A = ℕ} (is_out_state s) 1 0) (sym (ap (λ (n : Node). n.state) e) ∙ out) in
+    absurd (omega (arith, counted, none))
+none-among (x ∷ nodes) none node (inr later) = none-among nodes (omega (arith, none)) node later
+
+-- NEW NODES are open, closed or split
+
+tip-not-out : (b : Problem) (best : ℕ) (at : List ℕ) (tip : Tip) → is_out_state (state_of b best at tip) ≡ false
+tip-not-out b best at (Carries leaf) = closed-or-open (nat_le best (value b at leaf))
+  where
+    closed-or-open : (t : Bool) → is_out_state (cond t (Closed leaf) Open) ≡ false
+    closed-or-open true = refl
+    closed-or-open false = refl
+tip-not-out b best at Frontier = refl
+
+root-not-out : (b : Problem) (best : ℕ) (at : List ℕ) (tree : Tree Tip) → is_out_state (root_state b best at tree) ≡ false
+root-not-out b best at (Alone tip) = tip-not-out b best at tip
+root-not-out b best at (Parted numbers kids) = refl
+
+kids-not-out : (b : Problem) (best : ℕ) (at ns : List ℕ) (kids : Kids Tip) → tally is_out (kid_nodes b best at ns kids) ≡ 0
+kids-not-out b best at [] kids = refl
+kids-not-out b best at (n ∷ ns) NoMore = refl
+kids-not-out b best at (n ∷ ns) (Unsplit tip kids) =
+    omega (arith, ap (λ t. cond {A = ℕ} t 1 0) (tip-not-out b best (at ++ n ∷ []) tip), kids-not-out b best at ns kids)
+kids-not-out b best at (n ∷ ns) (Split numbers sub kids) =
+    omega (
+      arith,
+      tally-append is_out (kid_nodes b best (at ++ n ∷ []) numbers sub) (kid_nodes b best at ns kids),
+      kids-not-out b best (at ++ n ∷ []) numbers sub,
+      kids-not-out b best at ns kids,
+    )
+
+new-not-out : (b : Problem) (best : ℕ) (at : List ℕ) (tree : Tree Tip) → tally is_out (new_nodes b best at tree) ≡ 0
+new-not-out b best at (Alone tip) = refl
+new-not-out b best at (Parted numbers kids) = kids-not-out b best at numbers kids
+
+-- A GRANT
+
+sum-set : (xs : List ℕ) (v : ℕ) → 1 ≤ length xs → weigh (λ n. n) (set xs 0 v) + get_or xs 0 0 ≡ weigh (λ n. n) xs + v
+sum-set xs v some = weigh-set (λ n. n) xs 0 v 0 (omega (arith, some))
+
+alone-set : (xs : List ℕ) (v : ℕ) → 1 ≤ length xs → weigh (λ n. n) xs ≡ get_or xs 0 0 → weigh (λ n. n) (set xs 0 v) ≡ get_or (set xs 0 v) 0 0
+alone-set xs v some alone = omega (arith, sum-set xs v some, alone, get_or-set_same xs 0 v 0 (omega (arith, some)))
+
+module _ (old new : LedgerOf) (n : ℕ) (h : IsEvent old (Grant 1) (Granted n) new) where
+  pub grant-between : IsBetween old.state → IsBetween new.state
+  grant-between between =
+      subst IsBetween (sym h.3.1.1)
+      (record {
+        none_out = between.none_out;
+        alone = alone-set old.state.allowances (allowance old.state 1 + share_of old.state) h.3.0.1 between.alone;
+      })
+
+  -- nothing more is granted where all is spent
+  pub grant-spent : Covers old.problem old.budget old.state → IsBetween old.state → allowance old.state 1 ≡ 0 → n ≡ 0 → new.state.spent ≡ new.budget
+  grant-spent covers between none nothing =
+      omega (arith, covers.sum, between.alone, none, nothing, h.3.1.0, h.1, ap (λ (l : Ledger). l.spent) h.3.1.1)
+
+-- A CLAIM
+
+module _ (old new : LedgerOf) (ticket : TicketOf) (h : IsEvent old (Claim 1) (Claimed (Some ticket.node)) new) (prefix : ticket.prefix ≡ (node_at old.state.nodes ticket.node).prefix) where
+  abbrev i : ℕ
+  i = ticket.node
+
+  abbrev node : Node
+  node = record { prefix = (node_at old.state.nodes i).prefix; state = Out }
+
+  lt : i < length old.state.nodes
+  lt = h.3.1.0
+
+  here : node_at (with_state old.state.nodes i Out) i ≡ node
+  here = get_or-set_same old.state.nodes i node no_node lt
+
+  pub claim-within : IsBetween old.state → IsWithin new.state ticket
+  claim-within between =
+      subst (λ l. IsWithin l ticket) (sym h.3.1.2)
+      (record {
+        out = (omega (arith, lt, length-set old.state.nodes i node), ap (λ (x : Node). x.state) here);
+        prefix = prefix ∙ sym (ap (λ (x : Node). x.prefix) here);
+        one_out =
+            omega (
+              arith,
+              tally-set is_out old.state.nodes i node no_node lt,
+              none-counted old.state.nodes between.none_out,
+              ap (λ s. cond {A = ℕ} (is_out_state s) 1 0) h.3.1.1,
+            );
+        alone = between.alone;
+      })
+
+  -- a node that is given back is as it was
+  pub claim-back : (end : LedgerOf) → IsEvent new (Back 1 i) Returned end → end.state ≡ old.state
+  claim-back end k =
+      k.3.1.1 ∙ (ap (λ (l : Ledger). record l { nodes = with_state l.nodes i Open }) h.3.1.2 ∙ ap (λ (ns : List Node). record old.state { nodes = ns }) restored)
+    where
+      opened : record { prefix = (node_at (with_state old.state.nodes i Out) i).prefix; state = Open } ≡ node_at old.state.nodes i
+      opened = ap (λ (x : Node). record { prefix = x.prefix; state = Open }) here ∙ ap (λ s. record { prefix = (node_at old.state.nodes i).prefix; state = s }) (sym h.3.1.1)
+
+      restored : with_state (with_state old.state.nodes i Out) i Open ≡ old.state.nodes
+      restored =
+          ap (λ (x : Node). set (with_state old.state.nodes i Out) i x) opened
+          ∙ (set-set old.state.nodes i node (node_at old.state.nodes i) ∙ set-get_or old.state.nodes i no_node)
+
+-- AN OFFER changes the best order alone
+
+pub offer-within : (old new : LedgerOf) (ticket : TicketOf) → new.state ≡ after_offer old.state new.state.best → IsWithin old.state ticket → IsWithin new.state ticket
+offer-within old new ticket same within =
+    subst (λ l. IsWithin l ticket) (sym same) (record { out = within.out; prefix = within.prefix; one_out = within.one_out; alone = within.alone })
+
+-- A GRAFT
+
+pub graft-step : (old new : LedgerOf) (ticket : TicketOf) (piece : PieceOf) → IsGraft old 1 ticket piece Taken new → (1 ≤ length old.state.allowances) × (splits (tree_of piece) ≤ allowance old.state 1) × (new.state ≡ after_graft old.problem old.state 1 ticket.node piece.prefix (tree_of piece))
+graft-step old new ticket piece (event, (own, owns, is), h) =
+    let k : IsEvent old (Graft 1 ticket.node own piece.prefix (splits (tree_of piece)) (Some (tree_of piece))) Taken new = subst (λ e. IsEvent old e Taken new) is h in
+    (k.3.0.1, k.3.1.2, k.3.1.5)
+
+pub leads-graft : (old new : LedgerOf) (ticket : TicketOf) (piece : PieceOf) → IsGraft old 1 ticket piece Taken new → Leads old new
+leads-graft old new ticket piece (event, own, h) = event-leads old new event Taken h
+
+pub graft-between : (old new : LedgerOf) (ticket : TicketOf) (piece : PieceOf) → IsWithin old.state ticket → IsGraft old 1 ticket piece Taken new → IsBetween new.state
+graft-between old new ticket piece within h =
+    let b = old.problem in
+    let l = old.state in
+    let i = ticket.node in
+    let tree = tree_of piece in
+    let best = best_time b l in
+    let taken = graft-step old new ticket piece h in
+    let root : Node = record { prefix = (node_at l.nodes i).prefix; state = root_state b best piece.prefix tree } in
+    let made = new_nodes b best piece.prefix tree in
+    let none : tally is_out (with_state l.nodes i (root_state b best piece.prefix tree) ++ made) ≡ 0 =
+    omega (
+      arith,
+      tally-append is_out (set l.nodes i root) made,
+      new-not-out b best piece.prefix tree,
+      tally-set is_out l.nodes i root no_node within.out.0,
+      within.one_out,
+      ap (λ s. cond {A = ℕ} (is_out_state s) 1 0) within.out.1,
+      ap (λ t. cond {A = ℕ} t 1 0) (root-not-out b best piece.prefix tree),
+    ) in
+    subst IsBetween (sym taken.2)
+    (record {
+      none_out = none-among (with_state l.nodes i (root_state b best piece.prefix tree) ++ made) none;
+      alone = alone-set l.allowances (allowance l 1 - splits tree) taken.0 within.alone;
+    })

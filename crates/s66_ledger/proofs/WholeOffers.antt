@@ -1,0 +1,105 @@
+-- A ledger's whole orders are offered, one after the other, until none that is below the best is open or out.
+use Rattle.std.proofs.Common.{ℕ, ◌+◌, ◌-◌, ◌≤◌, ◌<◌, ◌≡◌, ◌≢◌, Bool, true, false, true≢false, List, [], length, get_or, refl, sym, ap, arith, inl, inr, subst, ◌∙◌}
+use Rattle.std.proofs.lemmas.Bool.{cases_eq}
+use Rattle.s66_isa.specs.declared.instr.Instr.{Instr}
+use Rattle.s66_isa.proofs.Lists.{cases_le}
+use Rattle.s66_model.specs.Timing.{Problem, total_of}
+use Rattle.s66_model.specs.LegalOrder.{IsLegal, IsBeginning, IsComplete}
+use Rattle.s66_model.specs.Leaves.{floor_value, value}
+use Rattle.s66_model.specs.Ledger as model
+use Rattle.s66_model.specs.Ledger.{Ledger, is_live, best_time, Event, Offer, Moves}
+use Rattle.s66_model.specs.Recorded.{IsOfferOf}
+use Rattle.s66_model.proofs.Floors.{floor-whole}
+use Rattle.s66_model.proofs.LegalOrders.{order-legal}
+use Rattle.s66_dep.proofs.Fronts.{beginning-few}
+use Rattle.s66_time.specs.TimedOrder.{TimedOrder}
+use Rattle.s66_ledger.specs.declared.reply.Offered.{Offered}
+use Rattle.s66_ledger.specs.declared.reply.Offered.TheVariants as offered
+use Rattle.s66_ledger.specs.Finishing.{WholesAreTimed, IsTimedAt, IsTiming}
+use Rattle.s66_ledger.specs.Kept.{LedgerOf, IsEvent, IsKept, ledger_of}
+use Rattle.s66_ledger.specs.LiveNodes.{is_live_state}
+use Rattle.s66_ledger.specs.Nodes.{prefixes, node_at, seen_state}
+use Rattle.s66_ledger.specs.declared.node.Node.{Node}
+use Rattle.s66_ledger.specs.declared.node.State.{State}
+use Rattle.s66_ledger.specs.declared.node.State.TheVariants as state
+use Rattle.s66_ledger.specs.Replies.{offered_reply}
+use Rattle.s66_ledger.proofs.SeenNodes.{at-nodes}
+use Rattle.s66_ledger.proofs.Leading.{each-among, leads-nowhere, event-leads, leads-fall}
+
+timed-still : (b : Problem) (old new : Ledger) (i : ℕ) → new.nodes ≡ old.nodes → best_time b new ≤ best_time b old → IsTimedAt b old i → IsTimedAt b new i
+timed-still b old new i same le timed =
+    subst (λ ns. is_live (model.node_at ns i) ≡ true → IsComplete b.block (model.node_at ns i).prefix → best_time b new ≤ floor_value b (model.node_at ns i).prefix) (sym same)
+    (λ live whole. omega (arith, timed live whole, le))
+
+-- what was timed stays so, and one more is
+pub timed-next : (old new : LedgerOf) (i : ℕ) → IsTiming old i new → ((j : ℕ) → j < i → IsTimedAt old.problem old.state j) → (j : ℕ) → j < i + 1 → IsTimedAt new.problem new.state j
+timed-next old new i h before j lt =
+    elim (cases_eq j i) [
+      | inl is ↦ subst (IsTimedAt new.problem new.state) (sym is) h.timed
+      | inr not ↦
+          timed-still new.problem old.state new.state j h.nodes (leads-fall old new h.leads)
+          (subst (λ (b : Problem). IsTimedAt b old.state j) (sym h.leads.0) (before j (omega (arith, lt, not))))
+    ]
+
+pub all-timed : (b : Problem) (l : Ledger) → ((i : ℕ) → i < length l.nodes → IsTimedAt b l i) → WholesAreTimed b l
+all-timed b l h = each-among (λ (n : model.Node). is_live n ≡ true → IsComplete b.block n.prefix → best_time b l ≤ floor_value b n.prefix) model.no_node l.nodes h
+
+-- nothing is offered
+pub timed-already : (l : LedgerOf) (i : ℕ) → IsTimedAt l.problem l.state i → IsTiming l i l
+timed-already l i timed = record { leads = leads-nowhere l; nodes = refl; spent = refl; timed = timed }
+
+pub whole-legal : (block : List Instr) (prefix : List ℕ) → IsBeginning block prefix → length block ≤ length prefix → IsLegal block prefix
+whole-legal block prefix begins le = order-legal block prefix (begins, omega (arith, le, beginning-few block prefix begins))
+
+-- an offer leaves all but the best order, and that takes no more time than what is offered
+abbrev IsOffered : Problem → List ℕ → Ledger → Ledger → Type 0
+IsOffered b order old new = (best_time b new ≤ total_of b order) × (new.nodes ≡ old.nodes) × (new.spent ≡ old.spent)
+
+moved : (b : Problem) (old new : Ledger) (w : ℕ) (own : Bool) (order : List ℕ) (time : ℕ) (answer : Offered) → own ≡ true → time ≡ total_of b order → Moves b old (Offer w own order time) (offered_reply answer) new → IsOffered b order old new
+moved b old new w own order time offered.Lower is same h = (omega (arith, ap (best_time b) h.2), ap (λ (l : Ledger). l.nodes) h.2, ap (λ (l : Ledger). l.spent) h.2)
+moved b old new w own order time (offered.NotLower least) is same h = (omega (arith, ap (best_time b) h.3, h.1, same), ap (λ (l : Ledger). l.nodes) h.3, ap (λ (l : Ledger). l.spent) h.3)
+moved b old new w own order time offered.OtherBlock is same h = absurd (true≢false (sym is ∙ h.0))
+
+-- the order of a complete prefix is offered
+pub timed-now : (old new : LedgerOf) (w i : ℕ) (timed : TimedOrder) (answer : Offered) → timed ≡ record { problem = old.problem; numbers = (model.node_at old.state.nodes i).prefix } → ((event : Event) × IsOfferOf old.problem w timed.problem timed.numbers event × IsEvent old event (offered_reply answer) new) → IsTiming old i new
+timed-now old new w i timed answer is (event, (own, iff, told), h) =
+    let b = old.problem in
+    let at = (model.node_at old.state.nodes i).prefix in
+    let problem : timed.problem ≡ b = ap (λ (t : TimedOrder). t.problem) is in
+    let numbers : timed.numbers ≡ at = ap (λ (t : TimedOrder). t.numbers) is in
+    let step : Moves b old.state (Offer w own timed.numbers (total_of timed.problem timed.numbers)) (offered_reply answer) new.state = subst (λ (e : Event). Moves b old.state e (offered_reply answer) new.state) told h.3.1 in
+    let (fast, nodes, spent) = moved b old.state new.state w own timed.numbers (total_of timed.problem timed.numbers) answer (iff.1 problem) (ap (λ p. total_of p timed.numbers) problem) step in
+    record {
+      leads = event-leads old new event (offered_reply answer) h;
+      nodes = nodes;
+      spent = spent;
+      timed =
+          subst (λ (p : Problem). IsTimedAt p new.state i) (sym h.0)
+          (subst (λ ns. is_live (model.node_at ns i) ≡ true → IsComplete b.block (model.node_at ns i).prefix → best_time b new.state ≤ floor_value b (model.node_at ns i).prefix) (sym nodes)
+          (λ live whole. omega (arith, fast, ap (total_of b) numbers, ap (value b at) (floor-whole b at whole))));
+    }
+
+-- WHAT IS NOT OFFERED
+
+live-seen : (b : Problem) (at : List ℕ) (s : State) → model.is_live_state (seen_state b at s) ≡ is_live_state s
+live-seen b at state.Open = refl
+live-seen b at state.Out = refl
+live-seen b at state.Closed = refl
+live-seen b at state.Split = refl
+
+live-uncut : (s : State) → is_live_state s ≡ true → s ≢ state.Split
+live-uncut s live cut = true≢false (sym live ∙ ap is_live_state cut)
+
+-- a node that is open or out, and isn't below the best
+pub not-below : (b : Problem) (budget : ℕ) (nodes : List Node) (best : TimedOrder) (left : ℕ) (allowances : List ℕ) (spent : ℕ) → IsKept b budget nodes best left allowances spent → (l : LedgerOf) → ledger_of b budget nodes best.numbers left allowances spent ≡ l → (i time : ℕ) → i < length nodes → time ≡ total_of best.problem best.numbers → ¬ ((is_live_state (node_at nodes i).state ≡ true) × ((node_at nodes i).value < time)) → is_live (model.node_at l.state.nodes i) ≡ true → best_time l.problem l.state ≤ floor_value l.problem (model.node_at l.state.nodes i).prefix
+not-below b budget nodes best left allowances spent h l is i time lt total never =
+    let at = get_or (prefixes nodes) i [] in
+    let s = (node_at nodes i).state in
+    subst (λ (l : LedgerOf). is_live (model.node_at l.state.nodes i) ≡ true → best_time l.problem l.state ≤ floor_value l.problem (model.node_at l.state.nodes i).prefix) is
+    (subst (λ (n : model.Node). is_live n ≡ true → total_of b best.numbers ≤ floor_value b n.prefix) (sym (at-nodes b nodes i lt))
+    (λ live.
+    let here : is_live_state s ≡ true = sym (live-seen b at s) ∙ live in
+    elim (cases_le time (node_at nodes i).value) [
+      | inr below ↦ absurd (never (here, below))
+      | inl ge ↦ omega (arith, ge, total, ap (λ p. total_of p best.numbers) h.own, h.floors i lt (live-uncut s here))
+    ]))

@@ -1,0 +1,21 @@
+use Rattle.std.proofs.Common.{◌∙◌, arith, ap, length}
+use Rattle.s66_ledger.proofs.Leading.{leads-on}
+use Rattle.s66_ledger.proofs.WholeOffers.{timed-next, all-timed}
+use Rattle.s66_ledger.proofs.ledger.Ledger.offer_wholes.Goals as goal
+
+pub loop-node-preserved : goal.loop-node-preserved
+loop-node-preserved c =
+    let old = c.loop-node.self in
+    let new = c.offer_whole.new.self in
+    let now = c.in_ok-offer_whole.ensures in
+    record {
+      leads = leads-on c.args.self.now old new c.loop-node.invariant.leads now.leads;
+      nodes = now.nodes ∙ c.loop-node.invariant.nodes;
+      spent = now.spent ∙ c.loop-node.invariant.spent;
+      timed = timed-next old new c.loop-node.node now c.loop-node.invariant.timed;
+    }
+
+pub returns-clause-timed : goal.returns-clause-timed
+returns-clause-timed c =
+    let l = c.loop-node.self in
+    all-timed l.problem l.state (λ i lt. c.loop-node.invariant.timed i (omega (arith, lt, ap length c.loop-node.invariant.nodes, c.node_count-node-end.ensures, c.loop-node-test.false)))

@@ -1,0 +1,26 @@
+-- To be believed: what contracts see of an answer: of which problem it is one, for which budget, and how its ledger ended. Used by an invariant: what is true of every answer.
+use Rattle.std.specs.Prelude.{ℕ, ◌≡◌, List, []}
+use Rattle.s66_model.specs.Timing.{Problem}
+use Rattle.s66_model.specs.Answer.{Answer, IsAnswer}
+use Rattle.s66_model.specs.Ledger.{Ledger}
+use Rattle.s66_model.specs.Ended.{ended_answer}
+use Rattle.s66_ledger.specs.declared.node.Node.{Node}
+use Rattle.s66_ledger.specs.Kept.{state_of}
+
+pub record AnswerOf : Type 0 where
+  pub problem : Problem
+  pub budget : ℕ
+  -- the last state of the ledger
+  pub state : Ledger
+
+-- the answer that the last state is
+abbrev pub answer_of : AnswerOf → Answer
+answer_of a = ended_answer a.problem a.state
+
+-- of a ledger that ended with these nodes, this best order and so many splits
+abbrev pub ended_of : Problem → ℕ → List Node → List ℕ → ℕ → AnswerOf
+ended_of b budget nodes best spent = record { problem = b; budget = budget; state = state_of b nodes best 0 [] spent }
+
+pub record IsKeptAnswer (a : AnswerOf) (low : ℕ) : Type 0 where
+  pub answer : IsAnswer a.problem a.budget (answer_of a)
+  pub bound : (answer_of a).bound ≡ low

@@ -1,0 +1,85 @@
+-- Used by contracts within the crate alone: the steps by which a ledger is brought to its end.
+use Rattle.std.specs.Prelude.{ℕ, ◌+◌, ◌-◌, ◌≡◌, ◌<◌, ◌≤◌, ◌⊎◌, ◌≢◌, Bool, true, false, List, length}
+use Rattle.s66_isa.specs.Lists.{Among, weigh, tally}
+use Rattle.s66_model.specs.Timing.{Problem}
+use Rattle.s66_model.specs.LegalOrder.{IsComplete}
+use Rattle.s66_model.specs.Leaves.{floor_value}
+use Rattle.s66_model.specs.Ledger.{Ledger, Node, State, Open, Out, Cut, Closed, Event, Reply, Run, IsOut, is_open, is_live, best_time, allowance, node_at}
+use Rattle.s66_ledger.specs.Handed.{TicketOf}
+use Rattle.s66_ledger.specs.Kept.{LedgerOf}
+
+-- some events lead from one to the other
+abbrev pub Leads : LedgerOf → LedgerOf → Type 0
+Leads old new =
+    (new.problem ≡ old.problem) × (new.budget ≡ old.budget) × (new.workers ≡ old.workers)
+    × ((events : List (Event × Reply)) × Run old.problem old.state events new.state)
+
+abbrev pub NoneOut : Ledger → Type 0
+NoneOut l = (node : Node) → Among node l.nodes → node.state ≢ Out
+
+-- no worker holds a node or an allowance
+pub record IsIdle (l : Ledger) : Type 0 where
+  pub none_out : NoneOut l
+  pub no_allowance : weigh (λ n. n) l.allowances ≡ 0
+
+-- no node is out, and none that is open has a floor below the best time, or the budget is spent
+pub record IsSearched (b : Problem) (budget : ℕ) (l : Ledger) : Type 0 where
+  pub none_out : NoneOut l
+  pub open_or_spent : ((node : Node) → Among node l.nodes → is_open node ≡ true → best_time b l ≤ floor_value b node.prefix) ⊎ (l.spent ≡ budget)
+
+-- no whole order that is still open or out is below the best time
+abbrev pub WholesAreTimed : Problem → Ledger → Type 0
+WholesAreTimed b l =
+    (node : Node) → Among node l.nodes → is_live node ≡ true → IsComplete b.block node.prefix → best_time b l ≤ floor_value b node.prefix
+
+-- ONE BY ONE
+
+-- no node below this number is out
+abbrev pub NoneOutBelow : ℕ → Ledger → Type 0
+NoneOutBelow count l = (i : ℕ) → i < count → (node_at l.nodes i).state ≢ Out
+
+-- the node isn't out any more, nor is one before it that wasn't
+pub record IsReopening (old : LedgerOf) (node : ℕ) (new : LedgerOf) : Type 0 where
+  pub leads : Leads old new
+  pub in_hand : NoneOutBelow node old.state → NoneOutBelow (node + 1) new.state
+  pub count : length new.state.nodes ≡ length old.state.nodes
+  pub allowances : new.state.allowances ≡ old.state.allowances
+
+-- a node's whole order isn't still open or out below the best time
+abbrev pub IsTimedAt : Problem → Ledger → ℕ → Type 0
+IsTimedAt b l i =
+    is_live (node_at l.nodes i) ≡ true → IsComplete b.block (node_at l.nodes i).prefix → best_time b l ≤ floor_value b (node_at l.nodes i).prefix
+
+-- the node's order is timed; the nodes, and what is spent, stay
+pub record IsTiming (old : LedgerOf) (node : ℕ) (new : LedgerOf) : Type 0 where
+  pub leads : Leads old new
+  pub nodes : new.state.nodes ≡ old.state.nodes
+  pub spent : new.state.spent ≡ old.state.spent
+  pub timed : IsTimedAt new.problem new.state node
+
+-- ROUNDS of worker 1
+
+abbrev pub is_out_state : State → Bool
+is_out_state Open = false
+is_out_state Out = true
+is_out_state Cut = false
+is_out_state (Closed leaf) = false
+
+abbrev pub is_out : Node → Bool
+is_out node = is_out_state node.state
+
+-- between two rounds: no node is out, and no other worker has an allowance
+pub record IsBetween (l : Ledger) : Type 0 where
+  pub none_out : NoneOut l
+  pub alone : weigh (λ n. n) l.allowances ≡ allowance l 1
+
+-- within a round: the ticket's node is out and no other is, and no other worker has an allowance
+pub record IsWithin (l : Ledger) (ticket : TicketOf) : Type 0 where
+  pub out : IsOut l ticket.node
+  pub prefix : ticket.prefix ≡ (node_at l.nodes ticket.node).prefix
+  pub one_out : tally is_out l.nodes ≡ 1
+  pub alone : weigh (λ n. n) l.allowances ≡ allowance l 1
+
+-- what a search still has: splits of the budget, and minor cycles of the best time
+abbrev pub still_to_go : LedgerOf → ℕ
+still_to_go l = (l.budget - l.state.spent) + best_time l.problem l.state

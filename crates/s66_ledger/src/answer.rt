@@ -1,0 +1,70 @@
+use crate::node::Node;
+use s66_dep::Order;
+use s66_time::Timed;
+use std::marker::Model;
+
+/// An answer to a block under a profile, for a budget of splits: a legal order with its time, a lower bound of the totals of all
+/// legal orders, and a tree that shows the bound: the nodes of a ledger that has come to its end.
+#[derive(Drop)]
+pub struct Answer {
+    pub(crate) best: Timed,
+    pub(crate) budget: u32,
+    pub(crate) nodes: Vec<Node>,
+    pub(crate) bound: u32,
+    pub(crate) splits: u32,
+}
+
+impl Model for Answer {
+    ghost use Rattle.s66_ledger.specs.Answers.{AnswerOf, ended_of, IsKeptAnswer};
+
+    ghost Value = { AnswerOf };
+
+    ghost view = { λ a. ended_of a.best.problem a.budget a.nodes.items a.best.numbers a.splits };
+
+    ghost invariant = { λ a. IsKeptAnswer (ended_of a.best.problem a.budget a.nodes.items a.best.numbers a.splits) a.bound };
+}
+
+impl Answer {
+    ghost use Rattle.std.specs.Prelude.{◌≡◌, ◌↔◌, IsTrue};
+    ghost use Rattle.s66_model.specs.Answer.{IsAnswer, IsBestAnswer};
+    ghost use Rattle.s66_model.specs.BestAndBound.{IsBound};
+    ghost use Rattle.s66_ledger.specs.Answers.{answer_of};
+
+    /// The order.
+    pub fn order(&self) -> &Order
+        ensures { result.now ≡ record { block = self.now.problem.block; numbers = (answer_of self.now).order } }
+    {
+        self.best.order()
+    }
+
+    /// The total of the order, in minor cycles.
+    pub fn time(&self) -> u32
+        ensures value { result ≡ (answer_of self.now).time }
+        ensures answer { IsAnswer self.now.problem self.now.budget (answer_of self.now) }
+    {
+        self.best.total()
+    }
+
+    /// A lower bound of the totals of all legal orders, in minor cycles.
+    pub fn bound(&self) -> u32
+        ensures value { result ≡ (answer_of self.now).bound }
+        ensures bound { IsBound self.now.problem result }
+    {
+        self.bound
+    }
+
+    /// How many splits the tree has.
+    pub fn splits(&self) -> u32
+        ensures { result ≡ (answer_of self.now).splits }
+    {
+        self.splits
+    }
+
+    /// Whether the time is the bound, so that no legal order takes less; where it isn't, the tree has as many splits as the
+    /// budget allows.
+    pub fn is_best(&self) -> bool
+        ensures { IsTrue result ↔ IsBestAnswer (answer_of self.now) }
+    {
+        self.bound == self.best.total()
+    }
+}

@@ -1,0 +1,125 @@
+use crate::ledger::Ledger;
+use crate::reply::{BackError, GraftError};
+use crate::ticket::Ticket;
+use s66_node::{Piece, Walk};
+use std::alloc::{AllocError, Global};
+
+impl<'a> Ledger<'a> {
+    ghost use Rattle.std.specs.Prelude.{true, false, Some, ◌≡◌, ◌≤◌, ◌<◌, OnOk, IfOk};
+    ghost use Rattle.s66_model.specs.Leaves.{floor_value};
+    ghost use Rattle.s66_model.specs.Timing.{total_of};
+    ghost use Rattle.s66_time.specs.TimedOrder.{TimedOrder};
+    ghost use Rattle.s66_model.specs.Ledger.{best_time, allowance, node_at, IsOut, after_offer};
+    ghost use Rattle.s66_model.specs.Coverage.{Covers};
+    ghost use Rattle.s66_model.specs.Expansion.{IsExpansion};
+    ghost use Rattle.s66_node.specs.Pieces.{tree_of, IsBestTimed};
+    ghost use Rattle.s66_ledger.specs.Finishing.{Leads, IsIdle, IsSearched, IsBetween, IsWithin, still_to_go};
+
+    /// Goes on, as worker 1, until no open node's floor is below the best time or the budget is spent: claims the open node of the
+    /// least floor, expands it by what the worker may spend, offers the best of its whole orders and grafts the piece.
+    pub(crate) fn search(&mut self, alloc: Global, walk: &mut Walk<'_>) -> Result<(), AllocError>
+        requires walk { walk.old.problem ≡ self.old.problem }
+        requires workers { 1 ≤ self.old.workers }
+        requires idle { IsIdle self.old.state }
+        ensures same { walk.new.problem ≡ walk.old.problem }
+        ensures leads { OnOk result (Leads self.old self.new) }
+        ensures searched { OnOk result (IsSearched self.new.problem self.new.budget self.new.state) }
+    {
+        while self.search_round(alloc, walk)? {}
+        Ok(())
+    }
+
+    /// One round of a search; false where the search has ended.
+    fn search_round(&mut self, alloc: Global, walk: &mut Walk<'_>) -> Result<bool, AllocError>
+        requires walk { walk.old.problem ≡ self.old.problem }
+        requires workers { 1 ≤ self.old.workers }
+        requires between { IsBetween self.old.state }
+        ensures same { walk.new.problem ≡ walk.old.problem }
+        ensures leads { IfOk result (λ on. Leads self.old self.new) }
+        ensures goes_on { IfOk result (λ on. on ≡ true → IsBetween self.new.state × (still_to_go self.new < still_to_go self.old)) }
+        ensures ends { IfOk result (λ on. on ≡ false → IsSearched self.new.problem self.new.budget self.new.state) }
+    {
+        let allowance = self.allowance_or_grant()?;
+        if allowance == 0 {
+            return Ok(false);
+        }
+        let Some(ticket) = self.claim(1)? else {
+            return Ok(false);
+        };
+        let best = self.best();
+        if best <= self.floor_of(ticket.node()) {
+            return match self.back(1, ticket) {
+                Ok(()) => Ok(false),
+                Err((BackError::OutOfMemory, _)) => Err(AllocError),
+                Err((BackError::NotOut, _)) => unreachable!(),
+            };
+        }
+        let piece = walk.expand(alloc, ticket.prefix(), best, allowance)?;
+        self.take_in(ticket, piece)?;
+        Ok(true)
+    }
+
+    /// How many splits worker 1 may spend, after a grant where it has none; 0 only where the budget is spent.
+    fn allowance_or_grant(&mut self) -> Result<u32, AllocError>
+        requires workers { 1 ≤ self.old.workers }
+        requires between { IsBetween self.old.state }
+        ensures value { IfOk result (λ n. n ≡ allowance self.new.state 1) }
+        ensures leads { IfOk result (λ n. Leads self.old self.new) }
+        ensures between { IfOk result (λ n. IsBetween self.new.state) }
+        ensures same { IfOk result (λ n. still_to_go self.new ≡ still_to_go self.old) }
+        ensures spent { IfOk result (λ n. n ≡ 0 → self.new.state.spent ≡ self.new.budget) }
+    {
+        let allowance = self.allowances[0];
+        if 0 < allowance {
+            return Ok(allowance);
+        }
+        self.grant(1)
+    }
+
+    /// The value of the floor of a node that is out.
+    fn floor_of(&self, node: u32) -> u32
+        requires { IsOut self.now.state node }
+        ensures { result ≡ floor_value self.now.problem (node_at self.now.state.nodes node).prefix }
+    {
+        self.table.value_of(node)
+    }
+
+    /// Offers the best of the piece's whole orders, and puts the piece in the place of the ticket's node.
+    fn take_in(&mut self, ticket: Ticket, piece: Piece) -> Result<(), AllocError>
+        requires workers { 1 ≤ self.old.workers }
+        requires covers { Covers self.old.problem self.old.budget self.old.state }
+        requires within { IsWithin self.old.state ticket }
+        requires problem { piece.problem ≡ self.old.problem }
+        requires prefix { piece.prefix ≡ ticket.prefix }
+        requires expansion { IsExpansion self.old.problem (best_time self.old.problem self.old.state) (best_time self.old.problem self.old.state) (allowance self.old.state 1) piece.prefix (tree_of piece) }
+        requires timed { IsBestTimed self.old.problem piece.prefix (tree_of piece) piece.timed }
+        requires some { 1 ≤ allowance self.old.state 1 }
+        requires below { floor_value self.old.problem piece.prefix < best_time self.old.problem self.old.state }
+        ensures leads { OnOk result (Leads self.old self.new) }
+        ensures between { OnOk result (IsBetween self.new.state) }
+        ensures less { OnOk result (still_to_go self.new < still_to_go self.old) }
+    {
+        self.offer_best(&piece)?;
+        match self.graft(1, ticket, piece) {
+            Ok(()) => Ok(()),
+            Err((GraftError::OutOfMemory, _, _)) => Err(AllocError),
+            Err((GraftError::NotOut | GraftError::OtherPrefix | GraftError::OverAllowance, _, _)) =>
+                { unreachable!() }
+        }
+    }
+
+    /// Offers the best of the piece's whole orders, where it has some.
+    fn offer_best(&mut self, piece: &Piece) -> Result<(), AllocError>
+        requires workers { 1 ≤ self.old.workers }
+        requires problem { piece.now.problem ≡ self.old.problem }
+        ensures leads { OnOk result (Leads self.old self.new) }
+        ensures same { OnOk result (self.new.state ≡ after_offer self.old.state self.new.state.best) }
+        ensures at_most { OnOk result ((timed : TimedOrder) → piece.now.timed ≡ Some timed → best_time self.new.problem self.new.state ≤ total_of self.new.problem timed.numbers) }
+    {
+        let Some(timed) = piece.timed() else {
+            return Ok(());
+        };
+        self.offer(1, timed.duplicate())?;
+        Ok(())
+    }
+}

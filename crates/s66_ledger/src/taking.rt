@@ -1,0 +1,61 @@
+use crate::ledger::Ledger;
+use s66_dep::Order;
+use s66_time::time_of;
+use std::alloc::AllocError;
+
+impl Ledger<'_> {
+    ghost use Rattle.std.specs.Prelude.{◌≡◌, ◌<◌, ◌≤◌, length, OnOk};
+    ghost use Rattle.s66_ledger.specs.Finishing.{Leads, IsIdle, WholesAreTimed, IsTiming};
+
+    /// Takes back every allowance and every node that is out, in time linear in the number of nodes, with a logarithm of the number of
+    /// open nodes for each that is out.
+    pub(crate) fn take_back(&mut self) -> Result<(), AllocError>
+        requires { 1 ≤ self.old.workers }
+        ensures leads { OnOk result (Leads self.old self.new) }
+        ensures idle { OnOk result (IsIdle self.new.state) }
+    {
+        for at in 0..self.worker_count() {
+            self.retire_at(at);
+        }
+        for node in 0..self.node_count() {
+            self.reopen(node)?;
+        }
+        Ok(())
+    }
+
+    /// Offers every whole order that is open or out and has a time below the best, in time linear in the number of nodes, and of each
+    /// whose floor is below the best in the length of its prefix.
+    pub(crate) fn offer_wholes(&mut self) -> Result<(), AllocError>
+        requires { 1 ≤ self.old.workers }
+        ensures leads { OnOk result (Leads self.old self.new) }
+        ensures nodes { OnOk result (self.new.state.nodes ≡ self.old.state.nodes) }
+        ensures spent { OnOk result (self.new.state.spent ≡ self.old.state.spent) }
+        ensures timed { OnOk result (WholesAreTimed self.new.problem self.new.state) }
+    {
+        for node in 0..self.node_count() {
+            self.offer_whole(node)?;
+        }
+        Ok(())
+    }
+
+    /// Offers a node's order, where it is a whole one, open or out, and has a time below the best.
+    fn offer_whole(&mut self, node: u32) -> Result<(), AllocError>
+        requires workers { 1 ≤ self.old.workers }
+        requires within { node < length self.old.state.nodes }
+        ensures { OnOk result (IsTiming self.old node self.new) }
+    {
+        let Some(prefix) = self.promising_prefix(node) else {
+            return Ok(());
+        };
+        if prefix.len() < self.block().count() {
+            return Ok(());
+        }
+        // a complete prefix of legal orders is one
+        let Ok(order) = Order::new(self.block(), prefix.as_slice()) else {
+            unreachable!()
+        };
+        let timed = time_of(self.block(), self.profile(), &order);
+        self.offer(1, timed)?;
+        Ok(())
+    }
+}
