@@ -1,5 +1,9 @@
+pub mod Asked
 pub mod CommandLine
 pub mod Dependences
+pub mod Faults
 pub mod Flags
 pub mod Named
+pub mod Numbers
+pub mod PlacedAnswers
 pub mod Refused

@@ -1,24 +1,25 @@
 -- Words that clap takes name a subcommand.
-use Rattle.std.proofs.Common.{◌≡◌, ◌⊎◌, inl, inr, ℕ, Bool, cond, true, false, true≢false, ◌||◌, List, [], ◌∷◌, ◌++◌, Option, Some, None, refl, sym, ap, ◌∙◌, subst, Box, box_value, codes, find, fold, drop, is_some, map, option_map, bytes_eq}
+use Rattle.std.proofs.Common.{◌≡◌, ◌⊎◌, inl, inr, ℕ, Bool, cond, true, false, true≢false, ◌||◌, List, [], ◌∷◌, ◌++◌, Option, Some, None, refl, sym, ap, ◌∙◌, subst, Box, box_value, codes, find, fold, drop, is_some, map, option_and_then, option_map, bytes_eq}
 use Rattle.std.specs.Prelude.{unwrap_or}
 use Rattle.std.specs.List.{list_all, list_any}
 use Rattle.std.specs.Option.{option_map_or}
 use Rattle.std.proofs.lemmas.Slice.Eq.{bytes_eq-Decides}
-use Rattle.clap.specs.Words.{App, HasMatchesOf, Kinds, Rule, Shape, Text, built, is_simple_and_free, one_text, rows_of, subcommand_name_of, subcommand_of, subcommand_rows, subcommand_rows_of}
+use Rattle.clap.specs.Words.{App, HasMatchesOf, Rule, Shape, Text, built, is_simple_and_free, one_of, one_text, rows_of, subcommand_name_of, subcommand_of, subcommand_rows, subcommand_rows_of}
 use Rattle.clap.specs.Takes.{is_given}
 use Rattle.clap.specs.declared.parser.matches.ArgMatches.{ArgMatches}
 use Rattle.clap.specs.declared.parser.matches.ArgMatches.TheViews.{out-ArgMatches, out-SubCommand}
 use Rattle.clap.specs.declared.parser.matches.Found.{Found}
 use Rattle.clap.specs.declared.parser.matches.SubCommand.{SubCommand}
-use Rattle.clap.specs.Kinds.{or_else}
 use Rattle.clap.specs.Walk.{Held, Names, Outcome, done, waits, plain, refused, Row, Step, next, trailing, subcommand, value, Waiting, idle, option, positional, Walk, after_flag, after_step, answers_to, arg_by_id, arg_by_index, arg_by_long, bundle, finished, is_empty, settled, long_met, long_or_other, nothing_held, plain_word, rows_after, short_or_plain, subcommand_met, subcommand_or_other, to_positional, walk, walk_from, walked, walked_from, word_met}
 use Rattle.clap.specs.Lexer.{long_of, short_of}
 use Rattle.clap.specs.Simple.{entered, label_of, names_of}
-use Rattle.clap.specs.Faults.{check_fault, defaults_fault, entered_fault, fault_of, settle_fault, other_fault, turn_fault, walk_fault, word_fault}
+use Rattle.clap.specs.Faults.{check_fault, defaults_fault, entered_fault, fault_of, level_fault, settle_fault, other_fault, turn_fault, walk_fault, word_fault}
 use Rattle.clap.proofs.SimpleLemmas.{is_nil}
 use Rattle.clap.proofs.WalkLemmas.{both, one_text-rows}
-use Rattle.s66_main.specs.Usage.{has_option, s66_app, subcommand_name}
+use Rattle.s66_main.specs.Usage.{has_option, option_text, s66_app, subcommand_name}
+use Rattle.s66_main.proofs.Faults.{first-none, full, second-none}
 use Rattle.s66_main.proofs.Flags.{HasFlag, flag-is}
+use Rattle.s66_main.proofs.Numbers.{HasNumber, IsNumber, number-is}
 
 -- A NAME OF A LIST
 
@@ -140,9 +141,6 @@ dashes-goes : (b : Bool) (c : List Rule) (waiting : Waiting) (position : ℕ) (w
 dashes-goes true c waiting position word h = tt
 dashes-goes false c waiting position word h = long-goes c waiting word (long_of word) h
 
-full : {K : Type 0} (k : K) (ks : List K) → k ∷ ks ≡ [] → ⊥
-full k ks e = subst (λ (l : List _). elim l as (λ _. Type 0) [ [] ↦ ⊥ | x ∷ xs ↦ Unit {0} ]) e tt
-
 not-help : (name : Text) (word : Text) (h : Held) → other_fault top (Some name) word h ≡ [] → name ≡ codes "help" → ⊥
 not-help name word h none e = full _ _ (subst (λ n. other_fault top (Some n) word h ≡ []) e none)
 
@@ -156,14 +154,6 @@ trailing-stop : (t : Bool) (w : Walk) (word : Text) → word_fault top names t w
     IsStop (after_step top.rules word w (word_met top.rules names t w.waiting w.position word w.held).0 (word_met top.rules names t w.waiting w.position word w.held).1).stopped
 trailing-stop true w word none go = positional-stop top.rules (arg_by_index top.rules w.position) word w w.held go
 trailing-stop false w word none go = met-stop (subcommand_met names w.waiting word) w word (known w.waiting word) none go
-
-first-none : (a b : Kinds) → or_else a b ≡ [] → a ≡ []
-first-none [] b none = refl
-first-none (k ∷ ks) b none = absurd (full k ks none)
-
-second-none : (a b : Kinds) → or_else a b ≡ [] → b ≡ []
-second-none [] b none = none
-second-none (k ∷ ks) b none = absurd (full k ks none)
 
 stopped-at : (stop : Option (Text × List Text)) (w : Walk) (word : Text) → w.stopped ≡ stop → IsStop stop → turn_fault top names w word ≡ [] →
     IsStop (walked_from top.rules names stop w word).stopped
@@ -187,15 +177,15 @@ walk-stop (word ∷ rest) w stops none = walk-stop rest (walked top.rules names 
 abbrev subcommand_at : Text → Option Shape
 subcommand_at name = find (λ s. answers_to name (label_of s)) (built s66_app).subs
 
--- the subcommand is one of the program's, with its matches on some words
+-- the subcommand is one of the program's, with its matches on some words that have no fault
 abbrev IsEntered : Option (Text × List Row) → Type 0
 IsEntered met = (s : Shape) × (rest : List Text) × (met ≡ Some (s.name, rows_after s.rules [] rest))
-    × (subcommand_at s.name ≡ Some s) × IsNamed (map label_of s66_app.subs) s.name
+    × (subcommand_at s.name ≡ Some s) × IsNamed (map label_of s66_app.subs) s.name × (level_fault s [] nothing_held rest false [] ≡ [])
 
-entered-at : (stop : Option (Text × List Text)) (rows : List Row) → IsStop stop → check_fault top rows (is_some (entered (built s66_app) stop)) ≡ [] →
-    IsEntered (entered (built s66_app) stop)
-entered-at None rows stops none = absurd (full _ _ none)
-entered-at (Some (name, rest)) rows stops none =
+entered-at : (stop : Option (Text × List Text)) (rows : List Row) → IsStop stop → entered_fault (built s66_app) stop ≡ [] →
+    check_fault top rows (is_some (entered (built s66_app) stop)) ≡ [] → IsEntered (entered (built s66_app) stop)
+entered-at None rows stops below none = absurd (full _ _ none)
+entered-at (Some (name, rest)) rows stops below none =
     let at = at-name (built s66_app).subs refl name (named-longer (map label_of s66_app.subs) (codes "help", []) name stops) in
     let is-name = at.1 in (
       at.0,
@@ -203,6 +193,7 @@ entered-at (Some (name, rest)) rows stops none =
       ap (option_map (λ s. (s.name, rows_after s.rules [] rest))) at.2,
       subst (λ n. subcommand_at n ≡ Some at.0) (sym is-name) at.2,
       subst (IsNamed (map label_of s66_app.subs)) (sym is-name) stops,
+      sym (ap (λ o. option_map_or (λ s. level_fault s [] nothing_held rest false []) o []) at.2) ∙ below,
     )
 
 named : (words : List Text) → fault_of s66_app words ≡ [] → IsEntered (subcommand_of s66_app words)
@@ -210,11 +201,11 @@ named words none =
     let words-after = drop 1 words in
     let end = walk top.rules names nothing_held words-after in
     let stop = walk-stop words-after (walk_from nothing_held) tt (first-none _ _ none) in
-    entered-at end.stopped (finished top.rules end.held) stop
+    let after-walk = second-none (walk_fault top names (walk_from nothing_held) words-after) _ none in
+    entered-at end.stopped (finished top.rules end.held) stop (first-none (entered_fault (built s66_app) end.stopped) _ after-walk)
     (second-none (defaults_fault (settled top.rules end.held).rows top.rules) _
     (second-none (settle_fault top.rules top.args_override_self end.held) _
-    (second-none (entered_fault (built s66_app) end.stopped) _
-    (second-none (walk_fault top names (walk_from nothing_held) words-after) _ none))))
+    (second-none (entered_fault (built s66_app) end.stopped) _ after-walk)))
 
 -- WHAT CLAP ANSWERED
 
@@ -250,16 +241,36 @@ name-known m words given is gives =
     let met = named words is.0 in
     subst IsKnown (sym (gives ∙ name-is m words is ∙ ap (option_map (λ s. s.0)) met.2)) met.4
 
--- a flag of a subcommand, as it was read of what was found for it
-pub flag-of : (m : ArgMatches) (words : List Text) (found : Found) (flag : Bool) (s : Shape) (id long : Text) → IsTaken m words →
-    subcommand_name words ≡ Some s.name → subcommand_at s.name ≡ Some s → HasFlag id long s.rules → is_some (arg_by_id s.rules id) ≡ true →
-    Some (rows_of found) ≡ option_map (λ p. p.1) (subcommand_rows_of m) →
-    (one_text found id ≡ Some (codes "true") → flag ≡ true) → (one_text found id ≡ Some (codes "false") → flag ≡ false) → flag ≡ has_option id words
-flag-of m words found flag s id long is name at options there rows when-true when-false =
+-- what was found are the subcommand's matches on some words that have no fault
+abbrev pub IsMatched : Found → List Text → Shape → Type 0
+IsMatched found words s = (rest : List Text) × (rows_of found ≡ rows_after s.rules [] rest) × (subcommand_of s66_app words ≡ Some (s.name, rows_of found))
+    × (level_fault s [] nothing_held rest false [] ≡ [])
+
+pub matched : (m : ArgMatches) (words : List Text) (found : Found) (s : Shape) → IsTaken m words → subcommand_name words ≡ Some s.name →
+    subcommand_at s.name ≡ Some s → Some (rows_of found) ≡ option_map (λ p. p.1) (subcommand_rows_of m) → IsMatched found words s
+matched m words found s is name at rows =
     let met = named words is.0 in
     let same-name : met.0.name ≡ s.name = ap (λ o. unwrap_or o []) (ap (option_map (λ p. p.0)) (sym met.2) ∙ name) in
     let same-shape : met.0 ≡ s = ap (λ o. unwrap_or o s) (sym met.3 ∙ ap subcommand_at same-name ∙ at) in
-    let is-rows : rows_of found ≡ rows_after met.0.rules [] met.1 = ap (λ o. unwrap_or o []) (rows ∙ ap (option_map (λ p. p.1)) (is.1 ∙ met.2)) in
-    let same : rows_of found ≡ rows_after s.rules [] met.1 = is-rows ∙ ap (λ (t : Shape). rows_after t.rules [] met.1) same-shape in
-    flag-is id long s.rules options there met.1 (rows_of found) (one_text found id) flag same (one_text-rows found id) when-true when-false
-    ∙ ap (is_given id) is-rows ∙ sym (ap (λ o. option_map_or (λ (p : Text × List Row). is_given id p.1) o false) met.2)
+    let same-rows : rows_of found ≡ rows_after met.0.rules [] met.1 = ap (λ o. unwrap_or o []) (rows ∙ ap (option_map (λ p. p.1)) (is.1 ∙ met.2)) in (
+      met.1,
+      same-rows ∙ ap (λ (t : Shape). rows_after t.rules [] met.1) same-shape,
+      met.2 ∙ ap (λ n. Some (n, rows_after met.0.rules [] met.1)) same-name ∙ ap (λ r. Some (s.name, r)) (sym same-rows),
+      subst (λ (t : Shape). level_fault t [] nothing_held met.1 false [] ≡ []) same-shape met.5,
+    )
+
+-- a flag of a subcommand, as it was read of what was found for it
+pub flag-of : (words : List Text) (found : Found) (flag : Bool) (s : Shape) (id long : Text) → IsMatched found words s → HasFlag id long s.rules →
+    is_some (arg_by_id s.rules id) ≡ true → (one_text found id ≡ Some (codes "true") → flag ≡ true) →
+    (one_text found id ≡ Some (codes "false") → flag ≡ false) → flag ≡ has_option id words
+flag-of words found flag s id long is options there when-true when-false =
+    flag-is id long s.rules options there is.0 (rows_of found) (one_text found id) flag is.1 (one_text-rows found id) when-true when-false
+    ∙ sym (ap (λ o. option_map_or (λ (p : Text × List Row). is_given id p.1) o false) is.2)
+
+-- the text of a number's option, as it was found
+pub number-of : (words : List Text) (found : Found) (s : Shape) (id : Text) (least most : ℕ) → IsMatched found words s → HasNumber id least most s.rules →
+    IsNumber id least most (one_text found id) × (one_text found id ≡ option_text id words)
+number-of words found s id least most is options = (
+  subst (IsNumber id least most) (sym (one_text-rows found id ∙ ap (one_of id) is.1)) (number-is id least most s options is.0 false is.3),
+  one_text-rows found id ∙ sym (ap (option_and_then (λ (p : Text × List Row). one_of id p.1)) is.2),
+)

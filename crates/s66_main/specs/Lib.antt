@@ -3,6 +3,8 @@ pub mod BlockHead
 pub mod TimeText
 pub mod DepsText
 pub mod ChartText
+pub mod OrderText
+pub mod PlacedAnswers
 pub mod Output
 pub mod Device
 pub mod Outcome

@@ -1,28 +1,47 @@
--- To be believed: what each command writes for what it reads.
-use Rattle.std.specs.Prelude.{ℕ, ◌+◌, List, [], ◌∷◌, ◌++◌, Result, Ok, Err}
-use Rattle.s66_line.specs.declared.error.SourceError.{SourceError}
+-- To be believed: what each command writes for what it reads, and how it ends.
+use Rattle.std.specs.Prelude.{ℕ, ◌+◌, ◌≡◌, ◌≤◌, List, [], ◌∷◌, ◌++◌, Ok}
+use Rattle.s66_ledger.specs.declared.limits.TheConstants.{BUDGET_LIMIT}
 use Rattle.s66_line.specs.Source.{Block, source_of}
 use Rattle.s66_main.specs.declared.command.Command.{Command}
-use Rattle.s66_main.specs.declared.command.Command.TheVariants.{Time, Deps, Chart}
+use Rattle.s66_main.specs.declared.command.Command.TheVariants.{Time, Deps, Chart, Order}
+use Rattle.s66_main.specs.declared.outcome.Status.{Status}
+use Rattle.s66_main.specs.declared.outcome.Status.TheVariants.{Done}
+use Rattle.s66_main.specs.declared.output.Listing.{Listing}
+use Rattle.s66_main.specs.declared.output.Listing.TheVariants as listing
 use Rattle.s66_main.specs.TimeText.{time_lines}
 use Rattle.s66_main.specs.DepsText.{deps_lines}
 use Rattle.s66_main.specs.ChartText.{chart_lines}
+use Rattle.s66_main.specs.OrderText.{IsOrderOutput}
 
--- what a command writes of the n-th block, from 1
-abbrev pub block_lines : Command → ℕ → Block → List ℕ
-block_lines (Time trace) n block = time_lines trace n block
-block_lines Deps n block = deps_lines n block
-block_lines Chart n block = chart_lines n block
+-- the numbers of a command are within their limits
+abbrev pub IsWithin : Command → Type 0
+IsWithin (Time trace) = Unit {0}
+IsWithin Deps = Unit {0}
+IsWithin Chart = Unit {0}
+IsWithin (Order workers nodes trace) = (1 ≤ workers) × (workers ≤ 16) × (nodes ≤ BUDGET_LIMIT)
+
+-- LISTINGS
+
+-- what a listing has of the n-th block, from 1
+abbrev pub block_lines : Listing → ℕ → Block → List ℕ
+block_lines (listing.Times trace) n block = time_lines trace n block
+block_lines listing.Dependences n block = deps_lines n block
+block_lines listing.Chart n block = chart_lines n block
 
 -- of these blocks, before which n blocks stand
-abbrev pub lines_of_blocks : Command → ℕ → List Block → List ℕ
-lines_of_blocks command n [] = []
-lines_of_blocks command n (block ∷ blocks) = block_lines command (n + 1) block ++ lines_of_blocks command (n + 1) blocks
+abbrev pub lines_of_blocks : Listing → ℕ → List Block → List ℕ
+lines_of_blocks l n [] = []
+lines_of_blocks l n (block ∷ blocks) = block_lines l (n + 1) block ++ lines_of_blocks l (n + 1) blocks
 
-abbrev pub unless_refused : Command → Result (List Block) SourceError → Result (List ℕ) SourceError
-unless_refused command (Ok blocks) = Ok (lines_of_blocks command 0 blocks)
-unless_refused command (Err e) = Err e
+-- the listing of the source's blocks
+abbrev pub IsListing : Listing → (input text : List ℕ) → Type 0
+IsListing l input text = (blocks : List Block) × (source_of input ≡ Ok blocks) × (text ≡ lines_of_blocks l 0 blocks)
 
--- what a command writes for a source, or the source's refusal
-abbrev pub output_of : Command → List ℕ → Result (List ℕ) SourceError
-output_of command input = unless_refused command (source_of input)
+-- COMMANDS
+
+-- for this input a command writes the text and ends so
+abbrev pub IsOutput : Command → (input text : List ℕ) → Status → Type 0
+IsOutput (Time trace) input text status = IsListing (listing.Times trace) input text × (status ≡ Done)
+IsOutput Deps input text status = IsListing listing.Dependences input text × (status ≡ Done)
+IsOutput Chart input text status = IsListing listing.Chart input text × (status ≡ Done)
+IsOutput (Order workers nodes trace) input text status = IsOrderOutput nodes trace input text status

@@ -1,29 +1,28 @@
 -- To be believed: what a command leaves of its reader and its writer.
 use Rattle.std.specs.Prelude.{◌≡◌, ◌≢◌, ℕ, List, Result, Ok, Err}
 use Rattle.s66_line.specs.declared.error.SourceError.TheVariants.{OutOfMemory}
+use Rattle.s66_line.specs.Source.{source_of}
 use Rattle.s66_main.specs.declared.command.Command.{Command}
 use Rattle.s66_main.specs.declared.outcome.Fault.{Fault}
 use Rattle.s66_main.specs.declared.outcome.Fault.TheVariants as fault
 use Rattle.s66_main.specs.declared.outcome.Status.{Status}
-use Rattle.s66_main.specs.declared.outcome.Status.TheVariants.{Done}
 use Rattle.s66_main.specs.Device.{IsUntouched, ReadFails, Reader, ReadsAll, WriteFails, Writer, Writes}
-use Rattle.s66_main.specs.Output.{output_of}
+use Rattle.s66_main.specs.Output.{IsOutput}
 
 -- what a command leaves of its reader and its writer, by its result; want of memory is Memory and never Source
 abbrev pub IsOutcome : Command → Reader → Reader → Writer → Writer → Result Status Fault → Type 0
 IsOutcome command reader reader' writer writer' (Ok status) =
-    (status ≡ Done)
-    × ((input : List ℕ) × ReadsAll reader reader' input
-    × ((text : List ℕ) × (output_of command input ≡ Ok text) × Writes writer writer' text))
+    (input : List ℕ) × ReadsAll reader reader' input
+    × ((text : List ℕ) × IsOutput command input text status × Writes writer writer' text)
 IsOutcome command reader reader' writer writer' (Err (fault.Source e)) =
     (e ≢ OutOfMemory)
-    × ((input : List ℕ) × ReadsAll reader reader' input × (output_of command input ≡ Err e))
+    × ((input : List ℕ) × ReadsAll reader reader' input × (source_of input ≡ Err e))
     × IsUntouched writer writer'
 IsOutcome command reader reader' writer writer' (Err fault.Memory) = (reader'.failures ≡ reader.failures) × IsUntouched writer writer'
 IsOutcome command reader reader' writer writer' (Err fault.Read) = ReadFails reader reader' × IsUntouched writer writer'
 IsOutcome command reader reader' writer writer' (Err fault.Write) =
     (input : List ℕ) × ReadsAll reader reader' input
-    × ((text : List ℕ) × (output_of command input ≡ Ok text) × WriteFails writer writer' text)
+    × ((text : List ℕ) × (status : Status) × IsOutput command input text status × WriteFails writer writer' text)
 
 -- why reading to the end fails
 abbrev pub IsReadFault : Reader → Reader → Fault → Type 0

@@ -1,20 +1,34 @@
--- To be believed: the command line, by clap's rules: the subcommands `time`, with the flag `--trace`, `deps` and `chart`, and a version.
-use Rattle.std.specs.Prelude.{◌≡◌, ◌≢◌, ◌⊎◌, ℕ, Bool, List, [], false, true, Option, Some, codes}
+-- To be believed: the command line, by clap's rules: the subcommands `time`, with the flag `--trace`, `deps`, `chart` and
+-- `order`, with the options `--workers` and `--nodes` and the flag `--trace`, and a version.
+use Rattle.std.specs.Prelude.{◌≡◌, ◌≢◌, ◌⊎◌, ◌≤◌, ℕ, Bool, List, [], false, true, Option, Some, codes, option_and_then, pos}
 use Rattle.std.specs.Option.{option_map, option_map_or}
-use Rattle.clap.specs.Words.{App, IsAmong, Rule, Text, app_of, fault_of, new_app, new_rule, subcommand_of, with_rule, with_subcommand}
+use Rattle.std.specs.Str.Parse.{digits_value, without_leading_plus}
+use Rattle.clap.specs.Words.{App, IsAmong, Rule, Text, app_of, fault_of, new_app, new_rule, one_of, rule_of, subcommand_of, with_rule, with_subcommand}
 use Rattle.clap.specs.Takes.{is_given}
 use Rattle.clap.specs.declared.builder.action.ArgAction.TheVariants.{SetTrue}
+use Rattle.clap.specs.declared.builder.arg.Arg.{Arg}
 use Rattle.clap.specs.declared.builder.command.Command.{Command as CommandLine}
 use Rattle.clap.specs.declared.builder.command.Command.TheViews.{out-Command}
+use Rattle.clap.specs.declared.builder.value_parser.ValueParser.TheVariants.{Signed}
 use Rattle.clap.specs.declared.error.kind.ErrorKind.{ErrorKind}
 use Rattle.clap.specs.declared.error.kind.ErrorKind.TheVariants as kind
 use Rattle.s66_main.specs.declared.command.Command.{Command}
-use Rattle.s66_main.specs.declared.command.Command.TheVariants.{Time, Deps, Chart}
+use Rattle.s66_main.specs.declared.command.Command.TheVariants.{Time, Deps, Chart, Order}
 use Rattle.s66_main.specs.declared.usage.Usage.{Usage}
 use Rattle.s66_main.specs.declared.usage.Usage.TheVariants.{Help, Bad, OutOfMemory}
 
 abbrev pub trace_rule : Rule
 trace_rule = record (new_rule (codes "trace")) { long = Some (codes "trace"); action = Some SetTrue }
+
+-- an option whose value is a number from the least to the most
+abbrev pub number_rule : Text → ℕ → ℕ → Rule
+number_rule name least most = record (new_rule name) { long = Some name; value_names = 1; parser = Some (Signed (pos least) (pos most)) }
+
+abbrev pub workers_rule : Rule
+workers_rule = number_rule (codes "workers") 1 16
+
+abbrev pub nodes_rule : Rule
+nodes_rule = number_rule (codes "nodes") 0 1000000
 
 abbrev pub time_app : App
 time_app = with_rule (new_app (codes "time")) trace_rule
@@ -25,10 +39,18 @@ deps_app = new_app (codes "deps")
 abbrev pub chart_app : App
 chart_app = new_app (codes "chart")
 
+abbrev pub order_app : App
+order_app = with_rule (with_rule (with_rule (new_app (codes "order")) workers_rule) nodes_rule) trace_rule
+
 abbrev pub s66_app : App
 s66_app =
-    let a = with_subcommand (with_subcommand (with_subcommand (new_app (codes "s66")) time_app.top) deps_app.top) chart_app.top in
+    let drawing = with_subcommand (with_subcommand (with_subcommand (new_app (codes "s66")) time_app.top) deps_app.top) chart_app.top in
+    let a = with_subcommand drawing order_app.top in
     record a { top = record a.top { subcommand_required = true; has_version = true } }
+
+-- the argument is this one, and not for all subcommands
+abbrev pub IsArgumentOf : Rule → Arg → Type 0
+IsArgumentOf r a = (rule_of a ≡ r) × (a.global ≡ false)
 
 -- the command line is this one, and none of its options is for all subcommands
 abbrev pub IsCommandOf : App → CommandLine → Type 0
@@ -42,12 +64,25 @@ subcommand_name words = option_map (λ s. s.0) (subcommand_of s66_app words)
 abbrev pub has_option : Text → List Text → Bool
 has_option id words = option_map_or (λ s. is_given id s.1) (subcommand_of s66_app words) false
 
+-- the text that the words give the subcommand for this option
+abbrev pub option_text : Text → List Text → Option Text
+option_text id words = option_and_then (λ s. one_of id s.1) (subcommand_of s66_app words)
+
+-- the number that the words give the subcommand for this option, or else the default
+abbrev pub option_number : Text → ℕ → List Text → ℕ
+option_number id default words = option_map_or (λ text. digits_value 10 (without_leading_plus text)) (option_text id words) default
+
 -- the words, of which the first is the program's name, have no fault and ask for the command
 abbrev pub Asks : List Text → Command → Type 0
 Asks words (Time trace) =
     (fault_of s66_app words ≡ []) × (subcommand_name words ≡ Some (codes "time")) × (trace ≡ has_option (codes "trace") words)
 Asks words Deps = (fault_of s66_app words ≡ []) × (subcommand_name words ≡ Some (codes "deps"))
 Asks words Chart = (fault_of s66_app words ≡ []) × (subcommand_name words ≡ Some (codes "chart"))
+Asks words (Order workers nodes trace) =
+    (fault_of s66_app words ≡ []) × (subcommand_name words ≡ Some (codes "order"))
+    × (workers ≡ option_number (codes "workers") 4 words) × (1 ≤ workers) × (workers ≤ 16)
+    × (nodes ≡ option_number (codes "nodes") 100000 words) × (nodes ≤ 1000000)
+    × (trace ≡ has_option (codes "trace") words)
 
 -- a kind of error that is no mistake
 abbrev pub IsHelp : ErrorKind → Type 0

@@ -10,4 +10,13 @@ pub enum Command {
     Deps,
     /// A chart of each block of a source, as it was written.
     Chart,
+    /// Each block of a source in the best order that was found.
+    Order {
+        /// How many workers search, 1 to 16.
+        workers: u8,
+        /// The most splits of a block's search, 0 to 1,000,000.
+        nodes: u32,
+        /// Whether the number of splits is told.
+        trace: bool,
+    },
 }

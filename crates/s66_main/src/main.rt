@@ -8,6 +8,7 @@ mod fields;
 mod limits;
 #[cfg(test)]
 mod line_tests;
+mod order_text;
 mod outcome;
 mod output;
 mod program;

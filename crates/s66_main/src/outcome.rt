@@ -18,6 +18,13 @@ pub enum Status {
     Bounded,
 }
 
+/// What a command writes, and how it ends.
+#[derive(Debug, Drop)]
+pub struct Output {
+    pub text: Vec<u8>,
+    pub status: Status,
+}
+
 impl Status {
     ghost use Rattle.std.specs.Prelude.{◌≡◌};
     ghost use Rattle.s66_main.specs.Outcome.{status_code};

@@ -1,11 +1,12 @@
 ghost use Rattle.std.specs.Prelude.{◌≡◌, ◌-◌, ◌^◌, ◌<◌, length, vec_len, IfOk, IfErr};
 ghost use Rattle.s66_main.specs.Device.{ReadsAll};
+ghost use Rattle.s66_main.specs.Output.{IsWithin};
 ghost use Rattle.s66_main.specs.Run.{IsReadFault, IsOutcome};
 
 use crate::command::Command;
 use crate::limits::{FEED_CALLS, FEED_ROOM};
 use crate::outcome::{Fault, Status};
-use crate::output::text_of;
+use crate::output::output_for;
 use s66_line::{Feed, Sink, SourceError, write_all};
 use std::alloc::{AllocError, Global};
 
@@ -67,6 +68,7 @@ pub fn run_command<R: AllocGlobal, F: Feed, S: Sink>(
     reader: &mut F,
     writer: &mut S,
 ) -> Result<Status, Fault>
+    requires within { IsWithin command }
     requires reads { F.failures reader.old < 2 ^ 64 - 1 }
     requires writes { S.failures writer.old < 2 ^ 64 - 1 }
     ensures { IsOutcome command
@@ -77,13 +79,13 @@ pub fn run_command<R: AllocGlobal, F: Feed, S: Sink>(
 {
     let alloc = rt.alloc();
     let input = read_all(alloc, reader)?;
-    let text = match text_of(alloc, command, input.as_slice()) {
-        Ok(text) => text,
+    let output = match output_for(alloc, command, input.as_slice()) {
+        Ok(output) => output,
         Err(SourceError::OutOfMemory) => return Err(Fault::Memory),
         Err(refusal) => return Err(Fault::Source(refusal)),
     };
-    match write_all(writer, text.as_slice()) {
-        Ok(()) => Ok(Status::Done),
+    match write_all(writer, output.text.as_slice()) {
+        Ok(()) => Ok(output.status),
         Err(_) => Err(Fault::Write),
     }
 }

@@ -1,4 +1,5 @@
 ghost use Rattle.std.specs.Prelude.{◌<◌, ◌-◌, ◌^◌, None, Some};
+ghost use Rattle.s66_main.specs.Output.{IsWithin};
 
 use crate::command::Command;
 use crate::outcome::{Fault, Status};
@@ -43,11 +44,9 @@ fn source_of<R: AllocGlobal>(rt: &R, code: &str) -> Result<String, AllocError> {
 }
 
 /// The result of a command at a source, and what it wrote.
-fn run<R: AllocGlobal>(
-    rt: &R,
-    command: Command,
-    source: &[u8],
-) -> (Result<Status, Fault>, Vec<u8>) {
+fn run<R: AllocGlobal>(rt: &R, command: Command, source: &[u8]) -> (Result<Status, Fault>, Vec<u8>)
+    requires { IsWithin command }
+{
     let mut reader = OverRead::new(source);
     let mut writer = OverWrite::new(Vec::new(rt.alloc()));
     let result = run_command(rt, command, &mut reader, &mut writer);
@@ -61,7 +60,9 @@ fn check_text<R: AllocGlobal + Abort>(
     name: &str,
     source: &[u8],
     text: &str,
-) {
+)
+    requires { IsWithin command }
+{
     let (result, written) = run(rt, command, source);
     assert_eq!(rt; result, Ok(Status::Done), "{name}");
     assert_eq!(rt; written.as_slice(), text.as_bytes(), "{name}");
@@ -86,7 +87,9 @@ fn check_sum<R: AllocGlobal + Abort>(
     source: &[u8],
     length: usize,
     sum: u32,
-) {
+)
+    requires { IsWithin command }
+{
     let (result, written) = run(rt, command, source);
     assert_eq!(rt; result, Ok(Status::Done), "{name}");
     assert_eq!(rt; written.len(), length, "{name}");
@@ -406,6 +409,35 @@ fn reads_words(rt: HostRuntime) -> Result<(), Fail> {
 }
 
 #[test]
+fn reads_words_of_order(rt: HostRuntime) -> Result<(), Fail> {
+    let rows: [(&[&str], u8, u32, bool); 4] = [
+        (&["s66", "order"], 4, 100_000, false),
+        (
+            &["s66", "order", "--workers", "1", "--nodes", "0"],
+            1,
+            0,
+            false,
+        ),
+        (
+            &["s66", "order", "--nodes=1000000", "--workers=16", "--trace"],
+            16,
+            1_000_000,
+            true,
+        ),
+        (&["s66", "order", "--trace"], 4, 100_000, true),
+    ];
+    for (words, workers, nodes, trace) in rows {
+        let order = Command::Order {
+            workers,
+            nodes,
+            trace,
+        };
+        assert_eq!(rt; command_of(rt.alloc(), words)?, order);
+    }
+    Ok(())
+}
+
+#[test]
 fn refuses_words(rt: HostRuntime) -> Result<(), Fail> {
     assert_eq!(rt; usage_code(&rt, &["s66"]), Some(2));
     assert_eq!(rt; usage_code(&rt, &["s66", "time", "--nodes", "5"]), Some(2));
@@ -419,7 +451,16 @@ fn refuses_words(rt: HostRuntime) -> Result<(), Fail> {
     assert_eq!(rt; usage_code(&rt, &["s66", "chart", "--trace"]), Some(2));
     assert_eq!(rt; usage_code(&rt, &["s66", "deps", "extra"]), Some(2));
     assert_eq!(rt; usage_code(&rt, &["s66", "deps", "chart"]), Some(2));
-    for word in ["order", "prove", "check", "nonsense"] {
+    assert_eq!(rt;
+        usage_code(&rt, &["s66", "order", "--workers", "17"]),
+        Some(2)
+    );
+    assert_eq!(rt;
+        usage_code(&rt, &["s66", "order", "--nodes", "1", "--nodes", "1"]),
+        Some(2)
+    );
+    assert_eq!(rt; usage_code(&rt, &["s66", "order", "--nodes"]), Some(2));
+    for word in ["prove", "check", "nonsense"] {
         assert_eq!(rt; usage_code(&rt, &["s66", word]), Some(2), "{word}");
     }
     assert_eq!(rt; usage_code(&rt, &["s66", "--help"]), Some(0));
@@ -427,5 +468,6 @@ fn refuses_words(rt: HostRuntime) -> Result<(), Fail> {
     assert_eq!(rt; usage_code(&rt, &["s66", "time", "--help"]), Some(0));
     assert_eq!(rt; usage_code(&rt, &["s66", "deps", "--help"]), Some(0));
     assert_eq!(rt; usage_code(&rt, &["s66", "chart", "--help"]), Some(0));
+    assert_eq!(rt; usage_code(&rt, &["s66", "order", "--help"]), Some(0));
     Ok(())
 }

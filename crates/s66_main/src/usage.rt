@@ -1,11 +1,13 @@
 ghost use Rattle.std.specs.Prelude.{◌≡◌, IfOk, IfErr, List, map};
 ghost use Rattle.clap.specs.Words.{app_of, kind_of};
-ghost use Rattle.s66_main.specs.Usage.{Asks, IsCommandOf, IsUsageOf, Refuses, chart_app, deps_app, s66_app, time_app};
+ghost use Rattle.s66_main.specs.Usage.{Asks, IsArgumentOf, IsCommandOf, IsUsageOf, Refuses, chart_app, deps_app, nodes_rule, order_app, s66_app, time_app, trace_rule, workers_rule};
 ghost use Rattle.s66_main.specs.declared.usage.Usage.TheVariants.{OutOfMemory};
 
 use crate::command::Command as Asked;
+use crate::limits::{NODES_DEFAULT, WORKERS_DEFAULT, WORKERS_LIMIT};
 use clap::error::ErrorKind;
-use clap::{Arg, ArgAction, Command, Error};
+use clap::{Arg, ArgAction, Command, Error, value_parser};
+use s66_ledger::BUDGET_LIMIT;
 use std::alloc::{AllocError, Global};
 use std::convert::AsStr;
 
@@ -60,13 +62,17 @@ fn usage_of(alloc: Global, error: &Error) -> Usage
     }
 }
 
-/// What the help of a subcommand ends with: an example and the statuses.
+/// What the help of a subcommand ends with: an example, the statuses, and those that it has alone.
 macro_rules! help_ending {
     ($example:literal) => {
+        help_ending!($example, "")
+    };
+    ($example:literal, $own_statuses:literal) => {
         concat!(
             "Example: ",
             $example,
-            "\n\nStatus: 0 done, 2 usage, 3 the source was refused, 4 out of memory, 6 a read or write failed"
+            "\n\nStatus: 0 done, 2 usage, 3 the source was refused, 4 out of memory, 6 a read or write failed",
+            $own_statuses
         )
     };
 }
@@ -77,18 +83,51 @@ const DEPS_ENDING: &str = help_ending!("s66 deps < SOURCE");
 
 const CHART_ENDING: &str = help_ending!("s66 chart < SOURCE");
 
+const ORDER_ENDING: &str = help_ending!(
+    "s66 order --nodes 1000 < SOURCE",
+    ", 7 some block is only bounded"
+);
+
+/// The flag `--trace`.
+fn trace_flag<'a>(alloc: Global, help: &'a str) -> Arg<'a>
+    ensures { IsArgumentOf trace_rule result }
+{
+    Arg::new(alloc, "trace")
+        .long("trace")
+        .help(help)
+        .action(ArgAction::SetTrue)
+}
+
+/// The option `--workers`.
+fn workers_option<'a>(alloc: Global) -> Arg<'a>
+    ensures { IsArgumentOf workers_rule result }
+{
+    Arg::new(alloc, "workers")
+        .long("workers")
+        .value_name("N")
+        .help("How many workers search, 1 to 16 [default: 4]")
+        .value_parser(value_parser!(u8).range(1..=i64::from(WORKERS_LIMIT)))
+}
+
+/// The option `--nodes`.
+fn nodes_option<'a>(alloc: Global) -> Arg<'a>
+    ensures { IsArgumentOf nodes_rule result }
+{
+    Arg::new(alloc, "nodes")
+        .long("nodes")
+        .value_name("N")
+        .help("The most splits of a block's search, 0 to 1000000 [default: 100000]")
+        .value_parser(value_parser!(u32).range(..=i64::from(BUDGET_LIMIT)))
+}
+
 /// The subcommand `time`.
 fn time_command<'a>(alloc: Global) -> Result<Command<'a>, AllocError>
     ensures { IfOk result (IsCommandOf time_app) }
 {
-    let trace = Arg::new(alloc, "trace")
-        .long("trace")
-        .help("Tells each instruction")
-        .action(ArgAction::SetTrue);
     Command::new(alloc, "time")
         .about("Times each block of a source as it was written")
         .after_help(TIME_ENDING)
-        .arg(trace)
+        .arg(trace_flag(alloc, "Tells each instruction"))
 }
 
 /// The subcommand `deps`.
@@ -109,6 +148,18 @@ fn chart_command<'a>(alloc: Global) -> Command<'a>
         .after_help(CHART_ENDING)
 }
 
+/// The subcommand `order`.
+fn order_command<'a>(alloc: Global) -> Result<Command<'a>, AllocError>
+    ensures { IfOk result (IsCommandOf order_app) }
+{
+    Command::new(alloc, "order")
+        .about("Writes each block of a source in the best order that was found")
+        .after_help(ORDER_ENDING)
+        .arg(workers_option(alloc))?
+        .arg(nodes_option(alloc))?
+        .arg(trace_flag(alloc, "Tells the number of splits of each block"))
+}
+
 /// The command line of the program, which usage and help call s66 whatever the program's file is named.
 fn program<'a>(alloc: Global) -> Result<Command<'a>, AllocError>
     ensures { IfOk result (λ c. app_of c ≡ s66_app) }
@@ -116,11 +167,12 @@ fn program<'a>(alloc: Global) -> Result<Command<'a>, AllocError>
     Command::new(alloc, "s66")
         .bin_name("s66")?
         .version(VERSION)
-        .about("Times and draws straight-line blocks of COMPASS code for the CDC 6600")
+        .about("Times, draws and orders straight-line blocks of COMPASS code for the CDC 6600")
         .subcommand_required(true)
         .subcommand(time_command(alloc)?)?
         .subcommand(deps_command(alloc))?
-        .subcommand(chart_command(alloc))
+        .subcommand(chart_command(alloc))?
+        .subcommand(order_command(alloc)?)
 }
 
 /// The command that the words give, of which the first is the program's name.
@@ -138,6 +190,11 @@ pub fn command_of<'a, S: AsStr>(alloc: Global, words: &'a [S]) -> Result<Asked, 
         }),
         Some(("deps", _)) => Ok(Asked::Deps),
         Some(("chart", _)) => Ok(Asked::Chart),
+        Some(("order", order)) => Ok(Asked::Order {
+            workers: order.get_one("workers").unwrap_or(WORKERS_DEFAULT),
+            nodes: order.get_one("nodes").unwrap_or(NODES_DEFAULT),
+            trace: order.get_flag("trace"),
+        }),
         _ => unreachable!(),
     }
 }

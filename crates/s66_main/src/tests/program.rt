@@ -70,6 +70,23 @@ fn tells_usage(rt: HostRuntime) {
 }
 
 #[test]
+fn refuses_usage(rt: HostRuntime) {
+    let rows: [&[&str]; 5] = [
+        &["s66", "order", "--workers", "0"],
+        &["s66", "order", "--nodes", "1000001"],
+        &["s66", "order", "--nodes", "x"],
+        &["s66", "time", "--nodes", "5"],
+        &["s66"],
+    ];
+    for words in rows {
+        let (status, written, told) = run_words(&rt, words, b"  SA1 *+2\n");
+        assert_eq!(rt; status, 2);
+        assert!(rt; written.is_empty());
+        assert!(rt; !told.is_empty());
+    }
+}
+
+#[test]
 fn shows_version(rt: HostRuntime) {
     let (status, written, told) = run_words(&rt, &["a/b", "--version"], b"  SA1 *+2\n");
     assert_eq!(rt; status, 0);

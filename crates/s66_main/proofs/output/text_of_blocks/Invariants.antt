@@ -3,4 +3,4 @@ use Rattle.s66_main.specs.Output.{lines_of_blocks}
 use Rattle.s66_main.proofs.output.text_of_blocks.Given as goal
 
 abbrev pub invariant-loop-i : goal.invariant-loop-i
-invariant-loop-i l = l.out.items ++ lines_of_blocks l.command l.i (drop l.i l.blocks) ≡ lines_of_blocks l.command 0 l.blocks
+invariant-loop-i l = l.out.items ++ lines_of_blocks l.listing l.i (drop l.i l.blocks) ≡ lines_of_blocks l.listing 0 l.blocks

@@ -10,4 +10,5 @@ returns c =
     let wants = wants-subcommand _ c.about.result c.subcommand_required.result told c.subcommand_required.ensures in
     let with-time = with-subcommand _ _ _ _ _ wants c.in_ok-time_command.ensures c.in_ok-subcommand.ensures in
     let with-deps = with-subcommand _ _ _ _ _ with-time c.deps_command.ensures c.in_ok-subcommand-2.ensures in
-    IfOk-weaker c.subcommand-3.result _ _ (λ r adds. (with-subcommand _ _ _ _ _ with-deps c.chart_command.ensures adds).0) c.subcommand-3.ensures
+    let with-chart = with-subcommand _ _ _ _ _ with-deps c.chart_command.ensures c.in_ok-subcommand-3.ensures in
+    IfOk-weaker c.subcommand-4.result _ _ (λ r adds. (with-subcommand _ _ _ _ _ with-chart c.in_ok-order_command.ensures adds).0) c.subcommand-4.ensures

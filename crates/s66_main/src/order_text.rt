@@ -1,0 +1,127 @@
+ghost use Rattle.std.specs.Prelude.{◌≡◌, ◌≤◌, if◌then◌else◌, IfOk, length};
+ghost use Rattle.s66_ledger.specs.declared.limits.TheConstants.{BUDGET_LIMIT};
+ghost use Rattle.s66_line.specs.declared.limits.TheConstants.{BLOCK_LIMIT};
+ghost use Rattle.s66_main.specs.declared.outcome.Status.TheVariants.{Done, Bounded};
+ghost use Rattle.s66_main.specs.OrderText.{IsOrderOutput};
+ghost use Rattle.s66_main.specs.PlacedAnswers.{AreAllPlaced, IsPlaced, tell_best};
+
+use crate::outcome::{Output, Status};
+use arrayvec::ArrayVec;
+use s66_dep::Order;
+use s66_isa::Profile;
+use s66_ledger::Ledger;
+use s66_line::{BLOCK_LIMIT, Block, Placed, Source, print_source};
+use s66_time::time_of;
+use std::alloc::{AllocError, Global};
+use std::marker::Model;
+
+/// What is printed of an answer, without its tree.
+#[derive(Debug, Drop)]
+struct Found {
+    order: ArrayVec<u8, BLOCK_LIMIT>,
+    source: u32,
+    time: u32,
+    bound: u32,
+    splits: Option<u32>,
+}
+
+impl Model for Found {
+    ghost use Rattle.s66_line.specs.Printed.{Placed};
+
+    ghost Value = { Placed };
+
+    ghost view = { λ f. record { order = f.order.items; source = f.source; time = f.time; bound = f.bound; splits = f.splits } };
+}
+
+/// The same numbers.
+fn copy_of(numbers: &[u8]) -> ArrayVec<u8, BLOCK_LIMIT>
+    requires { length numbers.now ≤ BLOCK_LIMIT }
+    ensures { result.items ≡ numbers.now }
+{
+    let mut copy = ArrayVec::new();
+    for number in numbers {
+        copy.push(*number);
+    }
+    copy
+}
+
+/// Searches the orders of a block.
+fn search(alloc: Global, block: &Block, nodes: u32, trace: bool) -> Result<Found, AllocError>
+    requires { nodes ≤ BUDGET_LIMIT }
+    ensures { IfOk result (λ found. IsPlaced nodes trace block.now found) }
+{
+    let profile = Profile::standard();
+    let source = time_of(block, &profile, &Order::source(block)).total();
+    let answer = Ledger::new(alloc, block, &profile, nodes, 1)?.finish(alloc)?;
+    Ok(Found {
+        order: copy_of(answer.order().numbers()),
+        source,
+        time: answer.time(),
+        bound: answer.bound(),
+        splits: if trace { Some(answer.splits()) } else { None },
+    })
+}
+
+/// Searches the orders of each block.
+fn search_all(
+    alloc: Global,
+    blocks: &[Block],
+    nodes: u32,
+    trace: bool,
+) -> Result<Vec<Found>, AllocError>
+    requires { nodes ≤ BUDGET_LIMIT }
+    ensures { IfOk result (λ found. AreAllPlaced nodes trace blocks.now found.items) }
+{
+    let mut found = Vec::new(alloc);
+    for block in blocks {
+        found.push(search(alloc, block, nodes, trace)?)?;
+    }
+    Ok(found)
+}
+
+/// Done where each order is best.
+fn status_of(found: &[Found]) -> Status
+    ensures { result ≡ (if tell_best found.now then Done else Bounded) }
+{
+    for answer in found {
+        if answer.bound != answer.time {
+            return Status::Bounded;
+        }
+    }
+    Status::Done
+}
+
+/// How the blocks are to be printed.
+fn placed_of<'a>(alloc: Global, found: &'a [Found]) -> Result<Vec<Placed<'a>>, AllocError>
+    ensures { IfOk result (λ placed. placed.items ≡ found.now) }
+{
+    let mut placed = Vec::new(alloc);
+    for answer in found {
+        placed.push(Placed {
+            order: answer.order.as_slice(),
+            source: answer.source,
+            time: answer.time,
+            bound: answer.bound,
+            splits: answer.splits,
+        })?;
+    }
+    Ok(placed)
+}
+
+/// A source with each block in the best order that a search of at most so many splits finds.
+pub fn order_output(
+    alloc: Global,
+    source: &Source,
+    nodes: u32,
+    trace: bool,
+) -> Result<Output, AllocError>
+    requires { nodes ≤ BUDGET_LIMIT }
+    ensures { IfOk result (λ output. IsOrderOutput nodes trace source.now output.text.items output.status) }
+{
+    let found = search_all(alloc, source.blocks(), nodes, trace)?;
+    let placed = placed_of(alloc, found.as_slice())?;
+    Ok(Output {
+        text: print_source(alloc, source, placed.as_slice())?,
+        status: status_of(found.as_slice()),
+    })
+}
