@@ -14,7 +14,7 @@ abbrev pub is_no_blank : ℕ → Bool
 is_no_blank b = not (is_blank b)
 
 -- the first byte isn't blank, and so on
-filled-parts : (b : ℕ) (bytes : List ℕ) → every is_no_blank (b ∷ bytes) ≡ true → (is_blank b ≡ false) × (every is_no_blank bytes ≡ true)
+pub filled-parts : (b : ℕ) (bytes : List ℕ) → every is_no_blank (b ∷ bytes) ≡ true → (is_blank b ≡ false) × (every is_no_blank bytes ≡ true)
 filled-parts b bytes h =
     let both = and_parts (is_no_blank b) (every is_no_blank bytes) h in
     (not-true (is_blank b) both.0, both.1)
@@ -25,7 +25,7 @@ word-alone (b ∷ bytes) h =
     let parts = filled-parts b bytes h in
     rw parts.0 (ap (λ w. b ∷ w) (word-alone bytes parts.1))
 
-word-before : (bytes more : List ℕ) → every is_no_blank bytes ≡ true → word (bytes ++ 32 ∷ more) ≡ bytes
+pub word-before : (bytes more : List ℕ) → every is_no_blank bytes ≡ true → word (bytes ++ 32 ∷ more) ≡ bytes
 word-before [] more h = refl
 word-before (b ∷ bytes) more h =
     let parts = filled-parts b bytes h in
@@ -37,7 +37,7 @@ after-alone (b ∷ bytes) h =
     let parts = filled-parts b bytes h in
     rw parts.0 (after-alone bytes parts.1)
 
-after-before : (bytes more : List ℕ) → every is_no_blank bytes ≡ true → after_word (bytes ++ 32 ∷ more) ≡ 32 ∷ more
+pub after-before : (bytes more : List ℕ) → every is_no_blank bytes ≡ true → after_word (bytes ++ 32 ∷ more) ≡ 32 ∷ more
 after-before [] more h = refl
 after-before (b ∷ bytes) more h =
     let parts = filled-parts b bytes h in

@@ -22,3 +22,8 @@ pub mod PadsLaw
 pub mod PlacedBlocks
 pub mod PrintedLines
 pub mod ReadBack
+pub mod NoReturns
+pub mod ReadLine
+pub mod ReadComments
+pub mod ReadBlock
+pub mod ReadAgain

@@ -163,7 +163,7 @@ spelling-none operation (b ∷ operand) h = absurd (omega (arith, h))
 
 -- THE END OF A LINE
 
-every-push : (test : ℕ → Bool) (bytes : List ℕ) (b : ℕ) → every test (bytes ++ b ∷ []) ≡ (every test bytes && test b)
+pub every-push : (test : ℕ → Bool) (bytes : List ℕ) (b : ℕ) → every test (bytes ++ b ∷ []) ≡ (every test bytes && test b)
 every-push test [] b = and-true (test b)
 every-push test (a ∷ bytes) b =
     elim (test a) as (λ t. (t && every test (bytes ++ b ∷ [])) ≡ ((t && every test bytes) && test b))

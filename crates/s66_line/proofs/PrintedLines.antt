@@ -261,7 +261,7 @@ pad-copied all l located told none = rw (told, none) refl
 instruction-kept : (all : List Line) (l : Line) (located : Bool) (n : Instr) → l.class ≡ Instruction located n → is_dropped all l ≡ false
 instruction-kept all l located n told = rw told refl
 
-instruction-not_copied : (all : List Line) (l : Line) (located : Bool) (n : Instr) → l.class ≡ Instruction located n → copied_text all l ≡ []
+pub instruction-not_copied : (all : List Line) (l : Line) (located : Bool) (n : Instr) → l.class ≡ Instruction located n → copied_text all l ≡ []
 instruction-not_copied all l located n told = rw told refl
 
 no-note-of_code : (l : Line) (block : Block) → is_comment_class l.class ≡ false → is_note_of l block ≡ false
@@ -610,7 +610,7 @@ closed-pad all lines l located false told here closes before ended parts ps coun
     closed-copied all lines l (rw told refl) (pad-kept all l located told here) closes before ended parts ps count run n at closed (pad-copied all l located told here)
 
 -- the first instruction of a block
-text-first : (all : List Line) (n : ℕ) (block : Block) (blocks : List Block) (p : Placed) (ps : List Placed) (l : Line) (lines : List Line) → line_of block 1 ≡ l.number →
+pub text-first : (all : List Line) (n : ℕ) (block : Block) (blocks : List Block) (p : Placed) (ps : List Placed) (l : Line) (lines : List Line) → line_of block 1 ≡ l.number →
     text_of_lines all n (block ∷ blocks) (p ∷ ps) (l ∷ lines) ≡ block_text all n block p ++ text_of_lines all (suc n) blocks ps lines
 text-first all n block blocks p ps l lines same = rw (eq-eqb (line_of block 1) l.number same) refl
 
@@ -725,7 +725,7 @@ one-run ([] ∷ parts) some same = absurd (omega (arith, some [] (inl refl)))
 one-run ((a ∷ more) ∷ parts) some same =
     (each-run a.run more (λ m among. same (a ∷ more) (inl refl) m a (inr among) (inl refl)), one-run parts (λ part among. some part (inr among)) (λ part among. same part (inr among)))
 
-same-blocks : (found blocks : List Block) (read : Result (List Block) SourceError) → read ≡ Ok found → read ≡ Ok blocks → found ≡ blocks
+pub same-blocks : (found blocks : List Block) (read : Result (List Block) SourceError) → read ≡ Ok found → read ≡ Ok blocks → found ≡ blocks
 same-blocks found blocks read h g = cc
 
 pub accepted-is : (text : List ℕ) (blocks : List Block) → source_of text ≡ Ok blocks → blocks_of (classed_lines text) ≡ blocks

@@ -14,11 +14,11 @@ first-passes : (t : Bool) (test : ℕ → Bool) (bytes : List ℕ) → (every te
 first-passes true test bytes later h = later h
 first-passes false test bytes later h = refl
 
-every-trim : (test : ℕ → Bool) (bytes : List ℕ) → every test bytes ≡ false → every test (trim test bytes) ≡ false
+pub every-trim : (test : ℕ → Bool) (bytes : List ℕ) → every test bytes ≡ false → every test (trim test bytes) ≡ false
 every-trim test [] h = cc
 every-trim test (b ∷ bytes) h = rw h (first-passes (test b) test bytes (every-trim test bytes) h)
 
-trim-kept : (test : ℕ → Bool) (b : ℕ) (bytes : List ℕ) → every test (b ∷ bytes) ≡ false → trim test (b ∷ bytes) ≡ b ∷ trim test bytes
+pub trim-kept : (test : ℕ → Bool) (b : ℕ) (bytes : List ℕ) → every test (b ∷ bytes) ≡ false → trim test (b ∷ bytes) ≡ b ∷ trim test bytes
 trim-kept test b bytes h = rw h refl
 
 trim-by : (t : Bool) (test : ℕ → Bool) (b : ℕ) (bytes : List ℕ) → every test (b ∷ bytes) ≡ t → trim test (trim test bytes) ≡ trim test bytes →
@@ -32,7 +32,7 @@ pub trim-twice : (test : ℕ → Bool) (bytes : List ℕ) → trim test (trim te
 trim-twice test [] = refl
 trim-twice test (b ∷ bytes) = trim-by (every test (b ∷ bytes)) test b bytes refl (trim-twice test bytes)
 
-abbrev class_of_body : Bool → List ℕ → Class
+abbrev pub class_of_body : Bool → List ℕ → Class
 class_of_body after line =
     if is_comment line then Comment
     else (if continues line then (if after then Refused else Other) else by_operation (is_located line) (upper (operation line)) (upper (operand line)))

@@ -18,14 +18,14 @@ use Rattle.s66_line.specs.declared.error.SourceError.{SourceError}
 use Rattle.s66_line.specs.declared.error.SourceError.TheVariants.{LineTooLong, TooLarge, OutOfMemory}
 
 -- the lines from one on, of this class
-abbrev from_class : ℕ → ℕ → ℕ → List ℕ → Class → List ℕ → List (List ℕ) → List Line
+abbrev pub from_class : ℕ → ℕ → ℕ → List ℕ → Class → List ℕ → List (List ℕ) → List Line
 from_class number run index run_label c line lines =
     record { number = number; bytes = line; class = c; run = run_at run c; index = place_at index c; label = label_at run_label c line }
     ∷ classes_from (suc number) (run_after run c) (place_after index c) (label_after run_label c line) (is_code c) lines
 
 -- THE FIRST BLOCK of the lines to come begins there
 
-abbrev Begins : List (List Line) → Type 0
+abbrev pub Begins : List (List Line) → Type 0
 Begins [] = Unit {0}
 Begins ([] ∷ parts) = ⊥
 Begins ((l ∷ more) ∷ parts) = begins_block l ≡ true
@@ -36,7 +36,7 @@ Begins-put l ([] ∷ parts) h = h
 Begins-put l ((next ∷ more) ∷ parts) h =
     elim (begins_block next) as (λ t. Begins (if t then (l ∷ []) ∷ (next ∷ more) ∷ parts else (l ∷ next ∷ more) ∷ parts)) [ true ↦ h | false ↦ h ]
 
-abbrev Fresh : List (List ℕ) → Type 0
+abbrev pub Fresh : List (List ℕ) → Type 0
 Fresh lines = (number run index : ℕ) (run_label : List ℕ) (after : Bool) → index % BLOCK_LIMIT ≡ 0 → Begins (parts_of (instructions (classes_from number run index run_label after lines)))
 
 fresh-class : (c : Class) (number run index : ℕ) (run_label line : List ℕ) (lines : List (List ℕ)) → Fresh lines → index % BLOCK_LIMIT ≡ 0 →
@@ -53,13 +53,13 @@ fresh-class (Instruction false n) number run index run_label line lines ih h =
     Begins-put (record { number = number; bytes = line; class = Instruction false n; run = run; index = index; label = run_label })
     (parts_of (instructions (classes_from (suc number) run (suc index) run_label true lines))) (eq-eqb (index % BLOCK_LIMIT) 0 h)
 
-fresh : (lines : List (List ℕ)) → Fresh lines
+pub fresh : (lines : List (List ℕ)) → Fresh lines
 fresh [] number run index run_label after h = tt
 fresh (line ∷ lines) number run index run_label after h = fresh-class (class_of after line) number run index run_label line lines (fresh lines) h
 
 -- THE OPEN BLOCK, and the lines to come
 
-abbrev labelled : List ℕ → List Entry → Block
+abbrev pub labelled : List ℕ → List Entry → Block
 labelled label entries = record { label = label; entries = entries }
 
 -- the open block goes on with the first part, or ends before it
@@ -136,15 +136,15 @@ class_answer blocks label entries count run index run_label c line lines =
     unless_refused (or_else (operand_refusal (suc count) c) (refusal (classes_from (suc (suc count)) (run_after run c) (place_after index c) (label_after run_label c line) (is_code c) lines)))
     (blocks ++ resumed label entries (parts_of (instructions (from_class (suc count) run index run_label c line lines))))
 
-next-index : (index n : ℕ) → index % BLOCK_LIMIT ≡ n → (suc n ≡ BLOCK_LIMIT → ⊥) → suc index % BLOCK_LIMIT ≡ suc n
+pub next-index : (index n : ℕ) → index % BLOCK_LIMIT ≡ n → (suc n ≡ BLOCK_LIMIT → ⊥) → suc index % BLOCK_LIMIT ≡ suc n
 next-index index n h more =
     let below : index % BLOCK_LIMIT < BLOCK_LIMIT = mod_below index BLOCK_LIMIT (omega arith) in
     suc-mod index BLOCK_LIMIT ∙ rw h (mod-eq_of_lt (omega (arith, h, below, more)))
 
-full-index : (index n : ℕ) → index % BLOCK_LIMIT ≡ n → suc n ≡ BLOCK_LIMIT → suc index % BLOCK_LIMIT ≡ 0
+pub full-index : (index n : ℕ) → index % BLOCK_LIMIT ≡ n → suc n ≡ BLOCK_LIMIT → suc index % BLOCK_LIMIT ≡ 0
 full-index index n h full = suc-mod index BLOCK_LIMIT ∙ rw (h, full) refl
 
-length-push : (entries : List Entry) (e : Entry) → length (entries ++ e ∷ []) ≡ suc (length entries)
+pub length-push : (entries : List Entry) (e : Entry) → length (entries ++ e ∷ []) ≡ suc (length entries)
 length-push [] e = refl
 length-push (a ∷ entries) e = ap suc (length-push entries e)
 
@@ -242,7 +242,7 @@ read-line true many c line lines ih blocks label entries count run index run_lab
 read-line false true c line lines ih blocks label entries count run index run_label after h left = refl
 read-line false false c line lines ih blocks label entries count run index run_label after h left = read-class c line lines ih blocks label entries count run index run_label after h left
 
-then-then : {A B C : Type 0} (r : Result A SourceError) (f : A → Result B SourceError) (g : B → Result C SourceError) → and_then (and_then r f) g ≡ and_then r (λ x. and_then (f x) g)
+pub then-then : {A B C : Type 0} (r : Result A SourceError) (f : A → Result B SourceError) (g : B → Result C SourceError) → and_then (and_then r f) g ≡ and_then r (λ x. and_then (f x) g)
 then-then (Ok x) f g = refl
 then-then (Err e) f g = refl
 

@@ -8,7 +8,7 @@ use Rattle.s66_line.proofs.LineCuts.{lines_from-here, lines_from-later}
 use Rattle.s66_line.proofs.LineFields.{from_location-yes, from_location-no, label-yes, label-no}
 use Rattle.s66_line.proofs.InstructionTexts.{is_no_blank, no_blank-word}
 
-every-append : (test : ℕ → Bool) (xs ys : List ℕ) → every test xs ≡ true → every test ys ≡ true → every test (xs ++ ys) ≡ true
+pub every-append : (test : ℕ → Bool) (xs ys : List ℕ) → every test xs ≡ true → every test ys ≡ true → every test (xs ++ ys) ≡ true
 every-append test [] ys h k = k
 every-append test (x ∷ xs) ys h k =
     let both = and_parts (test x) (every test xs) h in
@@ -16,7 +16,7 @@ every-append test (x ∷ xs) ys h k =
 
 -- LINES
 
-abbrev is_inside : ℕ → Bool
+abbrev pub is_inside : ℕ → Bool
 is_inside b = not (is_newline b)
 
 abbrev AreInside : List (List ℕ) → Type 0

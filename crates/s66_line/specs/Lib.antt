@@ -9,6 +9,7 @@ pub mod InstructionText
 pub mod Block
 pub mod Roles
 pub mod Printed
+pub mod ReadAgain
 pub mod Gives
 pub mod Pads
 pub mod Printer

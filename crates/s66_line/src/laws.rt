@@ -2,6 +2,7 @@ ghost use Rattle.std.specs.Prelude.{◌≡◌, ◌≤◌, ℕ, List, ◌∷◌, 
 ghost use Rattle.std.specs.List.{filter};
 ghost use Rattle.s66_isa.specs.declared.instr.Instr.{Instr};
 ghost use Rattle.s66_isa.specs.declared.reg.Bank.{Bank};
+ghost use Rattle.s66_isa.specs.Table.{instr};
 ghost use Rattle.s66_isa.specs.Lists.{Among, tally, every, rising};
 ghost use Rattle.s66_line.specs.Fields.{is_blank, is_newline, upper_byte, upper, body, lines_of, AreLines, HasFields};
 ghost use Rattle.s66_line.specs.InstructionText.{IsInstruction};
@@ -10,7 +11,8 @@ ghost use Rattle.s66_line.specs.Spelling.{CanMean, spellings, all_codes, upper_r
 ghost use Rattle.s66_line.specs.Source.{Line, Block, class_of, classed_lines, instructions, is_instruction, parts_of, blocks_of, source_of};
 ghost use Rattle.s66_line.specs.Block.{constants_in};
 ghost use Rattle.s66_line.specs.Parts.{AreParts};
-ghost use Rattle.s66_line.specs.Printed.{Placed, label_field, printed};
+ghost use Rattle.s66_line.specs.Printed.{Placed, ArePlaced, label_field, printed};
+ghost use Rattle.s66_line.specs.ReadAgain.{AreComplete, ArePlacedAgain};
 ghost use Rattle.s66_line.specs.Roles.{is_note, is_note_of, is_dropped, is_copied, roles, lines_that, mixed_source, outside_source};
 
 /// A text is its lines with their newlines, and a line its fields with blanks between, and a remark: nothing is lost.
@@ -71,6 +73,12 @@ pub fn line_law()
 pub fn copied_law()
     ensures cut { (line text : List ℕ) → every (λ b. not (is_newline b)) line ≡ true → lines_of (line ++ codes "\n" ++ text) ≡ line ∷ lines_of text }
     ensures class { (after : Bool) (line : List ℕ) → class_of after (body line) ≡ class_of after line }
+{}
+
+/// Where a printed source is accepted when it is read again, its blocks are those of the source, each in its placed order. It
+/// is refused where a line or the source has grown too long.
+pub fn read_again_law()
+    ensures { (text : List ℕ) (blocks again : List Block) (ps : List Placed) → source_of text ≡ Ok blocks → ArePlaced blocks ps → AreComplete blocks ps → source_of (printed text ps) ≡ Ok again → ArePlacedAgain blocks ps again }
 {}
 
 /// What becomes of the lines of a small source, and of comments and a `NO` outside of blocks.
@@ -157,4 +165,13 @@ pub fn printed_examples()
         codes "          SA1    A1+B1   NEXT WORD\n" }
     ensures long_label { label_field (codes " ABCDEFGHI") ≡ codes " ABCDEFGHI " }
     ensures short_label { label_field (codes "ABCDEFGHI") ≡ codes "ABCDEFGHI " }
+{}
+
+/// A source printed with the instructions of its first block exchanged, and read again: the label of a `NO` that was left out
+/// is that of the block, and the bytes are those of the lines, with their remarks, but for what ends them.
+#[tactic(auto, unfolding(crate::specs::Printed::digits))]
+pub fn read_again_examples()
+    ensures { source_of (printed (codes " LP NO\n  SA1 A1+B1  NEXT\r\n* NOTE\n  bx6 x2 \r\r\n  ZR X1,LP\n\tFX0 X1*X2\n") (record { order = 2 ∷ 1 ∷ []; source = 9; time = 8; bound = 7; splits = Some 3 } ∷ record { order = 1 ∷ []; source = 4; time = 4; bound = 4; splits = None } ∷ [])) ≡
+        Ok (record { label = codes " LP"; entries = record { instr = instr 0o10 6 2 0; line = 4; bytes = codes "bx6 x2" } ∷ record { instr = instr 0o54 1 1 1; line = 5; bytes = codes "SA1 A1+B1  NEXT" } ∷ [] }
+        ∷ record { label = []; entries = record { instr = instr 0o40 0 1 2; line = 8; bytes = codes "FX0 X1*X2" } ∷ [] } ∷ []) }
 {}

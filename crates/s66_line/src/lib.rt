@@ -25,8 +25,8 @@ pub use error::SourceError;
 pub use instruction_text::is_instruction;
 pub use laws::{
     byte_examples, case_law, code_law, constant_examples, copied_law, instruction_examples,
-    line_examples, line_law, operation_law, parts_law, printed_examples, set_form_law, term_law,
-    whole_law,
+    line_examples, line_law, operation_law, parts_law, printed_examples, read_again_examples,
+    read_again_law, set_form_law, term_law, whole_law,
 };
 pub use limits::{BLOCK_LIMIT, LINE_LIMIT, SOURCE_LIMIT, TEXT_LIMIT};
 pub use placed::Placed;
