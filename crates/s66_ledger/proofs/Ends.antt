@@ -1,15 +1,13 @@
 -- A ledger that some events lead to its end: that it has ended, and what its answer is then.
-use Rattle.std.proofs.Common.{ℕ, ◌≤◌, ◌≡◌, ◌≢◌, ◌⊎◌, true, List, [], ◌∷◌, ◌++◌, length, refl, sym, ap, arith, inl, inr, ◌∙◌, subst}
+use Rattle.std.proofs.Common.{ℕ, ◌≤◌, ◌≡◌, ◌≢◌, true, List, [], ◌∷◌, ◌++◌, length, refl, sym, ap, arith, inl, inr, ◌∙◌, subst}
 use Rattle.std.proofs.lemmas.Bool.{cases_eq}
 use Rattle.s66_isa.specs.Lists.{Among}
 use Rattle.s66_model.specs.Timing.{Problem}
-use Rattle.s66_model.specs.LegalOrder.{IsBeginning, IsComplete, IsIncomplete}
-use Rattle.s66_model.specs.Answer.{IsAnswer}
-use Rattle.s66_model.specs.Ledger.{Ledger, Node, Open, Out, Cut, Closed, State, Event, Reply, Run, is_open, is_open_state, is_live, is_live_state, best_time}
+use Rattle.s66_model.specs.LegalOrder.{IsBeginning}
+use Rattle.s66_model.specs.Ledger.{Node, Open, Out, Cut, Closed, State, is_open_state, is_live_state, best_time}
 use Rattle.s66_model.specs.Leaves.{floor_value}
 use Rattle.s66_model.specs.Coverage.{Covers, NodesHold, IsFinished, bound_of}
 use Rattle.s66_model.specs.Reached.{IsReached}
-use Rattle.s66_model.specs.Recorded.{IsOfferOf}
 use Rattle.s66_model.specs.Ended.{IsEnded, ended_answer}
 use Rattle.s66_dep.proofs.Fronts.{beginning-few}
 use Rattle.s66_model.proofs.LedgerRuns.{run-falls}
@@ -17,9 +15,9 @@ use Rattle.s66_model.proofs.Histories.{run-join, reached-covers}
 use Rattle.s66_model.proofs.EndedLedgers.{ended-finishes}
 use Rattle.s66_time.specs.TimedOrder.{TimedOrder}
 use Rattle.s66_ledger.specs.declared.node.Node as declared
-use Rattle.s66_ledger.specs.Kept.{LedgerOf, IsEvent, IsKept, state_of, ledger_of}
+use Rattle.s66_ledger.specs.Kept.{LedgerOf, IsKept, state_of, ledger_of}
 use Rattle.s66_ledger.specs.Answers.{IsKeptAnswer, ended_of}
-use Rattle.s66_ledger.specs.Finishing.{Leads, NoneOut, IsSearched, WholesAreTimed}
+use Rattle.s66_ledger.specs.Finishing.{Leads, IsSearched, WholesAreTimed}
 use Rattle.s66_ledger.proofs.Leading.{leads-on}
 
 -- WHAT LEADS

@@ -1,5 +1,5 @@
 -- Each round of a search has less to go, and where it stops no open node's floor is below the best time or the budget is spent.
-use Rattle.std.proofs.Common.{ℕ, suc, ◌+◌, ◌-◌, ◌≤◌, ◌<◌, ◌≡◌, ◌⊎◌, true, cond, List, [], ◌∷◌, refl, sym, ap, arith, subst, ◌∙◌, inl, inr, Option, Some, None}
+use Rattle.std.proofs.Common.{ℕ, suc, ◌+◌, ◌≤◌, ◌<◌, ◌≡◌, ◌⊎◌, true, cond, List, [], ◌∷◌, refl, sym, ap, arith, subst, ◌∙◌, inl, inr, Option, Some, None}
 use Rattle.s66_isa.specs.Lists.{tally, Among}
 use Rattle.s66_model.specs.Timing.{Problem, total_of}
 use Rattle.s66_model.specs.Leaves.{Whole, value, floor_value}

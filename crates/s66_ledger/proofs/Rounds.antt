@@ -8,7 +8,7 @@ use Rattle.s66_model.specs.Timing.{Problem}
 use Rattle.s66_model.specs.Leaves.{value}
 use Rattle.s66_model.specs.Tree.{Tree, Alone, Parted, Kids, NoMore, Unsplit, Split, splits}
 use Rattle.s66_model.specs.Piece.{Tip, Carries, Frontier}
-use Rattle.s66_model.specs.Ledger.{Ledger, Node, State, Open, Out, Cut, Closed, Event, Grant, Claim, Graft, Back, Reply, Granted, Claimed, Taken, Returned, no_node, node_at, with_state, best_time, allowance, share_of, state_of, root_state, kid_nodes, new_nodes, after_offer, after_graft, Run}
+use Rattle.s66_model.specs.Ledger.{Ledger, Node, State, Open, Out, Cut, Closed, Grant, Claim, Graft, Back, Granted, Claimed, Taken, Returned, no_node, node_at, with_state, best_time, allowance, share_of, state_of, root_state, kid_nodes, new_nodes, after_offer, after_graft}
 use Rattle.s66_model.specs.Coverage.{Covers}
 use Rattle.s66_node.specs.Pieces.{PieceOf, tree_of}
 use Rattle.s66_ledger.specs.Handed.{TicketOf}

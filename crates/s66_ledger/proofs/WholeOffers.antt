@@ -1,5 +1,5 @@
 -- A ledger's whole orders are offered, one after the other, until none that is below the best is open or out.
-use Rattle.std.proofs.Common.{ℕ, ◌+◌, ◌-◌, ◌≤◌, ◌<◌, ◌≡◌, ◌≢◌, Bool, true, false, true≢false, List, [], length, get_or, refl, sym, ap, arith, inl, inr, subst, ◌∙◌}
+use Rattle.std.proofs.Common.{ℕ, ◌+◌, ◌≤◌, ◌<◌, ◌≡◌, ◌≢◌, Bool, true, true≢false, List, [], length, get_or, refl, sym, ap, arith, inl, inr, subst, ◌∙◌}
 use Rattle.std.proofs.lemmas.Bool.{cases_eq}
 use Rattle.s66_isa.specs.declared.instr.Instr.{Instr}
 use Rattle.s66_isa.proofs.Lists.{cases_le}
@@ -24,7 +24,7 @@ use Rattle.s66_ledger.specs.declared.node.State.{State}
 use Rattle.s66_ledger.specs.declared.node.State.TheVariants as state
 use Rattle.s66_ledger.specs.Replies.{offered_reply}
 use Rattle.s66_ledger.proofs.SeenNodes.{at-nodes}
-use Rattle.s66_ledger.proofs.Leading.{each-among, leads-nowhere, event-leads, leads-fall}
+use Rattle.s66_ledger.proofs.Leading.{each-among, event-leads, leads-fall}
 
 timed-still : (b : Problem) (old new : Ledger) (i : ℕ) → new.nodes ≡ old.nodes → best_time b new ≤ best_time b old → IsTimedAt b old i → IsTimedAt b new i
 timed-still b old new i same le timed =
@@ -43,10 +43,6 @@ timed-next old new i h before j lt =
 
 pub all-timed : (b : Problem) (l : Ledger) → ((i : ℕ) → i < length l.nodes → IsTimedAt b l i) → WholesAreTimed b l
 all-timed b l h = each-among (λ (n : model.Node). is_live n ≡ true → IsComplete b.block n.prefix → best_time b l ≤ floor_value b n.prefix) model.no_node l.nodes h
-
--- nothing is offered
-pub timed-already : (l : LedgerOf) (i : ℕ) → IsTimedAt l.problem l.state i → IsTiming l i l
-timed-already l i timed = record { leads = leads-nowhere l; nodes = refl; spent = refl; timed = timed }
 
 pub whole-legal : (block : List Instr) (prefix : List ℕ) → IsBeginning block prefix → length block ≤ length prefix → IsLegal block prefix
 whole-legal block prefix begins le = order-legal block prefix (begins, omega (arith, le, beginning-few block prefix begins))

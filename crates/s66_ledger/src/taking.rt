@@ -23,8 +23,8 @@ impl Ledger<'_> {
         Ok(())
     }
 
-    /// Offers every whole order that is open or out and has a time below the best, in time linear in the number of nodes, and of each
-    /// whose floor is below the best in the length of its prefix.
+    /// Offers every whole order that is open or out and has a time below the best, in time linear in the number of nodes, and in the
+    /// length of the prefix of each whose floor is below the best. What is offered is timed anew.
     pub(crate) fn offer_wholes(&mut self) -> Result<(), AllocError>
         requires { 1 ≤ self.old.workers }
         ensures leads { OnOk result (Leads self.old self.new) }
@@ -50,7 +50,7 @@ impl Ledger<'_> {
         if prefix.len() < self.block().count() {
             return Ok(());
         }
-        // a complete prefix of legal orders is one
+        // a beginning of a legal order, and as long as the block
         let Ok(order) = Order::new(self.block(), prefix.as_slice()) else {
             unreachable!()
         };
