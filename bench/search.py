@@ -1,39 +1,77 @@
 #!/usr/bin/env python3
-"""Measures the clock that a search pushes and undoes, and the tree that the search walks.
+"""Measures the clock that a search pushes and undoes, the tree that the search walks, and the search itself.
 
-    bench/search.py [--budget SPLITS]    machine instructions a push, an undo, a new clock and a split
+    bench/search.py [--budget SPLITS]         machine instructions a push, an undo, a new clock and a split
+    bench/search.py [--budget SPLITS] order   machine instructions a split of `s66 order`, all that ends a search included, and
+                                              the seconds of a source of 1,000 blocks of 4 to 20 instructions
 
-The program is the crate s66_bench, which `rt run` proves and builds where that is needed. Instructions are those of
-valgrind's callgrind, and what is the same in two runs is taken off by their difference. The blocks are random and of all
-sorts; a fixed seed makes them.
+The program is the crate s66_bench, and for `order` s66_main, which `rt run` proves and builds where that is needed.
+Instructions are those of valgrind's callgrind, and what is the same in two runs is taken off by their difference. The blocks
+are random and of all sorts; a fixed seed makes them.
 """
 import argparse
 import os
 import random
+import re
 import subprocess
+import time
 
 from speed import ALL, TOP, instructions
 
-CRATE = os.path.join(TOP, "crates/s66_bench")
+CRATES = os.path.join(TOP, "crates")
 LENGTHS = [24, 40]
 BLOCKS = 4
 ROUNDS = 50
 
 
-def build():
-    """The built program."""
-    said = subprocess.run(["rt", "run", "--", "tree", "1"], cwd=CRATE, stdin=subprocess.DEVNULL, capture_output=True)
+def build(name, words):
+    """The built program of a crate."""
+    crate = os.path.join(CRATES, name)
+    said = subprocess.run(["rt", "run", "--"] + words, cwd=crate, stdin=subprocess.DEVNULL, capture_output=True)
     if said.returncode != 0:
         raise SystemExit(said.stderr.decode())
-    return os.path.join(CRATE, "out/s66_bench")
+    return os.path.join(crate, "out", name)
+
+
+def block_of(rng, length):
+    """The lines of a random block."""
+    lines = [rng.choice(ALL).format(**{name: rng.randrange(8) for name in "ijk"}) for _ in range(length)]
+    return "".join("          %s\n" % line for line in lines)
 
 
 def blocks_of(length):
     """Sources of one random block each."""
     rng = random.Random(6600)
     for _ in range(BLOCKS):
-        lines = [rng.choice(ALL).format(**{name: rng.randrange(8) for name in "ijk"}) for _ in range(length)]
-        yield "".join("          %s\n" % line for line in lines).encode()
+        yield block_of(rng, length).encode()
+
+
+def mixed_source():
+    """A source of 1,000 random blocks of 4 to 20 instructions."""
+    rng = random.Random(6600)
+    return "".join("L%d        BSS 0\n%s" % (n, block_of(rng, rng.randint(4, 20))) for n in range(1000)).encode()
+
+
+def splits_of(words, text):
+    """How many splits the search of a source of one block takes."""
+    told = subprocess.run(words, input=text, capture_output=True)
+    return int(re.search(rb"\* SPLITS (\d+)", told.stdout)[1])
+
+
+def tell_order(program, length, texts, budget):
+    splits = ran = 0
+    for text in texts:
+        words = [program, "order", "--trace", "--nodes"]
+        splits += splits_of(words + [str(budget)], text) - splits_of(words + ["1"], text)
+        ran += instructions(words + [str(budget)], text) - instructions(words + ["1"], text)
+    print("%d instructions: %.0f a split of a search, %d splits" % (length, ran / splits, splits))
+
+
+def tell_mixed(program):
+    text = mixed_source()
+    begun = time.perf_counter()
+    subprocess.run([program, "order"], input=text, capture_output=True)
+    print("1,000 blocks of 4 to 20 instructions: %.1f seconds" % (time.perf_counter() - begun))
 
 
 def added(program, mode, text, rounds):
@@ -69,8 +107,15 @@ def tell_tree(program, length, texts, budget):
 def main():
     parser = argparse.ArgumentParser(description="Measures the clock of a search and its tree.")
     parser.add_argument("--budget", type=int, default=10_000, help="the splits of a tree, 10,000 if left out")
+    parser.add_argument("what", nargs="?", choices=["order"], help="the search itself, and nothing of its parts")
     asked = parser.parse_args()
-    program = build()
+    if asked.what == "order":
+        program = build("s66_main", ["time"])
+        for length in LENGTHS:
+            tell_order(program, length, list(blocks_of(length)), asked.budget)
+        tell_mixed(program)
+        return
+    program = build("s66_bench", ["tree", "1"])
     for length in LENGTHS:
         texts = list(blocks_of(length))
         tell_steps(program, length, texts)
