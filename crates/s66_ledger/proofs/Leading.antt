@@ -18,6 +18,9 @@ pub leads-on : (old mid new : LedgerOf) → Leads old mid → Leads mid new → 
 leads-on old mid new (p, q, r, (h, go)) (p2, q2, r2, (k, on)) =
     (p2 ∙ p, q2 ∙ q, r2 ∙ r, (h ++ k, run-join old.problem h k old.state mid.state new.state go (subst (λ (b : Problem). Run b mid.state k new.state) p on)))
 
+pub leads-far : (first second third fourth last : LedgerOf) → Leads first second → Leads second third → Leads third fourth → Leads fourth last → Leads first last
+leads-far first second third fourth last a b c d = leads-on first third last (leads-on first second third a b) (leads-on third fourth last c d)
+
 pub leads-fall : (old new : LedgerOf) → Leads old new → best_time new.problem new.state ≤ best_time new.problem old.state
 leads-fall old new (p, q, r, (h, go)) = run-falls new.problem h old.state new.state (subst (λ (b : Problem). Run b old.state h new.state) (sym p) go)
 

@@ -4,18 +4,23 @@ use Rattle.std.specs.Prelude.{nat_le}
 use Rattle.std.proofs.lemmas.List.{length-set, get_or-set_same, set-set, set-get_or}
 use Rattle.s66_isa.specs.Lists.{tally, weigh, Among}
 use Rattle.s66_isa.proofs.Lists.{tally-append, tally-set, weigh-set}
-use Rattle.s66_model.specs.Timing.{Problem}
+use Rattle.s66_model.specs.Timing.{Problem, total_of}
+use Rattle.s66_model.specs.Recorded.{IsOfferOf}
+use Rattle.s66_time.specs.TimedOrder.{TimedOrder}
+use Rattle.s66_ledger.specs.declared.reply.Offered.{Offered}
+use Rattle.s66_ledger.specs.declared.reply.Offered.TheVariants as offered
+use Rattle.s66_ledger.specs.Replies.{offered_reply}
 use Rattle.s66_model.specs.Leaves.{value}
 use Rattle.s66_model.specs.Tree.{Tree, Alone, Parted, Kids, NoMore, Unsplit, Split, splits}
 use Rattle.s66_model.specs.Piece.{Tip, Carries, Frontier}
-use Rattle.s66_model.specs.Ledger.{Ledger, Node, State, Open, Out, Cut, Closed, Grant, Claim, Graft, Back, Granted, Claimed, Taken, Returned, no_node, node_at, with_state, best_time, allowance, share_of, state_of, root_state, kid_nodes, new_nodes, after_offer, after_graft}
+use Rattle.s66_model.specs.Ledger.{Ledger, Node, State, Open, Out, Cut, Closed, Grant, Claim, Graft, Back, Granted, Claimed, Taken, Returned, no_node, node_at, with_state, best_time, allowance, share_of, state_of, root_state, kid_nodes, new_nodes, after_offer, after_graft, Offer, Moves, Event}
 use Rattle.s66_model.specs.Coverage.{Covers}
 use Rattle.s66_node.specs.Pieces.{PieceOf, tree_of}
 use Rattle.s66_ledger.specs.Handed.{TicketOf}
 use Rattle.s66_ledger.specs.Kept.{LedgerOf, IsEvent}
 use Rattle.s66_ledger.specs.Grafts.{IsGraft}
-use Rattle.s66_ledger.proofs.Leading.{event-leads}
-use Rattle.s66_ledger.specs.Finishing.{Leads, is_out_state, is_out, IsBetween, IsWithin}
+use Rattle.s66_ledger.proofs.Leading.{event-leads, leads-nowhere, leads-fall}
+use Rattle.s66_ledger.specs.Finishing.{Leads, is_out_state, is_out, IsBetween, IsWithin, IsOffering, still_to_go}
 
 -- NODES THAT ARE OUT, counted
 
@@ -139,6 +144,33 @@ module _ (old new : LedgerOf) (ticket : TicketOf) (h : IsEvent old (Claim 1) (Cl
 pub offer-within : (old new : LedgerOf) (ticket : TicketOf) → new.state ≡ after_offer old.state new.state.best → IsWithin old.state ticket → IsWithin new.state ticket
 offer-within old new ticket same within =
     subst (λ l. IsWithin l ticket) (sym same) (record { out = within.out; prefix = within.prefix; one_out = within.one_out; alone = within.alone })
+
+pub offer-between : (old new : LedgerOf) → IsOffering old new → IsBetween old.state → IsBetween new.state
+offer-between old new offers between =
+    subst IsBetween (sym offers.same) (record { none_out = between.none_out; alone = between.alone })
+
+offer-moved : (b : Problem) (old new : Ledger) (w : ℕ) (own : Bool) (order : List ℕ) (time : ℕ) (answer : Offered) → Moves b old (Offer w own order time) (offered_reply answer) new → new ≡ after_offer old new.best
+offer-moved b old new w own order time offered.Lower h = h.2 ∙ ap (after_offer old) (sym (ap (λ (l : Ledger). l.best) h.2))
+offer-moved b old new w own order time (offered.NotLower least) h = h.3 ∙ ap (after_offer old) (sym (ap (λ (l : Ledger). l.best) h.3))
+offer-moved b old new w own order time offered.OtherBlock h = h.1 ∙ ap (after_offer old) (sym (ap (λ (l : Ledger). l.best) h.1))
+
+pub offer-offers : (old new : LedgerOf) (w : ℕ) (timed : TimedOrder) (answer : Offered) → ((event : Event) × IsOfferOf old.problem w timed.problem timed.numbers event × IsEvent old event (offered_reply answer) new) → IsOffering old new
+offer-offers old new w timed answer (event, (own, iff, told), h) =
+    record {
+      leads = event-leads old new event (offered_reply answer) h;
+      same = offer-moved old.problem old.state new.state w own timed.numbers (total_of timed.problem timed.numbers) answer (subst (λ (e : Event). Moves old.problem old.state e (offered_reply answer) new.state) told h.3.1);
+    }
+
+pub offer-nowhere : (l : LedgerOf) → IsOffering l l
+offer-nowhere l = record { leads = leads-nowhere l; same = refl }
+
+-- less is left to do, or as much
+pub offer-to-go : (old new : LedgerOf) → IsOffering old new → still_to_go new ≤ still_to_go old
+offer-to-go old new offers =
+    let (problem, budget, workers, run) = offers.leads in
+    let falls = leads-fall old new offers.leads in
+    let before = ap (λ (b : Problem). best_time b old.state) problem in
+    omega (arith, falls, before, budget, ap (λ (l : Ledger). l.spent) offers.same)
 
 -- A GRAFT
 

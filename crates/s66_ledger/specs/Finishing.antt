@@ -4,7 +4,7 @@ use Rattle.s66_isa.specs.Lists.{Among, weigh, tally}
 use Rattle.s66_model.specs.Timing.{Problem}
 use Rattle.s66_model.specs.LegalOrder.{IsComplete}
 use Rattle.s66_model.specs.Leaves.{floor_value}
-use Rattle.s66_model.specs.Ledger.{Ledger, Node, State, Open, Out, Cut, Closed, Event, Reply, Run, IsOut, is_open, is_live, best_time, allowance, node_at}
+use Rattle.s66_model.specs.Ledger.{Ledger, Node, State, Open, Out, Cut, Closed, Event, Reply, Run, IsOut, is_open, is_live, best_time, allowance, node_at, after_offer}
 use Rattle.s66_ledger.specs.Handed.{TicketOf}
 use Rattle.s66_ledger.specs.Kept.{LedgerOf}
 
@@ -79,6 +79,11 @@ pub record IsWithin (l : Ledger) (ticket : TicketOf) : Type 0 where
   pub prefix : ticket.prefix ≡ (node_at l.nodes ticket.node).prefix
   pub one_out : tally is_out l.nodes ≡ 1
   pub alone : weigh (λ n. n) l.allowances ≡ allowance l 1
+
+-- an order is offered: nothing changes but the best one
+pub record IsOffering (old new : LedgerOf) : Type 0 where
+  pub leads : Leads old new
+  pub same : new.state ≡ after_offer old.state new.state.best
 
 -- what a search still has: splits of the budget, and minor cycles of the best time
 abbrev pub still_to_go : LedgerOf → ℕ

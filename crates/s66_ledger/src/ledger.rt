@@ -8,7 +8,7 @@ use s66_bound::Bounds;
 use s66_dep::Order;
 use s66_isa::Profile;
 use s66_line::{BLOCK_LIMIT, Block};
-use s66_node::{Piece, Walk, list_schedule};
+use s66_node::{Piece, Priority, Walk};
 use s66_time::{Clock, Timed, time_of};
 use std::alloc::{AllocError, Global};
 use std::marker::Model;
@@ -320,7 +320,7 @@ impl<'a> Ledger<'a> {
     }
 
     /// Brings the search to its end: takes back every allowance and every node that is out, and goes on until no open node's floor is
-    /// below the best time, or the budget is spent and no whole order is below it. It offers a list schedule first.
+    /// below the best time, or the budget is spent and no whole order is below it. It offers two list schedules first.
     ///
     /// The time is that of expanding what it claims, and linear in the number of nodes. `Err` is want of memory.
     pub fn finish(mut self, alloc: Global) -> Result<Answer, AllocError>
@@ -330,8 +330,9 @@ impl<'a> Ledger<'a> {
         ensures finished { IfOk result (λ a. IsFinished self.entry.problem self.entry.budget self.entry.state (answer_of a)) }
     {
         let mut walk = Walk::new(self.block, &self.profile);
-        let timed = list_schedule(&mut walk);
-        self.offer(1, timed)?;
+        self.offer_schedule(&mut walk, Priority::Start)?;
+        walk.go_to(&[]);
+        self.offer_schedule(&mut walk, Priority::Issue)?;
         self.take_back()?;
         self.search(alloc, &mut walk)?;
         self.offer_wholes()?;

@@ -1,7 +1,8 @@
 use crate::ledger::Ledger;
+use crate::limits::SCHEDULE_ROUNDS;
 use crate::reply::{BackError, GraftError};
 use crate::ticket::Ticket;
-use s66_node::{Piece, Walk};
+use s66_node::{Piece, Priority, Walk, list_schedule};
 use std::alloc::{AllocError, Global};
 
 impl<'a> Ledger<'a> {
@@ -13,10 +14,12 @@ impl<'a> Ledger<'a> {
     ghost use Rattle.s66_model.specs.Coverage.{Covers};
     ghost use Rattle.s66_model.specs.Expansion.{IsExpansion};
     ghost use Rattle.s66_node.specs.Pieces.{tree_of, IsBestTimed};
-    ghost use Rattle.s66_ledger.specs.Finishing.{Leads, IsIdle, IsSearched, IsBetween, IsWithin, still_to_go};
+    ghost use Rattle.s66_ledger.specs.Finishing.{Leads, IsIdle, IsSearched, IsBetween, IsWithin, IsOffering, still_to_go};
 
     /// Goes on, as worker 1, until no open node's floor is below the best time or the budget is spent: claims the open node of the
-    /// least floor, expands it by what the worker may spend, offers the best of its whole orders and grafts the piece.
+    /// least floor, expands it by what the worker may spend, offers the best of its whole orders and grafts the piece. After each
+    /// `SCHEDULE_ROUNDS` of these rounds it offers a list schedule that begins with the node's prefix, so that good orders are
+    /// found where no expansion comes to its end.
     pub(crate) fn search(&mut self, alloc: Global, walk: &mut Walk<'_>) -> Result<(), AllocError>
         requires walk { walk.old.problem ≡ self.old.problem }
         requires workers { 1 ≤ self.old.workers }
@@ -25,7 +28,11 @@ impl<'a> Ledger<'a> {
         ensures leads { OnOk result (Leads self.old self.new) }
         ensures searched { OnOk result (IsSearched self.new.problem self.new.budget self.new.state) }
     {
-        while self.search_round(alloc, walk)? {}
+        let mut rounds = 0u32;
+        while self.search_round(alloc, walk)? {
+            rounds = rounds.wrapping_add(1);
+            self.offer_sometimes(walk, rounds)?;
+        }
         Ok(())
     }
 
@@ -74,6 +81,33 @@ impl<'a> Ledger<'a> {
             return Ok(allowance);
         }
         self.grant(1)
+    }
+
+    /// Offers a list schedule from the walk's prefix on, after each `SCHEDULE_ROUNDS` rounds.
+    fn offer_sometimes(&mut self, walk: &mut Walk<'_>, rounds: u32) -> Result<(), AllocError>
+        requires { 1 ≤ self.old.workers }
+        ensures walk { walk.new.problem ≡ walk.old.problem }
+        ensures offers { OnOk result (IsOffering self.old self.new) }
+    {
+        if rounds % SCHEDULE_ROUNDS != 0 {
+            return Ok(());
+        }
+        self.offer_schedule(walk, Priority::Start)
+    }
+
+    /// Offers a list schedule from the walk's prefix on.
+    pub(crate) fn offer_schedule(
+        &mut self,
+        walk: &mut Walk<'_>,
+        priority: Priority,
+    ) -> Result<(), AllocError>
+        requires { 1 ≤ self.old.workers }
+        ensures walk { walk.new.problem ≡ walk.old.problem }
+        ensures offers { OnOk result (IsOffering self.old self.new) }
+    {
+        let timed = list_schedule(walk, priority);
+        self.offer(1, timed)?;
+        Ok(())
     }
 
     /// The value of the floor of a node that is out.

@@ -6,35 +6,48 @@ ghost use Rattle.s66_model.specs.Timing.{points_of, point_of, done_of};
 use crate::walk::Walk;
 use s66_dep::Order;
 use s66_isa::Reg;
+use s66_line::BLOCK_LIMIT;
 use s66_time::{Timed, time_of};
 
-/// A number that is ready, and what tells whether it comes next: its start and its longest tail, in minor cycles.
+/// What comes first in a list schedule.
+#[derive(Clone, Copy, Debug, PartialEq, Eq)]
+pub enum Priority {
+    /// What would start first if it waited for no memory.
+    Start,
+    /// What would issue first.
+    Issue,
+}
+
+/// A number that is ready, and what tells whether it comes next: when it would come, and its longest tail, in minor cycles.
 #[derive(Clone, Copy, Debug)]
 struct Candidate {
     number: u8,
-    start: u32,
+    time: u32,
     tail: u32,
 }
 
 impl Candidate {
     /// A number that is ready after the walk's prefix.
-    fn of(walk: &mut Walk<'_>, number: u8) -> Candidate
+    fn of(walk: &mut Walk<'_>, priority: Priority, number: u8) -> Candidate
         requires { is_ready walk.old.problem.block walk.old.numbers number ≡ true }
         ensures number { result.number ≡ number }
         ensures same { walk.new ≡ walk.old }
     {
         Candidate {
             number,
-            start: start_of(walk, number),
+            time: match priority {
+                Priority::Start => start_of(walk, number),
+                Priority::Issue => issue_of(walk, number),
+            },
             tail: walk.tail(number),
         }
     }
 
-    /// Whether it is placed rather than another of a lower number: it starts first, or with the other, and its tail is longer.
+    /// Whether it is placed rather than another of a lower number: it comes first, or with the other, and its tail is longer.
     fn is_better_than(&self, other: &Candidate) -> bool
-        ensures { result ≡ (nat_lt self.now.start other.now.start || self.now.start == other.now.start && nat_lt other.now.tail self.now.tail) }
+        ensures { result ≡ (nat_lt self.now.time other.now.time || self.now.time == other.now.time && nat_lt other.now.tail self.now.tail) }
     {
-        self.start < other.start || self.start == other.start && other.tail < self.tail
+        self.time < other.time || self.time == other.time && other.tail < self.tail
     }
 }
 
@@ -71,16 +84,16 @@ fn start_of(walk: &mut Walk<'_>, n: u8) -> u32
     operands.max(issue_of(walk, n))
 }
 
-/// The ready number that starts first; of equal ones that with the longest tail, and of these the lowest.
-fn first_to_start(walk: &mut Walk<'_>) -> Option<u8>
+/// The ready number that comes first; of equal ones that with the longest tail, and of these the lowest.
+fn first_ready(walk: &mut Walk<'_>, priority: Priority) -> Option<u8>
     ensures ready { IfSome result (λ n. is_ready walk.old.problem.block walk.old.numbers n ≡ true) }
     ensures none { IfNone result (ready walk.old.problem.block walk.old.numbers ≡ []) }
     ensures same { walk.new ≡ walk.old }
 {
     let mut rest = walk.ready();
-    let mut best = Candidate::of(walk, rest.pop_first()?);
+    let mut best = Candidate::of(walk, priority, rest.pop_first()?);
     while let Some(number) = rest.pop_first() {
-        let other = Candidate::of(walk, number);
+        let other = Candidate::of(walk, priority, number);
         if other.is_better_than(&best) {
             best = other;
         }
@@ -100,17 +113,17 @@ fn timed_of(walk: &Walk<'_>) -> Timed
     time_of(block, walk.clock.profile(), &order)
 }
 
-/// A list schedule, which is a good order to begin a search with: from the empty prefix on it goes on with the ready number that
-/// starts first; of equal ones with that of the longest tail, and of these with the lowest. What issues first would be worse: it
-/// may wait for its operands, and keep a unit from what is ready to start. The walk ends at the whole order.
+/// A list schedule, which is a good order of those that begin with the walk's prefix: it goes on with the ready number that comes
+/// first; of equal ones with that of the longest tail, and of these with the lowest. The walk ends at the whole order.
 ///
 /// Each place of the order costs a push and an undo for each number that is ready there, and a push; nothing is allocated.
-pub fn list_schedule(walk: &mut Walk<'_>) -> Timed
+pub fn list_schedule(walk: &mut Walk<'_>, priority: Priority) -> Timed
     ensures problem { result.problem ≡ walk.old.problem }
     ensures same { walk.new.problem ≡ walk.old.problem }
 {
-    walk.go_to(&[]);
-    while let Some(n) = first_to_start(walk) {
+    // so it is a beginning
+    prove!(walk.numbers().len() <= BLOCK_LIMIT);
+    while let Some(n) = first_ready(walk, priority) {
         walk.push(n);
     }
     timed_of(walk)

@@ -2,7 +2,7 @@ use Rattle.std.proofs.Common.{sym, subst}
 use Rattle.s66_line.specs.Block.{instrs_of}
 use Rattle.s66_model.specs.Timing.{Problem}
 use Rattle.s66_model.specs.Coverage.{IsFinished}
-use Rattle.s66_ledger.proofs.Leading.{event-leads, leads-on}
+use Rattle.s66_ledger.proofs.Leading.{leads-on, leads-far}
 use Rattle.s66_ledger.proofs.Ends.{kept-reached, reached-end, finishes}
 use Rattle.s66_ledger.proofs.ledger.Ledger.finish.Goals as goal
 
@@ -11,10 +11,8 @@ into_answer-requires c =
     let s = c.self.inside in
     let b : Problem = record { block = instrs_of s.block.now; profile = s.profile } in
     let reached = kept-reached b s.budget s.table s.best s.left s.allowances.items s.spent c.args.self c.self.invariant c.self.view_is in
-    let (event, is, went) = c.in_ok-offer.ensures.ok in
-    let searched = leads-on c.args.self c.take_back.new.self c.search.new.self
-    (leads-on c.args.self c.offer.new.self c.take_back.new.self (event-leads c.args.self c.offer.new.self event _ went) c.in_ok-take_back.ensures.leads)
-    c.in_ok-search.ensures.leads in
+    let searched = leads-far c.args.self c.offer_schedule.new.self c.offer_schedule-2.new.self c.take_back.new.self c.search.new.self
+    c.in_ok-offer_schedule.ensures.offers.leads c.in_ok-offer_schedule-2.ensures.offers.leads c.in_ok-take_back.ensures.leads c.in_ok-search.ensures.leads in
     let last = c.in_ok-offer_wholes.ensures in
     reached-end c.args.self c.search.new.self c.offer_wholes.new.self reached searched last.leads c.in_ok-search.ensures.searched last.nodes last.spent last.timed
 
@@ -23,10 +21,8 @@ returns-clause-finished c =
     let s = c.self.inside in
     let b : Problem = record { block = instrs_of s.block.now; profile = s.profile } in
     let reached = kept-reached b s.budget s.table s.best s.left s.allowances.items s.spent c.args.self c.self.invariant c.self.view_is in
-    let (event, is, went) = c.in_ok-offer.ensures.ok in
-    let searched = leads-on c.args.self c.take_back.new.self c.search.new.self
-    (leads-on c.args.self c.offer.new.self c.take_back.new.self (event-leads c.args.self c.offer.new.self event _ went) c.in_ok-take_back.ensures.leads)
-    c.in_ok-search.ensures.leads in
+    let searched = leads-far c.args.self c.offer_schedule.new.self c.offer_schedule-2.new.self c.take_back.new.self c.search.new.self
+    c.in_ok-offer_schedule.ensures.offers.leads c.in_ok-offer_schedule-2.ensures.offers.leads c.in_ok-take_back.ensures.leads c.in_ok-search.ensures.leads in
     let last = c.in_ok-offer_wholes.ensures in
     let ended = reached-end c.args.self c.search.new.self c.offer_wholes.new.self reached searched last.leads c.in_ok-search.ensures.searched last.nodes last.spent last.timed in
     subst (IsFinished c.args.self.problem c.args.self.budget c.args.self.state) (sym c.into_answer.ensures.answer)

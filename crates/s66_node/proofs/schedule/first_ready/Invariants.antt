@@ -2,7 +2,7 @@ use Rattle.std.proofs.Common.{ℕ, ◌≡◌, true, length}
 use Rattle.s66_isa.specs.Lists.{Among}
 use Rattle.s66_model.specs.LegalOrder.{is_ready}
 use Rattle.s66_dep.specs.Members.{numbers_in}
-use Rattle.s66_node.proofs.schedule.first_to_start.Given as goal
+use Rattle.s66_node.proofs.schedule.first_ready.Given as goal
 
 abbrev pub invariant-loop-number : goal.invariant-loop-number
 invariant-loop-number l = record {

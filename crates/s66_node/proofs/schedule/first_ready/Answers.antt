@@ -1,7 +1,7 @@
 use Rattle.std.proofs.Common.{◌≡◌, true, sym, subst}
 use Rattle.s66_model.specs.LegalOrder.{is_ready}
 use Rattle.s66_node.proofs.Schedules.{taken-ready}
-use Rattle.s66_node.proofs.schedule.first_to_start.Goals as goal
+use Rattle.s66_node.proofs.schedule.first_ready.Goals as goal
 
 pub of-best-requires : goal.of-best-requires
 of-best-requires c =
