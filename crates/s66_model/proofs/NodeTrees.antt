@@ -1,6 +1,6 @@
 -- The tree of a ledger's nodes has each split of theirs, as many splits as they have, and the floor of every other node.
 use Rattle.std.proofs.Common.{ℕ, zero, suc, ◌+◌, ◌≤◌, ◌<◌, ◌≡◌, ◌⊎◌, Bool, true, false, cond, ◌&&◌, List, [], ◌∷◌, ◌++◌, length, refl, sym, ap, arith, inl, inr, eqb, ◌∙◌, subst, append_assoc}
-use Rattle.std.proofs.lemmas.Bool.{cases_Bool, cases_eq, and_left, and_parts, and_from, eqb-true, eq-eqb, ne_eqb, ltb-true, ltb-false}
+use Rattle.std.proofs.lemmas.Bool.{cases_Bool, cases_eq, and_left, and_parts, and_from, eq-eqb, ne_eqb, ltb-true, ltb-false}
 use Rattle.std.proofs.lemmas.List.{append-nil}
 use Rattle.s66_isa.specs.Lists.{tally, weigh, Among}
 use Rattle.s66_model.specs.Timing.{Problem}
@@ -16,6 +16,7 @@ use Rattle.s66_model.proofs.LegalOrders.{GoesOn-append, ready-parts}
 use Rattle.s66_model.proofs.Remaining.{among-ready, ready-among}
 use Rattle.s66_model.proofs.OnceCovered.{and_true, begins-rest, rising-once}
 use Rattle.s66_model.proofs.GrownTrees.{KidsFit, TreeFits, tree-fits}
+use Rattle.s66_model.proofs.OneTree.{same-is}
 
 -- LISTS
 
@@ -37,14 +38,6 @@ passes-some test x (y ∷ xs) (inr past) is = omega (arith, passes-some test x x
 is-same : (ns : List ℕ) → same_numbers ns ns ≡ true
 is-same [] = refl
 is-same (n ∷ ns) = and_from (eqb n n) (same_numbers ns ns) (eq-eqb n n refl) (is-same ns)
-
-same-is : (ns ms : List ℕ) → same_numbers ns ms ≡ true → ns ≡ ms
-same-is [] [] h = refl
-same-is [] (m ∷ ms) h = absurd cc
-same-is (n ∷ ns) [] h = absurd cc
-same-is (n ∷ ns) (m ∷ ms) h =
-    let both = and_parts (eqb n m) (same_numbers ns ms) h in
-    rw (eqb-true n m both.0, same-is ns ms both.1) refl
 
 begins-longer : (at more : List ℕ) → begins at (at ++ more) ≡ true
 begins-longer [] more = refl

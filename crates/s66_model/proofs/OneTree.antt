@@ -36,7 +36,7 @@ same-push [] (y ∷ ys) m n = and_right (eqb m y) (same_numbers [] (ys ++ n ∷ 
 same-push (x ∷ xs) [] m n = and_right (eqb x n) (same_numbers (xs ++ m ∷ []) []) (push_nil xs m)
 same-push (x ∷ xs) (y ∷ ys) m n = ap (λ b. eqb x y && b) (same-push xs ys m n) ∙ and_assoc (eqb x y) (same_numbers xs ys) (eqb m n)
 
-same-is : (ns ms : List ℕ) → same_numbers ns ms ≡ true → ns ≡ ms
+pub same-is : (ns ms : List ℕ) → same_numbers ns ms ≡ true → ns ≡ ms
 same-is [] [] h = refl
 same-is [] (m ∷ ms) h = absurd (true≢false (sym h))
 same-is (n ∷ ns) [] h = absurd (true≢false (sym h))
