@@ -106,7 +106,7 @@ def tell_tree(program, length, texts, budget):
 
 def main():
     parser = argparse.ArgumentParser(description="Measures the clock of a search and its tree.")
-    parser.add_argument("--budget", type=int, default=10_000, help="the splits of a tree, 10,000 if left out")
+    parser.add_argument("--budget", type=int, default=10_000, help="the splits of a tree, and the most of a block that `order` searches, 10,000 if left out")
     parser.add_argument("what", nargs="?", choices=["order"], help="the search itself, and nothing of its parts")
     asked = parser.parse_args()
     if asked.what == "order":
