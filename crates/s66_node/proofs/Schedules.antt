@@ -1,5 +1,5 @@
 -- A schedule goes on until it is a whole order, and each push tells an issue.
-use Rattle.std.proofs.Common.{ℕ, ◌+◌, ◌-◌, ◌<◌, ◌≡◌, true, List, [], ◌∷◌, ◌++◌, length, refl, sym, ap, subst, arith, length-append, inl, inr, ◌∙◌}
+use Rattle.std.proofs.Common.{ℕ, ◌+◌, ◌-◌, ◌<◌, ◌≡◌, true, List, [], ◌∷◌, ◌++◌, length, refl, sym, ap, subst, arith, length-append, append_assoc, inl, inr, ◌∙◌}
 use Rattle.std.proofs.lemmas.Bool.{cases_eq}
 use Rattle.s66_isa.specs.declared.instr.Instr.{Instr}
 use Rattle.s66_isa.specs.Lists.{Among}
@@ -12,7 +12,7 @@ use Rattle.s66_model.proofs.Remaining.{among-ready, ready-among, legal-parts, re
 use Rattle.s66_dep.specs.declared.set.Set.{Set}
 use Rattle.s66_dep.specs.Members.{numbers_in}
 use Rattle.s66_dep.proofs.Fronts.{beginning-few}
-use Rattle.s66_node.specs.Walked.{Walked}
+use Rattle.s66_node.specs.Walked.{Walked, BeginsWith}
 
 -- the next slot after a push is its issue and its parcels
 pub next-push : (b : Problem) (prefix : List ℕ) (n : ℕ) → next (points_of b (prefix ++ n ∷ [])) ≡ (point_of b (points_of b prefix) n).issue + (row_at b n).parcels
@@ -51,6 +51,13 @@ next-begins w same next n begins now is pushed =
     let all : next ≡ record w { numbers = w.numbers ++ n ∷ [] } = pushed ∙ ap (λ (x : Walked). record x { numbers = x.numbers ++ n ∷ [] }) is in
     subst (λ (x : Walked). (x.problem ≡ w.problem) × IsBeginning x.problem.block x.numbers × (length x.problem.block - length x.numbers < length w.problem.block - length w.numbers)) (sym all)
     (refl, step-begins w.problem.block w.numbers n begins now, omega (arith, ready-short w.problem.block w.numbers n begins now, length-append w.numbers (n ∷ [])))
+
+pub next-further : (prefix : List ℕ) (w same next : Walked) (n : ℕ) → BeginsWith prefix w.numbers → same ≡ w → next ≡ record same { numbers = same.numbers ++ n ∷ [] } → BeginsWith prefix next.numbers
+next-further prefix w same next n further is pushed =
+    let (more, begins) = further in (
+      more ++ n ∷ [],
+      ap (λ (x : Walked). x.numbers) pushed ∙ ap (λ (x : Walked). x.numbers ++ n ∷ []) is ∙ ap (λ numbers. numbers ++ n ∷ []) begins ∙ append_assoc prefix more (n ∷ []),
+    )
 
 -- what is taken from a set of numbers that are ready
 pub taken-ready : (block : List Instr) (prefix : List ℕ) (set rest : Set) (n : ℕ) → numbers_in set ≡ ready block prefix → numbers_in set ≡ n ∷ numbers_in rest →

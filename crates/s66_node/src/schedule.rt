@@ -1,6 +1,7 @@
 ghost use Rattle.std.specs.Prelude.{◌≡◌, ◌||◌, ◌&&◌, ◌==◌, nat_lt, true, [], IfSome, IfNone};
 ghost use Rattle.s66_isa.specs.Lists.{greatest};
 ghost use Rattle.s66_model.specs.LegalOrder.{is_ready, ready, IsComplete};
+ghost use Rattle.s66_node.specs.Walked.{BeginsWith};
 ghost use Rattle.s66_model.specs.Timing.{points_of, point_of, done_of};
 
 use crate::walk::Walk;
@@ -104,7 +105,7 @@ fn first_ready(walk: &mut Walk<'_>, priority: Priority) -> Option<u8>
 /// The whole order at which a walk stands, with its times.
 fn timed_of(walk: &Walk<'_>) -> Timed
     requires { IsComplete walk.now.problem.block walk.now.numbers }
-    ensures { result.problem ≡ walk.now.problem }
+    ensures { result ≡ record { problem = walk.now.problem; numbers = walk.now.numbers } }
 {
     let block = walk.clock.block();
     let Ok(order) = Order::new(block, walk.numbers()) else {
@@ -118,8 +119,9 @@ fn timed_of(walk: &Walk<'_>) -> Timed
 ///
 /// Each place of the order costs a push and an undo for each number that is ready there, and a push; nothing is allocated.
 pub fn list_schedule(walk: &mut Walk<'_>, priority: Priority) -> Timed
-    ensures problem { result.problem ≡ walk.old.problem }
+    ensures ends { result ≡ record { problem = walk.new.problem; numbers = walk.new.numbers } }
     ensures same { walk.new.problem ≡ walk.old.problem }
+    ensures begins { BeginsWith walk.old.numbers result.numbers }
 {
     // so it is a beginning
     prove!(walk.numbers().len() <= BLOCK_LIMIT);

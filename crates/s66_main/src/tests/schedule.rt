@@ -23,8 +23,8 @@ fn check_schedules<R: Abort>(
     }
 }
 
-/// All multiplies start at 0 with tails of 11, so the lowest number is first. `BX3` starts with `BX1`, and its tail is longer. The
-/// Boolean that waits for X1 stands behind what starts sooner, but not behind what issues later.
+/// What issues first, the Boolean behind the load, waits for X1: by start it comes last. Of equal starts the longest tail comes
+/// first, as `BX3`'s, and of equal tails the lowest number, as of three multiplies.
 #[test]
 fn list_schedules(rt: HostRuntime) -> Result<(), Fail> {
     let rows: [(&str, Priority, &[u8], u32); 6] = [

@@ -2,7 +2,7 @@ use Rattle.std.proofs.Common.{◌∙◌, arith, ap, length, sym, subst}
 use Rattle.s66_dep.proofs.Fronts.{beginning-few}
 use Rattle.s66_model.specs.LegalOrder.{IsComplete}
 use Rattle.s66_node.specs.Walked.{Walked}
-use Rattle.s66_node.proofs.Schedules.{next-begins, none-ready}
+use Rattle.s66_node.proofs.Schedules.{next-begins, next-further, none-ready}
 use Rattle.s66_node.proofs.schedule.list_schedule.Goals as goal
 
 pub loop-n-smaller : goal.loop-n-smaller
@@ -12,7 +12,11 @@ loop-n-smaller c =
 pub loop-n-preserved : goal.loop-n-preserved
 loop-n-preserved c =
     let (same, begins, less) = next-begins c.loop-n.walk c.first_ready.new.walk c.push.new.self c.in-Some.n c.loop-n.invariant.begins c.in-Some.ensures.ready c.in-Some.ensures.same c.push.ensures in
-    record { same = same ∙ c.loop-n.invariant.same; begins = begins }
+    record {
+      same = same ∙ c.loop-n.invariant.same;
+      begins = begins;
+      further = next-further c.args.walk.now.numbers c.loop-n.walk c.first_ready.new.walk c.push.new.self c.in-Some.n c.loop-n.invariant.further c.in-Some.ensures.same c.push.ensures;
+    }
 
 pub timed_of-requires : goal.timed_of-requires
 timed_of-requires c =
