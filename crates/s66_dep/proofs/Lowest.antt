@@ -1,8 +1,8 @@
 -- The lowest number of a set, and the others.
-use Rattle.std.proofs.Common.{ℕ, zero, suc, ◌+◌, ◌-◌, ◌*◌, ◌%◌, ◌^◌, ◌≤◌, ◌<◌, ◌≡◌, ◌==◌, Bool, true, false, [], ◌∷◌, filter, bit_and, w64, sym, ap, ◌∙◌, inl, inr, arith}
-use Rattle.std.specs.Int.{bit_at, bit_not, trailing_zeros}
+use Rattle.std.proofs.Common.{ℕ, zero, suc, ◌+◌, ◌-◌, ◌/◌, ◌%◌, ◌^◌, ◌≤◌, ◌<◌, ◌≡◌, ◌==◌, Bool, true, false, [], ◌∷◌, filter, bit_and, w64, sym, ap, ◌∙◌, inl, inr, arith}
+use Rattle.std.specs.Int.{bit_at, trailing_zeros}
 use Rattle.std.proofs.lemmas.Bool.{cases_eq, eq-eqb, ne_eqb}
-use Rattle.std.proofs.lemmas.Nat.Bits.{shr_and_one, bit_at-zero, bit_at-trailing_zeros, bit_at_clear_same, bit_at_clear_other}
+use Rattle.std.proofs.lemmas.Nat.Bits.{shr_and_one, bit_at-zero, bit_at-suc, bit_at_lowest, bit_at_and, bit_at-trailing_zeros}
 use Rattle.s66_isa.specs.Lists.{rising}
 use Rattle.s66_dep.specs.declared.set.Set.{Set}
 use Rattle.s66_dep.specs.Members.{is_member, numbers_in}
@@ -29,15 +29,34 @@ member-bit bits i = ap (λ x. x == 1) (shr_and_one bits (i + 1 - 1) ∙ ap (bit_
 member-by : (bits m : ℕ) → 1 ≤ m → is_member bits m ≡ (bit_at bits (m - 1) == 1)
 member-by bits m some = ap (λ x. x == 1) (shr_and_one bits (m - 1))
 
+-- one less has the lowest bit cleared, and the higher ones as they are
+one-less : (t n : ℕ) → bit_at n t ≡ 1 → ((i : ℕ) → i < t → bit_at n i ≡ 0) → (bit_at (n - 1) t ≡ 0) × ((i : ℕ) → t < i → bit_at (n - 1) i ≡ bit_at n i)
+one-less zero n own lower =
+    let odd : n % 2 ≡ 1 = sym (bit_at_lowest n) ∙ own in
+    (bit_at_lowest (n - 1) ∙ omega (arith, odd), higher odd)
+  where
+    higher : n % 2 ≡ 1 → (i : ℕ) → 0 < i → bit_at (n - 1) i ≡ bit_at n i
+    higher odd zero lt = absurd (omega (arith, lt))
+    higher odd (suc i) lt = let half : (n - 1) / 2 ≡ n / 2 = omega (arith, odd) in bit_at-suc (n - 1) i ∙ ap (λ m. bit_at m i) half ∙ sym (bit_at-suc n i)
+one-less (suc t) n own lower =
+    let even : n % 2 ≡ 0 = sym (bit_at_lowest n) ∙ lower 0 (omega arith) in
+    let half : (n - 1) / 2 ≡ n / 2 - 1 = omega (arith, even) in
+    let (clear, above) = one-less t (n / 2) (sym (bit_at-suc n t) ∙ own) (λ i lt. sym (bit_at-suc n i) ∙ lower (suc i) (omega (arith, lt))) in
+    (bit_at-suc (n - 1) t ∙ ap (λ m. bit_at m t) half ∙ clear, higher half above)
+  where
+    higher : (n - 1) / 2 ≡ n / 2 - 1 → ((i : ℕ) → t < i → bit_at (n / 2 - 1) i ≡ bit_at (n / 2) i) → (i : ℕ) → suc t < i → bit_at (n - 1) i ≡ bit_at n i
+    higher half above zero lt = absurd (omega (arith, lt))
+    higher half above (suc i) lt = bit_at-suc (n - 1) i ∙ ap (λ m. bit_at m i) half ∙ above i (omega (arith, lt)) ∙ sym (bit_at-suc n i)
+
 -- the bit of the lowest number is cleared
-pub lowest-out : (set : Set) → 0 < set.bits → set.bits < 2 ^ 64 →
-    numbers_in set ≡ (trailing_zeros w64 set.bits + 1) ∷ numbers_in (record { bits = bit_and set.bits (bit_not w64 (1 * 2 ^ trailing_zeros w64 set.bits % 2 ^ 64)) })
+pub lowest-out : (set : Set) → 0 < set.bits → set.bits < 2 ^ 64 → numbers_in set ≡ (trailing_zeros w64 set.bits + 1) ∷ numbers_in (record { bits = bit_and set.bits (set.bits - 1) })
 unfolding numbers_in
 lowest-out set some fits =
     let t = trailing_zeros w64 set.bits in
     let bits = set.bits in
-    let others = bit_and bits (bit_not w64 (1 * 2 ^ t % 2 ^ 64)) in
+    let others = bit_and bits (bits - 1) in
     let (few, own, lower) = bit_at-trailing_zeros w64 bits some fits in
+    let (clear, higher) = one-less t bits own lower in
     let within : t < 64 = omega (arith, few) in
     filter-first (is_member bits) (is_member others) 64 1 (t + 1) (omega arith) (omega (arith, within))
     (member-bit bits t ∙ eq-eqb (bit_at bits t) 1 own)
@@ -47,12 +66,12 @@ lowest-out set some fits =
     ∙ ne_eqb (bit_at others (m - 1)) 1
     (λ e.
     elim (cases_eq (m - 1) t) [
-      | inl here ↦ omega (arith, e, ap (bit_at others) here, bit_at_clear_same w64 bits t within)
-      | inr other ↦ omega (arith, e, bit_at_clear_other w64 bits t within (m - 1) (omega (arith, low, le, within)) other, lower (m - 1) (omega (arith, low, le, other)))
+      | inl here ↦ omega (arith, e, bit_at_and bits (bits - 1) (m - 1), ap (bit_at (bits - 1)) here, clear)
+      | inr other ↦ omega (arith, e, bit_at_and bits (bits - 1) (m - 1), lower (m - 1) (omega (arith, low, le, other)))
     ]))
     (λ m lt up.
     member-by bits m (omega (arith, lt))
-    ∙ ap (λ bit. bit == 1) (sym (bit_at_clear_other w64 bits t within (m - 1) (omega (arith, lt, up)) (λ e. omega (arith, e, lt))))
+    ∙ ap (λ bit. bit == 1) (omega (arith, bit_at_and bits (bits - 1) (m - 1), higher (m - 1) (omega (arith, lt))))
     ∙ sym (member-by others m (omega (arith, lt))))
 
 pub none-prefix : (set : Set) → set.bits ≡ 0 → numbers_in set ≡ []

@@ -83,7 +83,8 @@ impl Set {
             return None;
         }
         let lowest = self.bits.trailing_zeros();
-        self.bits &= !(1 << lowest);
+        // takes out the lowest bit that is set
+        self.bits &= self.bits - 1;
         Some(lowest as u8 + 1)
     }
 
