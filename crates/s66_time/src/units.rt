@@ -58,8 +58,9 @@ impl UnitWords {
     {
         let first = first_unit(kind);
         let copies = profile.copies(kind) as usize;
-        let mut rest = 0;
-        for copy in 0..copies {
+        // most kinds have one unit: the first stands before the loop, so that one needs none
+        let mut rest = self.words[first].saturating_sub(time);
+        for copy in 1..copies {
             rest += self.words[first + copy].saturating_sub(time);
         }
         rest
