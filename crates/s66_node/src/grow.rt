@@ -53,8 +53,8 @@ fn keep_whole(least: &mut Option<WholeOrder>, walk: &Walk<'_>, knot: &Knot)
 /// The tree over the walk's prefix, made depth first by rising number: at most so many splits, each at an incomplete prefix whose
 /// floor is below the best time.
 ///
-/// A split costs one look at each instruction, and each of its children a push, an undo and a floor. Nothing is allocated but
-/// room for lines.
+/// A split costs one look at each instruction that remains, and each of its children a push, an undo and a floor. Nothing is
+/// allocated but room for lines.
 pub(crate) fn grow(
     alloc: Global,
     walk: &mut Walk<'_>,

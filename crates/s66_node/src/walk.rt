@@ -126,7 +126,7 @@ impl<'a> Walk<'a> {
         self.bounds.floor_value(&self.clock)
     }
 
-    /// The numbers that are ready after the prefix: one look at a word for each instruction.
+    /// The numbers that are ready after the prefix: one look at a word for each instruction that remains.
     pub fn ready(&self) -> Set
         ensures { numbers_in result ≡ ready self.now.problem.block self.now.numbers }
     {
