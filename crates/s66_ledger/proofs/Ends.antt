@@ -1,24 +1,21 @@
 -- A ledger that some events lead to its end: that it has ended, and what its answer is then.
-use Rattle.std.proofs.Common.{ℕ, ◌≤◌, ◌≡◌, ◌≢◌, true, List, [], ◌∷◌, ◌++◌, length, refl, sym, ap, arith, inl, inr, ◌∙◌, subst}
+use Rattle.std.proofs.Common.{ℕ, ◌≡◌, ◌≢◌, true, List, [], ◌∷◌, ◌++◌, length, refl, sym, ap, arith, inl, inr, ◌∙◌, subst}
 use Rattle.std.proofs.lemmas.Bool.{cases_eq}
 use Rattle.s66_isa.specs.Lists.{Among}
 use Rattle.s66_model.specs.Timing.{Problem}
 use Rattle.s66_model.specs.LegalOrder.{IsBeginning}
 use Rattle.s66_model.specs.Ledger.{Node, Open, Out, Cut, Closed, State, is_open_state, is_live_state, best_time}
-use Rattle.s66_model.specs.Leaves.{floor_value}
 use Rattle.s66_model.specs.Coverage.{Covers, NodesHold, IsFinished, bound_of}
 use Rattle.s66_model.specs.Reached.{IsReached}
 use Rattle.s66_model.specs.Ended.{IsEnded, ended_answer}
 use Rattle.s66_dep.proofs.Fronts.{beginning-few}
-use Rattle.s66_model.proofs.LedgerRuns.{run-falls}
 use Rattle.s66_model.proofs.Histories.{run-join, reached-covers}
 use Rattle.s66_model.proofs.EndedLedgers.{ended-finishes}
 use Rattle.s66_time.specs.TimedOrder.{TimedOrder}
 use Rattle.s66_ledger.specs.declared.node.Node as declared
 use Rattle.s66_ledger.specs.Kept.{LedgerOf, IsKept, state_of, ledger_of}
 use Rattle.s66_ledger.specs.Answers.{IsKeptAnswer, ended_of}
-use Rattle.s66_ledger.specs.Finishing.{Leads, IsSearched, WholesAreTimed}
-use Rattle.s66_ledger.proofs.Leading.{leads-on}
+use Rattle.s66_ledger.specs.Finishing.{Leads, IsSearched}
 
 -- WHAT LEADS
 
@@ -42,20 +39,16 @@ live-open Cut live not = live
 live-open (Closed leaf) live not = live
 
 -- where nothing more is to be expanded, and no whole order that is open is below the best time, the steps have ended
-pub has-ended : (mid new : LedgerOf) → Covers new.problem new.budget new.state → Leads mid new → IsSearched mid.problem mid.budget mid.state → new.state.nodes ≡ mid.state.nodes → new.state.spent ≡ mid.state.spent → WholesAreTimed new.problem new.state → IsEnded new.problem new.budget new.state
-has-ended mid new covers (problem, budget, workers, (h, r)) searched nodes spent wholes node among live =
-    let b = new.problem in
-    let before : Among node mid.state.nodes = subst (Among node) nodes among in
-    let begins = begin-among b (best_time b new.state) new.state.nodes node covers.nodes among in
-    let falls : best_time b new.state ≤ best_time b mid.state = subst (λ (p : Problem). best_time p new.state ≤ best_time p mid.state) (sym problem) (run-falls mid.problem h mid.state new.state r) in
+pub has-ended : (l : LedgerOf) → Covers l.problem l.budget l.state → IsSearched l.problem l.budget l.state → IsEnded l.problem l.budget l.state
+has-ended l covers searched node among live =
+    let b = l.problem in
+    let begins = begin-among b (best_time b l.state) l.state.nodes node covers.nodes among in
     elim searched.open_or_spent [
-      | inl below ↦
-          (let least = subst (λ (p : Problem). best_time p mid.state ≤ floor_value p node.prefix) (sym problem) (below node before (live-open node.state live (searched.none_out node before))) in
-          inl (omega (arith, falls, least)))
+      | inl below ↦ inl (below node among (live-open node.state live (searched.none_out node among)))
       | inr all ↦
           elim (cases_eq (length node.prefix) (length b.block)) [
-            | inl whole ↦ inl (wholes node among live whole)
-            | inr part ↦ inr (omega (arith, beginning-few b.block node.prefix begins, part), spent ∙ (all ∙ sym budget))
+            | inl whole ↦ inl (searched.wholes node among live whole)
+            | inr part ↦ inr (omega (arith, beginning-few b.block node.prefix begins, part), all)
           ]
     ]
 
@@ -80,6 +73,6 @@ kept-reached b budget nodes best left allowances spent l kept view =
     subst (λ (m : LedgerOf). IsReached m.problem m.budget m.workers m.state) view kept.reached
 
 -- where the events went on from a ledger that was reached
-pub reached-end : (first mid new : LedgerOf) → IsReached first.problem first.budget first.workers first.state → Leads first mid → Leads mid new → IsSearched mid.problem mid.budget mid.state → new.state.nodes ≡ mid.state.nodes → new.state.spent ≡ mid.state.spent → WholesAreTimed new.problem new.state → IsEnded new.problem new.budget new.state
-reached-end first mid new reached before after searched nodes spent wholes =
-    has-ended mid new (reached-covers new.problem new.budget new.workers new.state (leads-reached first new reached (leads-on first mid new before after))) after searched nodes spent wholes
+pub reached-end : (first last : LedgerOf) → IsReached first.problem first.budget first.workers first.state → Leads first last → IsSearched last.problem last.budget last.state → IsEnded last.problem last.budget last.state
+reached-end first last reached leads searched =
+    has-ended last (reached-covers last.problem last.budget last.workers last.state (leads-reached first last reached leads)) searched

@@ -1,5 +1,5 @@
 -- Events lead from one ledger to another, and on; what holds at each place of a list.
-use Rattle.std.proofs.Common.{ℕ, suc, ◌≤◌, ◌<◌, List, [], ◌∷◌, ◌++◌, length, get_or, refl, sym, arith, inl, inr, subst, ◌∙◌}
+use Rattle.std.proofs.Common.{ℕ, zero, suc, ◌≤◌, ◌<◌, List, [], ◌∷◌, ◌++◌, length, get_or, set, refl, sym, arith, inl, inr, subst, ◌∙◌}
 use Rattle.s66_isa.specs.Lists.{Among}
 use Rattle.s66_model.specs.Timing.{Problem}
 use Rattle.s66_model.specs.Ledger.{best_time, Event, Reply, Run}
@@ -31,3 +31,11 @@ pub each-among : {X : Type 0} (P : X → Type 0) (d : X) (xs : List X) → ((i :
 each-among P d [] h x is = absurd is
 each-among P d (y ∷ ys) h x (inl e) = subst P (sym e) (h 0 (omega arith))
 each-among P d (y ∷ ys) h x (inr later) = each-among P d ys (λ i lt. h (suc i) (omega (arith, lt))) x later
+
+-- what holds of each holds still where one takes another's place of which it holds
+pub each-set : {X : Type 0} (P : X → Type 0) (xs : List X) (i : ℕ) (y : X) → P y → ((x : X) → Among x xs → P x) → (x : X) → Among x (set xs i y) → P x
+each-set P [] i y here h x among = absurd among
+each-set P (z ∷ xs) zero y here h x (inl e) = subst P (sym e) here
+each-set P (z ∷ xs) zero y here h x (inr later) = h x (inr later)
+each-set P (z ∷ xs) (suc i) y here h x (inl e) = h x (inl e)
+each-set P (z ∷ xs) (suc i) y here h x (inr later) = each-set P xs i y here (λ w among. h w (inr among)) x later

@@ -12,5 +12,6 @@ pub mod Reading
 pub mod Rounds
 pub mod SeenNodes
 pub mod TakingBack
+pub mod TimedWholes
 pub mod Walks
 pub mod WholeOffers

@@ -6,7 +6,7 @@ use Rattle.s66_model.specs.Leaves.{Whole, value, floor_value}
 use Rattle.s66_model.specs.Tree.{Tree, Alone, Parted, splits}
 use Rattle.s66_model.specs.Piece.{Tip, Carries, Frontier}
 use Rattle.s66_model.specs.Expansion.{IsExpansion}
-use Rattle.s66_model.specs.Ledger.{Ledger, Node, Claim, Back, Claimed, Returned, Taken, best_time, allowance, is_open, node_at, after_offer}
+use Rattle.s66_model.specs.Ledger.{Ledger, Node, Claim, Back, Claimed, Returned, Taken, best_time, allowance, is_open, node_at}
 use Rattle.s66_model.specs.Coverage.{Covers}
 use Rattle.s66_model.proofs.Floors.{floor-whole}
 use Rattle.s66_model.proofs.LedgerRuns.{run-falls}
@@ -16,7 +16,7 @@ use Rattle.s66_ledger.specs.Handed.{TicketOf}
 use Rattle.s66_ledger.specs.Claims.{IsLeastOpen}
 use Rattle.s66_ledger.specs.Kept.{LedgerOf, IsEvent}
 use Rattle.s66_ledger.specs.Grafts.{IsGraft}
-use Rattle.s66_ledger.specs.Finishing.{Leads, IsSearched, IsBetween, still_to_go}
+use Rattle.s66_ledger.specs.Finishing.{IsSearched, IsBetween, IsOffering, still_to_go}
 use Rattle.s66_ledger.proofs.Events.{at-most-all}
 use Rattle.s66_ledger.proofs.Rounds.{leads-graft, claim-within, claim-back, graft-step}
 
@@ -48,19 +48,19 @@ expansion-gains b best allowance prefix (Alone (Carries leaf)) timed h some belo
 -- the offer first, and then the graft
 pub taken-less : (old mid new : LedgerOf) (ticket : TicketOf) (piece : PieceOf) →
     Covers old.problem old.budget old.state →
-    Leads old mid → mid.state ≡ after_offer old.state mid.state.best →
+    IsOffering old mid →
     ((t : TimedOrder) → piece.timed ≡ Some t → best_time mid.problem mid.state ≤ total_of mid.problem t.numbers) →
     IsGraft mid 1 ticket piece Taken new →
     Gains old.problem (best_time old.problem old.state) (tree_of piece) piece.timed →
     still_to_go new < still_to_go old
-taken-less old mid new ticket piece covers offers same at_most grafts gains =
-    let (problem, budget, workers, (history, run)) = offers in
+taken-less old mid new ticket piece covers offers at_most grafts gains =
+    let (problem, budget, workers, (history, run)) = offers.leads in
     let (problem2, budget2, workers2, run2) = leads-graft mid new ticket piece grafts in
-    let (some, fits, is) = graft-step mid new ticket piece grafts in
+    let (some, fits, holds, is) = graft-step mid new ticket piece grafts in
     let falls : best_time old.problem mid.state ≤ best_time old.problem old.state = run-falls old.problem history old.state mid.state run in
     let best : best_time new.problem new.state ≡ best_time old.problem mid.state = ap (λ p. best_time p new.state) (problem2 ∙ problem) ∙ ap (best_time old.problem) is in
-    let spent : new.state.spent ≡ old.state.spent + splits (tree_of piece) = omega (arith, ap (λ (l : Ledger). l.spent) is, ap (λ (l : Ledger). l.spent) same) in
-    let room : old.state.spent + splits (tree_of piece) ≤ old.budget = omega (arith, covers.sum, fits, at-most-all old.state.allowances 0, ap (λ (l : Ledger). allowance l 1) same) in
+    let spent : new.state.spent ≡ old.state.spent + splits (tree_of piece) = omega (arith, ap (λ (l : Ledger). l.spent) is, ap (λ (l : Ledger). l.spent) offers.same) in
+    let room : old.state.spent + splits (tree_of piece) ≤ old.budget = omega (arith, covers.sum, fits, at-most-all old.state.allowances 0, ap (λ (l : Ledger). allowance l 1) offers.same) in
     elim gains [
       | inl split ↦ omega (arith, split, falls, best, spent, room, budget, budget2)
       | inr lower ↦
@@ -93,27 +93,30 @@ open-counted (x ∷ nodes) node (inl e) opens =
     omega (arith, ap (λ t. cond {A = ℕ} t 1 0) (sym (ap is_open e) ∙ opens))
 open-counted (x ∷ nodes) node (inr later) opens = omega (arith, open-counted nodes node later opens)
 
-pub none-searched : (old new : LedgerOf) → IsBetween old.state → IsEvent old (Claim 1) (Claimed None) new → IsSearched new.problem new.budget new.state
+pub none-searched : (old new : LedgerOf) → IsBetween old.problem old.state → IsEvent old (Claim 1) (Claimed None) new → IsSearched new.problem new.budget new.state
 none-searched old new between h =
-    subst (IsSearched new.problem new.budget) (sym h.3.1.1)
+    subst (λ (b : Problem). IsSearched b new.budget new.state) (sym h.0)
+    (subst (IsSearched old.problem new.budget) (sym h.3.1.1)
     (record {
       none_out = between.none_out;
       open_or_spent = inl (λ node among opens. absurd (omega (arith, h.3.1.0, open-counted old.state.nodes node among opens)));
-    })
+      wholes = between.wholes;
+    }))
 
 -- the least floor of an open node isn't below the best time
-least-searched : (b : Problem) (budget : ℕ) (l : Ledger) (ticket : TicketOf) → IsBetween l → IsLeastOpen b l (Some ticket) → best_time b l ≤ floor_value b ticket.prefix → IsSearched b budget l
+least-searched : (b : Problem) (budget : ℕ) (l : Ledger) (ticket : TicketOf) → IsBetween b l → IsLeastOpen b l (Some ticket) → best_time b l ≤ floor_value b ticket.prefix → IsSearched b budget l
 least-searched b budget l ticket between least reached =
     record {
       none_out = between.none_out;
       open_or_spent = inl (λ node among opens.
           let (i, e) = among-at l.nodes node among in
           omega (arith, reached, least i (sym (ap is_open e) ∙ opens), ap (λ (n : Node). floor_value b n.prefix) e));
+      wholes = between.wholes;
     }
 
 -- where a node that was claimed for its least floor is given back, and that isn't below the best time
 pub back-searched : (old mid new : LedgerOf) (ticket : TicketOf) (best floor : ℕ) →
-    IsBetween old.state → IsEvent old (Claim 1) (Claimed (Some ticket.node)) mid → ticket.prefix ≡ (node_at old.state.nodes ticket.node).prefix →
+    IsBetween old.problem old.state → IsEvent old (Claim 1) (Claimed (Some ticket.node)) mid → ticket.prefix ≡ (node_at old.state.nodes ticket.node).prefix →
     IsLeastOpen old.problem old.state (Some ticket) →
     best ≡ best_time mid.problem mid.state → floor ≡ floor_value mid.problem (node_at mid.state.nodes ticket.node).prefix → best ≤ floor →
     IsEvent mid (Back 1 ticket.node) Returned new → IsSearched new.problem new.budget new.state

@@ -12,15 +12,17 @@ use Rattle.s66_ledger.specs.declared.reply.Offered.TheVariants as offered
 use Rattle.s66_ledger.specs.Replies.{offered_reply}
 use Rattle.s66_model.specs.Leaves.{value}
 use Rattle.s66_model.specs.Tree.{Tree, Alone, Parted, Kids, NoMore, Unsplit, Split, splits}
-use Rattle.s66_model.specs.Piece.{Tip, Carries, Frontier}
-use Rattle.s66_model.specs.Ledger.{Ledger, Node, State, Open, Out, Cut, Closed, Grant, Claim, Graft, Back, Granted, Claimed, Taken, Returned, no_node, node_at, with_state, best_time, allowance, share_of, state_of, root_state, kid_nodes, new_nodes, after_offer, after_graft, Offer, Moves, Event}
+use Rattle.s66_model.specs.Piece.{Tip, Carries, Frontier, IsPiece}
+use Rattle.s66_model.specs.Expansion.{whole_orders}
+use Rattle.s66_model.specs.Ledger.{Ledger, Node, State, Open, Out, Cut, Closed, Grant, Claim, Graft, Back, Granted, Claimed, Taken, Returned, no_node, node_at, with_state, is_live_state, best_time, allowance, share_of, state_of, root_state, kid_nodes, new_nodes, after_offer, after_graft, Offer, Moves, Event}
 use Rattle.s66_model.specs.Coverage.{Covers}
 use Rattle.s66_node.specs.Pieces.{PieceOf, tree_of}
 use Rattle.s66_ledger.specs.Handed.{TicketOf}
 use Rattle.s66_ledger.specs.Kept.{LedgerOf, IsEvent}
 use Rattle.s66_ledger.specs.Grafts.{IsGraft}
-use Rattle.s66_ledger.proofs.Leading.{event-leads, leads-nowhere, leads-fall}
-use Rattle.s66_ledger.specs.Finishing.{Leads, is_out_state, is_out, IsBetween, IsWithin, IsOffering, still_to_go}
+use Rattle.s66_ledger.specs.Finishing.{Leads, NoneOut, IsIdle, is_out_state, is_out, IsBetween, IsWithin, IsOffering, still_to_go}
+use Rattle.s66_ledger.proofs.Leading.{event-leads, leads-on, leads-nowhere, leads-fall}
+use Rattle.s66_ledger.proofs.TimedWholes.{wholes-offered, wholes-moved, wholes-grafted}
 
 -- NODES THAT ARE OUT, counted
 
@@ -82,16 +84,18 @@ alone-set : (xs : List ℕ) (v : ℕ) → 1 ≤ length xs → weigh (λ n. n) xs
 alone-set xs v some alone = omega (arith, sum-set xs v some, alone, get_or-set_same xs 0 v 0 (omega (arith, some)))
 
 module _ (old new : LedgerOf) (n : ℕ) (h : IsEvent old (Grant 1) (Granted n) new) where
-  pub grant-between : IsBetween old.state → IsBetween new.state
+  pub grant-between : IsBetween old.problem old.state → IsBetween new.problem new.state
   grant-between between =
-      subst IsBetween (sym h.3.1.1)
+      subst (λ (b : Problem). IsBetween b new.state) (sym h.0)
+      (subst (IsBetween old.problem) (sym h.3.1.1)
       (record {
         none_out = between.none_out;
         alone = alone-set old.state.allowances (allowance old.state 1 + share_of old.state) h.3.0.1 between.alone;
-      })
+        wholes = between.wholes;
+      }))
 
   -- nothing more is granted where all is spent
-  pub grant-spent : Covers old.problem old.budget old.state → IsBetween old.state → allowance old.state 1 ≡ 0 → n ≡ 0 → new.state.spent ≡ new.budget
+  pub grant-spent : Covers old.problem old.budget old.state → IsBetween old.problem old.state → allowance old.state 1 ≡ 0 → n ≡ 0 → new.state.spent ≡ new.budget
   grant-spent covers between none nothing =
       omega (arith, covers.sum, between.alone, none, nothing, h.3.1.0, h.1, ap (λ (l : Ledger). l.spent) h.3.1.1)
 
@@ -110,9 +114,10 @@ module _ (old new : LedgerOf) (ticket : TicketOf) (h : IsEvent old (Claim 1) (Cl
   here : node_at (with_state old.state.nodes i Out) i ≡ node
   here = get_or-set_same old.state.nodes i node no_node lt
 
-  pub claim-within : IsBetween old.state → IsWithin new.state ticket
+  pub claim-within : IsBetween old.problem old.state → IsWithin new.problem new.state ticket
   claim-within between =
-      subst (λ l. IsWithin l ticket) (sym h.3.1.2)
+      subst (λ (b : Problem). IsWithin b new.state ticket) (sym h.0)
+      (subst (λ l. IsWithin old.problem l ticket) (sym h.3.1.2)
       (record {
         out = (omega (arith, lt, length-set old.state.nodes i node), ap (λ (x : Node). x.state) here);
         prefix = prefix ∙ sym (ap (λ (x : Node). x.prefix) here);
@@ -124,7 +129,8 @@ module _ (old new : LedgerOf) (ticket : TicketOf) (h : IsEvent old (Claim 1) (Cl
               ap (λ s. cond {A = ℕ} (is_out_state s) 1 0) h.3.1.1,
             );
         alone = between.alone;
-      })
+        wholes = wholes-moved old.problem (best_time old.problem old.state) old.state.nodes i Out lt (ap is_live_state h.3.1.1) between.wholes;
+      }))
 
   -- a node that is given back is as it was
   pub claim-back : (end : LedgerOf) → IsEvent new (Back 1 i) Returned end → end.state ≡ old.state
@@ -141,13 +147,35 @@ module _ (old new : LedgerOf) (ticket : TicketOf) (h : IsEvent old (Claim 1) (Cl
 
 -- AN OFFER changes the best order alone
 
-pub offer-within : (old new : LedgerOf) (ticket : TicketOf) → new.state ≡ after_offer old.state new.state.best → IsWithin old.state ticket → IsWithin new.state ticket
-offer-within old new ticket same within =
-    subst (λ l. IsWithin l ticket) (sym same) (record { out = within.out; prefix = within.prefix; one_out = within.one_out; alone = within.alone })
+module _ (old new : LedgerOf) (offers : IsOffering old new) where
+  same-nodes : new.state.nodes ≡ old.state.nodes
+  same-nodes = ap (λ (l : Ledger). l.nodes) offers.same
 
-pub offer-between : (old new : LedgerOf) → IsOffering old new → IsBetween old.state → IsBetween new.state
-offer-between old new offers between =
-    subst IsBetween (sym offers.same) (record { none_out = between.none_out; alone = between.alone })
+  same-allowances : new.state.allowances ≡ old.state.allowances
+  same-allowances = ap (λ (l : Ledger). l.allowances) offers.same
+
+  still-none-out : NoneOut old.state → NoneOut new.state
+  still-none-out none = λ node among. none node (subst (Among node) same-nodes among)
+
+  still-alone : weigh (λ n. n) old.state.allowances ≡ allowance old.state 1 → weigh (λ n. n) new.state.allowances ≡ allowance new.state 1
+  still-alone is = subst (λ ns. weigh (λ n. n) ns ≡ get_or ns 0 0) (sym same-allowances) is
+
+  pub offer-idle : IsIdle old.state → IsIdle new.state
+  offer-idle idle = record { none_out = still-none-out idle.none_out; no_allowance = ap (weigh (λ n. n)) same-allowances ∙ idle.no_allowance }
+
+  pub offer-within : (ticket : TicketOf) → IsWithin old.problem old.state ticket → IsWithin new.problem new.state ticket
+  offer-within ticket within =
+      record {
+        out = subst (λ ns. (ticket.node < length ns) × ((node_at ns ticket.node).state ≡ Out)) (sym same-nodes) within.out;
+        prefix = within.prefix ∙ ap (λ ns. (node_at ns ticket.node).prefix) (sym same-nodes);
+        one_out = ap (tally is_out) same-nodes ∙ within.one_out;
+        alone = still-alone within.alone;
+        wholes = wholes-offered old new offers within.wholes;
+      }
+
+  pub offer-between : IsBetween old.problem old.state → IsBetween new.problem new.state
+  offer-between between =
+      record { none_out = still-none-out between.none_out; alone = still-alone between.alone; wholes = wholes-offered old new offers between.wholes }
 
 offer-moved : (b : Problem) (old new : Ledger) (w : ℕ) (own : Bool) (order : List ℕ) (time : ℕ) (answer : Offered) → Moves b old (Offer w own order time) (offered_reply answer) new → new ≡ after_offer old new.best
 offer-moved b old new w own order time offered.Lower h = h.2 ∙ ap (after_offer old) (sym (ap (λ (l : Ledger). l.best) h.2))
@@ -164,6 +192,13 @@ offer-offers old new w timed answer (event, (own, iff, told), h) =
 pub offer-nowhere : (l : LedgerOf) → IsOffering l l
 offer-nowhere l = record { leads = leads-nowhere l; same = refl }
 
+pub offer-on : (old mid new : LedgerOf) → IsOffering old mid → IsOffering mid new → IsOffering old new
+offer-on old mid new first second =
+    record {
+      leads = leads-on old mid new first.leads second.leads;
+      same = second.same ∙ ap (λ l. after_offer l new.state.best) first.same;
+    }
+
 -- less is left to do, or as much
 pub offer-to-go : (old new : LedgerOf) → IsOffering old new → still_to_go new ≤ still_to_go old
 offer-to-go old new offers =
@@ -174,16 +209,17 @@ offer-to-go old new offers =
 
 -- A GRAFT
 
-pub graft-step : (old new : LedgerOf) (ticket : TicketOf) (piece : PieceOf) → IsGraft old 1 ticket piece Taken new → (1 ≤ length old.state.allowances) × (splits (tree_of piece) ≤ allowance old.state 1) × (new.state ≡ after_graft old.problem old.state 1 ticket.node piece.prefix (tree_of piece))
+pub graft-step : (old new : LedgerOf) (ticket : TicketOf) (piece : PieceOf) → IsGraft old 1 ticket piece Taken new → (1 ≤ length old.state.allowances) × (splits (tree_of piece) ≤ allowance old.state 1) × IsPiece old.problem piece.prefix (tree_of piece) × (new.state ≡ after_graft old.problem old.state 1 ticket.node piece.prefix (tree_of piece))
 graft-step old new ticket piece (event, (own, owns, is), h) =
     let k : IsEvent old (Graft 1 ticket.node own piece.prefix (splits (tree_of piece)) (Some (tree_of piece))) Taken new = subst (λ e. IsEvent old e Taken new) is h in
-    (k.3.0.1, k.3.1.2, k.3.1.5)
+    (k.3.0.1, k.3.1.2, k.3.1.4, k.3.1.5)
 
 pub leads-graft : (old new : LedgerOf) (ticket : TicketOf) (piece : PieceOf) → IsGraft old 1 ticket piece Taken new → Leads old new
 leads-graft old new ticket piece (event, own, h) = event-leads old new event Taken h
 
-pub graft-between : (old new : LedgerOf) (ticket : TicketOf) (piece : PieceOf) → IsWithin old.state ticket → IsGraft old 1 ticket piece Taken new → IsBetween new.state
-graft-between old new ticket piece within h =
+-- of a piece whose whole orders aren't below the best time
+pub graft-between : (old new : LedgerOf) (ticket : TicketOf) (piece : PieceOf) → IsWithin old.problem old.state ticket → ((order : List ℕ) → Among order (whole_orders piece.prefix (tree_of piece)) → best_time old.problem old.state ≤ total_of old.problem order) → IsGraft old 1 ticket piece Taken new → IsBetween new.problem new.state
+graft-between old new ticket piece within each h =
     let b = old.problem in
     let l = old.state in
     let i = ticket.node in
@@ -202,8 +238,10 @@ graft-between old new ticket piece within h =
       ap (λ s. cond {A = ℕ} (is_out_state s) 1 0) within.out.1,
       ap (λ t. cond {A = ℕ} t 1 0) (root-not-out b best piece.prefix tree),
     ) in
-    subst IsBetween (sym taken.2)
+    subst (λ (p : Problem). IsBetween p new.state) (sym (leads-graft old new ticket piece h).0)
+    (subst (IsBetween b) (sym taken.3)
     (record {
       none_out = none-among (with_state l.nodes i (root_state b best piece.prefix tree) ++ made) none;
       alone = alone-set l.allowances (allowance l 1 - splits tree) taken.0 within.alone;
-    })
+      wholes = wholes-grafted b l 1 i piece.prefix tree within.out taken.2 each within.wholes;
+    }))

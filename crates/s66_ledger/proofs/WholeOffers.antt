@@ -15,7 +15,7 @@ use Rattle.s66_dep.proofs.Fronts.{beginning-few}
 use Rattle.s66_time.specs.TimedOrder.{TimedOrder}
 use Rattle.s66_ledger.specs.declared.reply.Offered.{Offered}
 use Rattle.s66_ledger.specs.declared.reply.Offered.TheVariants as offered
-use Rattle.s66_ledger.specs.Finishing.{WholesAreTimed, IsTimedAt, IsTiming}
+use Rattle.s66_ledger.specs.Finishing.{WholesAreTimed, IsTimedAt, IsOffering, IsTiming}
 use Rattle.s66_ledger.specs.Kept.{LedgerOf, IsEvent, IsKept, ledger_of}
 use Rattle.s66_ledger.specs.LiveNodes.{is_live_state}
 use Rattle.s66_ledger.specs.Nodes.{prefixes, node_at, seen_state}
@@ -24,21 +24,22 @@ use Rattle.s66_ledger.specs.declared.node.State.{State}
 use Rattle.s66_ledger.specs.declared.node.State.TheVariants as state
 use Rattle.s66_ledger.specs.Replies.{offered_reply}
 use Rattle.s66_ledger.proofs.SeenNodes.{at-nodes}
-use Rattle.s66_ledger.proofs.Leading.{each-among, event-leads, leads-fall}
+use Rattle.s66_ledger.proofs.Leading.{each-among, leads-fall}
+use Rattle.s66_ledger.proofs.Rounds.{offer-offers}
 
-timed-still : (b : Problem) (old new : Ledger) (i : ℕ) → new.nodes ≡ old.nodes → best_time b new ≤ best_time b old → IsTimedAt b old i → IsTimedAt b new i
-timed-still b old new i same le timed =
-    subst (λ ns. is_live (model.node_at ns i) ≡ true → IsComplete b.block (model.node_at ns i).prefix → best_time b new ≤ floor_value b (model.node_at ns i).prefix) (sym same)
-    (λ live whole. omega (arith, timed live whole, le))
+timed-still : (old new : LedgerOf) (i : ℕ) → IsOffering old new → IsTimedAt old.problem old.state i → IsTimedAt new.problem new.state i
+timed-still old new i offers timed =
+    let before : IsTimedAt new.problem old.state i = subst (λ (b : Problem). IsTimedAt b old.state i) (sym offers.leads.0) timed in
+    let falls = leads-fall old new offers.leads in
+    subst (λ ns. is_live (model.node_at ns i) ≡ true → IsComplete new.problem.block (model.node_at ns i).prefix → best_time new.problem new.state ≤ floor_value new.problem (model.node_at ns i).prefix) (sym (ap (λ (l : Ledger). l.nodes) offers.same))
+    (λ live whole. omega (arith, before live whole, falls))
 
 -- what was timed stays so, and one more is
 pub timed-next : (old new : LedgerOf) (i : ℕ) → IsTiming old i new → ((j : ℕ) → j < i → IsTimedAt old.problem old.state j) → (j : ℕ) → j < i + 1 → IsTimedAt new.problem new.state j
 timed-next old new i h before j lt =
     elim (cases_eq j i) [
       | inl is ↦ subst (IsTimedAt new.problem new.state) (sym is) h.timed
-      | inr not ↦
-          timed-still new.problem old.state new.state j h.nodes (leads-fall old new h.leads)
-          (subst (λ (b : Problem). IsTimedAt b old.state j) (sym h.leads.0) (before j (omega (arith, lt, not))))
+      | inr not ↦ timed-still old new j h.offers (before j (omega (arith, lt, not)))
     ]
 
 pub all-timed : (b : Problem) (l : Ledger) → ((i : ℕ) → i < length l.nodes → IsTimedAt b l i) → WholesAreTimed b l
@@ -47,14 +48,11 @@ all-timed b l h = each-among (λ (n : model.Node). is_live n ≡ true → IsComp
 pub whole-legal : (block : List Instr) (prefix : List ℕ) → IsBeginning block prefix → length block ≤ length prefix → IsLegal block prefix
 whole-legal block prefix begins le = order-legal block prefix (begins, omega (arith, le, beginning-few block prefix begins))
 
--- an offer leaves all but the best order, and that takes no more time than what is offered
-abbrev IsOffered : Problem → List ℕ → Ledger → Ledger → Type 0
-IsOffered b order old new = (best_time b new ≤ total_of b order) × (new.nodes ≡ old.nodes) × (new.spent ≡ old.spent)
-
-moved : (b : Problem) (old new : Ledger) (w : ℕ) (own : Bool) (order : List ℕ) (time : ℕ) (answer : Offered) → own ≡ true → time ≡ total_of b order → Moves b old (Offer w own order time) (offered_reply answer) new → IsOffered b order old new
-moved b old new w own order time offered.Lower is same h = (omega (arith, ap (best_time b) h.2), ap (λ (l : Ledger). l.nodes) h.2, ap (λ (l : Ledger). l.spent) h.2)
-moved b old new w own order time (offered.NotLower least) is same h = (omega (arith, ap (best_time b) h.3, h.1, same), ap (λ (l : Ledger). l.nodes) h.3, ap (λ (l : Ledger). l.spent) h.3)
-moved b old new w own order time offered.OtherBlock is same h = absurd (true≢false (sym is ∙ h.0))
+-- the best order takes no more time than what is offered
+at-most : (b : Problem) (old new : Ledger) (w : ℕ) (own : Bool) (order : List ℕ) (time : ℕ) (answer : Offered) → own ≡ true → time ≡ total_of b order → Moves b old (Offer w own order time) (offered_reply answer) new → best_time b new ≤ total_of b order
+at-most b old new w own order time offered.Lower is same h = omega (arith, ap (best_time b) h.2)
+at-most b old new w own order time (offered.NotLower least) is same h = omega (arith, ap (best_time b) h.3, h.1, same)
+at-most b old new w own order time offered.OtherBlock is same h = absurd (true≢false (sym is ∙ h.0))
 
 -- the order of a complete prefix is offered
 pub timed-now : (old new : LedgerOf) (w i : ℕ) (timed : TimedOrder) (answer : Offered) → timed ≡ record { problem = old.problem; numbers = (model.node_at old.state.nodes i).prefix } → ((event : Event) × IsOfferOf old.problem w timed.problem timed.numbers event × IsEvent old event (offered_reply answer) new) → IsTiming old i new
@@ -64,14 +62,13 @@ timed-now old new w i timed answer is (event, (own, iff, told), h) =
     let problem : timed.problem ≡ b = ap (λ (t : TimedOrder). t.problem) is in
     let numbers : timed.numbers ≡ at = ap (λ (t : TimedOrder). t.numbers) is in
     let step : Moves b old.state (Offer w own timed.numbers (total_of timed.problem timed.numbers)) (offered_reply answer) new.state = subst (λ (e : Event). Moves b old.state e (offered_reply answer) new.state) told h.3.1 in
-    let (fast, nodes, spent) = moved b old.state new.state w own timed.numbers (total_of timed.problem timed.numbers) answer (iff.1 problem) (ap (λ p. total_of p timed.numbers) problem) step in
+    let fast = at-most b old.state new.state w own timed.numbers (total_of timed.problem timed.numbers) answer (iff.1 problem) (ap (λ p. total_of p timed.numbers) problem) step in
+    let offers = offer-offers old new w timed answer (event, (own, iff, told), h) in
     record {
-      leads = event-leads old new event (offered_reply answer) h;
-      nodes = nodes;
-      spent = spent;
+      offers = offers;
       timed =
           subst (λ (p : Problem). IsTimedAt p new.state i) (sym h.0)
-          (subst (λ ns. is_live (model.node_at ns i) ≡ true → IsComplete b.block (model.node_at ns i).prefix → best_time b new.state ≤ floor_value b (model.node_at ns i).prefix) (sym nodes)
+          (subst (λ ns. is_live (model.node_at ns i) ≡ true → IsComplete b.block (model.node_at ns i).prefix → best_time b new.state ≤ floor_value b (model.node_at ns i).prefix) (sym (ap (λ (l : Ledger). l.nodes) offers.same))
           (λ live whole. omega (arith, fast, ap (total_of b) numbers, ap (value b at) (floor-whole b at whole))));
     }
 

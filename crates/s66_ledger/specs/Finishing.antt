@@ -22,15 +22,21 @@ pub record IsIdle (l : Ledger) : Type 0 where
   pub none_out : NoneOut l
   pub no_allowance : weigh (λ n. n) l.allowances ≡ 0
 
--- no node is out, and none that is open has a floor below the best time, or the budget is spent
-pub record IsSearched (b : Problem) (budget : ℕ) (l : Ledger) : Type 0 where
-  pub none_out : NoneOut l
-  pub open_or_spent : ((node : Node) → Among node l.nodes → is_open node ≡ true → best_time b l ≤ floor_value b node.prefix) ⊎ (l.spent ≡ budget)
-
 -- no whole order that is still open or out is below the best time
 abbrev pub WholesAreTimed : Problem → Ledger → Type 0
 WholesAreTimed b l =
     (node : Node) → Among node l.nodes → is_live node ≡ true → IsComplete b.block node.prefix → best_time b l ≤ floor_value b node.prefix
+
+-- no node is out, and none that is open has a floor below the best time, or the budget is spent and none of these is a whole order
+pub record IsSearched (b : Problem) (budget : ℕ) (l : Ledger) : Type 0 where
+  pub none_out : NoneOut l
+  pub open_or_spent : ((node : Node) → Among node l.nodes → is_open node ≡ true → best_time b l ≤ floor_value b node.prefix) ⊎ (l.spent ≡ budget)
+  pub wholes : WholesAreTimed b l
+
+-- an order is offered, or some are: nothing changes but the best one
+pub record IsOffering (old new : LedgerOf) : Type 0 where
+  pub leads : Leads old new
+  pub same : new.state ≡ after_offer old.state new.state.best
 
 -- ONE BY ONE
 
@@ -50,11 +56,9 @@ abbrev pub IsTimedAt : Problem → Ledger → ℕ → Type 0
 IsTimedAt b l i =
     is_live (node_at l.nodes i) ≡ true → IsComplete b.block (node_at l.nodes i).prefix → best_time b l ≤ floor_value b (node_at l.nodes i).prefix
 
--- the node's order is timed; the nodes, and what is spent, stay
+-- the node's order is offered where it is whole
 pub record IsTiming (old : LedgerOf) (node : ℕ) (new : LedgerOf) : Type 0 where
-  pub leads : Leads old new
-  pub nodes : new.state.nodes ≡ old.state.nodes
-  pub spent : new.state.spent ≡ old.state.spent
+  pub offers : IsOffering old new
   pub timed : IsTimedAt new.problem new.state node
 
 -- ROUNDS of worker 1
@@ -68,22 +72,19 @@ is_out_state (Closed leaf) = false
 abbrev pub is_out : Node → Bool
 is_out node = is_out_state node.state
 
--- between two rounds: no node is out, and no other worker has an allowance
-pub record IsBetween (l : Ledger) : Type 0 where
+-- between two rounds: no node is out, no other worker has an allowance, and no whole order is below the best time
+pub record IsBetween (b : Problem) (l : Ledger) : Type 0 where
   pub none_out : NoneOut l
   pub alone : weigh (λ n. n) l.allowances ≡ allowance l 1
+  pub wholes : WholesAreTimed b l
 
--- within a round: the ticket's node is out and no other is, and no other worker has an allowance
-pub record IsWithin (l : Ledger) (ticket : TicketOf) : Type 0 where
+-- within a round: the ticket's node is out and no other is, no other worker has an allowance, and no whole order is below the best time
+pub record IsWithin (b : Problem) (l : Ledger) (ticket : TicketOf) : Type 0 where
   pub out : IsOut l ticket.node
   pub prefix : ticket.prefix ≡ (node_at l.nodes ticket.node).prefix
   pub one_out : tally is_out l.nodes ≡ 1
   pub alone : weigh (λ n. n) l.allowances ≡ allowance l 1
-
--- an order is offered: nothing changes but the best one
-pub record IsOffering (old new : LedgerOf) : Type 0 where
-  pub leads : Leads old new
-  pub same : new.state ≡ after_offer old.state new.state.best
+  pub wholes : WholesAreTimed b l
 
 -- what a search still has: splits of the budget, and minor cycles of the best time
 abbrev pub still_to_go : LedgerOf → ℕ

@@ -319,8 +319,9 @@ impl<'a> Ledger<'a> {
         Ok(())
     }
 
-    /// Brings the search to its end: takes back every allowance and every node that is out, and goes on until no open node's floor is
-    /// below the best time, or the budget is spent and no whole order is below it. It offers two list schedules first.
+    /// Brings the search to its end: offers two list schedules, takes back every allowance and every node that is out, offers the
+    /// whole orders among the nodes, and goes on until no open node's floor is below the best time, or the budget is spent and no
+    /// whole order is below it.
     ///
     /// The time is that of expanding what it claims, and linear in the number of nodes. `Err` is want of memory.
     pub fn finish(mut self, alloc: Global) -> Result<Answer, AllocError>
@@ -334,8 +335,8 @@ impl<'a> Ledger<'a> {
         walk.go_to(&[]);
         self.offer_schedule(&mut walk, Priority::Issue)?;
         self.take_back()?;
-        self.search(alloc, &mut walk)?;
         self.offer_wholes()?;
+        self.search(alloc, &mut walk)?;
         Ok(self.into_answer())
     }
 

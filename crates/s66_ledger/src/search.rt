@@ -10,11 +10,11 @@ impl<'a> Ledger<'a> {
     ghost use Rattle.s66_model.specs.Leaves.{floor_value};
     ghost use Rattle.s66_model.specs.Timing.{total_of};
     ghost use Rattle.s66_time.specs.TimedOrder.{TimedOrder};
-    ghost use Rattle.s66_model.specs.Ledger.{best_time, allowance, node_at, IsOut, after_offer};
+    ghost use Rattle.s66_model.specs.Ledger.{best_time, allowance, node_at, IsOut};
     ghost use Rattle.s66_model.specs.Coverage.{Covers};
     ghost use Rattle.s66_model.specs.Expansion.{IsExpansion};
     ghost use Rattle.s66_node.specs.Pieces.{tree_of, IsBestTimed};
-    ghost use Rattle.s66_ledger.specs.Finishing.{Leads, IsIdle, IsSearched, IsBetween, IsWithin, IsOffering, still_to_go};
+    ghost use Rattle.s66_ledger.specs.Finishing.{Leads, IsIdle, WholesAreTimed, IsSearched, IsBetween, IsWithin, IsOffering, still_to_go};
 
     /// Goes on, as worker 1, until no open node's floor is below the best time or the budget is spent: claims the open node of the
     /// least floor, expands it by what the worker may spend, offers the best of its whole orders and grafts the piece. After each
@@ -24,6 +24,7 @@ impl<'a> Ledger<'a> {
         requires walk { walk.old.problem ≡ self.old.problem }
         requires workers { 1 ≤ self.old.workers }
         requires idle { IsIdle self.old.state }
+        requires wholes { WholesAreTimed self.old.problem self.old.state }
         ensures same { walk.new.problem ≡ walk.old.problem }
         ensures leads { OnOk result (Leads self.old self.new) }
         ensures searched { OnOk result (IsSearched self.new.problem self.new.budget self.new.state) }
@@ -40,10 +41,10 @@ impl<'a> Ledger<'a> {
     fn search_round(&mut self, alloc: Global, walk: &mut Walk<'_>) -> Result<bool, AllocError>
         requires walk { walk.old.problem ≡ self.old.problem }
         requires workers { 1 ≤ self.old.workers }
-        requires between { IsBetween self.old.state }
+        requires between { IsBetween self.old.problem self.old.state }
         ensures same { walk.new.problem ≡ walk.old.problem }
         ensures leads { IfOk result (λ on. Leads self.old self.new) }
-        ensures goes_on { IfOk result (λ on. on ≡ true → IsBetween self.new.state × (still_to_go self.new < still_to_go self.old)) }
+        ensures goes_on { IfOk result (λ on. on ≡ true → IsBetween self.new.problem self.new.state × (still_to_go self.new < still_to_go self.old)) }
         ensures ends { IfOk result (λ on. on ≡ false → IsSearched self.new.problem self.new.budget self.new.state) }
     {
         let allowance = self.allowance_or_grant()?;
@@ -69,10 +70,10 @@ impl<'a> Ledger<'a> {
     /// How many splits worker 1 may spend, after a grant where it has none; 0 only where the budget is spent.
     fn allowance_or_grant(&mut self) -> Result<u32, AllocError>
         requires workers { 1 ≤ self.old.workers }
-        requires between { IsBetween self.old.state }
+        requires between { IsBetween self.old.problem self.old.state }
         ensures value { IfOk result (λ n. n ≡ allowance self.new.state 1) }
         ensures leads { IfOk result (λ n. Leads self.old self.new) }
-        ensures between { IfOk result (λ n. IsBetween self.new.state) }
+        ensures between { IfOk result (λ n. IsBetween self.new.problem self.new.state) }
         ensures same { IfOk result (λ n. still_to_go self.new ≡ still_to_go self.old) }
         ensures spent { IfOk result (λ n. n ≡ 0 → self.new.state.spent ≡ self.new.budget) }
     {
@@ -122,7 +123,7 @@ impl<'a> Ledger<'a> {
     fn take_in(&mut self, ticket: Ticket, piece: Piece) -> Result<(), AllocError>
         requires workers { 1 ≤ self.old.workers }
         requires covers { Covers self.old.problem self.old.budget self.old.state }
-        requires within { IsWithin self.old.state ticket }
+        requires within { IsWithin self.old.problem self.old.state ticket }
         requires problem { piece.problem ≡ self.old.problem }
         requires prefix { piece.prefix ≡ ticket.prefix }
         requires expansion { IsExpansion self.old.problem (best_time self.old.problem self.old.state) (best_time self.old.problem self.old.state) (allowance self.old.state 1) piece.prefix (tree_of piece) }
@@ -130,9 +131,10 @@ impl<'a> Ledger<'a> {
         requires some { 1 ≤ allowance self.old.state 1 }
         requires below { floor_value self.old.problem piece.prefix < best_time self.old.problem self.old.state }
         ensures leads { OnOk result (Leads self.old self.new) }
-        ensures between { OnOk result (IsBetween self.new.state) }
+        ensures between { OnOk result (IsBetween self.new.problem self.new.state) }
         ensures less { OnOk result (still_to_go self.new < still_to_go self.old) }
     {
+        // first, so that no whole order is left open below the best time
         self.offer_best(&piece)?;
         match self.graft(1, ticket, piece) {
             Ok(()) => Ok(()),
@@ -146,8 +148,7 @@ impl<'a> Ledger<'a> {
     fn offer_best(&mut self, piece: &Piece) -> Result<(), AllocError>
         requires workers { 1 ≤ self.old.workers }
         requires problem { piece.now.problem ≡ self.old.problem }
-        ensures leads { OnOk result (Leads self.old self.new) }
-        ensures same { OnOk result (self.new.state ≡ after_offer self.old.state self.new.state.best) }
+        ensures offers { OnOk result (IsOffering self.old self.new) }
         ensures at_most { OnOk result ((timed : TimedOrder) → piece.now.timed ≡ Some timed → best_time self.new.problem self.new.state ≤ total_of self.new.problem timed.numbers) }
     {
         let Some(timed) = piece.timed() else {

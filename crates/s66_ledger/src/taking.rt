@@ -5,7 +5,7 @@ use std::alloc::AllocError;
 
 impl Ledger<'_> {
     ghost use Rattle.std.specs.Prelude.{◌≡◌, ◌<◌, ◌≤◌, length, OnOk};
-    ghost use Rattle.s66_ledger.specs.Finishing.{Leads, IsIdle, WholesAreTimed, IsTiming};
+    ghost use Rattle.s66_ledger.specs.Finishing.{Leads, IsIdle, WholesAreTimed, IsOffering, IsTiming};
 
     /// Takes back every allowance and every node that is out, in time linear in the number of nodes, with a logarithm of the number of
     /// open nodes for each that is out.
@@ -27,9 +27,7 @@ impl Ledger<'_> {
     /// length of the prefix of each whose floor is below the best. What is offered is timed anew.
     pub(crate) fn offer_wholes(&mut self) -> Result<(), AllocError>
         requires { 1 ≤ self.old.workers }
-        ensures leads { OnOk result (Leads self.old self.new) }
-        ensures nodes { OnOk result (self.new.state.nodes ≡ self.old.state.nodes) }
-        ensures spent { OnOk result (self.new.state.spent ≡ self.old.state.spent) }
+        ensures offers { OnOk result (IsOffering self.old self.new) }
         ensures timed { OnOk result (WholesAreTimed self.new.problem self.new.state) }
     {
         for node in 0..self.node_count() {

@@ -7,7 +7,7 @@ use Rattle.s66_model.specs.Timing.{Problem, total_of}
 use Rattle.s66_node.specs.declared.whole_order.WholeOrder.{WholeOrder}
 use Rattle.s66_node.specs.Walking.{IsLeast}
 
-pub among-either : (x : List ℕ) (xs ys : List (List ℕ)) (R : Type 0) → (Among x xs → R) → (Among x ys → R) → Among x (xs ++ ys) → R
+pub among-either : {X : Type 0} (x : X) (xs ys : List X) (R : Type 0) → (Among x xs → R) → (Among x ys → R) → Among x (xs ++ ys) → R
 among-either x [] ys R f g h = g h
 among-either x (y ∷ xs) ys R f g (inl e) = f (inl e)
 among-either x (y ∷ xs) ys R f g (inr h) = among-either x xs ys R (λ k. f (inr k)) g h

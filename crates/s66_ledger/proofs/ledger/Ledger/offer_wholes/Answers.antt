@@ -1,5 +1,6 @@
-use Rattle.std.proofs.Common.{◌∙◌, arith, ap, length}
-use Rattle.s66_ledger.proofs.Leading.{leads-on}
+use Rattle.std.proofs.Common.{arith, ap, length}
+use Rattle.s66_model.specs.Ledger.{Ledger}
+use Rattle.s66_ledger.proofs.Rounds.{offer-on}
 use Rattle.s66_ledger.proofs.WholeOffers.{timed-next, all-timed}
 use Rattle.s66_ledger.proofs.ledger.Ledger.offer_wholes.Goals as goal
 
@@ -9,13 +10,12 @@ loop-node-preserved c =
     let new = c.offer_whole.new.self in
     let now = c.in_ok-offer_whole.ensures in
     record {
-      leads = leads-on c.args.self.now old new c.loop-node.invariant.leads now.leads;
-      nodes = now.nodes ∙ c.loop-node.invariant.nodes;
-      spent = now.spent ∙ c.loop-node.invariant.spent;
+      offers = offer-on c.args.self.now old new c.loop-node.invariant.offers now.offers;
       timed = timed-next old new c.loop-node.node now c.loop-node.invariant.timed;
     }
 
 pub returns-clause-timed : goal.returns-clause-timed
 returns-clause-timed c =
     let l = c.loop-node.self in
-    all-timed l.problem l.state (λ i lt. c.loop-node.invariant.timed i (omega (arith, lt, ap length c.loop-node.invariant.nodes, c.node_count-node-end.ensures, c.loop-node-test.false)))
+    let same = ap (λ (s : Ledger). length s.nodes) c.loop-node.invariant.offers.same in
+    all-timed l.problem l.state (λ i lt. c.loop-node.invariant.timed i (omega (arith, lt, same, c.node_count-node-end.ensures, c.loop-node-test.false)))

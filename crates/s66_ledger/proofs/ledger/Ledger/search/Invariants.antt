@@ -7,7 +7,7 @@ invariant-loop-rounds l =
     record {
       walk : l.walk.problem ≡ l.fn.walk.problem;
       leads : Leads l.fn.self l.self;
-      between : IsBetween l.self.state;
+      between : IsBetween l.self.problem l.self.state;
     }
 
 abbrev pub decreases-loop-rounds : goal.decreases-loop-rounds
