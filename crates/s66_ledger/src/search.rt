@@ -2,7 +2,7 @@ use crate::ledger::Ledger;
 use crate::limits::SCHEDULE_ROUNDS;
 use crate::reply::{BackError, GraftError};
 use crate::ticket::Ticket;
-use s66_node::{Piece, Priority, Walk, list_schedule};
+use s66_node::{Piece, Priority, Walk, schedule_rest};
 use std::alloc::{AllocError, Global};
 
 impl<'a> Ledger<'a> {
@@ -96,7 +96,7 @@ impl<'a> Ledger<'a> {
         self.offer_schedule(walk, Priority::Start)
     }
 
-    /// Offers a list schedule from the walk's prefix on.
+    /// Offers a list schedule from the walk's prefix on, where its time is below the best; the walk ends at the whole order.
     pub(crate) fn offer_schedule(
         &mut self,
         walk: &mut Walk<'_>,
@@ -106,8 +106,12 @@ impl<'a> Ledger<'a> {
         ensures walk { walk.new.problem ≡ walk.old.problem }
         ensures offers { OnOk result (IsOffering self.old self.new) }
     {
-        let timed = list_schedule(walk, priority);
-        self.offer(1, timed)?;
+        schedule_rest(walk, priority);
+        // few are, and only these are timed anew
+        if self.best() <= walk.floor_value() {
+            return Ok(());
+        }
+        self.offer(1, walk.timed())?;
         Ok(())
     }
 

@@ -102,31 +102,47 @@ fn first_ready(walk: &mut Walk<'_>, priority: Priority) -> Option<u8>
     Some(best.number)
 }
 
-/// The whole order at which a walk stands, with its times.
-fn timed_of(walk: &Walk<'_>) -> Timed
-    requires { IsComplete walk.now.problem.block walk.now.numbers }
-    ensures { result ≡ record { problem = walk.now.problem; numbers = walk.now.numbers } }
-{
-    let block = walk.clock.block();
-    let Ok(order) = Order::new(block, walk.numbers()) else {
-        unreachable!()
-    };
-    time_of(block, walk.clock.profile(), &order)
+impl Walk<'_> {
+    ghost use Rattle.std.specs.Prelude.{◌≡◌};
+    ghost use Rattle.s66_model.specs.LegalOrder.{IsComplete};
+
+    /// The whole order at which it stands, with its times, in time quadratic in the block's length.
+    pub fn timed(&self) -> Timed
+        requires { IsComplete self.now.problem.block self.now.numbers }
+        ensures { result ≡ record { problem = self.now.problem; numbers = self.now.numbers } }
+    {
+        let block = self.clock.block();
+        let Ok(order) = Order::new(block, self.numbers()) else {
+            unreachable!()
+        };
+        time_of(block, self.clock.profile(), &order)
+    }
 }
 
-/// A list schedule, which is a good order of those that begin with the walk's prefix: it goes on with the ready number that comes
-/// first; of equal ones with that of the longest tail, and of these with the lowest. The walk ends at the whole order.
+/// Schedules what remains after the walk's prefix: the walk goes on with the ready number that comes first; of equal ones with that
+/// of the longest tail, and of these with the lowest. It ends at the whole order, which is a good one of those that begin with the
+/// prefix.
 ///
 /// Each place of the order costs a push and an undo for each number that is ready there, and a push; nothing is allocated.
-pub fn list_schedule(walk: &mut Walk<'_>, priority: Priority) -> Timed
-    ensures ends { result ≡ record { problem = walk.new.problem; numbers = walk.new.numbers } }
+pub fn schedule_rest(walk: &mut Walk<'_>, priority: Priority)
     ensures same { walk.new.problem ≡ walk.old.problem }
-    ensures begins { BeginsWith walk.old.numbers result.numbers }
+    ensures complete { IsComplete walk.new.problem.block walk.new.numbers }
+    ensures begins { BeginsWith walk.old.numbers walk.new.numbers }
 {
     // so it is a beginning
     prove!(walk.numbers().len() <= BLOCK_LIMIT);
     while let Some(n) = first_ready(walk, priority) {
         walk.push(n);
     }
-    timed_of(walk)
+}
+
+/// A list schedule: the whole order at which the walk ends where what remains after its prefix is scheduled, with its times.
+/// Nothing is allocated.
+pub fn list_schedule(walk: &mut Walk<'_>, priority: Priority) -> Timed
+    ensures ends { result ≡ record { problem = walk.new.problem; numbers = walk.new.numbers } }
+    ensures same { walk.new.problem ≡ walk.old.problem }
+    ensures begins { BeginsWith walk.old.numbers result.numbers }
+{
+    schedule_rest(walk, priority);
+    walk.timed()
 }

@@ -1,7 +1,7 @@
 use Rattle.std.proofs.Common.{◌-◌, ◌≡◌, length}
 use Rattle.s66_model.specs.LegalOrder.{IsBeginning}
 use Rattle.s66_node.specs.Walked.{BeginsWith}
-use Rattle.s66_node.proofs.schedule.list_schedule.Given as goal
+use Rattle.s66_node.proofs.schedule.schedule_rest.Given as goal
 
 abbrev pub invariant-loop-n : goal.invariant-loop-n
 invariant-loop-n l = record {

@@ -3,7 +3,7 @@ use Rattle.s66_dep.proofs.Fronts.{beginning-few}
 use Rattle.s66_model.specs.LegalOrder.{IsComplete}
 use Rattle.s66_node.specs.Walked.{Walked}
 use Rattle.s66_node.proofs.Schedules.{next-begins, next-further, none-ready}
-use Rattle.s66_node.proofs.schedule.list_schedule.Goals as goal
+use Rattle.s66_node.proofs.schedule.schedule_rest.Goals as goal
 
 pub loop-n-smaller : goal.loop-n-smaller
 loop-n-smaller c =
@@ -18,8 +18,8 @@ loop-n-preserved c =
       further = next-further c.args.walk.now.numbers c.loop-n.walk c.first_ready.new.walk c.push.new.self c.in-Some.n c.loop-n.invariant.further c.in-Some.ensures.same c.push.ensures;
     }
 
-pub timed_of-requires : goal.timed_of-requires
-timed_of-requires c =
+pub returns-clause-complete : goal.returns-clause-complete
+returns-clause-complete c =
     let w = c.loop-n.walk in
     subst (λ (x : Walked). IsComplete x.problem.block x.numbers) (sym c.in_default.ensures.same) (none-ready w.problem.block w.numbers c.loop-n.invariant.begins c.in_default.ensures.none)
 
