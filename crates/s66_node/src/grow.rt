@@ -12,6 +12,9 @@ use s66_dep::Set;
 use s66_line::BLOCK_LIMIT;
 use std::alloc::{AllocError, Global};
 
+/// For how many lines of a tree that is split there is room from the first: a small tree needs no more.
+const FIRST_LINES: usize = 64;
+
 /// A tree by its lines in preorder, how many of them are splits, and a least one of its whole orders.
 #[derive(Debug, Drop)]
 pub(crate) struct Grown {
@@ -77,6 +80,7 @@ pub(crate) fn grow(
             least,
         });
     }
+    knots.reserve(FIRST_LINES)?;
     let ready = walk.ready();
     knots.push(Knot::Split(ready))?;
     let mut splits = 1;

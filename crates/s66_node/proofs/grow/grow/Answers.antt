@@ -35,8 +35,8 @@ loop-frame-init c =
     let b = c.args.walk.now.problem in
     let root = c.args.walk.now.numbers in
     let numbers : numbers_in c.ready-ready.result ≡ ready b.block root = c.ready-ready.ensures in
-    let pushed = seen-push c.new-knots.result.items c.push-2.new.self.items _ (AtSplit (numbers_in c.ready-ready.result)) c.in_ok-push-2.ensures.items refl in
-    let knots : seen c.push-2.new.self.items ≡ AtSplit (ready b.block root) ∷ [] = pushed ∙ (ap (λ ks. seen ks ++ AtSplit (numbers_in c.ready-ready.result) ∷ []) c.new-knots.ensures.items ∙ ap (λ ns. AtSplit ns ∷ []) numbers) in
+    let pushed = seen-push c.reserve.new.self.items c.push-2.new.self.items _ (AtSplit (numbers_in c.ready-ready.result)) c.in_ok-push-2.ensures.items refl in
+    let knots : seen c.push-2.new.self.items ≡ AtSplit (ready b.block root) ∷ [] = pushed ∙ (ap (λ ks. seen ks ++ AtSplit (numbers_in c.ready-ready.result) ∷ []) (c.reserve.ensures.items ∙ c.new-knots.ensures.items) ∙ ap (λ ns. AtSplit ns ∷ []) numbers) in
     let frames : c.push-3.new.self.items ≡ c.ready-ready.result ∷ [] = c.push-3.ensures.items ∙ ap (λ fs. fs ++ c.ready-ready.result ∷ []) c.new-frames.ensures in
     let walk = walk-root b c.args.best c.args.allowance root c.ready-ready.result (ltb-true 0 c.args.allowance c.in_default.ensures.may) c.numbers.ensures.begins c.in_default.ensures.due numbers in
     record { problem = refl; walk = rw (frames, knots) walk }
