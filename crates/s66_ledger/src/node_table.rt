@@ -206,7 +206,6 @@ impl NodeTable {
         let made = self.nodes.len();
         let place = Place {
             node: root,
-            depth: self.nodes[at].depth,
             left: numbers,
         };
         append(&mut self.nodes, place, best, piece)?;

@@ -23,7 +23,6 @@ use std::collections::BinaryHeap;
 #[derive(Clone, Copy, Debug, Default)]
 pub struct Place {
     pub node: u32,
-    pub depth: u8,
     pub left: Set,
 }
 
@@ -76,6 +75,7 @@ pub fn append(
 {
     let knots = piece.knots();
     nodes.reserve(knots.len())?;
+    let root_depth = nodes[root.node as usize].depth;
     let mut places: ArrayVec<Place, BLOCK_LIMIT> = ArrayVec::new();
     places.push(root);
     let mut cursor = 1;
@@ -85,19 +85,18 @@ pub fn append(
             let knot = &knots[cursor];
             cursor += 1;
             let made = nodes.len() as u32;
-            let depth = place.depth.saturating_add(1);
             nodes.push_reserved(Node {
                 parent: place.node,
                 value: value_of(knot),
                 number,
-                depth,
+                // there is a place for each prefix from the root's to its parent's
+                depth: root_depth.saturating_add(places.len() as u8),
                 state: state_of(knot, best),
                 from: 0,
             });
             if let Knot::Split(numbers) = knot {
                 places.push(Place {
                     node: made,
-                    depth,
                     left: *numbers,
                 });
             }

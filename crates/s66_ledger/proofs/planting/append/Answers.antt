@@ -48,7 +48,7 @@ push-requires-in-Split c =
     let lt : l.cursor < length c.knots-knots.result.now = omega (arith, reading-next p.problem c.args.best total at l.places.items c.pop.new.self.items c.in-Some.place l.nodes.items (drop l.cursor ks) reading c.in-Some.ensures.items c.in-Some-pop_first.number left c.in-Some-pop_first.ensures.some, length-drop l.cursor ks, length-seen c.knots-knots.result.now) in
     let first : drop l.cursor ks ≡ AtSplit (numbers_in c.in-Split.numbers) ∷ drop (l.cursor + 1) ks = line-at c.knots-knots.result.now l.cursor _ _ lt refl ∙ ap (λ k. seen_knot k ∷ drop (l.cursor + 1) ks) c.in-Split.is in
     let deeper = reading-deeper p.problem c.args.best total at l.places.items c.pop.new.self.items c.in-Some.place l.nodes.items (drop l.cursor ks) reading c.in-Some.ensures.items c.in-Some-pop_first.number left (numbers_in c.in-Split.numbers) (drop (l.cursor + 1) ks) c.in-Some-pop_first.ensures.some first in
-    let place : Place = record { node = c.in-Some.place.node; depth = c.in-Some.place.depth; left = c.pop_first.new.self } in
+    let place : Place = record { node = c.in-Some.place.node; left = c.pop_first.new.self } in
     (omega arith, omega (arith, deeper, c.requires.few, ap length c.push-in-Some-pop_first.ensures.items, length-append c.pop.new.self.items (place ∷ [])))
 
 pub loop-place-preserved : goal.loop-place-preserved
@@ -74,11 +74,11 @@ loop-place-preserved-in-Split c =
     let total = all-nodes p c.args.best c.args.nodes.now.items (numbers_in c.args.root.left) in
     let (at, reading) = l.invariant.reading in
     let left = numbers_in c.pop_first.new.self in
-    let place : Place = record { node = c.in-Some.place.node; depth = c.in-Some.place.depth; left = c.pop_first.new.self } in
-    let node : Node = record { parent = c.in-Some.place.node; value = c.value_of.result; number = c.in-Some-pop_first.number; depth = c.saturating_add-depth.result; state = c.state_of.result; from = 0 } in
+    let place : Place = record { node = c.in-Some.place.node; left = c.pop_first.new.self } in
+    let node : Node = record { parent = c.in-Some.place.node; value = c.value_of.result; number = c.in-Some-pop_first.number; depth = c.saturating_add.result; state = c.state_of.result; from = 0 } in
     let lt : l.cursor < length c.knots-knots.result.now = omega (arith, reading-next p.problem c.args.best total at l.places.items c.pop.new.self.items c.in-Some.place l.nodes.items (drop l.cursor ks) reading c.in-Some.ensures.items c.in-Some-pop_first.number left c.in-Some-pop_first.ensures.some, length-drop l.cursor ks, length-seen c.knots-knots.result.now) in
     let first : drop l.cursor ks ≡ AtSplit (numbers_in c.in-Split.numbers) ∷ drop (l.cursor + 1) ks = line-at c.knots-knots.result.now l.cursor _ _ lt refl ∙ ap (λ k. seen_knot k ∷ drop (l.cursor + 1) ks) c.in-Split.is in
-    let below : Place = record { node = c.len-made.result; depth = c.saturating_add-depth.result; left = c.in-Split.numbers } in
+    let below : Place = record { node = c.len-made.result; left = c.in-Split.numbers } in
     let one = l.invariant.first in
     record {
       count = omega (arith, l.invariant.count, c.push_reserved.ensures.len);
@@ -102,8 +102,8 @@ loop-place-preserved-in_default-knot c =
     let total = all-nodes p c.args.best c.args.nodes.now.items (numbers_in c.args.root.left) in
     let (at, reading) = l.invariant.reading in
     let left = numbers_in c.pop_first.new.self in
-    let place : Place = record { node = c.in-Some.place.node; depth = c.in-Some.place.depth; left = c.pop_first.new.self } in
-    let node : Node = record { parent = c.in-Some.place.node; value = c.value_of.result; number = c.in-Some-pop_first.number; depth = c.saturating_add-depth.result; state = c.state_of.result; from = 0 } in
+    let place : Place = record { node = c.in-Some.place.node; left = c.pop_first.new.self } in
+    let node : Node = record { parent = c.in-Some.place.node; value = c.value_of.result; number = c.in-Some-pop_first.number; depth = c.saturating_add.result; state = c.state_of.result; from = 0 } in
     let lt : l.cursor < length c.knots-knots.result.now = omega (arith, reading-next p.problem c.args.best total at l.places.items c.pop.new.self.items c.in-Some.place l.nodes.items (drop l.cursor ks) reading c.in-Some.ensures.items c.in-Some-pop_first.number left c.in-Some-pop_first.ensures.some, length-drop l.cursor ks, length-seen c.knots-knots.result.now) in
     let (told, seen_is, state_is, value_is) = line-told c.args.best _ c.in_default-knot.not-Split in
     let first = line-at c.knots-knots.result.now l.cursor _ _ lt refl ∙ ap (λ (k : Knot Told). k ∷ drop (l.cursor + 1) ks) seen_is in
