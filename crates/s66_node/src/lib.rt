@@ -12,5 +12,5 @@ mod whole_order;
 pub use expansion::expand;
 pub use knot::Knot;
 pub use piece::Piece;
-pub use schedule::{Priority, list_schedule, schedule_rest};
+pub use schedule::{Priority, schedule_rest};
 pub use walk::Walk;

@@ -135,14 +135,3 @@ pub fn schedule_rest(walk: &mut Walk<'_>, priority: Priority)
         walk.push(n);
     }
 }
-
-/// A list schedule: the whole order at which the walk ends where what remains after its prefix is scheduled, with its times.
-/// Nothing is allocated.
-pub fn list_schedule(walk: &mut Walk<'_>, priority: Priority) -> Timed
-    ensures ends { result ≡ record { problem = walk.new.problem; numbers = walk.new.numbers } }
-    ensures same { walk.new.problem ≡ walk.old.problem }
-    ensures begins { BeginsWith walk.old.numbers result.numbers }
-{
-    schedule_rest(walk, priority);
-    walk.timed()
-}

@@ -2,7 +2,7 @@ use super::clock::{MULTIPLIES, ONE_LOAD};
 use super::source_of;
 use s66_isa::Profile;
 use s66_line::{Block, read_source};
-use s66_node::{Priority, Walk, list_schedule};
+use s66_node::{Priority, Walk, schedule_rest};
 use std::process::Abort;
 use std::test::Fail;
 
@@ -17,7 +17,8 @@ fn check_schedules<R: Abort>(
     let mut walk = Walk::new(block, &Profile::standard());
     for round in 0..2 {
         walk.go_to(&[]);
-        let timed = list_schedule(&mut walk, priority);
+        schedule_rest(&mut walk, priority);
+        let timed = walk.timed();
         assert_eq!(rt; timed.order().numbers(), numbers);
         assert_eq!(rt; timed.total(), total, "{numbers:?}");
     }
