@@ -22,7 +22,7 @@ pub mod PadsLaw
 pub mod PlacedBlocks
 pub mod PrintedLines
 pub mod ReadBack
-pub mod NoReturns
+pub mod NoLineEnds
 pub mod ReadLine
 pub mod ReadComments
 pub mod ReadBlock

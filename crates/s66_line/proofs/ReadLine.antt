@@ -1,10 +1,10 @@
 -- An instruction line that is printed, read again.
 use Rattle.std.proofs.Common.{◌≡◌, ◌<◌, ◌+◌, ◌-◌, ◌==◌, ◌&&◌, ◌||◌, ℕ, zero, suc, Bool, true, false, not, if◌then◌else◌, true≢false, List, [], ◌∷◌, ◌++◌, Option, None, Some, is_some, option_and_then, length, replicate, refl, sym, ap, ◌∙◌, subst, arith, eqb-true, nat_le, nat_lt, append_assoc, length-append}
-use Rattle.std.proofs.lemmas.Bool.{and_parts, and_from, not-true, ne_eqb, lt-ltb, ltb-true, lt-leb}
+use Rattle.std.proofs.lemmas.Bool.{and_parts, and_from, or_parts, not-true, ne_eqb, lt-ltb, ltb-true, lt-leb}
 use Rattle.std.proofs.Math.Bool.{and-false}
 use Rattle.s66_isa.specs.declared.instr.Instr.{Instr}
 use Rattle.s66_isa.specs.Lists.{every}
-use Rattle.s66_line.specs.Fields.{is_blank, is_return, trim, body, upper, skip_blanks, word, after_word, blanks, is_comment, from_location, from_operation, operation, operand, continues, label_bytes}
+use Rattle.s66_line.specs.Fields.{is_blank, is_newline, is_return, trim, body, upper, skip_blanks, word, after_word, blanks, is_comment, from_location, from_operation, operation, operand, continues, label_bytes}
 use Rattle.s66_line.specs.Operand.{is_filled, operation_of, decode, instr_of}
 use Rattle.s66_line.specs.InstructionText.{operation_in, operand_in, Spells}
 use Rattle.s66_line.specs.Source.{class_of, class_of_operand, is_pad, is_located, by_operation, begins_run}
@@ -14,7 +14,7 @@ use Rattle.s66_line.specs.declared.class.Class.TheVariants.{Comment, Other, Refu
 use Rattle.s66_line.specs.declared.operand.operation.Syntax.{Syntax}
 use Rattle.s66_line.proofs.InstructionTexts.{is_no_blank, no_blank-word, filled-parts, word-before, after-before}
 use Rattle.s66_line.proofs.LineFields.{skip_blanks-no, from_location-no, label-no, indented_no}
-use Rattle.s66_line.proofs.NoReturns.{no_return, NoReturn, spelled-no_return, no_return-upper}
+use Rattle.s66_line.proofs.NoLineEnds.{ends_no_line, EndsNoLine, spelled-ends_no_line, ends_no_line-upper}
 use Rattle.s66_line.proofs.ReadBack.{trim-kept, class_of_body}
 use Rattle.s66_line.proofs.Wholes.{is_inside, every-append}
 
@@ -24,33 +24,33 @@ trim-all : (test : ℕ → Bool) (bytes : List ℕ) → every test bytes ≡ tru
 trim-all test [] h = refl
 trim-all test (b ∷ bytes) h = rw h refl
 
-trim-front : (b : ℕ) (bytes : List ℕ) → is_blank b ≡ false → no_return b ≡ true → trim is_trailing (b ∷ bytes) ≡ b ∷ trim is_trailing bytes
-trim-front b bytes told h = trim-kept is_trailing b bytes (first (is_blank b) (is_return b) told (not-true (is_return b) h))
+trim-front : (b : ℕ) (bytes : List ℕ) → is_blank b ≡ false → ends_no_line b ≡ true → trim is_trailing (b ∷ bytes) ≡ b ∷ trim is_trailing bytes
+trim-front b bytes told h = trim-kept is_trailing b bytes (first (is_blank b) (is_return b) told (or_parts (is_newline b) (is_return b) (not-true (is_newline b || is_return b) h)).1)
   where
     first : (blank return : Bool) → blank ≡ false → return ≡ false → ((blank || return) && every is_trailing bytes) ≡ false
     first blank return h k = rw (h, k) refl
 
-word-trimmed : (bytes : List ℕ) → NoReturn (word bytes) → word (trim is_trailing bytes) ≡ word bytes
+word-trimmed : (bytes : List ℕ) → EndsNoLine (word bytes) → word (trim is_trailing bytes) ≡ word bytes
 word-trimmed [] h = refl
 word-trimmed (b ∷ bytes) h = by_blank (is_blank b) refl (word-trimmed bytes) h
   where
-    by_blank : (t : Bool) → is_blank b ≡ t → (NoReturn (word bytes) → word (trim is_trailing bytes) ≡ word bytes) → NoReturn (if t then [] else b ∷ word bytes) →
+    by_blank : (t : Bool) → is_blank b ≡ t → (EndsNoLine (word bytes) → word (trim is_trailing bytes) ≡ word bytes) → EndsNoLine (if t then [] else b ∷ word bytes) →
         word (trim is_trailing (b ∷ bytes)) ≡ (if t then [] else b ∷ word bytes)
     by_blank true told ih h = elim (every is_trailing (b ∷ bytes)) as (λ e. word (if e then [] else b ∷ trim is_trailing bytes) ≡ []) [ true ↦ refl | false ↦ rw told refl ]
     by_blank false told ih h =
-        let both = and_parts (no_return b) (every no_return (word bytes)) h in
+        let both = and_parts (ends_no_line b) (every ends_no_line (word bytes)) h in
         ap word (trim-front b bytes told both.0) ∙ (rw told (ap (λ w. b ∷ w) (ih both.1)))
 
-after_word-trimmed : (bytes : List ℕ) → NoReturn (word bytes) → after_word (trim is_trailing bytes) ≡ trim is_trailing (after_word bytes)
+after_word-trimmed : (bytes : List ℕ) → EndsNoLine (word bytes) → after_word (trim is_trailing bytes) ≡ trim is_trailing (after_word bytes)
 after_word-trimmed [] h = refl
 after_word-trimmed (b ∷ bytes) h = by_blank (is_blank b) refl (after_word-trimmed bytes) h
   where
-    by_blank : (t : Bool) → is_blank b ≡ t → (NoReturn (word bytes) → after_word (trim is_trailing bytes) ≡ trim is_trailing (after_word bytes)) → NoReturn (if t then [] else b ∷ word bytes) →
+    by_blank : (t : Bool) → is_blank b ≡ t → (EndsNoLine (word bytes) → after_word (trim is_trailing bytes) ≡ trim is_trailing (after_word bytes)) → EndsNoLine (if t then [] else b ∷ word bytes) →
         after_word (trim is_trailing (b ∷ bytes)) ≡ trim is_trailing (if t then b ∷ bytes else after_word bytes)
     by_blank true told ih h =
         elim (every is_trailing (b ∷ bytes)) as (λ e. after_word (if e then [] else b ∷ trim is_trailing bytes) ≡ (if e then [] else b ∷ trim is_trailing bytes)) [ true ↦ refl | false ↦ rw told refl ]
     by_blank false told ih h =
-        let both = and_parts (no_return b) (every no_return (word bytes)) h in
+        let both = and_parts (ends_no_line b) (every ends_no_line (word bytes)) h in
         ap after_word (trim-front b bytes told both.0) ∙ (rw told (ih both.1))
 
 skip_blanks-trimmed : (bytes : List ℕ) → skip_blanks (trim is_trailing bytes) ≡ trim is_trailing (skip_blanks bytes)
@@ -66,18 +66,18 @@ skip_blanks-trimmed (b ∷ bytes) = by_blank (is_blank b) (every is_trailing (b 
 
 -- WHAT REMAINS of the bytes that spell an instruction
 
-no_return-word : (bytes : List ℕ) → NoReturn (upper bytes) → NoReturn bytes
-no_return-word bytes h = sym (no_return-upper bytes) ∙ h
+ends_no_line-word : (bytes : List ℕ) → EndsNoLine (upper bytes) → EndsNoLine bytes
+ends_no_line-word bytes h = sym (ends_no_line-upper bytes) ∙ h
 
 operation-again : (bytes : List ℕ) (n : Instr) → Spells bytes n → word (trim is_trailing bytes) ≡ word bytes
-operation-again bytes n spells = word-trimmed bytes (no_return-word (word bytes) (spelled-no_return (operation_in bytes) (operand_in bytes) n spells).0.0)
+operation-again bytes n spells = word-trimmed bytes (ends_no_line-word (word bytes) (spelled-ends_no_line (operation_in bytes) (operand_in bytes) n spells).0.0)
 
 operand-again : (bytes : List ℕ) (n : Instr) → Spells bytes n → word (skip_blanks (after_word (trim is_trailing bytes))) ≡ word (skip_blanks (after_word bytes))
 operand-again bytes n spells =
-    let clean = spelled-no_return (operation_in bytes) (operand_in bytes) n spells in
-    ap (λ w. word (skip_blanks w)) (after_word-trimmed bytes (no_return-word (word bytes) clean.0.0))
+    let clean = spelled-ends_no_line (operation_in bytes) (operand_in bytes) n spells in
+    ap (λ w. word (skip_blanks w)) (after_word-trimmed bytes (ends_no_line-word (word bytes) clean.0.0))
     ∙ ap word (skip_blanks-trimmed (after_word bytes))
-    ∙ word-trimmed (skip_blanks (after_word bytes)) (no_return-word (word (skip_blanks (after_word bytes))) clean.1)
+    ∙ word-trimmed (skip_blanks (after_word bytes)) (ends_no_line-word (word (skip_blanks (after_word bytes))) clean.1)
 
 -- it spells the same instruction
 spells-again : (bytes : List ℕ) (n : Instr) → Spells bytes n → Spells (trim is_trailing bytes) n
@@ -92,7 +92,7 @@ filled-upper (b ∷ bytes) = refl
 
 filled-again : (bytes : List ℕ) (n : Instr) → Spells bytes n → is_filled (word (trim is_trailing bytes)) ≡ true
 filled-again bytes n spells =
-    ap is_filled (operation-again bytes n spells) ∙ sym (filled-upper (word bytes)) ∙ (spelled-no_return (operation_in bytes) (operand_in bytes) n spells).0.1
+    ap is_filled (operation-again bytes n spells) ∙ sym (filled-upper (word bytes)) ∙ (spelled-ends_no_line (operation_in bytes) (operand_in bytes) n spells).0.1
 
 -- a word stands in front
 skip_blanks-word : (bytes : List ℕ) → is_filled (word bytes) ≡ true → skip_blanks bytes ≡ bytes

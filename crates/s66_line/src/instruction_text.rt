@@ -46,8 +46,9 @@ pub(crate) fn spell(bytes: &[u8]) -> ArrayVec<u8, TEXT_LIMIT>
     letters
 }
 
-/// The instruction that the operation and the operand in front of these bytes spell, in upper or in lower case.
-fn instruction_in(bytes: &[u8]) -> Option<Instr>
+/// The instruction that the operation and the operand in front of these bytes spell, in upper or in lower case and whatever follows
+/// them; none where they spell none.
+pub fn instruction_in(bytes: &[u8]) -> Option<Instr>
     requires { length bytes.now ≤ TEXT_LIMIT }
     ensures { result ≡ instr_of (operation_in bytes.now) (operand_in bytes.now) }
 {

@@ -15,6 +15,7 @@ pub mod LoadBound
 pub mod ChainBound
 pub mod Trees
 pub mod Forests
+pub mod Later
 pub mod TreesHold
 pub mod Dictionary
 pub mod LongestChain
@@ -38,3 +39,4 @@ pub mod Histories
 pub mod GrownTrees
 pub mod NodeTrees
 pub mod EndedLedgers
+pub mod TreeLines

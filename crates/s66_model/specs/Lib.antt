@@ -9,6 +9,7 @@ pub mod Floor
 pub mod Tails
 pub mod Tree
 pub mod Preorder
+pub mod Later
 pub mod Answer
 pub mod Piece
 pub mod Told
@@ -23,3 +24,4 @@ pub mod Recorded
 pub mod Examples
 pub use Rattle.s66_isa.specs.Lists
 pub use Rattle.s66_isa.specs.Table
+pub mod TreeLines
