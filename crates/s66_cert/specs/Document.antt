@@ -60,15 +60,18 @@ abbrev pub AreInstructions : List (List ℕ) → Type 0
 AreInstructions [] = Unit {0}
 AreInstructions (text ∷ texts) = IsInstruction text × AreInstructions texts
 
--- a document of a block of at most limit instructions
-pub record IsDocument (limit : ℕ) (d : Document) : Type 0 where
+-- a document of a block of at most limit instructions, whose tree has at most so many splits
+pub record IsDocumentWithin (limit most : ℕ) (d : Document) : Type 0 where
   pub profile : (length d.profile ≡ PROFILE_LENGTH) × AreIn 1 PROFILE_LIMIT d.profile
   pub block : (1 ≤ length d.block) × (length d.block ≤ limit) × AreInstructions d.block
   pub time : d.time ≤ TIME_LIMIT
   pub bound : d.bound ≤ TIME_LIMIT
   pub numbers : AreNumbers limit d.numbers
   pub tree : TreeFits limit d.tree
-  pub splits : splits d.tree ≤ SPLIT_LIMIT
+  pub splits : splits d.tree ≤ most
+
+abbrev pub IsDocument : ℕ → Document → Type 0
+IsDocument limit d = IsDocumentWithin limit SPLIT_LIMIT d
 
 -- THE TEXT
 
@@ -107,10 +110,14 @@ abbrev pub documents_text : List Document → List ℕ
 documents_text [] = []
 documents_text (d ∷ ds) = document_text d ++ documents_text ds
 
-abbrev pub AreDocuments : ℕ → List Document → Type 0
-AreDocuments limit [] = Unit {0}
-AreDocuments limit (d ∷ ds) = IsDocument limit d × AreDocuments limit ds
+abbrev pub AreDocumentsWithin : ℕ → ℕ → List Document → Type 0
+AreDocumentsWithin limit most [] = Unit {0}
+AreDocumentsWithin limit most (d ∷ ds) = IsDocumentWithin limit most d × AreDocumentsWithin limit most ds
+
+-- a text of documents whose trees have at most so many splits
+abbrev pub IsTextWithin : ℕ → ℕ → List ℕ → List Document → Type 0
+IsTextWithin limit most text ds = AreDocumentsWithin limit most ds × (text ≡ documents_text ds)
 
 -- what a text is read as
 abbrev pub IsText : ℕ → List ℕ → List Document → Type 0
-IsText limit text ds = AreDocuments limit ds × (text ≡ documents_text ds)
+IsText limit text ds = IsTextWithin limit SPLIT_LIMIT text ds

@@ -1,2 +1,12 @@
+pub mod Altered
 pub mod Document
 pub mod Examples
+pub mod Faults
+pub mod Fine
+pub mod Lines
+pub mod Marks
+pub mod Parts
+pub mod ReaderState
+pub mod Reading
+pub mod Reads
+pub mod Said

@@ -1,60 +1,111 @@
-//! What a document is.
+use crate::limits::PROFILE_LENGTH;
+use crate::tree::{Tree, TreeLines};
+use arrayvec::ArrayVec;
+use s66_line::BLOCK_LIMIT;
+use std::marker::Model;
 
-ghost use Rattle.std.specs.Prelude.{[], ◌∷◌, ◌++◌, codes, replicate};
-ghost use Rattle.s66_model.specs.Leaves.{Chain, Whole};
-ghost use Rattle.s66_model.specs.Tree.{Alone, Parted, Unsplit, Split, NoMore};
-ghost use Rattle.s66_cert.specs.Document.{IsDocument};
-ghost use Rattle.s66_cert.specs.Examples.{with_profile, with_block, with_times, with_order, with_tree, with_chain, with_split, with_split_child, wholes, unit_loads, long_text};
+/// What a document says.
+#[derive(Debug, Drop)]
+pub struct Claim {
+    /// The ten times of a profile, then its seven copies of units.
+    pub profile: ArrayVec<u8, PROFILE_LENGTH>,
+    /// The texts of the instructions.
+    pub block: Vec<Vec<u8>>,
+    /// What the order takes, in minor cycles.
+    pub time: u32,
+    /// What every order takes at least, in minor cycles.
+    pub bound: u32,
+    /// The numbers of the order.
+    pub order: ArrayVec<u8, BLOCK_LIMIT>,
+    /// The tree that shows the bound.
+    pub tree: Tree,
+}
 
-/// Documents of blocks of at most 64 instructions, and what is none.
-pub fn document_examples()
-    ensures order_of_64 { IsDocument 64 (with_order (replicate 64 64)) }
-    ensures order_of_one { IsDocument 64 (with_order (1 ∷ [])) }
-    ensures whole_order_alone { IsDocument 64 (with_tree (Alone Whole)) }
-    ensures chain_of_one { IsDocument 64 (with_chain (2 ∷ [])) }
-    ensures chain_of_64 { IsDocument 64 (with_chain (replicate 64 1)) }
-    ensures split_of_64 { IsDocument 64 (with_split (replicate 64 1) 64) }
-    ensures child_twice { IsDocument 64 (with_split (1 ∷ 1 ∷ []) 2) }
-    ensures every_unit_load { IsDocument 64 (with_tree unit_loads) }
-    ensures bound_above_time { IsDocument 64 (with_times 12 13) }
-    ensures greatest_times { IsDocument 64 (with_times 100000 100000) }
-    ensures least_times { IsDocument 64 (with_times 0 0) }
-    ensures block_of_64 { IsDocument 64 (with_block (replicate 64 (codes "NX1"))) }
-    ensures text_of_199 { IsDocument 64 (with_block (long_text 195 ∷ [])) }
-    ensures order_with_0 { ¬ IsDocument 64 (with_order (1 ∷ 0 ∷ 2 ∷ [])) }
-    ensures order_with_65 { ¬ IsDocument 64 (with_order (1 ∷ 65 ∷ 2 ∷ [])) }
-    ensures empty_order { ¬ IsDocument 64 (with_order []) }
-    ensures order_of_65 { ¬ IsDocument 64 (with_order (replicate 65 1)) }
-    ensures chain_with_0 { ¬ IsDocument 64 (with_chain (1 ∷ 0 ∷ [])) }
-    ensures chain_with_65 { ¬ IsDocument 64 (with_chain (1 ∷ 65 ∷ [])) }
-    ensures empty_chain { ¬ IsDocument 64 (with_chain []) }
-    ensures chain_of_65 { ¬ IsDocument 64 (with_chain (replicate 65 1)) }
-    ensures split_with_0 { ¬ IsDocument 64 (with_split (1 ∷ 0 ∷ []) 2) }
-    ensures split_with_65 { ¬ IsDocument 64 (with_split (1 ∷ 65 ∷ []) 2) }
-    ensures empty_split { ¬ IsDocument 64 (with_split [] 0) }
-    ensures split_of_65 { ¬ IsDocument 64 (with_split (replicate 65 1) 65) }
-    ensures tree_missing { ¬ IsDocument 64 (with_split (1 ∷ 2 ∷ []) 1) }
-    ensures tree_too_many { ¬ IsDocument 64 (with_split (1 ∷ []) 2) }
-    ensures child_with_0 { ¬ IsDocument 64 (with_split_child (1 ∷ 0 ∷ []) 2) }
-    ensures child_with_65 { ¬ IsDocument 64 (with_split_child (1 ∷ 65 ∷ []) 2) }
-    ensures empty_child { ¬ IsDocument 64 (with_split_child [] 0) }
-    ensures child_with_tree_missing { ¬ IsDocument 64 (with_split_child (1 ∷ 2 ∷ []) 1) }
-    ensures child_with_tree_too_many { ¬ IsDocument 64 (with_split_child (1 ∷ []) 2) }
-    ensures leaf_with_0 { ¬ IsDocument 64 (with_tree (Parted (1 ∷ []) (Unsplit (Chain (0 ∷ [])) NoMore))) }
-    ensures split_with_tree_too_many { ¬ IsDocument 64 (with_tree (Parted (1 ∷ []) (Unsplit Whole (Split (1 ∷ []) (wholes 1) NoMore)))) }
-    ensures tree_missing_behind_a_split { ¬ IsDocument 64 (with_tree (Parted (1 ∷ 2 ∷ []) (Split (2 ∷ []) (wholes 1) NoMore))) }
-    ensures leaf_with_0_behind_a_split { ¬ IsDocument 64 (with_tree (Parted (1 ∷ 2 ∷ []) (Split (2 ∷ []) (wholes 1) (Unsplit (Chain (0 ∷ [])) NoMore)))) }
-    ensures profile_of_16 { ¬ IsDocument 64 (with_profile (replicate 16 1)) }
-    ensures profile_of_18 { ¬ IsDocument 64 (with_profile (replicate 18 1)) }
-    ensures profile_with_0 { ¬ IsDocument 64 (with_profile (replicate 16 1 ++ 0 ∷ [])) }
-    ensures profile_with_101 { ¬ IsDocument 64 (with_profile (101 ∷ replicate 16 1)) }
-    ensures time_100001 { ¬ IsDocument 64 (with_times 100001 12) }
-    ensures bound_100001 { ¬ IsDocument 64 (with_times 12 100001) }
-    ensures empty_block { ¬ IsDocument 64 (with_block []) }
-    ensures block_of_65 { ¬ IsDocument 64 (with_block (replicate 65 (codes "NX1"))) }
-    ensures block_with_no_instruction { ¬ IsDocument 64 (with_block (codes "NX1" ∷ codes "NO" ∷ [])) }
-    ensures text_of_200 { ¬ IsDocument 64 (with_block (long_text 196 ∷ [])) }
-    ensures wide_order { IsDocument 128 (with_order (replicate 128 128)) }
-    ensures wide_block { IsDocument 128 (with_block (replicate 65 (codes "NX1"))) }
-    ensures wide_chain_at_64 { ¬ IsDocument 64 (with_chain (128 ∷ [])) }
-{}
+impl Model for Claim {
+    ghost use Rattle.std.specs.Prelude.{ℕ, map};
+    ghost use Rattle.std.specs.declared.vec.Vec.{Vec};
+    ghost use Rattle.std.specs.declared.alloc.Global.{Global};
+    ghost use Rattle.s66_cert.specs.Parts.{Parts};
+
+    ghost Value = { Parts };
+
+    ghost view = { λ c. record { profile = c.profile.items; block = map (λ (text : Vec ℕ Global). text.items) c.block.items; time = c.time; bound = c.bound; numbers = c.order.items; knots = c.tree } };
+}
+
+/// A certificate: what it claims of a block under a profile, and a tree that shows it. It is one whole tree of at most
+/// `SPLIT_LIMIT` splits, and every number is in its range; whether the claim is true is for a checker to say.
+#[derive(Debug, Drop)]
+pub struct Document {
+    claim: Claim,
+}
+
+impl Model for Document {
+    ghost use Rattle.s66_cert.specs.Parts.{Parts, AreWhole};
+
+    ghost Value = { Parts };
+
+    ghost view = { λ d. d.claim };
+
+    ghost invariant = { λ d. AreWhole d.claim };
+}
+
+impl Document {
+    ghost use Rattle.std.specs.Prelude.{◌≡◌, ℕ, map};
+    ghost use Rattle.std.specs.declared.vec.Vec.{Vec};
+    ghost use Rattle.std.specs.declared.alloc.Global.{Global};
+    ghost use Rattle.s66_cert.specs.Parts.{AreWhole};
+
+    /// The document that says this.
+    pub fn new(claim: Claim) -> Document
+        requires { AreWhole claim }
+        ensures { result ≡ claim }
+    {
+        Document { claim }
+    }
+
+    /// The ten times of the profile, then its seven copies of units; each 1 to 100.
+    pub fn profile(&self) -> &[u8]
+        ensures value { result.now ≡ self.now.profile }
+        ensures whole { AreWhole self.now }
+    {
+        self.claim.profile.as_slice()
+    }
+
+    /// The texts of the instructions, 1 to `BLOCK_LIMIT`.
+    pub fn block(&self) -> &[Vec<u8>]
+        ensures value { map (λ (text : Vec ℕ Global). text.items) result.now ≡ self.now.block }
+        ensures whole { AreWhole self.now }
+    {
+        self.claim.block.as_slice()
+    }
+
+    /// What the order takes, in minor cycles.
+    pub fn time(&self) -> u32
+        ensures { result ≡ self.now.time }
+    {
+        self.claim.time
+    }
+
+    /// What every order takes at least, in minor cycles.
+    pub fn bound(&self) -> u32
+        ensures { result ≡ self.now.bound }
+    {
+        self.claim.bound
+    }
+
+    /// The numbers of the order.
+    pub fn order(&self) -> &[u8]
+        ensures value { result.now ≡ self.now.numbers }
+        ensures whole { AreWhole self.now }
+    {
+        self.claim.order.as_slice()
+    }
+
+    /// The lines of the tree.
+    pub fn tree(&self) -> TreeLines<'_>
+        ensures value { result ≡ self.now.knots }
+        ensures whole { AreWhole self.now }
+    {
+        self.claim.tree.lines()
+    }
+}

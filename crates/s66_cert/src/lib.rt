@@ -2,9 +2,26 @@
 #![tactic(auto)]
 
 mod document;
+mod error;
+mod examples;
+mod laws;
 mod limits;
+mod line;
+mod parse;
+mod place;
+mod reader;
+mod reading;
+mod readings;
+mod scan;
 mod text;
+mod tree;
 
-pub use document::document_examples;
+pub use document::{Claim, Document};
+pub use error::CertError;
+pub use examples::document_examples;
+pub use laws::{one_reading_law, reading_law};
 pub use limits::{PROFILE_LENGTH, PROFILE_LIMIT, SPLIT_LIMIT, TIME_LIMIT};
+pub use reading::read;
+pub use readings::{fault_examples, reading_examples};
 pub use text::text_examples;
+pub use tree::{Tree, TreeLine, TreeLines};

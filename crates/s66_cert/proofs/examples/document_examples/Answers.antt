@@ -1,6 +1,6 @@
 use Rattle.std.proofs.Common.{rules}
 use Rattle.s66_line.proofs.InstructionTexts.{instruction}
-use Rattle.s66_cert.proofs.document.document_examples.Goals as goal
+use Rattle.s66_cert.proofs.examples.document_examples.Goals as goal
 
 pub returns-clause-order_of_64 : goal.returns-clause-order_of_64
 returns-clause-order_of_64 c = search (rules, instruction)

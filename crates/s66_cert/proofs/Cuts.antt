@@ -1,0 +1,123 @@
+-- A text and its lines.
+use Rattle.std.proofs.Common.{◌≡◌, ℕ, Bool, true, false, not, List, [], ◌∷◌, ◌++◌, map, length, refl, sym, ap, ◌∙◌, eqb, append_assoc}
+use Rattle.std.proofs.lemmas.Bool.{and_parts, and_from, not-true, eqb-true}
+use Rattle.std.proofs.lemmas.List.{append-nil, map-append}
+use Rattle.std.specs.Prelude.{codes, decimal}
+use Rattle.s66_isa.specs.Lists.{every, after_blanks}
+use Rattle.s66_model.specs.Leaves.{Leaf, Whole, Chain, Load, Parcels}
+use Rattle.s66_model.specs.Tree.{Knot, AtTip, AtSplit, flat}
+use Rattle.s66_cert.specs.Document.{Document, tree_lines, leaf_line, instruction_lines, document_text, documents_text}
+use Rattle.s66_cert.specs.Faults.{IsLine, AreLines, with_newlines}
+use Rattle.s66_cert.specs.Lines.{Line, bytes_of, leaf_bytes}
+use Rattle.s66_cert.specs.Reading.{whole_lines, last_bytes}
+use Rattle.s66_cert.proofs.DocumentLines.{document_lines, documents_lines, instructions_of, knots_of}
+
+line-parts : (b : ℕ) (line : List ℕ) → IsLine (b ∷ line) → (eqb b 10 ≡ false) × IsLine line
+line-parts b line h = let both = and_parts (not (eqb b 10)) (every (λ b. not (eqb b 10)) line) h in (not-true (eqb b 10) both.0, both.1)
+
+-- A WHOLE LINE, AND A REST
+
+whole-before : (begun line text : List ℕ) → IsLine line → whole_lines begun (line ++ 10 ∷ text) ≡ (begun ++ line) ∷ whole_lines [] text
+whole-before begun [] text h = ap (λ x. x ∷ whole_lines [] text) (sym (append-nil begun))
+whole-before begun (b ∷ line) text h =
+    let parts = line-parts b line h in
+    rw parts.0 (whole-before (begun ++ b ∷ []) line text parts.1 ∙ ap (λ x. x ∷ whole_lines [] text) (append_assoc begun (b ∷ []) line))
+
+last-before : (begun line text : List ℕ) → IsLine line → last_bytes begun (line ++ 10 ∷ text) ≡ last_bytes [] text
+last-before begun [] text h = refl
+last-before begun (b ∷ line) text h = let parts = line-parts b line h in rw parts.0 (last-before (begun ++ b ∷ []) line text parts.1)
+
+whole-rest : (begun line : List ℕ) → IsLine line → whole_lines begun line ≡ []
+whole-rest begun [] h = refl
+whole-rest begun (b ∷ line) h = let parts = line-parts b line h in rw parts.0 (whole-rest (begun ++ b ∷ []) line parts.1)
+
+last-rest : (begun line : List ℕ) → IsLine line → last_bytes begun line ≡ begun ++ line
+last-rest begun [] h = sym (append-nil begun)
+last-rest begun (b ∷ line) h = let parts = line-parts b line h in rw parts.0 (last-rest (begun ++ b ∷ []) line parts.1 ∙ append_assoc begun (b ∷ []) line)
+
+pub whole-of : (lines : List (List ℕ)) (text : List ℕ) → AreLines lines → whole_lines [] (with_newlines lines ++ text) ≡ lines ++ whole_lines [] text
+whole-of [] text h = refl
+whole-of (line ∷ lines) text h =
+    ap (whole_lines []) (append_assoc line (10 ∷ with_newlines lines) text) ∙ whole-before [] line (with_newlines lines ++ text) h.0 ∙ ap (λ x. line ∷ x) (whole-of lines text h.1)
+
+pub last-of : (lines : List (List ℕ)) (text : List ℕ) → AreLines lines → last_bytes [] (with_newlines lines ++ text) ≡ last_bytes [] text
+last-of [] text h = refl
+last-of (line ∷ lines) text h =
+    ap (last_bytes []) (append_assoc line (10 ∷ with_newlines lines) text) ∙ last-before [] line (with_newlines lines ++ text) h.0 ∙ last-of lines text h.1
+
+pub whole-all : (lines : List (List ℕ)) (rest : List ℕ) → AreLines lines → IsLine rest → whole_lines [] (with_newlines lines ++ rest) ≡ lines
+whole-all lines rest h k = whole-of lines rest h ∙ ap (λ x. lines ++ x) (whole-rest [] rest k) ∙ append-nil lines
+
+pub last-all : (lines : List (List ℕ)) (rest : List ℕ) → AreLines lines → IsLine rest → last_bytes [] (with_newlines lines ++ rest) ≡ rest
+last-all lines rest h k = last-of lines rest h ∙ last-rest [] rest k
+
+-- the text is its whole lines and the rest
+cut-at : (begun : List ℕ) (b : ℕ) (text : List ℕ) (t : Bool) → eqb b 10 ≡ t → ((begun : List ℕ) → begun ++ text ≡ with_newlines (whole_lines begun text) ++ last_bytes begun text) →
+    begun ++ b ∷ text ≡ with_newlines (whole_lines begun (b ∷ text)) ++ last_bytes begun (b ∷ text)
+cut-at begun b text true e ih =
+    rw e (ap (λ x. begun ++ x ∷ text) (eqb-true b 10 e) ∙ ap (λ x. begun ++ 10 ∷ x) (ih []) ∙ sym (append_assoc begun (10 ∷ with_newlines (whole_lines [] text)) (last_bytes [] text)))
+cut-at begun b text false e ih = rw e (sym (append_assoc begun (b ∷ []) text) ∙ ih (begun ++ b ∷ []))
+
+cut-from : (begun text : List ℕ) → begun ++ text ≡ with_newlines (whole_lines begun text) ++ last_bytes begun text
+cut-from begun [] = append-nil begun
+cut-from begun (b ∷ text) = cut-at begun b text (eqb b 10) refl (λ begun. cut-from begun text)
+
+pub cut : (text : List ℕ) → text ≡ with_newlines (whole_lines [] text) ++ last_bytes [] text
+cut text = cut-from [] text
+
+line-more : (begun : List ℕ) (b : ℕ) → IsLine begun → eqb b 10 ≡ false → IsLine (begun ++ b ∷ [])
+line-more [] b h e = rw e refl
+line-more (a ∷ begun) b h e =
+    let both = and_parts (not (eqb a 10)) (every (λ b. not (eqb b 10)) begun) h in
+    and_from (not (eqb a 10)) (every (λ b. not (eqb b 10)) (begun ++ b ∷ [])) both.0 (line-more begun b both.1 e)
+
+lines-at : (begun : List ℕ) (b : ℕ) (text : List ℕ) (t : Bool) → eqb b 10 ≡ t → IsLine begun → ((begun : List ℕ) → IsLine begun → AreLines (whole_lines begun text) × IsLine (last_bytes begun text)) →
+    AreLines (whole_lines begun (b ∷ text)) × IsLine (last_bytes begun (b ∷ text))
+lines-at begun b text true e h ih = rw e (let rest = ih [] refl in ((h, rest.0), rest.1))
+lines-at begun b text false e h ih = rw e (ih (begun ++ b ∷ []) (line-more begun b h e))
+
+lines-from : (begun text : List ℕ) → IsLine begun → AreLines (whole_lines begun text) × IsLine (last_bytes begun text)
+lines-from begun [] h = (tt, h)
+lines-from begun (b ∷ text) h = lines-at begun b text (eqb b 10) refl h (λ begun h. lines-from begun text h)
+
+pub are-lines : (text : List ℕ) → AreLines (whole_lines [] text) × IsLine (last_bytes [] text)
+are-lines text = lines-from [] text refl
+
+pub newlines-append : (front rest : List (List ℕ)) → with_newlines (front ++ rest) ≡ with_newlines front ++ with_newlines rest
+newlines-append [] rest = refl
+newlines-append (line ∷ front) rest = ap (λ x. line ++ 10 ∷ x) (newlines-append front rest) ∙ sym (append_assoc line (10 ∷ with_newlines front) (with_newlines rest))
+
+-- A DOCUMENT'S TEXT
+
+instructions-text : (texts : List (List ℕ)) → instruction_lines texts ≡ with_newlines (map bytes_of (instructions_of texts))
+instructions-text [] = refl
+instructions-text (text ∷ texts) = ap (λ x. codes "I " ++ text ++ codes "\n" ++ x) (instructions-text texts) ∙ simp append_assoc
+
+leaf-text : (leaf : Leaf) (more : List ℕ) → leaf_line leaf ++ more ≡ leaf_bytes leaf ++ 10 ∷ more
+leaf-text Whole more = refl
+leaf-text (Chain numbers) more = simp append_assoc
+leaf-text (Load kind) more = simp append_assoc
+leaf-text Parcels more = refl
+
+tree-text : (knots : List (Knot Leaf)) → tree_lines knots ≡ with_newlines (map bytes_of (knots_of knots))
+tree-text [] = refl
+tree-text (AtTip leaf ∷ knots) = ap (λ x. leaf_line leaf ++ x) (tree-text knots) ∙ leaf-text leaf (with_newlines (map bytes_of (knots_of knots)))
+tree-text (AtSplit numbers ∷ knots) = ap (λ x. codes "S" ++ after_blanks numbers ++ codes "\n" ++ x) (tree-text knots) ∙ simp append_assoc
+
+lines-append : (xs ys : List Line) → with_newlines (map bytes_of (xs ++ ys)) ≡ with_newlines (map bytes_of xs) ++ with_newlines (map bytes_of ys)
+lines-append xs ys = ap with_newlines (map-append bytes_of xs ys) ∙ newlines-append (map bytes_of xs) (map bytes_of ys)
+
+right-nested : (s p c k l i t a u b v n w m e : List ℕ) →
+    s ++ p ++ c ++ k ++ l ++ i ++ t ++ a ++ u ++ b ++ v ++ n ++ w ++ m ++ e
+    ≡ s ++ (p ++ (c ++ (k ++ (l ++ (i ++ (t ++ (a ++ (u ++ (b ++ (v ++ (n ++ (w ++ (m ++ e)))))))))))))
+right-nested s p c k l i t a u b v n w m e = simp append_assoc
+
+document-text : (d : Document) → document_text d ≡ with_newlines (map bytes_of (document_lines d))
+document-text d =
+    right-nested (codes "S66 CERTIFICATE 1\nPROFILE") (after_blanks d.profile) (codes "\nBLOCK ") (decimal (length d.block)) (codes "\n") (instruction_lines d.block) (codes "TIME ") (decimal d.time) (codes "\nBOUND ") (decimal d.bound) (codes "\nORDER") (after_blanks d.numbers) (codes "\n") (tree_lines (flat d.tree)) (codes "END\n")
+    ∙ rw (instructions-text d.block, tree-text (flat d.tree), lines-append (instructions_of d.block) _, lines-append (knots_of (flat d.tree)) _) refl
+
+pub documents-text : (ds : List Document) → documents_text ds ≡ with_newlines (map bytes_of (documents_lines ds))
+documents-text [] = refl
+documents-text (d ∷ ds) =
+    ap (λ x. x ++ documents_text ds) (document-text d) ∙ ap (λ x. with_newlines (map bytes_of (document_lines d)) ++ x) (documents-text ds) ∙ sym (lines-append (document_lines d) (documents_lines ds))

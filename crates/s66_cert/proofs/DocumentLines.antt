@@ -1,0 +1,22 @@
+-- The lines of documents.
+use Rattle.std.specs.Prelude.{ℕ, List, [], ◌∷◌, ◌++◌, length}
+use Rattle.s66_model.specs.Leaves.{Leaf}
+use Rattle.s66_model.specs.Tree.{Knot, flat}
+use Rattle.s66_cert.specs.Document.{Document}
+use Rattle.s66_cert.specs.Lines.{Line, Header, Profile, Block, Instruction, Time, Bound, Order, OfTree, End}
+
+abbrev pub instructions_of : List (List ℕ) → List Line
+instructions_of [] = []
+instructions_of (text ∷ texts) = Instruction text ∷ instructions_of texts
+
+abbrev pub knots_of : List (Knot Leaf) → List Line
+knots_of [] = []
+knots_of (knot ∷ knots) = OfTree knot ∷ knots_of knots
+
+abbrev pub document_lines : Document → List Line
+document_lines d =
+    Header ∷ Profile d.profile ∷ Block (length d.block) ∷ (instructions_of d.block ++ Time d.time ∷ Bound d.bound ∷ Order d.numbers ∷ (knots_of (flat d.tree) ++ End ∷ []))
+
+abbrev pub documents_lines : List Document → List Line
+documents_lines [] = []
+documents_lines (d ∷ ds) = document_lines d ++ documents_lines ds

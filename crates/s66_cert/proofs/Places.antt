@@ -1,0 +1,80 @@
+-- A line at a place where it doesn't come, and what is known at the place where it does.
+use Rattle.std.proofs.Common.{◌≡◌, ◌≤◌, ◌+◌, ◌*◌, ◌^◌, ℕ, zero, suc, List, [], ◌∷◌, length, refl, arith, subst}
+use Rattle.std.specs.Prelude.{Err}
+use Rattle.s66_line.specs.declared.limits.TheConstants.{BLOCK_LIMIT}
+use Rattle.s66_model.specs.Leaves.{Leaf}
+use Rattle.s66_model.specs.Tree.{Knot, AtTip, AtSplit}
+use Rattle.s66_cert.specs.Fine.{Leave, split_count, IsPart, IsFine}
+use Rattle.s66_cert.specs.Lines.{Header, Profile, Block, Instruction, Time, Bound, Order, OfTree, End}
+use Rattle.s66_cert.specs.Parts.{AreWhole}
+use Rattle.s66_cert.specs.Reading.{State, step_at}
+use Rattle.s66_cert.specs.declared.limits.TheConstants.{SPLIT_LIMIT}
+use Rattle.s66_cert.specs.declared.error.CertError.TheVariants.{BadLine}
+use Rattle.s66_cert.specs.declared.place.Place.{Place}
+use Rattle.s66_cert.specs.declared.place.Place.TheVariants.{AtHeader, AtProfile, AtBlock, AtInstruction, AtTime, AtBound, AtOrder, AtTree, AtEnd}
+use Rattle.s66_cert.proofs.Sound.{whole-tree, whole-document}
+
+pub other_header : (most : ℕ) (s : State) (place : Place) → (place ≡ AtHeader → ⊥) → step_at most s place Header ≡ Err (BadLine (suc s.count))
+other_header most s AtHeader other = absurd (other refl)
+other_header most s place other = refl
+
+pub other_profile : (most : ℕ) (s : State) (place : Place) (numbers : List ℕ) → (place ≡ AtProfile → ⊥) → step_at most s place (Profile numbers) ≡ Err (BadLine (suc s.count))
+other_profile most s AtProfile numbers other = absurd (other refl)
+other_profile most s place numbers other = refl
+
+pub other_block : (most : ℕ) (s : State) (place : Place) (count : ℕ) → (place ≡ AtBlock → ⊥) → step_at most s place (Block count) ≡ Err (BadLine (suc s.count))
+other_block most s AtBlock count other = absurd (other refl)
+other_block most s place count other = refl
+
+pub other_instruction : (most : ℕ) (s : State) (place : Place) (text : List ℕ) → (place ≡ AtInstruction → ⊥) → step_at most s place (Instruction text) ≡ Err (BadLine (suc s.count))
+other_instruction most s AtInstruction text other = absurd (other refl)
+other_instruction most s place text other = refl
+
+pub other_time : (most : ℕ) (s : State) (place : Place) (time : ℕ) → (place ≡ AtTime → ⊥) → step_at most s place (Time time) ≡ Err (BadLine (suc s.count))
+other_time most s AtTime time other = absurd (other refl)
+other_time most s place time other = refl
+
+pub other_bound : (most : ℕ) (s : State) (place : Place) (bound : ℕ) → (place ≡ AtBound → ⊥) → step_at most s place (Bound bound) ≡ Err (BadLine (suc s.count))
+other_bound most s AtBound bound other = absurd (other refl)
+other_bound most s place bound other = refl
+
+pub other_order : (most : ℕ) (s : State) (place : Place) (numbers : List ℕ) → (place ≡ AtOrder → ⊥) → step_at most s place (Order numbers) ≡ Err (BadLine (suc s.count))
+other_order most s AtOrder numbers other = absurd (other refl)
+other_order most s place numbers other = refl
+
+pub other_knot : (most : ℕ) (s : State) (place : Place) (knot : Knot Leaf) → (place ≡ AtTree → ⊥) → step_at most s place (OfTree knot) ≡ Err (BadLine (suc s.count))
+other_knot most s AtTree knot other = absurd (other refl)
+other_knot most s place knot other = refl
+
+pub other_end : (most : ℕ) (s : State) (place : Place) → (place ≡ AtEnd → ⊥) → step_at most s place End ≡ Err (BadLine (suc s.count))
+other_end most s AtEnd other = absurd (other refl)
+other_end most s place other = refl
+
+-- WHERE IT COMES
+
+part-at : (most : ℕ) (s : State) (place : Place) → s.place ≡ place → IsFine most s → IsPart most place s.part s.left s.splits
+part-at most s place e fine = subst (λ (p : Place). IsPart most p s.part s.left s.splits) e fine.1
+
+pub some_instruction : (most : ℕ) (s : State) → s.place ≡ AtInstruction → IsFine most s → 1 ≤ s.left
+some_instruction most s e fine = (part-at most s AtInstruction e fine).1
+
+pub some_tree : (most : ℕ) (s : State) → s.place ≡ AtTree → IsFine most s → 1 ≤ s.left
+some_tree most s e fine = (part-at most s AtTree e fine).0
+
+-- each split leaves at most BLOCK_LIMIT trees
+leave-few : (n left : ℕ) (knots : List (Knot Leaf)) → Leave n knots left → left ≤ n + BLOCK_LIMIT * split_count knots
+leave-few n left [] h = omega (arith, h)
+leave-few zero left (AtTip leaf ∷ knots) h = absurd h
+leave-few zero left (AtSplit numbers ∷ knots) h = absurd h
+leave-few (suc n) left (AtTip leaf ∷ knots) h = omega (arith, leave-few n left knots h.1)
+leave-few (suc n) left (AtSplit numbers ∷ knots) h = omega (arith, leave-few (length numbers + n) left knots h.1, h.0.1)
+
+pub few_trees : (s : State) → s.place ≡ AtTree → IsFine SPLIT_LIMIT s → s.left ≤ 2 ^ 32
+few_trees s e fine =
+    let is = part-at SPLIT_LIMIT s AtTree e fine in
+    omega (arith, leave-few 1 s.left s.part.knots is.1.4, is.1.5, is.1.6)
+
+pub whole_end : (s : State) → s.place ≡ AtEnd → IsFine SPLIT_LIMIT s → AreWhole s.part
+whole_end s e fine =
+    let h = part-at SPLIT_LIMIT s AtEnd e fine in
+    record { document = whole-document SPLIT_LIMIT s.part s.splits h; preorder = (whole-tree s.part.knots h.4).0 }

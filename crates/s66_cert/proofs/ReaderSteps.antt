@@ -1,0 +1,71 @@
+-- What a reader read stays in range, and its lines are those of the text.
+use Rattle.std.proofs.Common.{◌≡◌, ◌≤◌, ◌<◌, ◌+◌, ◌-◌, ℕ, suc, false, List, [], ◌∷◌, ◌++◌, length, take, drop, get_or, refl, sym, ap, ◌∙◌, arith, eqb, drop-cons}
+use Rattle.std.proofs.lemmas.Bool.{ne_eqb}
+use Rattle.std.proofs.lemmas.List.Edits.{between_more}
+use Rattle.std.specs.Prelude.{Result, Ok, Err, OnOk}
+use Rattle.s66_line.specs.declared.limits.TheConstants.{BLOCK_LIMIT}
+use Rattle.s66_cert.specs.Fine.{IsFine}
+use Rattle.s66_cert.specs.Lines.{Line, IsInRange}
+use Rattle.s66_cert.specs.Reading.{State, step_at, step, steps, and_then, whole_lines, last_bytes}
+use Rattle.s66_cert.specs.ReaderState.{Steps}
+use Rattle.s66_cert.specs.declared.limits.TheConstants.{SPLIT_LIMIT}
+use Rattle.s66_cert.specs.declared.error.CertError.{CertError}
+use Rattle.s66_cert.specs.declared.error.CertError.TheVariants.{BadLine, Truncated, TooManyNodes, OutOfMemory}
+use Rattle.s66_cert.proofs.Sound.{step-fine}
+
+pub fine-kept : (s new : State) (result : Result (Unit {0}) CertError) (l : Line) → IsInRange BLOCK_LIMIT l → IsFine SPLIT_LIMIT s → Steps new result (step_at SPLIT_LIMIT s s.place l) → OnOk result (IsFine SPLIT_LIMIT new)
+fine-kept s new (Ok u) l is fine made = step-fine SPLIT_LIMIT s new l is fine made
+fine-kept s new (Err e) l is fine made = tt
+
+-- THE LINE THAT IS BEGUN
+
+cut-newline : (line text : List ℕ) (i : ℕ) → i < length text → get_or text i 0 ≡ 10 →
+    (whole_lines line (drop i text) ≡ line ∷ whole_lines [] (drop (i + 1) text)) × (last_bytes line (drop i text) ≡ last_bytes [] (drop (i + 1) text))
+cut-newline line text i within newline =
+    let rest : drop i text ≡ 10 ∷ drop (suc i) text = drop-cons text i 0 within ∙ ap (λ b. b ∷ drop (suc i) text) newline in
+    let next : i + 1 ≡ suc i = omega arith in
+    rw (next, rest) (refl, refl)
+
+longer-line : (text : List ℕ) (begin i : ℕ) → begin ≤ i → i < length text → take (i + 1 - begin) (drop begin text) ≡ take (i - begin) (drop begin text) ++ get_or text i 0 ∷ []
+longer-line text begin i begun within = between_more text begin i 0 begun within
+
+pub cut-more : (text : List ℕ) (begin i : ℕ) → begin ≤ i → i < length text → (get_or text i 0 ≡ 10 → ⊥) →
+    (whole_lines (take (i - begin) (drop begin text)) (drop i text) ≡ whole_lines (take (i + 1 - begin) (drop begin text)) (drop (i + 1) text))
+    × (last_bytes (take (i - begin) (drop begin text)) (drop i text) ≡ last_bytes (take (i + 1 - begin) (drop begin text)) (drop (i + 1) text))
+cut-more text begin i begun within other =
+    let next : i + 1 ≡ suc i = omega arith in
+    let differs : eqb (get_or text i 0) 10 ≡ false = ne_eqb (get_or text i 0) 10 other in
+    let longer = longer-line text begin i begun within in
+    let rest : drop i text ≡ get_or text i 0 ∷ drop (suc i) text = drop-cons text i 0 within in
+    rw (longer, next, rest, differs) (refl, refl)
+
+-- the rest after a line that was read
+pub steps-newline : (s t : State) (line text : List ℕ) (i : ℕ) (whole : Result State CertError) → i < length text → get_or text i 0 ≡ 10 → step BLOCK_LIMIT SPLIT_LIMIT s line ≡ Ok t →
+    steps BLOCK_LIMIT SPLIT_LIMIT s (whole_lines line (drop i text)) ≡ whole → steps BLOCK_LIMIT SPLIT_LIMIT t (whole_lines (take (i + 1 - (i + 1)) (drop (i + 1) text)) (drop (i + 1) text)) ≡ whole
+steps-newline s t line text i whole within newline made same =
+    let none : i + 1 - (i + 1) ≡ 0 = omega arith in
+    let cut : steps BLOCK_LIMIT SPLIT_LIMIT s (line ∷ whole_lines [] (drop (i + 1) text)) ≡ whole = ap (steps BLOCK_LIMIT SPLIT_LIMIT s) (sym (cut-newline line text i within newline).0) ∙ same in
+    rw none (sym (ap (λ r. and_then r (λ u. steps BLOCK_LIMIT SPLIT_LIMIT u (whole_lines [] (drop (i + 1) text)))) made) ∙ cut)
+
+pub last-newline : (line text : List ℕ) (i : ℕ) (whole : List ℕ) → i < length text → get_or text i 0 ≡ 10 → last_bytes line (drop i text) ≡ whole → last_bytes (take (i + 1 - (i + 1)) (drop (i + 1) text)) (drop (i + 1) text) ≡ whole
+last-newline line text i whole within newline same =
+    let none : i + 1 - (i + 1) ≡ 0 = omega arith in
+    rw none (sym (cut-newline line text i within newline).1 ∙ same)
+
+-- a line's fault is the text's
+Steps-rest : (e : CertError) (s new any : State) (line : List ℕ) (lines : List (List ℕ)) → Steps new (Err e) (step BLOCK_LIMIT SPLIT_LIMIT s line) → Steps any (Err e) (steps BLOCK_LIMIT SPLIT_LIMIT s (line ∷ lines))
+Steps-rest OutOfMemory s new any line lines h = tt
+Steps-rest (BadLine n) s new any line lines h = ap (λ r. and_then r (λ t. steps BLOCK_LIMIT SPLIT_LIMIT t lines)) h
+Steps-rest Truncated s new any line lines h = ap (λ r. and_then r (λ t. steps BLOCK_LIMIT SPLIT_LIMIT t lines)) h
+Steps-rest TooManyNodes s new any line lines h = ap (λ r. and_then r (λ t. steps BLOCK_LIMIT SPLIT_LIMIT t lines)) h
+
+Steps-same : (e : CertError) (any : State) (x y : Result State CertError) → x ≡ y → Steps any (Err e) x → Steps any (Err e) y
+Steps-same OutOfMemory any x y same h = tt
+Steps-same (BadLine n) any x y same h = sym same ∙ h
+Steps-same Truncated any x y same h = sym same ∙ h
+Steps-same TooManyNodes any x y same h = sym same ∙ h
+
+pub Steps-newline : (e : CertError) (s new any : State) (line text : List ℕ) (i : ℕ) (whole : Result State CertError) → i < length text → get_or text i 0 ≡ 10 → Steps new (Err e) (step BLOCK_LIMIT SPLIT_LIMIT s line) →
+    steps BLOCK_LIMIT SPLIT_LIMIT s (whole_lines line (drop i text)) ≡ whole → Steps any (Err e) whole
+Steps-newline e s new any line text i whole within newline made same =
+    Steps-same e any (steps BLOCK_LIMIT SPLIT_LIMIT s (line ∷ whole_lines [] (drop (i + 1) text))) whole (ap (steps BLOCK_LIMIT SPLIT_LIMIT s) (sym (cut-newline line text i within newline).0) ∙ same) (Steps-rest e s new any line (whole_lines [] (drop (i + 1) text)) made)

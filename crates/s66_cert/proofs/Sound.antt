@@ -1,0 +1,338 @@
+-- What is read as documents is the text of these documents.
+use Rattle.std.proofs.Common.{◌≡◌, ◌≤◌, ◌<◌, ◌+◌, ◌-◌, ◌&&◌, ℕ, zero, suc, Bool, true, false, List, [], ◌∷◌, ◌++◌, length, map, Option, None, Some, refl, sym, ap, ◌∙◌, arith, cond, leb, eqb, append_assoc, subst, length-append}
+use Rattle.std.proofs.lemmas.Bool.{eqb-true, leb-false, and_parts}
+use Rattle.std.proofs.lemmas.List.{append-nil, map-append}
+use Rattle.std.specs.Prelude.{Result, Ok, Err}
+use Rattle.s66_line.specs.declared.limits.TheConstants.{BLOCK_LIMIT}
+use Rattle.s66_model.specs.Leaves.{Leaf, Whole}
+use Rattle.s66_model.specs.Tree.{Tree, Alone, Parted, Kids, NoMore, Unsplit, Split, Knot, AtTip, AtSplit, flat_kids, flat, kid_splits, splits}
+use Rattle.s66_line.specs.InstructionText.{IsInstruction}
+use Rattle.s66_cert.specs.Document.{Document, IsDocumentWithin, AreDocumentsWithin, AreNumbers, AreInstructions, IsLeafLine, KidsFit, TreeFits, IsTextWithin, documents_text}
+use Rattle.s66_cert.specs.Faults.{with_newlines}
+use Rattle.s66_cert.specs.Lines.{Line, Header, Profile, Block, Instruction, Time, Bound, Order, OfTree, End, bytes_of, IsInRange, line_of}
+use Rattle.s66_cert.specs.Parts.{Parts, document_of, tree_of}
+use Rattle.s66_model.specs.Preorder.{forest, first_tree, first_kids, later_kids}
+use Rattle.s66_cert.specs.Reading.{nothing, State, start, place_of_instruction, place_of_tree, with_knot, knot_step, step_at, step_if, step, and_then, steps, ended, is_header, read_within, whole_lines, last_bytes}
+use Rattle.s66_cert.specs.Fine.{Leave, split_count, HasTree, IsPart, IsFine}
+use Rattle.s66_cert.proofs.DocumentLines.{document_lines, documents_lines, instructions_of, knots_of}
+use Rattle.s66_cert.specs.declared.error.CertError.{CertError}
+use Rattle.s66_cert.specs.declared.error.CertError.TheVariants.{Truncated, TooManyNodes}
+use Rattle.s66_cert.specs.declared.place.Place.{Place}
+use Rattle.s66_cert.specs.declared.place.Place.TheVariants.{AtHeader, AtProfile, AtBlock, AtInstruction, AtTime, AtBound, AtOrder, AtTree, AtEnd}
+use Rattle.s66_cert.proofs.LineTexts.{line-is}
+use Rattle.s66_model.proofs.Forests.{flat-forest}
+use Rattle.s66_cert.proofs.Cuts.{cut, documents-text}
+use Rattle.s66_cert.proofs.States.{at, place-instruction, place-tree}
+
+-- TREES TO COME
+
+leave-tip : (n left : ℕ) (knots : List (Knot Leaf)) (leaf : Leaf) → IsLeafLine BLOCK_LIMIT leaf → Leave n knots (suc left) → Leave n (knots ++ AtTip leaf ∷ []) left
+leave-tip zero left [] leaf is h = absurd (omega (arith, h))
+leave-tip (suc n) left [] leaf is h = (is, omega (arith, h))
+leave-tip zero left (AtTip other ∷ knots) leaf is h = absurd h
+leave-tip zero left (AtSplit numbers ∷ knots) leaf is h = absurd h
+leave-tip (suc n) left (AtTip other ∷ knots) leaf is h = (h.0, leave-tip n left knots leaf is h.1)
+leave-tip (suc n) left (AtSplit numbers ∷ knots) leaf is h = (h.0, leave-tip (length numbers + n) left knots leaf is h.1)
+
+leave-split : (n left to : ℕ) (knots : List (Knot Leaf)) (numbers : List ℕ) → AreNumbers BLOCK_LIMIT numbers → Leave n knots (suc left) → to ≡ length numbers + left → Leave n (knots ++ AtSplit numbers ∷ []) to
+leave-split zero left to [] numbers is h e = absurd (omega (arith, h))
+leave-split (suc n) left to [] numbers is h e = (is, omega (arith, h))
+leave-split zero left to (AtTip other ∷ knots) numbers is h e = absurd h
+leave-split zero left to (AtSplit others ∷ knots) numbers is h e = absurd h
+leave-split (suc n) left to (AtTip other ∷ knots) numbers is h e = (h.0, leave-split n left to knots numbers is h.1 e)
+leave-split (suc n) left to (AtSplit others ∷ knots) numbers is h e = (h.0, leave-split (length others + n) left to knots numbers is h.1 e)
+
+-- THE TREE OF ALL ITS LINES
+
+-- the front of trees that fit
+fit-cut : (ns ms : List ℕ) (kids : Kids Leaf) → KidsFit BLOCK_LIMIT (ns ++ ms) kids → KidsFit BLOCK_LIMIT ns (first_kids ns kids) × KidsFit BLOCK_LIMIT ms (later_kids ns kids)
+fit-cut [] ms kids h = (tt, h)
+fit-cut (n ∷ ns) ms NoMore h = absurd h
+fit-cut (n ∷ ns) ms (Unsplit leaf kids) h = let rest = fit-cut ns ms kids h.1 in ((h.0, rest.0), rest.1)
+fit-cut (n ∷ ns) ms (Split numbers sub kids) h = let rest = fit-cut ns ms kids h.2 in ((h.0, h.1, rest.0), rest.1)
+
+forest-fits : (n : ℕ) (ms : List ℕ) (knots : List (Knot Leaf)) → Leave n knots 0 → length ms ≡ n → KidsFit BLOCK_LIMIT ms (forest knots)
+forest-fits n [] [] h e = tt
+forest-fits n (m ∷ ms) [] h e = absurd (omega (arith, h))
+forest-fits zero ms (AtTip leaf ∷ knots) h e = absurd h
+forest-fits zero ms (AtSplit numbers ∷ knots) h e = absurd h
+forest-fits (suc n) [] (AtTip leaf ∷ knots) h e = absurd (omega arith)
+forest-fits (suc n) [] (AtSplit numbers ∷ knots) h e = absurd (omega arith)
+forest-fits (suc n) (m ∷ ms) (AtTip leaf ∷ knots) h e = (h.0, forest-fits n ms knots h.1 (omega arith))
+forest-fits (suc n) (m ∷ ms) (AtSplit numbers ∷ knots) h e =
+    let all : KidsFit BLOCK_LIMIT (numbers ++ ms) (forest knots) = forest-fits (length numbers + n) (numbers ++ ms) knots h.1 (omega (arith, length-append {A = ℕ} numbers ms)) in
+    let both = fit-cut numbers ms (forest knots) all in
+    (h.0, both.0, both.1)
+
+count-append : (xs ys : List (Knot Leaf)) → split_count (xs ++ ys) ≡ split_count xs + split_count ys
+count-append [] ys = omega arith
+count-append (AtTip leaf ∷ xs) ys = count-append xs ys
+count-append (AtSplit numbers ∷ xs) ys = omega (arith, count-append xs ys)
+
+kids-count : (kids : Kids Leaf) → split_count (flat_kids kids) ≡ kid_splits kids
+kids-count NoMore = refl
+kids-count (Unsplit leaf kids) = kids-count kids
+kids-count (Split numbers sub kids) = omega (arith, count-append (flat_kids sub) (flat_kids kids), kids-count sub, kids-count kids)
+
+tree-count : (tree : Tree Leaf) → split_count (flat tree) ≡ splits tree
+tree-count (Alone leaf) = refl
+tree-count (Parted numbers kids) = omega (arith, kids-count kids)
+
+-- one tree
+one-tree : (kids : Kids Leaf) (m : ℕ) → KidsFit BLOCK_LIMIT (m ∷ []) kids → (flat (first_tree (Alone Whole) kids) ≡ flat_kids kids) × TreeFits BLOCK_LIMIT (first_tree (Alone Whole) kids)
+one-tree NoMore m h = absurd h
+one-tree (Unsplit leaf NoMore) m h = (refl, h.0)
+one-tree (Unsplit leaf (Unsplit other kids)) m h = absurd h.1
+one-tree (Unsplit leaf (Split numbers sub kids)) m h = absurd h.1
+one-tree (Split numbers sub NoMore) m h = (ap (λ x. AtSplit numbers ∷ x) (sym (append-nil (flat_kids sub))), (h.0, h.1))
+one-tree (Split numbers sub (Unsplit other kids)) m h = absurd h.2
+one-tree (Split numbers sub (Split others more kids)) m h = absurd h.2
+
+pub whole-tree : (knots : List (Knot Leaf)) → Leave 1 knots 0 → (flat (tree_of knots) ≡ knots) × TreeFits BLOCK_LIMIT (tree_of knots) × (splits (tree_of knots) ≡ split_count knots)
+whole-tree knots h =
+    let one = one-tree (forest knots) 0 (forest-fits 1 (0 ∷ []) knots h refl) in
+    let flat-is : flat (tree_of knots) ≡ knots = one.0 ∙ flat-forest knots in
+    (flat-is, one.1, sym (tree-count (tree_of knots)) ∙ ap split_count flat-is)
+
+-- WHAT WAS READ OF A DOCUMENT
+
+abbrev heading_lines : Parts → ℕ → List Line → List Line
+heading_lines o count more = Header ∷ Profile o.profile ∷ Block count ∷ (instructions_of o.block ++ more)
+
+-- the lines of the open document
+abbrev part_lines : Place → Parts → ℕ → List Line
+part_lines AtHeader o left = []
+part_lines AtProfile o left = Header ∷ []
+part_lines AtBlock o left = Header ∷ Profile o.profile ∷ []
+part_lines AtInstruction o left = heading_lines o (length o.block + left) []
+part_lines AtTime o left = heading_lines o (length o.block) []
+part_lines AtBound o left = heading_lines o (length o.block) (Time o.time ∷ [])
+part_lines AtOrder o left = heading_lines o (length o.block) (Time o.time ∷ Bound o.bound ∷ [])
+part_lines AtTree o left = heading_lines o (length o.block) (Time o.time ∷ Bound o.bound ∷ Order o.numbers ∷ knots_of o.knots)
+part_lines AtEnd o left = heading_lines o (length o.block) (Time o.time ∷ Bound o.bound ∷ Order o.numbers ∷ knots_of o.knots)
+
+-- ONE LINE MORE
+
+record Sounds (most : ℕ) (s t : State) (l : Line) : Type 0 where
+  documents : AreDocumentsWithin BLOCK_LIMIT most t.documents
+  part : IsPart most t.place t.part t.left t.splits
+  lines : documents_lines t.documents ++ part_lines t.place t.part t.left ≡ (documents_lines s.documents ++ part_lines s.place s.part s.left) ++ l ∷ []
+
+instructions-more : (texts : List (List ℕ)) (text : List ℕ) (more : List Line) → instructions_of (texts ++ text ∷ []) ++ more ≡ instructions_of texts ++ Instruction text ∷ more
+instructions-more [] text more = refl
+instructions-more (other ∷ texts) text more = ap (λ x. Instruction other ∷ x) (instructions-more texts text more)
+
+knots-more : (knots : List (Knot Leaf)) (knot : Knot Leaf) → knots_of (knots ++ knot ∷ []) ≡ knots_of knots ++ OfTree knot ∷ []
+knots-more [] knot = refl
+knots-more (other ∷ knots) knot = ap (λ x. OfTree other ∷ x) (knots-more knots knot)
+
+texts-more : (texts : List (List ℕ)) (text : List ℕ) → AreInstructions texts → IsInstruction text → AreInstructions (texts ++ text ∷ [])
+texts-more [] text are is = (is, tt)
+texts-more (other ∷ texts) text are is = (are.0, texts-more texts text are.1 is)
+
+-- the heading with one line more behind it
+heading-more : (o : Parts) (count : ℕ) (more : List Line) (l : Line) → heading_lines o count (more ++ l ∷ []) ≡ heading_lines o count more ++ l ∷ []
+heading-more o count more l = ap (λ x. Header ∷ Profile o.profile ∷ Block count ∷ x) (sym (append_assoc (instructions_of o.block) more (l ∷ [])))
+
+-- the documents are the same
+same-documents : (most : ℕ) (s t : State) (l : Line) → AreDocumentsWithin BLOCK_LIMIT most s.documents → t.documents ≡ s.documents → IsPart most t.place t.part t.left t.splits →
+    part_lines t.place t.part t.left ≡ part_lines s.place s.part s.left ++ l ∷ [] → Sounds most s t l
+same-documents most s t l are same is more =
+    record {
+      documents = subst (λ (ds : List Document). AreDocumentsWithin BLOCK_LIMIT most ds) (sym same) are;
+      part = is;
+      lines = ap (λ (ds : List Document). documents_lines ds ++ part_lines t.place t.part t.left) same
+          ∙ ap (λ (x : List Line). documents_lines s.documents ++ x) more ∙ sym (append_assoc (documents_lines s.documents) (part_lines s.place s.part s.left) (l ∷ []));
+    }
+
+instruction-sound : (most count : ℕ) (documents : List Document) (part : Parts) (left splits : ℕ) (text : List ℕ) → IsInstruction text → AreDocumentsWithin BLOCK_LIMIT most documents →
+    IsPart most AtInstruction part left splits →
+    Sounds most (at count documents AtInstruction part left splits) (at (suc count) documents (place_of_instruction (left - 1)) (record part { block = part.block ++ text ∷ [] }) (left - 1) 0) (Instruction text)
+instruction-sound most count documents part zero splits text is are h = absurd (omega (arith, h.1))
+instruction-sound most count documents part (suc zero) splits text is are h =
+    let counted : length (part.block ++ text ∷ []) ≡ length part.block + 1 = length-append part.block (text ∷ []) in
+    let less : 1 - 1 ≡ 0 = refl in
+    same-documents most (at count documents AtInstruction part 1 splits) (at (suc count) documents AtTime (record part { block = part.block ++ text ∷ [] }) 0 0) (Instruction text) are refl
+    (h.0, omega (arith, counted), omega (arith, counted, h.2), texts-more part.block text h.3 is)
+    (ap (λ n. heading_lines (record part { block = part.block ++ text ∷ [] }) n []) counted ∙ ap (λ x. Header ∷ Profile part.profile ∷ Block (length part.block + 1) ∷ x) (instructions-more part.block text []) ∙ heading-more part (length part.block + 1) [] (Instruction text))
+instruction-sound most count documents part (suc (suc left)) splits text is are h =
+    let counted : length (part.block ++ text ∷ []) ≡ length part.block + 1 = length-append part.block (text ∷ []) in
+    let sum : length (part.block ++ text ∷ []) + suc left ≡ length part.block + suc (suc left) = omega (arith, counted) in
+    let less : suc (suc left) - 1 ≡ suc left = omega arith in
+    rw less (rw (place-instruction left) (same-documents most (at count documents AtInstruction part (suc (suc left)) splits) (at (suc count) documents AtInstruction (record part { block = part.block ++ text ∷ [] }) (suc left) 0) (Instruction text) are refl
+    (h.0, omega arith, omega (arith, sum, h.2), texts-more part.block text h.3 is)
+    (ap (λ n. heading_lines (record part { block = part.block ++ text ∷ [] }) n []) sum ∙ ap (λ x. Header ∷ Profile part.profile ∷ Block (length part.block + suc (suc left)) ∷ x) (instructions-more part.block text []) ∙ heading-more part (length part.block + suc (suc left)) [] (Instruction text))))
+
+-- a line of the tree, after which so many trees are to come
+tree-sound : (most count : ℕ) (documents : List Document) (part : Parts) (left to splits after : ℕ) (knot : Knot Leaf) → AreDocumentsWithin BLOCK_LIMIT most documents → IsPart most AtTree part left splits →
+    Leave 1 (part.knots ++ knot ∷ []) to → after ≡ split_count (part.knots ++ knot ∷ []) → after ≤ most →
+    Sounds most (at count documents AtTree part left splits) (at (suc count) documents (place_of_tree to) (with_knot part knot) to after) (OfTree knot)
+tree-sound most count documents part left to splits after knot are h leave counted few =
+    let front : List Line = Time part.time ∷ Bound part.bound ∷ Order part.numbers ∷ knots_of part.knots in
+    let more : heading_lines (with_knot part knot) (length part.block) (Time part.time ∷ Bound part.bound ∷ Order part.numbers ∷ knots_of (part.knots ++ knot ∷ [])) ≡ heading_lines part (length part.block) front ++ OfTree knot ∷ [] =
+    ap (λ x. heading_lines part (length part.block) (Time part.time ∷ Bound part.bound ∷ Order part.numbers ∷ x)) (knots-more part.knots knot) ∙ heading-more part (length part.block) front (OfTree knot) in
+    let has : HasTree most (with_knot part knot) to after = (h.1.0, h.1.1, h.1.2, h.1.3, leave, counted, few) in
+    by to has more
+  where
+    by : (to : ℕ) → HasTree most (with_knot part knot) to after → part_lines AtTree (with_knot part knot) to ≡ part_lines AtTree part left ++ OfTree knot ∷ [] →
+        Sounds most (at count documents AtTree part left splits) (at (suc count) documents (place_of_tree to) (with_knot part knot) to after) (OfTree knot)
+    by zero has more = same-documents most (at count documents AtTree part left splits) (at (suc count) documents AtEnd (with_knot part knot) 0 after) (OfTree knot) are refl has more
+    by (suc to) has more =
+        rw (place-tree to) (same-documents most (at count documents AtTree part left splits) (at (suc count) documents AtTree (with_knot part knot) (suc to) after) (OfTree knot) are refl (omega arith, has) more)
+
+chosen-false : {X : Type 0} (test : Bool) (e : CertError) (x y : X) → cond test (Err e) (Ok x) ≡ Ok y → (test ≡ false) × (x ≡ y)
+chosen-false true e x y h = absurd (cc)
+chosen-false false e x y h = (refl, (cc))
+
+knot-sound : (most count : ℕ) (documents : List Document) (part : Parts) (left splits : ℕ) (t : State) (knot : Knot Leaf) → IsInRange BLOCK_LIMIT (OfTree knot) → AreDocumentsWithin BLOCK_LIMIT most documents → IsPart most AtTree part left splits →
+    knot_step most (at count documents AtTree part left splits) knot ≡ Ok t → Sounds most (at count documents AtTree part left splits) t (OfTree knot)
+knot-sound most count documents part zero splits t knot is are h made = absurd (omega (arith, h.0))
+knot-sound most count documents part (suc left) splits t (AtTip leaf) is are h made =
+    let less : suc left - 1 ≡ left = omega arith in
+    let e : at (suc count) documents (place_of_tree (suc left - 1)) (with_knot part (AtTip leaf)) (suc left - 1) splits ≡ t = (cc) in
+    let leave : Leave 1 (part.knots ++ AtTip leaf ∷ []) left = leave-tip 1 left part.knots leaf is h.1.4 in
+    subst (λ (u : State). Sounds most (at count documents AtTree part (suc left) splits) u (OfTree (AtTip leaf))) e
+    (rw less (tree-sound most count documents part (suc left) left splits splits (AtTip leaf) are h leave (omega (arith, count-append part.knots (AtTip leaf ∷ []), h.1.5)) h.1.6))
+knot-sound most count documents part (suc left) splits t (AtSplit numbers) is are h made =
+    let got = chosen-false (leb most splits) TooManyNodes (at (suc count) documents (place_of_tree (suc left - 1 + length numbers)) (with_knot part (AtSplit numbers)) (suc left - 1 + length numbers) (suc splits)) t made in
+    let few : splits < most = leb-false most splits got.0 in
+    let leave : Leave 1 (part.knots ++ AtSplit numbers ∷ []) (suc left - 1 + length numbers) = leave-split 1 left (suc left - 1 + length numbers) part.knots numbers is h.1.4 (omega arith) in
+    subst (λ (u : State). Sounds most (at count documents AtTree part (suc left) splits) u (OfTree (AtSplit numbers))) got.1
+    (tree-sound most count documents part (suc left) (suc left - 1 + length numbers) splits (suc splits) (AtSplit numbers) are h leave (omega (arith, count-append part.knots (AtSplit numbers ∷ []), h.1.5)) (omega arith))
+
+within-more : (most : ℕ) (ds : List Document) (d : Document) → AreDocumentsWithin BLOCK_LIMIT most ds → IsDocumentWithin BLOCK_LIMIT most d → AreDocumentsWithin BLOCK_LIMIT most (ds ++ d ∷ [])
+within-more most [] d are is = (is, tt)
+within-more most (other ∷ ds) d are is = (are.0, within-more most ds d are.1 is)
+
+documents-more : (ds : List Document) (d : Document) → documents_lines (ds ++ d ∷ []) ≡ documents_lines ds ++ document_lines d
+documents-more [] d = append-nil (document_lines d)
+documents-more (other ∷ ds) d = ap (λ x. document_lines other ++ x) (documents-more ds d) ∙ sym (append_assoc (document_lines other) (documents_lines ds) (document_lines d))
+
+pub whole-document : (most : ℕ) (part : Parts) (splits : ℕ) → HasTree most part 0 splits → IsDocumentWithin BLOCK_LIMIT most (document_of part)
+whole-document most part splits h =
+    let tree = whole-tree part.knots h.4 in
+    record {
+      profile = h.0.0;
+      block = (h.0.1, h.0.2, h.0.3);
+      time = h.1;
+      bound = h.2;
+      numbers = h.3;
+      tree = tree.1;
+      splits = omega (arith, tree.2, h.5, h.6);
+    }
+
+end-sound : (most count : ℕ) (documents : List Document) (part : Parts) (left splits : ℕ) → AreDocumentsWithin BLOCK_LIMIT most documents → IsPart most AtEnd part left splits →
+    Sounds most (at count documents AtEnd part left splits) (at (suc count) (documents ++ document_of part ∷ []) AtHeader nothing 0 0) End
+end-sound most count documents part left splits are h =
+    let tree = whole-tree part.knots h.4 in
+    let is : IsDocumentWithin BLOCK_LIMIT most (document_of part) = whole-document most part splits h in
+    let front : List Line = Time part.time ∷ Bound part.bound ∷ Order part.numbers ∷ knots_of part.knots in
+    let lines : document_lines (document_of part) ≡ part_lines AtEnd part left ++ End ∷ [] =
+    ap (λ (k : List (Knot Leaf)). heading_lines part (length part.block) (Time part.time ∷ Bound part.bound ∷ Order part.numbers ∷ (knots_of k ++ End ∷ []))) tree.0 ∙ heading-more part (length part.block) front End in
+    record {
+      documents = within-more most documents (document_of part) are is;
+      part = tt;
+      lines = append-nil (documents_lines (documents ++ document_of part ∷ [])) ∙ documents-more documents (document_of part)
+          ∙ ap (λ x. documents_lines documents ++ x) lines ∙ sym (append_assoc (documents_lines documents) (part_lines AtEnd part left) (End ∷ []));
+    }
+
+step-sound : (most count : ℕ) (documents : List Document) (place : Place) (part : Parts) (left splits : ℕ) (t : State) (l : Line) → IsInRange BLOCK_LIMIT l → AreDocumentsWithin BLOCK_LIMIT most documents → IsPart most place part left splits →
+    step_at most (at count documents place part left splits) place l ≡ Ok t → Sounds most (at count documents place part left splits) t l
+step-sound most count documents AtHeader part left splits t Header is are h made =
+    let e : at (suc count) documents AtProfile nothing 0 0 ≡ t = (cc) in
+    subst (λ (u : State). Sounds most (at count documents AtHeader part left splits) u Header) e
+    (same-documents most (at count documents AtHeader part left splits) (at (suc count) documents AtProfile nothing 0 0) Header are refl tt refl)
+step-sound most count documents AtProfile part left splits t (Profile numbers) is are h made =
+    let e : at (suc count) documents AtBlock (record part { profile = numbers }) 0 0 ≡ t = (cc) in
+    subst (λ (u : State). Sounds most (at count documents AtProfile part left splits) u (Profile numbers)) e
+    (same-documents most (at count documents AtProfile part left splits) (at (suc count) documents AtBlock (record part { profile = numbers }) 0 0) (Profile numbers) are refl is refl)
+step-sound most count documents AtBlock part left splits t (Block number) is are h made =
+    let e : at (suc count) documents AtInstruction (record part { block = [] }) number 0 ≡ t = (cc) in
+    let sum : 0 + number ≡ number = omega arith in
+    subst (λ (u : State). Sounds most (at count documents AtBlock part left splits) u (Block number)) e
+    (same-documents most (at count documents AtBlock part left splits) (at (suc count) documents AtInstruction (record part { block = [] }) number 0) (Block number) are refl (h, is.0, omega (arith, is.1), tt) (ap (λ n. Header ∷ Profile part.profile ∷ Block n ∷ []) sum))
+step-sound most count documents AtInstruction part left splits t (Instruction text) is are h made =
+    let e : at (suc count) documents (place_of_instruction (left - 1)) (record part { block = part.block ++ text ∷ [] }) (left - 1) 0 ≡ t = (cc) in
+    subst (λ (u : State). Sounds most (at count documents AtInstruction part left splits) u (Instruction text)) e (instruction-sound most count documents part left splits text is are h)
+step-sound most count documents AtTime part left splits t (Time time) is are h made =
+    let e : at (suc count) documents AtBound (record part { time = time }) 0 0 ≡ t = (cc) in
+    subst (λ (u : State). Sounds most (at count documents AtTime part left splits) u (Time time)) e
+    (same-documents most (at count documents AtTime part left splits) (at (suc count) documents AtBound (record part { time = time }) 0 0) (Time time) are refl (h, is) (heading-more part (length part.block) [] (Time time)))
+step-sound most count documents AtBound part left splits t (Bound bound) is are h made =
+    let e : at (suc count) documents AtOrder (record part { bound = bound }) 0 0 ≡ t = (cc) in
+    subst (λ (u : State). Sounds most (at count documents AtBound part left splits) u (Bound bound)) e
+    (same-documents most (at count documents AtBound part left splits) (at (suc count) documents AtOrder (record part { bound = bound }) 0 0) (Bound bound) are refl (h.0, h.1, is) (heading-more part (length part.block) (Time part.time ∷ []) (Bound bound)))
+step-sound most count documents AtOrder part left splits t (Order numbers) is are h made =
+    let e : at (suc count) documents AtTree (record part { numbers = numbers; knots = [] }) 1 0 ≡ t = (cc) in
+    subst (λ (u : State). Sounds most (at count documents AtOrder part left splits) u (Order numbers)) e
+    (same-documents most (at count documents AtOrder part left splits) (at (suc count) documents AtTree (record part { numbers = numbers; knots = [] }) 1 0) (Order numbers) are refl (omega arith, (h.0, h.1, h.2, is, refl, refl, omega arith)) (heading-more part (length part.block) (Time part.time ∷ Bound part.bound ∷ []) (Order numbers)))
+step-sound most count documents AtTree part left splits t (OfTree knot) is are h made = knot-sound most count documents part left splits t knot is are h made
+step-sound most count documents AtEnd part left splits t End is are h made =
+    let e : at (suc count) (documents ++ document_of part ∷ []) AtHeader nothing 0 0 ≡ t = (cc) in
+    subst (λ (u : State). Sounds most (at count documents AtEnd part left splits) u End) e (end-sound most count documents part left splits are h)
+step-sound most count documents place part left splits t l is are h made = absurd (cc)
+
+-- ALL LINES
+
+-- the lines that were read
+abbrev pub all_lines : State → List Line
+all_lines s = documents_lines s.documents ++ part_lines s.place s.part s.left
+
+one-line : (most : ℕ) (s t : State) (bytes : List ℕ) (o : Option Line) → line_of BLOCK_LIMIT bytes ≡ o → IsFine most s → step_if most s o ≡ Ok t →
+    IsFine most t × (map bytes_of (all_lines t) ≡ map bytes_of (all_lines s) ++ bytes ∷ [])
+one-line most s t bytes None read fine made = absurd (cc)
+one-line most s t bytes (Some l) read fine made =
+    let is = line-is BLOCK_LIMIT bytes l (omega arith) read in
+    let sound = step-sound most s.count s.documents s.place s.part s.left s.splits t l is.1 fine.0 fine.1 made in
+    ((sound.documents, sound.part), ap (map bytes_of) sound.lines ∙ map-append bytes_of (all_lines s) (l ∷ []) ∙ ap (λ b. map bytes_of (all_lines s) ++ b ∷ []) (sym is.0))
+
+pub after-ok : {A B : Type 0} (r : Result A CertError) (f : A → Result B CertError) (y : B) → and_then r f ≡ Ok y → (x : A) × (r ≡ Ok x) × (f x ≡ Ok y)
+after-ok (Ok x) f y h = (x, refl, h)
+after-ok (Err e) f y h = absurd (cc)
+
+pub steps-sound : (most : ℕ) (s t : State) (lines : List (List ℕ)) → IsFine most s → steps BLOCK_LIMIT most s lines ≡ Ok t →
+    IsFine most t × (map bytes_of (all_lines t) ≡ map bytes_of (all_lines s) ++ lines)
+steps-sound most s t [] fine run =
+    let e : s ≡ t = (cc) in
+    subst (λ (u : State). IsFine most u × (map bytes_of (all_lines u) ≡ map bytes_of (all_lines s) ++ [])) e (fine, sym (append-nil (map bytes_of (all_lines s))))
+steps-sound most s t (line ∷ lines) fine run =
+    let (u, one, more) = after-ok (step BLOCK_LIMIT most s line) (λ t. steps BLOCK_LIMIT most t lines) t run in
+    let first = one-line most s u line (line_of BLOCK_LIMIT line) refl fine one in
+    let rest = steps-sound most u t lines first.0 more in
+    (rest.0, rest.1 ∙ ap (λ x. x ++ lines) first.1 ∙ append_assoc (map bytes_of (all_lines s)) (line ∷ []) lines)
+
+nothing-open : (place : Place) (o : Parts) (left : ℕ) → is_header place ≡ true → part_lines place o left ≡ []
+nothing-open AtHeader o left h = refl
+nothing-open AtProfile o left h = absurd (cc)
+nothing-open AtBlock o left h = absurd (cc)
+nothing-open AtInstruction o left h = absurd (cc)
+nothing-open AtTime o left h = absurd (cc)
+nothing-open AtBound o left h = absurd (cc)
+nothing-open AtOrder o left h = absurd (cc)
+nothing-open AtTree o left h = absurd (cc)
+nothing-open AtEnd o left h = absurd (cc)
+
+no-bytes : (rest : List ℕ) → eqb (length rest) 0 ≡ true → rest ≡ []
+no-bytes [] h = refl
+no-bytes (b ∷ rest) h = absurd (let e = eqb-true (length (b ∷ rest)) 0 h in omega (arith, e))
+
+ended-ok : {X : Type 0} (test : Bool) (x y : X) → cond test (Ok x) (Err Truncated) ≡ Ok y → (test ≡ true) × (x ≡ y)
+ended-ok true x y h = (refl, (cc))
+ended-ok false x y h = absurd (cc)
+
+pub read-sound : (most : ℕ) (text : List ℕ) (ds : List Document) → read_within BLOCK_LIMIT most text ≡ Ok ds → IsTextWithin BLOCK_LIMIT most text ds
+read-sound most text ds read =
+    let (s, run, end) = after-ok (steps BLOCK_LIMIT most start (whole_lines [] text)) (ended (last_bytes [] text)) ds read in
+    let sound = steps-sound most start s (whole_lines [] text) (tt, tt) run in
+    let got = ended-ok (is_header s.place && eqb (length (last_bytes [] text)) 0) s.documents ds end in
+    let both = and_parts (is_header s.place) (eqb (length (last_bytes [] text)) 0) got.0 in
+    let lines : map bytes_of (documents_lines s.documents) ≡ whole_lines [] text =
+    ap (map bytes_of) (sym (append-nil (documents_lines s.documents)) ∙ ap (λ x. documents_lines s.documents ++ x) (sym (nothing-open s.place s.part s.left both.0))) ∙ sound.1 in
+    let all : text ≡ documents_text s.documents =
+    cut text ∙ ap (λ x. with_newlines (whole_lines [] text) ++ x) (no-bytes (last_bytes [] text) both.1) ∙ append-nil (with_newlines (whole_lines [] text)) ∙ ap with_newlines (sym lines) ∙ sym (documents-text s.documents) in
+    subst (λ (d : List Document). IsTextWithin BLOCK_LIMIT most text d) got.1 (sound.0.0, all)
+
+pub step-fine : (most : ℕ) (s t : State) (l : Line) → IsInRange BLOCK_LIMIT l → IsFine most s → step_at most s s.place l ≡ Ok t → IsFine most t
+step-fine most s t l is fine made =
+    let sound = step-sound most s.count s.documents s.place s.part s.left s.splits t l is fine.0 fine.1 made in
+    (sound.documents, sound.part)

@@ -1,0 +1,38 @@
+-- The test of an instruction's text.
+use Rattle.std.proofs.Common.{◌≡◌, ◌&&◌, ℕ, Bool, true, false, List, length, Option, None, Some, is_some, refl, sym, ap, ◌∙◌, nat_le, le-leb, leb-true}
+use Rattle.std.proofs.lemmas.Bool.{and_parts}
+use Rattle.std.proofs.lemmas.Slice.Eq.{bytes_eq-Decides}
+use Rattle.std.specs.Str.{bytes_eq}
+use Rattle.s66_line.specs.InstructionText.{spelling, operation_in, operand_in, IsInstruction}
+use Rattle.s66_line.specs.Operand.{instr_of}
+use Rattle.s66_line.specs.declared.limits.TheConstants.{TEXT_LIMIT}
+use Rattle.s66_line.proofs.InstructionTexts.{instruction}
+use Rattle.s66_cert.specs.Lines.{is_instruction, instruction_in}
+
+pub instruction-again : (text : List ℕ) → IsInstruction text → is_instruction text ≡ true
+instruction-again text is =
+    let fits : nat_le (length text) TEXT_LIMIT ≡ true = le-leb (length text) TEXT_LIMIT is.is_text.fits in
+    let some : is_some (instr_of (operation_in text) (operand_in text)) ≡ true = ap is_some is.is_text.spells in
+    let same : bytes_eq text (spelling (operation_in text) (operand_in text)) ≡ true = (bytes_eq-Decides text (spelling (operation_in text) (operand_in text))).1 is.is_text.whole in
+    rw (fits, some, same) refl
+
+pub instruction-is : (text : List ℕ) → is_instruction text ≡ true → IsInstruction text
+instruction-is text h =
+    let all = and_parts (nat_le (length text) TEXT_LIMIT && is_some (instr_of (operation_in text) (operand_in text))) (bytes_eq text (spelling (operation_in text) (operand_in text))) h in
+    let two = and_parts (nat_le (length text) TEXT_LIMIT) (is_some (instr_of (operation_in text) (operand_in text))) all.0 in
+    instruction text two.1 ((bytes_eq-Decides text (spelling (operation_in text) (operand_in text))).0 all.1) (leb-true (length text) TEXT_LIMIT two.0)
+
+-- what decides whether it is one is the test
+pub tested : (text : List ℕ) (found : Bool) → (found ≡ true → IsInstruction text) × (IsInstruction text → found ≡ true) → found ≡ is_instruction text
+tested text true h = sym (instruction-again text (h.0 refl))
+tested text false h = by_test (is_instruction text) refl
+  where
+    by_test : (t : Bool) → is_instruction text ≡ t → false ≡ t
+    by_test true told = h.1 (instruction-is text told)
+    by_test false told = refl
+
+-- what is none is no line of a document
+pub refused : (rest : Option (List ℕ)) (text : List ℕ) (found : Bool) → rest ≡ Some text → (found ≡ true → IsInstruction text) × (IsInstruction text → found ≡ true) → found ≡ false → None ≡ instruction_in rest
+refused rest text found is told fails =
+    let none : is_instruction text ≡ false = sym (tested text found told) ∙ fails in
+    rw (is, none) refl

@@ -1,0 +1,19 @@
+-- States of reading, and which line comes next.
+use Rattle.std.proofs.Common.{◌≡◌, ℕ, suc, List, arith, eqb}
+use Rattle.std.proofs.lemmas.Bool.{cond-false, ne_eqb}
+use Rattle.s66_cert.specs.Document.{Document}
+use Rattle.s66_cert.specs.Parts.{Parts}
+use Rattle.s66_cert.specs.Reading.{State, place_of_instruction, place_of_tree}
+use Rattle.s66_cert.specs.declared.place.Place.{Place}
+use Rattle.s66_cert.specs.declared.place.Place.TheVariants.{AtInstruction, AtTime, AtTree, AtEnd}
+
+abbrev pub at : ℕ → List Document → Place → Parts → ℕ → ℕ → State
+at count documents place part left splits = record { count = count; documents = documents; place = place; part = part; left = left; splits = splits }
+
+-- where some are still to come
+
+pub place-instruction : (left : ℕ) → place_of_instruction (suc left) ≡ AtInstruction
+place-instruction left = cond-false (eqb (suc left) 0) AtTime AtInstruction (ne_eqb (suc left) 0 (λ e. omega (arith, e)))
+
+pub place-tree : (left : ℕ) → place_of_tree (suc left) ≡ AtTree
+place-tree left = cond-false (eqb (suc left) 0) AtEnd AtTree (ne_eqb (suc left) 0 (λ e. omega (arith, e)))

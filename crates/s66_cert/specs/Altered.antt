@@ -1,0 +1,33 @@
+-- Texts with lines changed, for worked examples.
+use Rattle.std.specs.Prelude.{ℕ, ◌-◌, ◌+◌, Bool, true, false, List, [], ◌∷◌, ◌++◌, codes, take, drop, replicate, Result, Ok, Err}
+use Rattle.s66_isa.specs.Lists.{every, after_blanks}
+use Rattle.s66_cert.specs.Document.{Document}
+use Rattle.s66_cert.specs.Examples.{three_multiplies_text}
+use Rattle.s66_cert.specs.Faults.{with_newlines}
+use Rattle.s66_cert.specs.Reading.{whole_lines, read_of}
+use Rattle.s66_cert.specs.declared.error.CertError.{CertError}
+use Rattle.s66_cert.specs.declared.error.CertError.TheVariants.{BadLine, Truncated, TooManyNodes, OutOfMemory}
+
+-- from this line on, the first being 1, so many lines are replaced
+abbrev pub replaced : ℕ → ℕ → List (List ℕ) → List ℕ → List ℕ
+replaced line count lines text =
+    with_newlines (take (line - 1) (whole_lines [] text) ++ lines ++ drop (line - 1 + count) (whole_lines [] text))
+
+-- the text of three multiplies with one line replaced
+abbrev pub with_line : ℕ → List ℕ → List ℕ
+with_line line bytes = replaced line 1 (bytes ∷ []) three_multiplies_text
+
+-- and with another tree: a split of so many numbers, and so many whole orders
+abbrev pub with_split_of : ℕ → ℕ → List ℕ
+with_split_of numbers trees = replaced 10 16 ((codes "S" ++ after_blanks (replicate numbers 1)) ∷ replicate trees (codes "T")) three_multiplies_text
+
+abbrev is_truncated : Result (List Document) CertError → Bool
+is_truncated (Ok ds) = false
+is_truncated (Err Truncated) = true
+is_truncated (Err (BadLine line)) = false
+is_truncated (Err TooManyNodes) = false
+is_truncated (Err OutOfMemory) = false
+
+-- the first so many bytes, for each of these counts
+abbrev pub are_truncated : List ℕ → List ℕ → Bool
+are_truncated counts text = every (λ k. is_truncated (read_of (take k text))) counts

@@ -1,0 +1,69 @@
+-- To be believed: the first fault of a text that is no text of documents, in reading order.
+use Rattle.std.specs.Prelude.{◌≡◌, ◌+◌, ◌==◌, ℕ, true, not, List, [], ◌∷◌, ◌++◌, length}
+use Rattle.s66_isa.specs.Lists.{every}
+use Rattle.s66_line.specs.declared.limits.TheConstants.{BLOCK_LIMIT}
+use Rattle.s66_cert.specs.Document.{Document, IsText, IsTextWithin}
+use Rattle.s66_cert.specs.declared.limits.TheConstants.{SPLIT_LIMIT}
+use Rattle.s66_cert.specs.declared.error.CertError.{CertError}
+use Rattle.s66_cert.specs.declared.error.CertError.TheVariants.{BadLine, Truncated, TooManyNodes, OutOfMemory}
+
+-- no newline stands in it
+abbrev pub IsLine : List ℕ → Type 0
+IsLine line = every (λ b. not (b == 10)) line ≡ true
+
+abbrev pub AreLines : List (List ℕ) → Type 0
+AreLines [] = Unit {0}
+AreLines (line ∷ lines) = IsLine line × AreLines lines
+
+-- each line with its newline
+abbrev pub with_newlines : List (List ℕ) → List ℕ
+with_newlines [] = []
+with_newlines (line ∷ lines) = line ++ 10 ∷ with_newlines lines
+
+-- some text of documents begins so, whose trees have at most so many splits
+abbrev pub BeginsWithin : ℕ → List ℕ → Type 0
+BeginsWithin most text = (more : List ℕ) × (ds : List Document) × IsTextWithin BLOCK_LIMIT most (text ++ more) ds
+
+-- some text of documents begins so
+abbrev pub Begins : List ℕ → Type 0
+Begins text = BeginsWithin SPLIT_LIMIT text
+
+-- a line, after lines with which some text of documents begins
+pub record HasLine (text : List ℕ) (before : List (List ℕ)) (line : List ℕ) : Type 0 where
+  pub after : List ℕ
+  pub cut : text ≡ with_newlines before ++ line ++ 10 ∷ after
+  pub lines : AreLines before × IsLine line
+  pub begins : Begins (with_newlines before)
+
+-- the first line that isn't what a document has in its place, by its number from 1: with it no text of documents begins, however many splits their trees may have
+pub record IsBadLine (text : List ℕ) (number : ℕ) : Type 0 where
+  pub before : List (List ℕ)
+  pub line : List ℕ
+  pub here : HasLine text before line
+  pub counted : length before + 1 ≡ number
+  pub none : (most : ℕ) → ¬ BeginsWithin most (with_newlines before ++ line ++ 10 ∷ [])
+
+-- with this line no text of documents begins, and one would if trees might have more splits
+pub record IsSplitTooMany (text : List ℕ) : Type 0 where
+  pub before : List (List ℕ)
+  pub line : List ℕ
+  pub here : HasLine text before line
+  pub most : ℕ
+  pub more : BeginsWithin most (with_newlines before ++ line ++ 10 ∷ [])
+  pub none : ¬ Begins (with_newlines before ++ line ++ 10 ∷ [])
+
+-- with all its whole lines some text of documents begins, and then it ends: inside a document, or in a line without its newline
+pub record IsCut (text : List ℕ) : Type 0 where
+  pub before : List (List ℕ)
+  pub rest : List ℕ
+  pub cut : text ≡ with_newlines before ++ rest
+  pub lines : AreLines before × IsLine rest
+  pub begins : Begins (with_newlines before)
+  pub none : (ds : List Document) → ¬ IsText BLOCK_LIMIT text ds
+
+-- the fault of a text; want of memory is none
+abbrev pub IsFault : List ℕ → CertError → Type 0
+IsFault text (BadLine line) = IsBadLine text line
+IsFault text Truncated = IsCut text
+IsFault text TooManyNodes = IsSplitTooMany text
+IsFault text OutOfMemory = ⊥

@@ -1,0 +1,51 @@
+-- Used by contracts: what was read of documents is in range.
+use Rattle.std.specs.Prelude.{◌≡◌, ◌≤◌, ◌+◌, ℕ, zero, suc, List, [], ◌∷◌, length}
+use Rattle.s66_line.specs.declared.limits.TheConstants.{BLOCK_LIMIT}
+use Rattle.s66_model.specs.Leaves.{Leaf}
+use Rattle.s66_model.specs.Tree.{Knot, AtTip, AtSplit}
+use Rattle.s66_cert.specs.Document.{AreDocumentsWithin, AreIn, AreNumbers, AreInstructions, IsLeafLine}
+use Rattle.s66_cert.specs.Parts.{Parts}
+use Rattle.s66_cert.specs.Reading.{State}
+use Rattle.s66_cert.specs.declared.limits.TheConstants.{PROFILE_LENGTH, PROFILE_LIMIT, TIME_LIMIT}
+use Rattle.s66_cert.specs.declared.place.Place.{Place}
+use Rattle.s66_cert.specs.declared.place.Place.TheVariants.{AtHeader, AtProfile, AtBlock, AtInstruction, AtTime, AtBound, AtOrder, AtTree, AtEnd}
+
+-- of n trees these lines leave so many to come
+abbrev pub Leave : ℕ → List (Knot Leaf) → ℕ → Type 0
+Leave n [] left = n ≡ left
+Leave (suc n) (AtTip leaf ∷ knots) left = IsLeafLine BLOCK_LIMIT leaf × Leave n knots left
+Leave (suc n) (AtSplit numbers ∷ knots) left = AreNumbers BLOCK_LIMIT numbers × Leave (length numbers + n) knots left
+Leave zero (AtTip leaf ∷ knots) left = ⊥
+Leave zero (AtSplit numbers ∷ knots) left = ⊥
+
+-- how many of these lines are splits
+abbrev pub split_count : List (Knot Leaf) → ℕ
+split_count [] = 0
+split_count (AtTip leaf ∷ knots) = split_count knots
+split_count (AtSplit numbers ∷ knots) = suc (split_count knots)
+
+abbrev pub HasProfile : Parts → Type 0
+HasProfile p = (length p.profile ≡ PROFILE_LENGTH) × AreIn 1 PROFILE_LIMIT p.profile
+
+abbrev pub HasBlock : Parts → Type 0
+HasBlock p = HasProfile p × (1 ≤ length p.block) × (length p.block ≤ BLOCK_LIMIT) × AreInstructions p.block
+
+abbrev pub HasTree : ℕ → Parts → ℕ → ℕ → Type 0
+HasTree most p left splits =
+    HasBlock p × (p.time ≤ TIME_LIMIT) × (p.bound ≤ TIME_LIMIT) × AreNumbers BLOCK_LIMIT p.numbers × Leave 1 p.knots left × (splits ≡ split_count p.knots) × (splits ≤ most)
+
+-- what its lines said is in range, by which line comes next
+abbrev pub IsPart : ℕ → Place → Parts → ℕ → ℕ → Type 0
+IsPart most AtHeader p left splits = Unit {0}
+IsPart most AtProfile p left splits = Unit {0}
+IsPart most AtBlock p left splits = HasProfile p
+IsPart most AtInstruction p left splits = HasProfile p × (1 ≤ left) × (length p.block + left ≤ BLOCK_LIMIT) × AreInstructions p.block
+IsPart most AtTime p left splits = HasBlock p
+IsPart most AtBound p left splits = HasBlock p × (p.time ≤ TIME_LIMIT)
+IsPart most AtOrder p left splits = HasBlock p × (p.time ≤ TIME_LIMIT) × (p.bound ≤ TIME_LIMIT)
+IsPart most AtTree p left splits = (1 ≤ left) × HasTree most p left splits
+IsPart most AtEnd p left splits = HasTree most p 0 splits
+
+-- what was read is in range
+abbrev pub IsFine : ℕ → State → Type 0
+IsFine most s = AreDocumentsWithin BLOCK_LIMIT most s.documents × IsPart most s.place s.part s.left s.splits

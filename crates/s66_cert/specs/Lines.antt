@@ -1,0 +1,197 @@
+-- Used by contracts: the lines of a document, what each says, how it is written, and what bytes are read as. A block has at most limit instructions.
+use Rattle.std.specs.Prelude.{◌≡◌, ◌≤◌, ◌+◌, ◌*◌, ◌-◌, ◌==◌, ◌&&◌, if◌then◌else◌, ℕ, Bool, true, false, not, List, [], ◌∷◌, ◌++◌, Option, None, Some, nat_le, is_some, length, codes, decimal}
+use Rattle.std.specs.Option.{option_map}
+use Rattle.std.specs.Str.{bytes_eq}
+use Rattle.s66_isa.specs.declared.instr.Kind.{Kind}
+use Rattle.s66_isa.specs.declared.instr.Kind.TheVariants.{Boolean, Shift, Add, LongAdd, Multiply, Divide, Increment}
+use Rattle.s66_isa.specs.Lists.{every, after_blanks}
+use Rattle.s66_model.specs.Leaves.{Leaf, Whole, Chain, Load, Parcels}
+use Rattle.s66_model.specs.Tree.{Knot, AtTip, AtSplit}
+use Rattle.s66_line.specs.InstructionText.{spelling, operation_in, operand_in, IsInstruction}
+use Rattle.s66_line.specs.Operand.{instr_of}
+use Rattle.s66_line.specs.declared.limits.TheConstants.{TEXT_LIMIT}
+use Rattle.s66_cert.specs.Document.{AreIn, AreNumbers, IsLeafLine, kind_name}
+use Rattle.s66_cert.specs.declared.limits.TheConstants.{PROFILE_LENGTH, PROFILE_LIMIT, TIME_LIMIT}
+
+pub data Line : Type 0 where
+  Header : Line
+  Profile : (numbers : List ℕ) → Line
+  Block : (count : ℕ) → Line
+  Instruction : (text : List ℕ) → Line
+  Time : (time : ℕ) → Line
+  Bound : (bound : ℕ) → Line
+  Order : (numbers : List ℕ) → Line
+  OfTree : (knot : Knot Leaf) → Line
+  End : Line
+
+-- ITS BYTES, without the newline
+
+abbrev pub leaf_bytes : Leaf → List ℕ
+leaf_bytes Whole = codes "T"
+leaf_bytes (Chain numbers) = codes "C" ++ after_blanks numbers
+leaf_bytes (Load kind) = codes "U " ++ kind_name kind
+leaf_bytes Parcels = codes "P"
+
+abbrev pub knot_bytes : Knot Leaf → List ℕ
+knot_bytes (AtTip leaf) = leaf_bytes leaf
+knot_bytes (AtSplit numbers) = codes "S" ++ after_blanks numbers
+
+abbrev pub bytes_of : Line → List ℕ
+bytes_of Header = codes "S66 CERTIFICATE 1"
+bytes_of (Profile numbers) = codes "PROFILE" ++ after_blanks numbers
+bytes_of (Block count) = codes "BLOCK " ++ decimal count
+bytes_of (Instruction text) = codes "I " ++ text
+bytes_of (Time time) = codes "TIME " ++ decimal time
+bytes_of (Bound bound) = codes "BOUND " ++ decimal bound
+bytes_of (Order numbers) = codes "ORDER" ++ after_blanks numbers
+bytes_of (OfTree knot) = knot_bytes knot
+bytes_of End = codes "END"
+
+-- ITS RANGES
+
+abbrev pub IsKnot : ℕ → Knot Leaf → Type 0
+IsKnot limit (AtTip leaf) = IsLeafLine limit leaf
+IsKnot limit (AtSplit numbers) = AreNumbers limit numbers
+
+abbrev pub IsInRange : ℕ → Line → Type 0
+IsInRange limit Header = Unit {0}
+IsInRange limit (Profile numbers) = (length numbers ≡ PROFILE_LENGTH) × AreIn 1 PROFILE_LIMIT numbers
+IsInRange limit (Block count) = (1 ≤ count) × (count ≤ limit)
+IsInRange limit (Instruction text) = IsInstruction text
+IsInRange limit (Time time) = time ≤ TIME_LIMIT
+IsInRange limit (Bound bound) = bound ≤ TIME_LIMIT
+IsInRange limit (Order numbers) = AreNumbers limit numbers
+IsInRange limit (OfTree knot) = IsKnot limit knot
+IsInRange limit End = Unit {0}
+
+-- WORDS, with one blank between two
+
+abbrev pub first_word : List ℕ → List ℕ
+first_word [] = []
+first_word (b ∷ bytes) = if b == 32 then [] else b ∷ first_word bytes
+
+-- what stands after the first blank, where there is one
+abbrev pub after_word : List ℕ → Option (List ℕ)
+after_word [] = None
+after_word (b ∷ bytes) = if b == 32 then Some bytes else after_word bytes
+
+-- a byte in front of the first word
+abbrev pub put_front : ℕ → List (List ℕ) → List (List ℕ)
+put_front b [] = (b ∷ []) ∷ []
+put_front b (word ∷ words) = (b ∷ word) ∷ words
+
+abbrev pub words_of : List ℕ → List (List ℕ)
+words_of [] = [] ∷ []
+words_of (b ∷ bytes) = if b == 32 then [] ∷ words_of bytes else put_front b (words_of bytes)
+
+abbrev pub words_in : Option (List ℕ) → List (List ℕ)
+words_in None = []
+words_in (Some bytes) = words_of bytes
+
+-- NUMBERS
+
+abbrev pub is_digit : ℕ → Bool
+is_digit b = nat_le 48 b && nat_le b 57
+
+-- the number that these digits write after those of n
+abbrev pub value_after : ℕ → List ℕ → ℕ
+value_after n [] = n
+value_after n (d ∷ ds) = value_after (n * 10 + (d - 48)) ds
+
+-- there is a digit, and no zero leads another
+abbrev pub has_no_leading_zero : List ℕ → Bool
+has_no_leading_zero [] = false
+has_no_leading_zero (d ∷ []) = true
+has_no_leading_zero (d ∷ e ∷ ds) = not (d == 48)
+
+abbrev pub is_number : List ℕ → Bool
+is_number word = has_no_leading_zero word && every is_digit word
+
+abbrev pub number_in : ℕ → ℕ → List ℕ → Option ℕ
+number_in low high word =
+    if is_number word && nat_le low (value_after 0 word) && nat_le (value_after 0 word) high then Some (value_after 0 word) else None
+
+abbrev pub consed : ℕ → Option (List ℕ) → Option (List ℕ)
+consed n None = None
+consed n (Some ns) = Some (n ∷ ns)
+
+abbrev pub consed_if : Option ℕ → Option (List ℕ) → Option (List ℕ)
+consed_if None ns = None
+consed_if (Some n) ns = consed n ns
+
+abbrev pub numbers_in : ℕ → ℕ → List (List ℕ) → Option (List ℕ)
+numbers_in low high [] = Some []
+numbers_in low high (word ∷ words) = consed_if (number_in low high word) (numbers_in low high words)
+
+abbrev pub if_count : ℕ → ℕ → Option (List ℕ) → Option (List ℕ)
+if_count low high None = None
+if_count low high (Some ns) = if nat_le low (length ns) && nat_le (length ns) high then Some ns else None
+
+-- numbers of instructions of a block
+abbrev pub block_numbers : ℕ → Option (List ℕ) → Option (List ℕ)
+block_numbers limit rest = if_count 1 limit (numbers_in 1 limit (words_in rest))
+
+abbrev pub profile_in : Option (List ℕ) → Option (List ℕ)
+profile_in rest = if_count PROFILE_LENGTH PROFILE_LENGTH (numbers_in 1 PROFILE_LIMIT (words_in rest))
+
+abbrev pub one_number : ℕ → ℕ → Option (List ℕ) → Option ℕ
+one_number low high None = None
+one_number low high (Some bytes) = number_in low high bytes
+
+-- INSTRUCTIONS
+
+abbrev pub is_instruction : List ℕ → Bool
+is_instruction text =
+    nat_le (length text) TEXT_LIMIT && is_some (instr_of (operation_in text) (operand_in text))
+    && bytes_eq text (spelling (operation_in text) (operand_in text))
+
+abbrev pub instruction_in : Option (List ℕ) → Option Line
+instruction_in None = None
+instruction_in (Some text) = if is_instruction text then Some (Instruction text) else None
+
+-- KINDS
+
+abbrev pub kind_in : Option (List ℕ) → Option Kind
+kind_in None = None
+kind_in (Some name) =
+    if bytes_eq name (codes "BOOLEAN") then Some Boolean
+    else (if bytes_eq name (codes "SHIFT") then Some Shift
+    else (if bytes_eq name (codes "ADD") then Some Add
+    else (if bytes_eq name (codes "LONGADD") then Some LongAdd
+    else (if bytes_eq name (codes "MULTIPLY") then Some Multiply
+    else (if bytes_eq name (codes "DIVIDE") then Some Divide
+    else (if bytes_eq name (codes "INCREMENT") then Some Increment
+    else None))))))
+
+-- LINES
+
+-- nothing follows the word
+abbrev pub alone : Line → Option (List ℕ) → Option Line
+alone line None = Some line
+alone line (Some rest) = None
+
+abbrev pub header_in : Option (List ℕ) → Option Line
+header_in None = None
+header_in (Some rest) = if bytes_eq rest (codes "CERTIFICATE 1") then Some Header else None
+
+-- what a line says whose first word is this, and what stands after its blank
+abbrev pub line_with : ℕ → List ℕ → Option (List ℕ) → Option Line
+line_with limit name rest =
+    if bytes_eq name (codes "T") then alone (OfTree (AtTip Whole)) rest
+    else (if bytes_eq name (codes "S") then option_map (λ ns. OfTree (AtSplit ns)) (block_numbers limit rest)
+    else (if bytes_eq name (codes "C") then option_map (λ ns. OfTree (AtTip (Chain ns))) (block_numbers limit rest)
+    else (if bytes_eq name (codes "U") then option_map (λ kind. OfTree (AtTip (Load kind))) (kind_in rest)
+    else (if bytes_eq name (codes "P") then alone (OfTree (AtTip Parcels)) rest
+    else (if bytes_eq name (codes "I") then instruction_in rest
+    else (if bytes_eq name (codes "S66") then header_in rest
+    else (if bytes_eq name (codes "PROFILE") then option_map Profile (profile_in rest)
+    else (if bytes_eq name (codes "BLOCK") then option_map Block (one_number 1 limit rest)
+    else (if bytes_eq name (codes "TIME") then option_map Time (one_number 0 TIME_LIMIT rest)
+    else (if bytes_eq name (codes "BOUND") then option_map Bound (one_number 0 TIME_LIMIT rest)
+    else (if bytes_eq name (codes "ORDER") then option_map Order (block_numbers limit rest)
+    else (if bytes_eq name (codes "END") then alone End rest
+    else None))))))))))))
+
+-- what a line says, or that it's no line of a document
+abbrev pub line_of : ℕ → List ℕ → Option Line
+line_of limit bytes = line_with limit (first_word bytes) (after_word bytes)

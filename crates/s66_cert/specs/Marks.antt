@@ -1,0 +1,32 @@
+-- Used by contracts: the lines of a tree that its marks and its numbers keep.
+use Rattle.std.specs.Prelude.{◌≡◌, ℕ, List, [], ◌∷◌, length, take, drop}
+use Rattle.s66_isa.specs.Lists.{weigh}
+use Rattle.s66_model.specs.Leaves.{Leaf, Whole, Chain, Load, Parcels}
+use Rattle.s66_model.specs.Tree.{Knot, AtTip, AtSplit}
+use Rattle.s66_cert.specs.declared.tree.Mark.{Mark}
+use Rattle.s66_cert.specs.declared.tree.Mark.TheVariants as mark
+
+-- how many numbers its line has
+abbrev pub number_count : Mark → ℕ
+number_count (mark.Split count) = count
+number_count mark.Whole = 0
+number_count (mark.Chain count) = count
+number_count (mark.Load kind) = 0
+number_count mark.Parcels = 0
+
+-- with its numbers, the first of these
+abbrev pub marked : Mark → List ℕ → Knot Leaf
+marked (mark.Split count) numbers = AtSplit (take count numbers)
+marked mark.Whole numbers = AtTip Whole
+marked (mark.Chain count) numbers = AtTip (Chain (take count numbers))
+marked (mark.Load kind) numbers = AtTip (Load kind)
+marked mark.Parcels numbers = AtTip Parcels
+
+-- the numbers of the lines stand one after the other
+abbrev pub knots_of : List Mark → List ℕ → List (Knot Leaf)
+knots_of [] numbers = []
+knots_of (mark ∷ marks) numbers = marked mark numbers ∷ knots_of marks (drop (number_count mark) numbers)
+
+-- as many numbers as the lines have
+abbrev pub AreCounted : List Mark → List ℕ → Type 0
+AreCounted marks numbers = weigh number_count marks ≡ length numbers

@@ -1,0 +1,119 @@
+-- Used by contracts: a text of documents read line by line. A block has at most limit instructions, and a tree most splits.
+use Rattle.std.specs.Prelude.{◌+◌, ◌-◌, ◌==◌, ◌&&◌, if◌then◌else◌, ℕ, suc, Bool, true, false, List, [], ◌∷◌, ◌++◌, Option, None, Some, Result, Ok, Err, nat_le, length}
+use Rattle.s66_line.specs.declared.limits.TheConstants.{BLOCK_LIMIT}
+use Rattle.s66_model.specs.Leaves.{Leaf}
+use Rattle.s66_model.specs.Tree.{Knot, AtTip, AtSplit}
+use Rattle.s66_cert.specs.Document.{Document}
+use Rattle.s66_cert.specs.Lines.{Line, Header, Profile, Block, Instruction, Time, Bound, Order, OfTree, End, line_of}
+use Rattle.s66_cert.specs.Parts.{Parts, document_of}
+use Rattle.s66_cert.specs.declared.limits.TheConstants.{SPLIT_LIMIT}
+use Rattle.s66_cert.specs.declared.error.CertError.{CertError}
+use Rattle.s66_cert.specs.declared.error.CertError.TheVariants.{BadLine, Truncated, TooManyNodes}
+use Rattle.s66_cert.specs.declared.place.Place.{Place}
+use Rattle.s66_cert.specs.declared.place.Place.TheVariants.{AtHeader, AtProfile, AtBlock, AtInstruction, AtTime, AtBound, AtOrder, AtTree, AtEnd}
+
+-- WHAT WAS READ
+
+-- nothing of a document
+abbrev pub nothing : Parts
+nothing = record { profile = []; block = []; time = 0; bound = 0; numbers = []; knots = [] }
+
+pub record State : Type 0 where
+  -- how many lines were read
+  pub count : ℕ
+  -- the whole documents
+  pub documents : List Document
+  -- which line comes next, and what the lines of this document said
+  pub place : Place
+  pub part : Parts
+  -- how many instructions, or trees, are still to come
+  pub left : ℕ
+  pub splits : ℕ
+
+abbrev pub start : State
+start = record { count = 0; documents = []; place = AtHeader; part = nothing; left = 0; splits = 0 }
+
+-- ONE LINE
+
+abbrev pub bad : State → Result State CertError
+bad s = Err (BadLine (suc s.count))
+
+abbrev pub next : State → Place → Parts → ℕ → ℕ → Result State CertError
+next s place part left splits = Ok (record { count = suc s.count; documents = s.documents; place = place; part = part; left = left; splits = splits })
+
+abbrev pub place_of_instruction : ℕ → Place
+place_of_instruction left = if left == 0 then AtTime else AtInstruction
+
+abbrev pub place_of_tree : ℕ → Place
+place_of_tree left = if left == 0 then AtEnd else AtTree
+
+abbrev pub with_knot : Parts → Knot Leaf → Parts
+with_knot p knot = record p { knots = p.knots ++ knot ∷ [] }
+
+abbrev pub knot_step : ℕ → State → Knot Leaf → Result State CertError
+knot_step most s (AtTip leaf) = next s (place_of_tree (s.left - 1)) (with_knot s.part (AtTip leaf)) (s.left - 1) s.splits
+knot_step most s (AtSplit numbers) =
+    if nat_le most s.splits then Err TooManyNodes
+    else next s (place_of_tree (s.left - 1 + length numbers)) (with_knot s.part (AtSplit numbers)) (s.left - 1 + length numbers) (suc s.splits)
+
+-- the line that comes at this place, and what it makes; any other is bad
+abbrev pub step_at : ℕ → State → Place → Line → Result State CertError
+step_at most s AtHeader Header = next s AtProfile nothing 0 0
+step_at most s AtProfile (Profile numbers) = next s AtBlock (record s.part { profile = numbers }) 0 0
+step_at most s AtBlock (Block count) = next s AtInstruction (record s.part { block = [] }) count 0
+step_at most s AtInstruction (Instruction text) = next s (place_of_instruction (s.left - 1)) (record s.part { block = s.part.block ++ text ∷ [] }) (s.left - 1) 0
+step_at most s AtTime (Time time) = next s AtBound (record s.part { time = time }) 0 0
+step_at most s AtBound (Bound bound) = next s AtOrder (record s.part { bound = bound }) 0 0
+step_at most s AtOrder (Order numbers) = next s AtTree (record s.part { numbers = numbers; knots = [] }) 1 0
+step_at most s AtTree (OfTree knot) = knot_step most s knot
+step_at most s AtEnd End =
+    Ok (record { count = suc s.count; documents = s.documents ++ document_of s.part ∷ []; place = AtHeader; part = nothing; left = 0; splits = 0 })
+step_at most s place line = bad s
+
+abbrev pub step_if : ℕ → State → Option Line → Result State CertError
+step_if most s None = bad s
+step_if most s (Some line) = step_at most s s.place line
+
+abbrev pub step : ℕ → ℕ → State → List ℕ → Result State CertError
+step limit most s bytes = step_if most s (line_of limit bytes)
+
+-- ALL LINES
+
+abbrev pub and_then : {A B : Type 0} → Result A CertError → (A → Result B CertError) → Result B CertError
+and_then (Ok x) f = f x
+and_then (Err e) f = Err e
+
+abbrev pub steps : ℕ → ℕ → State → List (List ℕ) → Result State CertError
+steps limit most s [] = Ok s
+steps limit most s (line ∷ lines) = and_then (step limit most s line) (λ t. steps limit most t lines)
+
+-- the lines of a text that end with a newline; line begins the first
+abbrev pub whole_lines : List ℕ → List ℕ → List (List ℕ)
+whole_lines line [] = []
+whole_lines line (b ∷ bytes) = if b == 10 then line ∷ whole_lines [] bytes else whole_lines (line ++ b ∷ []) bytes
+
+-- what stands after them
+abbrev pub last_bytes : List ℕ → List ℕ → List ℕ
+last_bytes line [] = line
+last_bytes line (b ∷ bytes) = if b == 10 then last_bytes [] bytes else last_bytes (line ++ b ∷ []) bytes
+
+abbrev pub is_header : Place → Bool
+is_header AtHeader = true
+is_header AtProfile = false
+is_header AtBlock = false
+is_header AtInstruction = false
+is_header AtTime = false
+is_header AtBound = false
+is_header AtOrder = false
+is_header AtTree = false
+is_header AtEnd = false
+
+abbrev pub ended : List ℕ → State → Result (List Document) CertError
+ended rest s = if is_header s.place && (length rest == 0) then Ok s.documents else Err Truncated
+
+-- the documents of a text, or its first fault
+abbrev pub read_within : ℕ → ℕ → List ℕ → Result (List Document) CertError
+read_within limit most text = and_then (steps limit most start (whole_lines [] text)) (ended (last_bytes [] text))
+
+abbrev pub read_of : List ℕ → Result (List Document) CertError
+read_of text = read_within BLOCK_LIMIT SPLIT_LIMIT text

@@ -1,0 +1,24 @@
+use crate::limits::PROFILE_LENGTH;
+use arrayvec::ArrayVec;
+use s66_isa::Kind;
+use s66_line::BLOCK_LIMIT;
+
+/// What a line of a document says.
+#[derive(Debug, Drop)]
+pub(crate) enum LineOf<'a> {
+    Header,
+    Profile(ArrayVec<u8, PROFILE_LENGTH>),
+    /// How many instructions the block has.
+    Block(u32),
+    /// The text of one.
+    Instruction(&'a [u8]),
+    Time(u32),
+    Bound(u32),
+    Order(ArrayVec<u8, BLOCK_LIMIT>),
+    Split(ArrayVec<u8, BLOCK_LIMIT>),
+    Whole,
+    Chain(ArrayVec<u8, BLOCK_LIMIT>),
+    Load(Kind),
+    Parcels,
+    End,
+}

@@ -1,0 +1,204 @@
+ghost use Rattle.std.specs.Prelude.{◌≡◌, ◌≤◌};
+ghost use Rattle.std.specs.Str.{bytes_eq};
+ghost use Rattle.std.specs.Option.{option_map};
+ghost use Rattle.s66_line.specs.declared.limits.TheConstants.{BLOCK_LIMIT};
+ghost use Rattle.s66_model.specs.Leaves.{Chain, Load};
+ghost use Rattle.s66_model.specs.Tree.{AtTip, AtSplit};
+ghost use Rattle.s66_cert.specs.Lines.{line_of, block_numbers, profile_in, one_number, instruction_in, kind_in, header_in, alone, OfTree};
+ghost use Rattle.s66_cert.specs.Lines as line;
+ghost use Rattle.s66_cert.specs.Said.{said};
+ghost use Rattle.s66_cert.specs.declared.limits.TheConstants.{TIME_LIMIT};
+
+use crate::limits::{PROFILE_LENGTH, PROFILE_LIMIT, TIME_LIMIT};
+use crate::line::LineOf;
+use crate::scan::{number_in, numbers_in, split_word};
+use arrayvec::ArrayVec;
+use s66_isa::Kind;
+use s66_line::{BLOCK_LIMIT, is_instruction};
+
+fn is_name(bytes: &[u8], name: &[u8]) -> bool
+    ensures { result ≡ bytes_eq bytes.now name.now }
+{
+    bytes == name
+}
+
+/// One number.
+fn number(rest: Option<&[u8]>, low: u32, high: u32) -> Option<u32>
+    requires { high ≤ TIME_LIMIT }
+    ensures { result ≡ one_number low high (option_map (λ r. r.now) rest.entry) }
+{
+    number_in(rest?, low, high)
+}
+
+/// Numbers of instructions of a block, one at least.
+fn block_numbers(rest: Option<&[u8]>) -> Option<ArrayVec<u8, BLOCK_LIMIT>>
+    ensures { option_map (λ v. v.items) result ≡ block_numbers BLOCK_LIMIT (option_map (λ r. r.now) rest.entry) }
+{
+    let numbers = numbers_in::<BLOCK_LIMIT>(rest, 1, BLOCK_LIMIT as u32)?;
+    if numbers.is_empty() {
+        return None;
+    }
+    Some(numbers)
+}
+
+/// The numbers of a profile.
+fn profile_in(rest: Option<&[u8]>) -> Option<ArrayVec<u8, PROFILE_LENGTH>>
+    ensures { option_map (λ v. v.items) result ≡ profile_in (option_map (λ r. r.now) rest.entry) }
+{
+    let numbers = numbers_in::<PROFILE_LENGTH>(rest, 1, PROFILE_LIMIT)?;
+    if !numbers.is_full() {
+        return None;
+    }
+    Some(numbers)
+}
+
+/// The kind of a name.
+fn kind_in(rest: Option<&[u8]>) -> Option<Kind>
+    ensures { result ≡ kind_in (option_map (λ r. r.now) rest.entry) }
+{
+    let name = rest?;
+    if is_name(name, b"BOOLEAN") {
+        Some(Kind::Boolean)
+    } else if is_name(name, b"SHIFT") {
+        Some(Kind::Shift)
+    } else if is_name(name, b"ADD") {
+        Some(Kind::Add)
+    } else if is_name(name, b"LONGADD") {
+        Some(Kind::LongAdd)
+    } else if is_name(name, b"MULTIPLY") {
+        Some(Kind::Multiply)
+    } else if is_name(name, b"DIVIDE") {
+        Some(Kind::Divide)
+    } else if is_name(name, b"INCREMENT") {
+        Some(Kind::Increment)
+    } else {
+        None
+    }
+}
+
+/// The text of an instruction.
+#[tactic(auto, using(crate::proofs::Spelled::tested))]
+fn instruction_line(rest: Option<&[u8]>) -> Option<LineOf<'_>>
+    ensures { option_map said result ≡ instruction_in (option_map (λ r. r.now) rest.entry) }
+{
+    let text = rest?;
+    if !is_instruction(text) {
+        return None;
+    }
+    Some(LineOf::Instruction(text))
+}
+
+fn header_line(rest: Option<&[u8]>) -> Option<LineOf<'_>>
+    ensures { option_map said result ≡ header_in (option_map (λ r. r.now) rest.entry) }
+{
+    if is_name(rest?, b"CERTIFICATE 1") {
+        Some(LineOf::Header)
+    } else {
+        None
+    }
+}
+
+/// A line, where nothing follows its word.
+fn alone_line<'a>(line: LineOf<'a>, rest: Option<&'a [u8]>) -> Option<LineOf<'a>>
+    ensures { option_map said result ≡ alone (said line.entry) (option_map (λ r. r.now) rest.entry) }
+{
+    match rest {
+        None => Some(line),
+        Some(_) => None,
+    }
+}
+
+fn split_line(rest: Option<&[u8]>) -> Option<LineOf<'_>>
+    ensures { option_map said result ≡ option_map (λ ns. OfTree (AtSplit ns)) (block_numbers BLOCK_LIMIT (option_map (λ r. r.now) rest.entry)) }
+{
+    Some(LineOf::Split(block_numbers(rest)?))
+}
+
+fn chain_line(rest: Option<&[u8]>) -> Option<LineOf<'_>>
+    ensures { option_map said result ≡ option_map (λ ns. OfTree (AtTip (Chain ns))) (block_numbers BLOCK_LIMIT (option_map (λ r. r.now) rest.entry)) }
+{
+    Some(LineOf::Chain(block_numbers(rest)?))
+}
+
+fn order_line(rest: Option<&[u8]>) -> Option<LineOf<'_>>
+    ensures { option_map said result ≡ option_map line.Order (block_numbers BLOCK_LIMIT (option_map (λ r. r.now) rest.entry)) }
+{
+    Some(LineOf::Order(block_numbers(rest)?))
+}
+
+fn profile_line(rest: Option<&[u8]>) -> Option<LineOf<'_>>
+    ensures { option_map said result ≡ option_map line.Profile (profile_in (option_map (λ r. r.now) rest.entry)) }
+{
+    Some(LineOf::Profile(profile_in(rest)?))
+}
+
+fn load_line(rest: Option<&[u8]>) -> Option<LineOf<'_>>
+    ensures { option_map said result ≡ option_map (λ kind. OfTree (AtTip (Load kind))) (kind_in (option_map (λ r. r.now) rest.entry)) }
+{
+    Some(LineOf::Load(kind_in(rest)?))
+}
+
+fn block_line(rest: Option<&[u8]>) -> Option<LineOf<'_>>
+    ensures { option_map said result ≡ option_map line.Block (one_number 1 BLOCK_LIMIT (option_map (λ r. r.now) rest.entry)) }
+{
+    Some(LineOf::Block(number(rest, 1, BLOCK_LIMIT as u32)?))
+}
+
+fn time_line(rest: Option<&[u8]>) -> Option<LineOf<'_>>
+    ensures { option_map said result ≡ option_map line.Time (one_number 0 TIME_LIMIT (option_map (λ r. r.now) rest.entry)) }
+{
+    Some(LineOf::Time(number(rest, 0, TIME_LIMIT)?))
+}
+
+fn bound_line(rest: Option<&[u8]>) -> Option<LineOf<'_>>
+    ensures { option_map said result ≡ option_map line.Bound (one_number 0 TIME_LIMIT (option_map (λ r. r.now) rest.entry)) }
+{
+    Some(LineOf::Bound(number(rest, 0, TIME_LIMIT)?))
+}
+
+/// What a line says, or that it is no line of a document.
+pub(crate) fn line_of(bytes: &[u8]) -> Option<LineOf<'_>>
+    ensures { option_map said result ≡ line_of BLOCK_LIMIT bytes.now }
+{
+    let (name, rest) = split_word(bytes);
+    if is_name(name, b"T") {
+        return alone_line(LineOf::Whole, rest);
+    }
+    if is_name(name, b"S") {
+        return split_line(rest);
+    }
+    if is_name(name, b"C") {
+        return chain_line(rest);
+    }
+    if is_name(name, b"U") {
+        return load_line(rest);
+    }
+    if is_name(name, b"P") {
+        return alone_line(LineOf::Parcels, rest);
+    }
+    if is_name(name, b"I") {
+        return instruction_line(rest);
+    }
+    if is_name(name, b"S66") {
+        return header_line(rest);
+    }
+    if is_name(name, b"PROFILE") {
+        return profile_line(rest);
+    }
+    if is_name(name, b"BLOCK") {
+        return block_line(rest);
+    }
+    if is_name(name, b"TIME") {
+        return time_line(rest);
+    }
+    if is_name(name, b"BOUND") {
+        return bound_line(rest);
+    }
+    if is_name(name, b"ORDER") {
+        return order_line(rest);
+    }
+    if is_name(name, b"END") {
+        return alone_line(LineOf::End, rest);
+    }
+    None
+}

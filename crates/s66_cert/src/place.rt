@@ -1,0 +1,13 @@
+/// Which line of a document comes next.
+#[derive(Clone, Copy, Debug)]
+pub(crate) enum Place {
+    AtHeader,
+    AtProfile,
+    AtBlock,
+    AtInstruction,
+    AtTime,
+    AtBound,
+    AtOrder,
+    AtTree,
+    AtEnd,
+}

@@ -1,0 +1,331 @@
+ghost use Rattle.std.specs.Prelude.{suc, ◌≡◌, ◌≤◌, ◌<◌, ◌+◌, ◌-◌, ◌^◌, [], OnOk};
+ghost use Rattle.s66_line.specs.declared.limits.TheConstants.{BLOCK_LIMIT};
+ghost use Rattle.s66_cert.specs.Fine.{IsFine};
+ghost use Rattle.s66_cert.specs.Lines.{IsInRange, IsKnot, Header, Profile, Block, Instruction, Time, Bound, Order, OfTree, End};
+ghost use Rattle.s66_cert.specs.Parts.{AreWhole, knot_of};
+ghost use Rattle.s66_cert.specs.ReaderState.{state, Steps, StepsEnd};
+ghost use Rattle.s66_cert.specs.Reading.{nothing, start, step_at, step, steps, whole_lines, last_bytes};
+ghost use Rattle.s66_cert.specs.Said.{said};
+ghost use Rattle.s66_cert.specs.declared.error.CertError.TheVariants.{BadLine};
+ghost use Rattle.s66_cert.specs.declared.limits.TheConstants.{SPLIT_LIMIT};
+ghost use Rattle.s66_cert.specs.declared.place.Place.TheVariants.{AtInstruction, AtTree, AtEnd};
+
+use crate::document::{Claim, Document};
+use crate::error::CertError;
+use crate::limits::{PROFILE_LENGTH, SPLIT_LIMIT};
+use crate::line::LineOf;
+use crate::parse::line_of;
+use crate::place::Place;
+use crate::tree::{Tree, TreeLine};
+use arrayvec::ArrayVec;
+use s66_line::BLOCK_LIMIT;
+use std::alloc::Global;
+use std::mem;
+
+/// A claim of which nothing was read.
+fn nothing(alloc: Global) -> Claim
+    ensures { result ≡ nothing }
+{
+    Claim {
+        profile: ArrayVec::new(),
+        block: Vec::new(alloc),
+        time: 0,
+        bound: 0,
+        order: ArrayVec::new(),
+        tree: Tree::new(alloc),
+    }
+}
+
+/// What the lines of documents made so far.
+#[derive(Debug, Drop)]
+pub(crate) struct Reader {
+    /// How many lines were read.
+    pub lines: u64,
+    /// The whole documents.
+    pub documents: Vec<Document>,
+    /// Which line comes next.
+    pub place: Place,
+    /// What the lines of the open document said.
+    pub claim: Claim,
+    /// How many instructions, or trees, are still to come.
+    pub left: u64,
+    /// How many lines of the open tree are splits.
+    pub splits: u32,
+}
+
+impl Reader {
+    /// No line was read.
+    pub(crate) fn new(alloc: Global) -> Reader
+        ensures { state result ≡ start }
+    {
+        Reader {
+            lines: 0,
+            documents: Vec::new(alloc),
+            place: Place::AtHeader,
+            claim: nothing(alloc),
+            left: 0,
+            splits: 0,
+        }
+    }
+
+    /// The next line is another than a document has in its place.
+    fn bad_line(&self) -> CertError
+        requires { self.now.lines < 2 ^ 64 - 1 }
+        ensures { result ≡ BadLine (self.now.lines + 1) }
+    {
+        CertError::BadLine {
+            line: self.lines + 1,
+        }
+    }
+
+    /// The next line was read, and another comes.
+    fn go_on(&mut self, place: Place, left: u64, splits: u32)
+        requires { self.old.lines < 2 ^ 64 - 1 }
+        ensures { state self.new ≡ record (state self.old) { count = suc self.old.lines; place = place; left = left; splits = splits } }
+    {
+        self.lines += 1;
+        self.place = place;
+        self.left = left;
+        self.splits = splits;
+    }
+
+    /// Reads the text of an instruction where one comes.
+    fn take_instruction(&mut self, alloc: Global, text: &[u8]) -> Result<(), CertError>
+        requires lines { self.old.lines < 2 ^ 64 - 1 }
+        requires some { 1 ≤ self.old.left }
+        ensures { Steps (state self.new) result (step_at SPLIT_LIMIT (state self.old) AtInstruction (Instruction text.now)) }
+    {
+        let mut copy = Vec::new(alloc);
+        copy.extend_from_slice(text)?;
+        self.claim.block.push(copy)?;
+        let left = self.left - 1;
+        let place = if left == 0 {
+            Place::AtTime
+        } else {
+            Place::AtInstruction
+        };
+        self.go_on(place, left, 0);
+        Ok(())
+    }
+
+    /// Reads a line of the tree where one comes.
+    fn take_knot(&mut self, knot: TreeLine<'_>) -> Result<(), CertError>
+        requires lines { self.old.lines < 2 ^ 64 - 1 }
+        requires some { 1 ≤ self.old.left }
+        requires few { self.old.left ≤ 2 ^ 32 }
+        requires numbers { IsKnot BLOCK_LIMIT (knot_of knot) }
+        ensures { Steps (state self.new) result (step_at SPLIT_LIMIT (state self.old) AtTree (OfTree (knot_of knot.entry))) }
+    {
+        let mut left = self.left - 1;
+        let mut splits = self.splits;
+        if let TreeLine::Split(numbers) = knot {
+            if splits >= SPLIT_LIMIT {
+                return Err(CertError::TooManyNodes);
+            }
+            splits += 1;
+            left += numbers.len() as u64;
+        }
+        self.claim.tree.push(knot)?;
+        let place = if left == 0 {
+            Place::AtEnd
+        } else {
+            Place::AtTree
+        };
+        self.go_on(place, left, splits);
+        Ok(())
+    }
+
+    /// Reads the last line where it comes.
+    fn take_end(&mut self, alloc: Global) -> Result<(), CertError>
+        requires lines { self.old.lines < 2 ^ 64 - 1 }
+        requires whole { AreWhole self.old.claim }
+        ensures { Steps (state self.new) result (step_at SPLIT_LIMIT (state self.old) AtEnd End) }
+    {
+        let claim = mem::replace(&mut self.claim, nothing(alloc));
+        self.documents.push(Document::new(claim))?;
+        self.go_on(Place::AtHeader, 0, 0);
+        Ok(())
+    }
+
+    #[tactic(auto, using(crate::proofs::Places::other_header))]
+    fn header(&mut self, alloc: Global) -> Result<(), CertError>
+        requires lines { self.old.lines < 2 ^ 64 - 1 }
+        ensures { Steps (state self.new) result (step_at SPLIT_LIMIT (state self.old) self.old.place Header) }
+    {
+        match self.place {
+            Place::AtHeader => {
+                self.claim = nothing(alloc);
+                self.go_on(Place::AtProfile, 0, 0);
+                Ok(())
+            }
+            _ => Err(self.bad_line()),
+        }
+    }
+
+    #[tactic(auto, using(crate::proofs::Places::other_profile))]
+    fn profile(&mut self, numbers: ArrayVec<u8, PROFILE_LENGTH>) -> Result<(), CertError>
+        requires lines { self.old.lines < 2 ^ 64 - 1 }
+        ensures { Steps (state self.new) result (step_at SPLIT_LIMIT (state self.old) self.old.place (Profile numbers.items)) }
+    {
+        match self.place {
+            Place::AtProfile => {
+                self.claim.profile = numbers;
+                self.go_on(Place::AtBlock, 0, 0);
+                Ok(())
+            }
+            _ => Err(self.bad_line()),
+        }
+    }
+
+    #[tactic(auto, using(crate::proofs::Places::other_block))]
+    fn block(&mut self, alloc: Global, count: u32) -> Result<(), CertError>
+        requires lines { self.old.lines < 2 ^ 64 - 1 }
+        ensures { Steps (state self.new) result (step_at SPLIT_LIMIT (state self.old) self.old.place (Block count)) }
+    {
+        match self.place {
+            Place::AtBlock => {
+                self.claim.block = Vec::new(alloc);
+                self.go_on(Place::AtInstruction, count as u64, 0);
+                Ok(())
+            }
+            _ => Err(self.bad_line()),
+        }
+    }
+
+    #[tactic(auto, using(crate::proofs::Places::other_instruction, crate::proofs::Places::some_instruction))]
+    fn instruction(&mut self, alloc: Global, text: &[u8]) -> Result<(), CertError>
+        requires lines { self.old.lines < 2 ^ 64 - 1 }
+        requires fine { IsFine SPLIT_LIMIT (state self.old) }
+        ensures { Steps (state self.new) result (step_at SPLIT_LIMIT (state self.old) self.old.place (Instruction text.now)) }
+    {
+        match self.place {
+            Place::AtInstruction => self.take_instruction(alloc, text),
+            _ => Err(self.bad_line()),
+        }
+    }
+
+    #[tactic(auto, using(crate::proofs::Places::other_time))]
+    fn time(&mut self, time: u32) -> Result<(), CertError>
+        requires lines { self.old.lines < 2 ^ 64 - 1 }
+        ensures { Steps (state self.new) result (step_at SPLIT_LIMIT (state self.old) self.old.place (Time time)) }
+    {
+        match self.place {
+            Place::AtTime => {
+                self.claim.time = time;
+                self.go_on(Place::AtBound, 0, 0);
+                Ok(())
+            }
+            _ => Err(self.bad_line()),
+        }
+    }
+
+    #[tactic(auto, using(crate::proofs::Places::other_bound))]
+    fn bound(&mut self, bound: u32) -> Result<(), CertError>
+        requires lines { self.old.lines < 2 ^ 64 - 1 }
+        ensures { Steps (state self.new) result (step_at SPLIT_LIMIT (state self.old) self.old.place (Bound bound)) }
+    {
+        match self.place {
+            Place::AtBound => {
+                self.claim.bound = bound;
+                self.go_on(Place::AtOrder, 0, 0);
+                Ok(())
+            }
+            _ => Err(self.bad_line()),
+        }
+    }
+
+    #[tactic(auto, using(crate::proofs::Places::other_order))]
+    fn order(&mut self, alloc: Global, numbers: ArrayVec<u8, BLOCK_LIMIT>) -> Result<(), CertError>
+        requires lines { self.old.lines < 2 ^ 64 - 1 }
+        ensures { Steps (state self.new) result (step_at SPLIT_LIMIT (state self.old) self.old.place (Order numbers.items)) }
+    {
+        match self.place {
+            Place::AtOrder => {
+                self.claim.order = numbers;
+                self.claim.tree = Tree::new(alloc);
+                self.go_on(Place::AtTree, 1, 0);
+                Ok(())
+            }
+            _ => Err(self.bad_line()),
+        }
+    }
+
+    #[tactic(auto, using(crate::proofs::Places::other_knot, crate::proofs::Places::some_tree, crate::proofs::Places::few_trees))]
+    fn knot(&mut self, knot: TreeLine<'_>) -> Result<(), CertError>
+        requires lines { self.old.lines < 2 ^ 64 - 1 }
+        requires fine { IsFine SPLIT_LIMIT (state self.old) }
+        requires numbers { IsKnot BLOCK_LIMIT (knot_of knot) }
+        ensures { Steps (state self.new) result (step_at SPLIT_LIMIT (state self.old) self.old.place (OfTree (knot_of knot.entry))) }
+    {
+        match self.place {
+            Place::AtTree => self.take_knot(knot),
+            _ => Err(self.bad_line()),
+        }
+    }
+
+    #[tactic(auto, using(crate::proofs::Places::other_end, crate::proofs::Places::whole_end))]
+    fn end(&mut self, alloc: Global) -> Result<(), CertError>
+        requires lines { self.old.lines < 2 ^ 64 - 1 }
+        requires fine { IsFine SPLIT_LIMIT (state self.old) }
+        ensures { Steps (state self.new) result (step_at SPLIT_LIMIT (state self.old) self.old.place End) }
+    {
+        match self.place {
+            Place::AtEnd => self.take_end(alloc),
+            _ => Err(self.bad_line()),
+        }
+    }
+
+    /// Reads the next line, by what it says.
+    fn take(&mut self, alloc: Global, line: LineOf<'_>) -> Result<(), CertError>
+        requires lines { self.old.lines < 2 ^ 64 - 1 }
+        requires fine { IsFine SPLIT_LIMIT (state self.old) }
+        requires range { IsInRange BLOCK_LIMIT (said line) }
+        ensures { Steps (state self.new) result (step_at SPLIT_LIMIT (state self.old) self.old.place (said line.entry)) }
+    {
+        match line {
+            LineOf::Header => self.header(alloc),
+            LineOf::Profile(numbers) => self.profile(numbers),
+            LineOf::Block(count) => self.block(alloc, count),
+            LineOf::Instruction(text) => self.instruction(alloc, text),
+            LineOf::Time(time) => self.time(time),
+            LineOf::Bound(bound) => self.bound(bound),
+            LineOf::Order(numbers) => self.order(alloc, numbers),
+            LineOf::Split(numbers) => self.knot(TreeLine::Split(numbers.as_slice())),
+            LineOf::Whole => self.knot(TreeLine::Whole),
+            LineOf::Chain(numbers) => self.knot(TreeLine::Chain(numbers.as_slice())),
+            LineOf::Load(kind) => self.knot(TreeLine::Load(kind)),
+            LineOf::Parcels => self.knot(TreeLine::Parcels),
+            LineOf::End => self.end(alloc),
+        }
+    }
+
+    /// Reads the next line.
+    fn take_line(&mut self, alloc: Global, bytes: &[u8]) -> Result<(), CertError>
+        requires lines { self.old.lines < 2 ^ 64 - 1 }
+        requires fine { IsFine SPLIT_LIMIT (state self.old) }
+        ensures step { Steps (state self.new) result (step BLOCK_LIMIT SPLIT_LIMIT (state self.old) bytes.now) }
+        ensures lines { OnOk result (self.new.lines ≡ self.old.lines + 1) }
+        ensures fine { OnOk result (IsFine SPLIT_LIMIT (state self.new)) }
+    {
+        match line_of(bytes) {
+            None => Err(self.bad_line()),
+            Some(line) => self.take(alloc, line),
+        }
+    }
+
+    /// Reads all lines of a text that end with a newline, and answers whether nothing is left behind them.
+    pub(crate) fn take_all(&mut self, alloc: Global, text: &[u8]) -> Result<bool, CertError>
+        requires lines { self.old.lines ≡ 0 }
+        requires fine { IsFine SPLIT_LIMIT (state self.old) }
+        ensures { StepsEnd (state self.new) result (steps BLOCK_LIMIT SPLIT_LIMIT (state self.old) (whole_lines [] text.now)) (last_bytes [] text.now) }
+    {
+        let mut begin = 0;
+        for (i, byte) in text.iter().enumerate() {
+            if *byte == b'\n' {
+                self.take_line(alloc, &text[begin..i])?;
+                begin = i + 1;
+            }
+        }
+        Ok(begin == text.len())
+    }
+}

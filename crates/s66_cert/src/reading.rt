@@ -1,0 +1,44 @@
+ghost use Rattle.std.specs.Prelude.{ℕ, map, IfOk};
+ghost use Rattle.s66_line.specs.declared.limits.TheConstants.{BLOCK_LIMIT};
+ghost use Rattle.s66_cert.specs.Document.{IsText};
+ghost use Rattle.s66_cert.specs.Parts.{document_of};
+ghost use Rattle.s66_cert.specs.ReaderState.{Gives};
+ghost use Rattle.s66_cert.specs.Reading.{read_of};
+ghost use Rattle.s66_cert.specs.Reads.{Refuses};
+
+use crate::document::Document;
+use crate::error::CertError;
+use crate::place::Place;
+use crate::reader::Reader;
+use std::alloc::Global;
+
+/// Reads a text line by line.
+fn read_lines(alloc: Global, text: &[u8]) -> Result<Vec<Document>, CertError>
+    ensures { Gives (λ ds. map document_of ds.items) result (read_of text.now) }
+{
+    let mut reader = Reader::new(alloc);
+    let whole = reader.take_all(alloc, text)?;
+    let Reader {
+        lines: _,
+        documents,
+        place,
+        claim: _,
+        left: _,
+        splits: _,
+    } = reader;
+    if !whole {
+        return Err(CertError::Truncated);
+    }
+    match place {
+        Place::AtHeader => Ok(documents),
+        _ => Err(CertError::Truncated),
+    }
+}
+
+/// Reads documents that follow each other: these documents, of which it is the text, or the text's first fault in reading order.
+pub fn read(alloc: Global, text: &[u8]) -> Result<Vec<Document>, CertError>
+    ensures documents { IfOk result (λ ds. IsText BLOCK_LIMIT text.now (map document_of ds.items)) }
+    ensures fault { Refuses text.now result }
+{
+    read_lines(alloc, text)
+}

@@ -1,0 +1,91 @@
+//! What texts are read as.
+
+ghost use Rattle.std.specs.Prelude.{[], ◌∷◌, ◌++◌, ◌-◌, ◌≡◌, codes, Ok, Err, take, replicate, true, length};
+ghost use Rattle.s66_isa.specs.Lists.{rising};
+ghost use Rattle.s66_isa.specs.declared.instr.Kind.TheVariants.{Multiply};
+ghost use Rattle.s66_model.specs.Leaves.{Chain, Load};
+ghost use Rattle.s66_model.specs.Tree.{Alone, Parted};
+ghost use Rattle.s66_cert.specs.declared.error.CertError.TheVariants.{BadLine, Truncated, TooManyNodes};
+ghost use Rattle.s66_cert.specs.declared.limits.TheConstants.{SPLIT_LIMIT};
+ghost use Rattle.s66_cert.specs.Reading.{read_of, read_within};
+ghost use Rattle.s66_cert.specs.Altered.{replaced, with_line, with_split_of, are_truncated};
+ghost use Rattle.s66_cert.specs.Examples as examples;
+ghost use Rattle.s66_cert.specs.Examples.{three_multiplies, three_multiplies_text, one_load, one_load_text};
+
+/// Texts that are read as documents.
+#[tactic(auto, unfolding(crate::specs::Examples::digits))]
+pub fn reading_examples()
+    ensures nothing { read_of [] ≡ Ok [] }
+    ensures three_multiplies_is_read { read_of three_multiplies_text ≡ Ok (three_multiplies ∷ []) }
+    ensures two_documents { read_of (three_multiplies_text ++ one_load_text) ≡ Ok (three_multiplies ∷ one_load ∷ []) }
+    ensures zero_register_is_read { read_of examples.zero_register_text ≡ Ok (examples.zero_register ∷ []) }
+    ensures extremes_are_read { read_of examples.extremes_text ≡ Ok (examples.extremes ∷ []) }
+    ensures other_profile { read_of (with_line 2 (codes "PROFILE 4 3 4 4 3 10 29 8 3 8 1 1 1 1 2 1 2")) ≡ Ok (record three_multiplies { profile = 4 ∷ 3 ∷ 4 ∷ 4 ∷ 3 ∷ 10 ∷ 29 ∷ 8 ∷ 3 ∷ 8 ∷ 1 ∷ 1 ∷ 1 ∷ 1 ∷ 2 ∷ 1 ∷ 2 ∷ [] } ∷ []) }
+    ensures order_of_two { read_of (with_line 9 (codes "ORDER 1 2")) ≡ Ok (record three_multiplies { numbers = 1 ∷ 2 ∷ [] } ∷ []) }
+    ensures load_alone { read_of (replaced 10 16 (codes "U MULTIPLY" ∷ []) three_multiplies_text) ≡ Ok (record three_multiplies { tree = Alone (Load Multiply) } ∷ []) }
+    ensures chain_alone { read_of (replaced 10 16 (codes "C 3" ∷ []) three_multiplies_text) ≡ Ok (record three_multiplies { tree = Alone (Chain (3 ∷ [])) } ∷ []) }
+    ensures split_of_64 { read_of (with_split_of 64 64) ≡ Ok (record three_multiplies { tree = Parted (replicate 64 1) (examples.wholes 64) } ∷ []) }
+    ensures ten_splits { read_within 64 10 three_multiplies_text ≡ Ok (three_multiplies ∷ []) }
+    ensures splits_are_counted_anew { read_within 64 10 (three_multiplies_text ++ three_multiplies_text) ≡ Ok (three_multiplies ∷ three_multiplies ∷ []) }
+    ensures wide_order { read_within 128 SPLIT_LIMIT (with_line 9 (codes "ORDER 128")) ≡ Ok (record three_multiplies { numbers = 128 ∷ [] } ∷ []) }
+{}
+
+/// Texts that have a fault.
+#[tactic(auto, unfolding(crate::specs::Examples::digits))]
+pub fn fault_examples()
+    ensures every_front { are_truncated (rising (length three_multiplies_text - 1) 1) three_multiplies_text ≡ true }
+    ensures no_last_line { read_of (replaced 26 1 [] three_multiplies_text) ≡ Err Truncated }
+    ensures no_last_newline { read_of (take (length three_multiplies_text - 1) three_multiplies_text) ≡ Err Truncated }
+    ensures unfinished_second { read_of (three_multiplies_text ++ codes "S66 CERTIFICATE 1\n") ≡ Err Truncated }
+    ensures unfinished_bad_bound { read_of (take 100 one_load_text ++ codes "BOUND 012") ≡ Err Truncated }
+    ensures unfinished_line_after_the_end { read_of (three_multiplies_text ++ codes "T") ≡ Err Truncated }
+    ensures bad_bound { read_of (replaced 8 1 (codes "BOUND 012" ∷ []) one_load_text) ≡ Err (BadLine 8) }
+    ensures bad_bound_in_the_second { read_of (three_multiplies_text ++ replaced 8 1 (codes "BOUND 012" ∷ []) one_load_text) ≡ Err (BadLine 34) }
+    ensures version_2 { read_of (with_line 1 (codes "S66 CERTIFICATE 2")) ≡ Err (BadLine 1) }
+    ensures profile_of_16 { read_of (with_line 2 (codes "PROFILE 3 3 4 4 3 10 29 8 3 8 1 1 1 1 2 1")) ≡ Err (BadLine 2) }
+    ensures profile_of_18 { read_of (with_line 2 (codes "PROFILE 3 3 4 4 3 10 29 8 3 8 1 1 1 1 2 1 2 2")) ≡ Err (BadLine 2) }
+    ensures profile_with_0 { read_of (with_line 2 (codes "PROFILE 0 3 4 4 3 10 29 8 3 8 1 1 1 1 2 1 2")) ≡ Err (BadLine 2) }
+    ensures profile_with_101 { read_of (with_line 2 (codes "PROFILE 101 3 4 4 3 10 29 8 3 8 1 1 1 1 2 1 2")) ≡ Err (BadLine 2) }
+    ensures block_of_0 { read_of (with_line 3 (codes "BLOCK 0")) ≡ Err (BadLine 3) }
+    ensures block_of_65 { read_of (with_line 3 (codes "BLOCK 65")) ≡ Err (BadLine 3) }
+    ensures block_of_129 { read_within 128 SPLIT_LIMIT (with_line 3 (codes "BLOCK 129")) ≡ Err (BadLine 3) }
+    ensures instruction_too_many { read_of (with_line 3 (codes "BLOCK 2")) ≡ Err (BadLine 6) }
+    ensures instruction_missing { read_of (with_line 3 (codes "BLOCK 4")) ≡ Err (BadLine 7) }
+    ensures lower_case { read_of (with_line 4 (codes "I fx1 X2*X3")) ≡ Err (BadLine 4) }
+    ensures jump { read_of (with_line 4 (codes "I ZR X1,L")) ≡ Err (BadLine 4) }
+    ensures pad { read_of (with_line 4 (codes "I NO")) ≡ Err (BadLine 4) }
+    ensures comment { read_of (with_line 4 (codes "I FX1 X2*X3 PRODUCT")) ≡ Err (BadLine 4) }
+    ensures blank_at_the_end { read_of (with_line 4 (codes "I NX1 ")) ≡ Err (BadLine 4) }
+    ensures text_of_200 { read_of (with_line 4 (codes "I " ++ examples.long_text 196)) ≡ Err (BadLine 4) }
+    ensures time_100001 { read_of (with_line 7 (codes "TIME 100001")) ≡ Err (BadLine 7) }
+    ensures time_of_30_digits { read_of (with_line 7 (codes "TIME 123456789012345678901234567890")) ≡ Err (BadLine 7) }
+    ensures time_of_2_to_the_64_and_22 { read_of (with_line 7 (codes "TIME 18446744073709551638")) ≡ Err (BadLine 7) }
+    ensures time_of_2_to_the_32_and_22 { read_of (with_line 7 (codes "TIME 4294967318")) ≡ Err (BadLine 7) }
+    ensures leading_zero { read_of (with_line 7 (codes "TIME 022")) ≡ Err (BadLine 7) }
+    ensures time_with_sign { read_of (with_line 7 (codes "TIME +22")) ≡ Err (BadLine 7) }
+    ensures time_missing { read_of (with_line 7 (codes "TIME ")) ≡ Err (BadLine 7) }
+    ensures time_and_more { read_of (with_line 7 (codes "TIME 22 1")) ≡ Err (BadLine 7) }
+    ensures blank_after_time { read_of (with_line 7 (codes "TIME 22 ")) ≡ Err (BadLine 7) }
+    ensures two_blanks { read_of (with_line 9 (codes "ORDER 1  2 3")) ≡ Err (BadLine 9) }
+    ensures tab { read_of (with_line 9 (codes "ORDER 1\t2 3")) ≡ Err (BadLine 9) }
+    ensures empty_order { read_of (with_line 9 (codes "ORDER")) ≡ Err (BadLine 9) }
+    ensures order_with_65 { read_of (with_line 9 (codes "ORDER 65")) ≡ Err (BadLine 9) }
+    ensures split_without_numbers { read_of (with_line 10 (codes "S")) ≡ Err (BadLine 10) }
+    ensures split_with_0 { read_of (with_line 10 (codes "S 1 0")) ≡ Err (BadLine 10) }
+    ensures split_of_65 { read_of (with_split_of 65 65) ≡ Err (BadLine 10) }
+    ensures split_with_129 { read_within 128 SPLIT_LIMIT (with_line 10 (codes "S 129")) ≡ Err (BadLine 10) }
+    ensures chain_without_numbers { read_of (with_line 13 (codes "C")) ≡ Err (BadLine 13) }
+    ensures no_kind_of_unit { read_of (with_line 13 (codes "U BRANCH")) ≡ Err (BadLine 13) }
+    ensures blank_after_whole { read_of (with_line 13 (codes "T ")) ≡ Err (BadLine 13) }
+    ensures blank_in_front { read_of (with_line 13 (codes " T")) ≡ Err (BadLine 13) }
+    ensures return_at_the_end { read_of (with_line 13 (codes "T" ++ 13 ∷ [])) ≡ Err (BadLine 13) }
+    ensures empty_line { read_of (with_line 13 []) ≡ Err (BadLine 13) }
+    ensures whole_twice { read_of (replaced 25 1 (codes "T" ∷ codes "T" ∷ []) three_multiplies_text) ≡ Err (BadLine 26) }
+    ensures split_after_the_tree { read_of (with_line 26 (codes "S 1")) ≡ Err (BadLine 26) }
+    ensures end_before_the_tree { read_of (with_line 25 (codes "END")) ≡ Err (BadLine 25) }
+    ensures line_after_the_end { read_of (three_multiplies_text ++ codes "T\n") ≡ Err (BadLine 27) }
+    ensures tenth_split_too_many { read_within 64 9 three_multiplies_text ≡ Err TooManyNodes }
+    ensures bad_line_before_it { read_within 64 9 (with_line 12 (codes "S")) ≡ Err (BadLine 12) }
+    ensures bad_split_is_a_bad_line { read_within 64 9 (with_line 23 (codes "S 0")) ≡ Err (BadLine 23) }
+    ensures split_too_many_before_the_end { read_within 64 9 (take (length three_multiplies_text - 1) three_multiplies_text) ≡ Err TooManyNodes }
+{}

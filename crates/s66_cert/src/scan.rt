@@ -1,0 +1,111 @@
+ghost use Rattle.std.specs.Prelude.{◌≡◌, ◌≤◌, ◌<◌, ◌+◌, ◌-◌, ◌*◌, ◌^◌, true, if◌then◌else◌, length, IfSome};
+ghost use Rattle.std.specs.Option.{option_map};
+ghost use Rattle.s66_isa.specs.Lists.{every};
+ghost use Rattle.s66_cert.specs.Lines.{first_word, after_word, words_in, is_digit, value_after, has_no_leading_zero, number_in, numbers_in, if_count};
+ghost use Rattle.s66_cert.specs.declared.limits.TheConstants.{TIME_LIMIT};
+
+use crate::limits::TIME_LIMIT;
+use arrayvec::ArrayVec;
+
+/// The bytes before the first blank, and those after it where there is one.
+pub(crate) fn split_word(bytes: &[u8]) -> (&[u8], Option<&[u8]>)
+    ensures word { result.0.now ≡ first_word bytes.now }
+    ensures rest { option_map (λ r. r.now) result.1 ≡ after_word bytes.now }
+    ensures shorter { IfSome result.1 (λ r. length r.now < length bytes.now) }
+{
+    for (i, byte) in bytes.iter().enumerate() {
+        if *byte == b' ' {
+            return (&bytes[..i], Some(&bytes[i + 1..]));
+        }
+    }
+    (bytes, None)
+}
+
+fn is_digit(byte: u8) -> bool
+    ensures { result ≡ is_digit byte }
+{
+    byte >= b'0' && byte <= b'9'
+}
+
+/// The number that the digits write after those of another.
+fn with_digit(value: u32, byte: u8) -> u32
+    requires small { value ≤ 99999 }
+    requires digit { is_digit byte ≡ true }
+    ensures value { result ≡ value * 10 + (byte - 48) }
+    ensures below { result < 10 * value + 10 }
+{
+    value * 10 + (byte - b'0') as u32
+}
+
+/// The value of at most six bytes, where all are digits.
+fn value_of(word: &[u8]) -> Option<u32>
+    requires { length word.now ≤ 6 }
+    ensures value { result ≡ (if every is_digit word.now then Some (value_after 0 word.now) else None) }
+    ensures small { IfSome result (λ n. n < 10 ^ 6) }
+{
+    let mut value = 0;
+    for byte in word {
+        if !is_digit(*byte) {
+            return None;
+        }
+        value = with_digit(value, *byte);
+    }
+    Some(value)
+}
+
+/// Whether there is a digit, and no zero leads another.
+fn has_no_leading_zero(word: &[u8]) -> bool
+    ensures { result ≡ has_no_leading_zero word.now }
+{
+    match word {
+        [] => false,
+        [_] => true,
+        [first, ..] => *first != b'0',
+    }
+}
+
+/// A number from low to high, in decimal digits with no leading zero; one of more digits than six is above `TIME_LIMIT`.
+pub(crate) fn number_in(word: &[u8], low: u32, high: u32) -> Option<u32>
+    requires { high ≤ TIME_LIMIT }
+    ensures value { result ≡ number_in low high word.now }
+    ensures at_most { IfSome result (λ n. n ≤ high) }
+{
+    if word.len() > 6 {
+        return None;
+    }
+    if !has_no_leading_zero(word) {
+        return None;
+    }
+    let value = value_of(word)?;
+    if value < low || value > high {
+        return None;
+    }
+    Some(value)
+}
+
+/// At most `N` numbers, each in a range and one blank between two.
+pub(crate) fn numbers_in<const N: usize>(
+    rest: Option<&[u8]>,
+    low: u32,
+    high: u32,
+) -> Option<ArrayVec<u8, N>>
+    requires { high ≤ 255 }
+    ensures { option_map (λ v. v.items) result ≡ if_count 0 N (numbers_in low high (words_in (option_map (λ r. r.now) rest.entry))) }
+{
+    let mut numbers = ArrayVec::new();
+    let mut left = rest;
+    while let Some(bytes) = left {
+        let (word, more) = split_word(bytes);
+        match number_in(word, low, high) {
+            None => return None,
+            Some(number) => {
+                if numbers.is_full() {
+                    return None;
+                }
+                numbers.push(number as u8);
+            }
+        }
+        left = more;
+    }
+    Some(numbers)
+}

@@ -1,0 +1,167 @@
+use s66_isa::Kind;
+use std::alloc::{AllocError, Global};
+use std::marker::Model;
+
+/// What a line of a tree says.
+#[derive(Clone, Copy, Debug)]
+pub enum TreeLine<'a> {
+    /// The prefix is split, and goes on with each of these numbers.
+    Split(&'a [u8]),
+    /// The prefix is a whole order.
+    Whole,
+    /// Instructions that wait for one another.
+    Chain(&'a [u8]),
+    /// The work that remains for a kind of unit.
+    Load(Kind),
+    /// The parcels that remain.
+    Parcels,
+}
+
+/// What a line of a tree says but its numbers, of which it has so many.
+#[derive(Clone, Copy, Debug)]
+pub(crate) enum Mark {
+    Split(u8),
+    Whole,
+    Chain(u8),
+    Load(Kind),
+    Parcels,
+}
+
+impl Mark {
+    ghost use Rattle.std.specs.Prelude.{◌≡◌, length};
+    ghost use Rattle.s66_cert.specs.Parts.{knot_of};
+    ghost use Rattle.s66_cert.specs.Marks.{number_count, marked};
+
+    /// How many numbers its line has.
+    fn number_count(self) -> usize
+        ensures { result ≡ number_count self }
+    {
+        match self {
+            Mark::Split(count) | Mark::Chain(count) => count as usize,
+            Mark::Whole | Mark::Load(_) | Mark::Parcels => 0,
+        }
+    }
+
+    /// Its line with these numbers.
+    fn with(self, numbers: &[u8]) -> TreeLine<'_>
+        requires { number_count self ≡ length numbers.now }
+        ensures { knot_of result ≡ marked self numbers.now }
+    {
+        match self {
+            Mark::Split(_) => TreeLine::Split(numbers),
+            Mark::Whole => TreeLine::Whole,
+            Mark::Chain(_) => TreeLine::Chain(numbers),
+            Mark::Load(kind) => TreeLine::Load(kind),
+            Mark::Parcels => TreeLine::Parcels,
+        }
+    }
+}
+
+/// The lines of a tree in preorder, in two bytes a line and one a number.
+#[derive(Debug, Drop)]
+pub struct Tree {
+    marks: Vec<Mark>,
+    numbers: Vec<u8>,
+}
+
+impl Model for Tree {
+    ghost use Rattle.std.specs.Prelude.{List};
+    ghost use Rattle.s66_model.specs.Leaves.{Leaf};
+    ghost use Rattle.s66_model.specs.Tree.{Knot};
+    ghost use Rattle.s66_cert.specs.Marks.{knots_of, AreCounted};
+
+    ghost Value = { List (Knot Leaf) };
+
+    ghost view = { λ t. knots_of t.marks.items t.numbers.items };
+
+    ghost invariant = { λ t. AreCounted t.marks.items t.numbers.items };
+}
+
+impl Tree {
+    ghost use Rattle.std.specs.Prelude.{◌≡◌, ◌++◌, [], ◌∷◌, OnOk, OnErr};
+    ghost use Rattle.std.specs.Prelude.{length};
+    ghost use Rattle.s66_cert.specs.Marks.{number_count, marked};
+    ghost use Rattle.s66_cert.specs.Parts.{knot_of, IsShort};
+
+    /// No lines.
+    pub fn new(alloc: Global) -> Tree
+        ensures { result ≡ [] }
+    {
+        Tree {
+            marks: Vec::new(alloc),
+            numbers: Vec::new(alloc),
+        }
+    }
+
+    /// Appends a line with its numbers.
+    fn append(&mut self, mark: Mark, numbers: &[u8]) -> Result<(), AllocError>
+        requires { number_count mark ≡ length numbers.now }
+        ensures pushed { OnOk result (self.new ≡ self.old ++ marked mark numbers.now ∷ []) }
+        ensures same { OnErr result (self.new ≡ self.old) }
+    {
+        self.marks.reserve(1)?;
+        self.numbers.extend_from_slice(numbers)?;
+        self.marks.push_reserved(mark);
+        Ok(())
+    }
+
+    /// Appends a line. Where memory is refused the lines are as before.
+    pub fn push(&mut self, line: TreeLine<'_>) -> Result<(), AllocError>
+        requires { IsShort (knot_of line) }
+        ensures pushed { OnOk result (self.new ≡ self.old ++ knot_of line.entry ∷ []) }
+        ensures same { OnErr result (self.new ≡ self.old) }
+    {
+        match line {
+            TreeLine::Split(numbers) => self.append(Mark::Split(numbers.len() as u8), numbers),
+            TreeLine::Whole => self.append(Mark::Whole, &[]),
+            TreeLine::Chain(numbers) => self.append(Mark::Chain(numbers.len() as u8), numbers),
+            TreeLine::Load(kind) => self.append(Mark::Load(kind), &[]),
+            TreeLine::Parcels => self.append(Mark::Parcels, &[]),
+        }
+    }
+
+    /// The lines, from the first on.
+    pub fn lines(&self) -> TreeLines<'_>
+        ensures { result ≡ self.now }
+    {
+        TreeLines {
+            marks: self.marks.as_slice(),
+            numbers: self.numbers.as_slice(),
+        }
+    }
+}
+
+/// The lines of a tree that are still to be read, in preorder.
+#[derive(Debug, Drop)]
+pub struct TreeLines<'a> {
+    marks: &'a [Mark],
+    numbers: &'a [u8],
+}
+
+impl<'a> Model for TreeLines<'a> {
+    ghost use Rattle.std.specs.Prelude.{List};
+    ghost use Rattle.s66_model.specs.Leaves.{Leaf};
+    ghost use Rattle.s66_model.specs.Tree.{Knot};
+    ghost use Rattle.s66_cert.specs.Marks.{knots_of, AreCounted};
+
+    ghost Value = { List (Knot Leaf) };
+
+    ghost view = { λ t. knots_of t.marks.now t.numbers.now };
+
+    ghost invariant = { λ t. AreCounted t.marks.now t.numbers.now };
+}
+
+impl<'a> TreeLines<'a> {
+    ghost use Rattle.s66_cert.specs.Parts.{IsNextLine};
+
+    /// The next line, where there is one.
+    pub fn next(&mut self) -> Option<TreeLine<'a>>
+        ensures { IsNextLine self.old result self.new }
+    {
+        let (mark, marks) = self.marks.split_first()?;
+        let (numbers, later) = self.numbers.split_at(mark.number_count());
+        self.marks = marks;
+        self.numbers = later;
+        Some(mark.with(numbers))
+    }
+}
