@@ -19,3 +19,5 @@ pub mod OneFault
 pub mod Places
 pub mod ReaderSteps
 pub mod ReadGives
+pub mod Pages
+pub mod Printed

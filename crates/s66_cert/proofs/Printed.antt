@@ -1,0 +1,75 @@
+-- The parts of a document's text, in the order in which they are printed.
+use Rattle.std.proofs.Common.{◌≡◌, ℕ, List, [], ◌∷◌, ◌++◌, Option, length, refl, sym, ap, subst, ◌∙◌, append_assoc, codes, decimal}
+use Rattle.std.proofs.lemmas.List.{append-nil}
+use Rattle.s66_isa.specs.Lists.{after_blanks}
+use Rattle.s66_line.specs.declared.limits.TheConstants.{BLOCK_LIMIT}
+use Rattle.s66_model.specs.Leaves.{Leaf, Whole, Chain, Load, Parcels}
+use Rattle.s66_model.specs.Tree.{Tree, Alone, Parted, Kids, NoMore, Unsplit, Split, Knot, AtTip, AtSplit, flat, flat_kids}
+use Rattle.s66_cert.specs.Document.{IsLeafLine, KidsFit, TreeFits, document_text, leaf_line, instruction_lines, tree_lines}
+use Rattle.s66_cert.specs.Pages.{AreShort, opening, claim_lines}
+use Rattle.s66_cert.proofs.Pages.{IsUnderway, printed-here}
+use Rattle.s66_cert.specs.Parts.{Parts, AreWhole, IsShort, document_of, tree_of}
+
+-- THE LINES OF A TREE HAVE FEW NUMBERS
+
+leaf-short : (leaf : Leaf) → IsLeafLine BLOCK_LIMIT leaf → IsShort (AtTip leaf)
+leaf-short Whole fits = tt
+leaf-short (Chain numbers) fits = fits.1
+leaf-short (Load kind) fits = tt
+leaf-short Parcels fits = tt
+
+short-both : (knots more : List (Knot Leaf)) → AreShort knots → AreShort more → AreShort (knots ++ more)
+short-both [] more short others = others
+short-both (knot ∷ knots) more (short, shorts) others = (short, short-both knots more shorts others)
+
+kids-short : (numbers : List ℕ) (kids : Kids Leaf) → KidsFit BLOCK_LIMIT numbers kids → AreShort (flat_kids kids)
+kids-short [] NoMore fit = tt
+kids-short (n ∷ ns) (Unsplit leaf kids) fit = (leaf-short leaf fit.0, kids-short ns kids fit.1)
+kids-short (n ∷ ns) (Split numbers sub kids) fit =
+    (fit.0.1, short-both (flat_kids sub) (flat_kids kids) (kids-short numbers sub fit.1) (kids-short ns kids fit.2))
+kids-short [] (Unsplit leaf kids) fit = absurd fit
+kids-short [] (Split numbers sub kids) fit = absurd fit
+kids-short (n ∷ ns) NoMore fit = absurd fit
+
+tree-short : (tree : Tree Leaf) → TreeFits BLOCK_LIMIT tree → AreShort (flat tree)
+tree-short (Alone leaf) fits = (leaf-short leaf fits, tt)
+tree-short (Parted numbers kids) fits = (fits.0.1, kids-short numbers kids fits.1)
+
+pub lines-short : (p : Parts) → AreWhole p → AreShort p.knots
+lines-short p whole = subst AreShort whole.preorder (tree-short (tree_of p.knots) whole.document.tree)
+
+-- A LINE, AND THEN THE OTHERS
+
+apart : (line others : List ℕ) → line ++ others ≡ (line ++ []) ++ others
+apart line others = ap (λ t. t ++ others) (sym (append-nil line))
+
+pub first-tree-line : (knot : Knot Leaf) (knots : List (Knot Leaf)) → tree_lines (knot ∷ knots) ≡ tree_lines (knot ∷ []) ++ tree_lines knots
+first-tree-line (AtTip leaf) knots = apart (leaf_line leaf) (tree_lines knots)
+first-tree-line (AtSplit numbers) knots = apart (codes "S" ++ after_blanks numbers ++ codes "\n") (tree_lines knots)
+
+pub first-instruction : (text : List ℕ) (texts : List (List ℕ)) → instruction_lines (text ∷ texts) ≡ instruction_lines (text ∷ []) ++ instruction_lines texts
+first-instruction text texts = apart (codes "I " ++ text ++ codes "\n") (instruction_lines texts)
+
+-- THE PARTS
+
+abbrev pub after_claim : Parts → List ℕ
+after_claim p = tree_lines p.knots ++ codes "END\n"
+
+abbrev pub after_block : Parts → List ℕ
+after_block p = claim_lines p ++ after_claim p
+
+right-nested : (a profile b count c block d time e bound f numbers g tree h : List ℕ) →
+    a ++ profile ++ b ++ count ++ c ++ block ++ d ++ time ++ e ++ bound ++ f ++ numbers ++ g ++ tree ++ h
+    ≡ (a ++ profile ++ b ++ count ++ c) ++ (block ++ ((d ++ time ++ e ++ bound ++ f ++ numbers ++ g) ++ (tree ++ h)))
+right-nested a profile b count c block d time e bound f numbers g tree h = simp append_assoc
+
+pub document-parts : (p : Parts) → AreWhole p → document_text (document_of p) ≡ opening p ++ (instruction_lines p.block ++ after_block p)
+document-parts p whole =
+    right-nested (codes "S66 CERTIFICATE 1\nPROFILE") (after_blanks p.profile) (codes "\nBLOCK ") (decimal (length p.block)) (codes "\n") (instruction_lines p.block) (codes "TIME ") (decimal p.time)
+    (codes "\nBOUND ") (decimal p.bound) (codes "\nORDER") (after_blanks p.numbers) (codes "\n") (tree_lines (flat (tree_of p.knots))) (codes "END\n")
+    ∙ ap (λ knots. opening p ++ (instruction_lines p.block ++ (claim_lines p ++ (tree_lines knots ++ codes "END\n")))) whole.preorder
+
+-- all before the instructions stands on the page
+pub opened : (old : Option (List ℕ)) (p : Parts) (page : List ℕ) (block : List (List ℕ)) → AreWhole p → page ≡ opening p → block ≡ p.block →
+    IsUnderway old old [] page (document_text (document_of p)) (instruction_lines block ++ after_block p)
+opened old p page block whole is same = rw (is, same) (record { done = opening p; printed = printed-here old [] (opening p) (opening p) refl; left = document-parts p whole })

@@ -1,0 +1,29 @@
+-- Used by contracts: text that is printed on a page, of which now and then what stands on it is written.
+use Rattle.std.specs.Prelude.{◌≡◌, ℕ, List, [], ◌∷◌, ◌++◌, Option, codes, decimal, length, take}
+use Rattle.std.specs.Io.KnownBytes.{Appends}
+use Rattle.s66_isa.specs.Lists.{after_blanks}
+use Rattle.s66_model.specs.Leaves.{Leaf}
+use Rattle.s66_model.specs.Tree.{Knot}
+use Rattle.s66_cert.specs.Parts.{Parts, IsShort}
+
+-- of what stood on the page and of this text behind it a front was written, and the rest stands on the page
+pub record IsPrinted (old new : Option (List ℕ)) (before after text : List ℕ) : Type 0 where
+  pub written : List ℕ
+  pub appended : Appends old new written
+  pub left : before ++ text ≡ written ++ after
+
+-- a beginning of the text was written
+abbrev pub IsBegun : Option (List ℕ) → Option (List ℕ) → List ℕ → Type 0
+IsBegun old new text = (k : ℕ) × Appends old new (take k text)
+
+-- what a document has before its instructions
+abbrev pub opening : Parts → List ℕ
+opening p = codes "S66 CERTIFICATE 1\nPROFILE" ++ after_blanks p.profile ++ codes "\nBLOCK " ++ decimal (length p.block) ++ codes "\n"
+
+-- and between these and its tree
+abbrev pub claim_lines : Parts → List ℕ
+claim_lines p = codes "TIME " ++ decimal p.time ++ codes "\nBOUND " ++ decimal p.bound ++ codes "\nORDER" ++ after_blanks p.numbers ++ codes "\n"
+
+abbrev pub AreShort : List (Knot Leaf) → Type 0
+AreShort [] = Unit {0}
+AreShort (knot ∷ knots) = IsShort knot × AreShort knots

@@ -1,0 +1,172 @@
+ghost use Rattle.std.specs.Prelude.{◌≡◌, ◌+◌, ◌-◌, ◌^◌, ◌<◌, ◌≤◌, ◌++◌, length, decimal, OnOk, OnErr};
+ghost use Rattle.s66_isa.specs.Lists.{after_blanks};
+ghost use Rattle.s66_line.specs.declared.limits.TheConstants.{BLOCK_LIMIT, TEXT_LIMIT};
+ghost use Rattle.s66_model.specs.Tree.{AtTip, Knot};
+ghost use Rattle.s66_cert.specs.Document.{kind_name, instruction_lines, tree_lines};
+ghost use Rattle.s66_cert.specs.Pages.{IsPrinted, IsBegun};
+ghost use Rattle.s66_cert.specs.Parts.{knot_of, IsShort};
+
+use crate::tree::TreeLine;
+use arrayvec::ArrayVec;
+use itoa::Buffer;
+use s66_isa::Kind;
+use s66_line::{BLOCK_LIMIT, Sink, WriteError, write_all};
+use std::marker::Model;
+
+/// The bytes of a page.
+const PAGE_SIZE: usize = 4096;
+
+/// The most bytes of a number.
+const NUMBER_ROOM: usize = 10;
+
+/// The most bytes of the numbers of a line, each after a blank.
+const NUMBERS_ROOM: usize = (NUMBER_ROOM + 1) * BLOCK_LIMIT;
+
+/// More bytes than any line of a document has, and than those that are printed together.
+const LINE_ROOM: usize = 1024;
+
+/// Text that is still to be written, so that a sink is called once for many lines.
+#[derive(Drop)]
+pub(crate) struct Page {
+    bytes: ArrayVec<u8, PAGE_SIZE>,
+}
+
+impl Model for Page {
+    ghost use Rattle.std.specs.Prelude.{ℕ, List};
+
+    ghost Value = { List ℕ };
+
+    ghost view = { λ p. p.bytes.items };
+}
+
+impl Page {
+    ghost use Rattle.std.specs.Prelude.{[], ◌∷◌};
+
+    /// An empty page.
+    pub(crate) fn new() -> Page
+        ensures { result ≡ [] }
+    {
+        Page {
+            bytes: ArrayVec::new(),
+        }
+    }
+
+    /// Prints a text.
+    pub(crate) fn text(&mut self, text: &[u8])
+        requires { length self.old + length text.now ≤ PAGE_SIZE }
+        ensures { self.new ≡ self.old ++ text.now }
+    {
+        let Ok(()) = self.bytes.try_extend_from_slice(text) else {
+            unreachable!()
+        };
+    }
+
+    /// Prints a number in decimal.
+    pub(crate) fn number(&mut self, number: u32)
+        requires { length self.old + NUMBER_ROOM ≤ PAGE_SIZE }
+        ensures text { self.new ≡ self.old ++ decimal number }
+        ensures few { length self.new ≤ length self.old + NUMBER_ROOM }
+    {
+        let mut buffer = Buffer::new();
+        self.text(buffer.format(number).as_bytes());
+    }
+
+    /// Prints the numbers of a line, each after a blank.
+    pub(crate) fn numbers(&mut self, numbers: &[u8])
+        requires few { length numbers.now ≤ BLOCK_LIMIT }
+        requires room { length self.old + NUMBERS_ROOM ≤ PAGE_SIZE }
+        ensures text { self.new ≡ self.old ++ after_blanks numbers.now }
+        ensures few { length self.new ≤ length self.old + NUMBERS_ROOM }
+    {
+        for number in numbers {
+            self.text(b" ");
+            self.number(*number as u32);
+        }
+    }
+
+    /// Prints the line of an instruction.
+    pub(crate) fn instruction(&mut self, text: &[u8])
+        requires few { length text.now ≤ TEXT_LIMIT }
+        requires room { length self.old + LINE_ROOM ≤ PAGE_SIZE }
+        ensures { self.new ≡ self.old ++ instruction_lines (text.now ∷ []) }
+    {
+        self.text(b"I ");
+        self.text(text);
+        self.text(b"\n");
+    }
+
+    /// Prints a line of a tree that has numbers.
+    fn numbered_line(&mut self, letter: &[u8], numbers: &[u8])
+        requires letter { length letter.now ≡ 1 }
+        requires few { length numbers.now ≤ BLOCK_LIMIT }
+        requires room { length self.old + LINE_ROOM ≤ PAGE_SIZE }
+        ensures { self.new ≡ self.old ++ (letter.now ++ after_blanks numbers.now ++ 10 ∷ []) }
+    {
+        self.text(letter);
+        self.numbers(numbers);
+        self.text(b"\n");
+    }
+
+    /// Prints a line of a tree.
+    pub(crate) fn tree_line(&mut self, line: TreeLine<'_>)
+        requires short { IsShort (knot_of line) }
+        requires room { length self.old + LINE_ROOM ≤ PAGE_SIZE }
+        ensures { self.new ≡ self.old ++ tree_lines (knot_of line.entry ∷ []) }
+    {
+        match line {
+            TreeLine::Split(numbers) => self.numbered_line(b"S", numbers),
+            TreeLine::Whole => self.text(b"T\n"),
+            TreeLine::Chain(numbers) => self.numbered_line(b"C", numbers),
+            TreeLine::Load(kind) => {
+                self.text(b"U ");
+                self.text(kind_name(kind));
+                self.text(b"\n");
+            }
+            TreeLine::Parcels => self.text(b"P\n"),
+        }
+    }
+
+    /// Writes what was printed, and is empty then.
+    pub(crate) fn write<S: Sink>(&mut self, writer: &mut S) -> Result<(), WriteError>
+        requires { S.failures writer.old < 2 ^ 64 - 1 }
+        ensures ok { OnOk result (IsPrinted (S.bytes writer.old) (S.bytes writer.new) self.old self.new []) }
+        ensures empty { OnOk result (self.new ≡ []) }
+        ensures same { OnOk result (S.failures writer.new ≡ S.failures writer.old) }
+        ensures err { OnErr result (S.failures writer.new ≡ S.failures writer.old + 1) }
+        ensures beginning { OnErr result (IsBegun (S.bytes writer.old) (S.bytes writer.new) self.old) }
+    {
+        write_all(writer, self.bytes.as_slice())?;
+        self.bytes.clear();
+        Ok(())
+    }
+
+    /// Writes what was printed where there is no room for a line.
+    pub(crate) fn make_room<S: Sink>(&mut self, writer: &mut S) -> Result<(), WriteError>
+        requires { S.failures writer.old < 2 ^ 64 - 1 }
+        ensures ok { OnOk result (IsPrinted (S.bytes writer.old) (S.bytes writer.new) self.old self.new []) }
+        ensures room { OnOk result (length self.new + LINE_ROOM ≤ PAGE_SIZE) }
+        ensures same { OnOk result (S.failures writer.new ≡ S.failures writer.old) }
+        ensures err { OnErr result (S.failures writer.new ≡ S.failures writer.old + 1) }
+        ensures beginning { OnErr result (IsBegun (S.bytes writer.old) (S.bytes writer.new) self.old) }
+    {
+        if self.bytes.len() + LINE_ROOM <= PAGE_SIZE {
+            return Ok(());
+        }
+        self.write(writer)
+    }
+}
+
+/// The name of a kind of unit, in upper case.
+fn kind_name(kind: Kind) -> &'static [u8]
+    ensures { result.now ≡ kind_name kind }
+{
+    match kind {
+        Kind::Boolean => b"BOOLEAN",
+        Kind::Shift => b"SHIFT",
+        Kind::Add => b"ADD",
+        Kind::LongAdd => b"LONGADD",
+        Kind::Multiply => b"MULTIPLY",
+        Kind::Divide => b"DIVIDE",
+        Kind::Increment => b"INCREMENT",
+    }
+}

@@ -1,0 +1,117 @@
+ghost use Rattle.std.specs.Prelude.{◌≡◌, ◌+◌, ◌-◌, ◌^◌, ◌<◌, ◌≤◌, ◌++◌, ℕ, List, [], codes, take, length, map, OnOk, OnErr};
+ghost use Rattle.std.specs.Io.KnownBytes.{Appends};
+ghost use Rattle.std.specs.declared.vec.Vec.{Vec};
+ghost use Rattle.std.specs.declared.alloc.Global.{Global};
+ghost use Rattle.s66_cert.specs.Document.{AreInstructions, document_text, instruction_lines, tree_lines};
+ghost use Rattle.s66_cert.specs.Pages.{IsPrinted, IsBegun, AreShort, opening, claim_lines};
+ghost use Rattle.s66_cert.specs.Parts.{document_of};
+
+use crate::document::Document;
+use crate::page::Page;
+use crate::tree::TreeLines;
+use s66_line::{Sink, WriteError};
+
+/// Prints what a document has before its instructions.
+fn print_opening(document: &Document, page: &mut Page)
+    requires { page.old ≡ [] }
+    ensures { page.new ≡ opening document.now }
+{
+    page.text(b"S66 CERTIFICATE 1\nPROFILE");
+    page.numbers(document.profile());
+    page.text(b"\nBLOCK ");
+    page.number(document.block().len() as u32);
+    page.text(b"\n");
+}
+
+/// Prints the instructions of these texts.
+fn print_block<S: Sink>(
+    block: &[Vec<u8>],
+    page: &mut Page,
+    writer: &mut S,
+) -> Result<(), WriteError>
+    requires failures { S.failures writer.old < 2 ^ 64 - 1 }
+    requires instructions { AreInstructions (map (λ (text : Vec ℕ Global). text.items) block.now) }
+    ensures ok { OnOk result (IsPrinted (S.bytes writer.old) (S.bytes writer.new) page.old page.new (instruction_lines (map (λ (text : Vec ℕ Global). text.items) block.now))) }
+    ensures same { OnOk result (S.failures writer.new ≡ S.failures writer.old) }
+    ensures err { OnErr result (S.failures writer.new ≡ S.failures writer.old + 1) }
+    ensures beginning { OnErr result (IsBegun (S.bytes writer.old) (S.bytes writer.new) (page.old ++ instruction_lines (map (λ (text : Vec ℕ Global). text.items) block.now))) }
+{
+    for text in block {
+        page.make_room(writer)?;
+        page.instruction(text.as_slice());
+    }
+    Ok(())
+}
+
+/// Prints what a document has between its instructions and its tree.
+fn print_claim<S: Sink>(
+    document: &Document,
+    page: &mut Page,
+    writer: &mut S,
+) -> Result<(), WriteError>
+    requires { S.failures writer.old < 2 ^ 64 - 1 }
+    ensures ok { OnOk result (IsPrinted (S.bytes writer.old) (S.bytes writer.new) page.old page.new (claim_lines document.now)) }
+    ensures same { OnOk result (S.failures writer.new ≡ S.failures writer.old) }
+    ensures err { OnErr result (S.failures writer.new ≡ S.failures writer.old + 1) }
+    ensures beginning { OnErr result (IsBegun (S.bytes writer.old) (S.bytes writer.new) (page.old ++ claim_lines document.now)) }
+{
+    page.make_room(writer)?;
+    page.text(b"TIME ");
+    page.number(document.time());
+    page.text(b"\nBOUND ");
+    page.number(document.bound());
+    page.text(b"\nORDER");
+    page.numbers(document.order());
+    page.text(b"\n");
+    Ok(())
+}
+
+/// Prints the lines of a tree.
+fn print_tree<S: Sink>(
+    mut lines: TreeLines<'_>,
+    page: &mut Page,
+    writer: &mut S,
+) -> Result<(), WriteError>
+    requires failures { S.failures writer.old < 2 ^ 64 - 1 }
+    requires short { AreShort lines }
+    ensures ok { OnOk result (IsPrinted (S.bytes writer.old) (S.bytes writer.new) page.old page.new (tree_lines lines.entry)) }
+    ensures same { OnOk result (S.failures writer.new ≡ S.failures writer.old) }
+    ensures err { OnErr result (S.failures writer.new ≡ S.failures writer.old + 1) }
+    ensures beginning { OnErr result (IsBegun (S.bytes writer.old) (S.bytes writer.new) (page.old ++ tree_lines lines.entry)) }
+{
+    while let Some(line) = lines.next() {
+        page.make_room(writer)?;
+        page.tree_line(line);
+    }
+    Ok(())
+}
+
+/// Prints the last line, and writes what is still to be written.
+fn print_end<S: Sink>(page: &mut Page, writer: &mut S) -> Result<(), WriteError>
+    requires { S.failures writer.old < 2 ^ 64 - 1 }
+    ensures ok { OnOk result (Appends (S.bytes writer.old) (S.bytes writer.new) (page.old ++ codes "END\n")) }
+    ensures same { OnOk result (S.failures writer.new ≡ S.failures writer.old) }
+    ensures err { OnErr result (S.failures writer.new ≡ S.failures writer.old + 1) }
+    ensures beginning { OnErr result (IsBegun (S.bytes writer.old) (S.bytes writer.new) (page.old ++ codes "END\n")) }
+{
+    page.make_room(writer)?;
+    page.text(b"END\n");
+    page.write(writer)
+}
+
+/// Writes a document, in time linear in its text, some thousand bytes a call of the sink; nothing is allocated. Where the sink fails, a
+/// beginning of the text was written.
+pub fn print<S: Sink>(document: &Document, writer: &mut S) -> Result<(), WriteError>
+    requires { S.failures writer.old < 2 ^ 64 - 1 }
+    ensures ok { OnOk result (Appends (S.bytes writer.old) (S.bytes writer.new) (document_text (document_of document.now))) }
+    ensures same { OnOk result (S.failures writer.new ≡ S.failures writer.old) }
+    ensures err { OnErr result (S.failures writer.new ≡ S.failures writer.old + 1) }
+    ensures beginning { OnErr result ((k : ℕ) × Appends (S.bytes writer.old) (S.bytes writer.new) (take k (document_text (document_of document.now)))) }
+{
+    let mut page = Page::new();
+    print_opening(document, &mut page);
+    print_block(document.block(), &mut page, writer)?;
+    print_claim(document, &mut page, writer)?;
+    print_tree(document.tree(), &mut page, writer)?;
+    print_end(&mut page, writer)
+}
