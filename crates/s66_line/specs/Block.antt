@@ -1,9 +1,9 @@
 -- To be believed: what a block shows, by the numbers of its instructions, from 1.
-use Rattle.std.specs.Prelude.{ℕ, zero, suc, List, [], map, Option, None, Some, slice_get}
+use Rattle.std.specs.Prelude.{ℕ, zero, suc, List, [], ◌∷◌, map, Option, None, Some, slice_get}
 use Rattle.s66_isa.specs.declared.instr.Instr.{Instr}
 use Rattle.s66_isa.specs.Table.{instr_at}
 use Rattle.s66_line.specs.Operand.{constant_of}
-use Rattle.s66_line.specs.InstructionText.{spelling, operation_in, operand_in}
+use Rattle.s66_line.specs.InstructionText.{spelling, operation_in, operand_in, instr_in_text}
 use Rattle.s66_line.specs.Source.{Entry, Block}
 
 abbrev pub instrs_of : Block → List Instr
@@ -37,3 +37,13 @@ text_of block n = spelling (operation_in (bytes_of block n)) (operand_in (bytes_
 -- the text of the constant of an instruction, in upper case: of a shift count or a mask the whole operand, of a set instruction its constant terms, each with its sign, and of any other nothing
 abbrev pub constants_in : Block → ℕ → List ℕ
 constants_in block n = constant_of (instr_at (instrs_of block) n).op.code (operand_in (bytes_of block n))
+
+-- THE BLOCK OF TEXTS, each that of an instruction, without a label
+
+-- the lines are counted from here
+abbrev pub entries_of_texts : ℕ → List (List ℕ) → List Entry
+entries_of_texts line [] = []
+entries_of_texts line (text ∷ texts) = record { instr = instr_in_text text; line = line; bytes = text } ∷ entries_of_texts (suc line) texts
+
+abbrev pub block_of_texts : List (List ℕ) → Block
+block_of_texts texts = record { label = []; entries = entries_of_texts 1 texts }

@@ -1,6 +1,7 @@
 -- To be believed: what the text of an instruction is.
-use Rattle.std.specs.Prelude.{◌≡◌, ◌≤◌, ℕ, List, [], ◌∷◌, ◌++◌, Some, length}
+use Rattle.std.specs.Prelude.{◌≡◌, ◌≤◌, ℕ, List, [], ◌∷◌, ◌++◌, Option, None, Some, length}
 use Rattle.s66_isa.specs.declared.instr.Instr.{Instr}
+use Rattle.s66_isa.specs.Table.{idle_instr}
 use Rattle.s66_line.specs.declared.limits.TheConstants.{TEXT_LIMIT}
 use Rattle.s66_line.specs.Fields.{upper, word, skip_blanks, after_word}
 use Rattle.s66_line.specs.Operand.{instr_of}
@@ -21,6 +22,14 @@ operand_in bytes = upper (word (skip_blanks (after_word bytes)))
 -- in upper case or in lower case, they spell this instruction
 abbrev pub Spells : List ℕ → Instr → Type 0
 Spells bytes n = instr_of (operation_in bytes) (operand_in bytes) ≡ Some n
+
+-- the instruction that they spell, and one that does nothing where they spell none
+abbrev pub instr_in_text : List ℕ → Instr
+instr_in_text bytes = spelled (instr_of (operation_in bytes) (operand_in bytes))
+  where
+    spelled : Option Instr → Instr
+    spelled None = idle_instr
+    spelled (Some n) = n
 
 -- the text of this instruction: an operation and an operand that spell it, in upper case, and nothing more
 pub record IsTextOf (text : List ℕ) (n : Instr) : Type 0 where

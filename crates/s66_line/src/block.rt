@@ -1,8 +1,12 @@
+ghost use Rattle.std.specs.Prelude.{◌≡◌};
+ghost use Rattle.s66_line.specs.InstructionText.{instr_in_text, IsInstruction};
+
 use crate::entry::Entry;
-use crate::instruction_text::spell;
+use crate::instruction_text::{instruction_in, spell};
 use crate::limits::TEXT_LIMIT;
 use arrayvec::ArrayVec;
 use s66_isa::Instr;
+use std::alloc::{AllocError, Global};
 use std::marker::Model;
 
 /// A straight-line block: 1 to `BLOCK_LIMIT` instructions of one run, numbered from 1 in source order; it borrows the source.
@@ -24,13 +28,32 @@ impl<'a> Model for Block<'a> {
     ghost invariant = { λ b. (0 < length b.entries.items) × (length b.entries.items ≤ BLOCK_LIMIT) };
 }
 
+/// The entry of the text of an instruction, at a line.
+fn entry_of(text: &[u8], line: u32) -> Entry<'_>
+    requires { IsInstruction text.now }
+    ensures { result ≡ record { instr = instr_in_text text.now; line = line; bytes = text.now } }
+{
+    // so it isn't longer than a text may be
+    prove!(text.len() <= TEXT_LIMIT);
+    match instruction_in(text) {
+        Some(instr) => Entry {
+            instr,
+            line,
+            bytes: text,
+        },
+        None => unreachable!(),
+    }
+}
+
 impl<'a> Block<'a> {
-    ghost use Rattle.std.specs.Prelude.{◌≡◌, ◌*◌, ◌≤◌, ◌<◌, Some, length};
-    ghost use Rattle.s66_isa.specs.Lists.{weigh};
+    ghost use Rattle.std.specs.Prelude.{ℕ, List, ◌≡◌, ◌*◌, ◌≤◌, ◌<◌, Some, IfOk, length, map};
+    ghost use Rattle.std.specs.declared.vec.Vec.{Vec};
+    ghost use Rattle.std.specs.declared.alloc.Global.{Global};
+    ghost use Rattle.s66_isa.specs.Lists.{weigh, Among};
     ghost use Rattle.s66_isa.specs.Table.{instr_at, parcels_of};
     ghost use Rattle.s66_isa.specs.declared.instr.Instr.{Instr};
-    ghost use Rattle.s66_line.specs.InstructionText.{Spells, IsTextOf};
-    ghost use Rattle.s66_line.specs.Block.{instrs_of, entry_at, line_of, bytes_of, text_of};
+    ghost use Rattle.s66_line.specs.InstructionText.{Spells, IsTextOf, IsInstruction};
+    ghost use Rattle.s66_line.specs.Block.{instrs_of, entry_at, line_of, bytes_of, text_of, block_of_texts};
     ghost use Rattle.s66_line.specs.declared.limits.TheConstants.{BLOCK_LIMIT, TEXT_LIMIT};
 
     pub(crate) fn new(label: &'a [u8], entries: Vec<Entry<'a>>) -> Block<'a>
@@ -39,6 +62,21 @@ impl<'a> Block<'a> {
         ensures { result ≡ record { label = label.now; entries = entries.entry.items } }
     {
         Block { label, entries }
+    }
+
+    /// The block of these texts, each that of an instruction, as `is_instruction` tells: line n is n, and there is no label. It
+    /// borrows the texts. `Err` is want of memory.
+    pub fn of(alloc: Global, texts: &'a [Vec<u8>]) -> Result<Block<'a>, AllocError>
+        requires some { 1 ≤ length texts.now }
+        requires few { length texts.now ≤ BLOCK_LIMIT }
+        requires texts { (text : List ℕ) → Among text (map (λ (t : Vec ℕ Global). t.items) texts.now) → IsInstruction text }
+        ensures { IfOk result (λ block. block ≡ block_of_texts (map (λ (t : Vec ℕ Global). t.items) texts.now)) }
+    {
+        let mut entries = Vec::new(alloc);
+        for (position, text) in texts.iter().enumerate() {
+            entries.push(entry_of(text.as_slice(), position as u32 + 1))?;
+        }
+        Ok(Block::new(&[], entries))
     }
 
     /// How many instructions there are, 1 to `BLOCK_LIMIT`.

@@ -1,0 +1,72 @@
+-- When an instruction issues, starts and is done, by looking back.
+use Rattle.std.proofs.Common.{ℕ, ◌+◌, ◌≤◌, ◌<◌, ◌≡◌, cond, max, List, [], ◌∷◌, map, reverse, refl, sym, ap, arith, inl, inr, subst, ◌∙◌}
+use Rattle.s66_isa.specs.declared.instr.Kind.{Kind}
+use Rattle.s66_isa.specs.declared.reg.Reg.{Reg}
+use Rattle.s66_isa.specs.Lists.{greatest, tally}
+use Rattle.s66_isa.specs.Table.{Row, Write, standard, copies_of, has_reg, memory_pair}
+use Rattle.s66_model.specs.Timing.{Problem, Point, ResultAt, done_of, last_done, done_at, total, busy_at, issue_of, start_of, slot_of, parcel_of, copies, result_at, readers_wait, free_after, point, CanIssue}
+use Rattle.s66_isa.proofs.Lists.{cases_le, le-greatest, greatest-le, greatest-same}
+use Rattle.s66_model.proofs.Issue.{none_busy, issue-is}
+use Rattle.s66_checker.specs.Kept.{under_standard, AreTimed}
+use Rattle.s66_checker.proofs.Reversed.{greatest-reverse, tally-reverse}
+use Rattle.s66_checker.proofs.KeptPoints.{timed-latest}
+
+-- ISSUE
+
+-- a unit works only before the total
+pub before-total : (kind : Kind) (t : ℕ) (s : List Point) → 1 ≤ tally (busy_at kind t) s → t < total s
+before-total kind t s some =
+    elim (cases_le (total s) t) [
+      | inl past ↦ absurd (omega (arith, none_busy kind t s past))
+      | inr lt ↦ lt
+    ]
+
+-- what may issue at the first time, from its slot and the last result on, at which a unit is free, issues then
+issue-join : (b : Problem) (s : List Point) (r : Row) (written t : ℕ) → written ≡ greatest (λ (w : Write). done_of s w.reg) r.writes →
+    max (slot_of s r.parcels) written ≤ t → tally (busy_at r.kind t) s < copies b r.kind →
+    ((u : ℕ) → max (slot_of s r.parcels) written ≤ u → tally (busy_at r.kind u) s < copies b r.kind → t ≤ u) → t ≡ issue_of b s r
+issue-join b s r written t is late free least =
+    let issue = issue-is b s r in
+    let can : CanIssue b s r t = (free, λ p in_s w among. omega (arith, le-greatest (λ (q : Point). done_at q w.reg) p s in_s, le-greatest (λ (v : Write). done_of s v.reg) w r.writes among)) in
+    let above : issue_of b s r ≤ t = issue.least t (omega arith) can in
+    let written_by : written ≤ issue_of b s r = subst (λ x. x ≤ issue_of b s r) (sym is) (greatest-le (λ (w : Write). done_of s w.reg) (issue_of b s r) r.writes (λ w among. greatest-le (λ (q : Point). done_at q w.reg) (issue_of b s r) s (λ q in_s. issue.passes.1 q in_s w among))) in
+    let below : t ≤ issue_of b s r = least (issue_of b s r) (omega (arith, issue.late)) issue.passes.0 in
+    omega arith
+
+done_of-reverse : (xs : List Point) (r : Reg) → done_of (reverse xs) r ≡ done_of xs r
+done_of-reverse xs r = greatest-reverse (λ (p : Point). done_at p r) xs
+
+pub issue-looked : (xs : List Point) (r : Row) (slot written t : ℕ) → slot ≡ slot_of (reverse xs) r.parcels → written ≡ greatest (λ (w : Write). done_of xs w.reg) r.writes →
+    max slot written ≤ t → tally (busy_at r.kind t) xs < copies_of standard r.kind →
+    ((u : ℕ) → max slot written ≤ u → tally (busy_at r.kind u) xs < copies_of standard r.kind → t ≤ u) → t ≡ issue_of (under_standard []) (reverse xs) r
+issue-looked xs r slot written t e1 e2 late free least =
+    issue-join (under_standard []) (reverse xs) r written t
+    (e2 ∙ greatest-same (λ (w : Write). done_of xs w.reg) (λ (w : Write). done_of (reverse xs) w.reg) r.writes (λ w _. sym (done_of-reverse xs w.reg)))
+    (omega (arith, late, e1))
+    (omega (arith, free, tally-reverse (busy_at r.kind t) xs))
+    (λ u ge few. least u (omega (arith, ge, e1)) (omega (arith, few, tally-reverse (busy_at r.kind u) xs)))
+
+-- START
+
+pub start-looked : (xs : List Point) (r : Row) (issue done wait : ℕ) → AreTimed xs → issue ≡ issue_of (under_standard []) (reverse xs) r → done ≡ greatest (λ x. done_of xs x) r.reads →
+    wait ≡ greatest (λ (q : Point). cond (memory_pair q.row.memory r.memory) (q.start + 1) 0) xs → max issue (max done wait) ≡ start_of (under_standard []) (reverse xs) r
+unfolding start_of
+start-looked xs r issue done wait timed e1 e2 e3 =
+    let last = greatest-same (λ x. done_of xs x) (λ x. last_done x (reverse xs)) r.reads (λ x _. sym (timed-latest xs timed x ∙ done_of-reverse xs x)) in
+    let waits = greatest-reverse (λ (q : Point). cond {A = ℕ} (memory_pair q.row.memory r.memory) (q.start + 1) 0) xs in
+    rw (e1, e2 ∙ last, e3 ∙ sym waits) refl
+
+-- RESULTS
+
+pub results-looked : (xs : List Point) (start : ℕ) (ws : List Write) → map (result_at xs start) ws ≡ map (result_at (reverse xs) start) ws
+results-looked xs start [] = refl
+results-looked xs start (w ∷ ws) =
+    let wait = greatest-reverse (λ (p : Point). cond {A = ℕ} (has_reg w.reg p.row.reads) (p.start + 1) 0) xs in
+    rw (wait, results-looked xs start ws) refl
+
+pub point-looked : (xs : List Point) (n : ℕ) (r : Row) (parcel issue start : ℕ) (results : List ResultAt) (free : ℕ) →
+    parcel ≡ parcel_of (reverse xs) r.parcels → issue ≡ issue_of (under_standard []) (reverse xs) r → start ≡ start_of (under_standard []) (reverse xs) r →
+    results ≡ map (result_at xs start) r.writes → free ≡ free_after start r.hold results →
+    ◌≡◌ {A = Point} (record { number = n; row = r; parcel = parcel; issue = issue; start = start; results = results; free = free }) (point (under_standard []) (reverse xs) n r)
+unfolding point
+point-looked xs n r parcel issue start results free e1 e2 e3 e4 e5 = rw (e5, e4, results-looked xs start r.writes, e3, e2, e1) refl

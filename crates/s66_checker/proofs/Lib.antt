@@ -1,0 +1,11 @@
+pub mod Faultless
+pub mod TrueClaims
+pub mod Placed
+pub mod Walks
+pub mod Reversed
+pub mod KeptPoints
+pub mod Issues
+pub mod NumbersInTurn
+pub mod Readiness
+pub mod Prefixes
+pub mod LeafBounds

@@ -1,0 +1,54 @@
+use Rattle.std.proofs.Common.{arith, ap, sym, subst, ◌∙◌, ◌+◌, ◌≤◌, ◌≡◌, ℕ, List, [], map, reverse}
+use Rattle.s66_isa.specs.Lists.{greatest}
+use Rattle.s66_isa.specs.Table.{Row, Write}
+use Rattle.s66_isa.proofs.Lists.{greatest-le}
+use Rattle.s66_model.specs.Timing.{IsInRange, Point, ResultAt, end_of, start_of, parcel_of, result_at, free_after}
+use Rattle.s66_model.proofs.Growth.{start-le, results-le}
+use Rattle.s66_checker.specs.Kept.{TOTAL_LIMIT, under_standard, AreTimed}
+use Rattle.s66_checker.proofs.Reversed.{greatest-reverse}
+use Rattle.s66_checker.proofs.KeptPoints.{timed-small, timed-total}
+use Rattle.s66_checker.proofs.Issues.{results-looked, point-looked}
+use Rattle.s66_checker.proofs.timing.next_point.Goals as goal
+
+starts : (xs : List Point) (r : Row) (start : ℕ) → AreTimed xs → start ≡ start_of (under_standard []) (reverse xs) r → start ≤ TOTAL_LIMIT + 3
+starts xs r start timed is =
+    omega (arith, is, start-le (under_standard []) (reverse xs) r (timed-small xs timed), greatest-reverse end_of xs, timed-total xs timed)
+
+latencies : (r : Row) (ws : List Write) → IsInRange r → ws ≡ r.writes → greatest (λ (w : Write). w.latency) ws ≤ 100
+latencies r ws good is =
+    subst (λ (vs : List Write). greatest (λ (w : Write). w.latency) vs ≤ 100) (sym is)
+    (greatest-le (λ (w : Write). w.latency) 100 r.writes (λ w among. (good.latencies w among).1))
+
+pub results-results-requires-clause-latencies : goal.results-results-requires-clause-latencies
+results-results-requires-clause-latencies c = latencies _ c.as_slice.result.now c.row.invariant c.as_slice.ensures.value
+
+pub results-results-requires-clause-start : goal.results-results-requires-clause-start
+results-results-requires-clause-start c = starts c.args.points.now c.args.row c.start-start.result c.requires c.start-start.ensures
+
+pub free_after-free-requires-clause-start : goal.free_after-free-requires-clause-start
+free_after-free-requires-clause-start c =
+    omega (arith, c.row.invariant.hold, starts c.args.points.now c.args.row c.start-start.result c.requires c.start-start.ensures)
+
+pub free_after-free-requires-clause-results : goal.free_after-free-requires-clause-results
+free_after-free-requires-clause-results c =
+    let xs = c.args.points.now in
+    let start = c.start-start.result in
+    let ws = c.as_slice.result.now in
+    omega (
+      arith,
+      ap (greatest (λ (d : ResultAt). d.time)) (c.as_slice-2.ensures.value ∙ c.results-results.ensures ∙ results-looked xs start ws),
+      results-le (reverse xs) start ws (timed-small xs c.requires) (latencies _ ws c.row.invariant c.as_slice.ensures.value) (omega (arith, start-le (under_standard []) (reverse xs) c.args.row (timed-small xs c.requires), c.start-start.ensures)),
+      greatest-reverse end_of xs,
+      timed-total xs c.requires,
+    )
+
+pub returns : goal.returns
+returns c =
+    let xs = c.args.points.now in
+    let start = c.start-start.result in
+    let results : c.results-results.result.items ≡ map (result_at xs start) c.args.row.writes =
+    c.results-results.ensures ∙ ap (map (result_at xs start)) c.as_slice.ensures.value ∙ ap (λ (r : Row). map (result_at xs start) r.writes) c.row.view_is in
+    let free = c.free_after-free.ensures ∙ ap (λ (ds : List ResultAt). free_after start c.row.inside.hold ds) c.as_slice-2.ensures.value
+    ∙ ap (λ (r : Row). free_after start r.hold c.results-results.result.items) c.row.view_is in
+    let parcel = c.parcel.ensures ∙ ap (λ (r : Row). parcel_of (reverse xs) r.parcels) c.row.view_is in
+    point-looked xs c.args.number c.args.row c.parcel.result c.issue-issue.result start c.results-results.result.items c.free_after-free.result parcel c.issue-issue.ensures c.start-start.ensures results free

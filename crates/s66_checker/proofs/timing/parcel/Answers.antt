@@ -1,0 +1,26 @@
+use Rattle.std.proofs.Common.{rules, arith, ap, ◌+◌, ◌<◌, ◌^◌}
+use Rattle.s66_model.specs.Timing.{Point}
+use Rattle.s66_checker.proofs.KeptPoints.{last-issue, last-packed, last-parcels}
+use Rattle.s66_checker.proofs.timing.parcel.Goals as goal
+
+small : (c : goal.After-parcels) → c.last-in-Some.inside.parcel + c.parcels.result + 1 < 2 ^ 32
+small c =
+    let p = c.in-Some.last.now in
+    let some = c.in-Some.ensures.item.3.0 in
+    let is = c.in-Some.ensures.item.1 in
+    omega (
+      arith,
+      last-issue c.args.points.now p c.requires some is,
+      last-packed c.args.points.now p c.requires some is,
+      last-parcels c.args.points.now p c.requires some is,
+      ap (λ (q : Point). q.parcel) c.last-in-Some.view_is,
+      c.parcels.ensures,
+    )
+
+pub fits_at-requires : goal.fits_at-requires
+fits_at-requires c = small c
+
+pub overflow_add-last-inside : goal.overflow_add-last-inside
+overflow_add-last-inside c =
+    let fits : c.last-in-Some.inside.parcel + c.parcels.result < 2 ^ 32 = omega (arith, small c) in
+    search rules

@@ -1,0 +1,7 @@
+-- Used by contracts: what they see of the beginning of an order that a checker has come to.
+use Rattle.std.specs.Prelude.{ℕ, List}
+use Rattle.s66_model.specs.Timing.{Problem}
+
+pub record Checked : Type 0 where
+  pub problem : Problem
+  pub numbers : List ℕ

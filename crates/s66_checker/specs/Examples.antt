@@ -1,0 +1,32 @@
+-- Used by examples alone: worked documents with a part changed.
+use Rattle.std.specs.Prelude.{ℕ, List, [], ◌∷◌}
+use Rattle.s66_model.specs.Leaves.{Leaf, Whole}
+use Rattle.s66_model.specs.Tree.{Tree, Parted, Kids, NoMore, Unsplit, Split}
+use Rattle.s66_cert.specs.Document.{Document}
+use Rattle.s66_cert.specs.Examples.{one_load, three_multiplies, after_one}
+
+-- ONE LOAD WITH MORE THAN ONE FAULT
+
+abbrev pub refused_order : Document
+refused_order = record one_load { numbers = 2 ∷ 1 ∷ 3 ∷ []; time = 99 }
+
+abbrev pub refused_profile : Document
+refused_profile = record one_load { profile = 4 ∷ []; numbers = 2 ∷ 1 ∷ 3 ∷ [] }
+
+-- THREE MULTIPLIES WITH ANOTHER TREE, the first line of which is line 10
+
+abbrev pub multiplies_split : List ℕ → Kids Leaf → Document
+multiplies_split numbers kids = record three_multiplies { tree = Parted numbers kids }
+
+-- what stands after 1
+abbrev pub second_line : (Kids Leaf → Kids Leaf) → Document
+second_line kid = multiplies_split (1 ∷ 2 ∷ 3 ∷ []) (kid (after_one 1 3 (after_one 1 2 NoMore)))
+
+-- what stands after 1 and 2
+abbrev pub third_line : (Kids Leaf → Kids Leaf) → Document
+third_line kid = second_line (Split (2 ∷ 3 ∷ []) (kid (Split (2 ∷ []) (Unsplit Whole NoMore) NoMore)))
+
+-- what stands after 3, 2 and 1
+abbrev pub last_leaf : Leaf → Document
+last_leaf leaf =
+    multiplies_split (1 ∷ 2 ∷ 3 ∷ []) (after_one 2 3 (after_one 1 3 (Split (1 ∷ 2 ∷ []) (Split (2 ∷ []) (Unsplit Whole NoMore) (Split (1 ∷ []) (Unsplit leaf NoMore) NoMore)) NoMore)))

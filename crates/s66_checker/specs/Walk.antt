@@ -1,0 +1,22 @@
+-- Used by contracts: the prefixes that a walk over the lines of a tree comes to, each split into all its ready numbers.
+use Rattle.std.specs.Prelude.{◌≡◌, ℕ, Bool, true, false, List, [], ◌∷◌, ◌++◌}
+use Rattle.s66_isa.specs.declared.instr.Instr.{Instr}
+use Rattle.s66_model.specs.LegalOrder.{ready}
+use Rattle.s66_model.specs.Later.{children, later}
+use Rattle.s66_model.specs.Leaves.{Leaf}
+use Rattle.s66_model.specs.Tree.{Knot, AtTip, AtSplit}
+
+-- what is to come where the walk goes on with this prefix, and where it has ended
+abbrev pub coming : List Instr → Bool → List ℕ → List (List ℕ)
+coming block true prefix = prefix ∷ later block [] prefix
+coming block false prefix = []
+
+-- what is to come after a line at this prefix
+abbrev pub after_line : List Instr → List ℕ → Knot Leaf → List (List ℕ)
+after_line block prefix (AtTip leaf) = later block [] prefix
+after_line block prefix (AtSplit numbers) = children prefix numbers ++ later block [] prefix
+
+-- where it is a split, it has the ready numbers
+abbrev pub HasReady : List Instr → List ℕ → Knot Leaf → Type 0
+HasReady block prefix (AtTip leaf) = Unit {0}
+HasReady block prefix (AtSplit numbers) = numbers ≡ ready block prefix

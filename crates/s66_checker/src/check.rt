@@ -1,0 +1,106 @@
+ghost use Rattle.std.specs.Prelude.{◌≡◌, ◌≤◌, ℕ, List, Some, None, if◌then◌else◌, bytes_eq, length, map};
+ghost use Rattle.std.specs.declared.alloc.Global.{Global};
+ghost use Rattle.std.specs.declared.vec.Vec.{Vec};
+ghost use Rattle.s66_isa.specs.Table.{standard};
+ghost use Rattle.s66_line.specs.declared.limits.TheConstants.{BLOCK_LIMIT, TEXT_LIMIT};
+ghost use Rattle.s66_model.specs.Timing.{total_of};
+ghost use Rattle.s66_cert.specs.Document.{AreInstructions, profile_numbers};
+ghost use Rattle.s66_cert.specs.Parts.{document_of};
+ghost use Rattle.s66_checker.specs.Verdict.{instr_in, is_legal_order, verdict};
+
+use crate::prefix::Prefix;
+use crate::verdict::{Reason, Verdict};
+use crate::walk::tree_verdict;
+use arrayvec::ArrayVec;
+use s66_cert::{Document, PROFILE_LENGTH};
+use s66_isa::Instr;
+use s66_line::{BLOCK_LIMIT, instruction_in};
+
+/// The numbers of the standard profile.
+const STANDARD: [u8; PROFILE_LENGTH] = [3, 3, 4, 4, 3, 10, 29, 8, 3, 8, 1, 1, 1, 1, 2, 1, 2];
+
+/// Whether these are the numbers of the standard profile.
+fn is_standard(profile: &[u8]) -> bool
+    ensures { result ≡ bytes_eq profile.now (profile_numbers standard) }
+{
+    profile == STANDARD.as_slice()
+}
+
+/// The instruction that a text spells.
+fn instruction_of(text: &[u8]) -> Instr
+    requires { length text.now ≤ TEXT_LIMIT }
+    ensures { result ≡ instr_in text.now }
+{
+    match instruction_in(text) {
+        Some(instr) => instr,
+        None => Instr::default(),
+    }
+}
+
+/// The instructions that the texts spell.
+fn instructions_of(texts: &[Vec<u8>]) -> ArrayVec<Instr, BLOCK_LIMIT>
+    requires few { length texts.now ≤ BLOCK_LIMIT }
+    requires texts { AreInstructions (map (λ (text : Vec ℕ Global). text.items) texts.now) }
+    ensures { result.items ≡ map instr_in (map (λ (text : Vec ℕ Global). text.items) texts.now) }
+{
+    let mut instrs = ArrayVec::new();
+    for text in texts {
+        instrs.push(instruction_of(text.as_slice()));
+    }
+    instrs
+}
+
+/// What an order of the block takes, in minor cycles; none where it isn't legal.
+fn legal_total(block: &[Instr], order: &[u8]) -> Option<u32>
+    requires some { 1 ≤ length block.now }
+    requires few { length block.now ≤ BLOCK_LIMIT }
+    ensures { result ≡ (if is_legal_order block.now order.now then Some (total_of (record { block = block.now; profile = standard }) order.now) else None) }
+{
+    let mut prefix = Prefix::new(block);
+    for number in order {
+        if !prefix.is_ready(*number) {
+            return None;
+        }
+        prefix.push(*number);
+    }
+    if order.len() == block.len() {
+        Some(prefix.total())
+    } else {
+        None
+    }
+}
+
+/// The verdict on a document: yes with its time and its bound exactly where what it claims is true, and else its first fault, that of
+/// the profile, of the order, of the time, of the bound, or of a line of the tree. It allocates nothing, and stands on no other timing
+/// and no other test of dependence than its own.
+pub fn verify(document: &Document) -> Verdict
+    ensures { result ≡ verdict (document_of document.now) }
+{
+    let block = instructions_of(document.block());
+    let count = block.len() as u32;
+    if !is_standard(document.profile()) {
+        return Verdict::No {
+            line: 2,
+            reason: Reason::Profile,
+        };
+    }
+    let Some(total) = legal_total(block.as_slice(), document.order()) else {
+        return Verdict::No {
+            line: count + 6,
+            reason: Reason::Order,
+        };
+    };
+    if total != document.time() {
+        return Verdict::No {
+            line: count + 4,
+            reason: Reason::Time,
+        };
+    }
+    if document.bound() > document.time() {
+        return Verdict::No {
+            line: count + 5,
+            reason: Reason::Bound,
+        };
+    }
+    tree_verdict(document, Prefix::new(block.as_slice()))
+}

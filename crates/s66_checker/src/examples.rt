@@ -1,0 +1,66 @@
+//! Worked verdicts.
+#![tactic(auto, unfolding(s66_isa::specs::Table::row, s66_model::specs::Dependence::conflict, s66_model::specs::Timing::issue_of, s66_model::specs::Timing::start_of, s66_model::specs::Timing::point))]
+
+ghost use Rattle.std.specs.Prelude.{[], ◌∷◌, ◌≡◌};
+ghost use Rattle.s66_isa.specs.declared.instr.Kind.TheVariants.{Boolean, Multiply};
+ghost use Rattle.s66_model.specs.Leaves.{Whole, Chain, Load, Parcels};
+ghost use Rattle.s66_model.specs.Tree.{Alone, Parted, NoMore, Unsplit, Split};
+ghost use Rattle.s66_cert.specs.Examples as examples;
+ghost use Rattle.s66_cert.specs.Examples.{after_one, with_times, with_order, with_chain, with_tree};
+ghost use Rattle.s66_checker.specs.declared.verdict.Verdict.TheVariants.{Yes, No};
+ghost use Rattle.s66_checker.specs.declared.verdict.Reason.TheVariants as fault;
+ghost use Rattle.s66_checker.specs.Verdict.{verdict};
+ghost use Rattle.s66_checker.specs.Examples.{refused_order, refused_profile, multiplies_split, second_line, third_line, last_leaf};
+
+/// Verdicts on the worked documents: a leaf of each kind, and whole orders alone.
+pub fn verdict_examples()
+    ensures three_multiplies { verdict examples.three_multiplies ≡ Yes 22 22 }
+    ensures store_then_load { verdict examples.store_then_load ≡ Yes 9 9 }
+    ensures one_load { verdict examples.one_load ≡ Yes 12 12 }
+    ensures two_booleans { verdict examples.two_booleans ≡ Yes 8 8 }
+    ensures zero_register { verdict examples.zero_register ≡ Yes 6 6 }
+    ensures bound_11 { verdict (with_times 12 11) ≡ Yes 12 11 }
+{}
+
+/// Verdicts on documents of one load, a part of which is changed: the first fault stands, in the order of profile, order, time, bound
+/// and tree.
+pub fn fault_examples()
+    ensures bound_13 { verdict (with_times 12 13) ≡ No 8 fault.Bound }
+    ensures source_order { verdict (with_order (1 ∷ 2 ∷ 3 ∷ [])) ≡ No 7 fault.Time }
+    ensures dependence_broken { verdict (with_order (2 ∷ 1 ∷ 3 ∷ [])) ≡ No 9 fault.Order }
+    ensures number_twice { verdict (with_order (1 ∷ 3 ∷ 3 ∷ [])) ≡ No 9 fault.Order }
+    ensures order_too_short { verdict (with_order (1 ∷ 3 ∷ [])) ≡ No 9 fault.Order }
+    ensures order_too_long { verdict (with_order (1 ∷ 3 ∷ 2 ∷ 2 ∷ [])) ≡ No 9 fault.Order }
+    ensures wrong_order_hides_the_time { verdict refused_order ≡ No 9 fault.Order }
+    ensures wrong_time_hides_the_bound { verdict (with_times 11 13) ≡ No 7 fault.Time }
+    ensures wrong_profile_hides_the_order { verdict refused_profile ≡ No 2 fault.Profile }
+{}
+
+/// Verdicts on documents of one load with another tree.
+pub fn leaf_examples()
+    ensures chain_without_a_link { verdict (with_chain (1 ∷ 3 ∷ [])) ≡ No 10 fault.Chain }
+    ensures chain_falls { verdict (with_chain (2 ∷ 1 ∷ [])) ≡ No 10 fault.Chain }
+    ensures chain_of_a_number_too_great { verdict (with_chain (4 ∷ [])) ≡ No 10 fault.Chain }
+    ensures chain_of_nothing { verdict (with_chain []) ≡ No 10 fault.Chain }
+    ensures chain_below_the_bound { verdict (with_chain (2 ∷ [])) ≡ No 10 fault.Value }
+    ensures load_below_the_bound { verdict (with_tree (Alone (Load Boolean))) ≡ No 10 fault.Value }
+    ensures parcels_below_the_bound { verdict (with_tree (Alone Parcels)) ≡ No 10 fault.Value }
+    ensures whole_order_too_soon { verdict (with_tree (Alone Whole)) ≡ No 10 fault.Place }
+    ensures child_not_ready { verdict (with_tree (Parted (1 ∷ 2 ∷ 3 ∷ []) (Unsplit Parcels (Unsplit Parcels (Unsplit Parcels NoMore))))) ≡ No 10 fault.Children }
+{}
+
+/// Verdicts on documents of three multiplies with another tree.
+pub fn split_examples()
+    ensures child_omitted { verdict (multiplies_split (1 ∷ 2 ∷ []) (after_one 2 3 (after_one 1 3 NoMore))) ≡ No 10 fault.Children }
+    ensures children_not_rising { verdict (multiplies_split (1 ∷ 3 ∷ 2 ∷ []) (after_one 2 3 (after_one 1 3 (after_one 1 2 NoMore)))) ≡ No 10 fault.Children }
+    ensures child_below_omitted { verdict (second_line (Split (2 ∷ []) (Unsplit Whole NoMore))) ≡ No 11 fault.Children }
+    ensures chain_of_a_placed_number { verdict (third_line (Unsplit (Chain (1 ∷ [])))) ≡ No 12 fault.Chain }
+    ensures chain_below_the_bound { verdict (third_line (Unsplit (Chain (3 ∷ [])))) ≡ No 12 fault.Value }
+    ensures load_below_the_bound { verdict (third_line (Unsplit (Load Multiply))) ≡ No 12 fault.Value }
+    ensures whole_order_too_soon { verdict (third_line (Unsplit Whole)) ≡ No 12 fault.Place }
+    ensures parcels_at_a_whole_order { verdict (third_line (Split (3 ∷ []) (Unsplit Parcels NoMore))) ≡ No 13 fault.Place }
+    ensures load_at_a_whole_order { verdict (third_line (Split (3 ∷ []) (Unsplit (Load Multiply) NoMore))) ≡ No 13 fault.Place }
+    ensures chain_at_a_whole_order { verdict (third_line (Split (3 ∷ []) (Unsplit (Chain (3 ∷ [])) NoMore))) ≡ No 13 fault.Place }
+    ensures split_of_a_whole_order { verdict (third_line (Split (3 ∷ []) (Split (1 ∷ []) (Unsplit Whole NoMore) NoMore))) ≡ No 13 fault.Children }
+    ensures last_line { verdict (last_leaf Parcels) ≡ No 25 fault.Place }
+{}

@@ -1,0 +1,172 @@
+//! Values of leaves, in minor cycles, and the numbers that are ready.
+
+ghost use Rattle.std.specs.Prelude.{ℕ, ◌≡◌, ◌+◌, ◌-◌, ◌≤◌, ◌<◌, ◌^◌, ◌&&◌, nat_lt, true, length, IfSome};
+ghost use Rattle.s66_line.specs.declared.limits.TheConstants.{BLOCK_LIMIT};
+ghost use Rattle.std.specs.Option.{is_some};
+ghost use Rattle.s66_model.specs.Timing.{points_of, row_at, next};
+ghost use Rattle.s66_model.specs.LegalOrder.{is_remaining, ready, sum_remaining};
+ghost use Rattle.s66_model.specs.Leaves.{Chain, head, link, is_linked, walk, work_of, over, if_last, parcels, load, chain_value};
+ghost use Rattle.s66_checker.specs.Kept.{TOTAL_LIMIT};
+ghost use Rattle.s66_checker.specs.Verdict.{has_links, is_walk};
+
+use crate::links::{link, own_parcels, tail, work};
+use crate::needs::Numbers;
+use crate::prefix::Prefix;
+use crate::timing::{next, registers_done, rest_busy, writes_done};
+use arrayvec::ArrayVec;
+use s66_isa::{Kind, Profile};
+
+/// What is ready after the prefix, rising.
+pub fn ready(prefix: &Prefix) -> Numbers
+    ensures { result.items ≡ ready prefix.now.problem.block prefix.now.numbers }
+{
+    let mut ready = ArrayVec::new();
+    for position in 0..prefix.count() {
+        if prefix.is_ready(position + 1) {
+            ready.push(position + 1);
+        }
+    }
+    ready
+}
+
+/// The parcels of all that remains.
+fn remaining_parcels(prefix: &Prefix) -> u32
+    ensures value { result ≡ sum_remaining prefix.now.problem.block prefix.now.numbers (λ m. (row_at prefix.now.problem m).parcels) }
+    ensures at_most { result ≤ 128 }
+{
+    let mut parcels = 0;
+    for position in 0..prefix.count() {
+        if prefix.is_remaining(position + 1) {
+            parcels += own_parcels(prefix.row(position + 1));
+        }
+    }
+    parcels
+}
+
+/// When all units are free and all results are done at least where this number is the last, all others that remain have so many
+/// parcels with it, and the first of them issues in this slot.
+fn if_last(prefix: &Prefix, slot: u32, parcels: u32, n: u8) -> u32
+    requires within { (1 ≤ n) × (n ≤ length prefix.now.problem.block) }
+    requires slot { (slot ≡ next (points_of prefix.now.problem prefix.now.numbers)) × (slot ≤ TOTAL_LIMIT + 1) }
+    requires parcels { (parcels ≡ sum_remaining prefix.now.problem.block prefix.now.numbers (λ m. (row_at prefix.now.problem m).parcels)) × (parcels ≤ 128) }
+    ensures { result ≡ if_last prefix.now.problem prefix.now.numbers n }
+{
+    let row = prefix.row(n);
+    slot + parcels.saturating_sub(own_parcels(row)) + tail(row)
+}
+
+/// The parcels that remain after the next slot, and the least tail behind them.
+pub fn parcels(prefix: &Prefix) -> u32
+    ensures { result ≡ parcels prefix.now.problem prefix.now.numbers }
+{
+    let slot = next(prefix.points());
+    let parcels = remaining_parcels(prefix);
+    let mut least = None;
+    for position in 0..prefix.count() {
+        if prefix.is_remaining(position + 1) {
+            let end = if_last(prefix, slot, parcels, position + 1);
+            least = match least {
+                None => Some(end),
+                Some(other) => Some(end.min(other)),
+            };
+        }
+    }
+    match least {
+        None => 0,
+        Some(end) => end,
+    }
+}
+
+/// The work that remains for a kind of unit.
+fn remaining_work(prefix: &Prefix, kind: Kind) -> u32
+    ensures value { result ≡ sum_remaining prefix.now.problem.block prefix.now.numbers (λ m. work_of kind (row_at prefix.now.problem m)) }
+    ensures at_most { result ≤ TOTAL_LIMIT }
+{
+    let mut sum = 0;
+    for position in 0..prefix.count() {
+        if prefix.is_remaining(position + 1) {
+            sum += work(prefix.row(position + 1), kind);
+        }
+    }
+    sum
+}
+
+/// How long so many units work, where the work is parted among them: rounded up.
+fn over(work: u32, copies: u32) -> u32
+    requires copies { (1 ≤ copies) × (copies ≤ 100) }
+    requires work { work + 100 < 2 ^ 32 }
+    ensures value { result ≡ over work copies }
+    ensures at_most { result ≤ work + 100 }
+{
+    (work + (copies - 1)) / copies
+}
+
+/// The load of a kind of unit: what remains for its copies and what they still work on, after the next slot.
+pub fn load(prefix: &Prefix, kind: Kind) -> u32
+    ensures { result ≡ load prefix.now.problem prefix.now.numbers kind }
+{
+    let slot = next(prefix.points());
+    let work = remaining_work(prefix, kind) + rest_busy(prefix.points(), kind, slot);
+    over(work, Profile::standard().copies(kind)) + slot
+}
+
+/// When the instruction of a number starts at soonest: next, and where the registers are done that it reads or writes.
+fn head(prefix: &Prefix, n: u8) -> u32
+    requires { (1 ≤ n) × (n ≤ length prefix.now.problem.block) }
+    ensures value { result ≡ head (points_of prefix.now.problem prefix.now.numbers) (row_at prefix.now.problem n) }
+    ensures at_most { result ≤ TOTAL_LIMIT + 1 }
+{
+    let row = prefix.row(n);
+    let points = prefix.points();
+    let read = registers_done(points, row.reads.as_slice());
+    let written = writes_done(points, row.writes.as_slice());
+    next(points).max(read.max(written))
+}
+
+/// How long m waits from the start of n, which remains: 0 where m doesn't, or they have no link.
+fn wait(prefix: &Prefix, n: u8, m: u8) -> u32
+    requires { is_remaining prefix.now.problem.block prefix.now.numbers n ≡ true }
+    ensures links { nat_lt 0 result ≡ (is_remaining prefix.now.problem.block prefix.now.numbers m && is_linked prefix.now.problem n m) }
+    ensures value { 0 < result → result ≡ link (row_at prefix.now.problem n) (row_at prefix.now.problem m) }
+{
+    if !prefix.is_remaining(m) || m <= n {
+        return 0;
+    }
+    link(prefix.row(n), prefix.row(m))
+}
+
+/// How long the walk from a number that remains along these takes, from its start to the end of the last: none where one of these
+/// doesn't remain, or neighbours have no link.
+fn walk(prefix: &Prefix, n: u8, later: &[u8]) -> Option<u32>
+    requires few { length prefix.now.problem.block ≤ BLOCK_LIMIT }
+    requires remains { is_remaining prefix.now.problem.block prefix.now.numbers n ≡ true }
+    ensures links { is_some result ≡ is_walk prefix.now.problem prefix.now.numbers n later.now }
+    ensures value { IfSome result (λ time. time ≡ walk prefix.now.problem n later.now) }
+    ensures at_most { IfSome result (λ time. time ≤ TOTAL_LIMIT) }
+{
+    let mut last = n;
+    let mut time = 0;
+    for m in later {
+        let wait = wait(prefix, last, *m);
+        if wait == 0 {
+            return None;
+        }
+        time += wait;
+        last = *m;
+    }
+    Some(time + tail(prefix.row(last)))
+}
+
+/// The value of a chain, or none where one of its numbers doesn't remain, or neighbours have no link.
+pub fn chain_value(prefix: &Prefix, numbers: &[u8]) -> Option<u32>
+    requires { length prefix.now.problem.block ≤ BLOCK_LIMIT }
+    ensures links { is_some result ≡ has_links prefix.now.problem prefix.now.numbers (Chain numbers.now) }
+    ensures value { IfSome result (λ value. value ≡ chain_value prefix.now.problem prefix.now.numbers numbers.now) }
+{
+    let (first, later) = numbers.split_first()?;
+    if !prefix.is_remaining(*first) {
+        return None;
+    }
+    let time = walk(prefix, *first, later)?;
+    Some(head(prefix, *first) + time)
+}

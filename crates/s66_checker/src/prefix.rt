@@ -1,0 +1,164 @@
+ghost use Rattle.std.specs.Prelude.{◌≡◌, ◌≤◌, length};
+ghost use Rattle.s66_line.specs.declared.limits.TheConstants.{BLOCK_LIMIT};
+
+use crate::needs::{Numbers, needs_of_all};
+use crate::point::KeptPoint;
+use crate::row::{Row, row_of, rows_of};
+use crate::timing::{next_point, total};
+use arrayvec::ArrayVec;
+use s66_isa::Instr;
+use s66_line::BLOCK_LIMIT;
+use std::marker::Model;
+
+/// The beginning of an order of a block that a checker has come to, with the times of its instructions under the standard profile.
+#[derive(Debug, Drop)]
+pub(crate) struct Prefix {
+    block: ArrayVec<Instr, BLOCK_LIMIT>,
+    rows: ArrayVec<Row, BLOCK_LIMIT>,
+    needs: ArrayVec<Numbers, BLOCK_LIMIT>,
+    /// Whether each number is placed; the place of a number is one less than it.
+    placed: [bool; BLOCK_LIMIT],
+    numbers: Numbers,
+    /// The oldest first.
+    points: ArrayVec<KeptPoint, BLOCK_LIMIT>,
+}
+
+impl Model for Prefix {
+    ghost use Rattle.s66_checker.specs.Checked.{Checked};
+    ghost use Rattle.s66_checker.specs.Kept.{IsPrefix, under_standard};
+
+    ghost Value = { Checked };
+
+    ghost view = { λ p. record { problem = under_standard p.block.items; numbers = p.numbers.items } };
+
+    ghost invariant = { λ p. IsPrefix p.block.items p.rows.items p.needs.items p.placed p.numbers.items p.points.items };
+}
+
+/// The same instructions.
+fn copy_of(block: &[Instr]) -> ArrayVec<Instr, BLOCK_LIMIT>
+    requires { length block.now ≤ BLOCK_LIMIT }
+    ensures { result.items ≡ block.now }
+{
+    let mut copy = ArrayVec::new();
+    for instr in block {
+        copy.push(*instr);
+    }
+    copy
+}
+
+impl Prefix {
+    ghost use Rattle.std.specs.Prelude.{ℕ, ◌++◌, [], ◌∷◌, true, IfSome, IfNone, reverse};
+    ghost use Rattle.s66_isa.specs.Table.{standard};
+    ghost use Rattle.s66_model.specs.Timing.{points_of, row_at, total_of};
+    ghost use Rattle.s66_model.specs.LegalOrder.{IsBeginning, is_remaining, is_ready, needs_met};
+    ghost use Rattle.s66_checker.specs.Kept.{AreTimed};
+
+    /// Before the first instruction of a block. Each pair of its instructions is looked at once.
+    pub(crate) fn new(block: &[Instr]) -> Prefix
+        requires some { 1 ≤ length block.now }
+        requires few { length block.now ≤ BLOCK_LIMIT }
+        ensures { result ≡ record { problem = record { block = block.now; profile = standard }; numbers = [] } }
+    {
+        Prefix {
+            block: copy_of(block),
+            rows: rows_of(block),
+            needs: needs_of_all(block),
+            placed: [false; BLOCK_LIMIT],
+            numbers: ArrayVec::new(),
+            points: ArrayVec::new(),
+        }
+    }
+
+    /// How many instructions the block has.
+    pub(crate) fn count(&self) -> u8
+        ensures value { result ≡ length self.now.problem.block }
+        ensures some { 1 ≤ result }
+        ensures few { result ≤ BLOCK_LIMIT }
+    {
+        self.block.len() as u8
+    }
+
+    /// The numbers in order, from 1.
+    pub(crate) fn numbers(&self) -> &[u8]
+        ensures value { result.now ≡ self.now.numbers }
+        ensures begins { IsBeginning self.now.problem.block self.now.numbers }
+    {
+        self.numbers.as_slice()
+    }
+
+    /// The points of its numbers, with the oldest first.
+    pub(crate) fn points(&self) -> &[KeptPoint]
+        ensures value { reverse result.now ≡ points_of self.now.problem self.now.numbers }
+        ensures timed { AreTimed result.now }
+        ensures profile { self.now.problem.profile ≡ standard }
+    {
+        self.points.as_slice()
+    }
+
+    /// The row of the instruction of a number.
+    pub(crate) fn row(&self, n: u8) -> &Row
+        requires { (1 ≤ n) × (n ≤ length self.now.problem.block) }
+        ensures { result.now ≡ row_at self.now.problem n }
+    {
+        &self.rows.as_slice()[n as usize - 1]
+    }
+
+    /// Whether it is a number of the block that isn't placed.
+    pub(crate) fn is_remaining(&self, n: u8) -> bool
+        ensures { result ≡ is_remaining self.now.problem.block self.now.numbers n }
+    {
+        1 <= n && n as usize <= self.block.len() && !self.placed[n as usize - 1]
+    }
+
+    /// Whether all that the instruction of a number depends on is placed.
+    fn needs_met(&self, n: u8) -> bool
+        requires { (1 ≤ n) × (n ≤ length self.now.problem.block) }
+        ensures { result ≡ needs_met self.now.problem.block self.now.numbers n n }
+    {
+        for need in self.needs[n as usize - 1].as_slice() {
+            if self.is_remaining(*need) {
+                return false;
+            }
+        }
+        true
+    }
+
+    /// Whether a number may stand next: it remains, and all that it depends on is placed.
+    pub(crate) fn is_ready(&self, n: u8) -> bool
+        ensures { result ≡ is_ready self.now.problem.block self.now.numbers n }
+    {
+        self.is_remaining(n) && self.needs_met(n)
+    }
+
+    /// Places a number that is ready, by looking back at all that is placed.
+    pub(crate) fn push(&mut self, n: u8)
+        requires { is_ready self.old.problem.block self.old.numbers n ≡ true }
+        ensures { self.new ≡ record self.old { numbers = self.old.numbers ++ n ∷ [] } }
+    {
+        let row = row_of(&self.block[n as usize - 1]);
+        let point = next_point(self.points.as_slice(), n, row);
+        self.points.push(point);
+        self.numbers.push(n);
+        self.placed[n as usize - 1] = true;
+    }
+
+    /// Takes the last number off, where there is one.
+    pub(crate) fn pop(&mut self) -> Option<u8>
+        ensures problem { self.new.problem ≡ self.old.problem }
+        ensures some { IfSome result (λ n. self.old.numbers ≡ self.new.numbers ++ n ∷ []) }
+        ensures none { IfNone result (self.old.numbers ≡ []) }
+        ensures same { IfNone result (self.new ≡ self.old) }
+    {
+        let n = self.numbers.pop()?;
+        self.points.pop();
+        self.placed[n as usize - 1] = false;
+        Some(n)
+    }
+
+    /// When all units are free and all results are done, in minor cycles from the issue of the first instruction.
+    pub(crate) fn total(&self) -> u32
+        ensures { result ≡ total_of self.now.problem self.now.numbers }
+    {
+        total(self.points.as_slice())
+    }
+}

@@ -1,0 +1,92 @@
+ghost use Rattle.std.specs.Prelude.{◌≡◌, ◌+◌, ◌<◌, ◌^◌, if◌then◌else◌};
+ghost use Rattle.s66_isa.specs.Lists.{greatest};
+ghost use Rattle.s66_isa.specs.Table.{same_reg};
+ghost use Rattle.s66_model.specs.Timing.{ResultAt as ResultOf, free_after};
+
+use s66_isa::{Reg, is_same_register};
+use std::marker::Model;
+
+/// A result: its register, the minor cycle in which it is done, and whether the unit holds it.
+#[derive(Clone, Copy, Debug, Default, Drop)]
+pub struct ResultAt {
+    pub reg: Reg,
+    pub time: u32,
+    pub held: bool,
+}
+
+impl Model for ResultAt {
+    ghost use Rattle.s66_model.specs.Timing.{ResultAt};
+
+    ghost Value = { ResultAt };
+
+    ghost view = { λ d. record { reg = d.reg; time = d.time; held = d.held } };
+
+    ghost inverse = { λ d. record { reg = d.reg; time = d.time; held = d.held } };
+}
+
+impl ResultAt {
+    /// When it is done, 0 where it is in another register.
+    fn time_in(&self, register: Reg) -> u32
+        ensures { result ≡ if same_reg self.now.reg register then self.now.time else 0 }
+    {
+        if is_same_register(self.reg, register) {
+            self.time
+        } else {
+            0
+        }
+    }
+
+    /// When it is done, 0 where the unit doesn't hold it.
+    fn held_time(&self) -> u32
+        ensures { result ≡ if self.now.held then self.now.time else 0 }
+    {
+        if self.held { self.time } else { 0 }
+    }
+}
+
+/// When the last of these results in a register is done, 0 where there is none.
+pub fn done_in(results: &[ResultAt], register: Reg) -> u32
+    ensures { result ≡ greatest (λ (d : ResultOf). if same_reg d.reg register then d.time else 0) results.now }
+{
+    let mut last = 0u32;
+    for done in results {
+        last = last.max(done.time_in(register));
+    }
+    last
+}
+
+/// When the last of these results is done, 0 where there is none.
+pub fn last_time(results: &[ResultAt]) -> u32
+    ensures { result ≡ greatest (λ (d : ResultOf). d.time) results.now }
+{
+    let mut last = 0u32;
+    for done in results {
+        last = last.max(done.time);
+    }
+    last
+}
+
+/// When the last of these results that the unit holds is done, 0 where there is none.
+fn last_held_time(results: &[ResultAt]) -> u32
+    ensures { result ≡ greatest (λ (d : ResultOf). if d.held then d.time else 0) results.now }
+{
+    let mut last = 0u32;
+    for done in results {
+        last = last.max(done.held_time());
+    }
+    last
+}
+
+/// When the unit of an instruction is free: one minor cycle after the last result that it holds, or after its hold where
+/// nothing is written.
+pub fn free_after(start: u32, hold: u32, results: &[ResultAt]) -> u32
+    requires start { start + hold + 1 < 2 ^ 32 }
+    requires results { greatest (λ (d : ResultOf). d.time) results.now + 1 < 2 ^ 32 }
+    ensures { result ≡ free_after start hold results.now }
+{
+    if results.is_empty() {
+        start + hold + 1
+    } else {
+        last_held_time(results) + 1
+    }
+}

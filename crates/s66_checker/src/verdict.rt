@@ -1,0 +1,50 @@
+ghost use Rattle.std.specs.Prelude.{◌≡◌};
+ghost use Rattle.s66_checker.specs.Reasons.{number_of};
+
+/// What a checker says of a document.
+#[derive(Clone, Copy, Debug, PartialEq, Eq)]
+pub enum Verdict {
+    /// The order is legal and takes the time, and no legal order takes less than the bound; both in minor cycles.
+    Yes { time: u32, bound: u32 },
+    /// The first fault: its line, from the document's first, which is 1, and what is wrong there.
+    No { line: u32, reason: Reason },
+}
+
+/// What is wrong with a line of a document.
+#[derive(Clone, Copy, Debug, PartialEq, Eq)]
+pub enum Reason {
+    /// `ORDER` is no legal order.
+    Order,
+    /// `TIME` isn't the order's total.
+    Time,
+    /// The children of a split aren't exactly the ready instructions in rising number.
+    Children,
+    /// A chain has a number that doesn't remain, or neighbours without a link.
+    Chain,
+    /// A leaf's value is below `BOUND`.
+    Value,
+    /// A whole order at a prefix that isn't complete, or another leaf at one that is.
+    Place,
+    /// `PROFILE` isn't the standard profile.
+    Profile,
+    /// `BOUND` is above `TIME`.
+    Bound,
+}
+
+impl Reason {
+    /// The number by which it is printed, 1 to 8.
+    pub fn number(self) -> u32
+        ensures { result ≡ number_of self }
+    {
+        match self {
+            Reason::Order => 1,
+            Reason::Time => 2,
+            Reason::Children => 3,
+            Reason::Chain => 4,
+            Reason::Value => 5,
+            Reason::Place => 6,
+            Reason::Profile => 7,
+            Reason::Bound => 8,
+        }
+    }
+}

@@ -1,0 +1,79 @@
+ghost use Rattle.std.specs.Prelude.{◌≡◌, []};
+ghost use Rattle.s66_model.specs.Later.{IsNextReady, later};
+ghost use Rattle.s66_cert.specs.Parts.{document_of, knot_of};
+ghost use Rattle.s66_checker.specs.Verdict.{problem_of, tree_placed, tree_line, lines_verdict};
+ghost use Rattle.s66_checker.specs.Walk.{coming, after_line, HasReady};
+
+use crate::prefix::Prefix;
+use crate::verdict::Verdict;
+use s66_cert::{Document, TreeLine};
+
+/// The least number above another that is ready after the prefix.
+fn next_ready(prefix: &Prefix, n: u8) -> Option<u8>
+    ensures { IsNextReady prefix.now.problem.block prefix.now.numbers n result }
+{
+    let count = prefix.count();
+    let mut number = n;
+    while number < count {
+        number += 1;
+        if prefix.is_ready(number) {
+            return Some(number);
+        }
+    }
+    None
+}
+
+/// Goes on to the prefix after a leaf, and answers whether there is one: the last number gives way to the next one that is ready in
+/// its place, and where there is none the number before it does.
+fn advance(prefix: &mut Prefix) -> bool
+    ensures next { coming prefix.old.problem.block result prefix.new.numbers ≡ later prefix.old.problem.block [] prefix.old.numbers }
+    ensures problem { prefix.new.problem ≡ prefix.old.problem }
+{
+    while let Some(last) = prefix.pop() {
+        if let Some(next) = next_ready(prefix, last) {
+            prefix.push(next);
+            return true;
+        }
+    }
+    false
+}
+
+/// Goes on to the prefix after a line, and answers whether there is one.
+fn go_on(prefix: &mut Prefix, line: TreeLine<'_>) -> bool
+    requires { HasReady prefix.old.problem.block prefix.old.numbers (knot_of line) }
+    ensures next { coming prefix.old.problem.block result prefix.new.numbers ≡ after_line prefix.old.problem.block prefix.old.numbers (knot_of line.entry) }
+    ensures problem { prefix.new.problem ≡ prefix.old.problem }
+{
+    if let TreeLine::Split(numbers) = line {
+        if let Some(first) = numbers.first() {
+            prefix.push(*first);
+            return true;
+        }
+    }
+    advance(prefix)
+}
+
+/// The verdict on the lines of a document's tree, from the empty prefix of its block on.
+pub(crate) fn tree_verdict(document: &Document, mut prefix: Prefix) -> Verdict
+    requires { prefix ≡ record { problem = problem_of (document_of document.now); numbers = [] } }
+    ensures { result ≡ lines_verdict (document_of document.now) (tree_line (document_of document.now)) (tree_placed [] (document_of document.now).tree) }
+{
+    let mut lines = document.tree();
+    let mut number = u32::from(prefix.count()) + 7;
+    while let Some(line) = lines.next() {
+        if let Some(reason) = prefix.fault(document.bound(), line) {
+            return Verdict::No {
+                line: number,
+                reason,
+            };
+        }
+        if !go_on(&mut prefix, line) {
+            break;
+        }
+        number += 1;
+    }
+    Verdict::Yes {
+        time: document.time(),
+        bound: document.bound(),
+    }
+}
