@@ -16,7 +16,8 @@ use Rattle.s66_line.specs.declared.limits.TheConstants.{BLOCK_LIMIT}
 use Rattle.s66_checker.specs.Checked.{Checked}
 use Rattle.s66_checker.specs.declared.verdict.Verdict.TheVariants.{Yes, No}
 use Rattle.s66_checker.specs.declared.verdict.Reason.{Reason}
-use Rattle.s66_checker.specs.Verdict.{instr_in, problem_of, line_fault, lines_verdict, tree_line, tree_placed}
+use Rattle.s66_line.specs.InstructionText.{instr_in_text}
+use Rattle.s66_checker.specs.Verdict.{problem_of, line_fault, lines_verdict, tree_line, tree_placed}
 use Rattle.s66_checker.specs.Walk.{coming, after_line, HasReady}
 use Rattle.s66_checker.proofs.Faultless.{split-shows}
 use Rattle.s66_checker.proofs.Placed.{placed, none-placed, tree-placed, few-lines}
@@ -107,7 +108,7 @@ module _ (p : Parts) (whole : AreWhole p) (start : Checked) (at : start ≡ reco
   at-line : count + 7 ≡ tree_line d
   unfolding d
   at-line =
-      omega (arith, counted, ap (λ (c : Checked). length c.problem.block) at, length-map p.block instr_in)
+      omega (arith, counted, ap (λ (c : Checked). length c.problem.block) at, length-map p.block instr_in_text)
 
   pub walk-begins : lines_verdict (document_of p) (count + 7) (placed lines (coming (problem_of (document_of p)).block true start.numbers)) ≡ lines_verdict (document_of p) (tree_line (document_of p)) (tree_placed [] (document_of p).tree)
   unfolding d

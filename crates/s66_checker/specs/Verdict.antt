@@ -2,9 +2,8 @@
 use Rattle.std.specs.Prelude.{ℕ, suc, ◌+◌, ◌==◌, ◌&&◌, if◌then◌else◌, Bool, true, false, not, List, [], ◌∷◌, ◌++◌, Option, None, Some, length, map, nat_lt}
 use Rattle.std.specs.Str.{bytes_eq}
 use Rattle.s66_isa.specs.declared.instr.Instr.{Instr}
-use Rattle.s66_isa.specs.Table.{standard, idle_instr}
-use Rattle.s66_line.specs.InstructionText.{operation_in, operand_in}
-use Rattle.s66_line.specs.Operand.{instr_of}
+use Rattle.s66_isa.specs.Table.{standard}
+use Rattle.s66_line.specs.InstructionText.{instr_in_text}
 use Rattle.s66_model.specs.Timing.{Problem, total_of}
 use Rattle.s66_model.specs.LegalOrder.{is_ready, is_remaining, ready}
 use Rattle.s66_model.specs.Leaves.{Leaf, Whole, Chain, Load, Parcels, value, is_linked}
@@ -17,16 +16,8 @@ use Rattle.s66_checker.specs.declared.verdict.Reason.TheVariants as fault
 
 -- ITS BLOCK, under the standard profile
 
--- the instruction that a text spells
-abbrev pub instr_in : List ℕ → Instr
-instr_in text = spelled (instr_of (operation_in text) (operand_in text))
-  where
-    spelled : Option Instr → Instr
-    spelled None = idle_instr
-    spelled (Some n) = n
-
 abbrev pub problem_of : Document → Problem
-problem_of d = record { block = map instr_in d.block; profile = standard }
+problem_of d = record { block = map instr_in_text d.block; profile = standard }
 
 -- ITS ORDER
 

@@ -6,7 +6,8 @@ ghost use Rattle.s66_line.specs.declared.limits.TheConstants.{BLOCK_LIMIT, TEXT_
 ghost use Rattle.s66_model.specs.Timing.{total_of};
 ghost use Rattle.s66_cert.specs.Document.{AreInstructions, profile_numbers};
 ghost use Rattle.s66_cert.specs.Parts.{document_of};
-ghost use Rattle.s66_checker.specs.Verdict.{instr_in, is_legal_order, verdict};
+ghost use Rattle.s66_line.specs.InstructionText.{instr_in_text};
+ghost use Rattle.s66_checker.specs.Verdict.{is_legal_order, verdict};
 
 use crate::prefix::Prefix;
 use crate::verdict::{Reason, Verdict};
@@ -29,7 +30,7 @@ fn is_standard(profile: &[u8]) -> bool
 /// The instruction that a text spells.
 fn instruction_of(text: &[u8]) -> Instr
     requires { length text.now ≤ TEXT_LIMIT }
-    ensures { result ≡ instr_in text.now }
+    ensures { result ≡ instr_in_text text.now }
 {
     match instruction_in(text) {
         Some(instr) => instr,
@@ -41,7 +42,7 @@ fn instruction_of(text: &[u8]) -> Instr
 fn instructions_of(texts: &[Vec<u8>]) -> ArrayVec<Instr, BLOCK_LIMIT>
     requires few { length texts.now ≤ BLOCK_LIMIT }
     requires texts { AreInstructions (map (λ (text : Vec ℕ Global). text.items) texts.now) }
-    ensures { result.items ≡ map instr_in (map (λ (text : Vec ℕ Global). text.items) texts.now) }
+    ensures { result.items ≡ map instr_in_text (map (λ (text : Vec ℕ Global). text.items) texts.now) }
 {
     let mut instrs = ArrayVec::new();
     for text in texts {
