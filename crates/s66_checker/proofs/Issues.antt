@@ -6,32 +6,12 @@ use Rattle.s66_isa.specs.Lists.{greatest, tally}
 use Rattle.s66_isa.specs.Table.{Row, Write, standard, copies_of, has_reg, memory_pair}
 use Rattle.s66_model.specs.Timing.{Problem, Point, ResultAt, done_of, last_done, done_at, total, busy_at, issue_of, start_of, slot_of, parcel_of, copies, result_at, readers_wait, free_after, point, CanIssue}
 use Rattle.s66_isa.proofs.Lists.{cases_le, le-greatest, greatest-le, greatest-same}
-use Rattle.s66_model.proofs.Issue.{none_busy, issue-is}
+use Rattle.s66_model.proofs.Issue.{issue-join}
 use Rattle.s66_checker.specs.Kept.{under_standard, AreTimed}
 use Rattle.s66_checker.proofs.Reversed.{greatest-reverse, tally-reverse}
 use Rattle.s66_checker.proofs.KeptPoints.{timed-latest}
 
 -- ISSUE
-
--- a unit works only before the total
-pub before-total : (kind : Kind) (t : ℕ) (s : List Point) → 1 ≤ tally (busy_at kind t) s → t < total s
-before-total kind t s some =
-    elim (cases_le (total s) t) [
-      | inl past ↦ absurd (omega (arith, none_busy kind t s past))
-      | inr lt ↦ lt
-    ]
-
--- what may issue at the first time, from its slot and the last result on, at which a unit is free, issues then
-issue-join : (b : Problem) (s : List Point) (r : Row) (written t : ℕ) → written ≡ greatest (λ (w : Write). done_of s w.reg) r.writes →
-    max (slot_of s r.parcels) written ≤ t → tally (busy_at r.kind t) s < copies b r.kind →
-    ((u : ℕ) → max (slot_of s r.parcels) written ≤ u → tally (busy_at r.kind u) s < copies b r.kind → t ≤ u) → t ≡ issue_of b s r
-issue-join b s r written t is late free least =
-    let issue = issue-is b s r in
-    let can : CanIssue b s r t = (free, λ p in_s w among. omega (arith, le-greatest (λ (q : Point). done_at q w.reg) p s in_s, le-greatest (λ (v : Write). done_of s v.reg) w r.writes among)) in
-    let above : issue_of b s r ≤ t = issue.least t (omega arith) can in
-    let written_by : written ≤ issue_of b s r = subst (λ x. x ≤ issue_of b s r) (sym is) (greatest-le (λ (w : Write). done_of s w.reg) (issue_of b s r) r.writes (λ w among. greatest-le (λ (q : Point). done_at q w.reg) (issue_of b s r) s (λ q in_s. issue.passes.1 q in_s w among))) in
-    let below : t ≤ issue_of b s r = least (issue_of b s r) (omega (arith, issue.late)) issue.passes.0 in
-    omega arith
 
 done_of-reverse : (xs : List Point) (r : Reg) → done_of (reverse xs) r ≡ done_of xs r
 done_of-reverse xs r = greatest-reverse (λ (p : Point). done_at p r) xs

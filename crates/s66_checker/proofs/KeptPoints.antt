@@ -10,7 +10,7 @@ use Rattle.s66_line.specs.declared.limits.TheConstants.{BLOCK_LIMIT}
 use Rattle.s66_model.specs.Timing.{Problem, Point, end_of, total, done_of, last_done, next, row_at, point_of, points_after, points_of}
 use Rattle.s66_model.specs.Leaves.{rest_busy}
 use Rattle.s66_model.proofs.Growth.{AreSmall, point-ordered, total-le}
-use Rattle.s66_model.proofs.PointTimes.{good-at, point_of-row, issue-le-start, hold-le-free}
+use Rattle.s66_model.proofs.PointTimes.{good-at, points_after-length, point_of-row, issue-le-start, hold-le-free}
 use Rattle.s66_model.proofs.ChainBound.{last-is_greatest}
 use Rattle.s66_checker.specs.Kept.{TOTAL_LIMIT, under_standard, AreTimed}
 use Rattle.s66_checker.proofs.Reversed.{greatest-reverse, reverse-last}
@@ -45,14 +45,10 @@ early xs timed =
 pub timed-small : (xs : List Point) → AreTimed xs → AreSmall (reverse xs)
 timed-small xs timed = (early xs timed).small
 
-pub timed-packed : (xs : List Point) → AreTimed xs → greatest (λ (p : Point). p.parcel - p.issue) (reverse xs) ≡ 0
+timed-packed : (xs : List Point) → AreTimed xs → greatest (λ (p : Point). p.parcel - p.issue) (reverse xs) ≡ 0
 timed-packed xs timed = (early xs timed).packed
 
 -- OF THE OLDEST FIRST
-
-pub points_after-length : (b : Problem) (s : List Point) (ns : List ℕ) → length (points_after b s ns) ≡ length s + length ns
-points_after-length b s [] = omega arith
-points_after-length b s (n ∷ ns) = omega (arith, points_after-length b (point_of b s n ∷ s) ns)
 
 pub timed-few : (xs : List Point) → AreTimed xs → length xs ≤ BLOCK_LIMIT
 timed-few xs timed =

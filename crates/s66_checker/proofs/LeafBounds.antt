@@ -1,6 +1,5 @@
 -- Bounds of what the values of leaves are made of.
-use Rattle.std.proofs.Common.{ℕ, ◌+◌, ◌-◌, ◌*◌, ◌/◌, ◌≤◌, ◌<◌, ◌≡◌, Bool, true, false, true≢false, ◌&&◌, cond, max, List, [], ◌∷◌, reverse, refl, sym, ap, arith, inl, inr, ◌∙◌}
-use Rattle.std.proofs.Math.Nat.{div-le_self}
+use Rattle.std.proofs.Common.{ℕ, ◌+◌, ◌≤◌, ◌<◌, ◌≡◌, Bool, true, false, true≢false, ◌&&◌, cond, max, List, [], ◌∷◌, reverse, refl, sym, ap, arith, inl, inr, ◌∙◌}
 use Rattle.std.proofs.lemmas.Bool.{cond_both, cases_Bool, and_parts, and_from}
 use Rattle.s66_isa.specs.declared.instr.Kind.{Kind}
 use Rattle.s66_isa.specs.declared.reg.Reg.{Reg}
@@ -30,9 +29,6 @@ link-le m n good =
     let used = greatest-le-greatest (λ (w : Write). cond (uses n w.reg) w.latency 0) (λ (w : Write). w.latency) (λ w. cond_both (uses n w.reg) w.latency 0 (λ x. x ≤ w.latency) (λ _. omega arith) (λ _. omega arith)) m.writes in
     let memory = cond_both (memory_pair m.memory n.memory) 1 0 (λ x. x ≤ 1) (λ _. omega arith) (λ _. omega arith) in
     omega (arith, used, memory, latencies-le m good)
-
-pub over-le : (work copies : ℕ) → copies ≤ 100 → over work copies ≤ work + 100
-over-le work copies few = omega (arith, div-le_self (work + (copies - 1)) copies)
 
 -- THE HEAD
 

@@ -7,14 +7,11 @@ use Rattle.s66_isa.specs.Lists.{least, weigh, rising}
 use Rattle.s66_isa.proofs.Lists.{weigh-append}
 use Rattle.s66_model.proofs.Beginnings.{rising-push}
 
-pub rising_more : (n : ℕ) → rising (n + 1) 1 ≡ rising n 1 ++ (n + 1) ∷ []
+rising_more : (n : ℕ) → rising (n + 1) 1 ≡ rising n 1 ++ (n + 1) ∷ []
 rising_more n = rw add-one (rising-push n 1 ∙ ap (λ x. rising n 1 ++ x ∷ []) (omega arith))
 
-pub filter_more : (test : ℕ → Bool) (n : ℕ) → filter test (rising (n + 1) 1) ≡ filter test (rising n 1) ++ filter test ((n + 1) ∷ [])
+filter_more : (test : ℕ → Bool) (n : ℕ) → filter test (rising (n + 1) 1) ≡ filter test (rising n 1) ++ filter test ((n + 1) ∷ [])
 filter_more test n = ap (filter test) (rising_more n) ∙ filter-append test (rising n 1) ((n + 1) ∷ [])
-
-pub weigh_more : (f : ℕ → ℕ) (n : ℕ) → weigh f (rising (n + 1) 1) ≡ weigh f (rising n 1) + f (n + 1)
-weigh_more f n = omega (arith, ap (weigh f) (rising_more n), weigh-append f (rising n 1) ((n + 1) ∷ []))
 
 pub filter_taken : (test : ℕ → Bool) (n : ℕ) (xs : List ℕ) → xs ≡ filter test (rising n 1) → test (n + 1) ≡ true → xs ++ (n + 1) ∷ [] ≡ filter test (rising (n + 1) 1)
 filter_taken test n xs is passes = ap (λ ys. ys ++ (n + 1) ∷ []) is ∙ sym (filter_more test n ∙ rw passes refl)

@@ -10,11 +10,10 @@ use Rattle.s66_line.specs.declared.limits.TheConstants.{BLOCK_LIMIT}
 use Rattle.s66_model.specs.Timing.{Problem, Point, point, point_of, points_of, points_after}
 use Rattle.s66_model.specs.LegalOrder.{IsBeginning, is_ready}
 use Rattle.s66_model.proofs.LegalOrders.{ready-parts, has_push-same, has_push-other, GoesOn-append}
-use Rattle.s66_model.proofs.PointTimes.{points_after-append}
+use Rattle.s66_model.proofs.PointTimes.{points_after-append, points_after-length}
 use Rattle.s66_model.proofs.Remaining.{step-begins}
 use Rattle.s66_checker.specs.Kept.{under_standard, AreNeeds, AreTimed, IsPrefix}
 use Rattle.s66_checker.proofs.Reversed.{reverse-last}
-use Rattle.s66_checker.proofs.KeptPoints.{points_after-length}
 use Rattle.s66_checker.proofs.Readiness.{beginning-few}
 
 pub prefix-timed : (block : List Instr) (rows : List Row) (all : List (ArrayVec ℕ)) (placed : List Bool) (ns : List ℕ) (xs : List Point) → IsPrefix block rows all placed ns xs → AreTimed xs

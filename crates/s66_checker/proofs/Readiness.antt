@@ -32,7 +32,7 @@ remains-unless block prefix m low high h =
     ]
 
 -- all that n depends on is placed where none of it remains
-pub none-remains : (block : List Instr) (prefix : List ℕ) (n : ℕ) → n ≤ length block → every (λ m. not (is_remaining block prefix m)) (needs block n) ≡ needs_met block prefix n n
+none-remains : (block : List Instr) (prefix : List ℕ) (n : ℕ) → n ≤ length block → every (λ m. not (is_remaining block prefix m)) (needs block n) ≡ needs_met block prefix n n
 none-remains block prefix n high =
     both_ways (every (λ m. not (is_remaining block prefix m)) (needs block n)) (needs_met block prefix n n)
     (λ h.

@@ -56,39 +56,43 @@ module _ (block : List Instr) (prefix : List ℕ) (knot : Knot Leaf) (numbers : 
       let (more, cut) = first-of numbers n first in
       split-first block prefix n more (sym ready-numbers ∙ cut) ∙ ap (λ ns. children prefix ns ++ later block [] prefix) (sym cut) ∙ sym (ap (after_line block prefix) is)
 
-  -- a split of nothing
-  pub none-below : None ≡ slice_get numbers 0 → later block [] prefix ≡ after_line block prefix knot
-  none-below none = none-of numbers none ∙ sym (ap (after_line block prefix) is)
-    where
-      none-of : (ns : List ℕ) → None ≡ slice_get ns 0 → later block [] prefix ≡ after_line block prefix (AtSplit ns)
-      none-of [] h = refl
-      none-of (n ∷ ns) h = absurd (cc)
-
 -- FROM LINE TO LINE
 
-pub ready-split : (b : Problem) (bound : ℕ) (prefix : List ℕ) (knot : Knot Leaf) → line_fault b bound prefix knot ≡ None → HasReady b.block prefix knot
-ready-split b bound prefix (AtTip leaf) none = tt
-ready-split b bound prefix (AtSplit numbers) none = (split-shows b bound prefix numbers).0 none
+module _ (d : Document) (number : ℕ) (at : Checked) (same : at.problem ≡ problem_of d) (bound : ℕ) (equal : bound ≡ d.bound) (lines knots : List (Knot Leaf)) (knot : Knot Leaf) (first : lines ≡ knot ∷ knots) (found : Option Reason) (told : found ≡ line_fault at.problem bound at.numbers knot) where
+  told-of : (other : Option Reason) → found ≡ other → line_fault (problem_of d) d.bound at.numbers knot ≡ other
+  told-of other is =
+      subst (λ (b : Problem). line_fault b d.bound at.numbers knot ≡ other) same
+      (subst (λ low. line_fault at.problem low at.numbers knot ≡ other) equal (sym told ∙ is))
 
-module _ (d : Document) (number : ℕ) (prefix : List ℕ) (knot : Knot Leaf) (knots : List (Knot Leaf)) where
   -- a fault ends the walk
-  pub line-refused : (reason : Reason) → line_fault (problem_of d) d.bound prefix knot ≡ Some reason →
-      lines_verdict d number (placed (knot ∷ knots) (coming (problem_of d).block true prefix)) ≡ No number reason
-  line-refused reason some = by knot some
+  pub line-refused : (reason : Reason) → found ≡ Some reason → No number reason ≡ lines_verdict d number (placed lines (coming (problem_of d).block true at.numbers))
+  line-refused reason some =
+      by knot (told-of (Some reason) some) ∙ ap (λ ks. lines_verdict d number (placed ks (coming (problem_of d).block true at.numbers))) (sym first)
     where
-      by : (k : Knot Leaf) → line_fault (problem_of d) d.bound prefix k ≡ Some reason → lines_verdict d number (placed (k ∷ knots) (coming (problem_of d).block true prefix)) ≡ No number reason
+      by : (k : Knot Leaf) → line_fault (problem_of d) d.bound at.numbers k ≡ Some reason → No number reason ≡ lines_verdict d number (placed (k ∷ knots) (coming (problem_of d).block true at.numbers))
       by (AtTip leaf) h = rw h refl
       by (AtSplit numbers) h = rw h refl
 
-  -- and else it goes on
-  pub line-passed : (more : Bool) (next : List ℕ) → line_fault (problem_of d) d.bound prefix knot ≡ None → coming (problem_of d).block more next ≡ after_line (problem_of d).block prefix knot →
-      lines_verdict d number (placed (knot ∷ knots) (coming (problem_of d).block true prefix)) ≡ lines_verdict d (number + 1) (placed knots (coming (problem_of d).block more next))
-  line-passed more next none is = by knot none is
-    where
-      by : (k : Knot Leaf) → line_fault (problem_of d) d.bound prefix k ≡ None → coming (problem_of d).block more next ≡ after_line (problem_of d).block prefix k →
-          lines_verdict d number (placed (k ∷ knots) (coming (problem_of d).block true prefix)) ≡ lines_verdict d (number + 1) (placed knots (coming (problem_of d).block more next))
-      by (AtTip leaf) h e = let one : number + 1 ≡ suc number = omega arith in rw (h, e, one) refl
-      by (AtSplit numbers) h e = let one : number + 1 ≡ suc number = omega arith in rw (h, e, one) refl
+  module _ (none : found ≡ None) where
+    pub split-ready : HasReady at.problem.block at.numbers knot
+    split-ready = by knot (sym told ∙ none)
+      where
+        by : (k : Knot Leaf) → line_fault at.problem bound at.numbers k ≡ None → HasReady at.problem.block at.numbers k
+        by (AtTip leaf) h = tt
+        by (AtSplit numbers) h = (split-shows at.problem bound at.numbers numbers).0 h
+
+    -- without a fault it goes on
+    pub line-passed : (more other : Bool) (next : List ℕ) → coming at.problem.block more next ≡ after_line at.problem.block at.numbers knot → more ≡ other →
+        lines_verdict d (number + 1) (placed knots (coming (problem_of d).block other next)) ≡ lines_verdict d number (placed lines (coming (problem_of d).block true at.numbers))
+    line-passed more other next goes is =
+        by knot (told-of None none)
+        (subst (λ (b : Problem). coming b.block other next ≡ after_line b.block at.numbers knot) same (ap (λ m. coming at.problem.block m next) (sym is) ∙ goes))
+        ∙ ap (λ ks. lines_verdict d number (placed ks (coming (problem_of d).block true at.numbers))) (sym first)
+      where
+        by : (k : Knot Leaf) → line_fault (problem_of d) d.bound at.numbers k ≡ None → coming (problem_of d).block other next ≡ after_line (problem_of d).block at.numbers k →
+            lines_verdict d (number + 1) (placed knots (coming (problem_of d).block other next)) ≡ lines_verdict d number (placed (k ∷ knots) (coming (problem_of d).block true at.numbers))
+        by (AtTip leaf) h e = let one : number + 1 ≡ suc number = omega arith in rw (h, e, one) refl
+        by (AtSplit numbers) h e = let one : number + 1 ≡ suc number = omega arith in rw (h, e, one) refl
 
 -- nothing is left to come
 pub none-left : (d : Document) (number time bound : ℕ) (knots : List (Knot Leaf)) (prefixes : List (List ℕ)) → time ≡ d.time → bound ≡ d.bound → (knots ≡ []) ⊎ (prefixes ≡ []) →

@@ -1,6 +1,6 @@
 //! Values of leaves, in minor cycles, and the numbers that are ready.
 
-ghost use Rattle.std.specs.Prelude.{ℕ, ◌≡◌, ◌+◌, ◌-◌, ◌≤◌, ◌<◌, ◌^◌, ◌&&◌, nat_lt, true, length, IfSome};
+ghost use Rattle.std.specs.Prelude.{ℕ, ◌≡◌, ◌+◌, ◌-◌, ◌*◌, ◌≤◌, ◌<◌, ◌^◌, ◌&&◌, nat_lt, true, length, IfSome};
 ghost use Rattle.s66_line.specs.declared.limits.TheConstants.{BLOCK_LIMIT};
 ghost use Rattle.std.specs.Option.{is_some};
 ghost use Rattle.s66_model.specs.Timing.{points_of, row_at, next};
@@ -32,7 +32,7 @@ pub fn ready(prefix: &Prefix) -> Numbers
 /// The parcels of all that remains.
 fn remaining_parcels(prefix: &Prefix) -> u32
     ensures value { result ≡ sum_remaining prefix.now.problem.block prefix.now.numbers (λ m. (row_at prefix.now.problem m).parcels) }
-    ensures at_most { result ≤ 128 }
+    ensures at_most { result ≤ 2 * BLOCK_LIMIT }
 {
     let mut parcels = 0;
     for position in 0..prefix.count() {
@@ -48,7 +48,7 @@ fn remaining_parcels(prefix: &Prefix) -> u32
 fn if_last(prefix: &Prefix, slot: u32, parcels: u32, n: u8) -> u32
     requires within { (1 ≤ n) × (n ≤ length prefix.now.problem.block) }
     requires slot { (slot ≡ next (points_of prefix.now.problem prefix.now.numbers)) × (slot ≤ TOTAL_LIMIT + 1) }
-    requires parcels { (parcels ≡ sum_remaining prefix.now.problem.block prefix.now.numbers (λ m. (row_at prefix.now.problem m).parcels)) × (parcels ≤ 128) }
+    requires parcels { (parcels ≡ sum_remaining prefix.now.problem.block prefix.now.numbers (λ m. (row_at prefix.now.problem m).parcels)) × (parcels ≤ 2 * BLOCK_LIMIT) }
     ensures { result ≡ if_last prefix.now.problem prefix.now.numbers n }
 {
     let row = prefix.row(n);

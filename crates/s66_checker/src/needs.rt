@@ -1,16 +1,65 @@
 //! What each instruction of a block depends on, tested pair by pair.
 
 ghost use Rattle.std.specs.Prelude.{◌≡◌, ◌+◌, ◌≤◌, ◌<◌, length};
-ghost use Rattle.s66_model.specs.Dependence.{share, conflict, depends, needs};
+ghost use Rattle.s66_model.specs.Dependence.{share, depends, needs};
 ghost use Rattle.s66_line.specs.declared.limits.TheConstants.{BLOCK_LIMIT};
 ghost use Rattle.s66_checker.specs.Kept.{AreNeeds};
 
 use arrayvec::ArrayVec;
-use s66_isa::{Instr, Reg, has_register, is_memory_conflict};
+use s66_isa::{Instr, Memory, Reg, has_register, is_memory_conflict};
 use s66_line::BLOCK_LIMIT;
+use std::marker::Model;
 
 /// Numbers of instructions of a block, each once.
 pub type Numbers = ArrayVec<u8, BLOCK_LIMIT>;
+
+/// An instruction with what its dependences rest on, worked out once.
+#[derive(Debug, Drop)]
+struct Effects {
+    instr: Instr,
+    reads: ArrayVec<Reg, 4>,
+    results: ArrayVec<Reg, 2>,
+    memory: Memory,
+}
+
+impl Model for Effects {
+    ghost use Rattle.std.specs.Prelude.{◌≡◌};
+    ghost use Rattle.s66_isa.specs.Table.{Instr, reads_of, results_of, memory_of};
+
+    ghost Value = { Instr };
+
+    ghost view = { λ e. e.instr };
+
+    ghost invariant = { λ e. (e.reads.items ≡ reads_of e.instr) × (e.results.items ≡ results_of e.instr) × (e.memory ≡ memory_of e.instr) };
+}
+
+impl Default for Effects {
+    fn default() -> Effects {
+        Effects {
+            instr: Instr::default(),
+            reads: ArrayVec::new(),
+            results: ArrayVec::new(),
+            memory: Memory::None,
+        }
+    }
+}
+
+/// The instructions of a block, with what their dependences rest on.
+fn effects_of(block: &[Instr]) -> ArrayVec<Effects, BLOCK_LIMIT>
+    requires { length block.now ≤ BLOCK_LIMIT }
+    ensures { result.items ≡ block.now }
+{
+    let mut effects = ArrayVec::new();
+    for instr in block {
+        effects.push(Effects {
+            instr: *instr,
+            reads: instr.reads(),
+            results: instr.results(),
+            memory: instr.memory(),
+        });
+    }
+    effects
+}
 
 /// Whether some register stands in both.
 fn share(registers: &[Reg], others: &[Reg]) -> bool
@@ -24,31 +73,34 @@ fn share(registers: &[Reg], others: &[Reg]) -> bool
     false
 }
 
-/// Whether a later instruction reads what this one writes, or writes what this one reads, or both write one register, or both
-/// reference memory and one of them stores.
-#[tactic(auto, unfolding(s66_model::specs::Dependence::conflict))]
-fn is_conflict(instr: &Instr, later: &Instr) -> bool
-    ensures { result ≡ conflict instr.now later.now }
-{
-    let results = instr.results();
-    let later_results = later.results();
-    share(results.as_slice(), later.reads().as_slice())
-        || share(instr.reads().as_slice(), later_results.as_slice())
-        || share(results.as_slice(), later_results.as_slice())
-        || is_memory_conflict(instr.memory(), later.memory())
+impl Effects {
+    ghost use Rattle.std.specs.Prelude.{◌≡◌};
+    ghost use Rattle.s66_model.specs.Dependence.{conflict};
+
+    /// Whether a later instruction reads what this one writes, or writes what this one reads, or both write one register, or both
+    /// reference memory and one of them stores.
+    #[tactic(auto, unfolding(s66_model::specs::Dependence::conflict))]
+    fn is_conflict(&self, later: &Effects) -> bool
+        ensures { result ≡ conflict self.now later.now }
+    {
+        share(self.results.as_slice(), later.reads.as_slice())
+            || share(self.reads.as_slice(), later.results.as_slice())
+            || share(self.results.as_slice(), later.results.as_slice())
+            || is_memory_conflict(self.memory, later.memory)
+    }
 }
 
 /// Whether the instruction at a position depends on the one at another; positions are from 0, and numbers from 1.
-fn depends(block: &[Instr], earlier: usize, position: usize) -> bool
+fn depends(block: &[Effects], earlier: usize, position: usize) -> bool
     requires earlier { earlier < length block.now }
     requires within { position < length block.now }
     ensures { result ≡ depends block.now (earlier + 1) (position + 1) }
 {
-    earlier < position && is_conflict(&block[earlier], &block[position])
+    earlier < position && block[earlier].is_conflict(&block[position])
 }
 
 /// The numbers that the instruction at a position depends on.
-fn needs(block: &[Instr], position: usize) -> Numbers
+fn needs(block: &[Effects], position: usize) -> Numbers
     requires few { length block.now ≤ BLOCK_LIMIT }
     requires within { position < length block.now }
     ensures { result.items ≡ needs block.now (position + 1) }
@@ -67,9 +119,10 @@ pub fn needs_of_all(block: &[Instr]) -> ArrayVec<Numbers, BLOCK_LIMIT>
     requires { length block.now ≤ BLOCK_LIMIT }
     ensures { AreNeeds block.now result.items }
 {
+    let effects = effects_of(block);
     let mut needs_of_all = ArrayVec::new();
     for position in 0..block.len() {
-        needs_of_all.push(needs(block, position));
+        needs_of_all.push(needs(effects.as_slice(), position));
     }
     needs_of_all
 }

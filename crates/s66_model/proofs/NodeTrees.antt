@@ -20,7 +20,7 @@ use Rattle.s66_model.proofs.OneTree.{same-is}
 
 -- LISTS
 
-some-passes : {X : Type 0} (test : X → Bool) (xs : List X) → 0 < tally test xs → (x : X) × Among x xs × (test x ≡ true)
+pub some-passes : {X : Type 0} (test : X → Bool) (xs : List X) → 0 < tally test xs → (x : X) × Among x xs × (test x ≡ true)
 some-passes test [] some = absurd (omega (arith, some))
 some-passes test (x ∷ xs) some =
     elim (cases_Bool (test x)) [
@@ -30,12 +30,12 @@ some-passes test (x ∷ xs) some =
           (y, inr among, is))
     ]
 
-passes-some : {X : Type 0} (test : X → Bool) (x : X) (xs : List X) → Among x xs → test x ≡ true → 0 < tally test xs
+pub passes-some : {X : Type 0} (test : X → Bool) (x : X) (xs : List X) → Among x xs → test x ≡ true → 0 < tally test xs
 passes-some test x [] among is = absurd among
 passes-some test x (y ∷ xs) (inl here) is = omega (arith, ap (λ t. cond {A = ℕ} t 1 0) (sym (ap test here) ∙ is))
 passes-some test x (y ∷ xs) (inr past) is = omega (arith, passes-some test x xs past is)
 
-is-same : (ns : List ℕ) → same_numbers ns ns ≡ true
+pub is-same : (ns : List ℕ) → same_numbers ns ns ≡ true
 is-same [] = refl
 is-same (n ∷ ns) = and_from (eqb n n) (same_numbers ns ns) (eq-eqb n n refl) (is-same ns)
 
@@ -92,7 +92,7 @@ cut-stands at (node ∷ nodes) = omega (arith, cut-stands at nodes, less (is_cut
     less false false = omega arith
 
 -- a node that isn't split stands there beside those that are
-uncut-stands : (node : Node) (nodes : List Node) → Among node nodes → is_cut node ≡ false → tally (is_cut_at node.prefix) nodes < tally (stands_at node.prefix) nodes
+pub uncut-stands : (node : Node) (nodes : List Node) → Among node nodes → is_cut node ≡ false → tally (is_cut_at node.prefix) nodes < tally (stands_at node.prefix) nodes
 uncut-stands node [] among off = absurd among
 uncut-stands node (x ∷ nodes) (inl here) off =
     let it : stands_at node.prefix x ≡ true = subst (λ (y : Node). stands_at node.prefix y ≡ true) here (is-same node.prefix) in
@@ -131,7 +131,7 @@ module _ (b : Problem) (l : Ledger) (table : IsTable b l) (beginnings : (node : 
   uncut at off = omega (arith, ltb-false 0 (cuts at) off)
 
   -- where some node is split
-  split-part : (at : List ℕ) → IsSplit at → IsIncomplete b.block at × IsBeginning b.block at
+  pub split-part : (at : List ℕ) → IsSplit at → IsIncomplete b.block at × IsBeginning b.block at
   split-part at is =
       let (node, among, passes) = some-passes (is_cut_at at) l.nodes (ltb-true 0 (cuts at) is) in
       let both = and_parts (is_cut node) (stands_at at node) passes in
@@ -148,7 +148,7 @@ module _ (b : Problem) (l : Ledger) (table : IsTable b l) (beginnings : (node : 
       subst (λ x. standing x ≤ 1) (append_assoc at (n ∷ []) more)
       (one-along more (at ++ n ∷ []) goes.1 (omega (arith, table.children at n goes.0, cut-stands at l.nodes, h)))
 
-  one-node : (at : List ℕ) → IsBeginning b.block at → standing at ≤ 1
+  pub one-node : (at : List ℕ) → IsBeginning b.block at → standing at ≤ 1
   one-node at is = one-along at [] is (omega (arith, table.root))
 
   -- below a prefix that isn't split no node stands

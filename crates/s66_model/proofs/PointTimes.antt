@@ -1,5 +1,5 @@
 -- Laws of the points of an order: when each issues, starts and is done at least, and what comes after it.
-use Rattle.std.proofs.Common.{ℕ, ◌+◌, ◌≤◌, ◌<◌, ◌≡◌, List, [], ◌∷◌, ◌++◌, refl, ap, arith, inl, inr}
+use Rattle.std.proofs.Common.{ℕ, ◌+◌, ◌≤◌, ◌<◌, ◌≡◌, List, [], ◌∷◌, ◌++◌, length, refl, ap, arith, inl, inr}
 use Rattle.s66_isa.specs.Lists.{greatest, weigh, tally}
 use Rattle.s66_isa.specs.Table.{Row, Write}
 use Rattle.s66_model.specs.Timing.{Problem, Point, ResultAt, IsInRange, row_at, copies, end_of, next, slot_of, busy_at, issue_of, start_of, result_at, point, point_of, points_after}
@@ -43,6 +43,11 @@ issue-unit b s r = (issue-is b s r).passes.0
 pub points_after-append : (b : Problem) (s : List Point) (xs ys : List ℕ) → points_after b s (xs ++ ys) ≡ points_after b (points_after b s xs) ys
 points_after-append b s [] ys = refl
 points_after-append b s (n ∷ xs) ys = points_after-append b (point_of b s n ∷ s) xs ys
+
+-- a point for each number
+pub points_after-length : (b : Problem) (s : List Point) (ns : List ℕ) → length (points_after b s ns) ≡ length s + length ns
+points_after-length b s [] = omega arith
+points_after-length b s (n ∷ ns) = omega (arith, points_after-length b (point_of b s n ∷ s) ns)
 
 -- earlier points stay
 pub greatest-stays : (b : Problem) (f : Point → ℕ) (s : List Point) (ns : List ℕ) → greatest f s ≤ greatest f (points_after b s ns)

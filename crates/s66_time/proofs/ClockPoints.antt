@@ -17,13 +17,12 @@ use Rattle.s66_time.specs.declared.limits.TheConstants.{COPIES_LIMIT, TOTAL_LIMI
 use Rattle.s66_time.specs.Places.{first_unit, units_of, put_back}
 use Rattle.s66_time.specs.ClockWords.{under, refs_wait, stores_wait, wait_of, IsWords, InTurn, IsSoonest, Follows, Takes}
 use Rattle.s66_model.specs.Leaves.{rest_busy}
-use Rattle.s66_model.proofs.Issue.{none_busy}
+use Rattle.s66_model.proofs.Issue.{none_busy, issue-join}
 use Rattle.s66_model.proofs.LoadBound.{same_kind-true}
 use Rattle.s66_isa.proofs.Lists.{cases_le}
 use Rattle.s66_time.specs.declared.progress.Progress.{Progress}
 use Rattle.s66_time.specs.declared.step.Saved.{Saved}
 use Rattle.s66_model.proofs.Growth.{AreSmall, none-first, fits_at-ge, start-le, start-ge, free-ge}
-use Rattle.s66_time.proofs.Free.{issue-join}
 use Rattle.s66_time.proofs.FreeUnits.{IsLeast, count-free, count-least, count-push, at-greatest, rest-same}
 
 -- a result by what the readers' words tell

@@ -1,5 +1,4 @@
 pub mod Loops
-pub mod Free
 pub mod Back
 pub mod FreeUnits
 pub mod ClockPoints

@@ -5,7 +5,7 @@ use Rattle.std.proofs.Math.Seq.{get_or-append_seam}
 use Rattle.s66_line.specs.declared.limits.TheConstants.{BLOCK_LIMIT}
 use Rattle.s66_model.specs.Timing.{Problem, Point, row_at, point_of, points_after, points_of, total}
 use Rattle.s66_model.proofs.Growth.{total-le}
-use Rattle.s66_model.proofs.PointTimes.{point_of-number, point_of-row, points_after-append, hold-le-free}
+use Rattle.s66_model.proofs.PointTimes.{point_of-number, point_of-row, points_after-append, points_after-length, hold-le-free}
 use Rattle.s66_model.proofs.PointTimes as points
 use Rattle.s66_time.specs.declared.limits.TheConstants.{TOTAL_LIMIT}
 use Rattle.s66_time.specs.declared.timed.Times.{Times}
@@ -13,10 +13,6 @@ use Rattle.s66_time.specs.TimedOrder.{TimedOrder, point_at, no_point}
 use Rattle.s66_time.specs.ClockWords.{InTurn}
 use Rattle.s66_time.specs.KeptTimes.{times_of, times_in}
 use Rattle.s66_time.proofs.Clocks.{early-point_of, in-turn}
-
-points_after-length : (b : Problem) (s : List Point) (ns : List ℕ) → length (points_after b s ns) ≡ length s + length ns
-points_after-length b s [] = omega arith
-points_after-length b s (n ∷ ns) = omega (arith, points_after-length b (point_of b s n ∷ s) ns)
 
 -- ONE MORE NUMBER
 

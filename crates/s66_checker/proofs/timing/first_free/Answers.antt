@@ -4,7 +4,7 @@ use Rattle.s66_isa.specs.declared.profile.Profile.{Profile}
 use Rattle.s66_isa.specs.Table.{copies_of}
 use Rattle.s66_model.specs.Timing.{busy_at, total}
 use Rattle.s66_isa.proofs.Lists.{cases_le}
-use Rattle.s66_checker.proofs.Issues.{before-total}
+use Rattle.s66_model.proofs.Issue.{before-total}
 use Rattle.s66_checker.proofs.timing.first_free.Goals as goal
 
 pub overflow_add-time : goal.overflow_add-time

@@ -1,12 +1,12 @@
 use Rattle.std.proofs.Common.{arith, ap, sym, subst, ◌∙◌, ◌+◌, ◌≤◌, ◌≡◌, ℕ, List, [], map, reverse}
 use Rattle.s66_isa.specs.Lists.{greatest}
 use Rattle.s66_isa.specs.Table.{Row, Write}
-use Rattle.s66_isa.proofs.Lists.{greatest-le}
 use Rattle.s66_model.specs.Timing.{IsInRange, Point, ResultAt, end_of, start_of, parcel_of, result_at, free_after}
 use Rattle.s66_model.proofs.Growth.{start-le, results-le}
 use Rattle.s66_checker.specs.Kept.{TOTAL_LIMIT, under_standard, AreTimed}
 use Rattle.s66_checker.proofs.Reversed.{greatest-reverse}
 use Rattle.s66_checker.proofs.KeptPoints.{timed-small, timed-total}
+use Rattle.s66_checker.proofs.LeafBounds.{latencies-le}
 use Rattle.s66_checker.proofs.Issues.{results-looked, point-looked}
 use Rattle.s66_checker.proofs.timing.next_point.Goals as goal
 
@@ -15,9 +15,7 @@ starts xs r start timed is =
     omega (arith, is, start-le (under_standard []) (reverse xs) r (timed-small xs timed), greatest-reverse end_of xs, timed-total xs timed)
 
 latencies : (r : Row) (ws : List Write) → IsInRange r → ws ≡ r.writes → greatest (λ (w : Write). w.latency) ws ≤ 100
-latencies r ws good is =
-    subst (λ (vs : List Write). greatest (λ (w : Write). w.latency) vs ≤ 100) (sym is)
-    (greatest-le (λ (w : Write). w.latency) 100 r.writes (λ w among. (good.latencies w among).1))
+latencies r ws good is = subst (λ (vs : List Write). greatest (λ (w : Write). w.latency) vs ≤ 100) (sym is) (latencies-le r good)
 
 pub results-results-requires-clause-latencies : goal.results-results-requires-clause-latencies
 results-results-requires-clause-latencies c = latencies _ c.as_slice.result.now c.row.invariant c.as_slice.ensures.value
