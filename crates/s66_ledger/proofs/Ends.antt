@@ -9,13 +9,17 @@ use Rattle.s66_model.specs.Coverage.{Covers, NodesHold, IsFinished, bound_of}
 use Rattle.s66_model.specs.Reached.{IsReached}
 use Rattle.s66_model.specs.Ended.{IsEnded, ended_answer}
 use Rattle.s66_dep.proofs.Fronts.{beginning-few}
-use Rattle.s66_model.proofs.Histories.{run-join, reached-covers}
+use Rattle.s66_model.proofs.LedgerRuns.{run-falls}
+use Rattle.s66_model.proofs.Histories.{run-join, reached-covers, reached-table}
 use Rattle.s66_model.proofs.EndedLedgers.{ended-finishes}
 use Rattle.s66_time.specs.TimedOrder.{TimedOrder}
 use Rattle.s66_ledger.specs.declared.node.Node as declared
 use Rattle.s66_ledger.specs.Kept.{LedgerOf, IsKept, state_of, ledger_of}
 use Rattle.s66_ledger.specs.Answers.{IsKeptAnswer, ended_of}
-use Rattle.s66_ledger.specs.Finishing.{Leads, IsSearched}
+use Rattle.s66_ledger.specs.Finishing.{Leads, IsSearched, WholesAreTimed}
+use Rattle.s66_ledger.proofs.Events.{kept-covers, kept-room}
+use Rattle.s66_ledger.proofs.Leading.{leads-on}
+use Rattle.s66_ledger.proofs.SeenNodes.{length-nodes}
 
 -- WHAT LEADS
 
@@ -64,9 +68,17 @@ pub kept-answer : (b : Problem) (budget : ℕ) (nodes : List declared.Node) (bes
 kept-answer b budget nodes best left allowances spent l low kept view ended bound =
     let state = state_of b nodes best.numbers left allowances spent in
     let ends : IsEnded b budget state = subst (λ (m : LedgerOf). IsEnded m.problem m.budget m.state) (sym view) ended in
+    let table = reached-table b budget (length allowances) state kept.reached in
     let done = ended-finishes b budget (length allowances) state state [] kept.reached refl ends in
     subst (λ (p : Problem). IsKeptAnswer (ended_of p budget nodes best.numbers spent) low) (sym kept.own)
-    (record { answer = done.answer; bound = sym (bound ∙ ap (λ (m : LedgerOf). bound_of m.problem m.state) (sym view)) })
+    (record {
+      answer = done.answer;
+      bound = sym (bound ∙ ap (λ (m : LedgerOf). bound_of m.problem m.state) (sym view));
+      few = kept.few;
+      table = record { root = table.root; children = table.children; others = table.others; splits = table.splits; best = table.best };
+      begins = λ node among. begin-among b (best_time b state) state.nodes node (kept-covers b budget nodes best left allowances spent kept).nodes among;
+      room = omega (arith, length-nodes b nodes, kept.room, kept.few, kept-room b budget nodes best left allowances spent kept 0);
+    })
 
 pub kept-reached : (b : Problem) (budget : ℕ) (nodes : List declared.Node) (best : TimedOrder) (left : ℕ) (allowances : List ℕ) (spent : ℕ) (l : LedgerOf) → IsKept b budget nodes best left allowances spent → ledger_of b budget nodes best.numbers left allowances spent ≡ l → IsReached l.problem l.budget l.workers l.state
 kept-reached b budget nodes best left allowances spent l kept view =

@@ -3,6 +3,8 @@ pub mod Events
 pub mod Floors
 pub mod GraftSteps
 pub mod Leading
+pub mod Chained
+pub mod Cursors
 pub mod LiveFloors
 pub mod OpenHeap
 pub mod Planted

@@ -98,7 +98,7 @@ from-at made (x ∷ xs) i (suc k) d some root is lt =
     let more : length (made ++ new ∷ []) ≡ length made + 1 = length-append made (new ∷ []) in
     from-at (made ++ new ∷ []) xs i k d (omega arith) (get_or-front made new 0 [] some ∙ root) (omega arith) (omega arith)
 
-prefix-at : (xs : List Node) (i : ℕ) (d : Node) → 0 < i → i < length xs → get_or (prefixes xs) i [] ≡ get_or (prefixes xs) (parent_at i (get_or xs i d).parent) [] ++ (get_or xs i d).number ∷ []
+pub prefix-at : (xs : List Node) (i : ℕ) (d : Node) → 0 < i → i < length xs → get_or (prefixes xs) i [] ≡ get_or (prefixes xs) (parent_at i (get_or xs i d).parent) [] ++ (get_or xs i d).number ∷ []
 prefix-at [] i d some lt = absurd (omega arith)
 prefix-at (x ∷ xs) zero d some lt = absurd (omega arith)
 prefix-at (x ∷ xs) (suc i) d some lt = from-at ([] ∷ []) xs (suc i) i d (omega arith) refl (omega arith) (omega arith)

@@ -6,7 +6,7 @@ use Rattle.s66_ledger.specs.declared.node.Node.{Node}
 use Rattle.s66_ledger.specs.Nodes.{prefixes}
 use Rattle.s66_ledger.proofs.Prefixes.{prefix-none}
 
-push-same : (xs ys : List ℕ) (m n : ℕ) → xs ++ m ∷ [] ≡ ys ++ n ∷ [] → (xs ≡ ys) × (m ≡ n)
+pub push-same : (xs ys : List ℕ) (m n : ℕ) → xs ++ m ∷ [] ≡ ys ++ n ∷ [] → (xs ≡ ys) × (m ≡ n)
 push-same [] [] m n e = (refl, cc)
 push-same [] (y ∷ ys) m n e = absurd (omega (arith, ap length e, length-append ys (n ∷ [])))
 push-same (x ∷ xs) [] m n e = absurd (omega (arith, ap length e, length-append xs (m ∷ [])))

@@ -1,10 +1,14 @@
 -- To be believed: what contracts see of an answer: of which problem it is one, for which budget, and how its ledger ended. Used by an invariant: what is true of every answer.
-use Rattle.std.specs.Prelude.{ℕ, ◌≡◌, List, []}
+use Rattle.std.specs.Prelude.{ℕ, ◌≡◌, ◌≤◌, ◌<◌, ◌^◌, List, [], length}
+use Rattle.s66_isa.specs.Lists.{Among}
 use Rattle.s66_model.specs.Timing.{Problem}
 use Rattle.s66_model.specs.Answer.{Answer, IsAnswer}
-use Rattle.s66_model.specs.Ledger.{Ledger}
+use Rattle.s66_model.specs.LegalOrder.{IsBeginning}
+use Rattle.s66_model.specs.Ledger.{Ledger, Node}
+use Rattle.s66_model.specs.NodeTable.{IsTable}
 use Rattle.s66_model.specs.Ended.{ended_answer}
-use Rattle.s66_ledger.specs.declared.node.Node.{Node}
+use Rattle.s66_ledger.specs.declared.limits.TheConstants.{BUDGET_LIMIT}
+use Rattle.s66_ledger.specs.declared.node.Node as declared
 use Rattle.s66_ledger.specs.Kept.{state_of}
 
 pub record AnswerOf : Type 0 where
@@ -18,9 +22,14 @@ abbrev pub answer_of : AnswerOf → Answer
 answer_of a = ended_answer a.problem a.state
 
 -- of a ledger that ended with these nodes, this best order and so many splits
-abbrev pub ended_of : Problem → ℕ → List Node → List ℕ → ℕ → AnswerOf
+abbrev pub ended_of : Problem → ℕ → List declared.Node → List ℕ → ℕ → AnswerOf
 ended_of b budget nodes best spent = record { problem = b; budget = budget; state = state_of b nodes best 0 [] spent }
 
 pub record IsKeptAnswer (a : AnswerOf) (low : ℕ) : Type 0 where
   pub answer : IsAnswer a.problem a.budget (answer_of a)
   pub bound : (answer_of a).bound ≡ low
+  pub few : a.budget ≤ BUDGET_LIMIT
+  -- its nodes are those of one tree
+  pub table : IsTable a.problem a.state
+  pub begins : (node : Node) → Among node a.state.nodes → IsBeginning a.problem.block node.prefix
+  pub room : length a.state.nodes < 2 ^ 32

@@ -1,9 +1,11 @@
 pub mod Answers
 pub mod Claims
+pub mod Cursors
 pub mod Finishing
 pub mod Grafts
 pub mod Handed
 pub mod Kept
+pub mod Links
 pub mod LiveNodes
 pub mod Nodes
 pub mod OpenNodes

@@ -1,6 +1,11 @@
+use crate::lines::AnswerLines;
+use crate::links::Links;
 use crate::node::Node;
 use s66_dep::Order;
+use s66_line::Block;
+use s66_node::Walk;
 use s66_time::Timed;
+use std::alloc::{AllocError, Global};
 use std::marker::Model;
 
 /// An answer to a block under a profile, for a budget of splits: a legal order with its time, a lower bound of the totals of all
@@ -25,10 +30,13 @@ impl Model for Answer {
 }
 
 impl Answer {
-    ghost use Rattle.std.specs.Prelude.{◌≡◌, ◌↔◌, IsTrue};
+    ghost use Rattle.std.specs.Prelude.{◌≡◌, ◌≤◌, ◌↔◌, IsTrue, IfOk};
+    ghost use Rattle.s66_line.specs.Block.{instrs_of};
+    ghost use Rattle.s66_model.specs.Tree.{flat};
     ghost use Rattle.s66_model.specs.Answer.{IsAnswer, IsBestAnswer};
     ghost use Rattle.s66_model.specs.BestAndBound.{IsBound};
     ghost use Rattle.s66_ledger.specs.Answers.{answer_of};
+    ghost use Rattle.s66_ledger.specs.declared.limits.TheConstants.{BUDGET_LIMIT};
 
     /// The order.
     pub fn order(&self) -> &Order
@@ -53,9 +61,10 @@ impl Answer {
         self.bound
     }
 
-    /// How many splits the tree has.
+    /// How many splits the tree has, at most `BUDGET_LIMIT`.
     pub fn splits(&self) -> u32
-        ensures { result ≡ (answer_of self.now).splits }
+        ensures value { result ≡ (answer_of self.now).splits }
+        ensures few { result ≤ BUDGET_LIMIT }
     {
         self.splits
     }
@@ -66,5 +75,27 @@ impl Answer {
         ensures { IsTrue result ↔ IsBestAnswer (answer_of self.now) }
     {
         self.bound == self.best.total()
+    }
+
+    /// The lines of the tree in preorder, which are read one by one; the block is that of the answer. It takes time linear in the
+    /// number of nodes and 8 bytes a node. `Err` is want of memory.
+    pub fn lines<'a>(
+        &'a self,
+        alloc: Global,
+        block: &'a Block<'a>,
+    ) -> Result<AnswerLines<'a>, AllocError>
+        requires { instrs_of block.now ≡ self.now.problem.block }
+        ensures problem { IfOk result (λ lines. lines.problem ≡ self.now.problem) }
+        ensures lines { IfOk result (λ lines. lines.rest ≡ flat (answer_of self.now).tree) }
+    {
+        let nodes = self.nodes.as_slice();
+        let links = Links::of(alloc, nodes)?;
+        Ok(AnswerLines {
+            nodes,
+            links,
+            walk: Walk::new(block, self.best.profile()),
+            node: 0,
+            more: true,
+        })
     }
 }

@@ -5,6 +5,8 @@
 mod answer;
 mod ledger;
 mod limits;
+mod lines;
+mod links;
 mod live;
 mod node;
 mod node_table;
@@ -19,5 +21,6 @@ mod ticket;
 pub use answer::Answer;
 pub use ledger::Ledger;
 pub use limits::{BUDGET_LIMIT, GRANT_LIMIT};
+pub use lines::{AnswerLine, AnswerLines};
 pub use reply::{BackError, GraftError, Offered};
 pub use ticket::Ticket;

@@ -1,6 +1,7 @@
 ghost use Rattle.std.specs.Prelude.{[], ◌∷◌, ◌++◌, ◌≡◌, ◌<◌, ◌≤◌, ◌↔◌, length, get_or, IsTrue};
 ghost use Rattle.s66_line.specs.declared.limits.TheConstants.{BLOCK_LIMIT};
 ghost use Rattle.s66_ledger.specs.Nodes.{node_at, prefixes};
+ghost use Rattle.s66_ledger.specs.Links.{parent_of};
 
 use crate::node::Node;
 use arrayvec::ArrayVec;
@@ -43,10 +44,11 @@ pub fn prefix_of(nodes: &[Node], node: u32) -> ArrayVec<u8, BLOCK_LIMIT>
 }
 
 /// The parent of a node, which stands before it.
-fn up(nodes: &[Node], i: usize) -> usize
+pub fn up(nodes: &[Node], i: usize) -> usize
     requires some { 0 < i }
     requires within { i < length nodes.now }
     ensures before { result < i }
+    ensures parent { result ≡ parent_of nodes.now i }
     ensures prefix { get_or (prefixes nodes.now) i [] ≡ get_or (prefixes nodes.now) result [] ++ (node_at nodes.now i).number ∷ [] }
 {
     let parent = nodes[i].parent as usize;

@@ -1,7 +1,7 @@
 ghost use Rattle.std.specs.Prelude.{ℕ, ◌≡◌, ◌≢◌, ◌≤◌, ◌<◌, length, take, get_or};
 
 use arrayvec::ArrayVec;
-use s66_bound::Bounds;
+use s66_bound::{Bounds, Leaf};
 use s66_dep::{Dependences, Set};
 use s66_isa::{Profile, Reg};
 use s66_line::{BLOCK_LIMIT, Block};
@@ -49,7 +49,9 @@ impl<'a> Walk<'a> {
     ghost use Rattle.s66_line.specs.Block.{instrs_of};
     ghost use Rattle.s66_line.specs.declared.limits.TheConstants.{BLOCK_LIMIT};
     ghost use Rattle.s66_model.specs.LegalOrder.{is_ready, ready, IsBeginning, IsComplete, IsIncomplete};
-    ghost use Rattle.s66_model.specs.Leaves.{floor_value};
+    ghost use Rattle.s66_model.specs.Leaves.{floor, floor_value};
+    ghost use Rattle.s66_model.specs.Later.{IsNextReady};
+    ghost use Rattle.s66_bound.specs.LeafValues.{leaf_of, value_of};
     ghost use Rattle.s66_model.specs.Timing.{row_at, next, done_of, points_of};
     ghost use Rattle.s66_model.specs.Tails.{longest_tail};
     ghost use Rattle.s66_dep.specs.Members.{numbers_in};
@@ -126,11 +128,35 @@ impl<'a> Walk<'a> {
         self.bounds.floor_value(&self.clock)
     }
 
+    /// The prefix's floor.
+    pub fn floor(&self) -> Leaf
+        ensures leaf { leaf_of result ≡ floor self.now.problem self.now.numbers }
+        ensures value { value_of result ≡ floor_value self.now.problem self.now.numbers }
+    {
+        self.bounds.floor(&self.clock)
+    }
+
     /// The numbers that are ready after the prefix: one look at a word for each instruction that remains.
     pub fn ready(&self) -> Set
         ensures { numbers_in result ≡ ready self.now.problem.block self.now.numbers }
     {
         self.dependences.ready(&self.clock.pushed())
+    }
+
+    /// The least number above n that is ready after the prefix, in the time of `ready`.
+    pub fn next_ready(&self, n: u8) -> Option<u8>
+        ensures { IsNextReady self.now.problem.block self.now.numbers n result }
+    {
+        let ready = self.ready();
+        let count = self.clock.block().count() as u8;
+        let mut number = n;
+        while number < count {
+            number += 1;
+            if ready.has(number) {
+                return Some(number);
+            }
+        }
+        None
     }
 
     /// The first minor cycle after the last issue in which an instruction can issue.

@@ -1,0 +1,25 @@
+use Rattle.std.proofs.Common.{◌∙◌}
+use Rattle.s66_ledger.specs.declared.node.Node.{Node}
+use Rattle.s66_ledger.specs.Nodes.{no_node}
+use Rattle.s66_ledger.proofs.Cursors.{split-here, split-line, leaf-line}
+use Rattle.s66_ledger.proofs.Prefixes.{get_or-any}
+use Rattle.s66_ledger.proofs.lines.take_line.Goals as goal
+
+pub go_below-requires-clause-split : goal.go_below-requires-clause-split
+go_below-requires-clause-split c =
+    let w = c.args.walk.now in
+    let stands = c.requires.stands in
+    split-here w.problem c.args.nodes.now c.requires.tree c.args.node.now w.numbers stands (get_or-any c.args.nodes.now c.args.node.now no_node _ (λ (x : Node). x.state) stands.within ∙ c.in-Split.is)
+
+pub returns-in-Split-clause-line : goal.returns-in-Split-clause-line
+returns-in-Split-clause-line c =
+    let w = c.args.walk.now in
+    let stands = c.requires.stands in
+    split-line w.problem c.args.nodes.now c.requires.tree c.args.node.now w.numbers stands _ _ (get_or-any c.args.nodes.now c.args.node.now no_node _ (λ (x : Node). x.state) stands.within ∙ c.in-Split.is) c.ready-numbers.ensures c.go_below.ensures.next
+
+pub returns-clause-line : goal.returns-clause-line
+returns-clause-line c =
+    let w = c.args.walk.now in
+    let stands = c.requires.stands in
+    leaf-line w.problem c.args.nodes.now c.requires.tree c.args.node.now w.numbers stands _ _
+    (λ split. c.in_default.not-Split (get_or-any c.args.nodes.now c.args.node.now _ no_node (λ (x : Node). x.state) stands.within ∙ split)) c.floor-leaf.ensures.leaf c.go_on.ensures.next
