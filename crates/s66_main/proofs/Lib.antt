@@ -1,4 +1,7 @@
+pub mod AnswerDocuments
+pub mod AnswerVerdicts
 pub mod Asked
+pub mod BlockTexts
 pub mod CommandLine
 pub mod Dependences
 pub mod Faults
@@ -6,4 +9,5 @@ pub mod Flags
 pub mod Named
 pub mod Numbers
 pub mod PlacedAnswers
+pub mod ProvedAnswers
 pub mod Refused

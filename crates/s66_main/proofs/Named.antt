@@ -16,10 +16,11 @@ use Rattle.clap.specs.Simple.{entered, label_of, names_of}
 use Rattle.clap.specs.Faults.{check_fault, defaults_fault, entered_fault, fault_of, level_fault, settle_fault, other_fault, turn_fault, walk_fault, word_fault}
 use Rattle.clap.proofs.SimpleLemmas.{is_nil}
 use Rattle.clap.proofs.WalkLemmas.{both, one_text-rows}
-use Rattle.s66_main.specs.Usage.{has_option, option_text, s66_app, subcommand_name}
+use Rattle.s66_main.specs.OptionNumbers.{IsNumber, IsReadAs}
+use Rattle.s66_main.specs.Usage.{AsksFor, GivesSearch, has_option, option_text, s66_app, subcommand_name}
 use Rattle.s66_main.proofs.Faults.{first-none, full, second-none}
 use Rattle.s66_main.proofs.Flags.{HasFlag, flag-is}
-use Rattle.s66_main.proofs.Numbers.{HasNumber, IsNumber, number-is}
+use Rattle.s66_main.proofs.Numbers.{HasNumber, number-is}
 
 -- A NAME OF A LIST
 
@@ -228,7 +229,7 @@ name-is : (m : ArgMatches) (words : List Text) → IsTaken m words → subcomman
 name-is m words is = name-at (out-ArgMatches m).subcommand ∙ ap (option_map (λ s. s.0)) is.1
 
 pub asks-for : (m : ArgMatches) (words : List Text) (given name : Text) → IsTaken m words → Some given ≡ subcommand_name_of m → given ≡ name →
-    (fault_of s66_app words ≡ []) × (subcommand_name words ≡ Some name)
+    AsksFor words name
 asks-for m words given name is gives same = (is.0, sym (name-is m words is) ∙ sym gives ∙ ap (λ n. Some n) same)
 
 -- clap gives a name, which is a subcommand's
@@ -268,9 +269,26 @@ flag-of words found flag s id long is options there when-true when-false =
     ∙ sym (ap (λ o. option_map_or (λ (p : Text × List Row). is_given id p.1) o false) is.2)
 
 -- the text of a number's option, as it was found
-pub number-of : (words : List Text) (found : Found) (s : Shape) (id : Text) (least most : ℕ) → IsMatched found words s → HasNumber id least most s.rules →
-    IsNumber id least most (one_text found id) × (one_text found id ≡ option_text id words)
+number-of : (words : List Text) (found : Found) (s : Shape) (id : Text) (least most : ℕ) → IsMatched found words s → HasNumber id least most s.rules →
+    IsNumber least most (one_text found id) × (one_text found id ≡ option_text id words)
 number-of words found s id least most is options = (
-  subst (IsNumber id least most) (sym (one_text-rows found id ∙ ap (one_of id) is.1)) (number-is id least most s options is.0 false is.3),
+  subst (IsNumber least most) (sym (one_text-rows found id ∙ ap (one_of id) is.1)) (number-is id least most s options is.0 false is.3),
   one_text-rows found id ∙ sym (ap (option_and_then (λ (p : Text × List Row). one_of id p.1)) is.2),
 )
+
+-- a number's option of a subcommand, as it was read of what was found for it
+number-given : (words : List Text) (found : Found) (s : Shape) (id : Text) (least most default n : ℕ) → IsMatched found words s → HasNumber id least most s.rules →
+    (IsNumber least most (one_text found id) → IsReadAs least most default (one_text found id) n) → IsReadAs least most default (option_text id words) n
+number-given words found s id least most default n is options read =
+    let there = number-of words found s id least most is options in
+    subst (λ text. IsReadAs least most default text n) there.1 (read there.0)
+
+-- the numbers of a search, as they were read of what was found for its subcommand
+pub search-of : (words : List Text) (found : Found) (s : Shape) (workers nodes : ℕ) → IsMatched found words s →
+    HasNumber (codes "workers") 1 16 s.rules → HasNumber (codes "nodes") 0 1000000 s.rules →
+    (IsNumber 1 16 (one_text found (codes "workers")) → IsReadAs 1 16 4 (one_text found (codes "workers")) workers) →
+    (IsNumber 0 1000000 (one_text found (codes "nodes")) → IsReadAs 0 1000000 100000 (one_text found (codes "nodes")) nodes) → GivesSearch words workers nodes
+search-of words found s workers nodes is has-workers has-nodes read-workers read-nodes =
+    let by = number-given words found s (codes "workers") 1 16 4 workers is has-workers read-workers in
+    let up-to = number-given words found s (codes "nodes") 0 1000000 100000 nodes is has-nodes read-nodes in
+    (by.0, by.1, by.2, up-to.0, up-to.2)

@@ -21,6 +21,7 @@ use Rattle.clap.specs.declared.parser.matches.ValueSource.{ValueSource}
 use Rattle.clap.specs.declared.parser.matches.ValueSource.TheVariants.{CommandLine, DefaultValue}
 use Rattle.clap.proofs.CallerReads.{signed_reads}
 use Rattle.clap.proofs.ValueTestLemmas.{accepts-Accepts}
+use Rattle.s66_main.specs.OptionNumbers.{IsNumber, IsReadAs}
 use Rattle.s66_main.specs.Usage.{number_rule}
 use Rattle.s66_main.proofs.Faults.{first-none, full, second-none}
 
@@ -135,48 +136,40 @@ module _ (id : Text) (least most : ℕ) where
   -- THE TEXT OF THE OPTION
 
   -- there is no text, or one of a number within the limits
-  abbrev pub IsNumber : Option Text → Type 0
-  IsNumber None = Unit {0}
-  IsNumber (Some text) = (v : Text) × (text ≡ without_minus v) × IsSignedIn (pos least) (pos most) v
-
-  row-number : (r : Row) → BeginsWell r.reading r.values → IsNumber (row_text r)
-  row-number r begins = subst (λ (x : Row). IsNumber (row_text x)) (sym shown) (begins.0, refl, accepts-Accepts false (Signed (pos least) (pos most)) begins.0 begins.4)
+  row-number : (r : Row) → BeginsWell r.reading r.values → IsNumber least most (row_text r)
+  row-number r begins = subst (λ (x : Row). IsNumber least most (row_text x)) (sym shown) (begins.0, refl, accepts-Accepts false (Signed (pos least) (pos most)) begins.0 begins.4)
     where
       shown : r ≡ record r { values = begins.0 ∷ begins.1; reading = WithoutMinus }
       shown = ap (λ vs. record r { values = vs }) begins.2 ∙ ap (λ how. record r { values = begins.0 ∷ begins.1; reading = how }) begins.3
 
-  number-head : (b : Bool) (r : Row) (rest : Option Row) → bytes_eq r.id id ≡ b → IsGood r → IsNumber (option_and_then row_text rest) →
-      IsNumber (option_and_then row_text (cond b (Some r) rest))
+  number-head : (b : Bool) (r : Row) (rest : Option Row) → bytes_eq r.id id ≡ b → IsGood r → IsNumber least most (option_and_then row_text rest) →
+      IsNumber least most (option_and_then row_text (cond b (Some r) rest))
   number-head true r rest here good more = row-number r (good here)
   number-head false r rest here good more = more
 
-  number-in : (rows : List Row) → AllGood rows → IsNumber (one_of id rows)
+  number-in : (rows : List Row) → AllGood rows → IsNumber least most (one_of id rows)
   number-in [] good = tt
   number-in (r ∷ rows) good = number-head (bytes_eq r.id id) r _ refl good.0 (number-in rows good.1)
-
-  -- the number of the text, or the default where there is none, is within the limits
-  abbrev IsRead : Option Text → ℕ → ℕ → Type 0
-  IsRead text default n = (n ≡ option_map_or (λ t. digits_value 10 (without_leading_plus t)) text default) × (least ≤ n) × (n ≤ most)
 
   -- what `get_one` makes of a text by a type's `from_str`
   module _ (E : Type 0) (gives : Text → Result ℕ E → Type 0) (k : ℕ) (parses : (t : Text) (x : Result ℕ E) → gives t x → ParsesUnsigned k 10 t x) (fits : most < 2 ^ k) where
     read-text : (default : ℕ) (v : Text) (r : Option ℕ) → IsSignedIn (pos least) (pos most) v → ReadsOne gives (without_minus v) r →
-        IsRead (Some (without_minus v)) default (unwrap_or r default)
+        IsReadAs least most default (Some (without_minus v)) (unwrap_or r default)
     read-text default v r within reads =
         let found = signed_reads E gives k least most v r reads parses fits within in
-        subst (λ (o : Option ℕ). IsRead (Some (without_minus v)) default (unwrap_or o default)) (sym found.1)
+        subst (λ (o : Option ℕ). IsReadAs least most default (Some (without_minus v)) (unwrap_or o default)) (sym found.1)
         ((parses (without_minus v) (Ok found.0) (subst (ReadsOne gives (without_minus v)) found.1 reads)).1, found.2, found.3)
 
-    read-option : (default : ℕ) (text : Option Text) (r : Option ℕ) → IsNumber text → least ≤ default → default ≤ most → (text ≡ None → r ≡ None) →
-        ((t : Text) → text ≡ Some t → ReadsOne gives t r) → IsRead text default (unwrap_or r default)
-    read-option default None r is low high none some = subst (λ (o : Option ℕ). IsRead None default (unwrap_or o default)) (sym (none refl)) (refl, low, high)
+    read-option : (default : ℕ) (text : Option Text) (r : Option ℕ) → IsNumber least most text → least ≤ default → default ≤ most → (text ≡ None → r ≡ None) →
+        ((t : Text) → text ≡ Some t → ReadsOne gives t r) → IsReadAs least most default text (unwrap_or r default)
+    read-option default None r is low high none some = subst (λ (o : Option ℕ). IsReadAs least most default None (unwrap_or o default)) (sym (none refl)) (refl, low, high)
     read-option default (Some text) r is low high none some =
-        subst (λ t. IsRead (Some t) default (unwrap_or r default)) (sym is.1) (read-text default is.0 r is.2 (subst (λ t. ReadsOne gives t r) is.1 (some text refl)))
+        subst (λ t. IsReadAs least most default (Some t) (unwrap_or r default)) (sym is.1) (read-text default is.0 r is.2 (subst (λ t. ReadsOne gives t r) is.1 (some text refl)))
 
-    pub number-read : (default : ℕ) (text given : Option Text) (r : Option ℕ) (n : ℕ) → IsNumber text × (text ≡ given) → least ≤ default → default ≤ most →
-        (text ≡ None → r ≡ None) → ((t : Text) → text ≡ Some t → ReadsOne gives t r) → n ≡ unwrap_or r default → IsRead given default n
-    number-read default text given r n is low high none some taken =
-        subst (λ x. IsRead given default x) (sym taken) (subst (λ o. IsRead o default (unwrap_or r default)) is.1 (read-option default text r is.0 low high none some))
+    pub number-read : (default : ℕ) (text : Option Text) (r : Option ℕ) (n : ℕ) → least ≤ default → default ≤ most → (text ≡ None → r ≡ None) →
+        ((t : Text) → text ≡ Some t → ReadsOne gives t r) → n ≡ unwrap_or r default → IsNumber least most text → IsReadAs least most default text n
+    number-read default text r n low high none some taken is =
+        subst (λ x. IsReadAs least most default text x) (sym taken) (read-option default text r is low high none some)
 
   -- A WORD, OF A SUBCOMMAND THAT HAS THE OPTION
 
@@ -373,5 +366,5 @@ module _ (id : Text) (least most : ℕ) where
         defaults-good c options (settled c end.held).rows
         (settled-good end.held (first-none (settle_fault c again end.held) _ settling) (walk-good words (walk_from nothing_held) (first-none walking _ none) tt))
 
-    pub number-is : (words : List Text) (given : Bool) → level_fault s [] nothing_held words given [] ≡ [] → IsNumber (one_of id (rows_after c [] words))
+    pub number-is : (words : List Text) (given : Bool) → level_fault s [] nothing_held words given [] ≡ [] → IsNumber least most (one_of id (rows_after c [] words))
     number-is words given none = number-in (rows_after c [] words) (rows-good words given none)

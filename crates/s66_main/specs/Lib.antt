@@ -4,10 +4,14 @@ pub mod TimeText
 pub mod DepsText
 pub mod ChartText
 pub mod OrderText
+pub mod ProveText
+pub mod CheckText
 pub mod PlacedAnswers
+pub mod ProvedAnswers
 pub mod Output
 pub mod Device
 pub mod Outcome
 pub mod Run
 pub mod Usage
+pub mod OptionNumbers
 pub mod Program

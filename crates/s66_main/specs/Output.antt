@@ -1,9 +1,10 @@
 -- To be believed: what each command writes for what it reads, and how it ends.
-use Rattle.std.specs.Prelude.{ℕ, ◌+◌, ◌≡◌, ◌≤◌, List, [], ◌∷◌, ◌++◌, Ok}
+use Rattle.std.specs.Prelude.{ℕ, ◌+◌, ◌≡◌, ◌≤◌, Bool, true, false, List, [], ◌∷◌, ◌++◌, Ok}
 use Rattle.s66_ledger.specs.declared.limits.TheConstants.{BUDGET_LIMIT}
 use Rattle.s66_line.specs.Source.{Block, source_of}
 use Rattle.s66_main.specs.declared.command.Command.{Command}
-use Rattle.s66_main.specs.declared.command.Command.TheVariants.{Time, Deps, Chart, Order}
+use Rattle.s66_main.specs.declared.command.Command.TheVariants.{Time, Deps, Chart, Order, Prove, Check}
+use Rattle.s66_main.specs.declared.limits.TheConstants.{WORKERS_LIMIT}
 use Rattle.s66_main.specs.declared.outcome.Status.{Status}
 use Rattle.s66_main.specs.declared.outcome.Status.TheVariants.{Done}
 use Rattle.s66_main.specs.declared.output.Listing.{Listing}
@@ -12,13 +13,21 @@ use Rattle.s66_main.specs.TimeText.{time_lines}
 use Rattle.s66_main.specs.DepsText.{deps_lines}
 use Rattle.s66_main.specs.ChartText.{chart_lines}
 use Rattle.s66_main.specs.OrderText.{IsOrderOutput}
+use Rattle.s66_main.specs.ProveText.{IsProveOutput}
+use Rattle.s66_main.specs.CheckText.{IsCheckOutput}
+
+-- how many workers search, and the most splits of a search
+abbrev pub IsSearchWithin : (workers nodes : ℕ) → Type 0
+IsSearchWithin workers nodes = (1 ≤ workers) × (workers ≤ WORKERS_LIMIT) × (nodes ≤ BUDGET_LIMIT)
 
 -- the numbers of a command are within their limits
 abbrev pub IsWithin : Command → Type 0
 IsWithin (Time trace) = Unit {0}
 IsWithin Deps = Unit {0}
 IsWithin Chart = Unit {0}
-IsWithin (Order workers nodes trace) = (1 ≤ workers) × (workers ≤ 16) × (nodes ≤ BUDGET_LIMIT)
+IsWithin (Order workers nodes trace) = IsSearchWithin workers nodes
+IsWithin (Prove workers nodes) = IsSearchWithin workers nodes
+IsWithin Check = Unit {0}
 
 -- LISTINGS
 
@@ -45,3 +54,14 @@ IsOutput (Time trace) input text status = IsListing (listing.Times trace) input 
 IsOutput Deps input text status = IsListing listing.Dependences input text × (status ≡ Done)
 IsOutput Chart input text status = IsListing listing.Chart input text × (status ≡ Done)
 IsOutput (Order workers nodes trace) input text status = IsOrderOutput nodes trace input text status
+IsOutput (Prove workers nodes) input text status = IsProveOutput nodes input text status
+IsOutput Check input text status = IsCheckOutput input text status
+
+-- the command reads a source, and not documents
+abbrev pub reads_source : Command → Bool
+reads_source (Time trace) = true
+reads_source Deps = true
+reads_source Chart = true
+reads_source (Order workers nodes trace) = true
+reads_source (Prove workers nodes) = true
+reads_source Check = false

@@ -1,5 +1,6 @@
--- To be believed: the command line, by clap's rules: the subcommands `time`, with the flag `--trace`, `deps`, `chart` and
--- `order`, with the options `--workers` and `--nodes` and the flag `--trace`, and a version.
+-- To be believed: the command line, by clap's rules: the subcommands `time`, with the flag `--trace`, `deps`, `chart`,
+-- `order` and `prove`, each with the options `--workers` and `--nodes`, and `order` also with the flag `--trace`, and `check`,
+-- and a version.
 use Rattle.std.specs.Prelude.{◌≡◌, ◌≢◌, ◌⊎◌, ◌≤◌, ℕ, Bool, List, [], false, true, Option, Some, codes, option_and_then, pos}
 use Rattle.std.specs.Option.{option_map, option_map_or}
 use Rattle.std.specs.Str.Parse.{digits_value, without_leading_plus}
@@ -13,7 +14,7 @@ use Rattle.clap.specs.declared.builder.value_parser.ValueParser.TheVariants.{Sig
 use Rattle.clap.specs.declared.error.kind.ErrorKind.{ErrorKind}
 use Rattle.clap.specs.declared.error.kind.ErrorKind.TheVariants as kind
 use Rattle.s66_main.specs.declared.command.Command.{Command}
-use Rattle.s66_main.specs.declared.command.Command.TheVariants.{Time, Deps, Chart, Order}
+use Rattle.s66_main.specs.declared.command.Command.TheVariants.{Time, Deps, Chart, Order, Prove, Check}
 use Rattle.s66_main.specs.declared.usage.Usage.{Usage}
 use Rattle.s66_main.specs.declared.usage.Usage.TheVariants.{Help, Bad, OutOfMemory}
 
@@ -39,13 +40,23 @@ deps_app = new_app (codes "deps")
 abbrev pub chart_app : App
 chart_app = new_app (codes "chart")
 
+-- a subcommand that searches
+abbrev pub search_app : Text → App
+search_app name = with_rule (with_rule (new_app name) workers_rule) nodes_rule
+
 abbrev pub order_app : App
-order_app = with_rule (with_rule (with_rule (new_app (codes "order")) workers_rule) nodes_rule) trace_rule
+order_app = with_rule (search_app (codes "order")) trace_rule
+
+abbrev pub prove_app : App
+prove_app = search_app (codes "prove")
+
+abbrev pub check_app : App
+check_app = new_app (codes "check")
 
 abbrev pub s66_app : App
 s66_app =
     let drawing = with_subcommand (with_subcommand (with_subcommand (new_app (codes "s66")) time_app.top) deps_app.top) chart_app.top in
-    let a = with_subcommand drawing order_app.top in
+    let a = with_subcommand (with_subcommand (with_subcommand drawing order_app.top) prove_app.top) check_app.top in
     record a { top = record a.top { subcommand_required = true; has_version = true } }
 
 -- the argument is this one, and not for all subcommands
@@ -72,17 +83,25 @@ option_text id words = option_and_then (λ s. one_of id s.1) (subcommand_of s66_
 abbrev pub option_number : Text → ℕ → List Text → ℕ
 option_number id default words = option_map_or (λ text. digits_value 10 (without_leading_plus text)) (option_text id words) default
 
--- the words, of which the first is the program's name, have no fault and ask for the command
-abbrev pub Asks : List Text → Command → Type 0
-Asks words (Time trace) =
-    (fault_of s66_app words ≡ []) × (subcommand_name words ≡ Some (codes "time")) × (trace ≡ has_option (codes "trace") words)
-Asks words Deps = (fault_of s66_app words ≡ []) × (subcommand_name words ≡ Some (codes "deps"))
-Asks words Chart = (fault_of s66_app words ≡ []) × (subcommand_name words ≡ Some (codes "chart"))
-Asks words (Order workers nodes trace) =
-    (fault_of s66_app words ≡ []) × (subcommand_name words ≡ Some (codes "order"))
-    × (workers ≡ option_number (codes "workers") 4 words) × (1 ≤ workers) × (workers ≤ 16)
+-- the words, of which the first is the program's name, have no fault and name the subcommand
+abbrev pub AsksFor : List Text → Text → Type 0
+AsksFor words name = (fault_of s66_app words ≡ []) × (subcommand_name words ≡ Some name)
+
+-- they give a search these numbers
+abbrev pub GivesSearch : List Text → (workers nodes : ℕ) → Type 0
+GivesSearch words workers nodes =
+    (workers ≡ option_number (codes "workers") 4 words) × (1 ≤ workers) × (workers ≤ 16)
     × (nodes ≡ option_number (codes "nodes") 100000 words) × (nodes ≤ 1000000)
-    × (trace ≡ has_option (codes "trace") words)
+
+-- they ask for the command
+abbrev pub Asks : List Text → Command → Type 0
+Asks words (Time trace) = AsksFor words (codes "time") × (trace ≡ has_option (codes "trace") words)
+Asks words Deps = AsksFor words (codes "deps")
+Asks words Chart = AsksFor words (codes "chart")
+Asks words (Order workers nodes trace) =
+    AsksFor words (codes "order") × GivesSearch words workers nodes × (trace ≡ has_option (codes "trace") words)
+Asks words (Prove workers nodes) = AsksFor words (codes "prove") × GivesSearch words workers nodes
+Asks words Check = AsksFor words (codes "check")
 
 -- a kind of error that is no mistake
 abbrev pub IsHelp : ErrorKind → Type 0

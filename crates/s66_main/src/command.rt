@@ -19,4 +19,13 @@ pub enum Command {
         /// Whether the number of splits is told.
         trace: bool,
     },
+    /// A document for each block of a source: an order, its time, a bound, and a tree that shows the bound.
+    Prove {
+        /// How many workers search, 1 to 16.
+        workers: u8,
+        /// The most splits of a block's search, 0 to 1,000,000.
+        nodes: u32,
+    },
+    /// The verdict on each document.
+    Check,
 }

@@ -2,9 +2,12 @@
 #![tactic(auto)]
 
 mod chart_text;
+mod check_text;
 mod command;
 mod deps_text;
+mod documents;
 mod fields;
+mod laws;
 mod limits;
 #[cfg(test)]
 mod line_tests;
@@ -12,6 +15,7 @@ mod order_text;
 mod outcome;
 mod output;
 mod program;
+mod prove_text;
 mod run;
 #[cfg(test)]
 mod tests;

@@ -1,16 +1,14 @@
-ghost use Rattle.std.specs.Prelude.{◌≡◌, ◌≤◌, if◌then◌else◌, IfOk, length};
+ghost use Rattle.std.specs.Prelude.{◌≡◌, ◌≤◌, if◌then◌else◌, IfOk};
 ghost use Rattle.s66_ledger.specs.declared.limits.TheConstants.{BUDGET_LIMIT};
-ghost use Rattle.s66_line.specs.declared.limits.TheConstants.{BLOCK_LIMIT};
 ghost use Rattle.s66_main.specs.declared.outcome.Status.TheVariants.{Done, Bounded};
 ghost use Rattle.s66_main.specs.OrderText.{IsOrderOutput};
 ghost use Rattle.s66_main.specs.PlacedAnswers.{AreAllPlaced, IsPlaced, tell_best};
 
 use crate::outcome::{Output, Status};
-use arrayvec::ArrayVec;
 use s66_dep::Order;
 use s66_isa::Profile;
 use s66_ledger::Ledger;
-use s66_line::{BLOCK_LIMIT, Block, Placed, Source, print_source};
+use s66_line::{Block, Placed, Source, print_source};
 use s66_time::time_of;
 use std::alloc::{AllocError, Global};
 use std::marker::Model;
@@ -18,7 +16,7 @@ use std::marker::Model;
 /// What is printed of an answer, without its tree.
 #[derive(Debug, Drop)]
 struct Found {
-    order: ArrayVec<u8, BLOCK_LIMIT>,
+    order: Order,
     source: u32,
     time: u32,
     bound: u32,
@@ -30,19 +28,7 @@ impl Model for Found {
 
     ghost Value = { Placed };
 
-    ghost view = { λ f. record { order = f.order.items; source = f.source; time = f.time; bound = f.bound; splits = f.splits } };
-}
-
-/// The same numbers.
-fn copy_of(numbers: &[u8]) -> ArrayVec<u8, BLOCK_LIMIT>
-    requires { length numbers.now ≤ BLOCK_LIMIT }
-    ensures { result.items ≡ numbers.now }
-{
-    let mut copy = ArrayVec::new();
-    for number in numbers {
-        copy.push(*number);
-    }
-    copy
+    ghost view = { λ f. record { order = f.order.numbers; source = f.source; time = f.time; bound = f.bound; splits = f.splits } };
 }
 
 /// Searches the orders of a block.
@@ -54,7 +40,7 @@ fn search(alloc: Global, block: &Block, nodes: u32, trace: bool) -> Result<Found
     let source = time_of(block, &profile, &Order::source(block)).total();
     let answer = Ledger::new(alloc, block, &profile, nodes, 1)?.finish(alloc)?;
     Ok(Found {
-        order: copy_of(answer.order().numbers()),
+        order: answer.order().duplicate(),
         source,
         time: answer.time(),
         bound: answer.bound(),
@@ -98,7 +84,7 @@ fn placed_of<'a>(alloc: Global, found: &'a [Found]) -> Result<Vec<Placed<'a>>, A
     let mut placed = Vec::new(alloc);
     for answer in found {
         placed.push(Placed {
-            order: answer.order.as_slice(),
+            order: answer.order.numbers(),
             source: answer.source,
             time: answer.time,
             bound: answer.bound,

@@ -1,9 +1,11 @@
 ghost use Rattle.std.specs.Prelude.{◌≡◌, ◌++◌, ◌<◌, ◌≤◌, codes, decimal, length};
 ghost use Rattle.s66_main.specs.declared.outcome.Fault.TheVariants.{Memory};
+ghost use Rattle.s66_main.specs.Outcome.{document_fault, source_fault};
 
 use crate::limits::FAULT_ROOM;
 use arrayvec::ArrayString;
 use itoa::Buffer;
+use s66_cert::CertError;
 use s66_line::SourceError;
 use std::alloc::{AllocError, AllocFailed};
 use std::{error, fmt};
@@ -46,6 +48,8 @@ impl Status {
 pub enum Fault {
     /// The source was refused; never for `OutOfMemory`, which is `Memory`.
     Source(SourceError),
+    /// The documents were refused; never for `OutOfMemory`, which is `Memory`.
+    Document(CertError),
     /// A growth was refused.
     Memory,
     /// The reader failed, or none of 16,777,216 calls with room for 65,536 bytes each gave the end.
@@ -70,6 +74,28 @@ impl<T: Drop> From<AllocFailed<T>> for Fault {
     }
 }
 
+impl From<SourceError> for Fault {
+    ghost from_gives = { λ e fault. fault ≡ source_fault e };
+
+    fn from(e: SourceError) -> Fault {
+        match e {
+            SourceError::OutOfMemory => Fault::Memory,
+            refusal => Fault::Source(refusal),
+        }
+    }
+}
+
+impl From<CertError> for Fault {
+    ghost from_gives = { λ e fault. fault ≡ document_fault e };
+
+    fn from(e: CertError) -> Fault {
+        match e {
+            CertError::OutOfMemory => Fault::Memory,
+            refusal => Fault::Document(refusal),
+        }
+    }
+}
+
 /// A text of a few bytes.
 fn short_text(text: &str) -> ArrayString<FAULT_ROOM>
     requires { length text.now < FAULT_ROOM }
@@ -80,8 +106,8 @@ fn short_text(text: &str) -> ArrayString<FAULT_ROOM>
     line
 }
 
-/// A line of a source, and what is wrong with it.
-fn line_refusal(line: u32, what: &str) -> ArrayString<FAULT_ROOM>
+/// A line of the input, and what is wrong with it.
+fn line_refusal(line: u64, what: &str) -> ArrayString<FAULT_ROOM>
     requires { length what.now ≤ 12 }
     ensures text { result.bytes ≡ codes "LINE " ++ decimal line ++ what.now }
     ensures short { length result.bytes < FAULT_ROOM }
@@ -103,7 +129,7 @@ impl Fault {
         ensures { result ≡ fault_code self.now }
     {
         match self {
-            Fault::Source(_) => 3,
+            Fault::Source(_) | Fault::Document(_) => 3,
             Fault::Memory => 4,
             Fault::Read | Fault::Write => 6,
         }
@@ -115,10 +141,15 @@ impl Fault {
         ensures short { length result.bytes < FAULT_ROOM }
     {
         match self {
-            Fault::Source(SourceError::BadOperand { line }) => line_refusal(*line, " BAD OPERAND"),
-            Fault::Source(SourceError::LineTooLong { line }) => line_refusal(*line, " TOO LONG"),
+            Fault::Source(SourceError::BadOperand { line }) => line_refusal(u64::from(*line), " BAD OPERAND"),
+            Fault::Source(SourceError::LineTooLong { line }) => line_refusal(u64::from(*line), " TOO LONG"),
             Fault::Source(SourceError::TooLarge) => short_text("TOO MANY LINES"),
-            Fault::Source(SourceError::OutOfMemory) | Fault::Memory => short_text("OUT OF MEMORY"),
+            Fault::Document(CertError::BadLine { line }) => line_refusal(*line, " BAD LINE"),
+            Fault::Document(CertError::Truncated) => short_text("TRUNCATED"),
+            Fault::Document(CertError::TooManyNodes) => short_text("TOO MANY NODES"),
+            Fault::Source(SourceError::OutOfMemory)
+            | Fault::Document(CertError::OutOfMemory)
+            | Fault::Memory => short_text("OUT OF MEMORY"),
             Fault::Read => short_text("READ FAILED"),
             Fault::Write => short_text("WRITE FAILED"),
         }

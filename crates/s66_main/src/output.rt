@@ -1,15 +1,17 @@
-ghost use Rattle.std.specs.Prelude.{◌≡◌, ◌≢◌, ◌++◌, Err, OnOk, IfOk, IfErr};
-ghost use Rattle.s66_line.specs.declared.error.SourceError.TheVariants.{OutOfMemory};
-ghost use Rattle.s66_line.specs.Source.{source_of};
-ghost use Rattle.s66_main.specs.Output.{IsOutput, IsWithin, block_lines, lines_of_blocks};
+ghost use Rattle.std.specs.Prelude.{◌≡◌, ◌++◌, OnOk, IfOk, IfErr};
+ghost use Rattle.s66_main.specs.declared.outcome.Status.TheVariants.{Done};
+ghost use Rattle.s66_main.specs.Output.{IsListing, IsOutput, IsWithin, block_lines, lines_of_blocks};
+ghost use Rattle.s66_main.specs.Run.{IsRefusal};
 
 use crate::chart_text::push_chart_lines;
+use crate::check_text::check_output;
 use crate::command::Command;
 use crate::deps_text::push_deps_lines;
 use crate::order_text::order_output;
-use crate::outcome::{Output, Status};
+use crate::outcome::{Fault, Output, Status};
+use crate::prove_text::prove_output;
 use crate::time_text::push_time_lines;
-use s66_line::{Block, Source, SourceError, read_source};
+use s66_line::{Block, Source, read_source};
 use std::alloc::{AllocError, Global};
 
 /// What is told of each block as it was written.
@@ -51,33 +53,39 @@ fn text_of_blocks(alloc: Global, listing: Listing, blocks: &[Block]) -> Result<V
     Ok(out)
 }
 
-/// What a command writes for a source that was read.
-fn output_of(alloc: Global, command: Command, source: &Source) -> Result<Output, AllocError>
-    requires { IsWithin command }
-    ensures { IfOk result (λ output. IsOutput command source.now output.text.items output.status) }
+/// The listing of a source's blocks.
+fn listing_output(alloc: Global, listing: Listing, source: &Source) -> Result<Output, AllocError>
+    ensures { IfOk result (λ output. IsListing listing source.now output.text.items × (output.status ≡ Done)) }
 {
-    let listing = match command {
-        Command::Time { trace } => Listing::Times { trace },
-        Command::Deps => Listing::Dependences,
-        Command::Chart => Listing::Chart,
-        Command::Order {
-            workers: _,
-            nodes,
-            trace,
-        } => return order_output(alloc, source, nodes, trace),
-    };
     Ok(Output {
         text: text_of_blocks(alloc, listing, source.blocks())?,
         status: Status::Done,
     })
 }
 
-/// What a command writes for a source, or the source's refusal.
-pub fn output_for(alloc: Global, command: Command, source: &[u8]) -> Result<Output, SourceError>
+/// What a command writes for an input, or why the input was refused; no other fault than `Source`, `Document` and `Memory`.
+pub fn output_for(alloc: Global, command: Command, input: &[u8]) -> Result<Output, Fault>
     requires { IsWithin command }
-    ensures ok { IfOk result (λ output. IsOutput command source.now output.text.items output.status) }
-    ensures err { IfErr result (λ e. e ≢ OutOfMemory → source_of source.now ≡ Err e) }
+    ensures ok { IfOk result (λ output. IsOutput command input.now output.text.items output.status) }
+    ensures err { IfErr result (IsRefusal command input.now) }
 {
-    let source = read_source(alloc, source)?;
-    Ok(output_of(alloc, command, &source)?)
+    let output = match command {
+        Command::Time { trace } => {
+            listing_output(alloc, Listing::Times { trace }, &read_source(alloc, input)?)?
+        }
+        Command::Deps => {
+            listing_output(alloc, Listing::Dependences, &read_source(alloc, input)?)?
+        }
+        Command::Chart => listing_output(alloc, Listing::Chart, &read_source(alloc, input)?)?,
+        Command::Order {
+            workers: _,
+            nodes,
+            trace,
+        } => order_output(alloc, &read_source(alloc, input)?, nodes, trace)?,
+        Command::Prove { workers: _, nodes } => {
+            prove_output(alloc, &read_source(alloc, input)?, nodes)?
+        }
+        Command::Check => check_output(alloc, input)?,
+    };
+    Ok(output)
 }

@@ -7,7 +7,7 @@ use crate::command::Command;
 use crate::limits::{FEED_CALLS, FEED_ROOM};
 use crate::outcome::{Fault, Status};
 use crate::output::output_for;
-use s66_line::{Feed, Sink, SourceError, write_all};
+use s66_line::{Feed, Sink, write_all};
 use std::alloc::{AllocError, Global};
 
 /// Room for what a call reads.
@@ -57,9 +57,11 @@ fn read_all<F: Feed>(alloc: Global, reader: &mut F) -> Result<Vec<u8>, Fault>
     read_through(alloc, reader, &mut buffer)
 }
 
-/// Runs a command: reads to the end, builds all text, and only then writes.
+/// Runs a command whose numbers are within their limits: reads to the end, builds all text, and only then writes. The answer is
+/// `Bounded` where `order` or `prove` left a block only bounded, `Denied` where `check` has a verdict that isn't yes, and else
+/// `Done`.
 ///
-/// Errors: `Source` tells why the source was refused, `Memory` that memory was wanting, `Read` that the reader failed or none
+/// Errors: `Source` tells why the source was refused, `Document` why the documents were, `Memory` that memory was wanting, `Read` that the reader failed or none
 /// of `FEED_CALLS` calls gave the end, `Write` that the writer failed; nothing is written but at `Write`, which leaves a
 /// beginning of the text.
 pub fn run_command<R: AllocGlobal, F: Feed, S: Sink>(
@@ -79,11 +81,7 @@ pub fn run_command<R: AllocGlobal, F: Feed, S: Sink>(
 {
     let alloc = rt.alloc();
     let input = read_all(alloc, reader)?;
-    let output = match output_for(alloc, command, input.as_slice()) {
-        Ok(output) => output,
-        Err(SourceError::OutOfMemory) => return Err(Fault::Memory),
-        Err(refusal) => return Err(Fault::Source(refusal)),
-    };
+    let output = output_for(alloc, command, input.as_slice())?;
     match write_all(writer, output.text.as_slice()) {
         Ok(()) => Ok(output.status),
         Err(_) => Err(Fault::Write),

@@ -1,12 +1,13 @@
-ghost use Rattle.std.specs.Prelude.{◌≡◌, IfOk, IfErr, List, map};
-ghost use Rattle.clap.specs.Words.{app_of, kind_of};
-ghost use Rattle.s66_main.specs.Usage.{Asks, IsArgumentOf, IsCommandOf, IsUsageOf, Refuses, chart_app, deps_app, nodes_rule, order_app, s66_app, time_app, trace_rule, workers_rule};
+ghost use Rattle.std.specs.Prelude.{◌≡◌, IfOk, IfErr, List, codes, map};
+ghost use Rattle.clap.specs.Words.{Text, app_of, found_of, kind_of, one_text};
+ghost use Rattle.s66_main.specs.Usage.{Asks, IsArgumentOf, IsCommandOf, IsUsageOf, Refuses, chart_app, check_app, deps_app, nodes_rule, order_app, prove_app, s66_app, search_app, time_app, trace_rule, workers_rule};
+ghost use Rattle.s66_main.specs.OptionNumbers.{IsNumber, IsReadAs};
 ghost use Rattle.s66_main.specs.declared.usage.Usage.TheVariants.{OutOfMemory};
 
 use crate::command::Command as Asked;
 use crate::limits::{NODES_DEFAULT, WORKERS_DEFAULT, WORKERS_LIMIT};
 use clap::error::ErrorKind;
-use clap::{Arg, ArgAction, Command, Error, value_parser};
+use clap::{Arg, ArgAction, ArgMatches, Command, Error, value_parser};
 use s66_ledger::BUDGET_LIMIT;
 use std::alloc::{AllocError, Global};
 use std::convert::AsStr;
@@ -65,13 +66,15 @@ fn usage_of(alloc: Global, error: &Error) -> Usage
 /// What the help of a subcommand ends with: an example, the statuses, and those that it has alone.
 macro_rules! help_ending {
     ($example:literal) => {
-        help_ending!($example, "")
+        help_ending!($example, "the source was refused", "")
     };
-    ($example:literal, $own_statuses:literal) => {
+    ($example:literal, $refusal:literal, $own_statuses:literal) => {
         concat!(
             "Example: ",
             $example,
-            "\n\nStatus: 0 done, 2 usage, 3 the source was refused, 4 out of memory, 6 a read or write failed",
+            "\n\nStatus: 0 done, 2 usage, 3 ",
+            $refusal,
+            ", 4 out of memory, 6 a read or write failed",
             $own_statuses
         )
     };
@@ -85,7 +88,20 @@ const CHART_ENDING: &str = help_ending!("s66 chart < SOURCE");
 
 const ORDER_ENDING: &str = help_ending!(
     "s66 order --nodes 1000 < SOURCE",
+    "the source was refused",
     ", 7 some block is only bounded"
+);
+
+const PROVE_ENDING: &str = help_ending!(
+    "s66 prove --nodes 1000 < SOURCE",
+    "the source was refused",
+    ", 7 some block is only bounded"
+);
+
+const CHECK_ENDING: &str = help_ending!(
+    "s66 check < DOCUMENTS",
+    "the documents were refused",
+    ", 5 some verdict is NO"
 );
 
 /// The flag `--trace`.
@@ -148,16 +164,54 @@ fn chart_command<'a>(alloc: Global) -> Command<'a>
         .after_help(CHART_ENDING)
 }
 
+/// A subcommand that searches.
+fn search_command<'a>(
+    alloc: Global,
+    name: &'a str,
+    about: &'a str,
+    ending: &'a str,
+) -> Result<Command<'a>, AllocError>
+    ensures { IfOk result (IsCommandOf (search_app name.entry.now)) }
+{
+    Command::new(alloc, name)
+        .about(about)
+        .after_help(ending)
+        .arg(workers_option(alloc))?
+        .arg(nodes_option(alloc))
+}
+
 /// The subcommand `order`.
 fn order_command<'a>(alloc: Global) -> Result<Command<'a>, AllocError>
     ensures { IfOk result (IsCommandOf order_app) }
 {
-    Command::new(alloc, "order")
-        .about("Writes each block of a source in the best order that was found")
-        .after_help(ORDER_ENDING)
-        .arg(workers_option(alloc))?
-        .arg(nodes_option(alloc))?
-        .arg(trace_flag(alloc, "Tells the number of splits of each block"))
+    search_command(
+        alloc,
+        "order",
+        "Writes each block of a source in the best order that was found",
+        ORDER_ENDING,
+    )?
+    .arg(trace_flag(alloc, "Tells the number of splits of each block"))
+}
+
+/// The subcommand `prove`.
+fn prove_command<'a>(alloc: Global) -> Result<Command<'a>, AllocError>
+    ensures { IfOk result (IsCommandOf prove_app) }
+{
+    search_command(
+        alloc,
+        "prove",
+        "Writes a certificate for each block of a source: the best order that was found, and a bound with its proof",
+        PROVE_ENDING,
+    )
+}
+
+/// The subcommand `check`.
+fn check_command<'a>(alloc: Global) -> Command<'a>
+    ensures { IsCommandOf check_app result }
+{
+    Command::new(alloc, "check")
+        .about("Checks each certificate by itself")
+        .after_help(CHECK_ENDING)
 }
 
 /// The command line of the program, which usage and help call s66 whatever the program's file is named.
@@ -167,12 +221,28 @@ fn program<'a>(alloc: Global) -> Result<Command<'a>, AllocError>
     Command::new(alloc, "s66")
         .bin_name("s66")?
         .version(VERSION)
-        .about("Times, draws and orders straight-line blocks of COMPASS code for the CDC 6600")
+        .about("Times, draws, orders and proves straight-line blocks of COMPASS code for the CDC 6600")
         .subcommand_required(true)
         .subcommand(time_command(alloc)?)?
         .subcommand(deps_command(alloc))?
         .subcommand(chart_command(alloc))?
-        .subcommand(order_command(alloc)?)
+        .subcommand(order_command(alloc)?)?
+        .subcommand(prove_command(alloc)?)?
+        .subcommand(check_command(alloc))
+}
+
+/// How many workers search, as a subcommand that searches was told.
+fn workers_in(matches: &ArgMatches) -> u8
+    ensures { IsNumber 1 16 (one_text (found_of matches.now) (codes "workers")) → IsReadAs 1 16 4 (one_text (found_of matches.now) (codes "workers")) result }
+{
+    matches.get_one("workers").unwrap_or(WORKERS_DEFAULT)
+}
+
+/// The most splits of a search, as a subcommand that searches was told.
+fn nodes_in(matches: &ArgMatches) -> u32
+    ensures { IsNumber 0 1000000 (one_text (found_of matches.now) (codes "nodes")) → IsReadAs 0 1000000 100000 (one_text (found_of matches.now) (codes "nodes")) result }
+{
+    matches.get_one("nodes").unwrap_or(NODES_DEFAULT)
 }
 
 /// The command that the words give, of which the first is the program's name.
@@ -191,10 +261,15 @@ pub fn command_of<'a, S: AsStr>(alloc: Global, words: &'a [S]) -> Result<Asked, 
         Some(("deps", _)) => Ok(Asked::Deps),
         Some(("chart", _)) => Ok(Asked::Chart),
         Some(("order", order)) => Ok(Asked::Order {
-            workers: order.get_one("workers").unwrap_or(WORKERS_DEFAULT),
-            nodes: order.get_one("nodes").unwrap_or(NODES_DEFAULT),
+            workers: workers_in(order),
+            nodes: nodes_in(order),
             trace: order.get_flag("trace"),
         }),
+        Some(("prove", prove)) => Ok(Asked::Prove {
+            workers: workers_in(prove),
+            nodes: nodes_in(prove),
+        }),
+        Some(("check", _)) => Ok(Asked::Check),
         _ => unreachable!(),
     }
 }

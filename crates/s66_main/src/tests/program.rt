@@ -27,7 +27,7 @@ fn broken_writer() -> TakesFew
 
 #[test]
 fn runs_commands(rt: HostRuntime) {
-    let rows: [(&[&str], &str); 4] = [
+    let rows: [(&[&str], &str); 5] = [
         (
             &["s66", "time"],
             "BLOCK 1 LINE 1 COUNT 1 PARCELS 1 NO 0 TIME 4\n",
@@ -41,6 +41,10 @@ fn runs_commands(rt: HostRuntime) {
             "BLOCK 1 LINE 1 COUNT 1 DEPENDENCES 0\n",
         ),
         (&["", "chart"], "BLOCK 1 LINE 1 TIME 4\n  1 I==.\n"),
+        (
+            &["s66", "prove", "--workers", "16", "--nodes", "0"],
+            "S66 CERTIFICATE 1\nPROFILE 3 3 4 4 3 10 29 8 3 8 1 1 1 1 2 1 2\nBLOCK 1\nI BX1 X2\nTIME 4\nBOUND 4\nORDER 1\nC 1\nEND\n",
+        ),
     ];
     for (words, text) in rows {
         let (status, written, told) = run_words(&rt, words, b"  BX1 X2\n");
@@ -59,6 +63,20 @@ fn tells_refusals(rt: HostRuntime) {
 }
 
 #[test]
+fn tells_refused_documents(rt: HostRuntime) {
+    let rows = [
+        ("S66 CERTIFICATE 2\n", "LINE 1 BAD LINE\n"),
+        ("S66 CERTIFICATE 1\n", "TRUNCATED\n"),
+    ];
+    for (text, line) in rows {
+        let (status, written, told) = run_words(&rt, &["s66", "check"], text.as_bytes());
+        assert_eq!(rt; status, 3);
+        assert!(rt; written.is_empty());
+        assert_eq!(rt; told.as_slice(), line.as_bytes());
+    }
+}
+
+#[test]
 fn tells_usage(rt: HostRuntime) {
     let (status, written, told) = run_words(&rt, &["a/b", "time", "--nodes"], b"  SA1 *+2\n");
     assert_eq!(rt; status, 2);
@@ -71,11 +89,14 @@ fn tells_usage(rt: HostRuntime) {
 
 #[test]
 fn refuses_usage(rt: HostRuntime) {
-    let rows: [&[&str]; 5] = [
+    let rows: [&[&str]; 8] = [
         &["s66", "order", "--workers", "0"],
         &["s66", "order", "--nodes", "1000001"],
         &["s66", "order", "--nodes", "x"],
         &["s66", "time", "--nodes", "5"],
+        &["s66", "prove", "--workers", "17"],
+        &["s66", "prove", "--trace"],
+        &["s66", "check", "--nodes", "5"],
         &["s66"],
     ];
     for words in rows {

@@ -1,12 +1,8 @@
 use Rattle.std.proofs.lemmas.Result.{IfOk-weaker}
-use Rattle.s66_main.specs.Usage.{IsCommandOf, nodes_rule, order_app, trace_rule, workers_rule}
-use Rattle.s66_main.proofs.CommandLine.{about, after-help, with-arg}
+use Rattle.s66_main.specs.Usage.{IsCommandOf, order_app, trace_rule}
+use Rattle.s66_main.proofs.CommandLine.{with-arg}
 use Rattle.s66_main.proofs.usage.order_command.Goals as goal
 
 pub returns : goal.returns
 returns c =
-    let told = about _ c.new.result c.about.result _ (c.new.ensures.app, c.new.ensures.local) c.about.ensures in
-    let ended = after-help _ c.about.result c.after_help.result _ told c.after_help.ensures in
-    let with-workers = with-arg _ workers_rule c.after_help.result c.in_ok-arg.field-0 c.workers_option.result ended c.workers_option.ensures.0 c.workers_option.ensures.1 c.in_ok-arg.ensures in
-    let with-nodes = with-arg _ nodes_rule c.in_ok-arg.field-0 c.in_ok-arg-2.field-0 c.nodes_option.result with-workers c.nodes_option.ensures.0 c.nodes_option.ensures.1 c.in_ok-arg-2.ensures in
-    IfOk-weaker c.arg-3.result _ (IsCommandOf order_app) (λ r adds. with-arg _ trace_rule c.in_ok-arg-2.field-0 r c.trace_flag.result with-nodes c.trace_flag.ensures.0 c.trace_flag.ensures.1 adds) c.arg-3.ensures
+    IfOk-weaker c.arg.result _ (IsCommandOf order_app) (λ r adds. with-arg _ trace_rule c.in_ok-search_command.field-0 r c.trace_flag.result c.in_ok-search_command.ensures c.trace_flag.ensures.0 c.trace_flag.ensures.1 adds) c.arg.ensures
