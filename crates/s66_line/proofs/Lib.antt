@@ -27,3 +27,4 @@ pub mod ReadLine
 pub mod ReadComments
 pub mod ReadBlock
 pub mod ReadAgain
+pub mod SpelledLaw

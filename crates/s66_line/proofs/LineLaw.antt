@@ -26,7 +26,7 @@ pub neither : (e f : Option SourceError) → or_else e f ≡ None → (e ≡ Non
 neither None f h = (refl, h)
 neither (Some e) f h = cc
 
-none-at : (lines : List Line) (l : Line) → refusal lines ≡ None → Among l lines → refusal_at l ≡ None
+pub none-at : (lines : List Line) (l : Line) → refusal lines ≡ None → Among l lines → refusal_at l ≡ None
 none-at [] l h among = absurd among
 none-at (m ∷ lines) l h (inl same) = ap refusal_at same ∙ (neither (refusal_at m) (refusal lines) h).0
 none-at (m ∷ lines) l h (inr among) = none-at lines l (neither (refusal_at m) (refusal lines) h).1 among

@@ -84,7 +84,7 @@ run-instruction number run (l ∷ lines) m h among =
     by_test false later among = later among
 
 -- it is one of the lines
-of-instructions : (lines : List Line) (m : Line) → Among m (instructions lines) → Among m lines × (is_instruction m.class ≡ true)
+pub of-instructions : (lines : List Line) (m : Line) → Among m (instructions lines) → Among m lines × (is_instruction m.class ≡ true)
 of-instructions [] m among = absurd among
 of-instructions (l ∷ lines) m among = by_test (is_instruction l.class) refl (of-instructions lines m) among
   where

@@ -130,10 +130,10 @@ fits-all (line ∷ lines) number run index label after = fits-class (class_of af
 
 -- THE LINES OF A PART spell their instructions
 
-abbrev AreSoundLines : List Line → Type 0
+abbrev pub AreSoundLines : List Line → Type 0
 AreSoundLines lines = AreSound (map entry_of lines)
 
-sound-instructions : (lines : List (List ℕ)) (number run index : ℕ) (label : List ℕ) (after : Bool) → every (every is_inside) lines ≡ true → AreSoundLines (instructions (classes_from number run index label after lines))
+pub sound-instructions : (lines : List (List ℕ)) (number run index : ℕ) (label : List ℕ) (after : Bool) → every (every is_inside) lines ≡ true → AreSoundLines (instructions (classes_from number run index label after lines))
 sound-instructions [] number run index label after h = tt
 sound-instructions (line ∷ lines) number run index label after h =
     let both = and_parts (every is_inside line) (every (every is_inside) lines) h in

@@ -46,7 +46,7 @@ found (e ∷ es) (suc n) h few =
     let later = found es n h.1 (omega (arith, few)) in
     record { entry = later.entry; here = later.here; sound = later.sound }
 
-bytes_of-entry : (block : Block) (n : ℕ) (e : Entry) → entry_at block n ≡ Some e → bytes_of block n ≡ e.bytes
+pub bytes_of-entry : (block : Block) (n : ℕ) (e : Entry) → entry_at block n ≡ Some e → bytes_of block n ≡ e.bytes
 bytes_of-entry block n e here = rw here refl
 
 sound-at : (block : Block) (n : ℕ) → AreSound block.entries → 1 ≤ n → n ≤ length block.entries → IsSoundAt block n

@@ -1,15 +1,16 @@
-ghost use Rattle.std.specs.Prelude.{◌≡◌, ◌≤◌, ℕ, List, ◌∷◌, ◌++◌, Some, None, Ok, Bool, true, false, map, codes, [], not, ◌==◌};
+ghost use Rattle.std.specs.Prelude.{◌≡◌, ◌≤◌, ℕ, List, ◌∷◌, ◌++◌, Some, None, Ok, Bool, true, false, map, length, codes, [], not, ◌==◌};
 ghost use Rattle.std.specs.List.{filter};
 ghost use Rattle.s66_isa.specs.declared.instr.Instr.{Instr};
 ghost use Rattle.s66_isa.specs.declared.reg.Bank.{Bank};
-ghost use Rattle.s66_isa.specs.Table.{instr};
+ghost use Rattle.s66_isa.specs.Table.{instr, instr_at};
 ghost use Rattle.s66_isa.specs.Lists.{Among, tally, every, rising};
 ghost use Rattle.s66_line.specs.Fields.{is_blank, is_newline, upper_byte, upper, body, lines_of, AreLines, HasFields};
-ghost use Rattle.s66_line.specs.InstructionText.{IsInstruction};
+ghost use Rattle.s66_line.specs.InstructionText.{IsInstruction, IsTextOf};
 ghost use Rattle.s66_line.specs.Operand.{register_of, is_constant, constant_of, instr_of, set_form_of};
 ghost use Rattle.s66_line.specs.Spelling.{CanMean, spellings, all_codes, upper_read};
 ghost use Rattle.s66_line.specs.Source.{Line, Block, class_of, classed_lines, instructions, is_instruction, parts_of, blocks_of, source_of};
-ghost use Rattle.s66_line.specs.Block.{constants_in};
+ghost use Rattle.s66_line.specs.Block.{instrs_of, text_of, constants_in};
+ghost use Rattle.s66_line.specs.declared.limits.TheConstants.{BLOCK_LIMIT};
 ghost use Rattle.s66_line.specs.Parts.{AreParts};
 ghost use Rattle.s66_line.specs.Printed.{Placed, ArePlaced, label_field, printed};
 ghost use Rattle.s66_line.specs.ReadAgain.{AreComplete, ArePlacedAgain};
@@ -60,6 +61,13 @@ pub fn case_law()
 /// The blocks of a source are its instruction lines, cut into runs, and these into blocks of `BLOCK_LIMIT` lines and what is left.
 pub fn parts_law()
     ensures { (text : List ℕ) → AreParts (classed_lines text) (parts_of (instructions (classed_lines text))) }
+{}
+
+/// Each block of an accepted source has 1 to `BLOCK_LIMIT` instructions, each of which its text spells.
+pub fn spelled_law()
+    ensures some { (text : List ℕ) (blocks : List Block) (block : Block) → source_of text ≡ Ok blocks → Among block blocks → 1 ≤ length (instrs_of block) }
+    ensures few { (text : List ℕ) (blocks : List Block) (block : Block) → source_of text ≡ Ok blocks → Among block blocks → length (instrs_of block) ≤ BLOCK_LIMIT }
+    ensures spelled { (text : List ℕ) (blocks : List Block) (block : Block) → source_of text ≡ Ok blocks → Among block blocks → (n : ℕ) → 1 ≤ n → n ≤ length (instrs_of block) → IsTextOf (text_of block n) (instr_at (instrs_of block) n) }
 {}
 
 /// Each line of an accepted source is exactly one of these: an instruction, a note, a `NO` that is left out, or copied; and a

@@ -26,7 +26,7 @@ pub use instruction_text::{instruction_in, is_instruction};
 pub use laws::{
     byte_examples, case_law, code_law, constant_examples, copied_law, instruction_examples,
     line_examples, line_law, operation_law, parts_law, printed_examples, read_again_examples,
-    read_again_law, set_form_law, term_law, whole_law,
+    read_again_law, set_form_law, spelled_law, term_law, whole_law,
 };
 pub use limits::{BLOCK_LIMIT, LINE_LIMIT, SOURCE_LIMIT, TEXT_LIMIT};
 pub use placed::Placed;
