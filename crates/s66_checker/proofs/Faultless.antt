@@ -1,5 +1,5 @@
 -- A line of a tree is without fault exactly where it shows the bound.
-use Rattle.std.proofs.Common.{ℕ, ◌≤◌, ◌<◌, ◌≡◌, ◌≢◌, ◌↔◌, Bool, true, false, true≢false, cond, not, ◌&&◌, List, [], ◌∷◌, ◌++◌, length, Option, None, Some, bytes_eq, Decides, refl, sym, ap, arith, inl, inr, length-append, subst, ◌∙◌}
+use Rattle.std.proofs.Common.{ℕ, ◌≤◌, ◌≡◌, ◌≢◌, ◌↔◌, Bool, true, false, true≢false, cond, not, ◌&&◌, List, [], ◌∷◌, ◌++◌, length, None, Some, bytes_eq, Decides, refl, sym, ap, arith, inl, length-append, subst, ◌∙◌}
 use Rattle.std.proofs.lemmas.Bool.{eqb-true, eq-eqb, ne_eqb, ltb-false, le-ltb, not-true, not-false, not_from_true, not_from_false}
 use Rattle.std.proofs.lemmas.Bool.Decides.{Decides-and, Decides-like}
 use Rattle.std.proofs.lemmas.Slice.Eq.{bytes_eq-Decides}
@@ -9,11 +9,10 @@ use Rattle.s66_isa.specs.Lists.{Among}
 use Rattle.s66_model.specs.Timing.{Problem}
 use Rattle.s66_model.specs.LegalOrder.{IsLegal, is_ready, is_remaining, ready, GoesOn, IsBeginning, IsIncomplete}
 use Rattle.s66_model.specs.Leaves.{Leaf, Whole, Chain, Load, Parcels, value, MayStand, IsWalk, IsChain, is_linked}
-use Rattle.s66_model.specs.Tree.{LeafShows, AtTip, AtSplit}
+use Rattle.s66_model.specs.Tree.{LeafShows, AtSplit}
 use Rattle.s66_model.proofs.LegalOrders.{order-legal, legal-order}
 use Rattle.s66_model.proofs.Beginnings.{beginning-front}
 use Rattle.s66_model.proofs.Remaining.{ready-among, step-begins}
-use Rattle.s66_checker.specs.declared.verdict.Reason.{Reason}
 use Rattle.s66_checker.specs.declared.verdict.Reason.TheVariants as fault
 use Rattle.s66_checker.specs.Verdict.{goes_on, is_legal_order, is_walk, has_links, is_complete, is_at_its_place, leaf_fault, line_fault}
 

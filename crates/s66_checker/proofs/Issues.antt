@@ -1,11 +1,10 @@
 -- When an instruction issues, starts and is done, by looking back.
-use Rattle.std.proofs.Common.{ℕ, ◌+◌, ◌≤◌, ◌<◌, ◌≡◌, cond, max, List, [], ◌∷◌, map, reverse, refl, sym, ap, arith, inl, inr, subst, ◌∙◌}
-use Rattle.s66_isa.specs.declared.instr.Kind.{Kind}
+use Rattle.std.proofs.Common.{ℕ, ◌+◌, ◌≤◌, ◌<◌, ◌≡◌, cond, max, List, [], ◌∷◌, map, reverse, refl, sym, arith, ◌∙◌}
 use Rattle.s66_isa.specs.declared.reg.Reg.{Reg}
 use Rattle.s66_isa.specs.Lists.{greatest, tally}
 use Rattle.s66_isa.specs.Table.{Row, Write, standard, copies_of, has_reg, memory_pair}
-use Rattle.s66_model.specs.Timing.{Problem, Point, ResultAt, done_of, last_done, done_at, total, busy_at, issue_of, start_of, slot_of, parcel_of, copies, result_at, readers_wait, free_after, point, CanIssue}
-use Rattle.s66_isa.proofs.Lists.{cases_le, le-greatest, greatest-le, greatest-same}
+use Rattle.s66_model.specs.Timing.{Point, ResultAt, done_of, last_done, done_at, busy_at, issue_of, start_of, slot_of, parcel_of, result_at, free_after, point}
+use Rattle.s66_isa.proofs.Lists.{greatest-same}
 use Rattle.s66_model.proofs.Issue.{issue-join}
 use Rattle.s66_checker.specs.Kept.{under_standard, AreTimed}
 use Rattle.s66_checker.proofs.Reversed.{greatest-reverse, tally-reverse}

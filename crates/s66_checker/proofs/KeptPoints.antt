@@ -1,5 +1,5 @@
 -- What holds of the points that a beginning keeps.
-use Rattle.std.proofs.Common.{ℕ, ◌+◌, ◌-◌, ◌*◌, ◌≤◌, ◌<◌, ◌≡◌, max, List, [], ◌∷◌, length, take, get_or, reverse, refl, sym, ap, subst, arith, ◌∙◌}
+use Rattle.std.proofs.Common.{ℕ, ◌+◌, ◌-◌, ◌*◌, ◌≤◌, ◌<◌, ◌≡◌, max, List, [], ◌∷◌, length, get_or, reverse, refl, sym, ap, subst, arith}
 use Rattle.std.proofs.lemmas.Bool.{cond_both}
 use Rattle.std.proofs.lemmas.List.{length-reverse}
 use Rattle.s66_isa.specs.declared.instr.Kind.{Kind}
@@ -7,7 +7,7 @@ use Rattle.s66_isa.specs.declared.reg.Reg.{Reg}
 use Rattle.s66_isa.specs.Lists.{greatest, weigh}
 use Rattle.s66_isa.specs.Table.{Row, same_kind}
 use Rattle.s66_line.specs.declared.limits.TheConstants.{BLOCK_LIMIT}
-use Rattle.s66_model.specs.Timing.{Problem, Point, end_of, total, done_of, last_done, next, row_at, point_of, points_after, points_of}
+use Rattle.s66_model.specs.Timing.{Problem, Point, end_of, total, done_of, last_done, row_at, point_of, points_after}
 use Rattle.s66_model.specs.Leaves.{rest_busy}
 use Rattle.s66_model.proofs.Growth.{AreSmall, point-ordered, total-le}
 use Rattle.s66_model.proofs.PointTimes.{good-at, points_after-length, point_of-row, issue-le-start, hold-le-free}

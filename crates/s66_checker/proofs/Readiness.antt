@@ -1,7 +1,7 @@
 -- Readiness by what each number depends on.
-use Rattle.std.proofs.Common.{ℕ, ◌+◌, ◌-◌, ◌≤◌, ◌<◌, ◌≡◌, Bool, true, false, true≢false, not, ◌&&◌, List, [], ◌∷◌, ◌++◌, length, get_or, refl, sym, ap, arith, leb, inl, inr, ◌∙◌}
+use Rattle.std.proofs.Common.{ℕ, ◌+◌, ◌-◌, ◌≤◌, ◌≡◌, true, true≢false, not, ◌&&◌, List, length, get_or, refl, sym, ap, arith, leb, inl, inr, ◌∙◌}
 use Rattle.std.specs.Cmp.{both_ways}
-use Rattle.std.proofs.lemmas.Bool.{and_parts, and_from, and_right, not-true, not_from_false, cases_Bool, le-leb}
+use Rattle.std.proofs.lemmas.Bool.{and_from, and_right, not_from_false, cases_Bool, le-leb}
 use Rattle.std.proofs.lemmas.List.{length-append}
 use Rattle.arrayvec.specs.ArrayVec.{ArrayVec}
 use Rattle.s66_isa.specs.declared.instr.Instr.{Instr}
@@ -9,10 +9,10 @@ use Rattle.s66_isa.specs.Lists.{has, every}
 use Rattle.s66_isa.specs.Table.{numbers}
 use Rattle.s66_isa.proofs.Lists.{every-each, each-every, rising-among}
 use Rattle.s66_model.specs.Dependence.{depends, needs}
-use Rattle.s66_model.specs.LegalOrder.{IsBeginning, is_remaining, is_ready, needs_met}
+use Rattle.s66_model.specs.LegalOrder.{IsBeginning, is_remaining, needs_met}
 use Rattle.s66_model.proofs.LegalOrders.{needs-each, each-needs, depends-from, depends-lt}
 use Rattle.s66_model.proofs.Beginnings.{beginning-front}
-use Rattle.s66_model.proofs.Remaining.{among-filter, filter-among, remaining-parts}
+use Rattle.s66_model.proofs.Remaining.{among-filter, filter-among}
 use Rattle.s66_checker.specs.Kept.{AreNeeds}
 
 -- a beginning has no more numbers than its block

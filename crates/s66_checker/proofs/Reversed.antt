@@ -1,5 +1,5 @@
 -- What of a list its order doesn't matter to.
-use Rattle.std.proofs.Common.{ℕ, ◌+◌, ◌-◌, ◌<◌, ◌≡◌, Bool, List, [], ◌∷◌, ◌++◌, length, take, get_or, reverse, refl, sym, ap, arith, ◌∙◌}
+use Rattle.std.proofs.Common.{ℕ, ◌+◌, ◌-◌, ◌<◌, ◌≡◌, Bool, List, [], ◌∷◌, length, take, get_or, reverse, refl, sym, ap, arith, ◌∙◌}
 use Rattle.std.proofs.lemmas.List.{reverse-append, take_more, take_all}
 use Rattle.s66_isa.specs.Lists.{greatest, tally, weigh}
 use Rattle.s66_isa.proofs.Lists.{greatest-append, tally-append, weigh-append}

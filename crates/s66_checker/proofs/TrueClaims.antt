@@ -1,12 +1,12 @@
 -- The verdict is yes exactly where the claim is true.
-use Rattle.std.proofs.Common.{ℕ, suc, ◌≤◌, ◌≡◌, ◌↔◌, Bool, true, false, cond, not, List, [], ◌∷◌, ◌++◌, Option, None, Some, bytes_eq, refl, sym, ap, inl, inr, subst, ◌∙◌}
+use Rattle.std.proofs.Common.{ℕ, suc, ◌≡◌, ◌↔◌, Bool, true, cond, not, List, [], ◌∷◌, ◌++◌, Option, None, Some, bytes_eq, refl, inl, inr, subst}
 use Rattle.std.proofs.lemmas.Bool.{eqb-true, eq-eqb, ltb-false, le-ltb, not-false, not_from_true}
 use Rattle.std.proofs.lemmas.Slice.Eq.{bytes_eq-Decides}
 use Rattle.std.specs.Prelude.{nat_lt, ◌==◌}
 use Rattle.s66_isa.specs.Lists.{Among}
 use Rattle.s66_isa.specs.Table.{standard}
 use Rattle.s66_model.specs.Timing.{Problem, total_of}
-use Rattle.s66_model.specs.LegalOrder.{is_ready, ready, IsBeginning, IsLegal}
+use Rattle.s66_model.specs.LegalOrder.{is_ready, ready, IsBeginning}
 use Rattle.s66_model.specs.Leaves.{Leaf}
 use Rattle.s66_model.specs.Tree.{Tree, Alone, Parted, Kids, NoMore, Unsplit, Split, Knot, KidsHold, LeafShows, Shows}
 use Rattle.s66_model.proofs.Remaining.{ready-among, step-begins}

@@ -1,7 +1,7 @@
 -- Used by examples alone: worked documents with a part changed.
 use Rattle.std.specs.Prelude.{ℕ, List, [], ◌∷◌}
 use Rattle.s66_model.specs.Leaves.{Leaf, Whole}
-use Rattle.s66_model.specs.Tree.{Tree, Parted, Kids, NoMore, Unsplit, Split}
+use Rattle.s66_model.specs.Tree.{Parted, Kids, NoMore, Unsplit, Split}
 use Rattle.s66_cert.specs.Document.{Document}
 use Rattle.s66_cert.specs.Examples.{one_load, three_multiplies, after_one}
 

@@ -4,7 +4,7 @@ use Rattle.std.proofs.lemmas.List.{append-nil}
 use Rattle.s66_isa.specs.declared.instr.Instr.{Instr}
 use Rattle.s66_model.specs.LegalOrder.{ready}
 use Rattle.s66_model.specs.Leaves.{Leaf}
-use Rattle.s66_model.specs.Tree.{Kids, NoMore, Unsplit, Split, Tree, Alone, Parted, Knot, AtTip, AtSplit, flat, flat_kids}
+use Rattle.s66_model.specs.Tree.{Kids, NoMore, Unsplit, Split, Alone, Parted, AtTip, AtSplit, flat, flat_kids}
 use Rattle.s66_model.specs.NodeTree.{each_kid, grown_kid, grown_tree}
 use Rattle.s66_model.specs.Later.{children}
 use Rattle.s66_model.specs.TreeLines.{lines_at, lines_of}
@@ -19,8 +19,8 @@ module _ (block : List Instr) (is_split : List ℕ → Bool) (leaf : List ℕ �
   kid-lines (suc more) at later = by (is_split at)
     where
       by : (b : Bool) →
-        flat_kids (cond b (Split (ready block at) (each_kid (kid more) at (ready block at)) later) (Unsplit (leaf at) later))
-        ≡ flat_kids (cond b (Split (ready block at) (each_kid (kid more) at (ready block at)) NoMore) (Unsplit (leaf at) NoMore)) ++ flat_kids later
+          flat_kids (cond b (Split (ready block at) (each_kid (kid more) at (ready block at)) later) (Unsplit (leaf at) later))
+          ≡ flat_kids (cond b (Split (ready block at) (each_kid (kid more) at (ready block at)) NoMore) (Unsplit (leaf at) NoMore)) ++ flat_kids later
       by true = ap (λ knots. AtSplit (ready block at) ∷ (knots ++ flat_kids later)) (sym (append-nil (flat_kids (each_kid (kid more) at (ready block at)))))
       by false = refl
 
@@ -54,7 +54,7 @@ module _ (block : List Instr) (is_split : List ℕ → Bool) (leaf : List ℕ �
   lines-tree = by (is_split []) refl ∙ sym (append-nil (lines_at block is_split leaf []))
     where
       by : (b : Bool) → is_split [] ≡ b →
-        flat (cond b (Parted (ready block []) (each_kid (kid (length block)) [] (ready block []))) (Alone (leaf []))) ≡ lines_at block is_split leaf []
+          flat (cond b (Parted (ready block []) (each_kid (kid (length block)) [] (ready block []))) (Alone (leaf []))) ≡ lines_at block is_split leaf []
       by true is = ap (λ knots. AtSplit (ready block []) ∷ knots) (each-lines (length block) [] (ready block []) (omega arith)) ∙ sym (lines-split [] is (omega arith))
       by false off = sym (lines-unsplit [] off)
 

@@ -1,4 +1,4 @@
-use Rattle.std.proofs.Common.{◌≡◌, ◌-◌, length}
+use Rattle.std.proofs.Common.{◌≡◌, ◌-◌}
 use Rattle.s66_model.specs.Later.{ready_above}
 use Rattle.s66_node.proofs.walk.Walk.next_ready.Given as goal
 
