@@ -1,5 +1,5 @@
 -- The document of an answer is a document, whose tree its lines tell.
-use Rattle.std.proofs.Common.{ℕ, zero, suc, ◌+◌, ◌≤◌, ◌<◌, ◌≡◌, Bool, true, List, [], ◌∷◌, ◌++◌, length, refl, sym, ap, arith, inl, inr, subst, ◌∙◌, map}
+use Rattle.std.proofs.Common.{ℕ, zero, suc, ◌+◌, ◌≤◌, ◌≡◌, Bool, true, List, [], ◌∷◌, ◌++◌, length, refl, sym, ap, arith, inl, inr, subst, ◌∙◌, map}
 use Rattle.std.proofs.lemmas.Bool.{and_parts, ltb-true, cond_both}
 use Rattle.std.proofs.lemmas.List.{length-map}
 use Rattle.std.specs.List.{filter}
@@ -11,7 +11,6 @@ use Rattle.s66_isa.specs.Table.{numbers}
 use Rattle.s66_isa.proofs.Lists.{least-le}
 use Rattle.s66_line.specs.declared.limits.TheConstants.{BLOCK_LIMIT}
 use Rattle.s66_line.specs.Block.{instrs_of, text_of}
-use Rattle.s66_line.specs.InstructionText.{IsInstruction}
 use Rattle.s66_line.specs.Source.{Block}
 use Rattle.s66_model.specs.Answer.{Answer, IsAnswer}
 use Rattle.s66_model.specs.Leaves.{Leaf, Whole, Chain, Load, Parcels, MayStand, IsWalk, leaf_values, link, floor}
@@ -25,9 +24,9 @@ use Rattle.s66_model.proofs.Growth.{total-le}
 use Rattle.s66_model.proofs.LegalOrders.{legal-order, ready-parts}
 use Rattle.s66_model.proofs.Remaining.{among-ready, legal-parts, ready-among, remaining-parts, rest-first, step-begins}
 use Rattle.s66_cert.specs.declared.limits.TheConstants.{SPLIT_LIMIT, TIME_LIMIT}
-use Rattle.s66_cert.specs.Document.{Document, AreIn, AreInstructions, AreNumbers, IsDocument, IsLeafLine, KidsFit, TreeFits, profile_numbers}
+use Rattle.s66_cert.specs.Document.{AreIn, AreInstructions, AreNumbers, IsDocument, IsLeafLine, KidsFit, TreeFits, profile_numbers}
 use Rattle.s66_cert.specs.Parts.{Parts, AreWhole, document_of, tree_of}
-use Rattle.s66_main.specs.ProvedAnswers.{IsSpelled, IsSpelledTo}
+use Rattle.s66_main.specs.ProvedAnswers.{IsSpelled}
 use Rattle.s66_main.specs.ProveText.{document_under, texts_of}
 
 -- RANGES
@@ -63,7 +62,7 @@ module _ (block : List Instr) (few : length block ≤ BLOCK_LIMIT) where
         not-empty n (ready block prefix) among,
         omega (arith, few, filter-short (is_ready block prefix) (numbers block), length-rising (length block) 1),
         are-in 1 BLOCK_LIMIT (ready block prefix)
-        (λ m among. let parts = ready-parts block prefix m (ready-among block prefix m among) in (parts.0, omega (arith, parts.1, few))),
+            (λ m among. let parts = ready-parts block prefix m (ready-among block prefix m among) in (parts.0, omega (arith, parts.1, few))),
       )
 
   goes-in : (prefix ns : List ℕ) → GoesOn block prefix ns → AreIn 1 BLOCK_LIMIT ns
@@ -146,10 +145,47 @@ length-texts block = length-map (numbers (instrs_of block)) (text_of block) ∙ 
 -- DOCUMENTS
 
 profile-in : (p : Profile) → AreIn 1 100 (profile_numbers p)
-profile-in p =
-    (p.least.0, p.greatest.0, (p.least.1, p.greatest.1, (p.least.2, p.greatest.2, (p.least.3, p.greatest.3, (p.least.4, p.greatest.4,
-    (p.least.5, p.greatest.5, (p.least.6, p.greatest.6, (p.least.7, p.greatest.7, (p.least.8, p.greatest.8, (p.least.9, p.greatest.9,
-    (p.units.0, p.few.0, (p.units.1, p.few.1, (p.units.2, p.few.2, (p.units.3, p.few.3, (p.units.4, p.few.4, (p.units.5, p.few.5, (p.units.6, p.few.6, tt)))))))))))))))))
+profile-in p = (
+  p.least.0,
+  p.greatest.0,
+  (
+    p.least.1,
+    p.greatest.1,
+    (
+      p.least.2,
+      p.greatest.2,
+      (
+        p.least.3,
+        p.greatest.3,
+        (
+          p.least.4,
+          p.greatest.4,
+          (
+            p.least.5,
+            p.greatest.5,
+            (
+              p.least.6,
+              p.greatest.6,
+              (
+                p.least.7,
+                p.greatest.7,
+                (
+                  p.least.8,
+                  p.greatest.8,
+                  (
+                    p.least.9,
+                    p.greatest.9,
+                    (p.units.0, p.few.0, (p.units.1, p.few.1, (p.units.2, p.few.2, (p.units.3, p.few.3, (p.units.4, p.few.4, (p.units.5, p.few.5, (p.units.6, p.few.6, tt))))))),
+                  ),
+                ),
+              ),
+            ),
+          ),
+        ),
+      ),
+    ),
+  ),
+)
 
 pub bound-within : (b : Problem) (budget : ℕ) (a : Answer) → IsAnswer b budget a → a.bound ≤ a.time
 bound-within b budget a is = omega (arith, is.bound, least-le (λ v. v) a.time (a.time ∷ tree_values (leaf_values b) [] a.tree) (inl refl))

@@ -2,7 +2,7 @@
 use Rattle.std.proofs.Common.{◌≡◌, ◌⊎◌, ◌∙◌, ◌≤◌, ◌<◌, ◌^◌, inl, inr, ℕ, zero, suc, Bool, cond, true, false, true≢false, ◌&&◌, List, [], ◌∷◌, ◌++◌, Option, Some, None, is_some, option_and_then, refl, sym, ap, subst, find, fold, drop, bytes_eq, length, encode_utf8, slice_get, chars, min, ◌+◌}
 use Rattle.std.specs.Prelude.{Ok, Result, pos, unwrap_or}
 use Rattle.std.specs.Option.{option_map_or}
-use Rattle.std.specs.Str.Parse.{ParsesUnsigned, digits_value, without_leading_plus}
+use Rattle.std.specs.Str.Parse.{ParsesUnsigned}
 use Rattle.clap.specs.Words.{Kinds, ReadsOne, Row, Rule, Shape, Text, one_of, without_minus}
 use Rattle.clap.specs.Simple.{filled}
 use Rattle.clap.specs.Lexer.{long_of, short_of}

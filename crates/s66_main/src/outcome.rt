@@ -141,8 +141,14 @@ impl Fault {
         ensures short { length result.bytes < FAULT_ROOM }
     {
         match self {
-            Fault::Source(SourceError::BadOperand { line }) => line_refusal(u64::from(*line), " BAD OPERAND"),
-            Fault::Source(SourceError::LineTooLong { line }) => line_refusal(u64::from(*line), " TOO LONG"),
+            Fault::Source(SourceError::BadOperand { line }) => line_refusal(
+                u64::from(*line),
+                " BAD OPERAND",
+            ),
+            Fault::Source(SourceError::LineTooLong { line }) => line_refusal(
+                u64::from(*line),
+                " TOO LONG",
+            ),
             Fault::Source(SourceError::TooLarge) => short_text("TOO MANY LINES"),
             Fault::Document(CertError::BadLine { line }) => line_refusal(*line, " BAD LINE"),
             Fault::Document(CertError::Truncated) => short_text("TRUNCATED"),

@@ -463,7 +463,7 @@ fn refuses_words(rt: HostRuntime) -> Result<(), Fail> {
         Some(2)
     );
     assert_eq!(rt; usage_code(&rt, &["s66", "order", "--nodes"]), Some(2));
-    for word in ["prove", "check", "nonsense"] {
+    for word in ["proves", "nonsense"] {
         assert_eq!(rt; usage_code(&rt, &["s66", word]), Some(2), "{word}");
     }
     assert_eq!(rt; usage_code(&rt, &["s66", "--help"]), Some(0));
@@ -472,5 +472,7 @@ fn refuses_words(rt: HostRuntime) -> Result<(), Fail> {
     assert_eq!(rt; usage_code(&rt, &["s66", "deps", "--help"]), Some(0));
     assert_eq!(rt; usage_code(&rt, &["s66", "chart", "--help"]), Some(0));
     assert_eq!(rt; usage_code(&rt, &["s66", "order", "--help"]), Some(0));
+    assert_eq!(rt; usage_code(&rt, &["s66", "prove", "--help"]), Some(0));
+    assert_eq!(rt; usage_code(&rt, &["s66", "check", "--help"]), Some(0));
     Ok(())
 }

