@@ -1,0 +1,190 @@
+#!/usr/bin/env python3
+"""Checks that what the documents show is what the program does, and that what they name is there.
+
+    docs/check.py PROGRAM [DOCUMENT..]
+
+PROGRAM is the built program. Without a DOCUMENT all are checked: README.md, examples/README.md and docs/*.md. The
+status is 1 where something is wrong, and each wrong place is told, wrong output as a diff.
+
+Two kinds of fences hold commands. In
+
+    ```console
+    $ s66 time < ADD
+    BLOCK 1 LINE 1 COUNT 1 PARCELS 1 NO 0 TIME 4
+    ```
+
+a line that begins with "$ " is a command, and what follows it, up to the next command or the end, is to the byte what
+it writes to standard output and error. Where its status isn't 0, the next command is `echo $?`. A fence marked sh is
+copied as a whole: its commands write nothing and have status 0. No other fence has a line that begins with "$ ".
+
+The commands of a document run one after the other, in one folder of its own. At first that holds what a reader at the
+root of the repository has at hand: the program as ./s66, and examples/. The program is s66 on the PATH too.
+
+Names stand in backquotes outside of fences. The name of a file or folder may leave out folders in front, and a star or
+a word of capitals in it stands for any text. A name with a `_`, a `::` or a capital inside is that of a crate or of
+something in the code of one; in a column of contracts, each name is one of something in the crates of its row.
+"""
+import difflib
+import glob
+import os
+import re
+import shutil
+import subprocess
+import sys
+import tempfile
+
+ROOT = os.path.dirname(os.path.dirname(os.path.abspath(__file__)))
+
+FENCE = re.compile(r"^```(.*)\n((?:.*\n)*?)^```$", re.MULTILINE)
+SPAN = re.compile(r"`([^`\n]+)`")
+PATH = re.compile(r"[\w*.-]+(/[\w*.-]+)*/?")
+SUFFIX = re.compile(r"\.(antt|chart|compass|edit|md|order|py|rt|time|txt)$|\b[a-z]\w*\.1$")
+ANY = re.compile(r"\\\*|\b[A-Z]+\b(?!\\.md)")
+NAME = re.compile(r"[A-Za-z]\w*(::\w+)*")
+IS_MIXED = re.compile(r"[a-z0-9]_[a-z0-9]|::|[a-z][A-Z]")
+COMMENT = re.compile(r"^\s*(//|--).*$", re.MULTILINE)
+STATUS_END = "\x1e"  # behind the output of a command: its status, and this
+
+
+class Fence:
+    """A fence of a document: its first line's number, what it is marked with, and its text."""
+
+    def __init__(self, line, mark, text):
+        self.line, self.mark, self.text = line, mark, text
+
+    def commands(self):
+        if self.mark == "sh":
+            return [self.text]
+        return [line[2:] + "\n" for line in self.text.splitlines() if line.startswith("$ ")]
+
+
+def fences(text):
+    return [Fence(text[: found.start()].count("\n") + 1, found[1], found[2]) for found in FENCE.finditer(text)]
+
+
+def run(commands, program):
+    """The output and the status of each command."""
+    with tempfile.TemporaryDirectory() as top:
+        folder, bin = os.path.join(top, "s66"), os.path.join(top, "bin")
+        os.mkdir(bin)
+        shutil.copytree(os.path.join(ROOT, "examples"), os.path.join(folder, "examples"))
+        for place in (folder, bin):
+            os.symlink(os.path.abspath(program), os.path.join(place, "s66"))
+        told = 'status=$?; printf "\\036%s\\036" $status; (exit $status)\n'
+        done = subprocess.run(
+            ["sh", "-c", "".join(command + told for command in commands)],
+            cwd=folder,
+            env={"PATH": bin + os.pathsep + os.environ["PATH"], "LC_ALL": "C"},
+            stdin=subprocess.DEVNULL,
+            stdout=subprocess.PIPE,
+            stderr=subprocess.STDOUT,
+        )
+    parts = done.stdout.decode("utf-8", "backslashreplace").split(STATUS_END)
+    ran = [(output, int(status)) for output, status in zip(parts[0::2], parts[1::2])]
+    return ran + [(parts[-1] if len(parts) % 2 else "", 2)] * (len(commands) - len(ran))
+
+
+def wrong_commands(name, text, program):
+    """What a document shows otherwise than the program does it."""
+    shown = fences(text)
+    for fence in shown:
+        if fence.mark not in ("console", "sh") and re.search(r"^\$ ", fence.text, re.MULTILINE):
+            yield f"{name}:{fence.line}: a command in a fence that isn't marked console"
+    shown = [fence for fence in shown if fence.mark in ("console", "sh")]
+    answers = iter(run([command for fence in shown for command in fence.commands()], program))
+    for fence in shown:
+        commands = fence.commands()
+        ran = [next(answers) for _ in commands]
+        if fence.mark == "sh":
+            wanted, came = "", ran[0][0]
+        else:
+            wanted, came = fence.text, "".join("$ " + c + output for c, (output, _) in zip(commands, ran))
+        if wanted != came:
+            lines = [text.splitlines(keepends=True) for text in (wanted, came)]
+            diff = difflib.unified_diff(*lines, f"{name}:{fence.line}", "what came")
+            yield "".join(line if line.endswith("\n") else line + "\n\\ no newline\n" for line in diff).rstrip("\n")
+        for command, after, (_, status) in zip(commands, commands[1:] + [""], ran):
+            if status != 0 and after != "echo $?\n":
+                yield f"{name}:{fence.line}: status {status} that isn't shown, of: {command.rstrip()}"
+
+
+class Repository:
+    """Its files, and the names in the code of each crate, which are all declared somewhere, since it is proved."""
+
+    def __init__(self):
+        listed = ["git", "-C", ROOT, "ls-files", "-co", "--exclude-standard"]
+        files = subprocess.run(listed, check=True, stdout=subprocess.PIPE, text=True).stdout.splitlines()
+        self.files = [file for file in files if os.path.isfile(os.path.join(ROOT, file))]
+        self.names = {}
+        for file in self.files:
+            if file.startswith("crates/") and file.endswith((".rt", ".antt")):
+                with open(os.path.join(ROOT, file), encoding="utf-8") as opened:
+                    names = re.findall(r"\w+", COMMENT.sub("", opened.read()))
+                self.names.setdefault(file.split("/")[1], set()).update(names)
+
+    def has_file(self, path):
+        tail = "/" + ANY.sub("[^/]*", re.escape(path.rstrip("/"))) + "(/|$)"
+        return any(re.search(tail, "/" + file) for file in self.files)
+
+    def has_name(self, name, crates):
+        """Whether each part of a name is in the code of one of the crates."""
+        return any(all(part in self.names[crate] for part in name.split("::")) for crate in crates)
+
+
+def looks_like_a_file(span, repository):
+    if not PATH.fullmatch(span):
+        return False
+    top = span.split("/")[0]
+    return bool(SUFFIX.search(span)) or "/" in span and any(file.split("/")[0] == top for file in repository.files)
+
+
+def contracts(row):
+    """The names in a row's last cell, but for those of crates; and these, which stand in parentheses."""
+    spans = SPAN.findall(row.rstrip().rstrip("|").rsplit(" | ", 1)[-1])
+    crates = [span for span in spans if span.startswith("s66_")]
+    return [span for span in spans if span not in crates], crates
+
+
+def wrong_names(name, text, repository):
+    """The names of a document that the repository doesn't have."""
+    text = FENCE.sub(lambda fence: re.sub(".", "", fence[0]), text)
+    in_contracts = False
+    for number, line in enumerate(text.splitlines(), 1):
+        in_contracts = line.startswith("|") and (in_contracts or line.endswith("| Contract |"))
+        for span in SPAN.findall(line):
+            if looks_like_a_file(span, repository):
+                if not repository.has_file(span):
+                    yield f"{name}:{number}: no file {span}"
+            elif NAME.fullmatch(span) and IS_MIXED.search(span):
+                if span not in repository.names and not repository.has_name(span, repository.names):
+                    yield f"{name}:{number}: nothing is called {span}"
+        names, crates = contracts(line) if in_contracts else ([], [])
+        for contract in names:
+            if NAME.fullmatch(contract) and not repository.has_name(contract, crates):
+                yield f"{name}:{number}: no {contract} in {', '.join(crates)}"
+
+
+def main(arguments):
+    if not arguments:
+        sys.exit(__doc__.split("\n\n")[1])
+    program, documents = arguments[0], arguments[1:]
+    if not documents:
+        documents = [os.path.join(ROOT, "README.md"), os.path.join(ROOT, "examples/README.md")]
+        documents += sorted(glob.glob(os.path.join(ROOT, "docs/*.md")))
+    repository = Repository()
+    wrong, commands = [], 0
+    for document in documents:
+        name = os.path.relpath(document, ROOT)
+        with open(document, encoding="utf-8") as opened:
+            text = opened.read()
+        commands += sum(len(fence.commands()) for fence in fences(text) if fence.mark in ("console", "sh"))
+        wrong += wrong_commands(name, text, program)
+        wrong += wrong_names(name, text, repository)
+    for line in wrong:
+        print(line)
+    print(f"{len(documents)} documents, {commands} commands: {len(wrong)} wrong")
+    return 1 if wrong else 0
+
+
+if __name__ == "__main__":
+    sys.exit(main(sys.argv[1:]))
