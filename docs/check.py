@@ -3,8 +3,9 @@
 
     docs/check.py PROGRAM [DOCUMENT..]
 
-PROGRAM is the built program. Without a DOCUMENT all are checked: README.md, examples/README.md and docs/*.md. The
-status is 1 where something is wrong, and each wrong place is told, wrong output as a diff.
+PROGRAM is the built program. Without a DOCUMENT all are checked: README.md, examples/README.md, docs/*.md, and that the
+manual page docs/s66.1 has each sentence of the program's help. The status is 1 where something is wrong, and each wrong
+place is told, wrong output as a diff.
 
 Two kinds of fences hold commands. In
 
@@ -42,6 +43,8 @@ SUFFIX = re.compile(r"\.(antt|chart|compass|edit|md|order|py|rt|time|txt)$|\b[a-
 ANY = re.compile(r"\\\*|\b[A-Z]+\b(?!\\.md)")
 NAME = re.compile(r"[A-Za-z]\w*(::\w+)*")
 IS_MIXED = re.compile(r"[a-z0-9]_[a-z0-9]|::|[a-z][A-Z]")
+HELP = re.compile(r"^ +(?:--)?(?!help)\w+(?: <N>)?  +(\S.*)$", re.MULTILINE)
+STATUSES = re.compile(r"^Status: (.*)$", re.MULTILINE)
 COMMENT = re.compile(r"^\s*(//|--).*$", re.MULTILINE)
 STATUS_END = "\x1e"  # behind the output of a command: its status, and this
 
@@ -164,6 +167,19 @@ def wrong_names(name, text, repository):
                 yield f"{name}:{number}: no {contract} in {', '.join(crates)}"
 
 
+def wrong_manual(name, program):
+    """What the program's help says of itself, and its manual page doesn't."""
+    with open(os.path.join(ROOT, name), encoding="utf-8") as opened:
+        manual = " ".join(line.strip() for line in opened if not line.startswith("."))
+    commands = run(["s66 --help\n"], program)[0][0]
+    subcommands = re.findall(r"^  ([a-z]+)  ", commands, re.MULTILINE)
+    for text, _ in run(["s66 --help\n"] + [f"s66 {word} --help\n" for word in subcommands if word != "help"], program):
+        statuses = [status.split(" ", 1)[1] for line in STATUSES.findall(text) for status in line.split(", ")]
+        for sentence in HELP.findall(text) + statuses:
+            if sentence not in manual:
+                yield f"{name}: doesn't say: {sentence}"
+
+
 def main(arguments):
     if not arguments:
         sys.exit(__doc__.split("\n\n")[1])
@@ -171,8 +187,10 @@ def main(arguments):
     if not documents:
         documents = [os.path.join(ROOT, "README.md"), os.path.join(ROOT, "examples/README.md")]
         documents += sorted(glob.glob(os.path.join(ROOT, "docs/*.md")))
-    repository = Repository()
     wrong, commands = [], 0
+    if not arguments[1:]:
+        wrong += wrong_manual("docs/s66.1", program)
+    repository = Repository()
     for document in documents:
         name = os.path.relpath(document, ROOT)
         with open(document, encoding="utf-8") as opened:
