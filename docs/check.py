@@ -55,18 +55,21 @@ class Fence:
     def __init__(self, line, mark, text):
         self.line, self.mark, self.text = line, mark, text
 
+    def is_run(self):
+        return self.mark in ("console", "sh")
+
     def commands(self):
         if self.mark == "sh":
             return [self.text]
         return [line[2:] + "\n" for line in self.text.splitlines() if line.startswith("$ ")]
 
 
-def fences(text):
+def fences_of(text):
     return [Fence(text[: found.start()].count("\n") + 1, found[1], found[2]) for found in FENCE.finditer(text)]
 
 
 def run(commands, program):
-    """The output and the status of each command."""
+    """The output and the status of each command; status 2 of those that the shell didn't come to."""
     with tempfile.TemporaryDirectory() as top:
         folder, bin = os.path.join(top, "s66"), os.path.join(top, "bin")
         os.mkdir(bin)
@@ -89,14 +92,14 @@ def run(commands, program):
 
 def wrong_commands(name, text, program):
     """What a document shows otherwise than the program does it."""
-    shown = fences(text)
-    for fence in shown:
-        if fence.mark not in ("console", "sh") and re.search(r"^\$ ", fence.text, re.MULTILINE):
-            yield f"{name}:{fence.line}: a command in a fence that isn't marked console"
-    shown = [fence for fence in shown if fence.mark in ("console", "sh")]
-    answers = iter(run([command for fence in shown for command in fence.commands()], program))
-    for fence in shown:
+    fences = fences_of(text)
+    answers = iter(run([command for fence in fences if fence.is_run() for command in fence.commands()], program))
+    for fence in fences:
         commands = fence.commands()
+        if not fence.is_run():
+            if commands:
+                yield f"{name}:{fence.line}: a command in a fence that isn't marked console"
+            continue
         ran = [next(answers) for _ in commands]
         if fence.mark == "sh":
             wanted, came = "", ran[0][0]
@@ -131,7 +134,7 @@ class Repository:
 
     def has_name(self, name, crates):
         """Whether each part of a name is in the code of one of the crates."""
-        return any(all(part in self.names[crate] for part in name.split("::")) for crate in crates)
+        return any(all(part in self.names.get(crate, ()) for part in name.split("::")) for crate in crates)
 
 
 def looks_like_a_file(span, repository):
@@ -142,7 +145,7 @@ def looks_like_a_file(span, repository):
 
 
 def contracts(row):
-    """The names in a row's last cell, but for those of crates; and these, which stand in parentheses."""
+    """The names in a row's last cell: of contracts, and of crates."""
     spans = SPAN.findall(row.rstrip().rstrip("|").rsplit(" | ", 1)[-1])
     crates = [span for span in spans if span.startswith("s66_")]
     return [span for span in spans if span not in crates], crates
@@ -171,9 +174,11 @@ def wrong_manual(name, program):
     """What the program's help says of itself, and its manual page doesn't."""
     with open(os.path.join(ROOT, name), encoding="utf-8") as opened:
         manual = " ".join(line.strip() for line in opened if not line.startswith("."))
-    commands = run(["s66 --help\n"], program)[0][0]
-    subcommands = re.findall(r"^  ([a-z]+)  ", commands, re.MULTILINE)
-    for text, _ in run(["s66 --help\n"] + [f"s66 {word} --help\n" for word in subcommands if word != "help"], program):
+    help_of_all = run(["s66 --help\n"], program)[0][0]
+    subcommands = re.findall(r"^  (?!help)([a-z]+)  ", help_of_all, re.MULTILINE)
+    if not subcommands:
+        yield f"{name}: the program's help has no subcommands"
+    for text in [help_of_all] + [text for text, _ in run([f"s66 {word} --help\n" for word in subcommands], program)]:
         statuses = [status.split(" ", 1)[1] for line in STATUSES.findall(text) for status in line.split(", ")]
         for sentence in HELP.findall(text) + statuses:
             if sentence not in manual:
@@ -182,7 +187,7 @@ def wrong_manual(name, program):
 
 def main(arguments):
     if not arguments:
-        sys.exit(__doc__.split("\n\n")[1])
+        sys.exit(__doc__.split("\n\n")[1].strip())
     program, documents = arguments[0], arguments[1:]
     if not documents:
         documents = [os.path.join(ROOT, "README.md"), os.path.join(ROOT, "examples/README.md")]
@@ -195,7 +200,7 @@ def main(arguments):
         name = os.path.relpath(document, ROOT)
         with open(document, encoding="utf-8") as opened:
             text = opened.read()
-        commands += sum(len(fence.commands()) for fence in fences(text) if fence.mark in ("console", "sh"))
+        commands += sum(len(fence.commands()) for fence in fences_of(text))
         wrong += wrong_commands(name, text, program)
         wrong += wrong_names(name, text, repository)
     for line in wrong:
