@@ -3,9 +3,9 @@
 
     docs/check.py PROGRAM [DOCUMENT..]
 
-PROGRAM is the built program. Without a DOCUMENT all are checked: README.md, examples/README.md, docs/*.md, and that the
-manual page docs/s66.1 has each sentence of the program's help. The status is 1 where something is wrong, and each wrong
-place is told, wrong output as a diff.
+PROGRAM is the built program. Without a DOCUMENT all are checked: README.md, examples/README.md, docs/*.md, and the manual
+page docs/s66.1: that its literal displays are what a terminal shows, and that it has each sentence of the program's
+help. The status is 1 where something is wrong, and each wrong place is told, wrong output as a diff.
 
 Two kinds of fences hold commands. In
 
@@ -43,6 +43,7 @@ SUFFIX = re.compile(r"\.(antt|chart|compass|edit|md|order|py|rt|time|txt)$|\b[a-
 ANY = re.compile(r"\\\*|\b[A-Z]+\b(?!\\.md)")
 NAME = re.compile(r"[A-Za-z]\w*(::\w+)*")
 IS_MIXED = re.compile(r"[a-z0-9]_[a-z0-9]|::|[a-z][A-Z]")
+DISPLAY = re.compile(r"^\.Bd -literal.*\n((?:.*\n)*?)^\.Ed$", re.MULTILINE)
 HELP = re.compile(r"^ +(?:--)?(?!help)\w+(?: <N>)?  +(\S.*)$", re.MULTILINE)
 STATUSES = re.compile(r"^Status: (.*)$", re.MULTILINE)
 COMMENT = re.compile(r"^\s*(//|--).*$", re.MULTILINE)
@@ -171,9 +172,12 @@ def wrong_names(name, text, repository):
 
 
 def wrong_manual(name, program):
-    """What the program's help says of itself, and its manual page doesn't."""
+    """What the manual page shows otherwise than the program does it, and what only the program's help says."""
     with open(os.path.join(ROOT, name), encoding="utf-8") as opened:
-        manual = " ".join(line.strip() for line in opened if not line.startswith("."))
+        page = opened.read()
+    for display in DISPLAY.findall(page):
+        yield from wrong_commands(name, "```console\n" + display.replace(r"\e", "\\") + "```\n", program)
+    manual = " ".join(line for line in page.splitlines() if not line.startswith("."))
     help_of_all = run(["s66 --help\n"], program)[0][0]
     subcommands = re.findall(r"^  (?!help)([a-z]+)  ", help_of_all, re.MULTILINE)
     if not subcommands:
