@@ -136,6 +136,15 @@ impl<'a> Walk<'a> {
         self.bounds.floor(&self.clock)
     }
 
+    /// The prefix's floor, whose value this is, in less time than `floor`.
+    pub fn floor_of_value(&self, value: u32) -> Leaf
+        requires { value ≡ floor_value self.now.problem self.now.numbers }
+        ensures leaf { leaf_of result ≡ floor self.now.problem self.now.numbers }
+        ensures value { value_of result ≡ value }
+    {
+        self.bounds.floor_of_value(&self.clock, value)
+    }
+
     /// The numbers that are ready after the prefix: one look at a word for each instruction that remains.
     pub fn ready(&self) -> Set
         ensures { numbers_in result ≡ ready self.now.problem.block self.now.numbers }
