@@ -152,16 +152,27 @@ impl<'a> Walk<'a> {
         self.dependences.ready(&self.clock.pushed())
     }
 
-    /// The least number above n that is ready after the prefix, in the time of `ready`.
+    /// Whether a number is ready after the prefix, in constant time.
+    fn is_ready(&self, n: u8) -> bool
+        requires { (1 ≤ n) × (n ≤ length self.now.problem.block) }
+        ensures { result ≡ is_ready self.now.problem.block self.now.numbers n }
+    {
+        let pushed = self.clock.pushed();
+        if pushed.has(n) {
+            return false;
+        }
+        self.dependences.needs(n).is_within(&pushed)
+    }
+
+    /// The least number above n that is ready after the prefix: one look at a word for each number up to it.
     pub fn next_ready(&self, n: u8) -> Option<u8>
         ensures { IsNextReady self.now.problem.block self.now.numbers n result }
     {
-        let ready = self.ready();
         let count = self.clock.block().count() as u8;
         let mut number = n;
         while number < count {
             number += 1;
-            if ready.has(number) {
+            if self.is_ready(number) {
                 return Some(number);
             }
         }
