@@ -1,4 +1,4 @@
-use Rattle.std.proofs.Common.{ℕ, ◌≡◌, ◌≤◌, ◌+◌, ◌∷◌, List, [], ap, sym, subst, arith, drop, get_or, ◌∙◌}
+use Rattle.std.proofs.Common.{ℕ, ◌+◌, List, ap, sym, subst, arith, drop, get_or, ◌∙◌}
 use Rattle.std.proofs.lemmas.List.{drop_all}
 use Rattle.s66_isa.specs.declared.instr.Kind.TheVariants.{Boolean}
 use Rattle.s66_isa.specs.Table.{all_kinds}

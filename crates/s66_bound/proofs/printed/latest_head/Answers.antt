@@ -1,7 +1,6 @@
-use Rattle.std.proofs.Common.{ℕ, ◌≤◌, List, ap, arith, ◌∙◌}
+use Rattle.std.proofs.Common.{ap, arith, ◌∙◌}
 use Rattle.std.proofs.lemmas.List.{take_all}
 use Rattle.s66_isa.specs.Lists.{greatest}
-use Rattle.s66_isa.specs.Table.{Reg}
 use Rattle.s66_model.specs.Timing.{done_of}
 use Rattle.s66_model.proofs.LateRegisters.{has-late}
 use Rattle.s66_time.specs.Ticking.{problem_of, points}
