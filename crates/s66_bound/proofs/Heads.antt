@@ -1,5 +1,5 @@
 -- The head of a number by the tables: when the registers are done that it reads or writes.
-use Rattle.std.proofs.Common.{ℕ, ◌+◌, ◌≤◌, ◌<◌, ◌≡◌, Bool, true, false, true≢false, max, List, length, get_or, drop, sym, ap, arith, inl, inr, eqb, ◌∙◌}
+use Rattle.std.proofs.Common.{ℕ, ◌+◌, ◌≤◌, ◌<◌, ◌≡◌, Bool, true, false, true≢false, cond, max, List, length, get_or, drop, sym, ap, arith, inl, inr, eqb, ◌∙◌}
 use Rattle.std.proofs.lemmas.Bool.{cases_Bool, cond-true, cond-false}
 use Rattle.std.proofs.lemmas.List.{at_drop_more}
 use Rattle.std.specs.List.{filter}
@@ -8,12 +8,12 @@ use Rattle.s66_isa.specs.declared.reg.Reg.{Reg}
 use Rattle.s66_isa.specs.Lists.{greatest, has}
 use Rattle.s66_isa.specs.Registers.{index_of}
 use Rattle.s66_isa.specs.Table.{numbers}
-use Rattle.s66_isa.proofs.Lists.{rising-among, has-among, among-has}
-use Rattle.s66_model.specs.Timing.{Problem, row_at, points_of, done_of}
+use Rattle.s66_isa.proofs.Lists.{rising-among, has-among, among-has, greatest-le-greatest}
+use Rattle.s66_model.specs.Timing.{Problem, row_at, points_of, next, done_of}
 use Rattle.s66_model.specs.Leaves.{uses, head, chain}
-use Rattle.s66_model.specs.Tails.{longest_tail}
+use Rattle.s66_model.specs.Tails.{longest_tail, HasLate}
 use Rattle.s66_model.proofs.Remaining.{among-filter, filter-among}
-use Rattle.s66_model.proofs.HeadByRegisters.{done_for}
+use Rattle.s66_model.proofs.HeadByRegisters.{done_for, head-by-registers}
 use Rattle.s66_dep.specs.Members.{numbers_in}
 use Rattle.s66_bound.specs.declared.tables.Tables.{Tables}
 use Rattle.s66_bound.specs.TableWords.{IsTables, no_set}
@@ -40,6 +40,15 @@ done-used b prefix n x is = cond-true {A = ℕ} (uses (row_at b n) x) (done_of (
 
 pub done-unused : (b : Problem) (prefix : List ℕ) (n : ℕ) (x : Reg) → uses (row_at b n) x ≡ false → done_for b prefix n x ≡ 0
 done-unused b prefix n x off = cond-false {A = ℕ} (uses (row_at b n) x) (done_of (points_of b prefix) x) 0 off
+
+-- no number waits for longer than the last of the registers
+pub head-le : (b : Problem) (prefix : List ℕ) (n : ℕ) (xs : List Reg) → HasLate b prefix xs → head (points_of b prefix) (row_at b n) ≤ max (next (points_of b prefix)) (greatest (done_of (points_of b prefix)) xs)
+head-le b prefix n xs late =
+    omega (arith, head-by-registers b prefix n xs late, greatest-le-greatest (done_for b prefix n) (done_of (points_of b prefix)) (λ x. at-most (uses (row_at b n) x) (done_of (points_of b prefix) x)) xs)
+  where
+    at-most : (used : Bool) (done : ℕ) → cond used done 0 ≤ done
+    at-most true done = omega arith
+    at-most false done = omega arith
 
 -- THE FRONT OF A CHAIN
 

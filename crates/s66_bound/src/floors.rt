@@ -62,6 +62,36 @@ pub fn floor_of(entries: &[Entry], tables: &Tables, clock: &Clock<'_>, rest: &Se
     }
 }
 
+/// The floor, where something remains and the floor's value is known: the first of the bounds that has it.
+pub fn floor_of_value(
+    entries: &[Entry],
+    tables: &Tables,
+    clock: &Clock<'_>,
+    rest: &Set,
+    value: u32,
+) -> Leaf
+    requires entries { AreEntries (problem_of clock.now) entries.now }
+    requires tables { IsTables (problem_of clock.now) tables.now }
+    requires rest { AreRemaining clock.now rest.now }
+    requires some { length clock.now.numbers < length (instrs_of clock.now.block) }
+    requires value { value ≡ floor_value (problem_of clock.now) clock.now.numbers }
+    ensures leaf { leaf_of result ≡ floor (problem_of clock.now) clock.now.numbers }
+    ensures value { value_of result ≡ value }
+{
+    if chain_of(tables, clock, rest) == value {
+        return Leaf::Chain {
+            numbers: chain_numbers(entries, tables, clock, rest, value),
+            value,
+        };
+    }
+    for kind in KINDS {
+        if load_of(tables, clock, rest, kind) == value {
+            return Leaf::Load { kind, value };
+        }
+    }
+    Leaf::Parcels { value }
+}
+
 /// The greatest of the bounds so far, as soon as that is at least the time, else the value of the floor: first the chain, which
 /// most often meets it, and last the loads, which take longest.
 pub fn floor_until_of(tables: &Tables, clock: &Clock<'_>, rest: &Set, time: u32) -> u32

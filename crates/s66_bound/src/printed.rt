@@ -36,6 +36,19 @@ fn head_of(tables: &Tables, clock: &Clock<'_>, number: u8) -> u32
     head
 }
 
+/// When the last register is done that the block writes, or the next slot where that is later: no instruction waits for longer.
+fn latest_head(tables: &Tables, clock: &Clock<'_>) -> u32
+    requires tables { IsTables (problem_of clock.now) tables.now }
+    requires begins { IsBeginning (instrs_of clock.now.block) clock.now.numbers }
+    ensures { (n : ℕ) → head (points clock.now) (row_at (problem_of clock.now) n) ≤ result }
+{
+    let mut latest = clock.next();
+    for register in tables.written.as_slice() {
+        latest = latest.max(clock.done_of(*register));
+    }
+    latest
+}
+
 /// The lowest number that heads a greatest chain.
 fn first_of_chain(tables: &Tables, clock: &Clock<'_>, rest: &Set, value: u32) -> u8
     requires tables { IsTables (problem_of clock.now) tables.now }
@@ -44,9 +57,14 @@ fn first_of_chain(tables: &Tables, clock: &Clock<'_>, rest: &Set, value: u32) ->
     requires value { value ≡ chain (problem_of clock.now) clock.now.numbers }
     ensures { result ≡ chain_front (problem_of clock.now) clock.now.numbers }
 {
+    let latest = latest_head(tables, clock);
     let mut numbers = *rest;
     while let Some(number) = numbers.pop_first() {
-        if head_of(tables, clock, number) + tables.longest[number as usize - 1] == value {
+        let longest = tables.longest[number as usize - 1];
+        // most chains are too short, whatever they wait for
+        if value.saturating_sub(longest) <= latest
+            && head_of(tables, clock, number) + longest == value
+        {
             return number;
         }
     }

@@ -71,6 +71,22 @@ impl Page {
         self.text(buffer.format(number).as_bytes());
     }
 
+    /// Prints a number in decimal, after a blank: most have one digit or two.
+    fn number_after_blank(&mut self, number: u8)
+        requires { length self.old + NUMBER_ROOM + 1 ≤ PAGE_SIZE }
+        ensures text { self.new ≡ self.old ++ 32 ∷ decimal number }
+        ensures few { length self.new ≤ length self.old + NUMBER_ROOM + 1 }
+    {
+        if number < 10 {
+            self.text(&[b' ', b'0' + number]);
+        } else if number < 100 {
+            self.text(&[b' ', b'0' + number / 10, b'0' + number % 10]);
+        } else {
+            self.text(b" ");
+            self.number(number as u32);
+        }
+    }
+
     /// Prints the numbers of a line, each after a blank.
     pub(crate) fn numbers(&mut self, numbers: &[u8])
         requires few { length numbers.now ≤ BLOCK_LIMIT }
@@ -79,8 +95,7 @@ impl Page {
         ensures few { length self.new ≤ length self.old + NUMBERS_ROOM }
     {
         for number in numbers {
-            self.text(b" ");
-            self.number(*number as u32);
+            self.number_after_blank(*number);
         }
     }
 

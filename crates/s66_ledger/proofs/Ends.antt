@@ -62,19 +62,20 @@ finishes old new reached (problem, budget, workers, (h, r)) ended =
 
 -- THE ANSWER of a ledger that has ended
 
-pub kept-answer : (b : Problem) (budget : ℕ) (nodes : List declared.Node) (best : TimedOrder) (left : ℕ) (allowances : List ℕ) (spent : ℕ) (l : LedgerOf) (low : ℕ) → IsKept b budget nodes best left allowances spent → ledger_of b budget nodes best.numbers left allowances spent ≡ l → IsEnded l.problem l.budget l.state → low ≡ bound_of l.problem l.state → IsKeptAnswer (ended_of best.problem budget nodes best.numbers spent) low
+pub kept-answer : (b : Problem) (budget : ℕ) (nodes : List declared.Node) (best : TimedOrder) (left : ℕ) (allowances : List ℕ) (spent : ℕ) (l : LedgerOf) (low : ℕ) → IsKept b budget nodes best left allowances spent → ledger_of b budget nodes best.numbers left allowances spent ≡ l → IsEnded l.problem l.budget l.state → low ≡ bound_of l.problem l.state → IsKeptAnswer (ended_of best.problem budget nodes best.numbers spent) nodes low
 kept-answer b budget nodes best left allowances spent l low kept view ended bound =
     let state = state_of b nodes best.numbers left allowances spent in
     let ends : IsEnded b budget state = subst (λ (m : LedgerOf). IsEnded m.problem m.budget m.state) (sym view) ended in
     let table = reached-table b budget (length allowances) state kept.reached in
     let done = ended-finishes b budget (length allowances) state state [] kept.reached refl ends in
-    subst (λ (p : Problem). IsKeptAnswer (ended_of p budget nodes best.numbers spent) low) (sym kept.own)
+    subst (λ (p : Problem). IsKeptAnswer (ended_of p budget nodes best.numbers spent) nodes low) (sym kept.own)
     (record {
       answer = done.answer;
       bound = sym (bound ∙ ap (λ (m : LedgerOf). bound_of m.problem m.state) (sym view));
       few = kept.few;
       table = record { root = table.root; children = table.children; others = table.others; splits = table.splits; best = table.best };
       begins = λ node among. begin-among b (best_time b state) state.nodes node (kept-covers b budget nodes best left allowances spent kept).nodes among;
+      floors = kept.floors;
       room = omega (arith, length-nodes b nodes, kept.room, kept.few, kept-room b budget nodes best left allowances spent kept 0);
     })
 

@@ -10,6 +10,7 @@ use Rattle.s66_model.specs.Ended.{ended_answer}
 use Rattle.s66_ledger.specs.declared.limits.TheConstants.{BUDGET_LIMIT}
 use Rattle.s66_ledger.specs.declared.node.Node as declared
 use Rattle.s66_ledger.specs.Kept.{state_of}
+use Rattle.s66_ledger.specs.Nodes.{HaveFloors}
 
 pub record AnswerOf : Type 0 where
   pub problem : Problem
@@ -25,11 +26,12 @@ answer_of a = ended_answer a.problem a.state
 abbrev pub ended_of : Problem → ℕ → List declared.Node → List ℕ → ℕ → AnswerOf
 ended_of b budget nodes best spent = record { problem = b; budget = budget; state = state_of b nodes best 0 [] spent }
 
-pub record IsKeptAnswer (a : AnswerOf) (low : ℕ) : Type 0 where
+pub record IsKeptAnswer (a : AnswerOf) (nodes : List declared.Node) (low : ℕ) : Type 0 where
   pub answer : IsAnswer a.problem a.budget (answer_of a)
   pub bound : (answer_of a).bound ≡ low
   pub few : a.budget ≤ BUDGET_LIMIT
   -- its nodes are those of one tree
   pub table : IsTable a.problem a.state
   pub begins : (node : Node) → Among node a.state.nodes → IsBeginning a.problem.block node.prefix
+  pub floors : HaveFloors a.problem nodes
   pub room : length a.state.nodes < 2 ^ 32

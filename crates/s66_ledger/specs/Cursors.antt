@@ -19,7 +19,7 @@ use Rattle.s66_ledger.specs.declared.lines.AnswerLine.{AnswerLine}
 use Rattle.s66_ledger.specs.declared.lines.AnswerLine.TheVariants as line
 use Rattle.s66_ledger.specs.Kept.{state_of}
 use Rattle.s66_ledger.specs.Links.{AreLinks}
-use Rattle.s66_ledger.specs.Nodes.{nodes_of, prefixes}
+use Rattle.s66_ledger.specs.Nodes.{nodes_of, prefixes, HaveFloors}
 
 -- LINES
 
@@ -62,5 +62,6 @@ pub record StandsAt (nodes : List Node) (node : ℕ) (prefix : List ℕ) : Type 
 
 pub record IsCursor (b : Problem) (nodes : List Node) (last before : List ℕ) (node : ℕ) (prefix : List ℕ) (more : Bool) : Type 0 where
   pub tree : AreOneTree b nodes
+  pub floors : HaveFloors b nodes
   pub links : AreLinks nodes last before (length nodes)
   pub stands : more ≡ true → StandsAt nodes node prefix

@@ -26,7 +26,7 @@ impl Model for Answer {
 
     ghost view = { λ a. ended_of a.best.problem a.budget a.nodes.items a.best.numbers a.splits };
 
-    ghost invariant = { λ a. IsKeptAnswer (ended_of a.best.problem a.budget a.nodes.items a.best.numbers a.splits) a.bound };
+    ghost invariant = { λ a. IsKeptAnswer (ended_of a.best.problem a.budget a.nodes.items a.best.numbers a.splits) a.nodes.items a.bound };
 }
 
 impl Answer {

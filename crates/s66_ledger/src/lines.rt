@@ -5,7 +5,7 @@ ghost use Rattle.s66_model.specs.LegalOrder.{is_ready, ready};
 ghost use Rattle.s66_model.specs.NodeTree.{is_split_at};
 ghost use Rattle.s66_ledger.specs.Cursors.{AreOneTree, StandsAt, knot_of, lines_from, to_come};
 ghost use Rattle.s66_ledger.specs.Links.{AreLinks};
-ghost use Rattle.s66_ledger.specs.Nodes.{nodes_of};
+ghost use Rattle.s66_ledger.specs.Nodes.{nodes_of, HaveFloors};
 
 use crate::links::Links;
 use crate::node::{Node, State};
@@ -77,6 +77,7 @@ fn take_line(
     more: &mut bool,
 ) -> AnswerLine
     requires tree { AreOneTree walk.old.problem nodes.now }
+    requires floors { HaveFloors walk.old.problem nodes.now }
     requires links { AreLinks nodes.now links.now.last.items links.now.before.items (length nodes.now) }
     requires stands { StandsAt nodes.now node.old walk.old.numbers }
     ensures problem { walk.new.problem ≡ walk.old.problem }
@@ -88,7 +89,7 @@ fn take_line(
         *more = go_below(nodes, links, numbers, walk, node);
         return AnswerLine::Split(numbers);
     }
-    let leaf = walk.floor();
+    let leaf = walk.floor_of_value(nodes[*node].value);
     *more = go_on(nodes, links, walk, node);
     AnswerLine::Leaf(leaf)
 }

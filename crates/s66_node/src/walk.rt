@@ -136,6 +136,15 @@ impl<'a> Walk<'a> {
         self.bounds.floor(&self.clock)
     }
 
+    /// The prefix's floor, whose value this is, in less time than `floor`.
+    pub fn floor_of_value(&self, value: u32) -> Leaf
+        requires { value ≡ floor_value self.now.problem self.now.numbers }
+        ensures leaf { leaf_of result ≡ floor self.now.problem self.now.numbers }
+        ensures value { value_of result ≡ value }
+    {
+        self.bounds.floor_of_value(&self.clock, value)
+    }
+
     /// The numbers that are ready after the prefix: one look at a word for each instruction that remains.
     pub fn ready(&self) -> Set
         ensures { numbers_in result ≡ ready self.now.problem.block self.now.numbers }
@@ -143,16 +152,27 @@ impl<'a> Walk<'a> {
         self.dependences.ready(&self.clock.pushed())
     }
 
-    /// The least number above n that is ready after the prefix, in the time of `ready`.
+    /// Whether a number is ready after the prefix, in constant time.
+    fn is_ready(&self, n: u8) -> bool
+        requires { (1 ≤ n) × (n ≤ length self.now.problem.block) }
+        ensures { result ≡ is_ready self.now.problem.block self.now.numbers n }
+    {
+        let pushed = self.clock.pushed();
+        if pushed.has(n) {
+            return false;
+        }
+        self.dependences.needs(n).is_within(&pushed)
+    }
+
+    /// The least number above n that is ready after the prefix: one look at a word for each number up to it.
     pub fn next_ready(&self, n: u8) -> Option<u8>
         ensures { IsNextReady self.now.problem.block self.now.numbers n result }
     {
-        let ready = self.ready();
         let count = self.clock.block().count() as u8;
         let mut number = n;
         while number < count {
             number += 1;
-            if ready.has(number) {
+            if self.is_ready(number) {
                 return Some(number);
             }
         }

@@ -9,7 +9,7 @@ use Rattle.s66_line.specs.Block.{instrs_of}
 use Rattle.s66_node.specs.Walked.{Walked}
 use Rattle.s66_ledger.specs.Answers.{AnswerOf, answer_of}
 use Rattle.s66_ledger.specs.Cursors.{AreOneTree, StandsAt, lines_from}
-use Rattle.s66_ledger.specs.Nodes.{nodes_of}
+use Rattle.s66_ledger.specs.Nodes.{nodes_of, HaveFloors}
 use Rattle.s66_ledger.specs.declared.node.Node.{Node}
 use Rattle.s66_ledger.proofs.Cursors.{one-tree, root-there, lines-whole}
 use Rattle.s66_ledger.proofs.SeenNodes.{length-nodes}
@@ -38,6 +38,7 @@ invariant_of-result c =
     subst (λ (p : Problem). AreOneTree p xs) (sym problem) (subst (λ (ys : List Node). AreOneTree b ys) (sym c.as_slice-nodes.ensures.value) kept) in
     record {
       tree = tree;
+      floors = subst (λ (p : Problem). HaveFloors p xs) (sym problem) (subst (λ (ys : List Node). HaveFloors b ys) (sym c.as_slice-nodes.ensures.value) c.self.invariant.floors);
       links = c.in_ok-links.ensures;
       stands = λ more. subst (λ (at : List ℕ). StandsAt xs 0 at) (sym numbers) (root-there c.new.result.problem xs tree);
     }
