@@ -10,7 +10,6 @@ pub mod Tails
 pub mod Tree
 pub mod Preorder
 pub mod Later
-pub mod Accounts
 pub mod Answer
 pub mod Piece
 pub mod Told
