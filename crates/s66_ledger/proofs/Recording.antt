@@ -8,8 +8,7 @@ use Rattle.s66_model.specs.Timing.{Problem, total_of}
 use Rattle.s66_model.specs.Tree.{Tree, Knot, splits}
 use Rattle.s66_model.specs.Piece.{Tip}
 use Rattle.s66_model.specs.Told.{Told}
-use Rattle.s66_model.specs.Ledger as model
-use Rattle.s66_model.specs.Ledger.{Ledger, Event, Graft, Offer, Reply, Taken, Run, opening}
+use Rattle.s66_model.specs.Ledger.{Event, Graft, Offer, Reply, Taken, Run, opening}
 use Rattle.s66_model.specs.Recorded.{IsOwn, IsOfferOf, graft_event}
 use Rattle.s66_model.specs.Accounts.{Account, account_of}
 use Rattle.s66_model.proofs.Histories.{run-next, history-spent}

@@ -11,9 +11,15 @@ use s66_node::Knot;
 #[derive(Debug, Drop)]
 pub enum Entry {
     /// So many splits of the budget went to the worker.
-    Grant { w: u8, splits: u32 },
+    Grant {
+        w: u8,
+        splits: u32,
+    },
     /// The node was handed out; None, where none was open.
-    Claim { w: u8, node: Option<u32> },
+    Claim {
+        w: u8,
+        node: Option<u32>,
+    },
     /// A piece was put in the place of the node: its prefix, its lines in preorder, and how many splits it has.
     Taken {
         w: u8,
@@ -40,9 +46,15 @@ pub enum Entry {
         offered: Offered,
     },
     /// The node was taken back, or refused since it wasn't out.
-    Back { w: u8, node: u32, returned: bool },
+    Back {
+        w: u8,
+        node: u32,
+        returned: bool,
+    },
     /// The worker's allowance went back to the budget.
-    Retire { w: u8 },
+    Retire {
+        w: u8,
+    },
 }
 
 /// Why a piece was refused.

@@ -209,11 +209,19 @@ impl<'a> Ledger<'a> {
         };
         match self.machine.back(w, node) {
             Ok(()) => {
-                self.history.push_reserved(Entry::Back { w, node, returned: true });
+                self.history.push_reserved(Entry::Back {
+                    w,
+                    node,
+                    returned: true,
+                });
                 Ok(())
             }
             Err(BackError::NotOut) => {
-                self.history.push_reserved(Entry::Back { w, node, returned: false });
+                self.history.push_reserved(Entry::Back {
+                    w,
+                    node,
+                    returned: false,
+                });
                 Err(BackError::NotOut)
             }
             Err(BackError::OutOfMemory) => Err(BackError::OutOfMemory),

@@ -1,5 +1,5 @@
-use crate::machine::Machine;
 use crate::limits::SCHEDULE_ROUNDS;
+use crate::machine::Machine;
 use crate::reply::{BackError, GraftError};
 use crate::ticket::Ticket;
 use s66_node::{Piece, Priority, Walk, schedule_rest};
@@ -136,8 +136,9 @@ impl<'a> Machine<'a> {
         match self.graft(1, ticket.node(), &piece) {
             Ok(()) => Ok(()),
             Err(GraftError::OutOfMemory) => Err(AllocError),
-            Err(GraftError::NotOut | GraftError::OtherPrefix | GraftError::OverAllowance) =>
-                { unreachable!() }
+            Err(GraftError::NotOut | GraftError::OtherPrefix | GraftError::OverAllowance) => {
+                unreachable!()
+            }
         }
     }
 

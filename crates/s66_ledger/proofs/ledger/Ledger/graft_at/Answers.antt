@@ -1,4 +1,4 @@
-use Rattle.std.proofs.Common.{◌≡◌, ◌∙◌, sym, subst}
+use Rattle.std.proofs.Common.{◌∙◌, sym, subst}
 use Rattle.s66_line.specs.Block.{instrs_of}
 use Rattle.s66_model.specs.Ledger.{Taken}
 use Rattle.s66_model.specs.Recorded.{IsOwn}
@@ -24,10 +24,13 @@ returns-in-Ok-graft-clause-ok c =
     let m = c.self.inside.machine in
     let p = c.args.piece in
     let h : IsGraftMove m c.args.w c.args.node p Taken c.graft.new.self = c.in-Ok-graft.ensures.ok in
-    subst (λ (l : LedgerOf). IsGraftAt l c.args.w c.args.node p Taken (with_history c.graft.new.self c.push_reserved.new.self.items)) c.self.view_is
-    (h.0, h.1, recorded-event m c.graft.new.self c.self.inside.history.items c.reserve.new.self.items c.push_reserved.new.self.items _ h.0 Taken h.2
-    (taken-entry m c.graft.new.self c.args.w c.args.node p c.copy_of-prefix.result.items c.splits-splits.result (c.copy_of-prefix.ensures ∙ c.prefix.ensures.value) c.splits-splits.ensures c.into_knots.result.items c.into_knots.ensures h)
-    c.reserve.ensures.items c.push_reserved.ensures.items)
+    subst (λ (l : LedgerOf). IsGraftAt l c.args.w c.args.node p Taken (with_history c.graft.new.self c.push_reserved.new.self.items)) c.self.view_is (
+      h.0,
+      h.1,
+      recorded-event m c.graft.new.self c.self.inside.history.items c.reserve.new.self.items c.push_reserved.new.self.items _ h.0 Taken h.2
+          (taken-entry m c.graft.new.self c.args.w c.args.node p c.copy_of-prefix.result.items c.splits-splits.result (c.copy_of-prefix.ensures ∙ c.prefix.ensures.value) c.splits-splits.ensures c.into_knots.result.items c.into_knots.ensures h)
+          c.reserve.ensures.items c.push_reserved.ensures.items,
+    )
 
 pub invariant_of-self-2 : goal.invariant_of-self-2
 invariant_of-self-2 c =
@@ -56,7 +59,10 @@ returns-clause-refused c =
     let new = with_history c.graft.new.self c.push_reserved-2.new.self.items in
     subst (λ (e : GraftError). IsRefusedGraftAt c.args.self.now c.args.w c.args.node p e new) (sym c.in-Some.ensures.some)
     (refused-at c.args.self.now new c.args.w c.args.node p why
-    (subst (λ (l : LedgerOf). IsGraftAt l c.args.w c.args.node p (refusal_reply why) new) c.self.view_is
-    (h.0, h.1, recorded-event m c.graft.new.self c.self.inside.history.items c.reserve.new.self.items c.push_reserved-2.new.self.items _ h.0 (refusal_reply why) h.2
-    (refused-entry m c.graft.new.self c.args.w c.args.node p c.copy_of-prefix.result.items c.splits-splits.result over c.splits-splits.ensures c.is_of-own.result why own h)
-    c.reserve.ensures.items c.push_reserved-2.ensures.items)))
+    (subst (λ (l : LedgerOf). IsGraftAt l c.args.w c.args.node p (refusal_reply why) new) c.self.view_is (
+      h.0,
+      h.1,
+      recorded-event m c.graft.new.self c.self.inside.history.items c.reserve.new.self.items c.push_reserved-2.new.self.items _ h.0 (refusal_reply why) h.2
+          (refused-entry m c.graft.new.self c.args.w c.args.node p c.copy_of-prefix.result.items c.splits-splits.result over c.splits-splits.ensures c.is_of-own.result why own h)
+          c.reserve.ensures.items c.push_reserved-2.ensures.items,
+    )))

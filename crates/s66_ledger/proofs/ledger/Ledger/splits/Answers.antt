@@ -1,8 +1,7 @@
-use Rattle.std.proofs.Common.{ℕ, ◌≡◌, ◌∙◌, List, [], ◌∷◌, map, refl, ap, subst}
-use Rattle.s66_isa.specs.Lists.{weigh, rising}
-use Rattle.s66_model.specs.Accounts.{Account, account_of}
-use Rattle.s66_model.proofs.Histories.{history-spent}
-use Rattle.s66_ledger.specs.Ledgers.{LedgerOf, account_summary, events_of, with_history}
+use Rattle.std.proofs.Common.{◌≡◌, subst}
+use Rattle.s66_isa.specs.Lists.{weigh}
+use Rattle.s66_model.specs.Accounts.{Account}
+use Rattle.s66_ledger.specs.Ledgers.{LedgerOf, account_summary, with_history}
 use Rattle.s66_ledger.proofs.Recording.{accounts-spent}
 use Rattle.s66_ledger.proofs.ledger.Ledger.splits.Goals as goal
 

@@ -1,4 +1,4 @@
-use Rattle.std.proofs.Common.{◌≡◌, refl, sym, subst}
+use Rattle.std.proofs.Common.{refl, sym, subst}
 use Rattle.std.proofs.lemmas.Result.{IfOk-weaker}
 use Rattle.s66_model.specs.Ledger as model
 use Rattle.s66_ledger.specs.declared.step.Event.{Event}
@@ -15,9 +15,11 @@ returns-in_ok-grant-in-Grant-clause-ok c =
 pub returns-in_ok-ticket-in-Claim-clause-ok : goal.returns-in_ok-ticket-in-Claim-clause-ok
 returns-in_ok-ticket-in-Claim-clause-ok c =
     let e = model.Claim c.in-Claim.w in
-    let r = model.Claimed c.node_of.result in
-    (e, subst (λ (x : Event). IsEventOf c.args.self.now.problem x r e) (sym c.in-Claim.is) refl,
-     subst (λ i. IsEvent c.args.self.now e (model.Claimed i) c.claim.new.self) (sym c.node_of.ensures) c.in_ok-ticket-in-Claim.ensures.ok)
+    let r = model.Claimed c.node_of.result in (
+      e,
+      subst (λ (x : Event). IsEventOf c.args.self.now.problem x r e) (sym c.in-Claim.is) refl,
+      subst (λ i. IsEvent c.args.self.now e (model.Claimed i) c.claim.new.self) (sym c.node_of.ensures) c.in_ok-ticket-in-Claim.ensures.ok,
+    )
 
 pub returns-in-Back-clause-ok : goal.returns-in-Back-clause-ok
 returns-in-Back-clause-ok c =

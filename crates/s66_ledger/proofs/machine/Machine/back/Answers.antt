@@ -2,9 +2,6 @@ use Rattle.std.proofs.Common.{true≢false, ◌≤◌, ◌∙◌, arith, length,
 use Rattle.s66_line.specs.Block.{instrs_of}
 use Rattle.s66_model.specs.Timing.{Problem}
 use Rattle.s66_model.specs.Ledger as model
-use Rattle.s66_ledger.specs.declared.node.State.TheVariants as state
-use Rattle.s66_ledger.specs.OpenNodes.{IsOut}
-use Rattle.s66_ledger.specs.Nodes.{with_state}
 use Rattle.s66_ledger.specs.Kept.{MachineOf, IsMove, IsKept, machine_of}
 use Rattle.s66_ledger.proofs.Events.{kept-back, event-back, event-not-out}
 use Rattle.s66_ledger.proofs.machine.Machine.back.Goals as goal

@@ -1,9 +1,9 @@
-use Rattle.std.proofs.Common.{◌<◌, subst, sym}
+use Rattle.std.proofs.Common.{subst, sym}
 use Rattle.s66_model.specs.Timing.{Problem}
 use Rattle.s66_model.specs.Ledger.{Taken, best_time, allowance}
 use Rattle.s66_node.specs.Pieces.{tree_of, IsBestTimed}
 use Rattle.s66_ledger.specs.GraftMoves.{IsGraftMove}
-use Rattle.s66_ledger.specs.Finishing.{Leads, IsBetween, IsWithin, still_to_go}
+use Rattle.s66_ledger.specs.Finishing.{IsWithin}
 use Rattle.s66_ledger.proofs.Leading.{leads-on}
 use Rattle.s66_ledger.proofs.Rounds.{leads-graft, offer-within, graft-between}
 use Rattle.s66_ledger.proofs.TimedWholes.{least-timed}
