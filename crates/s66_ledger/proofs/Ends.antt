@@ -13,7 +13,7 @@ use Rattle.s66_model.proofs.Histories.{run-join, reached-covers, reached-table}
 use Rattle.s66_model.proofs.EndedLedgers.{ended-finishes}
 use Rattle.s66_time.specs.TimedOrder.{TimedOrder}
 use Rattle.s66_ledger.specs.declared.node.Node as declared
-use Rattle.s66_ledger.specs.Kept.{LedgerOf, IsKept, state_of, ledger_of}
+use Rattle.s66_ledger.specs.Kept.{MachineOf, IsKept, state_of, machine_of}
 use Rattle.s66_ledger.specs.Answers.{IsKeptAnswer, ended_of}
 use Rattle.s66_ledger.specs.Finishing.{Leads, IsSearched}
 use Rattle.s66_ledger.proofs.Events.{kept-covers, kept-room}
@@ -21,7 +21,7 @@ use Rattle.s66_ledger.proofs.SeenNodes.{length-nodes}
 
 -- WHAT LEADS
 
-pub leads-reached : (old new : LedgerOf) → IsReached old.problem old.budget old.workers old.state → Leads old new → IsReached new.problem new.budget new.workers new.state
+pub leads-reached : (old new : MachineOf) → IsReached old.problem old.budget old.workers old.state → Leads old new → IsReached new.problem new.budget new.workers new.state
 leads-reached old new (h, r) (problem, budget, workers, (k, s)) =
     subst (λ b. IsReached b new.budget new.workers new.state) (sym problem)
     (subst (λ n. IsReached old.problem n new.workers new.state) (sym budget)
@@ -41,7 +41,7 @@ live-open Cut live not = live
 live-open (Closed leaf) live not = live
 
 -- where nothing more is to be expanded, and no whole order that is open is below the best time, the steps have ended
-pub has-ended : (l : LedgerOf) → Covers l.problem l.budget l.state → IsSearched l.problem l.budget l.state → IsEnded l.problem l.budget l.state
+pub has-ended : (l : MachineOf) → Covers l.problem l.budget l.state → IsSearched l.problem l.budget l.state → IsEnded l.problem l.budget l.state
 has-ended l covers searched node among live =
     let b = l.problem in
     let begins = begin-among b (best_time b l.state) l.state.nodes node covers.nodes among in
@@ -54,7 +54,7 @@ has-ended l covers searched node among live =
           ]
     ]
 
-pub finishes : (old new : LedgerOf) → IsReached old.problem old.budget old.workers old.state → Leads old new → IsEnded new.problem new.budget new.state → IsFinished old.problem old.budget old.state (ended_answer new.problem new.state)
+pub finishes : (old new : MachineOf) → IsReached old.problem old.budget old.workers old.state → Leads old new → IsEnded new.problem new.budget new.state → IsFinished old.problem old.budget old.state (ended_answer new.problem new.state)
 finishes old new reached (problem, budget, workers, (h, r)) ended =
     subst (λ (p : Problem). IsFinished old.problem old.budget old.state (ended_answer p new.state)) (sym problem)
     (ended-finishes old.problem old.budget old.workers old.state new.state h reached r
@@ -62,16 +62,16 @@ finishes old new reached (problem, budget, workers, (h, r)) ended =
 
 -- THE ANSWER of a ledger that has ended
 
-pub kept-answer : (b : Problem) (budget : ℕ) (nodes : List declared.Node) (best : TimedOrder) (left : ℕ) (allowances : List ℕ) (spent : ℕ) (l : LedgerOf) (low : ℕ) → IsKept b budget nodes best left allowances spent → ledger_of b budget nodes best.numbers left allowances spent ≡ l → IsEnded l.problem l.budget l.state → low ≡ bound_of l.problem l.state → IsKeptAnswer (ended_of best.problem budget nodes best.numbers spent) nodes low
+pub kept-answer : (b : Problem) (budget : ℕ) (nodes : List declared.Node) (best : TimedOrder) (left : ℕ) (allowances : List ℕ) (spent : ℕ) (l : MachineOf) (low : ℕ) → IsKept b budget nodes best left allowances spent → machine_of b budget nodes best.numbers left allowances spent ≡ l → IsEnded l.problem l.budget l.state → low ≡ bound_of l.problem l.state → IsKeptAnswer (ended_of best.problem budget nodes best.numbers spent) nodes low
 kept-answer b budget nodes best left allowances spent l low kept view ended bound =
     let state = state_of b nodes best.numbers left allowances spent in
-    let ends : IsEnded b budget state = subst (λ (m : LedgerOf). IsEnded m.problem m.budget m.state) (sym view) ended in
+    let ends : IsEnded b budget state = subst (λ (m : MachineOf). IsEnded m.problem m.budget m.state) (sym view) ended in
     let table = reached-table b budget (length allowances) state kept.reached in
     let done = ended-finishes b budget (length allowances) state state [] kept.reached refl ends in
     subst (λ (p : Problem). IsKeptAnswer (ended_of p budget nodes best.numbers spent) nodes low) (sym kept.own)
     (record {
       answer = done.answer;
-      bound = sym (bound ∙ ap (λ (m : LedgerOf). bound_of m.problem m.state) (sym view));
+      bound = sym (bound ∙ ap (λ (m : MachineOf). bound_of m.problem m.state) (sym view));
       few = kept.few;
       table = record { root = table.root; children = table.children; others = table.others; splits = table.splits; best = table.best };
       begins = λ node among. begin-among b (best_time b state) state.nodes node (kept-covers b budget nodes best left allowances spent kept).nodes among;
@@ -79,11 +79,11 @@ kept-answer b budget nodes best left allowances spent l low kept view ended boun
       room = omega (arith, length-nodes b nodes, kept.room, kept.few, kept-room b budget nodes best left allowances spent kept 0);
     })
 
-pub kept-reached : (b : Problem) (budget : ℕ) (nodes : List declared.Node) (best : TimedOrder) (left : ℕ) (allowances : List ℕ) (spent : ℕ) (l : LedgerOf) → IsKept b budget nodes best left allowances spent → ledger_of b budget nodes best.numbers left allowances spent ≡ l → IsReached l.problem l.budget l.workers l.state
+pub kept-reached : (b : Problem) (budget : ℕ) (nodes : List declared.Node) (best : TimedOrder) (left : ℕ) (allowances : List ℕ) (spent : ℕ) (l : MachineOf) → IsKept b budget nodes best left allowances spent → machine_of b budget nodes best.numbers left allowances spent ≡ l → IsReached l.problem l.budget l.workers l.state
 kept-reached b budget nodes best left allowances spent l kept view =
-    subst (λ (m : LedgerOf). IsReached m.problem m.budget m.workers m.state) view kept.reached
+    subst (λ (m : MachineOf). IsReached m.problem m.budget m.workers m.state) view kept.reached
 
 -- where the events went on from a ledger that was reached
-pub reached-end : (first last : LedgerOf) → IsReached first.problem first.budget first.workers first.state → Leads first last → IsSearched last.problem last.budget last.state → IsEnded last.problem last.budget last.state
+pub reached-end : (first last : MachineOf) → IsReached first.problem first.budget first.workers first.state → Leads first last → IsSearched last.problem last.budget last.state → IsEnded last.problem last.budget last.state
 reached-end first last reached leads searched =
     has-ended last (reached-covers last.problem last.budget last.workers last.state (leads-reached first last reached leads)) searched

@@ -23,7 +23,7 @@ use Rattle.s66_ledger.specs.declared.node.State.TheVariants as state
 use Rattle.s66_ledger.specs.declared.limits.TheConstants.{BUDGET_LIMIT}
 use Rattle.s66_ledger.specs.Nodes.{prefixes, seen_state, nodes_of, node_at, with_state, HaveFloors}
 use Rattle.s66_ledger.specs.OpenNodes.{is_open_state, is_open, IsOut, ranked}
-use Rattle.s66_ledger.specs.Kept.{LedgerOf, IsEvent, state_of, ledger_of, IsKept}
+use Rattle.s66_ledger.specs.Kept.{MachineOf, IsMove, state_of, machine_of, IsKept}
 use Rattle.s66_ledger.proofs.SeenNodes.{length-nodes, at-nodes, open-seen, open-nodes, out-seen, nodes-state}
 use Rattle.s66_ledger.proofs.Floors.{floors-state}
 
@@ -80,6 +80,7 @@ module _ (b : Problem) (budget : ℕ) (nodes : List Node) (best : TimedOrder) (l
         floors = floors;
         room = room;
         few = h.few;
+        workers = omega (arith, h.workers, same);
       }
 
   pub kept-grant : (w share : ℕ) → 1 ≤ w → w ≤ length allowances → share ≡ min 64 left → IsKept b budget nodes best (left - share) (set allowances (w - 1) (get_or allowances (w - 1) 0 + share)) spent
@@ -110,13 +111,13 @@ module _ (b : Problem) (budget : ℕ) (nodes : List Node) (best : TimedOrder) (l
       open-split : state.Open ≡ state.Split → ⊥
       open-split e = absurd cc
 
-  pub event-claim : (l : LedgerOf) (w i : ℕ) → ledger_of b budget nodes best.numbers left allowances spent ≡ l → 1 ≤ w → w ≤ length allowances → i < length nodes → (node_at nodes i).state ≡ state.Open → IsEvent l (Claim w) (Claimed (Some i)) (ledger_of b budget (with_state nodes i state.Out) best.numbers left allowances spent)
+  pub event-claim : (l : MachineOf) (w i : ℕ) → machine_of b budget nodes best.numbers left allowances spent ≡ l → 1 ≤ w → w ≤ length allowances → i < length nodes → (node_at nodes i).state ≡ state.Open → IsMove l (Claim w) (Claimed (Some i)) (machine_of b budget (with_state nodes i state.Out) best.numbers left allowances spent)
   event-claim l w i is one le within was =
-      subst (λ (l : LedgerOf). IsEvent l (Claim w) (Claimed (Some i)) (ledger_of b budget (with_state nodes i state.Out) best.numbers left allowances spent)) is (refl, refl, refl, ((one, le), claim-moves w i within was))
+      subst (λ (l : MachineOf). IsMove l (Claim w) (Claimed (Some i)) (machine_of b budget (with_state nodes i state.Out) best.numbers left allowances spent)) is (refl, refl, refl, ((one, le), claim-moves w i within was))
 
-  pub event-none : (l : LedgerOf) (w : ℕ) → ledger_of b budget nodes best.numbers left allowances spent ≡ l → 1 ≤ w → w ≤ length allowances → tally is_open nodes ≡ 0 → IsEvent l (Claim w) (Claimed None) l
+  pub event-none : (l : MachineOf) (w : ℕ) → machine_of b budget nodes best.numbers left allowances spent ≡ l → 1 ≤ w → w ≤ length allowances → tally is_open nodes ≡ 0 → IsMove l (Claim w) (Claimed None) l
   event-none l w is one le none =
-      subst (λ (l : LedgerOf). IsEvent l (Claim w) (Claimed None) l) is (refl, refl, refl, ((one, le), (open-nodes b nodes ∙ none, refl)))
+      subst (λ (l : MachineOf). IsMove l (Claim w) (Claimed None) l) is (refl, refl, refl, ((one, le), (open-nodes b nodes ∙ none, refl)))
 
   -- floors are far below the limit up to which they are ranked
   ranked-floor : length b.block ≤ 64 → (i : ℕ) → i < length nodes → (node_at nodes i).state ≢ state.Split → ranked (node_at nodes i).value ≡ floor_value b (get_or (prefixes nodes) i [])
@@ -151,13 +152,13 @@ module _ (b : Problem) (budget : ℕ) (nodes : List Node) (best : TimedOrder) (l
       out-split : state.Out ≡ state.Split → ⊥
       out-split e = absurd cc
 
-  pub event-back : (l : LedgerOf) (w i : ℕ) → ledger_of b budget nodes best.numbers left allowances spent ≡ l → 1 ≤ w → w ≤ length allowances → IsOut nodes i → IsEvent l (Back w i) Returned (ledger_of b budget (with_state nodes i state.Open) best.numbers left allowances spent)
+  pub event-back : (l : MachineOf) (w i : ℕ) → machine_of b budget nodes best.numbers left allowances spent ≡ l → 1 ≤ w → w ≤ length allowances → IsOut nodes i → IsMove l (Back w i) Returned (machine_of b budget (with_state nodes i state.Open) best.numbers left allowances spent)
   event-back l w i is one le out =
-      subst (λ (l : LedgerOf). IsEvent l (Back w i) Returned (ledger_of b budget (with_state nodes i state.Open) best.numbers left allowances spent)) is (refl, refl, refl, ((one, le), back-moves w i out))
+      subst (λ (l : MachineOf). IsMove l (Back w i) Returned (machine_of b budget (with_state nodes i state.Open) best.numbers left allowances spent)) is (refl, refl, refl, ((one, le), back-moves w i out))
 
-  pub event-not-out : (l : LedgerOf) (w i : ℕ) → ledger_of b budget nodes best.numbers left allowances spent ≡ l → 1 ≤ w → w ≤ length allowances → ¬ IsOut nodes i → IsEvent l (Back w i) NotOut l
+  pub event-not-out : (l : MachineOf) (w i : ℕ) → machine_of b budget nodes best.numbers left allowances spent ≡ l → 1 ≤ w → w ≤ length allowances → ¬ IsOut nodes i → IsMove l (Back w i) NotOut l
   event-not-out l w i is one le never =
-      subst (λ (l : LedgerOf). IsEvent l (Back w i) NotOut l) is (refl, refl, refl, ((one, le), (not-out b nodes best.numbers left allowances spent i never, refl)))
+      subst (λ (l : MachineOf). IsMove l (Back w i) NotOut l) is (refl, refl, refl, ((one, le), (not-out b nodes best.numbers left allowances spent i never, refl)))
 
   -- ORDERS THAT ARE OFFERED
 
@@ -170,29 +171,29 @@ module _ (b : Problem) (budget : ℕ) (nodes : List Node) (best : TimedOrder) (l
   kept-lower w timed one le own legal lt =
       kept-next nodes timed left allowances spent (Offer w true timed.numbers (total_of timed.problem timed.numbers)) Lower own h.floors h.room refl ((one, le), lower-moves w timed own legal lt)
 
-  abbrev OfferedAs : LedgerOf → ℕ → TimedOrder → Reply → LedgerOf → Type 0
-  OfferedAs l w timed reply new = (event : Event) × IsOfferOf l.problem w timed.problem timed.numbers event × IsEvent l event reply new
+  abbrev OfferedAs : MachineOf → ℕ → TimedOrder → Reply → MachineOf → Type 0
+  OfferedAs l w timed reply new = (event : Event) × IsOfferOf l.problem w timed.problem timed.numbers event × IsMove l event reply new
 
-  pub event-lower : (l : LedgerOf) (w : ℕ) (timed : TimedOrder) → ledger_of b budget nodes best.numbers left allowances spent ≡ l → 1 ≤ w → w ≤ length allowances → timed.problem ≡ b → IsLegal b.block timed.numbers → total_of b timed.numbers < total_of b best.numbers → OfferedAs l w timed Lower (ledger_of b budget nodes timed.numbers left allowances spent)
+  pub event-lower : (l : MachineOf) (w : ℕ) (timed : TimedOrder) → machine_of b budget nodes best.numbers left allowances spent ≡ l → 1 ≤ w → w ≤ length allowances → timed.problem ≡ b → IsLegal b.block timed.numbers → total_of b timed.numbers < total_of b best.numbers → OfferedAs l w timed Lower (machine_of b budget nodes timed.numbers left allowances spent)
   event-lower l w timed is one le own legal lt =
-      subst (λ (l : LedgerOf). OfferedAs l w timed Lower (ledger_of b budget nodes timed.numbers left allowances spent)) is
+      subst (λ (l : MachineOf). OfferedAs l w timed Lower (machine_of b budget nodes timed.numbers left allowances spent)) is
       (Offer w true timed.numbers (total_of timed.problem timed.numbers), (true, ((λ e. own), (λ e. refl)), refl), (refl, refl, refl, ((one, le), lower-moves w timed own legal lt)))
 
-  pub event-not-lower : (l : LedgerOf) (w : ℕ) (timed : TimedOrder) (least : ℕ) → ledger_of b budget nodes best.numbers left allowances spent ≡ l → 1 ≤ w → w ≤ length allowances → timed.problem ≡ b → IsLegal b.block timed.numbers → least ≡ total_of b best.numbers → total_of b best.numbers ≤ total_of b timed.numbers → OfferedAs l w timed (NotLower least) l
+  pub event-not-lower : (l : MachineOf) (w : ℕ) (timed : TimedOrder) (least : ℕ) → machine_of b budget nodes best.numbers left allowances spent ≡ l → 1 ≤ w → w ≤ length allowances → timed.problem ≡ b → IsLegal b.block timed.numbers → least ≡ total_of b best.numbers → total_of b best.numbers ≤ total_of b timed.numbers → OfferedAs l w timed (NotLower least) l
   event-not-lower l w timed least is one le own legal total ge =
       let same : total_of timed.problem timed.numbers ≡ total_of b timed.numbers = ap (λ p. total_of p timed.numbers) own in
-      subst (λ (l : LedgerOf). OfferedAs l w timed (NotLower least) l) is
+      subst (λ (l : MachineOf). OfferedAs l w timed (NotLower least) l) is
       (Offer w true timed.numbers (total_of timed.problem timed.numbers), (true, ((λ e. own), (λ e. refl)), refl), (refl, refl, refl, ((one, le), ((refl, legal, same), omega (arith, ge, same), total, refl))))
 
-  pub event-other : (l : LedgerOf) (w : ℕ) (timed : TimedOrder) → ledger_of b budget nodes best.numbers left allowances spent ≡ l → 1 ≤ w → w ≤ length allowances → (own : Bool) → IsTrue own ↔ (timed.problem ≡ b) → own ≡ false → OfferedAs l w timed OtherBlock l
+  pub event-other : (l : MachineOf) (w : ℕ) (timed : TimedOrder) → machine_of b budget nodes best.numbers left allowances spent ≡ l → 1 ≤ w → w ≤ length allowances → (own : Bool) → IsTrue own ↔ (timed.problem ≡ b) → own ≡ false → OfferedAs l w timed OtherBlock l
   event-other l w timed is one le own iff not =
-      subst (λ (l : LedgerOf). OfferedAs l w timed OtherBlock l) is
+      subst (λ (l : MachineOf). OfferedAs l w timed OtherBlock l) is
       (Offer w own timed.numbers (total_of timed.problem timed.numbers), (own, iff, refl), (refl, refl, refl, ((one, le), (not, refl))))
 
 -- THE OPENING
 
-pub kept-opening : (b : Problem) (budget workers : ℕ) (best : TimedOrder) (nodes : List Node) (root : Node) (allowances : List ℕ) → best ≡ record { problem = b; numbers = numbers b.block } → nodes ≡ root ∷ [] → root.state ≡ state.Open → root.value ≡ floor_value b [] → allowances ≡ replicate workers 0 → budget ≤ BUDGET_LIMIT → IsKept b budget nodes best budget allowances 0
-kept-opening b budget workers best nodes root allowances is one open-root value all few =
+pub kept-opening : (b : Problem) (budget workers : ℕ) (best : TimedOrder) (nodes : List Node) (root : Node) (allowances : List ℕ) → best ≡ record { problem = b; numbers = numbers b.block } → nodes ≡ root ∷ [] → root.state ≡ state.Open → root.value ≡ floor_value b [] → allowances ≡ replicate workers 0 → budget ≤ BUDGET_LIMIT → workers ≤ 255 → IsKept b budget nodes best budget allowances 0
+kept-opening b budget workers best nodes root allowances is one open-root value all few at_most =
     rw (is, all, one)
     (record {
       reached = subst (λ n. IsReached b budget n (state_of b (root ∷ []) (numbers b.block) budget (replicate workers 0) 0)) (sym (length-replicate workers 0)) ([], ap (λ s. record { nodes = record { prefix = []; state = s } ∷ []; best = numbers b.block; left = budget; allowances = replicate workers 0; spent = 0 }) (ap (seen_state b []) open-root));
@@ -200,6 +201,7 @@ kept-opening b budget workers best nodes root allowances is one open-root value 
       floors = first;
       room = omega arith;
       few = few;
+      workers = omega (arith, length-replicate {A = ℕ} workers 0, at_most);
     })
   where
     first : HaveFloors b (root ∷ [])

@@ -14,16 +14,14 @@ use Rattle.s66_model.specs.Ledger.{Graft, Taken, NotOut, OtherPrefix, OverAllowa
 use Rattle.s66_model.proofs.Beginnings.{length-rising}
 use Rattle.s66_time.specs.TimedOrder.{TimedOrder}
 use Rattle.s66_model.specs.Told.{Told, ToldHolds, tip_of}
-use Rattle.s66_node.specs.Pieces as piece
 use Rattle.s66_node.specs.Pieces.{PieceOf, told_tree, tree_of}
 use Rattle.s66_model.proofs.TreesHold.{seen-splits}
 use Rattle.s66_model.proofs.Forests.{tree-match}
 use Rattle.s66_ledger.specs.declared.node.Node.{Node}
 use Rattle.s66_ledger.specs.Nodes.{prefixes, nodes_of, HaveFloors}
 use Rattle.s66_ledger.specs.OpenNodes.{IsOut}
-use Rattle.s66_ledger.specs.Handed.{TicketOf}
-use Rattle.s66_ledger.specs.Kept.{LedgerOf, state_of, ledger_of, IsKept}
-use Rattle.s66_ledger.specs.Grafts.{IsGraft}
+use Rattle.s66_ledger.specs.Kept.{MachineOf, state_of, machine_of, IsKept}
+use Rattle.s66_ledger.specs.GraftMoves.{IsGraftMove}
 use Rattle.s66_ledger.proofs.SeenNodes.{at-nodes}
 use Rattle.s66_ledger.proofs.Events.{is-out, not-out, kept-next}
 
@@ -56,40 +54,38 @@ module _ (block : List Instr) (Q : List ℕ → Told → Type 0) (few : length b
   tree-lines prefix (Parted numbers kids) h = omega (arith, kids-lines prefix numbers kids h.2, ap length h.1, ready-few block prefix, few)
 
 -- a piece has at most a line for its root and one for each child of a split
-pub piece-lines : (q p : PieceOf) (count : ℕ) → piece.IsKept q count → q ≡ p → length p.problem.block ≤ 64 → length p.knots ≤ 1 + 64 * splits (tree_of p)
-piece-lines q p count kept is few =
-    let told : TreeHolds p.problem.block (ToldHolds p.problem) p.prefix (told_tree p) = subst (λ (r : PieceOf). TreeHolds r.problem.block (ToldHolds r.problem) r.prefix (told_tree r)) is kept.told in
-    let lines : flat (told_tree p) ≡ p.knots = subst (λ (r : PieceOf). flat (told_tree r) ≡ r.knots) is kept.knots in
+pub piece-lines : (p : PieceOf) → TreeHolds p.problem.block (ToldHolds p.problem) p.prefix (told_tree p) → flat (told_tree p) ≡ p.knots → length p.problem.block ≤ 64 → length p.knots ≤ 1 + 64 * splits (tree_of p)
+piece-lines p told lines few =
     omega (arith, ap length lines, tree-lines p.problem.block (ToldHolds p.problem) few p.prefix (told_tree p) told, seen-splits (tip_of p.problem) (told_tree p) p.prefix (tree-match p.problem.block (ToldHolds p.problem) (told_tree p) p.prefix told))
 
 -- REPLIES
 
-module _ (b : Problem) (budget : ℕ) (nodes : List Node) (best : TimedOrder) (left : ℕ) (allowances : List ℕ) (spent : ℕ) (h : IsKept b budget nodes best left allowances spent) (w : ℕ) (t : TicketOf) (p : PieceOf) (one : 1 ≤ w) (le : w ≤ length allowances) (own : Bool) (owns : IsTrue own ↔ (p.problem ≡ b)) where
-  abbrev here : LedgerOf
-  here = ledger_of b budget nodes best.numbers left allowances spent
+module _ (b : Problem) (budget : ℕ) (nodes : List Node) (best : TimedOrder) (left : ℕ) (allowances : List ℕ) (spent : ℕ) (h : IsKept b budget nodes best left allowances spent) (w i : ℕ) (p : PieceOf) (one : 1 ≤ w) (le : w ≤ length allowances) (own : Bool) (owns : IsTrue own ↔ (p.problem ≡ b)) where
+  abbrev here : MachineOf
+  here = machine_of b budget nodes best.numbers left allowances spent
 
-  prefix-is : t.node < length nodes → (model.node_at (nodes_of b nodes) t.node).prefix ≡ get_or (prefixes nodes) t.node []
-  prefix-is lt = ap (λ (n : model.Node). n.prefix) (at-nodes b nodes t.node lt)
+  prefix-is : i < length nodes → (model.node_at (nodes_of b nodes) i).prefix ≡ get_or (prefixes nodes) i []
+  prefix-is lt = ap (λ (n : model.Node). n.prefix) (at-nodes b nodes i lt)
 
-  pub graft-not-out : (l : LedgerOf) → here ≡ l → ¬ IsOut nodes t.node → IsGraft l w t p NotOut l
+  pub graft-not-out : (l : MachineOf) → here ≡ l → ¬ IsOut nodes i → IsGraftMove l w i p NotOut l
   graft-not-out l is never =
-      subst (λ (l : LedgerOf). IsGraft l w t p NotOut l) is
-      (Graft w t.node own p.prefix (splits (tree_of p)) None, (own, owns, refl), (refl, refl, refl, ((one, le), (not-out b nodes best.numbers left allowances spent t.node never, refl))))
+      subst (λ (l : MachineOf). IsGraftMove l w i p NotOut l) is
+      (Graft w i own p.prefix (splits (tree_of p)) None, (own, owns, refl), (refl, refl, refl, ((one, le), (not-out b nodes best.numbers left allowances spent i never, refl))))
 
-  pub graft-other : (l : LedgerOf) → here ≡ l → IsOut nodes t.node → own ≡ false → IsGraft l w t p OtherPrefix l
+  pub graft-other : (l : MachineOf) → here ≡ l → IsOut nodes i → own ≡ false → IsGraftMove l w i p OtherPrefix l
   graft-other l is out other =
-      subst (λ (l : LedgerOf). IsGraft l w t p OtherPrefix l) is
-      (Graft w t.node own p.prefix (splits (tree_of p)) None, (own, owns, refl), (refl, refl, refl, ((one, le), (is-out b nodes best.numbers left allowances spent t.node out, (λ over. true≢false (sym over.0 ∙ other)), refl))))
+      subst (λ (l : MachineOf). IsGraftMove l w i p OtherPrefix l) is
+      (Graft w i own p.prefix (splits (tree_of p)) None, (own, owns, refl), (refl, refl, refl, ((one, le), (is-out b nodes best.numbers left allowances spent i out, (λ over. true≢false (sym over.0 ∙ other)), refl))))
 
-  pub graft-other-prefix : (l : LedgerOf) → here ≡ l → IsOut nodes t.node → ¬ (get_or (prefixes nodes) t.node [] ≡ p.prefix) → IsGraft l w t p OtherPrefix l
+  pub graft-other-prefix : (l : MachineOf) → here ≡ l → IsOut nodes i → ¬ (get_or (prefixes nodes) i [] ≡ p.prefix) → IsGraftMove l w i p OtherPrefix l
   graft-other-prefix l is out other =
-      subst (λ (l : LedgerOf). IsGraft l w t p OtherPrefix l) is
-      (Graft w t.node own p.prefix (splits (tree_of p)) None, (own, owns, refl), (refl, refl, refl, ((one, le), (is-out b nodes best.numbers left allowances spent t.node out, (λ over. other (sym (over.1 ∙ prefix-is out.0))), refl))))
+      subst (λ (l : MachineOf). IsGraftMove l w i p OtherPrefix l) is
+      (Graft w i own p.prefix (splits (tree_of p)) None, (own, owns, refl), (refl, refl, refl, ((one, le), (is-out b nodes best.numbers left allowances spent i out, (λ over. other (sym (over.1 ∙ prefix-is out.0))), refl))))
 
-  pub graft-over : (l : LedgerOf) → here ≡ l → IsOut nodes t.node → own ≡ true → get_or (prefixes nodes) t.node [] ≡ p.prefix → get_or allowances (w - 1) 0 < splits (tree_of p) → IsGraft l w t p OverAllowance l
+  pub graft-over : (l : MachineOf) → here ≡ l → IsOut nodes i → own ≡ true → get_or (prefixes nodes) i [] ≡ p.prefix → get_or allowances (w - 1) 0 < splits (tree_of p) → IsGraftMove l w i p OverAllowance l
   graft-over l is out mine over lt =
-      subst (λ (l : LedgerOf). IsGraft l w t p OverAllowance l) is
-      (Graft w t.node own p.prefix (splits (tree_of p)) None, (own, owns, refl), (refl, refl, refl, ((one, le), (is-out b nodes best.numbers left allowances spent t.node out, (mine, sym over ∙ sym (prefix-is out.0)), lt, refl))))
+      subst (λ (l : MachineOf). IsGraftMove l w i p OverAllowance l) is
+      (Graft w i own p.prefix (splits (tree_of p)) None, (own, owns, refl), (refl, refl, refl, ((one, le), (is-out b nodes best.numbers left allowances spent i out, (mine, sym over ∙ sym (prefix-is out.0)), lt, refl))))
 
   module _ (mine : own ≡ true) where
     abbrev same : p.problem ≡ b
@@ -98,26 +94,26 @@ module _ (b : Problem) (budget : ℕ) (nodes : List Node) (best : TimedOrder) (l
     pub piece-floors : HaveFloors p.problem nodes
     piece-floors = subst (λ (q : Problem). HaveFloors q nodes) (sym same) h.floors
 
-    module _ (new : List Node) (count : ℕ) (out : IsOut nodes t.node) (over : get_or (prefixes nodes) t.node [] ≡ p.prefix) (counts : count ≡ splits (tree_of p)) (within : count ≤ get_or allowances (w - 1) 0) (piece : IsPiece p.problem p.prefix (tree_of p)) (planted : nodes_of p.problem new ≡ model.with_state (nodes_of p.problem nodes) t.node (root_state p.problem (total_of best.problem best.numbers) p.prefix (tree_of p)) ++ new_nodes p.problem (total_of best.problem best.numbers) p.prefix (tree_of p)) where
-      abbrev after : LedgerOf
-      after = ledger_of b budget new best.numbers left (set allowances (w - 1) (get_or allowances (w - 1) 0 - count)) (spent + count)
+    module _ (new : List Node) (count : ℕ) (out : IsOut nodes i) (over : get_or (prefixes nodes) i [] ≡ p.prefix) (counts : count ≡ splits (tree_of p)) (within : count ≤ get_or allowances (w - 1) 0) (piece : IsPiece p.problem p.prefix (tree_of p)) (planted : nodes_of p.problem new ≡ model.with_state (nodes_of p.problem nodes) i (root_state p.problem (total_of best.problem best.numbers) p.prefix (tree_of p)) ++ new_nodes p.problem (total_of best.problem best.numbers) p.prefix (tree_of p)) where
+      abbrev after : MachineOf
+      after = machine_of b budget new best.numbers left (set allowances (w - 1) (get_or allowances (w - 1) 0 - count)) (spent + count)
 
-      taken-moves : Moves b (state_of b nodes best.numbers left allowances spent) (Graft w t.node true p.prefix (splits (tree_of p)) (Some (tree_of p))) Taken after.state
+      taken-moves : Moves b (state_of b nodes best.numbers left allowances spent) (Graft w i true p.prefix (splits (tree_of p)) (Some (tree_of p))) Taken after.state
       taken-moves =
-          let made : nodes_of b new ≡ model.with_state (nodes_of b nodes) t.node (root_state b (total_of b best.numbers) p.prefix (tree_of p)) ++ new_nodes b (total_of b best.numbers) p.prefix (tree_of p) =
-          subst (λ (q : Problem). nodes_of b new ≡ model.with_state (nodes_of b nodes) t.node (root_state b (total_of q best.numbers) p.prefix (tree_of p)) ++ new_nodes b (total_of q best.numbers) p.prefix (tree_of p)) h.own
-          (subst (λ (q : Problem). nodes_of q new ≡ model.with_state (nodes_of q nodes) t.node (root_state q (total_of best.problem best.numbers) p.prefix (tree_of p)) ++ new_nodes q (total_of best.problem best.numbers) p.prefix (tree_of p)) same planted) in
-          let state : after.state ≡ model.after_graft b (state_of b nodes best.numbers left allowances spent) w t.node p.prefix (tree_of p) =
+          let made : nodes_of b new ≡ model.with_state (nodes_of b nodes) i (root_state b (total_of b best.numbers) p.prefix (tree_of p)) ++ new_nodes b (total_of b best.numbers) p.prefix (tree_of p) =
+          subst (λ (q : Problem). nodes_of b new ≡ model.with_state (nodes_of b nodes) i (root_state b (total_of q best.numbers) p.prefix (tree_of p)) ++ new_nodes b (total_of q best.numbers) p.prefix (tree_of p)) h.own
+          (subst (λ (q : Problem). nodes_of q new ≡ model.with_state (nodes_of q nodes) i (root_state q (total_of best.problem best.numbers) p.prefix (tree_of p)) ++ new_nodes q (total_of best.problem best.numbers) p.prefix (tree_of p)) same planted) in
+          let state : after.state ≡ model.after_graft b (state_of b nodes best.numbers left allowances spent) w i p.prefix (tree_of p) =
           ap (λ n. record { nodes = nodes_of b new; best = best.numbers; left = left; allowances = set allowances (w - 1) (get_or allowances (w - 1) 0 - n); spent = spent + n }) counts
           ∙ ap (λ (ns : List model.Node). record { nodes = ns; best = best.numbers; left = left; allowances = set allowances (w - 1) (get_or allowances (w - 1) 0 - splits (tree_of p)); spent = spent + splits (tree_of p) }) made in
-          (is-out b nodes best.numbers left allowances spent t.node out, (refl, sym over ∙ sym (prefix-is out.0)), omega (arith, counts, within), refl, subst (λ (q : Problem). IsPiece q p.prefix (tree_of p)) same piece, state)
+          (is-out b nodes best.numbers left allowances spent i out, (refl, sym over ∙ sym (prefix-is out.0)), omega (arith, counts, within), refl, subst (λ (q : Problem). IsPiece q p.prefix (tree_of p)) same piece, state)
 
-      pub graft-taken : (l : LedgerOf) → here ≡ l → IsGraft l w t p Taken after
+      pub graft-taken : (l : MachineOf) → here ≡ l → IsGraftMove l w i p Taken after
       graft-taken l is =
-          subst (λ (l : LedgerOf). IsGraft l w t p Taken after) is
-          (Graft w t.node true p.prefix (splits (tree_of p)) (Some (tree_of p)), (true, ((λ e. same), (λ e. refl)), refl), (refl, refl, length-set allowances (w - 1) (get_or allowances (w - 1) 0 - count), ((one, le), taken-moves)))
+          subst (λ (l : MachineOf). IsGraftMove l w i p Taken after) is
+          (Graft w i true p.prefix (splits (tree_of p)) (Some (tree_of p)), (true, ((λ e. same), (λ e. refl)), refl), (refl, refl, length-set allowances (w - 1) (get_or allowances (w - 1) 0 - count), ((one, le), taken-moves)))
 
       pub kept-taken : HaveFloors p.problem new → length new + 1 ≡ length nodes + length p.knots → length p.knots ≤ 1 + 64 * splits (tree_of p) → IsKept b budget new best left (set allowances (w - 1) (get_or allowances (w - 1) 0 - count)) (spent + count)
       kept-taken floors made lines =
-          kept-next b budget nodes best left allowances spent h new best left (set allowances (w - 1) (get_or allowances (w - 1) 0 - count)) (spent + count) (Graft w t.node true p.prefix (splits (tree_of p)) (Some (tree_of p))) Taken h.own
+          kept-next b budget nodes best left allowances spent h new best left (set allowances (w - 1) (get_or allowances (w - 1) 0 - count)) (spent + count) (Graft w i true p.prefix (splits (tree_of p)) (Some (tree_of p))) Taken h.own
           (subst (λ (q : Problem). HaveFloors q new) same floors) (omega (arith, made, lines, counts, h.room)) (length-set allowances (w - 1) (get_or allowances (w - 1) 0 - count)) ((one, le), taken-moves)

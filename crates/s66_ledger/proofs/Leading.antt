@@ -6,22 +6,22 @@ use Rattle.s66_model.specs.Ledger.{best_time, Event, Reply, Run}
 use Rattle.s66_model.proofs.Histories.{run-join}
 use Rattle.s66_model.proofs.LedgerRuns.{run-falls}
 use Rattle.s66_ledger.specs.Finishing.{Leads}
-use Rattle.s66_ledger.specs.Kept.{LedgerOf, IsEvent}
+use Rattle.s66_ledger.specs.Kept.{MachineOf, IsMove}
 
-pub leads-nowhere : (l : LedgerOf) → Leads l l
+pub leads-nowhere : (l : MachineOf) → Leads l l
 leads-nowhere l = (refl, refl, refl, ([], refl))
 
-pub event-leads : (old new : LedgerOf) (event : Event) (reply : Reply) → IsEvent old event reply new → Leads old new
+pub event-leads : (old new : MachineOf) (event : Event) (reply : Reply) → IsMove old event reply new → Leads old new
 event-leads old new event reply h = (h.0, h.1, h.2, ((event, reply) ∷ [], (new.state, h.3, refl)))
 
-pub leads-on : (old mid new : LedgerOf) → Leads old mid → Leads mid new → Leads old new
+pub leads-on : (old mid new : MachineOf) → Leads old mid → Leads mid new → Leads old new
 leads-on old mid new (p, q, r, (h, go)) (p2, q2, r2, (k, on)) =
     (p2 ∙ p, q2 ∙ q, r2 ∙ r, (h ++ k, run-join old.problem h k old.state mid.state new.state go (subst (λ (b : Problem). Run b mid.state k new.state) p on)))
 
-pub leads-far : (first second third fourth last : LedgerOf) → Leads first second → Leads second third → Leads third fourth → Leads fourth last → Leads first last
+pub leads-far : (first second third fourth last : MachineOf) → Leads first second → Leads second third → Leads third fourth → Leads fourth last → Leads first last
 leads-far first second third fourth last a b c d = leads-on first third last (leads-on first second third a b) (leads-on third fourth last c d)
 
-pub leads-fall : (old new : LedgerOf) → Leads old new → best_time new.problem new.state ≤ best_time new.problem old.state
+pub leads-fall : (old new : MachineOf) → Leads old new → best_time new.problem new.state ≤ best_time new.problem old.state
 leads-fall old new (p, q, r, (h, go)) = run-falls new.problem h old.state new.state (subst (λ (b : Problem). Run b old.state h new.state) (sym p) go)
 
 -- LISTS

@@ -11,6 +11,7 @@ pub mod Planted
 pub mod Prefixes
 pub mod Progress
 pub mod Reading
+pub mod Recording
 pub mod Rounds
 pub mod SeenNodes
 pub mod TakingBack

@@ -14,8 +14,8 @@ use Rattle.s66_time.specs.TimedOrder.{TimedOrder}
 use Rattle.s66_node.specs.Pieces.{PieceOf, tree_of, IsBestTimed}
 use Rattle.s66_ledger.specs.Handed.{TicketOf}
 use Rattle.s66_ledger.specs.Claims.{IsLeastOpen}
-use Rattle.s66_ledger.specs.Kept.{LedgerOf, IsEvent}
-use Rattle.s66_ledger.specs.Grafts.{IsGraft}
+use Rattle.s66_ledger.specs.Kept.{MachineOf, IsMove}
+use Rattle.s66_ledger.specs.GraftMoves.{IsGraftMove}
 use Rattle.s66_ledger.specs.Finishing.{IsSearched, IsBetween, IsOffering, still_to_go}
 use Rattle.s66_ledger.proofs.Events.{at-most-all}
 use Rattle.s66_ledger.proofs.Rounds.{leads-graft, claim-within, claim-back, graft-step}
@@ -46,11 +46,11 @@ expansion-gains b best allowance prefix (Alone (Carries leaf)) timed h some belo
 -- A ROUND HAS LESS TO GO
 
 -- the offer first, and then the graft
-pub taken-less : (old mid new : LedgerOf) (ticket : TicketOf) (piece : PieceOf) →
+pub taken-less : (old mid new : MachineOf) (ticket : TicketOf) (piece : PieceOf) →
     Covers old.problem old.budget old.state →
     IsOffering old mid →
     ((t : TimedOrder) → piece.timed ≡ Some t → best_time mid.problem mid.state ≤ total_of mid.problem t.numbers) →
-    IsGraft mid 1 ticket piece Taken new →
+    IsGraftMove mid 1 ticket.node piece Taken new →
     Gains old.problem (best_time old.problem old.state) (tree_of piece) piece.timed →
     still_to_go new < still_to_go old
 taken-less old mid new ticket piece covers offers at_most grafts gains =
@@ -93,7 +93,7 @@ open-counted (x ∷ nodes) node (inl e) opens =
     omega (arith, ap (λ t. cond {A = ℕ} t 1 0) (sym (ap is_open e) ∙ opens))
 open-counted (x ∷ nodes) node (inr later) opens = omega (arith, open-counted nodes node later opens)
 
-pub none-searched : (old new : LedgerOf) → IsBetween old.problem old.state → IsEvent old (Claim 1) (Claimed None) new → IsSearched new.problem new.budget new.state
+pub none-searched : (old new : MachineOf) → IsBetween old.problem old.state → IsMove old (Claim 1) (Claimed None) new → IsSearched new.problem new.budget new.state
 none-searched old new between h =
     subst (λ (b : Problem). IsSearched b new.budget new.state) (sym h.0)
     (subst (IsSearched old.problem new.budget) (sym h.3.1.1)
@@ -115,11 +115,11 @@ least-searched b budget l ticket between least reached =
     }
 
 -- where a node that was claimed for its least floor is given back, and that isn't below the best time
-pub back-searched : (old mid new : LedgerOf) (ticket : TicketOf) (best floor : ℕ) →
-    IsBetween old.problem old.state → IsEvent old (Claim 1) (Claimed (Some ticket.node)) mid → ticket.prefix ≡ (node_at old.state.nodes ticket.node).prefix →
+pub back-searched : (old mid new : MachineOf) (ticket : TicketOf) (best floor : ℕ) →
+    IsBetween old.problem old.state → IsMove old (Claim 1) (Claimed (Some ticket.node)) mid → ticket.prefix ≡ (node_at old.state.nodes ticket.node).prefix →
     IsLeastOpen old.problem old.state (Some ticket) →
     best ≡ best_time mid.problem mid.state → floor ≡ floor_value mid.problem (node_at mid.state.nodes ticket.node).prefix → best ≤ floor →
-    IsEvent mid (Back 1 ticket.node) Returned new → IsSearched new.problem new.budget new.state
+    IsMove mid (Back 1 ticket.node) Returned new → IsSearched new.problem new.budget new.state
 back-searched old mid new ticket best floor between claimed prefix least best_is floor_is le back =
     let within = claim-within old mid ticket claimed prefix between in
     let same : new.state ≡ old.state = claim-back old mid ticket claimed prefix new back in

@@ -18,8 +18,8 @@ use Rattle.s66_model.specs.Ledger.{Ledger, Node, State, Open, Out, Cut, Closed, 
 use Rattle.s66_model.specs.Coverage.{Covers}
 use Rattle.s66_node.specs.Pieces.{PieceOf, tree_of}
 use Rattle.s66_ledger.specs.Handed.{TicketOf}
-use Rattle.s66_ledger.specs.Kept.{LedgerOf, IsEvent}
-use Rattle.s66_ledger.specs.Grafts.{IsGraft}
+use Rattle.s66_ledger.specs.Kept.{MachineOf, IsMove}
+use Rattle.s66_ledger.specs.GraftMoves.{IsGraftMove}
 use Rattle.s66_ledger.specs.Finishing.{Leads, NoneOut, IsIdle, is_out_state, is_out, IsBetween, IsWithin, IsOffering, still_to_go}
 use Rattle.s66_ledger.proofs.Leading.{event-leads, leads-on, leads-nowhere, leads-fall}
 use Rattle.s66_ledger.proofs.TimedWholes.{wholes-offered, wholes-moved, wholes-grafted}
@@ -83,7 +83,7 @@ sum-set xs v some = weigh-set (λ n. n) xs 0 v 0 (omega (arith, some))
 alone-set : (xs : List ℕ) (v : ℕ) → 1 ≤ length xs → weigh (λ n. n) xs ≡ get_or xs 0 0 → weigh (λ n. n) (set xs 0 v) ≡ get_or (set xs 0 v) 0 0
 alone-set xs v some alone = omega (arith, sum-set xs v some, alone, get_or-set_same xs 0 v 0 (omega (arith, some)))
 
-module _ (old new : LedgerOf) (n : ℕ) (h : IsEvent old (Grant 1) (Granted n) new) where
+module _ (old new : MachineOf) (n : ℕ) (h : IsMove old (Grant 1) (Granted n) new) where
   pub grant-between : IsBetween old.problem old.state → IsBetween new.problem new.state
   grant-between between =
       subst (λ (b : Problem). IsBetween b new.state) (sym h.0)
@@ -101,7 +101,7 @@ module _ (old new : LedgerOf) (n : ℕ) (h : IsEvent old (Grant 1) (Granted n) n
 
 -- A CLAIM
 
-module _ (old new : LedgerOf) (ticket : TicketOf) (h : IsEvent old (Claim 1) (Claimed (Some ticket.node)) new) (prefix : ticket.prefix ≡ (node_at old.state.nodes ticket.node).prefix) where
+module _ (old new : MachineOf) (ticket : TicketOf) (h : IsMove old (Claim 1) (Claimed (Some ticket.node)) new) (prefix : ticket.prefix ≡ (node_at old.state.nodes ticket.node).prefix) where
   abbrev i : ℕ
   i = ticket.node
 
@@ -133,7 +133,7 @@ module _ (old new : LedgerOf) (ticket : TicketOf) (h : IsEvent old (Claim 1) (Cl
       }))
 
   -- a node that is given back is as it was
-  pub claim-back : (end : LedgerOf) → IsEvent new (Back 1 i) Returned end → end.state ≡ old.state
+  pub claim-back : (end : MachineOf) → IsMove new (Back 1 i) Returned end → end.state ≡ old.state
   claim-back end k =
       k.3.1.1 ∙ (ap (λ (l : Ledger). record l { nodes = with_state l.nodes i Open }) h.3.1.2 ∙ ap (λ (ns : List Node). record old.state { nodes = ns }) restored)
     where
@@ -147,7 +147,7 @@ module _ (old new : LedgerOf) (ticket : TicketOf) (h : IsEvent old (Claim 1) (Cl
 
 -- AN OFFER changes the best order alone
 
-module _ (old new : LedgerOf) (offers : IsOffering old new) where
+module _ (old new : MachineOf) (offers : IsOffering old new) where
   same-nodes : new.state.nodes ≡ old.state.nodes
   same-nodes = ap (λ (l : Ledger). l.nodes) offers.same
 
@@ -182,17 +182,17 @@ offer-moved b old new w own order time offered.Lower h = h.2 ∙ ap (after_offer
 offer-moved b old new w own order time (offered.NotLower least) h = h.3 ∙ ap (after_offer old) (sym (ap (λ (l : Ledger). l.best) h.3))
 offer-moved b old new w own order time offered.OtherBlock h = h.1 ∙ ap (after_offer old) (sym (ap (λ (l : Ledger). l.best) h.1))
 
-pub offer-offers : (old new : LedgerOf) (w : ℕ) (timed : TimedOrder) (answer : Offered) → ((event : Event) × IsOfferOf old.problem w timed.problem timed.numbers event × IsEvent old event (offered_reply answer) new) → IsOffering old new
+pub offer-offers : (old new : MachineOf) (w : ℕ) (timed : TimedOrder) (answer : Offered) → ((event : Event) × IsOfferOf old.problem w timed.problem timed.numbers event × IsMove old event (offered_reply answer) new) → IsOffering old new
 offer-offers old new w timed answer (event, (own, iff, told), h) =
     record {
       leads = event-leads old new event (offered_reply answer) h;
       same = offer-moved old.problem old.state new.state w own timed.numbers (total_of timed.problem timed.numbers) answer (subst (λ (e : Event). Moves old.problem old.state e (offered_reply answer) new.state) told h.3.1);
     }
 
-pub offer-nowhere : (l : LedgerOf) → IsOffering l l
+pub offer-nowhere : (l : MachineOf) → IsOffering l l
 offer-nowhere l = record { leads = leads-nowhere l; same = refl }
 
-pub offer-on : (old mid new : LedgerOf) → IsOffering old mid → IsOffering mid new → IsOffering old new
+pub offer-on : (old mid new : MachineOf) → IsOffering old mid → IsOffering mid new → IsOffering old new
 offer-on old mid new first second =
     record {
       leads = leads-on old mid new first.leads second.leads;
@@ -200,7 +200,7 @@ offer-on old mid new first second =
     }
 
 -- less is left to do, or as much
-pub offer-to-go : (old new : LedgerOf) → IsOffering old new → still_to_go new ≤ still_to_go old
+pub offer-to-go : (old new : MachineOf) → IsOffering old new → still_to_go new ≤ still_to_go old
 offer-to-go old new offers =
     let (problem, budget, workers, run) = offers.leads in
     let falls = leads-fall old new offers.leads in
@@ -209,16 +209,16 @@ offer-to-go old new offers =
 
 -- A GRAFT
 
-pub graft-step : (old new : LedgerOf) (ticket : TicketOf) (piece : PieceOf) → IsGraft old 1 ticket piece Taken new → (1 ≤ length old.state.allowances) × (splits (tree_of piece) ≤ allowance old.state 1) × IsPiece old.problem piece.prefix (tree_of piece) × (new.state ≡ after_graft old.problem old.state 1 ticket.node piece.prefix (tree_of piece))
+pub graft-step : (old new : MachineOf) (ticket : TicketOf) (piece : PieceOf) → IsGraftMove old 1 ticket.node piece Taken new → (1 ≤ length old.state.allowances) × (splits (tree_of piece) ≤ allowance old.state 1) × IsPiece old.problem piece.prefix (tree_of piece) × (new.state ≡ after_graft old.problem old.state 1 ticket.node piece.prefix (tree_of piece))
 graft-step old new ticket piece (event, (own, owns, is), h) =
-    let k : IsEvent old (Graft 1 ticket.node own piece.prefix (splits (tree_of piece)) (Some (tree_of piece))) Taken new = subst (λ e. IsEvent old e Taken new) is h in
+    let k : IsMove old (Graft 1 ticket.node own piece.prefix (splits (tree_of piece)) (Some (tree_of piece))) Taken new = subst (λ e. IsMove old e Taken new) is h in
     (k.3.0.1, k.3.1.2, k.3.1.4, k.3.1.5)
 
-pub leads-graft : (old new : LedgerOf) (ticket : TicketOf) (piece : PieceOf) → IsGraft old 1 ticket piece Taken new → Leads old new
+pub leads-graft : (old new : MachineOf) (ticket : TicketOf) (piece : PieceOf) → IsGraftMove old 1 ticket.node piece Taken new → Leads old new
 leads-graft old new ticket piece (event, own, h) = event-leads old new event Taken h
 
 -- of a piece whose whole orders aren't below the best time
-pub graft-between : (old new : LedgerOf) (ticket : TicketOf) (piece : PieceOf) → IsWithin old.problem old.state ticket → ((order : List ℕ) → Among order (whole_orders piece.prefix (tree_of piece)) → best_time old.problem old.state ≤ total_of old.problem order) → IsGraft old 1 ticket piece Taken new → IsBetween new.problem new.state
+pub graft-between : (old new : MachineOf) (ticket : TicketOf) (piece : PieceOf) → IsWithin old.problem old.state ticket → ((order : List ℕ) → Among order (whole_orders piece.prefix (tree_of piece)) → best_time old.problem old.state ≤ total_of old.problem order) → IsGraftMove old 1 ticket.node piece Taken new → IsBetween new.problem new.state
 graft-between old new ticket piece within each h =
     let b = old.problem in
     let l = old.state in

@@ -16,7 +16,7 @@ use Rattle.s66_time.specs.TimedOrder.{TimedOrder}
 use Rattle.s66_ledger.specs.declared.reply.Offered.{Offered}
 use Rattle.s66_ledger.specs.declared.reply.Offered.TheVariants as offered
 use Rattle.s66_ledger.specs.Finishing.{WholesAreTimed, IsTimedAt, IsOffering, IsTiming}
-use Rattle.s66_ledger.specs.Kept.{LedgerOf, IsEvent, IsKept, ledger_of}
+use Rattle.s66_ledger.specs.Kept.{MachineOf, IsMove, IsKept, machine_of}
 use Rattle.s66_ledger.specs.LiveNodes.{is_live_state}
 use Rattle.s66_ledger.specs.Nodes.{prefixes, node_at, seen_state}
 use Rattle.s66_ledger.specs.declared.node.Node.{Node}
@@ -27,7 +27,7 @@ use Rattle.s66_ledger.proofs.SeenNodes.{at-nodes}
 use Rattle.s66_ledger.proofs.Leading.{each-among, leads-fall}
 use Rattle.s66_ledger.proofs.Rounds.{offer-offers}
 
-timed-still : (old new : LedgerOf) (i : ℕ) → IsOffering old new → IsTimedAt old.problem old.state i → IsTimedAt new.problem new.state i
+timed-still : (old new : MachineOf) (i : ℕ) → IsOffering old new → IsTimedAt old.problem old.state i → IsTimedAt new.problem new.state i
 timed-still old new i offers timed =
     let before : IsTimedAt new.problem old.state i = subst (λ (b : Problem). IsTimedAt b old.state i) (sym offers.leads.0) timed in
     let falls = leads-fall old new offers.leads in
@@ -35,7 +35,7 @@ timed-still old new i offers timed =
     (λ live whole. omega (arith, before live whole, falls))
 
 -- what was timed stays so, and one more is
-pub timed-next : (old new : LedgerOf) (i : ℕ) → IsTiming old i new → ((j : ℕ) → j < i → IsTimedAt old.problem old.state j) → (j : ℕ) → j < i + 1 → IsTimedAt new.problem new.state j
+pub timed-next : (old new : MachineOf) (i : ℕ) → IsTiming old i new → ((j : ℕ) → j < i → IsTimedAt old.problem old.state j) → (j : ℕ) → j < i + 1 → IsTimedAt new.problem new.state j
 timed-next old new i h before j lt =
     elim (cases_eq j i) [
       | inl is ↦ subst (IsTimedAt new.problem new.state) (sym is) h.timed
@@ -55,7 +55,7 @@ at-most b old new w own order time (offered.NotLower least) is same h = omega (a
 at-most b old new w own order time offered.OtherBlock is same h = absurd (true≢false (sym is ∙ h.0))
 
 -- the order of a complete prefix is offered
-pub timed-now : (old new : LedgerOf) (w i : ℕ) (timed : TimedOrder) (answer : Offered) → timed ≡ record { problem = old.problem; numbers = (model.node_at old.state.nodes i).prefix } → ((event : Event) × IsOfferOf old.problem w timed.problem timed.numbers event × IsEvent old event (offered_reply answer) new) → IsTiming old i new
+pub timed-now : (old new : MachineOf) (w i : ℕ) (timed : TimedOrder) (answer : Offered) → timed ≡ record { problem = old.problem; numbers = (model.node_at old.state.nodes i).prefix } → ((event : Event) × IsOfferOf old.problem w timed.problem timed.numbers event × IsMove old event (offered_reply answer) new) → IsTiming old i new
 timed-now old new w i timed answer is (event, (own, iff, told), h) =
     let b = old.problem in
     let at = (model.node_at old.state.nodes i).prefix in
@@ -84,11 +84,11 @@ live-uncut : (s : State) → is_live_state s ≡ true → s ≢ state.Split
 live-uncut s live cut = true≢false (sym live ∙ ap is_live_state cut)
 
 -- a node that is open or out, and isn't below the best
-pub not-below : (b : Problem) (budget : ℕ) (nodes : List Node) (best : TimedOrder) (left : ℕ) (allowances : List ℕ) (spent : ℕ) → IsKept b budget nodes best left allowances spent → (l : LedgerOf) → ledger_of b budget nodes best.numbers left allowances spent ≡ l → (i time : ℕ) → i < length nodes → time ≡ total_of best.problem best.numbers → ¬ ((is_live_state (node_at nodes i).state ≡ true) × ((node_at nodes i).value < time)) → is_live (model.node_at l.state.nodes i) ≡ true → best_time l.problem l.state ≤ floor_value l.problem (model.node_at l.state.nodes i).prefix
+pub not-below : (b : Problem) (budget : ℕ) (nodes : List Node) (best : TimedOrder) (left : ℕ) (allowances : List ℕ) (spent : ℕ) → IsKept b budget nodes best left allowances spent → (l : MachineOf) → machine_of b budget nodes best.numbers left allowances spent ≡ l → (i time : ℕ) → i < length nodes → time ≡ total_of best.problem best.numbers → ¬ ((is_live_state (node_at nodes i).state ≡ true) × ((node_at nodes i).value < time)) → is_live (model.node_at l.state.nodes i) ≡ true → best_time l.problem l.state ≤ floor_value l.problem (model.node_at l.state.nodes i).prefix
 not-below b budget nodes best left allowances spent h l is i time lt total never =
     let at = get_or (prefixes nodes) i [] in
     let s = (node_at nodes i).state in
-    subst (λ (l : LedgerOf). is_live (model.node_at l.state.nodes i) ≡ true → best_time l.problem l.state ≤ floor_value l.problem (model.node_at l.state.nodes i).prefix) is
+    subst (λ (l : MachineOf). is_live (model.node_at l.state.nodes i) ≡ true → best_time l.problem l.state ≤ floor_value l.problem (model.node_at l.state.nodes i).prefix) is
     (subst (λ (n : model.Node). is_live n ≡ true → total_of b best.numbers ≤ floor_value b n.prefix) (sym (at-nodes b nodes i lt))
     (λ live.
     let here : is_live_state s ≡ true = sym (live-seen b at s) ∙ live in

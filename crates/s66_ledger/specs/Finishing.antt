@@ -6,10 +6,10 @@ use Rattle.s66_model.specs.LegalOrder.{IsComplete}
 use Rattle.s66_model.specs.Leaves.{floor_value}
 use Rattle.s66_model.specs.Ledger.{Ledger, Node, State, Open, Out, Cut, Closed, Event, Reply, Run, IsOut, is_open, is_live, best_time, allowance, node_at, after_offer}
 use Rattle.s66_ledger.specs.Handed.{TicketOf}
-use Rattle.s66_ledger.specs.Kept.{LedgerOf}
+use Rattle.s66_ledger.specs.Kept.{MachineOf}
 
 -- some events lead from one to the other
-abbrev pub Leads : LedgerOf → LedgerOf → Type 0
+abbrev pub Leads : MachineOf → MachineOf → Type 0
 Leads old new =
     (new.problem ≡ old.problem) × (new.budget ≡ old.budget) × (new.workers ≡ old.workers)
     × ((events : List (Event × Reply)) × Run old.problem old.state events new.state)
@@ -34,7 +34,7 @@ pub record IsSearched (b : Problem) (budget : ℕ) (l : Ledger) : Type 0 where
   pub wholes : WholesAreTimed b l
 
 -- an order is offered, or some are: nothing changes but the best one
-pub record IsOffering (old new : LedgerOf) : Type 0 where
+pub record IsOffering (old new : MachineOf) : Type 0 where
   pub leads : Leads old new
   pub same : new.state ≡ after_offer old.state new.state.best
 
@@ -45,7 +45,7 @@ abbrev pub NoneOutBelow : ℕ → Ledger → Type 0
 NoneOutBelow count l = (i : ℕ) → i < count → (node_at l.nodes i).state ≢ Out
 
 -- the node isn't out any more, nor is one before it that wasn't
-pub record IsReopening (old : LedgerOf) (node : ℕ) (new : LedgerOf) : Type 0 where
+pub record IsReopening (old : MachineOf) (node : ℕ) (new : MachineOf) : Type 0 where
   pub leads : Leads old new
   pub in_hand : NoneOutBelow node old.state → NoneOutBelow (node + 1) new.state
   pub count : length new.state.nodes ≡ length old.state.nodes
@@ -57,7 +57,7 @@ IsTimedAt b l i =
     is_live (node_at l.nodes i) ≡ true → IsComplete b.block (node_at l.nodes i).prefix → best_time b l ≤ floor_value b (node_at l.nodes i).prefix
 
 -- the node's order is offered where it is whole
-pub record IsTiming (old : LedgerOf) (node : ℕ) (new : LedgerOf) : Type 0 where
+pub record IsTiming (old : MachineOf) (node : ℕ) (new : MachineOf) : Type 0 where
   pub offers : IsOffering old new
   pub timed : IsTimedAt new.problem new.state node
 
@@ -87,5 +87,5 @@ pub record IsWithin (b : Problem) (l : Ledger) (ticket : TicketOf) : Type 0 wher
   pub wholes : WholesAreTimed b l
 
 -- what a search still has: splits of the budget, and minor cycles of the best time
-abbrev pub still_to_go : LedgerOf → ℕ
+abbrev pub still_to_go : MachineOf → ℕ
 still_to_go l = (l.budget - l.state.spent) + best_time l.problem l.state

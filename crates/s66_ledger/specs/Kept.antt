@@ -1,4 +1,4 @@
--- To be believed: what contracts see of a ledger, and what one call of it is. Used by an invariant: what is true of every ledger that is kept.
+-- To be believed: what contracts see of a ledger's machine, and what one move of it is. Used by an invariant: what is true of every machine that is kept.
 use Rattle.std.specs.Prelude.{ℕ, ◌+◌, ◌*◌, ◌≡◌, ◌≤◌, List, length}
 use Rattle.s66_line.specs.declared.limits.TheConstants.{BLOCK_LIMIT}
 use Rattle.s66_model.specs.Timing.{Problem}
@@ -9,24 +9,24 @@ use Rattle.s66_ledger.specs.declared.node.Node.{Node}
 use Rattle.s66_ledger.specs.declared.limits.TheConstants.{BUDGET_LIMIT}
 use Rattle.s66_ledger.specs.Nodes.{nodes_of, HaveFloors}
 
--- a problem's ledger, for a budget and so many workers
-pub record LedgerOf : Type 0 where
+-- a ledger without its history, for a budget and so many workers
+pub record MachineOf : Type 0 where
   pub problem : Problem
   pub budget : ℕ
   pub workers : ℕ
   pub state : Ledger
 
 -- one event with its reply: a step of the machine
-abbrev pub IsEvent : LedgerOf → Event → Reply → LedgerOf → Type 0
-IsEvent old event reply new =
+abbrev pub IsMove : MachineOf → Event → Reply → MachineOf → Type 0
+IsMove old event reply new =
     (new.problem ≡ old.problem) × (new.budget ≡ old.budget) × (new.workers ≡ old.workers) × Step old.problem old.state event reply new.state
 
 abbrev pub state_of : Problem → List Node → List ℕ → ℕ → List ℕ → ℕ → Ledger
 state_of b nodes best left allowances spent =
     record { nodes = nodes_of b nodes; best = best; left = left; allowances = allowances; spent = spent }
 
-abbrev pub ledger_of : Problem → ℕ → List Node → List ℕ → ℕ → List ℕ → ℕ → LedgerOf
-ledger_of b budget nodes best left allowances spent =
+abbrev pub machine_of : Problem → ℕ → List Node → List ℕ → ℕ → List ℕ → ℕ → MachineOf
+machine_of b budget nodes best left allowances spent =
     record { problem = b; budget = budget; workers = length allowances; state = state_of b nodes best left allowances spent }
 
 pub record IsKept (b : Problem) (budget : ℕ) (nodes : List Node) (best : TimedOrder) (left : ℕ) (allowances : List ℕ) (spent : ℕ) : Type 0 where
@@ -37,3 +37,4 @@ pub record IsKept (b : Problem) (budget : ℕ) (nodes : List Node) (best : Timed
   -- each split makes a node of each of its children
   pub room : length nodes ≤ 1 + BLOCK_LIMIT * spent
   pub few : budget ≤ BUDGET_LIMIT
+  pub workers : length allowances ≤ 255

@@ -1,13 +1,17 @@
 pub mod Answers
 pub mod Claims
 pub mod Cursors
+pub mod Entries
 pub mod Finishing
+pub mod GraftMoves
 pub mod Grafts
 pub mod Handed
 pub mod Kept
+pub mod Ledgers
 pub mod Links
 pub mod LiveNodes
 pub mod Nodes
 pub mod OpenNodes
 pub mod Planting
 pub mod Replies
+pub mod Steps

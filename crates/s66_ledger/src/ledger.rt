@@ -1,65 +1,54 @@
 use crate::answer::Answer;
-use crate::limits::{BUDGET_LIMIT, GRANT_LIMIT};
-use crate::node_table::NodeTable;
+use crate::entry::{Entry, refusal_of};
+use crate::limits::BUDGET_LIMIT;
+use crate::machine::Machine;
 use crate::reply::{BackError, GraftError, Offered};
-use crate::ticket::Ticket;
-use arrayvec::ArrayVec;
-use s66_bound::Bounds;
-use s66_dep::Order;
+use crate::ticket::{Ticket, node_of};
 use s66_isa::Profile;
-use s66_line::{BLOCK_LIMIT, Block};
-use s66_node::{Piece, Priority, Walk};
-use s66_time::{Clock, Timed, time_of};
+use s66_line::Block;
+use s66_node::{Piece, copy_of};
+use s66_time::Timed;
 use std::alloc::{AllocError, Global};
 use std::marker::Model;
 
-/// The ledger of a search over one block's orders, for one thread; it borrows the block.
+/// The ledger of a search over one block's orders, for one thread; it borrows the block. It keeps its history.
 #[derive(Drop)]
 pub struct Ledger<'a> {
-    block: &'a Block<'a>,
-    profile: Profile,
-    budget: u32,
-    pub(crate) table: NodeTable,
-    best: Timed,
-    left: u32,
-    pub(crate) allowances: Vec<u32>,
-    spent: u32,
+    machine: Machine<'a>,
+    /// An entry for each event, the oldest first.
+    history: Vec<Entry>,
 }
 
 impl<'a> Model for Ledger<'a> {
-    ghost use Rattle.s66_line.specs.Block.{instrs_of};
-    ghost use Rattle.s66_ledger.specs.Kept.{LedgerOf, ledger_of, IsKept};
+    ghost use Rattle.s66_ledger.specs.Ledgers.{LedgerOf, with_history, IsRecorded};
 
     ghost Value = { LedgerOf };
 
-    ghost view = { λ l. ledger_of (record { block = instrs_of l.block.now; profile = l.profile }) l.budget l.table l.best.numbers l.left l.allowances.items l.spent };
+    ghost view = { λ l. with_history l.machine l.history.items };
 
-    ghost invariant = { λ l. IsKept (record { block = instrs_of l.block.now; profile = l.profile }) l.budget l.table l.best l.left l.allowances.items l.spent };
+    ghost invariant = { λ l. IsRecorded (with_history l.machine l.history.items) };
 }
 
 impl<'a> Ledger<'a> {
-    ghost use Rattle.std.specs.Prelude.{ℕ, Bool, true, false, Some, None, ◌+◌, ◌≡◌, ◌<◌, ◌≤◌, ◌↔◌, length, IfOk, IfErr, IfSome, IfNone, OnOk, OnErr, IsTrue, if◌then◌else◌};
+    ghost use Rattle.std.specs.Prelude.{ℕ, [], ◌≡◌, ◌≤◌, length, IfOk, IfErr, OnOk, OnErr};
     ghost use Rattle.s66_line.specs.Block.{instrs_of};
-    ghost use Rattle.s66_isa.specs.Lists.{tally};
-    ghost use Rattle.s66_model.specs.Timing.{total_of};
-    ghost use Rattle.s66_model.specs.LegalOrder.{IsBeginning};
-    ghost use Rattle.s66_model.specs.Leaves.{floor_value};
-    ghost use Rattle.s66_model.specs.Ledger.{Event, opening, best_time, is_open, is_live, node_at, Grant, Granted, Claim, Claimed, Back, Returned, NotOut, Retire, Retired, Offer, Taken};
+    ghost use Rattle.s66_isa.specs.Lists.{tally, weigh};
+    ghost use Rattle.s66_model.specs.Accounts.{Account};
+    ghost use Rattle.s66_model.specs.Ledger.{Event, Run, opening, best_time, is_open, Grant, Granted, Claim, Claimed, Back, Returned, NotOut, Retire, Retired, Taken};
     ghost use Rattle.s66_model.specs.Recorded.{IsOfferOf};
     ghost use Rattle.s66_model.specs.Coverage.{Covers, bound_of, IsFinished};
     ghost use Rattle.s66_model.specs.BestAndBound.{IsBound};
     ghost use Rattle.s66_model.specs.NodeTable.{IsTable};
-    ghost use Rattle.s66_ledger.specs.Kept.{IsEvent};
-    ghost use Rattle.s66_model.specs.Ended.{IsEnded, ended_answer};
+    ghost use Rattle.s66_ledger.specs.Ledgers.{IsEvent, IsRecorded, events_of, account_summary};
     ghost use Rattle.s66_ledger.specs.Answers.{answer_of};
-    ghost use Rattle.s66_ledger.specs.Finishing.{IsReopening};
-    ghost use Rattle.s66_ledger.specs.Grafts.{IsGraft, IsRefusedGraft};
+    ghost use Rattle.s66_ledger.specs.Grafts.{IsGraft, IsRefusedGraft, IsGraftAt, IsRefusedGraftAt};
     ghost use Rattle.s66_ledger.specs.Claims.{claimed_node, IsTicketOf, IsLeastOpen};
     ghost use Rattle.s66_ledger.specs.Replies.{offered_reply};
     ghost use Rattle.s66_ledger.specs.declared.limits.TheConstants.{BUDGET_LIMIT};
     ghost use Rattle.s66_ledger.specs.declared.reply.BackError.TheVariants as refused;
 
-    /// A ledger of one open node, the empty prefix, whose best order is the source order; the workers count from 1.
+    /// A ledger of one open node, the empty prefix, whose best order is the source order, and whose history is empty; the workers
+    /// count from 1.
     pub fn new(
         alloc: Global,
         block: &'a Block<'a>,
@@ -72,23 +61,11 @@ impl<'a> Ledger<'a> {
         ensures budget { IfOk result (λ l. l.budget ≡ budget) }
         ensures workers { IfOk result (λ l. l.workers ≡ workers) }
         ensures state { IfOk result (λ l. l.state ≡ opening l.problem budget workers) }
+        ensures history { IfOk result (λ l. l.history ≡ []) }
     {
-        let mut allowances = Vec::new(alloc);
-        for _ in 0..workers {
-            allowances.push(0)?;
-        }
-        let floor = Bounds::of(block, profile).floor_value(&Clock::new(block, profile));
-        let table = NodeTable::new(alloc, floor)?;
-        let source = Order::source(block);
         Ok(Ledger {
-            block,
-            profile: *profile,
-            budget,
-            table,
-            best: time_of(block, profile, &source),
-            left: budget,
-            allowances,
-            spent: 0,
+            machine: Machine::new(alloc, block, profile, budget, workers)?,
+            history: Vec::new(alloc),
         })
     }
 
@@ -96,14 +73,14 @@ impl<'a> Ledger<'a> {
     pub fn block(&self) -> &'a Block<'a>
         ensures { instrs_of result.now ≡ self.now.problem.block }
     {
-        self.block
+        self.machine.block()
     }
 
     /// The profile.
     pub fn profile(&self) -> &Profile
         ensures { result.now ≡ self.now.problem.profile }
     {
-        &self.profile
+        self.machine.profile()
     }
 
     /// The most splits of the search.
@@ -111,22 +88,38 @@ impl<'a> Ledger<'a> {
         ensures value { result ≡ self.now.budget }
         ensures few { result ≤ BUDGET_LIMIT }
     {
-        self.budget
+        self.machine.budget()
     }
 
-    /// How many splits are spent.
+    /// How many workers there are.
+    pub fn workers(&self) -> u8
+        ensures { result ≡ self.now.workers }
+    {
+        self.machine.workers()
+    }
+
+    /// An entry for each event, the oldest first: its events lead from the opening to the ledger as it is.
+    pub fn history(&self) -> &[Entry]
+        ensures value { result.now ≡ self.now.history }
+        ensures run { Run self.now.problem (opening self.now.problem self.now.budget self.now.workers) (events_of self.now) self.now.state }
+    {
+        self.history.as_slice()
+    }
+
+    /// How many splits are spent, which is what the accounts of the workers add up to.
     pub fn splits(&self) -> u32
         ensures value { result ≡ self.now.state.spent }
         ensures within { result ≤ self.now.budget }
+        ensures accounts { weigh (λ (a : Account). a.splits) (account_summary self.now).accounts ≡ self.now.state.spent }
     {
-        self.spent
+        self.machine.splits()
     }
 
     /// How many nodes are open.
     pub fn open_nodes(&self) -> usize
         ensures { result ≡ tally is_open self.now.state.nodes }
     {
-        self.table.open_count()
+        self.machine.open_nodes()
     }
 
     /// The best time, in minor cycles. Whatever happened to the ledger, every legal order begins with the prefix of exactly one of
@@ -136,7 +129,7 @@ impl<'a> Ledger<'a> {
         ensures covers { Covers self.now.problem self.now.budget self.now.state }
         ensures table { IsTable self.now.problem self.now.state }
     {
-        self.best.total()
+        self.machine.best()
     }
 
     /// A lower bound of the totals of all legal orders, in minor cycles: the least of the best time and the floors of the nodes that
@@ -145,7 +138,7 @@ impl<'a> Ledger<'a> {
         ensures value { result ≡ bound_of self.now.problem self.now.state }
         ensures bound { IsBound self.now.problem result }
     {
-        self.table.least_floor(self.best.total())
+        self.machine.bound()
     }
 
     /// Moves `GRANT_LIMIT` splits of the budget to the worker, or what is left of it, and tells how many.
@@ -154,10 +147,10 @@ impl<'a> Ledger<'a> {
         ensures ok { IfOk result (λ n. IsEvent self.old (Grant w) (Granted n) self.new) }
         ensures err { OnErr result (self.new ≡ self.old) }
     {
-        let share = self.left.min(GRANT_LIMIT);
-        self.left -= share;
-        self.allowances[w as usize - 1] += share;
-        Ok(share)
+        self.history.reserve(1)?;
+        let splits = self.machine.grant(w);
+        self.history.push_reserved(Entry::Grant { w, splits });
+        Ok(splits)
     }
 
     /// Gives the worker's allowance back to the budget.
@@ -166,17 +159,10 @@ impl<'a> Ledger<'a> {
         ensures ok { OnOk result (IsEvent self.old (Retire w) Retired self.new) }
         ensures err { OnErr result (self.new ≡ self.old) }
     {
-        self.retire_at(w as usize - 1);
+        self.history.reserve(1)?;
+        self.machine.retire(w);
+        self.history.push_reserved(Entry::Retire { w });
         Ok(())
-    }
-
-    /// Gives the allowance of the worker at this place, from 0, back to the budget.
-    pub(crate) fn retire_at(&mut self, at: usize)
-        requires { at < self.old.workers }
-        ensures { IsEvent self.old (Retire (at + 1)) Retired self.new }
-    {
-        self.left += self.allowances[at];
-        self.allowances[at] = 0;
     }
 
     /// Hands out the open node of the least floor, of equal ones the deepest, and of these the newest; None only where no node is
@@ -188,12 +174,11 @@ impl<'a> Ledger<'a> {
         ensures least { IfOk result (λ ticket. IsLeastOpen self.old.problem self.old.state ticket) }
         ensures err { OnErr result (self.new ≡ self.old) }
     {
-        prove!(self.block.count() <= BLOCK_LIMIT);
-        let Some(node) = self.table.claim() else {
-            return Ok(None);
-        };
-        let prefix = self.table.prefix_of(node);
-        Ok(Some(Ticket::new(node, prefix)))
+        self.history.reserve(1)?;
+        let ticket = self.machine.claim(w);
+        let node = node_of(&ticket);
+        self.history.push_reserved(Entry::Claim { w, node });
+        Ok(ticket)
     }
 
     /// Takes a node back that was handed out, so that it is open again.
@@ -201,58 +186,45 @@ impl<'a> Ledger<'a> {
         requires { (1 ≤ w) × (w ≤ self.old.workers) }
         ensures ok { OnOk result (IsEvent self.old (Back w ticket.node) Returned self.new) }
         ensures not_out { IfErr result (λ e. e.0 ≡ refused.NotOut → IsEvent self.old (Back w ticket.node) NotOut self.new) }
-        ensures err { OnErr result (self.new ≡ self.old) }
+        ensures no_memory { IfErr result (λ e. e.0 ≡ refused.OutOfMemory → self.new ≡ self.old) }
+        ensures err { OnErr result (self.new.state ≡ self.old.state) }
         ensures handed_back { IfErr result (λ e. e.1 ≡ ticket) }
     {
-        if !self.table.is_out(ticket.node()) {
-            return Err((BackError::NotOut, ticket));
+        match self.back_at(w, ticket.node()) {
+            Ok(()) => Ok(()),
+            Err(why) => Err((why, ticket)),
         }
-        let Ok(()) = self.table.give_back(ticket.node()) else {
-            return Err((BackError::OutOfMemory, ticket));
+    }
+
+    /// Takes the node of this number back, as `back` does.
+    pub(crate) fn back_at(&mut self, w: u8, node: u32) -> Result<(), BackError>
+        requires { (1 ≤ w) × (w ≤ self.old.workers) }
+        ensures ok { OnOk result (IsEvent self.old (Back w node) Returned self.new) }
+        ensures not_out { IfErr result (λ e. e ≡ refused.NotOut → IsEvent self.old (Back w node) NotOut self.new) }
+        ensures no_memory { IfErr result (λ e. e ≡ refused.OutOfMemory → self.new ≡ self.old) }
+        ensures err { OnErr result (self.new.state ≡ self.old.state) }
+    {
+        let Ok(()) = self.history.reserve(1) else {
+            return Err(BackError::OutOfMemory);
         };
-        Ok(())
-    }
-
-    /// Takes a node back where it is out, as worker 1.
-    pub(crate) fn reopen(&mut self, node: u32) -> Result<(), AllocError>
-        requires { 1 ≤ self.old.workers }
-        ensures ok { OnOk result (IsReopening self.old node self.new) }
-        ensures err { OnErr result (self.new ≡ self.old) }
-    {
-        if self.table.is_out(node) {
-            self.table.give_back(node)?;
-        }
-        Ok(())
-    }
-
-    /// How many workers there are.
-    pub(crate) fn worker_count(&self) -> usize
-        ensures value { result ≡ self.now.workers }
-        ensures allowances { result ≡ length self.now.state.allowances }
-    {
-        self.allowances.len()
-    }
-
-    /// How many nodes there are.
-    pub(crate) fn node_count(&self) -> u32
-        ensures { result ≡ length self.now.state.nodes }
-    {
-        self.table.count() as u32
-    }
-
-    /// The prefix of a node, where it is open or out and its floor is below the best time.
-    pub(crate) fn promising_prefix(&self, node: u32) -> Option<ArrayVec<u8, BLOCK_LIMIT>>
-        requires { node < length self.now.state.nodes }
-        ensures prefix { IfSome result (λ prefix. prefix.items ≡ (node_at self.now.state.nodes node).prefix) }
-        ensures begins { IfSome result (λ prefix. IsBeginning self.now.problem.block prefix.items) }
-        ensures none { IfNone result (is_live (node_at self.now.state.nodes node) ≡ true → best_time self.now.problem self.now.state ≤ floor_value self.now.problem (node_at self.now.state.nodes node).prefix) }
-    {
-        // so the prefix fits
-        prove!(self.block.count() <= BLOCK_LIMIT);
-        if self.table.is_live_below(node, self.best.total()) {
-            Some(self.table.prefix_of(node))
-        } else {
-            None
+        match self.machine.back(w, node) {
+            Ok(()) => {
+                self.history.push_reserved(Entry::Back {
+                    w,
+                    node,
+                    returned: true,
+                });
+                Ok(())
+            }
+            Err(BackError::NotOut) => {
+                self.history.push_reserved(Entry::Back {
+                    w,
+                    node,
+                    returned: false,
+                });
+                Err(BackError::NotOut)
+            }
+            Err(BackError::OutOfMemory) => Err(BackError::OutOfMemory),
         }
     }
 
@@ -262,21 +234,24 @@ impl<'a> Ledger<'a> {
         ensures ok { IfOk result (λ offered. (event : Event) × IsOfferOf self.old.problem w timed.problem timed.numbers event × IsEvent self.old event (offered_reply offered) self.new) }
         ensures err { OnErr result (self.new ≡ self.old) }
     {
-        if !timed.is_of(self.block, &self.profile) {
-            return Ok(Offered::OtherBlock);
-        }
-        let _legal = timed.order();
-        let least = self.best.total();
-        if timed.total() < least {
-            self.best = timed;
-            Ok(Offered::Lower)
-        } else {
-            Ok(Offered::NotLower { least })
-        }
+        self.history.reserve(1)?;
+        let own = timed.is_of(self.machine.block(), self.machine.profile());
+        let order = copy_of(timed.order().numbers());
+        let time = timed.total();
+        let offered = self.machine.offer(w, timed);
+        self.history.push_reserved(Entry::Offer {
+            w,
+            own,
+            order,
+            time,
+            offered,
+        });
+        Ok(offered)
     }
 
     /// Puts a piece in the place of a node that was handed out, and spends its splits: the node takes the state of the piece's root,
-    /// and the piece's other prefixes become nodes. A leaf that is below the best time is kept open.
+    /// and the piece's other prefixes become nodes. A leaf that is below the best time is kept open. The piece's lines go into the
+    /// history.
     ///
     /// In time linear in the piece's lines, with a logarithm of the number of open nodes for each that is open; all room is made
     /// before anything changes.
@@ -289,78 +264,73 @@ impl<'a> Ledger<'a> {
         requires { (1 ≤ w) × (w ≤ self.old.workers) }
         ensures ok { OnOk result (IsGraft self.old w ticket piece Taken self.new) }
         ensures refused { IfErr result (λ e. IsRefusedGraft self.old w ticket piece e.0 self.new) }
-        ensures err { OnErr result (self.new ≡ self.old) }
+        ensures err { OnErr result (self.new.state ≡ self.old.state) }
         ensures handed_back { IfErr result (λ e. (e.1 ≡ ticket) × (e.2 ≡ piece)) }
     {
-        // so the numbers of its nodes fit
-        prove!(self.block.count() <= BLOCK_LIMIT);
-        let own = piece.is_of(self.block, &self.profile);
-        let node = ticket.node();
-        if !self.table.is_out(node) {
-            return Err((GraftError::NotOut, ticket, piece));
+        match self.graft_at(w, ticket.node(), piece) {
+            Ok(()) => Ok(()),
+            Err((why, piece)) => Err((why, ticket, piece)),
         }
-        if !own {
-            return Err((GraftError::OtherPrefix, ticket, piece));
-        }
-        if !self.table.is_over(node, piece.prefix()) {
-            return Err((GraftError::OtherPrefix, ticket, piece));
-        }
-        let splits = piece.splits();
-        let at = w as usize - 1;
-        if self.allowances[at] < splits {
-            return Err((GraftError::OverAllowance, ticket, piece));
-        }
-        let best = self.best.total();
-        let Ok(()) = self.table.plant(node, best, &piece) else {
-            return Err((GraftError::OutOfMemory, ticket, piece));
+    }
+
+    /// Puts a piece in the place of the node of this number, as `graft` does.
+    pub(crate) fn graft_at(
+        &mut self,
+        w: u8,
+        node: u32,
+        piece: Piece,
+    ) -> Result<(), (GraftError, Piece)>
+        requires { (1 ≤ w) × (w ≤ self.old.workers) }
+        ensures ok { OnOk result (IsGraftAt self.old w node piece Taken self.new) }
+        ensures refused { IfErr result (λ e. IsRefusedGraftAt self.old w node piece e.0 self.new) }
+        ensures err { OnErr result (self.new.state ≡ self.old.state) }
+        ensures handed_back { IfErr result (λ e. e.1 ≡ piece) }
+    {
+        let Ok(()) = self.history.reserve(1) else {
+            return Err((GraftError::OutOfMemory, piece));
         };
-        self.allowances[at] -= splits;
-        self.spent += splits;
-        Ok(())
+        let own = piece.is_of(self.machine.block(), self.machine.profile());
+        let prefix = copy_of(piece.prefix());
+        let splits = piece.splits();
+        let error = match self.machine.graft(w, node, &piece) {
+            Ok(()) => {
+                self.history.push_reserved(Entry::Taken {
+                    w,
+                    node,
+                    prefix,
+                    knots: piece.into_knots(),
+                    splits,
+                });
+                return Ok(());
+            }
+            Err(error) => error,
+        };
+        let Some(why) = refusal_of(error) else {
+            return Err((error, piece));
+        };
+        self.history.push_reserved(Entry::Refused {
+            w,
+            node,
+            own,
+            prefix,
+            splits,
+            why,
+        });
+        Err((error, piece))
     }
 
     /// Brings the search to its end: offers two list schedules, takes back every allowance and every node that is out, offers the
     /// whole orders among the nodes, and goes on until no open node's floor is below the best time, or the budget is spent and no
-    /// whole order is below it.
+    /// whole order is below it. The history ends where it begins, and is dropped.
     ///
     /// The time is that of expanding what it claims, and linear in the number of nodes. `Err` is want of memory.
-    pub fn finish(mut self, alloc: Global) -> Result<Answer, AllocError>
+    pub fn finish(self, alloc: Global) -> Result<Answer, AllocError>
         requires { 1 ≤ self.workers }
         ensures problem { IfOk result (λ a. a.problem ≡ self.entry.problem) }
         ensures budget { IfOk result (λ a. a.budget ≡ self.entry.budget) }
         ensures finished { IfOk result (λ a. IsFinished self.entry.problem self.entry.budget self.entry.state (answer_of a)) }
     {
-        let mut walk = Walk::new(self.block, &self.profile);
-        self.offer_schedule(&mut walk, Priority::Start)?;
-        walk.go_to(&[]);
-        self.offer_schedule(&mut walk, Priority::Issue)?;
-        self.take_back()?;
-        self.offer_wholes()?;
-        self.search(alloc, &mut walk)?;
-        Ok(self.into_answer())
-    }
-
-    /// The answer that the ledger is where its steps have ended.
-    fn into_answer(self) -> Answer
-        requires { IsEnded self.problem self.budget self.state }
-        ensures problem { result.problem ≡ self.entry.problem }
-        ensures budget { result.budget ≡ self.entry.budget }
-        ensures answer { answer_of result ≡ ended_answer self.entry.problem self.entry.state }
-    {
-        let bound = self.bound();
-        let Ledger {
-            budget,
-            table,
-            best,
-            spent,
-            ..
-        } = self;
-        Answer {
-            best,
-            budget,
-            nodes: table.into_nodes(),
-            bound,
-            splits: spent,
-        }
+        let Ledger { machine, .. } = self;
+        machine.finish(alloc)
     }
 }

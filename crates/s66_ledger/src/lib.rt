@@ -3,11 +3,13 @@
 #![tactic(auto)]
 
 mod answer;
+mod entry;
 mod ledger;
 mod limits;
 mod lines;
 mod links;
 mod live;
+mod machine;
 mod node;
 mod node_table;
 mod path;
@@ -15,12 +17,16 @@ mod planting;
 mod rank;
 mod reply;
 mod search;
+mod step;
 mod taking;
 mod ticket;
 
 pub use answer::Answer;
+pub use entry::{Entry, Refusal};
 pub use ledger::Ledger;
 pub use limits::{BUDGET_LIMIT, GRANT_LIMIT};
 pub use lines::{AnswerLine, AnswerLines};
 pub use reply::{BackError, GraftError, Offered};
+pub use s66_model::coverage_law;
+pub use step::{Event, Reply};
 pub use ticket::Ticket;

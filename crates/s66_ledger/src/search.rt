@@ -1,11 +1,11 @@
-use crate::ledger::Ledger;
 use crate::limits::SCHEDULE_ROUNDS;
+use crate::machine::Machine;
 use crate::reply::{BackError, GraftError};
 use crate::ticket::Ticket;
 use s66_node::{Piece, Priority, Walk, schedule_rest};
 use std::alloc::{AllocError, Global};
 
-impl<'a> Ledger<'a> {
+impl<'a> Machine<'a> {
     ghost use Rattle.std.specs.Prelude.{true, false, Some, ◌≡◌, ◌≤◌, ◌<◌, OnOk, IfOk};
     ghost use Rattle.s66_model.specs.Leaves.{floor_value};
     ghost use Rattle.s66_model.specs.Timing.{total_of};
@@ -32,7 +32,7 @@ impl<'a> Ledger<'a> {
         let mut rounds = 0u32;
         while self.search_round(alloc, walk)? {
             rounds = rounds.wrapping_add(1);
-            self.offer_sometimes(walk, rounds)?;
+            self.offer_sometimes(walk, rounds);
         }
         Ok(())
     }
@@ -47,19 +47,19 @@ impl<'a> Ledger<'a> {
         ensures goes_on { IfOk result (λ on. on ≡ true → IsBetween self.new.problem self.new.state × (still_to_go self.new < still_to_go self.old)) }
         ensures ends { IfOk result (λ on. on ≡ false → IsSearched self.new.problem self.new.budget self.new.state) }
     {
-        let allowance = self.allowance_or_grant()?;
+        let allowance = self.allowance_or_grant();
         if allowance == 0 {
             return Ok(false);
         }
-        let Some(ticket) = self.claim(1)? else {
+        let Some(ticket) = self.claim(1) else {
             return Ok(false);
         };
         let best = self.best();
         if best <= self.floor_of(ticket.node()) {
-            return match self.back(1, ticket) {
+            return match self.back(1, ticket.node()) {
                 Ok(()) => Ok(false),
-                Err((BackError::OutOfMemory, _)) => Err(AllocError),
-                Err((BackError::NotOut, _)) => unreachable!(),
+                Err(BackError::OutOfMemory) => Err(AllocError),
+                Err(BackError::NotOut) => unreachable!(),
             };
         }
         let piece = walk.expand(alloc, ticket.prefix(), best, allowance)?;
@@ -68,51 +68,44 @@ impl<'a> Ledger<'a> {
     }
 
     /// How many splits worker 1 may spend, after a grant where it has none; 0 only where the budget is spent.
-    fn allowance_or_grant(&mut self) -> Result<u32, AllocError>
+    fn allowance_or_grant(&mut self) -> u32
         requires workers { 1 ≤ self.old.workers }
         requires between { IsBetween self.old.problem self.old.state }
-        ensures value { IfOk result (λ n. n ≡ allowance self.new.state 1) }
-        ensures leads { IfOk result (λ n. Leads self.old self.new) }
-        ensures between { IfOk result (λ n. IsBetween self.new.problem self.new.state) }
-        ensures same { IfOk result (λ n. still_to_go self.new ≡ still_to_go self.old) }
-        ensures spent { IfOk result (λ n. n ≡ 0 → self.new.state.spent ≡ self.new.budget) }
+        ensures value { result ≡ allowance self.new.state 1 }
+        ensures leads { Leads self.old self.new }
+        ensures between { IsBetween self.new.problem self.new.state }
+        ensures same { still_to_go self.new ≡ still_to_go self.old }
+        ensures spent { result ≡ 0 → self.new.state.spent ≡ self.new.budget }
     {
         let allowance = self.allowances[0];
         if 0 < allowance {
-            return Ok(allowance);
+            return allowance;
         }
         self.grant(1)
     }
 
     /// Offers a list schedule from the walk's prefix on, after each `SCHEDULE_ROUNDS` rounds.
-    fn offer_sometimes(&mut self, walk: &mut Walk<'_>, rounds: u32) -> Result<(), AllocError>
+    fn offer_sometimes(&mut self, walk: &mut Walk<'_>, rounds: u32)
         requires { 1 ≤ self.old.workers }
         ensures walk { walk.new.problem ≡ walk.old.problem }
-        ensures offers { OnOk result (IsOffering self.old self.new) }
+        ensures offers { IsOffering self.old self.new }
     {
-        if rounds % SCHEDULE_ROUNDS != 0 {
-            return Ok(());
+        if rounds % SCHEDULE_ROUNDS == 0 {
+            self.offer_schedule(walk, Priority::Start);
         }
-        self.offer_schedule(walk, Priority::Start)
     }
 
     /// Offers a list schedule from the walk's prefix on, where its time is below the best; the walk ends at the whole order.
-    pub(crate) fn offer_schedule(
-        &mut self,
-        walk: &mut Walk<'_>,
-        priority: Priority,
-    ) -> Result<(), AllocError>
+    pub(crate) fn offer_schedule(&mut self, walk: &mut Walk<'_>, priority: Priority)
         requires { 1 ≤ self.old.workers }
         ensures walk { walk.new.problem ≡ walk.old.problem }
-        ensures offers { OnOk result (IsOffering self.old self.new) }
+        ensures offers { IsOffering self.old self.new }
     {
         schedule_rest(walk, priority);
         // few are, and only these are timed anew
-        if self.best() <= walk.floor_value() {
-            return Ok(());
+        if walk.floor_value() < self.best() {
+            self.offer(1, walk.timed());
         }
-        self.offer(1, walk.timed())?;
-        Ok(())
     }
 
     /// The value of the floor of a node that is out.
@@ -139,26 +132,25 @@ impl<'a> Ledger<'a> {
         ensures less { OnOk result (still_to_go self.new < still_to_go self.old) }
     {
         // first, so that no whole order is left open below the best time
-        self.offer_best(&piece)?;
-        match self.graft(1, ticket, piece) {
+        self.offer_best(&piece);
+        match self.graft(1, ticket.node(), &piece) {
             Ok(()) => Ok(()),
-            Err((GraftError::OutOfMemory, _, _)) => Err(AllocError),
-            Err((GraftError::NotOut | GraftError::OtherPrefix | GraftError::OverAllowance, _, _)) =>
-                { unreachable!() }
+            Err(GraftError::OutOfMemory) => Err(AllocError),
+            Err(GraftError::NotOut | GraftError::OtherPrefix | GraftError::OverAllowance) => {
+                unreachable!()
+            }
         }
     }
 
     /// Offers the best of the piece's whole orders, where it has some.
-    fn offer_best(&mut self, piece: &Piece) -> Result<(), AllocError>
+    fn offer_best(&mut self, piece: &Piece)
         requires workers { 1 ≤ self.old.workers }
         requires problem { piece.now.problem ≡ self.old.problem }
-        ensures offers { OnOk result (IsOffering self.old self.new) }
-        ensures at_most { OnOk result ((timed : TimedOrder) → piece.now.timed ≡ Some timed → best_time self.new.problem self.new.state ≤ total_of self.new.problem timed.numbers) }
+        ensures offers { IsOffering self.old self.new }
+        ensures at_most { (timed : TimedOrder) → piece.now.timed ≡ Some timed → best_time self.new.problem self.new.state ≤ total_of self.new.problem timed.numbers }
     {
-        let Some(timed) = piece.timed() else {
-            return Ok(());
-        };
-        self.offer(1, timed.duplicate())?;
-        Ok(())
+        if let Some(timed) = piece.timed() {
+            self.offer(1, timed.duplicate());
+        }
     }
 }

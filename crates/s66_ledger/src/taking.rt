@@ -1,9 +1,9 @@
-use crate::ledger::Ledger;
+use crate::machine::Machine;
 use s66_dep::Order;
 use s66_time::time_of;
 use std::alloc::AllocError;
 
-impl Ledger<'_> {
+impl Machine<'_> {
     ghost use Rattle.std.specs.Prelude.{◌≡◌, ◌<◌, ◌≤◌, length, OnOk};
     ghost use Rattle.s66_ledger.specs.Finishing.{Leads, IsIdle, WholesAreTimed, IsOffering, IsTiming};
 
@@ -25,35 +25,33 @@ impl Ledger<'_> {
 
     /// Offers every whole order that is open or out and has a time below the best, in time linear in the number of nodes, and in the
     /// length of the prefix of each whose floor is below the best. What is offered is timed anew.
-    pub(crate) fn offer_wholes(&mut self) -> Result<(), AllocError>
+    pub(crate) fn offer_wholes(&mut self)
         requires { 1 ≤ self.old.workers }
-        ensures offers { OnOk result (IsOffering self.old self.new) }
-        ensures timed { OnOk result (WholesAreTimed self.new.problem self.new.state) }
+        ensures offers { IsOffering self.old self.new }
+        ensures timed { WholesAreTimed self.new.problem self.new.state }
     {
         for node in 0..self.node_count() {
-            self.offer_whole(node)?;
+            self.offer_whole(node);
         }
-        Ok(())
     }
 
     /// Offers a node's order, where it is a whole one, open or out, and has a time below the best.
-    fn offer_whole(&mut self, node: u32) -> Result<(), AllocError>
+    fn offer_whole(&mut self, node: u32)
         requires workers { 1 ≤ self.old.workers }
         requires within { node < length self.old.state.nodes }
-        ensures { OnOk result (IsTiming self.old node self.new) }
+        ensures { IsTiming self.old node self.new }
     {
         let Some(prefix) = self.promising_prefix(node) else {
-            return Ok(());
+            return;
         };
         if prefix.len() < self.block().count() {
-            return Ok(());
+            return;
         }
         // a beginning of a legal order, and as long as the block
         let Ok(order) = Order::new(self.block(), prefix.as_slice()) else {
             unreachable!()
         };
         let timed = time_of(self.block(), self.profile(), &order);
-        self.offer(1, timed)?;
-        Ok(())
+        self.offer(1, timed);
     }
 }

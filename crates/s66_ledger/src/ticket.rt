@@ -1,3 +1,6 @@
+ghost use Rattle.std.specs.Prelude.{◌≡◌};
+ghost use Rattle.s66_ledger.specs.Claims.{claimed_node};
+
 use arrayvec::ArrayVec;
 use s66_line::BLOCK_LIMIT;
 use std::marker::Model;
@@ -39,5 +42,15 @@ impl Ticket {
         ensures { result.now ≡ self.now.prefix }
     {
         self.prefix.as_slice()
+    }
+}
+
+/// The number of the node that was claimed.
+pub(crate) fn node_of(ticket: &Option<Ticket>) -> Option<u32>
+    ensures { result ≡ claimed_node ticket.now }
+{
+    match ticket {
+        Some(ticket) => Some(ticket.node()),
+        None => None,
     }
 }

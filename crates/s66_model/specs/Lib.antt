@@ -21,6 +21,7 @@ pub mod NodeTree
 pub mod Ended
 pub mod Reached
 pub mod Recorded
+pub mod Accounts
 pub mod Examples
 pub use Rattle.s66_isa.specs.Lists
 pub use Rattle.s66_isa.specs.Table

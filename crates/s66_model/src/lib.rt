@@ -4,6 +4,7 @@
 //! parcels from 0; times are minor cycles of 100 ns. There is no code that schedules here.
 #![tactic(auto, unfolding(s66_isa::specs::Table::row, crate::specs::Timing::issue_of, crate::specs::Timing::start_of, crate::specs::Timing::point, crate::specs::Dependence::conflict))]
 
+mod accounts;
 mod answer;
 mod best_and_bound;
 mod coverage;
@@ -25,6 +26,7 @@ mod timing;
 mod told;
 mod tree;
 
+pub use accounts::account_examples;
 pub use answer::{answer_examples, answer_law};
 pub use best_and_bound::bound_examples;
 pub use coverage::{coverage_examples, coverage_law, ledger_bound_law, opening_law, step_law};

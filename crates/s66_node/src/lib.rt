@@ -14,3 +14,4 @@ pub use knot::Knot;
 pub use piece::Piece;
 pub use schedule::{Priority, schedule_rest};
 pub use walk::Walk;
+pub use whole_order::copy_of;

@@ -29,7 +29,8 @@ impl Model for Piece {
 }
 
 impl Piece {
-    ghost use Rattle.std.specs.Prelude.{◌≡◌, ◌↔◌, IsTrue};
+    ghost use Rattle.std.specs.Prelude.{◌≡◌, ◌≤◌, ◌↔◌, IsTrue, length};
+    ghost use Rattle.s66_line.specs.declared.limits.TheConstants.{BLOCK_LIMIT};
     ghost use Rattle.std.specs.Option.{option_copied};
     ghost use Rattle.s66_line.specs.Block.{instrs_of};
     ghost use Rattle.s66_model.specs.Tree.{TreeHolds, flat, splits};
@@ -48,6 +49,7 @@ impl Piece {
     /// The prefix, by its numbers.
     pub fn prefix(&self) -> &[u8]
         ensures value { result.now ≡ self.now.prefix }
+        ensures few { length result.now ≤ BLOCK_LIMIT }
     {
         self.prefix.as_slice()
     }
@@ -67,6 +69,14 @@ impl Piece {
         ensures piece { IsPiece self.now.problem self.now.prefix (tree_of self.now) }
     {
         self.knots.as_slice()
+    }
+
+    /// The lines of the tree in preorder.
+    pub fn into_knots(self) -> Vec<Knot>
+        ensures { seen result.items ≡ self.knots }
+    {
+        let Piece { knots, .. } = self;
+        knots
     }
 
     /// A least one of the tree's whole orders, timed, where it has some.

@@ -14,8 +14,8 @@ pub(crate) struct WholeOrder {
     pub total: u32,
 }
 
-/// The same numbers.
-pub(crate) fn copy_of(numbers: &[u8]) -> ArrayVec<u8, BLOCK_LIMIT>
+/// The same numbers, in time linear in how many there are.
+pub fn copy_of(numbers: &[u8]) -> ArrayVec<u8, BLOCK_LIMIT>
     requires { length numbers.now ≤ BLOCK_LIMIT }
     ensures { result.items ≡ numbers.now }
 {

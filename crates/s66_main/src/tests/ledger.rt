@@ -1,10 +1,11 @@
 ghost use Rattle.std.specs.Prelude.{◌≡◌, ◌≤◌};
+ghost use Rattle.s66_ledger.specs.Steps.{worker_of};
 
 use super::clock::MULTIPLIES;
 use super::source_of;
 use s66_dep::{Order, is_beginning};
 use s66_isa::Profile;
-use s66_ledger::{Ledger, Offered, Ticket};
+use s66_ledger::{Entry, Event, Ledger, Offered, Reply, Ticket};
 use s66_line::{Block, read_source};
 use s66_node::expand;
 use s66_time::time_of;
@@ -13,6 +14,57 @@ use std::test::Fail;
 
 /// The most splits of the search.
 const BUDGET: u32 = 10;
+
+/// The kind of an entry.
+#[derive(Clone, Copy, Debug, PartialEq, Eq)]
+enum Kind {
+    Grant,
+    Claim,
+    Taken,
+    Refused,
+    Offer,
+    Back,
+    Retire,
+}
+
+/// The entries of the search: the kind, the worker, and the splits, node or time, where there is one.
+const HISTORY: [(Kind, u8, Option<u32>); 10] = [
+    (Kind::Grant, 1, Some(BUDGET)),
+    (Kind::Claim, 1, Some(0)),
+    (Kind::Taken, 1, Some(0)),
+    (Kind::Offer, 2, Some(22)),
+    (Kind::Grant, 2, Some(0)),
+    (Kind::Claim, 2, Some(3)),
+    (Kind::Back, 2, Some(3)),
+    (Kind::Claim, 2, Some(3)),
+    (Kind::Retire, 1, None),
+    (Kind::Grant, 2, Some(BUDGET - 1)),
+];
+
+/// An entry as a row of `HISTORY` tells it.
+fn in_brief(entry: &Entry) -> (Kind, u8, Option<u32>) {
+    match entry {
+        Entry::Grant { w, splits } => (Kind::Grant, *w, Some(*splits)),
+        Entry::Claim { w, node } => (Kind::Claim, *w, *node),
+        Entry::Taken { w, node, .. } => (Kind::Taken, *w, Some(*node)),
+        Entry::Refused { w, node, .. } => (Kind::Refused, *w, Some(*node)),
+        Entry::Offer { w, time, .. } => (Kind::Offer, *w, Some(*time)),
+        Entry::Back { w, node, .. } => (Kind::Back, *w, Some(*node)),
+        Entry::Retire { w } => (Kind::Retire, *w, None),
+    }
+}
+
+/// Checks that the ledger's history is `HISTORY`, whose piece has a line for its root and one for each of its children.
+fn check_history<R: Abort>(rt: &R, ledger: &Ledger) {
+    assert_eq!(rt; ledger.workers(), 2);
+    assert_eq!(rt; ledger.history().len(), HISTORY.len());
+    for (entry, expected) in ledger.history().iter().zip(HISTORY) {
+        assert_eq!(rt; in_brief(entry), expected);
+        if let Entry::Taken { knots, splits, .. } = entry {
+            assert_eq!(rt; (knots.len(), *splits), (4, 1));
+        }
+    }
+}
 
 /// What a ledger tells of its search: the best time, the bound, how many splits are spent and how many nodes are open.
 fn readings(ledger: &Ledger) -> (u32, u32, u32, usize) {
@@ -94,6 +146,43 @@ fn check_search<R: AllocGlobal + Abort>(rt: &R, block: &Block) -> Result<(), Fai
     assert_eq!(rt; readings(&ledger), (22, 17, 1, 2));
     ledger.retire(1)?;
     assert_eq!(rt; ledger.grant(2)?, BUDGET - 1);
+    check_history(rt, &ledger);
+    Ok(())
+}
+
+/// Does what the event asks.
+fn take_step(ledger: &mut Ledger, event: Event) -> Result<Reply, Fail>
+    requires { (1 ≤ worker_of event) × (worker_of event ≤ ledger.old.workers) }
+    ensures { ledger.new.workers ≡ ledger.old.workers }
+{
+    let reply = ledger.step(event)?;
+    Ok(reply)
+}
+
+/// Checks the same search by events that name nodes by their numbers, and a node that isn't out.
+fn check_steps<R: AllocGlobal + Abort>(rt: &R, block: &Block) -> Result<(), Fail> {
+    let mut ledger = Ledger::new(rt.alloc(), block, &Profile::standard(), BUDGET, 2)?;
+    assert_eq!(rt; take_step(&mut ledger, Event::Grant { w: 1 })?, Reply::Granted(BUDGET));
+    assert_eq!(rt; take_step(&mut ledger, Event::Claim { w: 1 })?, Reply::Claimed(Some(0)));
+    assert!(rt; is_beginning(block, &[]));
+    let piece = expand(rt.alloc(), block, ledger.profile(), &[], ledger.best(), 1)?;
+    let graft = Event::Graft {
+        w: 1,
+        node: 0,
+        piece,
+    };
+    assert_eq!(rt; take_step(&mut ledger, graft)?, Reply::Taken);
+    let timed = time_of(block, ledger.profile(), &Order::source(block));
+    assert_eq!(rt; take_step(&mut ledger, Event::Offer { w: 2, timed })?, Reply::NotLower(22));
+    assert_eq!(rt; take_step(&mut ledger, Event::Grant { w: 2 })?, Reply::Granted(0));
+    assert_eq!(rt; take_step(&mut ledger, Event::Claim { w: 2 })?, Reply::Claimed(Some(3)));
+    assert_eq!(rt; take_step(&mut ledger, Event::Back { w: 2, node: 3 })?, Reply::Returned);
+    assert_eq!(rt; take_step(&mut ledger, Event::Claim { w: 2 })?, Reply::Claimed(Some(3)));
+    assert_eq!(rt; take_step(&mut ledger, Event::Retire { w: 1 })?, Reply::Retired);
+    assert_eq!(rt; take_step(&mut ledger, Event::Grant { w: 2 })?, Reply::Granted(BUDGET - 1));
+    check_history(rt, &ledger);
+    assert_eq!(rt; take_step(&mut ledger, Event::Back { w: 1, node: 4 })?, Reply::NotOut);
+    assert_eq!(rt; ledger.history().len(), HISTORY.len() + 1);
     Ok(())
 }
 
@@ -106,6 +195,7 @@ fn follows_a_search(rt: HostRuntime) -> Result<(), Fail> {
     assert_eq!(rt; source.blocks().len(), 1);
     for block in source.blocks() {
         check_search(&rt, block)?;
+        check_steps(&rt, block)?;
     }
     Ok(())
 }

@@ -1,69 +1,10 @@
-use Rattle.std.proofs.Common.{ℕ, true, List, Some, None, ◌≡◌, ◌≤◌, ◌∙◌, [], arith, length, ap, sym, subst, get_or, refl}
-use Rattle.s66_line.specs.Block.{instrs_of}
-use Rattle.s66_model.specs.Timing.{Problem}
-use Rattle.s66_model.specs.Leaves.{floor_value}
-use Rattle.s66_model.specs.Ledger as model
-use Rattle.s66_ledger.specs.declared.node.Node.{Node}
-use Rattle.s66_ledger.specs.declared.node.State.TheVariants as state
-use Rattle.s66_ledger.specs.Nodes.{prefixes, no_node, node_at}
-use Rattle.s66_ledger.specs.Handed.{TicketOf}
-use Rattle.s66_ledger.specs.Kept.{LedgerOf, IsEvent, IsKept, ledger_of}
-use Rattle.s66_ledger.proofs.Prefixes.{prefixes-set}
-use Rattle.s66_ledger.proofs.SeenNodes.{at-nodes}
-use Rattle.s66_ledger.proofs.Events.{kept-short, kept-claim, event-claim, event-none, claimed-least}
+use Rattle.std.proofs.Common.{ap}
+use Rattle.s66_model.specs.Ledger.{Claim, Claimed}
+use Rattle.s66_ledger.specs.Claims.{claimed_node}
+use Rattle.s66_ledger.proofs.Recording.{recorded}
 use Rattle.s66_ledger.proofs.ledger.Ledger.claim.Goals as goal
-
-pub returns-in_default-clause-ok : goal.returns-in_default-clause-ok
-returns-in_default-clause-ok c =
-    let s = c.self.inside in
-    let b : Problem = record { block = instrs_of s.block.now; profile = s.profile } in
-    let le : c.args.w ≤ length s.allowances.items = omega (arith, c.requires.1, ap (λ (l : LedgerOf). l.workers) c.self.view_is) in
-    subst (λ (ns : List Node). IsEvent c.args.self.now (model.Claim c.args.w) (model.Claimed None) (ledger_of b s.budget ns s.best.numbers s.left s.allowances.items s.spent)) (sym c.in_default.ensures.same)
-    (subst (λ (l : LedgerOf). IsEvent c.args.self.now (model.Claim c.args.w) (model.Claimed None) l) (sym c.self.view_is)
-    (event-none b s.budget s.table s.best s.left s.allowances.items s.spent c.self.invariant c.args.self.now c.args.w c.self.view_is c.requires.0 le c.in_default.ensures.none))
-
-pub prefix_of-prefix-requires-clause-few : goal.prefix_of-prefix-requires-clause-few
-prefix_of-prefix-requires-clause-few c =
-    let s = c.self.inside in
-    let same = ap prefixes c.in-Some.ensures.moved ∙ prefixes-set s.table c.in-Some.node (record (node_at s.table c.in-Some.node) { state = state.Out }) no_node refl refl in
-    omega (arith, ap (λ ats. length (get_or ats c.in-Some.node [])) same, kept-short _ s.budget s.table s.best s.left s.allowances.items s.spent c.self.invariant c.in-Some.node c.in-Some.ensures.within, c.count.ensures.value, c.count.ensures.few)
 
 pub invariant_of-self-2 : goal.invariant_of-self-2
 invariant_of-self-2 c =
-    let s = c.self.inside in
-    let b : Problem = record { block = instrs_of s.block.now; profile = s.profile } in
-    let le : c.args.w ≤ length s.allowances.items = omega (arith, c.requires.1, ap (λ (l : LedgerOf). l.workers) c.self.view_is) in
-    subst (λ ns. IsKept b s.budget ns s.best s.left s.allowances.items s.spent) (sym c.in-Some.ensures.moved)
-    (kept-claim b s.budget s.table s.best s.left s.allowances.items s.spent c.self.invariant c.args.w c.in-Some.node c.requires.0 le c.in-Some.ensures.within c.in-Some.ensures.was)
-
-pub returns-clause-ok : goal.returns-clause-ok
-returns-clause-ok c =
-    let s = c.self.inside in
-    let b : Problem = record { block = instrs_of s.block.now; profile = s.profile } in
-    let le : c.args.w ≤ length s.allowances.items = omega (arith, c.requires.1, ap (λ (l : LedgerOf). l.workers) c.self.view_is) in
-    subst (λ (t : TicketOf). IsEvent c.args.self.now (model.Claim c.args.w) (model.Claimed (Some t.node)) (ledger_of b s.budget c.claim.new.self s.best.numbers s.left s.allowances.items s.spent)) (sym c.new.ensures)
-    (subst (λ ns. IsEvent c.args.self.now (model.Claim c.args.w) (model.Claimed (Some c.in-Some.node)) (ledger_of b s.budget ns s.best.numbers s.left s.allowances.items s.spent)) (sym c.in-Some.ensures.moved)
-    (event-claim b s.budget s.table s.best s.left s.allowances.items s.spent c.self.invariant c.args.self.now c.args.w c.in-Some.node c.self.view_is c.requires.0 le c.in-Some.ensures.within c.in-Some.ensures.was))
-
-pub returns-clause-ticket : goal.returns-clause-ticket
-returns-clause-ticket c =
-    let s = c.self.inside in
-    let b : Problem = record { block = instrs_of s.block.now; profile = s.profile } in
-    let i = c.in-Some.node in
-    let same = ap prefixes c.in-Some.ensures.moved ∙ prefixes-set s.table i (record (node_at s.table i) { state = state.Out }) no_node refl refl in
-    let here : get_or (prefixes s.table) i [] ≡ (model.node_at c.args.self.now.state.nodes i).prefix =
-    sym (ap (λ (n : model.Node). n.prefix) (at-nodes b s.table i c.in-Some.ensures.within)) ∙ ap (λ (l : LedgerOf). (model.node_at l.state.nodes i).prefix) c.self.view_is in
-    subst (λ (t : TicketOf). t.prefix ≡ (model.node_at c.args.self.now.state.nodes t.node).prefix) (sym c.new.ensures)
-    (c.prefix_of-prefix.ensures ∙ (ap (λ ats. get_or ats i []) same ∙ here))
-
-pub returns-clause-least : goal.returns-clause-least
-returns-clause-least c =
-    let s = c.self.inside in
-    let b : Problem = record { block = instrs_of s.block.now; profile = s.profile } in
-    let i = c.in-Some.node in
-    let same = ap prefixes c.in-Some.ensures.moved ∙ prefixes-set s.table i (record (node_at s.table i) { state = state.Out }) no_node refl refl in
-    let prefix : c.new.result.prefix ≡ get_or (prefixes s.table) i [] = ap (λ (t : TicketOf). t.prefix) c.new.ensures ∙ (c.prefix_of-prefix.ensures ∙ ap (λ ats. get_or ats i []) same) in
-    let few : length b.block ≤ 64 = omega (arith, c.count.ensures.value, c.count.ensures.few) in
-    subst (λ at. (j : ℕ) → model.is_open (model.node_at c.args.self.now.state.nodes j) ≡ true → floor_value c.args.self.now.problem at ≤ floor_value c.args.self.now.problem (model.node_at c.args.self.now.state.nodes j).prefix) (sym prefix)
-    (subst (λ (l : LedgerOf). (j : ℕ) → model.is_open (model.node_at l.state.nodes j) ≡ true → floor_value l.problem (get_or (prefixes s.table) i []) ≤ floor_value l.problem (model.node_at l.state.nodes j).prefix) c.self.view_is
-    (claimed-least b s.budget s.table s.best s.left s.allowances.items s.spent c.self.invariant few i c.in-Some.ensures.within c.in-Some.ensures.was c.in-Some.ensures.least))
+    recorded c.self.inside.machine c.claim-ticket.new.self c.self.inside.history.items c.reserve.new.self.items c.push_reserved.new.self.items _ (Claim c.args.w) (Claimed (claimed_node c.claim-ticket.result))
+    c.claim-ticket.ensures.ok (ap (λ i. (Claim c.args.w, Claimed i)) c.node_of-node.ensures) c.reserve.ensures.items c.push_reserved.ensures.items c.self.invariant

@@ -1,45 +1,18 @@
-use Rattle.std.proofs.Common.{◌≡◌, ◌≤◌, ◌∙◌, arith, length, ap, subst}
+use Rattle.std.proofs.Common.{◌≡◌, ◌∙◌, ap}
 use Rattle.s66_line.specs.Block.{instrs_of}
-use Rattle.s66_model.specs.Timing.{Problem, total_of}
-use Rattle.s66_model.specs.LegalOrder.{IsLegal}
-use Rattle.s66_ledger.specs.Kept.{LedgerOf}
-use Rattle.s66_ledger.proofs.Events.{kept-lower, event-lower, event-not-lower, event-other}
+use Rattle.s66_dep.specs.Ordered.{Ordered}
+use Rattle.s66_model.specs.Recorded.{IsOwn}
+use Rattle.s66_ledger.specs.Replies.{offered_reply}
+use Rattle.s66_ledger.proofs.Recording.{recorded, is-own, offer-entry}
 use Rattle.s66_ledger.proofs.ledger.Ledger.offer.Goals as goal
 
-pub returns-then-not-is_of-clause-ok : goal.returns-then-not-is_of-clause-ok
-returns-then-not-is_of-clause-ok c =
-    let s = c.self.inside in
-    let b : Problem = record { block = instrs_of s.block.now; profile = s.profile } in
-    let le : c.args.w ≤ length s.allowances.items = omega (arith, c.requires.1, ap (λ (l : LedgerOf). l.workers) c.self.view_is) in
-    event-other b s.budget s.table s.best s.left s.allowances.items s.spent c.self.invariant c.args.self.now c.args.w c.args.timed c.self.view_is c.requires.0 le _ c.is_of.ensures c.if-not-is_of.true
-
-pub invariant_of-self : goal.invariant_of-self
-invariant_of-self c =
-    let s = c.self.inside in
-    let b : Problem = record { block = instrs_of s.block.now; profile = s.profile } in
-    let le : c.args.w ≤ length s.allowances.items = omega (arith, c.requires.1, ap (λ (l : LedgerOf). l.workers) c.self.view_is) in
-    let own : c.args.timed.problem ≡ b = c.is_of.ensures.0 c.if-not-is_of.false in
-    let legal : IsLegal b.block c.args.timed.numbers = subst (λ (p : Problem). IsLegal p.block c.args.timed.numbers) own c.order-legal.ensures.legal in
-    kept-lower b s.budget s.table s.best s.left s.allowances.items s.spent c.self.invariant c.args.w c.args.timed c.requires.0 le own legal
-    (omega (arith, c.if-total-least.true, c.total.ensures.value, c.total-least.ensures.value, ap (λ p. total_of p c.args.timed.numbers) own, ap (λ p. total_of p s.best.numbers) c.self.invariant.own))
-
-pub returns-then-total-least-clause-ok : goal.returns-then-total-least-clause-ok
-returns-then-total-least-clause-ok c =
-    let s = c.self.inside in
-    let b : Problem = record { block = instrs_of s.block.now; profile = s.profile } in
-    let le : c.args.w ≤ length s.allowances.items = omega (arith, c.requires.1, ap (λ (l : LedgerOf). l.workers) c.self.view_is) in
-    let own : c.args.timed.problem ≡ b = c.is_of.ensures.0 c.if-not-is_of.false in
-    let legal : IsLegal b.block c.args.timed.numbers = subst (λ (p : Problem). IsLegal p.block c.args.timed.numbers) own c.order-legal.ensures.legal in
-    event-lower b s.budget s.table s.best s.left s.allowances.items s.spent c.self.invariant c.args.self.now c.args.w c.args.timed c.self.view_is c.requires.0 le own legal
-    (omega (arith, c.if-total-least.true, c.total.ensures.value, c.total-least.ensures.value, ap (λ p. total_of p c.args.timed.numbers) own, ap (λ p. total_of p s.best.numbers) c.self.invariant.own))
-
-pub returns-else-total-least-clause-ok : goal.returns-else-total-least-clause-ok
-returns-else-total-least-clause-ok c =
-    let s = c.self.inside in
-    let b : Problem = record { block = instrs_of s.block.now; profile = s.profile } in
-    let le : c.args.w ≤ length s.allowances.items = omega (arith, c.requires.1, ap (λ (l : LedgerOf). l.workers) c.self.view_is) in
-    let own : c.args.timed.problem ≡ b = c.is_of.ensures.0 c.if-not-is_of.false in
-    let legal : IsLegal b.block c.args.timed.numbers = subst (λ (p : Problem). IsLegal p.block c.args.timed.numbers) own c.order-legal.ensures.legal in
-    let least = c.total-least.ensures.value ∙ ap (λ p. total_of p s.best.numbers) c.self.invariant.own in
-    event-not-lower b s.budget s.table s.best s.left s.allowances.items s.spent c.self.invariant c.args.self.now c.args.w c.args.timed c.total-least.result c.self.view_is c.requires.0 le own legal least
-    (omega (arith, c.if-total-least.false, c.total.ensures.value, least, ap (λ p. total_of p c.args.timed.numbers) own))
+pub invariant_of-self-2 : goal.invariant_of-self-2
+invariant_of-self-2 c =
+    let m = c.self.inside.machine in
+    let t = c.args.timed in
+    let own : IsOwn m.problem t.problem c.is_of-own.result = is-own m.problem t.problem c.is_of-own.result (instrs_of c.block.result.now) c.profile.result.now c.block.ensures c.profile.ensures c.is_of-own.ensures in
+    let order : c.copy_of-order.result.items ≡ t.numbers = c.copy_of-order.ensures ∙ (c.numbers.ensures.value ∙ ap (λ (o : Ordered). o.numbers) c.order.ensures.value) in
+    let (event, offers, moves) = c.offer-offered.ensures in
+    recorded m c.offer-offered.new.self c.self.inside.history.items c.reserve.new.self.items c.push_reserved.new.self.items _ event (offered_reply c.offer-offered.result)
+    moves (offer-entry m.problem t.problem c.args.w t.numbers c.copy_of-order.result.items c.is_of-own.result c.total-time.result (offered_reply c.offer-offered.result) event own order c.total-time.ensures.value offers)
+    c.reserve.ensures.items c.push_reserved.ensures.items c.self.invariant

@@ -1,9 +1,11 @@
-use Rattle.std.proofs.Common.{arith, ap}
-use Rattle.s66_ledger.specs.Kept.{LedgerOf}
-use Rattle.s66_ledger.proofs.Events.{kept-room}
+use Rattle.std.proofs.Common.{◌≡◌, subst}
+use Rattle.s66_isa.specs.Lists.{weigh}
+use Rattle.s66_model.specs.Accounts.{Account}
+use Rattle.s66_ledger.specs.Ledgers.{LedgerOf, account_summary, with_history}
+use Rattle.s66_ledger.proofs.Recording.{accounts-spent}
 use Rattle.s66_ledger.proofs.ledger.Ledger.splits.Goals as goal
 
-pub returns-clause-within : goal.returns-clause-within
-returns-clause-within c =
-    let s = c.self.inside in
-    omega (arith, kept-room _ s.budget s.table s.best s.left s.allowances.items s.spent c.self.invariant 0, ap (λ (l : LedgerOf). l.budget) c.self.view_is)
+pub returns-clause-accounts : goal.returns-clause-accounts
+returns-clause-accounts c =
+    subst (λ (l : LedgerOf). weigh (λ (a : Account). a.splits) (account_summary l).accounts ≡ l.state.spent) c.self.view_is
+    (accounts-spent (with_history c.self.inside.machine c.self.inside.history.items) c.self.invariant)

@@ -1,0 +1,14 @@
+use Rattle.std.proofs.Common.{◌≡◌}
+use Rattle.s66_ledger.specs.Finishing.{Leads, IsBetween, still_to_go}
+use Rattle.s66_ledger.proofs.machine.Machine.search.Given as goal
+
+abbrev pub invariant-loop-rounds : goal.invariant-loop-rounds
+invariant-loop-rounds l =
+    record {
+      walk : l.walk.problem ≡ l.fn.walk.problem;
+      leads : Leads l.fn.self l.self;
+      between : IsBetween l.self.problem l.self.state;
+    }
+
+abbrev pub decreases-loop-rounds : goal.decreases-loop-rounds
+decreases-loop-rounds l = still_to_go l.self

@@ -1,0 +1,64 @@
+use Rattle.std.proofs.Common.{◌∙◌, Option, subst, sym, ap}
+use Rattle.s66_model.specs.Timing.{Problem}
+use Rattle.s66_model.specs.LegalOrder.{IsBeginning}
+use Rattle.s66_model.specs.Leaves.{floor_value}
+use Rattle.s66_model.specs.Ledger.{Claim, Claimed, Back, Returned, best_time, node_at}
+use Rattle.s66_ledger.specs.Handed.{TicketOf}
+use Rattle.s66_ledger.specs.Kept.{IsMove}
+use Rattle.s66_ledger.specs.Claims.{claimed_node, IsTicketOf, IsLeastOpen}
+use Rattle.s66_ledger.proofs.Events.{holds-at}
+use Rattle.s66_ledger.proofs.Leading.{leads-on, event-leads}
+use Rattle.s66_ledger.proofs.Rounds.{claim-within}
+use Rattle.s66_ledger.proofs.Progress.{none-searched, back-searched}
+use Rattle.s66_ledger.proofs.machine.Machine.search_round.Goals as goal
+
+pub returns-in_default-clause-ends : goal.returns-in_default-clause-ends
+returns-in_default-clause-ends c ended =
+    let old = c.allowance_or_grant-allowance.new.self in
+    let new = c.claim.new.self in
+    let claimed = subst (λ (t : Option TicketOf). IsMove old (Claim 1) (Claimed (claimed_node t)) new) c.in_default.is c.claim.ensures.ok in
+    none-searched old new c.allowance_or_grant-allowance.ensures.between claimed
+
+pub returns-in-Ok-clause-leads : goal.returns-in-Ok-clause-leads
+returns-in-Ok-clause-leads c =
+    let granted = c.allowance_or_grant-allowance.new.self in
+    let claimed = event-leads granted c.claim.new.self (Claim 1) (Claimed (claimed_node c.claim.result)) c.claim.ensures.ok in
+    let back = event-leads c.claim.new.self c.back.new.self (Back 1 c.in-Some.ticket.node) Returned (subst (λ i. IsMove c.claim.new.self (Back 1 i) Returned c.back.new.self) c.node-then-best-floor_of.ensures c.in-Ok.ensures.ok) in
+    leads-on c.args.self.now granted c.back.new.self c.allowance_or_grant-allowance.ensures.leads (leads-on granted c.claim.new.self c.back.new.self claimed back)
+
+pub returns-in-Ok-clause-ends : goal.returns-in-Ok-clause-ends
+returns-in-Ok-clause-ends c ended =
+    let old = c.allowance_or_grant-allowance.new.self in
+    let mid = c.claim.new.self in
+    let ticket = c.in-Some.ticket in
+    let claimed = subst (λ (t : Option TicketOf). IsMove old (Claim 1) (Claimed (claimed_node t)) mid) c.in-Some.is c.claim.ensures.ok in
+    let prefix = subst (λ (t : Option TicketOf). IsTicketOf old.state t) c.in-Some.is c.claim.ensures.ticket in
+    let least = subst (λ (t : Option TicketOf). IsLeastOpen old.problem old.state t) c.in-Some.is c.claim.ensures.least in
+    let floor = c.floor_of.ensures ∙ ap (λ i. floor_value mid.problem (node_at mid.state.nodes i).prefix) c.node.ensures in
+    back-searched old mid c.back.new.self ticket c.best-best.result c.floor_of.result c.allowance_or_grant-allowance.ensures.between claimed prefix least c.best-best.ensures.value floor c.if-best-floor_of.true (subst (λ i. IsMove mid (Back 1 i) Returned c.back.new.self) c.node-then-best-floor_of.ensures c.in-Ok.ensures.ok)
+
+pub take_in-requires-clause-within : goal.take_in-requires-clause-within
+take_in-requires-clause-within c =
+    let old = c.allowance_or_grant-allowance.new.self in
+    let claimed = subst (λ (t : Option TicketOf). IsMove old (Claim 1) (Claimed (claimed_node t)) c.claim.new.self) c.in-Some.is c.claim.ensures.ok in
+    let prefix = subst (λ (t : Option TicketOf). IsTicketOf old.state t) c.in-Some.is c.claim.ensures.ticket in
+    claim-within old c.claim.new.self c.in-Some.ticket claimed prefix c.allowance_or_grant-allowance.ensures.between
+
+pub expand-requires : goal.expand-requires
+expand-requires c =
+    let old = c.allowance_or_grant-allowance.new.self in
+    let mid = c.claim.new.self in
+    let ticket = c.in-Some.ticket in
+    let claimed = subst (λ (t : Option TicketOf). IsMove old (Claim 1) (Claimed (claimed_node t)) mid) c.in-Some.is c.claim.ensures.ok in
+    let prefix = subst (λ (t : Option TicketOf). IsTicketOf old.state t) c.in-Some.is c.claim.ensures.ticket in
+    let within = claim-within old mid ticket claimed prefix c.allowance_or_grant-allowance.ensures.between in
+    let begins : IsBeginning mid.problem.block (node_at mid.state.nodes ticket.node).prefix = holds-at mid.problem (best_time mid.problem mid.state) mid.state.nodes ticket.node c.best-best.ensures.covers.nodes within.out.0 in
+    let (problem, budget, workers, run) = c.allowance_or_grant-allowance.ensures.leads in
+    subst (λ at. IsBeginning c.args.walk.now.problem.block at) (sym (c.prefix.ensures ∙ within.prefix))
+    (subst (λ (p : Problem). IsBeginning p.block (node_at mid.state.nodes ticket.node).prefix) (claimed.0 ∙ (problem ∙ sym c.requires.walk)) begins)
+
+pub returns-clause-leads : goal.returns-clause-leads
+returns-clause-leads c =
+    let granted = c.allowance_or_grant-allowance.new.self in
+    let claimed = event-leads granted c.claim.new.self (Claim 1) (Claimed (claimed_node c.claim.result)) c.claim.ensures.ok in
+    leads-on c.args.self.now granted c.take_in.new.self c.allowance_or_grant-allowance.ensures.leads (leads-on granted c.claim.new.self c.take_in.new.self claimed c.in_ok-take_in.ensures.leads)

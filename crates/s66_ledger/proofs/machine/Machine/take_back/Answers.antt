@@ -1,0 +1,34 @@
+use Rattle.std.proofs.Common.{◌+◌, ◌∙◌, arith, ap, length}
+use Rattle.s66_model.specs.Ledger.{Retire, Retired}
+use Rattle.s66_ledger.proofs.Leading.{leads-on, event-leads}
+use Rattle.s66_ledger.proofs.TakingBack.{retired-next, retired-count, retired-all, idle-after}
+use Rattle.s66_ledger.proofs.machine.Machine.take_back.Goals as goal
+
+pub loop-at-preserved : goal.loop-at-preserved
+loop-at-preserved c =
+    let old = c.loop-at.self in
+    let new = c.retire_at.new.self in
+    let at = c.loop-at.at in
+    record {
+      leads = leads-on c.args.self.now old new c.loop-at.invariant.leads (event-leads old new (Retire (at + 1)) Retired c.retire_at.ensures);
+      count = retired-count old new at c.retire_at.ensures ∙ c.loop-at.invariant.count;
+      retired = retired-next old new at c.retire_at.ensures c.loop-at.invariant.retired;
+    }
+
+pub loop-node-preserved : goal.loop-node-preserved
+loop-node-preserved c =
+    let now = c.in_ok-reopen.ensures.ok in
+    record {
+      leads = leads-on c.args.self.now c.loop-node.self c.reopen.new.self c.loop-node.invariant.leads now.leads;
+      in_hand = now.in_hand c.loop-node.invariant.in_hand;
+      count = now.count ∙ c.loop-node.invariant.count;
+      allowances = now.allowances ∙ c.loop-node.invariant.allowances;
+    }
+
+pub returns-clause-idle : goal.returns-clause-idle
+returns-clause-idle c =
+    let l = c.loop-node.self.state in
+    let kept = c.loop-node.invariant in
+    idle-after l c.loop-node.node kept.in_hand (omega (arith, kept.count, c.node_count-node-end.ensures, c.loop-node-test.false))
+    (retired-all l.allowances c.loop-at.at (omega (arith, ap length kept.allowances, c.loop-at.invariant.count, c.worker_count-at-end.ensures.allowances, c.loop-at-test.false))
+    (rw kept.allowances c.loop-at.invariant.retired))

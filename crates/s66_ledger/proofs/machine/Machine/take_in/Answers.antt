@@ -1,0 +1,39 @@
+use Rattle.std.proofs.Common.{subst, sym}
+use Rattle.s66_model.specs.Timing.{Problem}
+use Rattle.s66_model.specs.Ledger.{Taken, best_time, allowance}
+use Rattle.s66_node.specs.Pieces.{tree_of, IsBestTimed}
+use Rattle.s66_ledger.specs.GraftMoves.{IsGraftMove}
+use Rattle.s66_ledger.specs.Finishing.{IsWithin}
+use Rattle.s66_ledger.proofs.Leading.{leads-on}
+use Rattle.s66_ledger.proofs.Rounds.{leads-graft, offer-within, graft-between}
+use Rattle.s66_ledger.proofs.TimedWholes.{least-timed}
+use Rattle.s66_ledger.proofs.Progress.{expansion-gains, taken-less}
+use Rattle.s66_ledger.proofs.machine.Machine.take_in.Goals as goal
+
+pub returns-in-Ok-clause-leads : goal.returns-in-Ok-clause-leads
+returns-in-Ok-clause-leads c =
+    let mid = c.offer_best.new.self in
+    let new = c.graft.new.self in
+    let p = c.args.piece in
+    let taken = subst (λ i. IsGraftMove mid 1 i p Taken new) c.node.ensures c.in-Ok.ensures.ok in
+    leads-on c.args.self.now mid new c.offer_best.ensures.offers.leads (leads-graft mid new c.args.ticket p taken)
+
+pub returns-in-Ok-clause-between : goal.returns-in-Ok-clause-between
+returns-in-Ok-clause-between c =
+    let old = c.args.self.now in
+    let mid = c.offer_best.new.self in
+    let new = c.graft.new.self in
+    let p = c.args.piece in
+    let within : IsWithin mid.problem mid.state c.args.ticket = offer-within old mid c.offer_best.ensures.offers c.args.ticket c.requires.within in
+    let timed = subst (λ (b : Problem). IsBestTimed b p.prefix (tree_of p) p.timed) (sym c.offer_best.ensures.offers.leads.0) c.requires.timed in
+    let each = least-timed mid.problem (best_time mid.problem mid.state) p.prefix (tree_of p) p.timed timed c.offer_best.ensures.at_most in
+    graft-between mid new c.args.ticket p within each (subst (λ i. IsGraftMove mid 1 i p Taken new) c.node.ensures c.in-Ok.ensures.ok)
+
+pub returns-in-Ok-clause-less : goal.returns-in-Ok-clause-less
+returns-in-Ok-clause-less c =
+    let old = c.args.self.now in
+    let mid = c.offer_best.new.self in
+    let new = c.graft.new.self in
+    let p = c.args.piece in
+    let gains = expansion-gains old.problem (best_time old.problem old.state) (allowance old.state 1) p.prefix (tree_of p) p.timed c.requires.expansion c.requires.some c.requires.below c.requires.timed in
+    taken-less old mid new c.args.ticket p c.requires.covers c.offer_best.ensures.offers c.offer_best.ensures.at_most (subst (λ i. IsGraftMove mid 1 i p Taken new) c.node.ensures c.in-Ok.ensures.ok) gains

@@ -1,0 +1,82 @@
+ghost use Rattle.std.specs.Prelude.{◌≡◌, IfSome, IfNone};
+ghost use Rattle.s66_ledger.specs.Entries.{error_of};
+ghost use Rattle.s66_ledger.specs.declared.reply.GraftError.TheVariants as error;
+
+use crate::reply::{GraftError, Offered};
+use arrayvec::ArrayVec;
+use s66_line::BLOCK_LIMIT;
+use s66_node::Knot;
+
+/// What a ledger's history has of one event, with its reply. Workers count from 1, nodes from 0; times are in minor cycles.
+#[derive(Debug, Drop)]
+pub enum Entry {
+    /// So many splits of the budget went to the worker.
+    Grant {
+        w: u8,
+        splits: u32,
+    },
+    /// The node was handed out; None, where none was open.
+    Claim {
+        w: u8,
+        node: Option<u32>,
+    },
+    /// A piece was put in the place of the node: its prefix, its lines in preorder, and how many splits it has.
+    Taken {
+        w: u8,
+        node: u32,
+        prefix: ArrayVec<u8, BLOCK_LIMIT>,
+        knots: Vec<Knot>,
+        splits: u32,
+    },
+    /// A piece was refused; `own` tells whether it is of the ledger's block and profile.
+    Refused {
+        w: u8,
+        node: u32,
+        own: bool,
+        prefix: ArrayVec<u8, BLOCK_LIMIT>,
+        splits: u32,
+        why: Refusal,
+    },
+    /// An order of this time was offered; `own` tells whether it is of the ledger's block and profile.
+    Offer {
+        w: u8,
+        own: bool,
+        order: ArrayVec<u8, BLOCK_LIMIT>,
+        time: u32,
+        offered: Offered,
+    },
+    /// The node was taken back, or refused since it wasn't out.
+    Back {
+        w: u8,
+        node: u32,
+        returned: bool,
+    },
+    /// The worker's allowance went back to the budget.
+    Retire {
+        w: u8,
+    },
+}
+
+/// Why a piece was refused.
+#[derive(Clone, Copy, Debug, PartialEq, Eq)]
+pub enum Refusal {
+    /// The node wasn't out.
+    NotOut,
+    /// The piece is over another prefix than the node's, or of another block or profile.
+    OtherPrefix,
+    /// The piece has more splits than the worker's allowance.
+    OverAllowance,
+}
+
+/// Why the machine refused the piece; None for want of memory, of which no entry is made.
+pub(crate) fn refusal_of(why: GraftError) -> Option<Refusal>
+    ensures some { IfSome result (λ refusal. why ≡ error_of refusal) }
+    ensures none { IfNone result (why ≡ error.OutOfMemory) }
+{
+    match why {
+        GraftError::NotOut => Some(Refusal::NotOut),
+        GraftError::OtherPrefix => Some(Refusal::OtherPrefix),
+        GraftError::OverAllowance => Some(Refusal::OverAllowance),
+        GraftError::OutOfMemory => None,
+    }
+}

@@ -1,0 +1,361 @@
+use crate::answer::Answer;
+use crate::limits::{BUDGET_LIMIT, GRANT_LIMIT};
+use crate::node_table::NodeTable;
+use crate::reply::{BackError, GraftError, Offered};
+use crate::ticket::Ticket;
+use arrayvec::ArrayVec;
+use s66_bound::Bounds;
+use s66_dep::Order;
+use s66_isa::Profile;
+use s66_line::{BLOCK_LIMIT, Block};
+use s66_node::{Piece, Priority, Walk};
+use s66_time::{Clock, Timed, time_of};
+use std::alloc::{AllocError, Global};
+use std::marker::Model;
+
+/// The ledger of a search without its history: what its events make of the table; it borrows the block.
+#[derive(Drop)]
+pub(crate) struct Machine<'a> {
+    block: &'a Block<'a>,
+    profile: Profile,
+    budget: u32,
+    pub(crate) table: NodeTable,
+    best: Timed,
+    left: u32,
+    pub(crate) allowances: Vec<u32>,
+    spent: u32,
+}
+
+impl<'a> Model for Machine<'a> {
+    ghost use Rattle.s66_line.specs.Block.{instrs_of};
+    ghost use Rattle.s66_ledger.specs.Kept.{MachineOf, machine_of, IsKept};
+
+    ghost Value = { MachineOf };
+
+    ghost view = { λ l. machine_of (record { block = instrs_of l.block.now; profile = l.profile }) l.budget l.table l.best.numbers l.left l.allowances.items l.spent };
+
+    ghost invariant = { λ l. IsKept (record { block = instrs_of l.block.now; profile = l.profile }) l.budget l.table l.best l.left l.allowances.items l.spent };
+}
+
+impl<'a> Machine<'a> {
+    ghost use Rattle.std.specs.Prelude.{ℕ, Bool, true, false, Some, None, ◌+◌, ◌≡◌, ◌<◌, ◌≤◌, ◌↔◌, length, IfOk, IfErr, IfSome, IfNone, OnOk, OnErr, IsTrue, if◌then◌else◌};
+    ghost use Rattle.s66_line.specs.Block.{instrs_of};
+    ghost use Rattle.s66_isa.specs.Lists.{tally};
+    ghost use Rattle.s66_model.specs.Timing.{total_of};
+    ghost use Rattle.s66_model.specs.LegalOrder.{IsBeginning};
+    ghost use Rattle.s66_model.specs.Leaves.{floor_value};
+    ghost use Rattle.s66_model.specs.Ledger.{Event, opening, best_time, is_open, is_live, node_at, Grant, Granted, Claim, Claimed, Back, Returned, NotOut, Retire, Retired, Offer, Taken};
+    ghost use Rattle.s66_model.specs.Recorded.{IsOfferOf};
+    ghost use Rattle.s66_model.specs.Coverage.{Covers, bound_of, IsFinished};
+    ghost use Rattle.s66_model.specs.BestAndBound.{IsBound};
+    ghost use Rattle.s66_model.specs.NodeTable.{IsTable};
+    ghost use Rattle.s66_ledger.specs.Kept.{IsMove};
+    ghost use Rattle.s66_model.specs.Ended.{IsEnded, ended_answer};
+    ghost use Rattle.s66_ledger.specs.Answers.{answer_of};
+    ghost use Rattle.s66_ledger.specs.Finishing.{IsReopening};
+    ghost use Rattle.s66_ledger.specs.GraftMoves.{IsGraftMove, IsRefusedMove};
+    ghost use Rattle.s66_ledger.specs.Claims.{claimed_node, IsTicketOf, IsLeastOpen};
+    ghost use Rattle.s66_ledger.specs.Replies.{offered_reply};
+    ghost use Rattle.s66_ledger.specs.declared.limits.TheConstants.{BUDGET_LIMIT};
+    ghost use Rattle.s66_ledger.specs.declared.reply.BackError.TheVariants as refused;
+
+    /// A machine of one open node, the empty prefix, whose best order is the source order; the workers count from 1.
+    pub fn new(
+        alloc: Global,
+        block: &'a Block<'a>,
+        profile: &Profile,
+        budget: u32,
+        workers: u8,
+    ) -> Result<Machine<'a>, AllocError>
+        requires { budget ≤ BUDGET_LIMIT }
+        ensures problem { IfOk result (λ l. l.problem ≡ record { block = instrs_of block.now; profile = profile.now }) }
+        ensures budget { IfOk result (λ l. l.budget ≡ budget) }
+        ensures workers { IfOk result (λ l. l.workers ≡ workers) }
+        ensures state { IfOk result (λ l. l.state ≡ opening l.problem budget workers) }
+    {
+        let mut allowances = Vec::new(alloc);
+        for _ in 0..workers {
+            allowances.push(0)?;
+        }
+        let floor = Bounds::of(block, profile).floor_value(&Clock::new(block, profile));
+        let table = NodeTable::new(alloc, floor)?;
+        let source = Order::source(block);
+        Ok(Machine {
+            block,
+            profile: *profile,
+            budget,
+            table,
+            best: time_of(block, profile, &source),
+            left: budget,
+            allowances,
+            spent: 0,
+        })
+    }
+
+    /// The block.
+    pub fn block(&self) -> &'a Block<'a>
+        ensures { instrs_of result.now ≡ self.now.problem.block }
+    {
+        self.block
+    }
+
+    /// The profile.
+    pub fn profile(&self) -> &Profile
+        ensures { result.now ≡ self.now.problem.profile }
+    {
+        &self.profile
+    }
+
+    /// The most splits of the search.
+    pub fn budget(&self) -> u32
+        ensures value { result ≡ self.now.budget }
+        ensures few { result ≤ BUDGET_LIMIT }
+    {
+        self.budget
+    }
+
+    /// How many splits are spent.
+    pub fn splits(&self) -> u32
+        ensures value { result ≡ self.now.state.spent }
+        ensures within { result ≤ self.now.budget }
+    {
+        self.spent
+    }
+
+    /// How many nodes are open.
+    pub fn open_nodes(&self) -> usize
+        ensures { result ≡ tally is_open self.now.state.nodes }
+    {
+        self.table.open_count()
+    }
+
+    /// The best time, in minor cycles. Whatever happened to the ledger, every legal order begins with the prefix of exactly one of
+    /// its nodes that aren't split, and its nodes are those of one tree.
+    pub fn best(&self) -> u32
+        ensures value { result ≡ best_time self.now.problem self.now.state }
+        ensures covers { Covers self.now.problem self.now.budget self.now.state }
+        ensures table { IsTable self.now.problem self.now.state }
+    {
+        self.best.total()
+    }
+
+    /// A lower bound of the totals of all legal orders, in minor cycles: the least of the best time and the floors of the nodes that
+    /// are open or out. In time linear in the number of nodes.
+    pub fn bound(&self) -> u32
+        ensures value { result ≡ bound_of self.now.problem self.now.state }
+        ensures bound { IsBound self.now.problem result }
+    {
+        self.table.least_floor(self.best.total())
+    }
+
+    /// Moves `GRANT_LIMIT` splits of the budget to the worker, or what is left of it, and tells how many.
+    pub fn grant(&mut self, w: u8) -> u32
+        requires { (1 ≤ w) × (w ≤ self.old.workers) }
+        ensures { IsMove self.old (Grant w) (Granted result) self.new }
+    {
+        let share = self.left.min(GRANT_LIMIT);
+        self.left -= share;
+        self.allowances[w as usize - 1] += share;
+        share
+    }
+
+    /// Gives the worker's allowance back to the budget.
+    pub fn retire(&mut self, w: u8)
+        requires { (1 ≤ w) × (w ≤ self.old.workers) }
+        ensures { IsMove self.old (Retire w) Retired self.new }
+    {
+        self.retire_at(w as usize - 1);
+    }
+
+    /// Gives the allowance of the worker at this place, from 0, back to the budget.
+    pub(crate) fn retire_at(&mut self, at: usize)
+        requires { at < self.old.workers }
+        ensures { IsMove self.old (Retire (at + 1)) Retired self.new }
+    {
+        self.left += self.allowances[at];
+        self.allowances[at] = 0;
+    }
+
+    /// Hands out the open node of the least floor, of equal ones the deepest, and of these the newest; None only where no node is
+    /// open. In time logarithmic in the number of open nodes.
+    pub fn claim(&mut self, w: u8) -> Option<Ticket>
+        requires { (1 ≤ w) × (w ≤ self.old.workers) }
+        ensures ok { IsMove self.old (Claim w) (Claimed (claimed_node result)) self.new }
+        ensures ticket { IsTicketOf self.old.state result }
+        ensures least { IsLeastOpen self.old.problem self.old.state result }
+    {
+        prove!(self.block.count() <= BLOCK_LIMIT);
+        let Some(node) = self.table.claim() else {
+            return None;
+        };
+        let prefix = self.table.prefix_of(node);
+        Some(Ticket::new(node, prefix))
+    }
+
+    /// Takes a node back that was handed out, so that it is open again.
+    pub fn back(&mut self, w: u8, node: u32) -> Result<(), BackError>
+        requires { (1 ≤ w) × (w ≤ self.old.workers) }
+        ensures ok { OnOk result (IsMove self.old (Back w node) Returned self.new) }
+        ensures not_out { IfErr result (λ e. e ≡ refused.NotOut → IsMove self.old (Back w node) NotOut self.new) }
+        ensures err { OnErr result (self.new ≡ self.old) }
+    {
+        if !self.table.is_out(node) {
+            return Err(BackError::NotOut);
+        }
+        let Ok(()) = self.table.give_back(node) else {
+            return Err(BackError::OutOfMemory);
+        };
+        Ok(())
+    }
+
+    /// Takes a node back where it is out, as worker 1.
+    pub(crate) fn reopen(&mut self, node: u32) -> Result<(), AllocError>
+        requires { 1 ≤ self.old.workers }
+        ensures ok { OnOk result (IsReopening self.old node self.new) }
+        ensures err { OnErr result (self.new ≡ self.old) }
+    {
+        if self.table.is_out(node) {
+            self.table.give_back(node)?;
+        }
+        Ok(())
+    }
+
+    /// How many workers there are.
+    pub fn workers(&self) -> u8
+        ensures { result ≡ self.now.workers }
+    {
+        self.allowances.len() as u8
+    }
+
+    /// How many workers there are, as a number of places.
+    pub(crate) fn worker_count(&self) -> usize
+        ensures value { result ≡ self.now.workers }
+        ensures allowances { result ≡ length self.now.state.allowances }
+    {
+        self.allowances.len()
+    }
+
+    /// How many nodes there are.
+    pub(crate) fn node_count(&self) -> u32
+        ensures { result ≡ length self.now.state.nodes }
+    {
+        self.table.count() as u32
+    }
+
+    /// The prefix of a node, where it is open or out and its floor is below the best time.
+    pub(crate) fn promising_prefix(&self, node: u32) -> Option<ArrayVec<u8, BLOCK_LIMIT>>
+        requires { node < length self.now.state.nodes }
+        ensures prefix { IfSome result (λ prefix. prefix.items ≡ (node_at self.now.state.nodes node).prefix) }
+        ensures begins { IfSome result (λ prefix. IsBeginning self.now.problem.block prefix.items) }
+        ensures none { IfNone result (is_live (node_at self.now.state.nodes node) ≡ true → best_time self.now.problem self.now.state ≤ floor_value self.now.problem (node_at self.now.state.nodes node).prefix) }
+    {
+        // so the prefix fits
+        prove!(self.block.count() <= BLOCK_LIMIT);
+        if self.table.is_live_below(node, self.best.total()) {
+            Some(self.table.prefix_of(node))
+        } else {
+            None
+        }
+    }
+
+    /// Makes an order the best if it is faster.
+    pub fn offer(&mut self, w: u8, timed: Timed) -> Offered
+        requires { (1 ≤ w) × (w ≤ self.old.workers) }
+        ensures { (event : Event) × IsOfferOf self.old.problem w timed.problem timed.numbers event × IsMove self.old event (offered_reply result) self.new }
+    {
+        if !timed.is_of(self.block, &self.profile) {
+            return Offered::OtherBlock;
+        }
+        let _legal = timed.order();
+        let least = self.best.total();
+        if timed.total() < least {
+            self.best = timed;
+            Offered::Lower
+        } else {
+            Offered::NotLower { least }
+        }
+    }
+
+    /// Puts a piece in the place of a node that was handed out, and spends its splits: the node takes the state of the piece's root,
+    /// and the piece's other prefixes become nodes. A leaf that is below the best time is kept open.
+    ///
+    /// In time linear in the piece's lines, with a logarithm of the number of open nodes for each that is open; all room is made
+    /// before anything changes.
+    pub fn graft(&mut self, w: u8, node: u32, piece: &Piece) -> Result<(), GraftError>
+        requires { (1 ≤ w) × (w ≤ self.old.workers) }
+        ensures ok { OnOk result (IsGraftMove self.old w node piece.now Taken self.new) }
+        ensures refused { IfErr result (λ e. IsRefusedMove self.old w node piece.now e self.new) }
+        ensures err { OnErr result (self.new ≡ self.old) }
+    {
+        // so the numbers of its nodes fit
+        prove!(self.block.count() <= BLOCK_LIMIT);
+        let own = piece.is_of(self.block, &self.profile);
+        let _lines = piece.knots();
+        if !self.table.is_out(node) {
+            return Err(GraftError::NotOut);
+        }
+        if !own {
+            return Err(GraftError::OtherPrefix);
+        }
+        if !self.table.is_over(node, piece.prefix()) {
+            return Err(GraftError::OtherPrefix);
+        }
+        let splits = piece.splits();
+        let at = w as usize - 1;
+        if self.allowances[at] < splits {
+            return Err(GraftError::OverAllowance);
+        }
+        let best = self.best.total();
+        let Ok(()) = self.table.plant(node, best, piece) else {
+            return Err(GraftError::OutOfMemory);
+        };
+        self.allowances[at] -= splits;
+        self.spent += splits;
+        Ok(())
+    }
+
+    /// Brings the search to its end: offers two list schedules, takes back every allowance and every node that is out, offers the
+    /// whole orders among the nodes, and goes on until no open node's floor is below the best time, or the budget is spent and no
+    /// whole order is below it.
+    ///
+    /// The time is that of expanding what it claims, and linear in the number of nodes. `Err` is want of memory.
+    pub fn finish(mut self, alloc: Global) -> Result<Answer, AllocError>
+        requires { 1 ≤ self.workers }
+        ensures problem { IfOk result (λ a. a.problem ≡ self.entry.problem) }
+        ensures budget { IfOk result (λ a. a.budget ≡ self.entry.budget) }
+        ensures finished { IfOk result (λ a. IsFinished self.entry.problem self.entry.budget self.entry.state (answer_of a)) }
+    {
+        let mut walk = Walk::new(self.block, &self.profile);
+        self.offer_schedule(&mut walk, Priority::Start);
+        walk.go_to(&[]);
+        self.offer_schedule(&mut walk, Priority::Issue);
+        self.take_back()?;
+        self.offer_wholes();
+        self.search(alloc, &mut walk)?;
+        Ok(self.into_answer())
+    }
+
+    /// The answer that the ledger is where its steps have ended.
+    fn into_answer(self) -> Answer
+        requires { IsEnded self.problem self.budget self.state }
+        ensures problem { result.problem ≡ self.entry.problem }
+        ensures budget { result.budget ≡ self.entry.budget }
+        ensures answer { answer_of result ≡ ended_answer self.entry.problem self.entry.state }
+    {
+        let bound = self.bound();
+        let Machine {
+            budget,
+            table,
+            best,
+            spent,
+            ..
+        } = self;
+        Answer {
+            best,
+            budget,
+            nodes: table.into_nodes(),
+            bound,
+            splits: spent,
+        }
+    }
+}
