@@ -1,7 +1,6 @@
 -- What a walk over the numbers of a set has found so far, and what is left.
-use Rattle.std.proofs.Common.{ℕ, ◌≤◌, ◌<◌, ◌≡◌, Bool, min, List, [], ◌∷◌, length, refl, sym, ap, arith, ◌∙◌}
-use Rattle.std.proofs.lemmas.Bool.{cond_both}
-use Rattle.std.specs.List.{filter}
+use Rattle.std.proofs.Common.{ℕ, ◌≤◌, ◌<◌, ◌≡◌, min, not, List, [], ◌∷◌, length, refl, sym, ap, arith, ◌∙◌}
+use Rattle.std.proofs.lemmas.List.Filters.{length-filter_both}
 use Rattle.s66_isa.specs.Lists.{least, rising}
 use Rattle.s66_model.proofs.Beginnings.{length-rising}
 use Rattle.s66_dep.specs.declared.set.Set.{Set}
@@ -27,12 +26,7 @@ least-from f top (n ∷ ns) below some =
     let first : f n ≡ min top (f n) = omega (arith, below n) in
     least-with f n ns ∙ ap (λ k. least_with k f ns) first
 
-filter-few : (test : ℕ → Bool) (ns : List ℕ) → length (filter test ns) ≤ length ns
-filter-few test [] = omega arith
-filter-few test (n ∷ ns) =
-    cond_both (test n) (n ∷ filter test ns) (filter test ns) (λ ms. length ms ≤ length (n ∷ ns)) (λ is. omega (arith, filter-few test ns)) (λ is. omega (arith, filter-few test ns))
-
 -- a set has at most 64 numbers
 pub numbers-few : (s : Set) → length (numbers_in s) ≤ 64
 unfolding numbers_in
-numbers-few s = omega (arith, filter-few (is_member s.bits) (rising 64 1), length-rising 64 1)
+numbers-few s = let both = length-filter_both (is_member s.bits) (λ n. not (is_member s.bits n)) (λ n. refl) (rising 64 1) in omega (arith, both, length-rising 64 1)

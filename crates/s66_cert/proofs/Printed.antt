@@ -6,8 +6,8 @@ use Rattle.s66_line.specs.declared.limits.TheConstants.{BLOCK_LIMIT}
 use Rattle.s66_model.specs.Leaves.{Leaf, Whole, Chain, Load, Parcels}
 use Rattle.s66_model.specs.Tree.{Tree, Alone, Parted, Kids, NoMore, Unsplit, Split, Knot, AtTip, AtSplit, flat, flat_kids}
 use Rattle.s66_cert.specs.Document.{IsLeafLine, KidsFit, TreeFits, document_text, leaf_line, instruction_lines, tree_lines}
-use Rattle.s66_cert.specs.Pages.{AreShort, opening, claim_lines}
-use Rattle.s66_cert.proofs.Pages.{IsUnderway, printed-here}
+use Rattle.s66_cert.specs.Pages.{AreShort, IsPrinted, opening, claim_lines}
+use Rattle.s66_cert.proofs.Pages.{IsUnderway, printed-here, underway-more}
 use Rattle.s66_cert.specs.Parts.{Parts, AreWhole, IsShort, document_of, tree_of}
 
 -- THE LINES OF A TREE HAVE FEW NUMBERS
@@ -73,3 +73,22 @@ document-parts p whole =
 pub opened : (old : Option (List ℕ)) (p : Parts) (page : List ℕ) (block : List (List ℕ)) → AreWhole p → page ≡ opening p → block ≡ p.block →
     IsUnderway old old [] page (document_text (document_of p)) (instruction_lines block ++ after_block p)
 opened old p page block whole is same = rw (is, same) (record { done = opening p; printed = printed-here old [] (opening p) (opening p) refl; left = document-parts p whole })
+
+-- THE PARTS, ONE AFTER THE OTHER
+
+abbrev pub IsLeft : Parts → (old new : Option (List ℕ)) (page rest : List ℕ) → Type 0
+IsLeft p old new page rest = IsUnderway old new [] page (document_text (document_of p)) rest
+
+pub block-left : (p : Parts) {old new : Option (List ℕ)} {page next : List ℕ} {block : List (List ℕ)} → AreWhole p → page ≡ opening p → block ≡ p.block →
+    IsPrinted old new page next (instruction_lines block) → IsLeft p old new next (after_block p)
+block-left p {old} {new} {page} {next} {block} whole is same printed =
+    underway-more old old new [] page next (document_text (document_of p)) (instruction_lines block) (after_block p) (opened old p page block whole is same) printed
+
+pub claim-left : (p : Parts) {old mid new : Option (List ℕ)} {page next : List ℕ} → IsLeft p old mid page (after_block p) → IsPrinted mid new page next (claim_lines p) →
+    IsLeft p old new next (after_claim p)
+claim-left p {old} {mid} {new} {page} {next} left printed = underway-more old mid new [] page next (document_text (document_of p)) (claim_lines p) (after_claim p) left printed
+
+pub tree-left : (p : Parts) {old mid new : Option (List ℕ)} {page next : List ℕ} {knots : List (Knot Leaf)} → knots ≡ p.knots → IsLeft p old mid page (after_claim p) →
+    IsPrinted mid new page next (tree_lines knots) → IsLeft p old new next (codes "END\n")
+tree-left p {old} {mid} {new} {page} {next} {knots} same left printed =
+    underway-more old mid new [] page next (document_text (document_of p)) (tree_lines p.knots) (codes "END\n") left (rw (← same) printed)

@@ -2,12 +2,10 @@
 use Rattle.std.specs.Prelude.{ℕ, List, Result, Ok, Err}
 use Rattle.s66_cert.specs.Faults.{IsFault}
 use Rattle.s66_cert.specs.declared.error.CertError.{CertError}
-use Rattle.s66_cert.specs.declared.error.CertError.TheVariants.{BadLine, Truncated, TooManyNodes, OutOfMemory}
+use Rattle.s66_cert.specs.declared.error.CertError.TheVariants.{OutOfMemory}
 
 -- a refusal for another cause than want of memory is the first fault of the text
 abbrev pub Refuses : {X : Type 0} → List ℕ → Result X CertError → Type 0
 Refuses text (Ok x) = Unit {0}
 Refuses text (Err OutOfMemory) = Unit {0}
-Refuses text (Err (BadLine line)) = IsFault text (BadLine line)
-Refuses text (Err Truncated) = IsFault text Truncated
-Refuses text (Err TooManyNodes) = IsFault text TooManyNodes
+Refuses text (Err e) = IsFault text e

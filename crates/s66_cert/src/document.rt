@@ -55,7 +55,8 @@ impl Document {
     ghost use Rattle.std.specs.declared.alloc.Global.{Global};
     ghost use Rattle.s66_cert.specs.Parts.{AreWhole};
 
-    /// The document that says this.
+    /// The document that says this. Its numbers have to be in their ranges, its texts those of instructions, and the lines of its
+    /// tree those of one whole tree of at most `SPLIT_LIMIT` splits.
     pub fn new(claim: Claim) -> Document
         requires { AreWhole claim }
         ensures { result ≡ claim }

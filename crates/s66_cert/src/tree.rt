@@ -78,8 +78,7 @@ impl Model for Tree {
 }
 
 impl Tree {
-    ghost use Rattle.std.specs.Prelude.{◌≡◌, ◌++◌, [], ◌∷◌, OnOk, OnErr};
-    ghost use Rattle.std.specs.Prelude.{length};
+    ghost use Rattle.std.specs.Prelude.{◌≡◌, ◌++◌, [], ◌∷◌, length, OnOk, OnErr};
     ghost use Rattle.s66_cert.specs.Marks.{number_count, marked};
     ghost use Rattle.s66_cert.specs.Parts.{knot_of, IsShort};
 
@@ -105,7 +104,7 @@ impl Tree {
         Ok(())
     }
 
-    /// Appends a line. Where memory is refused the lines are as before.
+    /// Appends a line of at most `BLOCK_LIMIT` numbers. Where memory is refused the lines are as before.
     pub fn push(&mut self, line: TreeLine<'_>) -> Result<(), AllocError>
         requires { IsShort (knot_of line) }
         ensures pushed { OnOk result (self.new ≡ self.old ++ knot_of line.entry ∷ []) }

@@ -1,7 +1,7 @@
 -- Each turn of a walk.
-use Rattle.std.proofs.Common.{ℕ, ◌+◌, ◌-◌, ◌*◌, ◌≤◌, ◌<◌, ◌≡◌, ◌==◌, Bool, true, false, List, [], ◌∷◌, ◌++◌, length, map, filter, refl, sym, ap, arith, inl, inr, ◌∙◌, length-append, subst, Option, None, eqb-true}
-use Rattle.std.proofs.lemmas.Bool.{cases_Bool}
+use Rattle.std.proofs.Common.{ℕ, ◌+◌, ◌-◌, ◌*◌, ◌≤◌, ◌<◌, ◌≡◌, ◌==◌, true, false, not, List, [], ◌∷◌, ◌++◌, length, map, refl, sym, ap, arith, inl, inr, ◌∙◌, length-append, subst, Option, None, eqb-true}
 use Rattle.std.proofs.lemmas.List.{reverse-append, length-take, map-append}
+use Rattle.std.proofs.lemmas.List.Filters.{length-filter_both}
 use Rattle.s66_isa.specs.Lists.{Among, weigh, rising}
 use Rattle.s66_isa.proofs.Lists.{weigh-append}
 use Rattle.s66_model.specs.Timing.{Problem}
@@ -172,17 +172,9 @@ module _ (b : Problem) (best allowance : ℕ) (root : List ℕ) where
 
 -- WHAT IS LEFT TO DO falls at each turn: each number of a frame, the frame itself, and splits
 
-filter-fewer : (test : ℕ → Bool) (ns : List ℕ) → length (filter test ns) ≤ length ns
-filter-fewer test [] = omega arith
-filter-fewer test (n ∷ ns) =
-    elim (cases_Bool (test n)) [
-      | inl is ↦ rw is (omega (arith, filter-fewer test ns))
-      | inr is ↦ rw is (omega (arith, filter-fewer test ns))
-    ]
-
 set-few : (s : Set) → length (numbers_in s) ≤ 64
 unfolding numbers_in
-set-few s = filter-fewer (is_member s.bits) (rising 64 1)
+set-few s = omega (arith, length-filter_both (is_member s.bits) (λ n. not (is_member s.bits n)) (λ n. refl) (rising 64 1))
 
 abbrev pub work : List Set → ℕ
 work frames = weigh (λ (f : Set). 1 + length (numbers_in f)) frames
