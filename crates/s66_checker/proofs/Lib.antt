@@ -9,3 +9,4 @@ pub mod NumbersInTurn
 pub mod Readiness
 pub mod Prefixes
 pub mod LeafBounds
+pub mod WordsOfPoints

@@ -5,3 +5,4 @@ pub mod Checked
 pub mod Walk
 pub mod Examples
 pub mod Kept
+pub mod PastWords

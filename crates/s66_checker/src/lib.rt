@@ -8,6 +8,7 @@ mod laws;
 mod leaf;
 mod links;
 mod needs;
+mod past;
 mod point;
 mod prefix;
 mod result;
@@ -15,6 +16,7 @@ mod row;
 mod timing;
 mod verdict;
 mod walk;
+mod words;
 
 pub use check::verify;
 pub use examples::{fault_examples, leaf_examples, split_examples, verdict_examples};

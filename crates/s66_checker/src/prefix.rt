@@ -2,9 +2,10 @@ ghost use Rattle.std.specs.Prelude.{◌≡◌, ◌≤◌, length};
 ghost use Rattle.s66_line.specs.declared.limits.TheConstants.{BLOCK_LIMIT};
 
 use crate::needs::{Numbers, needs_of_all};
+use crate::past::Past;
 use crate::point::KeptPoint;
 use crate::row::{Row, row_of, rows_of};
-use crate::timing::{next_point, total};
+use crate::timing::next_point;
 use arrayvec::ArrayVec;
 use s66_isa::Instr;
 use s66_line::BLOCK_LIMIT;
@@ -19,8 +20,7 @@ pub(crate) struct Prefix {
     /// Whether each number is placed; the place of a number is one less than it.
     placed: [bool; BLOCK_LIMIT],
     numbers: Numbers,
-    /// The oldest first.
-    points: ArrayVec<KeptPoint, BLOCK_LIMIT>,
+    past: Past,
 }
 
 impl Model for Prefix {
@@ -31,7 +31,7 @@ impl Model for Prefix {
 
     ghost view = { λ p. record { problem = under_standard p.block.items; numbers = p.numbers.items } };
 
-    ghost invariant = { λ p. IsPrefix p.block.items p.rows.items p.needs.items p.placed p.numbers.items p.points.items };
+    ghost invariant = { λ p. IsPrefix p.block.items p.rows.items p.needs.items p.placed p.numbers.items p.past };
 }
 
 /// The same instructions.
@@ -65,7 +65,7 @@ impl Prefix {
             needs: needs_of_all(block),
             placed: [false; BLOCK_LIMIT],
             numbers: ArrayVec::new(),
-            points: ArrayVec::new(),
+            past: Past::new(),
         }
     }
 
@@ -92,7 +92,16 @@ impl Prefix {
         ensures timed { AreTimed result.now }
         ensures profile { self.now.problem.profile ≡ standard }
     {
-        self.points.as_slice()
+        self.past.points()
+    }
+
+    /// The same points, with what they leave.
+    pub(crate) fn past(&self) -> &Past
+        ensures value { reverse result.now ≡ points_of self.now.problem self.now.numbers }
+        ensures timed { AreTimed result.now }
+        ensures profile { self.now.problem.profile ≡ standard }
+    {
+        &self.past
     }
 
     /// The row of the instruction of a number.
@@ -136,8 +145,8 @@ impl Prefix {
         ensures { self.new ≡ record self.old { numbers = self.old.numbers ++ n ∷ [] } }
     {
         let row = row_of(&self.block[n as usize - 1]);
-        let point = next_point(self.points.as_slice(), n, row);
-        self.points.push(point);
+        let point = next_point(&self.past, n, row);
+        self.past.push(point);
         self.numbers.push(n);
         self.placed[n as usize - 1] = true;
     }
@@ -150,7 +159,7 @@ impl Prefix {
         ensures same { IfNone result (self.new ≡ self.old) }
     {
         let n = self.numbers.pop()?;
-        self.points.pop();
+        self.past.pop();
         self.placed[n as usize - 1] = false;
         Some(n)
     }
@@ -159,6 +168,6 @@ impl Prefix {
     pub(crate) fn total(&self) -> u32
         ensures { result ≡ total_of self.now.problem self.now.numbers }
     {
-        total(self.points.as_slice())
+        self.past.total()
     }
 }

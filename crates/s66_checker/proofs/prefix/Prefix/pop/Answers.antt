@@ -15,4 +15,4 @@ bounds-self-inside-n c =
     omega (arith, low, high, c.self.invariant.few)
 
 pub invariant_of-self-2 : goal.invariant_of-self-2
-invariant_of-self-2 c = prefix-pop _ _ _ c.self.inside.placed _ c.self.inside.points.items c.in_ok-n.n c.pop.new.self.items _ c.self.invariant c.in_ok-n.ensures.items c.pop-2.ensures.rest
+invariant_of-self-2 c = prefix-pop _ _ _ c.self.inside.placed _ c.self.inside.past c.in_ok-n.n c.pop.new.self.items _ c.self.invariant c.in_ok-n.ensures.items c.pop-2.ensures
