@@ -7,7 +7,7 @@ use Rattle.s66_isa.specs.declared.instr.Instr.{Instr}
 use Rattle.s66_isa.specs.Lists.{has}
 use Rattle.s66_isa.specs.Table.{Row, row, standard, instr_at, idle_instr}
 use Rattle.s66_line.specs.declared.limits.TheConstants.{BLOCK_LIMIT}
-use Rattle.s66_model.specs.Timing.{Problem, Point, point, point_of, points_of, points_after}
+use Rattle.s66_model.specs.Timing.{Problem, Point, row_at, point, point_of, points_of, points_after}
 use Rattle.s66_model.specs.LegalOrder.{IsBeginning, is_ready}
 use Rattle.s66_model.proofs.LegalOrders.{ready-parts, has_push-same, has_push-other, GoesOn-append}
 use Rattle.s66_model.proofs.PointTimes.{points_after-append, points_after-length}
@@ -50,12 +50,6 @@ room-left block rows all placed ns xs n is ready =
     let more : length ns < BLOCK_LIMIT = omega (arith, beginning-few block (ns ++ n ∷ []) (step-begins block ns n is.begins ready), length-append ns (n ∷ []), is.few) in
     (omega (arith, more, prefix-length block rows all placed ns xs is), more)
 
-instr-there : (block : List Instr) (n : ℕ) (i : Instr) → 1 ≤ n → n ≤ length block → i ≡ get_or block (n - 1) i → i ≡ instr_at block n
-instr-there block zero i low high is = absurd (omega arith)
-instr-there block (suc m) i low high is =
-    let e : suc m - 1 ≡ m = omega arith in
-    get_or_read block m i (omega arith) (rw e at is) idle_instr
-
 -- only the row matters, and the profile
 point-under : (block : List Instr) (s : List Point) (n : ℕ) (r : Row) → point (under_standard []) s n r ≡ point (under_standard block) s n r
 unfolding point Rattle.s66_model.specs.Timing.start_of Rattle.s66_model.specs.Timing.issue_of
@@ -72,15 +66,15 @@ marked-push placed ns n low high marked i lt =
       | inr past ↦ get_or-set_other placed (n - 1) i true false past ∙ marked i lt ∙ sym (has_push-other (i + 1) n ns (λ e. past (omega (arith, e))))
     ]
 
-pub prefix-push : (block : List Instr) (rows : List Row) (all : List (ArrayVec ℕ)) (placed : List Bool) (ns : List ℕ) (xs : List Point) (n : ℕ) (i : Instr) (r : Row) (p : Point) (ms : List ℕ) (ys : List Point) →
-    IsPrefix block rows all placed ns xs → is_ready block ns n ≡ true → i ≡ get_or block (n - 1) i → r ≡ row standard i → p ≡ point (under_standard []) (reverse xs) n r →
+pub prefix-push : (block : List Instr) (rows : List Row) (all : List (ArrayVec ℕ)) (placed : List Bool) (ns : List ℕ) (xs : List Point) (n : ℕ) (r : Row) (p : Point) (ms : List ℕ) (ys : List Point) →
+    IsPrefix block rows all placed ns xs → is_ready block ns n ≡ true → r ≡ row_at (under_standard block) n → p ≡ point (under_standard []) (reverse xs) n r →
     ms ≡ ns ++ n ∷ [] → ys ≡ xs ++ p ∷ [] → IsPrefix block rows all (set placed (n - 1) true) ms ys
-prefix-push block rows all placed ns xs n i r p ms ys is ready e1 e2 e3 e4 e5 =
+prefix-push block rows all placed ns xs n r p ms ys is ready e2 e3 e4 e5 =
     let (low, high, new, met) = ready-parts block ns n ready in
     let b : Problem = under_standard block in
     let made : p ≡ point_of b (points_of b ns) n =
     e3 ∙ point-under block (reverse xs) n r ∙ ap (λ s. point b s n r) is.timed
-    ∙ ap (λ (j : Row). point b (points_of b ns) n j) (e2 ∙ ap (row standard) (instr-there block n i low high e1))
+    ∙ ap (λ (j : Row). point b (points_of b ns) n j) e2
     in
     record {
       some = is.some;

@@ -4,7 +4,7 @@ ghost use Rattle.s66_line.specs.declared.limits.TheConstants.{BLOCK_LIMIT};
 use crate::needs::{Numbers, needs_of_all};
 use crate::past::Past;
 use crate::point::KeptPoint;
-use crate::row::{Row, row_of, rows_of};
+use crate::row::{Row, copy_of, rows_of};
 use crate::timing::next_point;
 use arrayvec::ArrayVec;
 use s66_isa::Instr;
@@ -34,18 +34,6 @@ impl Model for Prefix {
     ghost invariant = { λ p. IsPrefix p.block.items p.rows.items p.needs.items p.placed p.numbers.items p.past };
 }
 
-/// The same instructions.
-fn copy_of(block: &[Instr]) -> ArrayVec<Instr, BLOCK_LIMIT>
-    requires { length block.now ≤ BLOCK_LIMIT }
-    ensures { result.items ≡ block.now }
-{
-    let mut copy = ArrayVec::new();
-    for instr in block {
-        copy.push(*instr);
-    }
-    copy
-}
-
 impl Prefix {
     ghost use Rattle.std.specs.Prelude.{ℕ, ◌++◌, [], ◌∷◌, true, IfSome, IfNone, reverse};
     ghost use Rattle.s66_isa.specs.Table.{standard};
@@ -59,8 +47,11 @@ impl Prefix {
         requires few { length block.now ≤ BLOCK_LIMIT }
         ensures { result ≡ record { problem = record { block = block.now; profile = standard }; numbers = [] } }
     {
+        let Ok(copy) = ArrayVec::try_from(block) else {
+            unreachable!()
+        };
         Prefix {
-            block: copy_of(block),
+            block: copy,
             rows: rows_of(block),
             needs: needs_of_all(block),
             placed: [false; BLOCK_LIMIT],
@@ -139,12 +130,12 @@ impl Prefix {
         self.is_remaining(n) && self.needs_met(n)
     }
 
-    /// Places a number that is ready, by looking back at all that is placed.
+    /// Places a number that is ready, in a time that doesn't grow with what is placed.
     pub(crate) fn push(&mut self, n: u8)
         requires { is_ready self.old.problem.block self.old.numbers n ≡ true }
         ensures { self.new ≡ record self.old { numbers = self.old.numbers ++ n ∷ [] } }
     {
-        let row = row_of(&self.block[n as usize - 1]);
+        let row = copy_of(self.row(n));
         let point = next_point(&self.past, n, row);
         self.past.push(point);
         self.numbers.push(n);
