@@ -10,3 +10,4 @@ pub mod Readiness
 pub mod Prefixes
 pub mod LeafBounds
 pub mod WordsOfPoints
+pub mod MarkBits

@@ -171,6 +171,7 @@ module _ (xs : List Point) (w w2 : Words) (p : Point) (are : AreWords xs w) wher
     where
       place : ℕ
       place = kind_number p.row.kind
+
       units : (kind : Kind) → AreFree (λ t. tally (busy_at kind t) (xs ++ p ∷ [])) (get_or w2.free (kind_number kind) idle)
       units kind =
           elim (cases_Bool (same_kind p.row.kind kind)) [

@@ -6,3 +6,4 @@ pub mod Walk
 pub mod Examples
 pub mod Kept
 pub mod PastWords
+pub mod Marked

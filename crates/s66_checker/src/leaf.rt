@@ -16,7 +16,7 @@ use crate::timing::{next, registers_done, rest_busy, writes_done};
 use arrayvec::ArrayVec;
 use s66_isa::{Kind, Profile};
 
-/// What is ready after the prefix, rising.
+/// What is ready after the prefix, rising: one look at a word for each number of the block.
 pub fn ready(prefix: &Prefix) -> Numbers
     ensures { result.items ≡ ready prefix.now.problem.block prefix.now.numbers }
 {

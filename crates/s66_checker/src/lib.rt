@@ -7,6 +7,7 @@ mod fault;
 mod laws;
 mod leaf;
 mod links;
+mod marks;
 mod needs;
 mod past;
 mod point;

@@ -1,6 +1,7 @@
 ghost use Rattle.std.specs.Prelude.{◌≡◌, ◌≤◌, length};
 ghost use Rattle.s66_line.specs.declared.limits.TheConstants.{BLOCK_LIMIT};
 
+use crate::marks::Marks;
 use crate::needs::{Numbers, needs_of_all};
 use crate::past::Past;
 use crate::point::KeptPoint;
@@ -16,9 +17,8 @@ use std::marker::Model;
 pub(crate) struct Prefix {
     block: ArrayVec<Instr, BLOCK_LIMIT>,
     rows: ArrayVec<Row, BLOCK_LIMIT>,
-    needs: ArrayVec<Numbers, BLOCK_LIMIT>,
-    /// Whether each number is placed; the place of a number is one less than it.
-    placed: [bool; BLOCK_LIMIT],
+    needs: ArrayVec<Marks, BLOCK_LIMIT>,
+    placed: Marks,
     numbers: Numbers,
     past: Past,
 }
@@ -39,7 +39,9 @@ impl Prefix {
     ghost use Rattle.s66_isa.specs.Table.{standard};
     ghost use Rattle.s66_model.specs.Timing.{points_of, row_at, total_of};
     ghost use Rattle.s66_model.specs.LegalOrder.{IsBeginning, is_remaining, is_ready, needs_met};
+    ghost use Rattle.s66_model.specs.Dependence.{depends};
     ghost use Rattle.s66_checker.specs.Kept.{AreTimed};
+    ghost use Rattle.s66_checker.specs.Marked.{is_marked};
 
     /// Before the first instruction of a block. Each pair of its instructions is looked at once.
     pub(crate) fn new(block: &[Instr]) -> Prefix
@@ -54,7 +56,7 @@ impl Prefix {
             block: copy,
             rows: rows_of(block),
             needs: needs_of_all(block),
-            placed: [false; BLOCK_LIMIT],
+            placed: Marks::none(),
             numbers: ArrayVec::new(),
             past: Past::new(),
         }
@@ -107,7 +109,15 @@ impl Prefix {
     pub(crate) fn is_remaining(&self, n: u8) -> bool
         ensures { result ≡ is_remaining self.now.problem.block self.now.numbers n }
     {
-        1 <= n && n as usize <= self.block.len() && !self.placed[n as usize - 1]
+        1 <= n && n as usize <= self.block.len() && !self.placed.has(n)
+    }
+
+    /// The numbers that the instruction of a number depends on.
+    fn needs(&self, n: u8) -> Marks
+        requires { (1 ≤ n) × (n ≤ length self.now.problem.block) }
+        ensures { (m : ℕ) → 1 ≤ m → m ≤ 64 → is_marked result m ≡ depends self.now.problem.block m n }
+    {
+        self.needs[n as usize - 1]
     }
 
     /// Whether all that the instruction of a number depends on is placed.
@@ -115,12 +125,7 @@ impl Prefix {
         requires { (1 ≤ n) × (n ≤ length self.now.problem.block) }
         ensures { result ≡ needs_met self.now.problem.block self.now.numbers n n }
     {
-        for need in self.needs[n as usize - 1].as_slice() {
-            if self.is_remaining(*need) {
-                return false;
-            }
-        }
-        true
+        self.needs(n).are_within(&self.placed)
     }
 
     /// Whether a number may stand next: it remains, and all that it depends on is placed.
@@ -139,7 +144,7 @@ impl Prefix {
         let point = next_point(&self.past, n, row);
         self.past.push(point);
         self.numbers.push(n);
-        self.placed[n as usize - 1] = true;
+        self.placed = self.placed.with(n);
     }
 
     /// Takes the last number off, where there is one.
@@ -151,7 +156,7 @@ impl Prefix {
     {
         let n = self.numbers.pop()?;
         self.past.pop();
-        self.placed[n as usize - 1] = false;
+        self.placed = self.placed.without(n);
         Some(n)
     }
 

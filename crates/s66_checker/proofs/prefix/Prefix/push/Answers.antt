@@ -1,12 +1,18 @@
 use Rattle.std.proofs.Common.{arith, ◌∙◌, ap, sym, subst, ◌≡◌, true}
-use Rattle.s66_model.specs.Timing.{Problem, row_at}
+use Rattle.s66_model.specs.Timing.{row_at}
 use Rattle.s66_model.specs.LegalOrder.{is_ready}
+use Rattle.s66_model.proofs.LegalOrders.{ready-parts}
 use Rattle.s66_checker.specs.Checked.{Checked}
 use Rattle.s66_checker.proofs.Prefixes.{prefix-timed, room-left, prefix-push}
 use Rattle.s66_checker.proofs.prefix.Prefix.push.Goals as goal
 
 pub next_point-point-requires : goal.next_point-point-requires
 next_point-point-requires c = prefix-timed _ _ _ _ _ _ c.self.invariant
+
+pub with-self-inside-requires : goal.with-self-inside-requires
+with-self-inside-requires c =
+    let (low, high, new, met) = ready-parts c.self.inside.block.items c.self.inside.numbers.items c.args.n (subst (λ (q : Checked). is_ready q.problem.block q.numbers c.args.n ≡ true) (sym c.self.view_is) c.requires) in
+    (low, omega (arith, high, c.self.invariant.few))
 
 pub push-requires : goal.push-requires
 push-requires c =
@@ -20,6 +26,6 @@ pub invariant_of-self : goal.invariant_of-self
 invariant_of-self c =
     let n = c.args.n in
     let row = c.copy_of-row.ensures ∙ c.row.ensures ∙ ap (λ (q : Checked). row_at q.problem n) (sym c.self.view_is) in
-    prefix-push _ _ _ _ _ c.self.inside.past n c.copy_of-row.result c.next_point-point.result _ _ c.self.invariant
+    prefix-push _ _ _ _ _ c.self.inside.past n _ c.copy_of-row.result c.next_point-point.result _ _ c.self.invariant c.with-self-inside.ensures
     (subst (λ (q : Checked). is_ready q.problem.block q.numbers n ≡ true) (sym c.self.view_is) c.requires)
     row c.next_point-point.ensures c.push-2.ensures.items c.push.ensures
