@@ -9,3 +9,5 @@ pub mod NumbersInTurn
 pub mod Readiness
 pub mod Prefixes
 pub mod LeafBounds
+pub mod WordsOfPoints
+pub mod MarkBits

@@ -1,86 +1,77 @@
 -- What a prefix keeps, at first, after a push and after a pop.
-use Rattle.std.proofs.Common.{ℕ, zero, suc, ◌+◌, ◌-◌, ◌≤◌, ◌<◌, ◌≡◌, Bool, true, false, List, [], ◌∷◌, ◌++◌, length, take, drop, get_or, set, map, replicate, reverse, refl, sym, subst, ap, arith, inl, inr, ◌∙◌}
-use Rattle.std.proofs.lemmas.Bool.{cases_eq}
-use Rattle.std.proofs.lemmas.List.{length-append, length-replicate, length-reverse, length-set, get_or-replicate, get_or-set_same, get_or-set_other, get_or_default, get_or_read, reverse-append}
-use Rattle.arrayvec.specs.ArrayVec.{ArrayVec}
+use Rattle.std.proofs.Common.{ℕ, ◌==◌, ◌||◌, ◌&&◌, not, eq-eqb, ne_eqb, ◌-◌, ◌≤◌, ◌<◌, ◌≡◌, true, false, List, [], ◌∷◌, ◌++◌, length, take, drop, get_or, map, reverse, refl, sym, subst, ap, arith, inl, inr, ◌∙◌}
+use Rattle.std.proofs.lemmas.Bool.{cases_eq, or_left}
+use Rattle.std.proofs.lemmas.List.{length-append, length-reverse, get_or_default, reverse-append}
 use Rattle.s66_isa.specs.declared.instr.Instr.{Instr}
 use Rattle.s66_isa.specs.Lists.{has}
-use Rattle.s66_isa.specs.Table.{Row, row, standard, instr_at, idle_instr}
+use Rattle.s66_isa.specs.Table.{Row, row, standard}
 use Rattle.s66_line.specs.declared.limits.TheConstants.{BLOCK_LIMIT}
-use Rattle.s66_model.specs.Timing.{Problem, Point, point, point_of, points_of, points_after}
+use Rattle.s66_model.specs.Timing.{Problem, Point, row_at, point, point_of, points_of, points_after}
 use Rattle.s66_model.specs.LegalOrder.{IsBeginning, is_ready}
 use Rattle.s66_model.proofs.LegalOrders.{ready-parts, has_push-same, has_push-other, GoesOn-append}
 use Rattle.s66_model.proofs.PointTimes.{points_after-append, points_after-length}
 use Rattle.s66_model.proofs.Remaining.{step-begins}
 use Rattle.s66_checker.specs.Kept.{under_standard, AreNeeds, AreTimed, IsPrefix}
+use Rattle.s66_checker.specs.Marked.{is_marked}
+use Rattle.s66_checker.specs.declared.marks.Marks.{Marks}
 use Rattle.s66_checker.proofs.Reversed.{reverse-last}
 use Rattle.s66_checker.proofs.Readiness.{beginning-few}
 
-pub prefix-timed : (block : List Instr) (rows : List Row) (all : List (ArrayVec ℕ)) (placed : List Bool) (ns : List ℕ) (xs : List Point) → IsPrefix block rows all placed ns xs → AreTimed xs
+pub prefix-timed : (block : List Instr) (rows : List Row) (all : List Marks) (placed : Marks) (ns : List ℕ) (xs : List Point) → IsPrefix block rows all placed ns xs → AreTimed xs
 prefix-timed block rows all placed ns xs is =
     record { block = block; numbers = ns; few = omega (arith, beginning-few block ns is.begins, is.few); timed = is.timed }
 
 -- as many points as numbers
-prefix-length : (block : List Instr) (rows : List Row) (all : List (ArrayVec ℕ)) (placed : List Bool) (ns : List ℕ) (xs : List Point) → IsPrefix block rows all placed ns xs → length xs ≡ length ns
+prefix-length : (block : List Instr) (rows : List Row) (all : List Marks) (placed : Marks) (ns : List ℕ) (xs : List Point) → IsPrefix block rows all placed ns xs → length xs ≡ length ns
 prefix-length block rows all placed ns xs is =
     omega (arith, length-reverse xs, ap length is.timed, points_after-length (under_standard block) [] ns)
 
 -- AT FIRST
 
-pub prefix-start : (block instrs : List Instr) (rows : List Row) (all : List (ArrayVec ℕ)) (ns : List ℕ) (xs : List Point) → 1 ≤ length block → length block ≤ BLOCK_LIMIT →
-    instrs ≡ block → rows ≡ map (row standard) block → AreNeeds block all → ns ≡ [] → xs ≡ [] → IsPrefix instrs rows all (replicate BLOCK_LIMIT false) ns xs
-prefix-start block instrs rows all ns xs some few same known needed no_number no_point =
-    subst (λ is. IsPrefix is rows all (replicate BLOCK_LIMIT false) ns xs) (sym same)
+pub prefix-start : (block instrs : List Instr) (rows : List Row) (all : List Marks) (placed : Marks) (ns : List ℕ) (xs : List Point) → 1 ≤ length block → length block ≤ BLOCK_LIMIT →
+    instrs ≡ block → rows ≡ map (row standard) block → AreNeeds block all → ((m : ℕ) → is_marked placed m ≡ false) → ns ≡ [] → xs ≡ [] → IsPrefix instrs rows all placed ns xs
+prefix-start block instrs rows all placed ns xs some few same known needed unmarked no_number no_point =
+    subst (λ is. IsPrefix is rows all placed ns xs) (sym same)
     (record {
       some = some;
       few = few;
       begins = subst (IsBeginning block) (sym no_number) tt;
       known = known;
       needed = needed;
-      size = length-replicate BLOCK_LIMIT false;
-      marked = λ i lt. get_or-replicate BLOCK_LIMIT i false false lt ∙ sym (ap (has (i + 1)) no_number);
+      marked = λ m low high. unmarked m ∙ sym (ap (has m) no_number);
       timed = rw (no_number, no_point) refl;
     })
 
 -- A PUSH
 
-pub room-left : (block : List Instr) (rows : List Row) (all : List (ArrayVec ℕ)) (placed : List Bool) (ns : List ℕ) (xs : List Point) (n : ℕ) → IsPrefix block rows all placed ns xs → is_ready block ns n ≡ true →
+pub room-left : (block : List Instr) (rows : List Row) (all : List Marks) (placed : Marks) (ns : List ℕ) (xs : List Point) (n : ℕ) → IsPrefix block rows all placed ns xs → is_ready block ns n ≡ true →
     (length xs < BLOCK_LIMIT) × (length ns < BLOCK_LIMIT)
 room-left block rows all placed ns xs n is ready =
     let more : length ns < BLOCK_LIMIT = omega (arith, beginning-few block (ns ++ n ∷ []) (step-begins block ns n is.begins ready), length-append ns (n ∷ []), is.few) in
     (omega (arith, more, prefix-length block rows all placed ns xs is), more)
-
-instr-there : (block : List Instr) (n : ℕ) (i : Instr) → 1 ≤ n → n ≤ length block → i ≡ get_or block (n - 1) i → i ≡ instr_at block n
-instr-there block zero i low high is = absurd (omega arith)
-instr-there block (suc m) i low high is =
-    let e : suc m - 1 ≡ m = omega arith in
-    get_or_read block m i (omega arith) (rw e at is) idle_instr
 
 -- only the row matters, and the profile
 point-under : (block : List Instr) (s : List Point) (n : ℕ) (r : Row) → point (under_standard []) s n r ≡ point (under_standard block) s n r
 unfolding point Rattle.s66_model.specs.Timing.start_of Rattle.s66_model.specs.Timing.issue_of
 point-under block s n r = refl
 
-marked-push : (placed : List Bool) (ns : List ℕ) (n : ℕ) → 1 ≤ n → n ≤ length placed → ((i : ℕ) → i < BLOCK_LIMIT → get_or placed i false ≡ has (i + 1) ns) →
-    (i : ℕ) → i < BLOCK_LIMIT → get_or (set placed (n - 1) true) i false ≡ has (i + 1) (ns ++ n ∷ [])
-marked-push placed ns n low high marked i lt =
-    elim (cases_eq i (n - 1)) [
-      | inl here ↦
-          let e : i + 1 ≡ n = omega (arith, here) in
-          ap (λ j. get_or (set placed (n - 1) true) j false) here ∙ get_or-set_same placed (n - 1) true false (omega arith)
-          ∙ sym (ap (λ m. has m (ns ++ n ∷ [])) e ∙ has_push-same n ns)
-      | inr past ↦ get_or-set_other placed (n - 1) i true false past ∙ marked i lt ∙ sym (has_push-other (i + 1) n ns (λ e. past (omega (arith, e))))
+marked-push : (placed more : Marks) (ns : List ℕ) (n : ℕ) → ((m : ℕ) → 1 ≤ m → is_marked more m ≡ (m == n || is_marked placed m)) → ((m : ℕ) → 1 ≤ m → m ≤ 64 → is_marked placed m ≡ has m ns) →
+    (m : ℕ) → 1 ≤ m → m ≤ 64 → is_marked more m ≡ has m (ns ++ n ∷ [])
+marked-push placed more ns n with marked m low high =
+    elim (cases_eq m n) [
+      | inl here ↦ with m low ∙ or_left (m == n) (is_marked placed m) (eq-eqb m n here) ∙ sym (ap (λ k. has k (ns ++ n ∷ [])) here ∙ has_push-same n ns)
+      | inr apart ↦ with m low ∙ rw (ne_eqb m n apart) (marked m low high) ∙ sym (has_push-other m n ns apart)
     ]
 
-pub prefix-push : (block : List Instr) (rows : List Row) (all : List (ArrayVec ℕ)) (placed : List Bool) (ns : List ℕ) (xs : List Point) (n : ℕ) (i : Instr) (r : Row) (p : Point) (ms : List ℕ) (ys : List Point) →
-    IsPrefix block rows all placed ns xs → is_ready block ns n ≡ true → i ≡ get_or block (n - 1) i → r ≡ row standard i → p ≡ point (under_standard []) (reverse xs) n r →
-    ms ≡ ns ++ n ∷ [] → ys ≡ xs ++ p ∷ [] → IsPrefix block rows all (set placed (n - 1) true) ms ys
-prefix-push block rows all placed ns xs n i r p ms ys is ready e1 e2 e3 e4 e5 =
+pub prefix-push : (block : List Instr) (rows : List Row) (all : List Marks) (placed : Marks) (ns : List ℕ) (xs : List Point) (n : ℕ) (more : Marks) (r : Row) (p : Point) (ms : List ℕ) (ys : List Point) →
+    IsPrefix block rows all placed ns xs → ((m : ℕ) → 1 ≤ m → is_marked more m ≡ (m == n || is_marked placed m)) → is_ready block ns n ≡ true → r ≡ row_at (under_standard block) n → p ≡ point (under_standard []) (reverse xs) n r →
+    ms ≡ ns ++ n ∷ [] → ys ≡ xs ++ p ∷ [] → IsPrefix block rows all more ms ys
+prefix-push block rows all placed ns xs n more r p ms ys is with ready e2 e3 e4 e5 =
     let (low, high, new, met) = ready-parts block ns n ready in
     let b : Problem = under_standard block in
     let made : p ≡ point_of b (points_of b ns) n =
     e3 ∙ point-under block (reverse xs) n r ∙ ap (λ s. point b s n r) is.timed
-    ∙ ap (λ (j : Row). point b (points_of b ns) n j) (e2 ∙ ap (row standard) (instr-there block n i low high e1))
+    ∙ ap (λ (j : Row). point b (points_of b ns) n j) e2
     in
     record {
       some = is.some;
@@ -88,8 +79,7 @@ prefix-push block rows all placed ns xs n i r p ms ys is ready e1 e2 e3 e4 e5 =
       begins = subst (IsBeginning block) (sym e4) (step-begins block ns n is.begins ready);
       known = is.known;
       needed = is.needed;
-      size = length-set placed (n - 1) true ∙ is.size;
-      marked = λ j lt. marked-push placed ns n low (omega (arith, high, is.few, is.size)) is.marked j lt ∙ sym (ap (has (j + 1)) e4);
+      marked = λ m first last. marked-push placed more ns n with is.marked m first last ∙ sym (ap (has m) e4);
       timed =
           ap reverse e5 ∙ reverse-append xs (p ∷ [])
           ∙ ap (λ q. q ∷ reverse xs) made
@@ -105,20 +95,17 @@ last-ready block ns ms n begins e =
     let both = GoesOn-append block [] ms (n ∷ []) (subst (IsBeginning block) e begins) in
     (both.0, both.1.0)
 
-marked-pop : (placed : List Bool) (ms : List ℕ) (n : ℕ) → 1 ≤ n → n ≤ length placed → has n ms ≡ false → ((i : ℕ) → i < BLOCK_LIMIT → get_or placed i false ≡ has (i + 1) (ms ++ n ∷ [])) →
-    (i : ℕ) → i < BLOCK_LIMIT → get_or (set placed (n - 1) false) i false ≡ has (i + 1) ms
-marked-pop placed ms n low high new marked i lt =
-    elim (cases_eq i (n - 1)) [
-      | inl here ↦
-          let e : i + 1 ≡ n = omega (arith, here) in
-          ap (λ j. get_or (set placed (n - 1) false) j false) here ∙ get_or-set_same placed (n - 1) false false (omega arith)
-          ∙ sym (ap (λ m. has m ms) e ∙ new)
-      | inr past ↦ get_or-set_other placed (n - 1) i false false past ∙ marked i lt ∙ has_push-other (i + 1) n ms (λ e. past (omega (arith, e)))
+marked-pop : (placed less : Marks) (ns : List ℕ) (n : ℕ) → has n ns ≡ false → ((m : ℕ) → 1 ≤ m → m ≤ 64 → is_marked less m ≡ (not (m == n) && is_marked placed m)) → ((m : ℕ) → 1 ≤ m → m ≤ 64 → is_marked placed m ≡ has m (ns ++ n ∷ [])) →
+    (m : ℕ) → 1 ≤ m → m ≤ 64 → is_marked less m ≡ has m ns
+marked-pop placed less ns n new without marked m low high =
+    elim (cases_eq m n) [
+      | inl here ↦ without m low high ∙ rw (eq-eqb m n here) (sym (ap (λ k. has k ns) here ∙ new))
+      | inr apart ↦ without m low high ∙ rw (ne_eqb m n apart) (marked m low high ∙ has_push-other m n ns apart)
     ]
 
-pub prefix-pop : (block : List Instr) (rows : List Row) (all : List (ArrayVec ℕ)) (placed : List Bool) (ns : List ℕ) (xs : List Point) (n : ℕ) (ms : List ℕ) (ys : List Point) →
-    IsPrefix block rows all placed ns xs → ns ≡ ms ++ n ∷ [] → ys ≡ take (length xs - 1) xs → IsPrefix block rows all (set placed (n - 1) false) ms ys
-prefix-pop block rows all placed ns xs n ms ys is e1 e2 =
+pub prefix-pop : (block : List Instr) (rows : List Row) (all : List Marks) (placed : Marks) (ns : List ℕ) (xs : List Point) (n : ℕ) (less : Marks) (ms : List ℕ) (ys : List Point) →
+    IsPrefix block rows all placed ns xs → ((m : ℕ) → 1 ≤ m → m ≤ 64 → is_marked less m ≡ (not (m == n) && is_marked placed m)) → ns ≡ ms ++ n ∷ [] → ys ≡ take (length xs - 1) xs → IsPrefix block rows all less ms ys
+prefix-pop block rows all placed ns xs n less ms ys is without e1 e2 =
     let (begins, ready) = last-ready block ns ms n is.begins e1 in
     let (low, high, new, met) = ready-parts block ms n ready in
     let b : Problem = under_standard block in
@@ -132,7 +119,6 @@ prefix-pop block rows all placed ns xs n ms ys is e1 e2 =
       begins = begins;
       known = is.known;
       needed = is.needed;
-      size = length-set placed (n - 1) false ∙ is.size;
-      marked = marked-pop placed ms n low (omega (arith, high, is.few, is.size)) new (λ i lt. is.marked i lt ∙ ap (has (i + 1)) e1);
+      marked = marked-pop placed less ms n new without (λ m first last. is.marked m first last ∙ ap (has m) e1);
       timed = ap reverse e2 ∙ ap (drop 1) (sym newest ∙ pushed);
     }

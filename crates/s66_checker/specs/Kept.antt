@@ -1,13 +1,14 @@
 -- Used by contracts within the crate alone: what is kept of the beginning of an order.
-use Rattle.std.specs.Prelude.{ℕ, ◌+◌, ◌*◌, ◌≡◌, ◌≤◌, ◌<◌, Bool, false, List, length, get_or, map, reverse}
-use Rattle.arrayvec.specs.ArrayVec.{ArrayVec}
+use Rattle.std.specs.Prelude.{ℕ, ◌+◌, ◌*◌, ◌≡◌, ◌≤◌, ◌<◌, List, length, get_or, map, reverse}
 use Rattle.s66_isa.specs.declared.instr.Instr.{Instr}
 use Rattle.s66_isa.specs.Lists.{has}
 use Rattle.s66_isa.specs.Table.{Row, row, standard}
 use Rattle.s66_model.specs.Timing.{Problem, Point, points_of}
-use Rattle.s66_model.specs.Dependence.{needs}
+use Rattle.s66_model.specs.Dependence.{depends}
 use Rattle.s66_model.specs.LegalOrder.{IsBeginning}
 use Rattle.s66_line.specs.declared.limits.TheConstants.{BLOCK_LIMIT}
+use Rattle.s66_checker.specs.Marked.{is_marked}
+use Rattle.s66_checker.specs.declared.marks.Marks.{Marks}
 
 -- the most minor cycles that an order of a block takes: each instruction adds at most 104
 abbrev pub TOTAL_LIMIT : ℕ
@@ -23,18 +24,17 @@ pub record AreTimed (points : List Point) : Type 0 where
   pub few : length numbers ≤ BLOCK_LIMIT
   pub timed : reverse points ≡ points_of (under_standard block) numbers
 
--- the numbers that each instruction of the block depends on
-pub record AreNeeds (block : List Instr) (all : List (ArrayVec ℕ)) : Type 0 where
+-- the numbers that each instruction of the block depends on are marked
+pub record AreNeeds (block : List Instr) (all : List Marks) : Type 0 where
   pub count : length all ≡ length block
-  pub each : (i : ℕ) (d : ArrayVec ℕ) → i < length block → (get_or all i d).items ≡ needs block (i + 1)
+  pub each : (i : ℕ) (d : Marks) → i < length block → (m : ℕ) → 1 ≤ m → m ≤ 64 → is_marked (get_or all i d) m ≡ depends block m (i + 1)
 
 -- what a prefix keeps: its block with its rows and needs, which numbers are placed, the numbers, and their points with the oldest first
-pub record IsPrefix (block : List Instr) (rows : List Row) (all : List (ArrayVec ℕ)) (placed : List Bool) (numbers : List ℕ) (points : List Point) : Type 0 where
+pub record IsPrefix (block : List Instr) (rows : List Row) (all : List Marks) (placed : Marks) (numbers : List ℕ) (points : List Point) : Type 0 where
   pub some : 1 ≤ length block
   pub few : length block ≤ BLOCK_LIMIT
   pub begins : IsBeginning block numbers
   pub known : rows ≡ map (row standard) block
   pub needed : AreNeeds block all
-  pub size : length placed ≡ BLOCK_LIMIT
-  pub marked : (i : ℕ) → i < BLOCK_LIMIT → get_or placed i false ≡ has (i + 1) numbers
+  pub marked : (m : ℕ) → 1 ≤ m → m ≤ 64 → is_marked placed m ≡ has m numbers
   pub timed : reverse points ≡ points_of (under_standard block) numbers

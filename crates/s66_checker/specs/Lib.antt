@@ -5,3 +5,5 @@ pub mod Checked
 pub mod Walk
 pub mod Examples
 pub mod Kept
+pub mod PastWords
+pub mod Marked

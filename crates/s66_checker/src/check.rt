@@ -74,6 +74,9 @@ fn legal_total(block: &[Instr], order: &[u8]) -> Option<u32>
 /// The verdict on a document: yes with its time and its bound exactly where what it claims is true, and else its first fault, that of
 /// the profile, of the order, of the time, of the bound, or of a line of the tree. It allocates nothing, and stands on no other timing
 /// and no other test of dependence than its own.
+///
+/// Each pair of the block's instructions is looked at once; beside that a line of the tree takes a time linear in the block's length,
+/// on the average over all lines.
 pub fn verify(document: &Document) -> Verdict
     ensures { result ≡ verdict (document_of document.now) }
 {

@@ -16,7 +16,7 @@ use crate::timing::{next, registers_done, rest_busy, writes_done};
 use arrayvec::ArrayVec;
 use s66_isa::{Kind, Profile};
 
-/// What is ready after the prefix, rising.
+/// What is ready after the prefix, rising: one look at a word for each number of the block.
 pub fn ready(prefix: &Prefix) -> Numbers
     ensures { result.items ≡ ready prefix.now.problem.block prefix.now.numbers }
 {
@@ -117,10 +117,10 @@ fn head(prefix: &Prefix, n: u8) -> u32
     ensures at_most { result ≤ TOTAL_LIMIT + 1 }
 {
     let row = prefix.row(n);
-    let points = prefix.points();
-    let read = registers_done(points, row.reads.as_slice());
-    let written = writes_done(points, row.writes.as_slice());
-    next(points).max(read.max(written))
+    let past = prefix.past();
+    let read = registers_done(past, row.reads.as_slice());
+    let written = writes_done(past, row.writes.as_slice());
+    next(prefix.points()).max(read.max(written))
 }
 
 /// How long m waits from the start of n, which remains: 0 where m doesn't, or they have no link.

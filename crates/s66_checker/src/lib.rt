@@ -7,7 +7,9 @@ mod fault;
 mod laws;
 mod leaf;
 mod links;
+mod marks;
 mod needs;
+mod past;
 mod point;
 mod prefix;
 mod result;
@@ -15,6 +17,7 @@ mod row;
 mod timing;
 mod verdict;
 mod walk;
+mod words;
 
 pub use check::verify;
 pub use examples::{fault_examples, leaf_examples, split_examples, verdict_examples};

@@ -1,10 +1,12 @@
 //! What each instruction of a block depends on, tested pair by pair.
 
-ghost use Rattle.std.specs.Prelude.{◌≡◌, ◌+◌, ◌≤◌, ◌<◌, length};
-ghost use Rattle.s66_model.specs.Dependence.{share, depends, needs};
+ghost use Rattle.std.specs.Prelude.{ℕ, ◌≡◌, ◌+◌, ◌≤◌, ◌<◌, length};
+ghost use Rattle.s66_model.specs.Dependence.{share, depends};
 ghost use Rattle.s66_line.specs.declared.limits.TheConstants.{BLOCK_LIMIT};
 ghost use Rattle.s66_checker.specs.Kept.{AreNeeds};
+ghost use Rattle.s66_checker.specs.Marked.{is_marked};
 
+use crate::marks::Marks;
 use arrayvec::ArrayVec;
 use s66_isa::{Instr, Memory, Reg, has_register, is_memory_conflict};
 use s66_line::BLOCK_LIMIT;
@@ -100,22 +102,22 @@ fn depends(block: &[Effects], earlier: usize, position: usize) -> bool
 }
 
 /// The numbers that the instruction at a position depends on.
-fn needs(block: &[Effects], position: usize) -> Numbers
+fn needs(block: &[Effects], position: usize) -> Marks
     requires few { length block.now ≤ BLOCK_LIMIT }
     requires within { position < length block.now }
-    ensures { result.items ≡ needs block.now (position + 1) }
+    ensures { (m : ℕ) → 1 ≤ m → m ≤ 64 → is_marked result m ≡ depends block.now m (position + 1) }
 {
-    let mut needs = ArrayVec::new();
+    let mut needs = Marks::none();
     for earlier in 0..block.len() {
         if depends(block, earlier, position) {
-            needs.push((earlier + 1) as u8);
+            needs = needs.with((earlier + 1) as u8);
         }
     }
     needs
 }
 
 /// What each instruction of the block depends on.
-pub fn needs_of_all(block: &[Instr]) -> ArrayVec<Numbers, BLOCK_LIMIT>
+pub fn needs_of_all(block: &[Instr]) -> ArrayVec<Marks, BLOCK_LIMIT>
     requires { length block.now ≤ BLOCK_LIMIT }
     ensures { AreNeeds block.now result.items }
 {

@@ -1,12 +1,12 @@
 ghost use Rattle.std.specs.Prelude.{◌≡◌, ◌+◌, if◌then◌else◌};
-ghost use Rattle.s66_isa.specs.Table.{has_reg, memory_pair};
-ghost use Rattle.s66_model.specs.Timing.{busy_at, done_at, end_of};
+ghost use Rattle.s66_isa.specs.Table.{memory_pair};
+ghost use Rattle.s66_model.specs.Timing.{end_of};
 ghost use Rattle.s66_model.specs.Leaves.{rest_busy};
 
-use crate::result::{ResultAt, done_in, last_time};
+use crate::result::{ResultAt, last_time};
 use crate::row::Row;
 use arrayvec::ArrayVec;
-use s66_isa::{Kind, Memory, Reg, has_register, is_memory_conflict, is_same_kind};
+use s66_isa::{Kind, Memory, Reg, is_memory_conflict, is_same_kind};
 use std::marker::Model;
 
 /// An instruction at its place in an order: its number, its row, its parcel from 0, and its times in minor cycles.
@@ -54,11 +54,32 @@ impl KeptPoint {
         self.row.parcels
     }
 
-    /// Whether a unit of the kind works on it after a time.
-    pub fn is_busy(&self, kind: Kind, time: u32) -> bool
-        ensures { result ≡ busy_at kind time self.now }
+    /// The kind of its unit.
+    pub fn kind(&self) -> Kind
+        ensures { result ≡ self.now.row.kind }
     {
-        is_same_kind(self.row.kind, kind) && time < self.free
+        self.row.kind
+    }
+
+    /// The registers that it reads.
+    pub fn reads(&self) -> &[Reg]
+        ensures { result.now ≡ self.now.row.reads }
+    {
+        self.row.reads.as_slice()
+    }
+
+    /// Its results.
+    pub fn results(&self) -> &[ResultAt]
+        ensures { result.now ≡ self.now.results }
+    {
+        self.results.as_slice()
+    }
+
+    /// When its unit is free.
+    pub fn free(&self) -> u32
+        ensures { result ≡ self.now.free }
+    {
+        self.free
     }
 
     /// For how long a unit of the kind works on it after a time.
@@ -79,29 +100,11 @@ impl KeptPoint {
         self.free.max(last_time(self.results.as_slice()))
     }
 
-    /// When its result in a register is done, 0 where it doesn't write the register.
-    pub fn done(&self, register: Reg) -> u32
-        ensures { result ≡ done_at self.now register }
-    {
-        done_in(self.results.as_slice(), register)
-    }
-
     /// The minor cycle behind its start.
-    fn after_start(&self) -> u32
+    pub fn after_start(&self) -> u32
         ensures { result ≡ self.now.start + 1 }
     {
         self.start + 1
-    }
-
-    /// From when on a later instruction may write a register, as far as this one reads it.
-    pub fn reader_wait(&self, register: Reg) -> u32
-        ensures { result ≡ if has_reg register self.now.row.reads then self.now.start + 1 else 0 }
-    {
-        if has_register(self.row.reads.as_slice(), register) {
-            self.after_start()
-        } else {
-            0
-        }
     }
 
     /// From when on a later reference to memory of this kind may start, as far as this one is a reference too.

@@ -1,10 +1,12 @@
 ghost use Rattle.std.specs.Prelude.{◌≡◌, ◌≤◌, length};
 ghost use Rattle.s66_line.specs.declared.limits.TheConstants.{BLOCK_LIMIT};
 
+use crate::marks::Marks;
 use crate::needs::{Numbers, needs_of_all};
+use crate::past::Past;
 use crate::point::KeptPoint;
-use crate::row::{Row, row_of, rows_of};
-use crate::timing::{next_point, total};
+use crate::row::{Row, copy_of, rows_of};
+use crate::timing::next_point;
 use arrayvec::ArrayVec;
 use s66_isa::Instr;
 use s66_line::BLOCK_LIMIT;
@@ -15,12 +17,10 @@ use std::marker::Model;
 pub(crate) struct Prefix {
     block: ArrayVec<Instr, BLOCK_LIMIT>,
     rows: ArrayVec<Row, BLOCK_LIMIT>,
-    needs: ArrayVec<Numbers, BLOCK_LIMIT>,
-    /// Whether each number is placed; the place of a number is one less than it.
-    placed: [bool; BLOCK_LIMIT],
+    needs: ArrayVec<Marks, BLOCK_LIMIT>,
+    placed: Marks,
     numbers: Numbers,
-    /// The oldest first.
-    points: ArrayVec<KeptPoint, BLOCK_LIMIT>,
+    past: Past,
 }
 
 impl Model for Prefix {
@@ -31,19 +31,7 @@ impl Model for Prefix {
 
     ghost view = { λ p. record { problem = under_standard p.block.items; numbers = p.numbers.items } };
 
-    ghost invariant = { λ p. IsPrefix p.block.items p.rows.items p.needs.items p.placed p.numbers.items p.points.items };
-}
-
-/// The same instructions.
-fn copy_of(block: &[Instr]) -> ArrayVec<Instr, BLOCK_LIMIT>
-    requires { length block.now ≤ BLOCK_LIMIT }
-    ensures { result.items ≡ block.now }
-{
-    let mut copy = ArrayVec::new();
-    for instr in block {
-        copy.push(*instr);
-    }
-    copy
+    ghost invariant = { λ p. IsPrefix p.block.items p.rows.items p.needs.items p.placed p.numbers.items p.past };
 }
 
 impl Prefix {
@@ -51,7 +39,9 @@ impl Prefix {
     ghost use Rattle.s66_isa.specs.Table.{standard};
     ghost use Rattle.s66_model.specs.Timing.{points_of, row_at, total_of};
     ghost use Rattle.s66_model.specs.LegalOrder.{IsBeginning, is_remaining, is_ready, needs_met};
+    ghost use Rattle.s66_model.specs.Dependence.{depends};
     ghost use Rattle.s66_checker.specs.Kept.{AreTimed};
+    ghost use Rattle.s66_checker.specs.Marked.{is_marked};
 
     /// Before the first instruction of a block. Each pair of its instructions is looked at once.
     pub(crate) fn new(block: &[Instr]) -> Prefix
@@ -59,13 +49,16 @@ impl Prefix {
         requires few { length block.now ≤ BLOCK_LIMIT }
         ensures { result ≡ record { problem = record { block = block.now; profile = standard }; numbers = [] } }
     {
+        let Ok(copy) = ArrayVec::try_from(block) else {
+            unreachable!()
+        };
         Prefix {
-            block: copy_of(block),
+            block: copy,
             rows: rows_of(block),
             needs: needs_of_all(block),
-            placed: [false; BLOCK_LIMIT],
+            placed: Marks::none(),
             numbers: ArrayVec::new(),
-            points: ArrayVec::new(),
+            past: Past::new(),
         }
     }
 
@@ -92,7 +85,16 @@ impl Prefix {
         ensures timed { AreTimed result.now }
         ensures profile { self.now.problem.profile ≡ standard }
     {
-        self.points.as_slice()
+        self.past.points()
+    }
+
+    /// The same points, with what they leave.
+    pub(crate) fn past(&self) -> &Past
+        ensures value { reverse result.now ≡ points_of self.now.problem self.now.numbers }
+        ensures timed { AreTimed result.now }
+        ensures profile { self.now.problem.profile ≡ standard }
+    {
+        &self.past
     }
 
     /// The row of the instruction of a number.
@@ -107,7 +109,15 @@ impl Prefix {
     pub(crate) fn is_remaining(&self, n: u8) -> bool
         ensures { result ≡ is_remaining self.now.problem.block self.now.numbers n }
     {
-        1 <= n && n as usize <= self.block.len() && !self.placed[n as usize - 1]
+        1 <= n && n as usize <= self.block.len() && !self.placed.has(n)
+    }
+
+    /// The numbers that the instruction of a number depends on.
+    fn needs(&self, n: u8) -> Marks
+        requires { (1 ≤ n) × (n ≤ length self.now.problem.block) }
+        ensures { (m : ℕ) → 1 ≤ m → m ≤ 64 → is_marked result m ≡ depends self.now.problem.block m n }
+    {
+        self.needs[n as usize - 1]
     }
 
     /// Whether all that the instruction of a number depends on is placed.
@@ -115,12 +125,7 @@ impl Prefix {
         requires { (1 ≤ n) × (n ≤ length self.now.problem.block) }
         ensures { result ≡ needs_met self.now.problem.block self.now.numbers n n }
     {
-        for need in self.needs[n as usize - 1].as_slice() {
-            if self.is_remaining(*need) {
-                return false;
-            }
-        }
-        true
+        self.needs(n).are_within(&self.placed)
     }
 
     /// Whether a number may stand next: it remains, and all that it depends on is placed.
@@ -130,16 +135,16 @@ impl Prefix {
         self.is_remaining(n) && self.needs_met(n)
     }
 
-    /// Places a number that is ready, by looking back at all that is placed.
+    /// Places a number that is ready, in a time that doesn't grow with what is placed.
     pub(crate) fn push(&mut self, n: u8)
         requires { is_ready self.old.problem.block self.old.numbers n ≡ true }
         ensures { self.new ≡ record self.old { numbers = self.old.numbers ++ n ∷ [] } }
     {
-        let row = row_of(&self.block[n as usize - 1]);
-        let point = next_point(self.points.as_slice(), n, row);
-        self.points.push(point);
+        let row = copy_of(self.row(n));
+        let point = next_point(&self.past, n, row);
+        self.past.push(point);
         self.numbers.push(n);
-        self.placed[n as usize - 1] = true;
+        self.placed = self.placed.with(n);
     }
 
     /// Takes the last number off, where there is one.
@@ -150,8 +155,8 @@ impl Prefix {
         ensures same { IfNone result (self.new ≡ self.old) }
     {
         let n = self.numbers.pop()?;
-        self.points.pop();
-        self.placed[n as usize - 1] = false;
+        self.past.pop();
+        self.placed = self.placed.without(n);
         Some(n)
     }
 
@@ -159,6 +164,6 @@ impl Prefix {
     pub(crate) fn total(&self) -> u32
         ensures { result ≡ total_of self.now.problem self.now.numbers }
     {
-        total(self.points.as_slice())
+        self.past.total()
     }
 }

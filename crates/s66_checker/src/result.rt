@@ -1,9 +1,8 @@
 ghost use Rattle.std.specs.Prelude.{◌≡◌, ◌+◌, ◌<◌, ◌^◌, if◌then◌else◌};
 ghost use Rattle.s66_isa.specs.Lists.{greatest};
-ghost use Rattle.s66_isa.specs.Table.{same_reg};
 ghost use Rattle.s66_model.specs.Timing.{ResultAt as ResultOf, free_after};
 
-use s66_isa::{Reg, is_same_register};
+use s66_isa::Reg;
 use std::marker::Model;
 
 /// A result: its register, the minor cycle in which it is done, and whether the unit holds it.
@@ -25,34 +24,12 @@ impl Model for ResultAt {
 }
 
 impl ResultAt {
-    /// When it is done, 0 where it is in another register.
-    fn time_in(&self, register: Reg) -> u32
-        ensures { result ≡ if same_reg self.now.reg register then self.now.time else 0 }
-    {
-        if is_same_register(self.reg, register) {
-            self.time
-        } else {
-            0
-        }
-    }
-
     /// When it is done, 0 where the unit doesn't hold it.
     fn held_time(&self) -> u32
         ensures { result ≡ if self.now.held then self.now.time else 0 }
     {
         if self.held { self.time } else { 0 }
     }
-}
-
-/// When the last of these results in a register is done, 0 where there is none.
-pub fn done_in(results: &[ResultAt], register: Reg) -> u32
-    ensures { result ≡ greatest (λ (d : ResultOf). if same_reg d.reg register then d.time else 0) results.now }
-{
-    let mut last = 0u32;
-    for done in results {
-        last = last.max(done.time_in(register));
-    }
-    last
 }
 
 /// When the last of these results is done, 0 where there is none.

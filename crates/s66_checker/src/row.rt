@@ -58,6 +58,26 @@ pub fn row_of(instr: &Instr) -> Row
     }
 }
 
+/// The same row.
+pub fn copy_of(row: &Row) -> Row
+    ensures { result ≡ row.now }
+{
+    let Ok(reads) = ArrayVec::try_from(row.reads.as_slice()) else {
+        unreachable!()
+    };
+    let Ok(writes) = ArrayVec::try_from(row.writes.as_slice()) else {
+        unreachable!()
+    };
+    Row {
+        kind: row.kind,
+        parcels: row.parcels,
+        reads,
+        writes,
+        hold: row.hold,
+        memory: row.memory,
+    }
+}
+
 /// The rows of a block's instructions.
 pub fn rows_of(block: &[Instr]) -> ArrayVec<Row, BLOCK_LIMIT>
     requires { length block.now ≤ BLOCK_LIMIT }

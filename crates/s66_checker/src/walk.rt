@@ -8,7 +8,7 @@ use crate::prefix::Prefix;
 use crate::verdict::Verdict;
 use s66_cert::{Document, TreeLine};
 
-/// The least number above another that is ready after the prefix.
+/// The least number above another that is ready after the prefix: one look at a word for each number above it.
 fn next_ready(prefix: &Prefix, n: u8) -> Option<u8>
     ensures { IsNextReady prefix.now.problem.block prefix.now.numbers n result }
 {
@@ -24,7 +24,7 @@ fn next_ready(prefix: &Prefix, n: u8) -> Option<u8>
 }
 
 /// Goes on to the prefix after a leaf, and answers whether there is one: the last number gives way to the next one that is ready in
-/// its place, and where there is none the number before it does.
+/// its place, and where there is none the number before it does. Each number that gives way was pushed once.
 fn advance(prefix: &mut Prefix) -> bool
     ensures next { coming prefix.old.problem.block result prefix.new.numbers ≡ later prefix.old.problem.block [] prefix.old.numbers }
     ensures problem { prefix.new.problem ≡ prefix.old.problem }

@@ -21,15 +21,15 @@ pub results-results-requires-clause-latencies : goal.results-results-requires-cl
 results-results-requires-clause-latencies c = latencies _ c.as_slice.result.now c.row.invariant c.as_slice.ensures.value
 
 pub results-results-requires-clause-start : goal.results-results-requires-clause-start
-results-results-requires-clause-start c = starts c.args.points.now c.args.row c.start-start.result c.requires c.start-start.ensures
+results-results-requires-clause-start c = starts c.args.past.now c.args.row c.start-start.result c.requires c.start-start.ensures
 
 pub free_after-free-requires-clause-start : goal.free_after-free-requires-clause-start
 free_after-free-requires-clause-start c =
-    omega (arith, c.row.invariant.hold, starts c.args.points.now c.args.row c.start-start.result c.requires c.start-start.ensures)
+    omega (arith, c.row.invariant.hold, starts c.args.past.now c.args.row c.start-start.result c.requires c.start-start.ensures)
 
 pub free_after-free-requires-clause-results : goal.free_after-free-requires-clause-results
 free_after-free-requires-clause-results c =
-    let xs = c.args.points.now in
+    let xs = c.args.past.now in
     let start = c.start-start.result in
     let ws = c.as_slice.result.now in
     omega (
@@ -40,13 +40,16 @@ free_after-free-requires-clause-results c =
       timed-total xs c.requires,
     )
 
+pub parcel-requires : goal.parcel-requires
+parcel-requires c = rw c.points.ensures c.requires
+
 pub returns : goal.returns
 returns c =
-    let xs = c.args.points.now in
+    let xs = c.args.past.now in
     let start = c.start-start.result in
     let results : c.results-results.result.items ≡ map (result_at xs start) c.args.row.writes =
     c.results-results.ensures ∙ ap (map (result_at xs start)) c.as_slice.ensures.value ∙ ap (λ (r : Row). map (result_at xs start) r.writes) c.row.view_is in
     let free = c.free_after-free.ensures ∙ ap (λ (ds : List ResultAt). free_after start c.row.inside.hold ds) c.as_slice-2.ensures.value
     ∙ ap (λ (r : Row). free_after start r.hold c.results-results.result.items) c.row.view_is in
-    let parcel = c.parcel.ensures ∙ ap (λ (r : Row). parcel_of (reverse xs) r.parcels) c.row.view_is in
+    let parcel = c.parcel.ensures ∙ ap (λ ps. parcel_of (reverse ps) c.row.inside.parcels) c.points.ensures ∙ ap (λ (r : Row). parcel_of (reverse xs) r.parcels) c.row.view_is in
     point-looked xs c.args.number c.args.row c.parcel.result c.issue-issue.result start c.results-results.result.items c.free_after-free.result parcel c.issue-issue.ensures c.start-start.ensures results free

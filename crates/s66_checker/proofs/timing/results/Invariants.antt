@@ -3,4 +3,4 @@ use Rattle.s66_model.specs.Timing.{result_at}
 use Rattle.s66_checker.proofs.timing.results.Given as goal
 
 abbrev pub invariant-loop-write : goal.invariant-loop-write
-invariant-loop-write l = l.results.items ≡ map (result_at l.points l.start) (take l.write-index l.writes)
+invariant-loop-write l = l.results.items ≡ map (result_at l.past l.start) (take l.write-index l.writes)

@@ -1,18 +1,22 @@
-use Rattle.std.proofs.Common.{arith, List, ◌-◌, ◌∙◌, ap, sym, subst, get_or, ◌≡◌, [], true, reverse}
-use Rattle.s66_isa.specs.declared.instr.Instr.{Instr}
-use Rattle.s66_model.specs.Timing.{Point, point}
+use Rattle.std.proofs.Common.{arith, ◌∙◌, ap, sym, subst, ◌≡◌, true}
+use Rattle.s66_model.specs.Timing.{row_at}
 use Rattle.s66_model.specs.LegalOrder.{is_ready}
+use Rattle.s66_model.proofs.LegalOrders.{ready-parts}
 use Rattle.s66_checker.specs.Checked.{Checked}
-use Rattle.s66_checker.specs.Kept.{under_standard}
 use Rattle.s66_checker.proofs.Prefixes.{prefix-timed, room-left, prefix-push}
 use Rattle.s66_checker.proofs.prefix.Prefix.push.Goals as goal
 
 pub next_point-point-requires : goal.next_point-point-requires
-next_point-point-requires c = rw c.as_slice.ensures.value (prefix-timed _ _ _ _ _ _ c.self.invariant)
+next_point-point-requires c = prefix-timed _ _ _ _ _ _ c.self.invariant
+
+pub with-self-inside-requires : goal.with-self-inside-requires
+with-self-inside-requires c =
+    let (low, high, new, met) = ready-parts c.self.inside.block.items c.self.inside.numbers.items c.args.n (subst (λ (q : Checked). is_ready q.problem.block q.numbers c.args.n ≡ true) (sym c.self.view_is) c.requires) in
+    (low, omega (arith, high, c.self.invariant.few))
 
 pub push-requires : goal.push-requires
 push-requires c =
-    (omega arith, (room-left _ _ _ _ _ _ c.args.n c.self.invariant (subst (λ (q : Checked). is_ready q.problem.block q.numbers c.args.n ≡ true) (sym c.self.view_is) c.requires)).0)
+    (room-left _ _ _ _ _ _ c.args.n c.self.invariant (subst (λ (q : Checked). is_ready q.problem.block q.numbers c.args.n ≡ true) (sym c.self.view_is) c.requires)).0
 
 pub push-requires-2 : goal.push-requires-2
 push-requires-2 c =
@@ -21,8 +25,7 @@ push-requires-2 c =
 pub invariant_of-self : goal.invariant_of-self
 invariant_of-self c =
     let n = c.args.n in
-    let instr = subst (λ (is : List Instr). c.index-deref-n.result ≡ get_or is (n - 1) c.index-deref-n.result) c.deref.ensures.0 c.index-deref-n.is in
-    let placed = c.next_point-point.ensures ∙ ap (λ (s : List Point). point (under_standard []) (reverse s) n c.row_of-row.result) c.as_slice.ensures.value in
-    prefix-push _ _ _ _ _ c.self.inside.points.items n c.index-deref-n.result c.row_of-row.result c.next_point-point.result _ _ c.self.invariant
+    let row = c.copy_of-row.ensures ∙ c.row.ensures ∙ ap (λ (q : Checked). row_at q.problem n) (sym c.self.view_is) in
+    prefix-push _ _ _ _ _ c.self.inside.past n _ c.copy_of-row.result c.next_point-point.result _ _ c.self.invariant c.with-self-inside.ensures
     (subst (λ (q : Checked). is_ready q.problem.block q.numbers n ≡ true) (sym c.self.view_is) c.requires)
-    instr c.row_of-row.ensures placed c.push-2.ensures.items c.push.ensures.items
+    row c.next_point-point.ensures c.push-2.ensures.items c.push.ensures

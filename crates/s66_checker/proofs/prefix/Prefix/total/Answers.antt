@@ -6,5 +6,5 @@ use Rattle.s66_checker.proofs.prefix.Prefix.total.Goals as goal
 
 pub returns : goal.returns
 returns c =
-    c.total.ensures ∙ ap total c.as_slice.ensures.value ∙ sym (greatest-reverse end_of c.self.inside.points.items) ∙ ap total c.self.invariant.timed
+    c.total.ensures ∙ sym (greatest-reverse end_of c.self.inside.past) ∙ ap total c.self.invariant.timed
     ∙ ap (λ (q : Checked). total_of q.problem q.numbers) c.self.view_is

@@ -1,0 +1,53 @@
+ghost use Rattle.std.specs.Prelude.{ℕ, ◌≡◌, ◌≤◌, ◌==◌, ◌||◌, ◌&&◌, not, ◌↔◌, IsTrue, true, false};
+ghost use Rattle.s66_checker.specs.Marked.{is_marked};
+
+/// Which numbers of a block are marked, in one word; the numbers are 1 to 64.
+#[derive(Clone, Copy, Debug, Default, Drop)]
+pub struct Marks {
+    /// Bit n - 1 tells whether n is marked.
+    bits: u64,
+}
+
+impl Marks {
+    /// None is marked.
+    pub fn none() -> Marks
+        ensures { (m : ℕ) → is_marked result m ≡ false }
+    {
+        Marks { bits: 0 }
+    }
+
+    /// The same, and n is marked.
+    pub fn with(self, n: u8) -> Marks
+        requires { (1 ≤ n) × (n ≤ 64) }
+        ensures { (m : ℕ) → 1 ≤ m → is_marked result m ≡ (m == n || is_marked self m) }
+    {
+        Marks {
+            bits: self.bits | (1 << (n - 1)),
+        }
+    }
+
+    /// The same, and n isn't marked.
+    pub fn without(self, n: u8) -> Marks
+        requires { (1 ≤ n) × (n ≤ 64) }
+        ensures { (m : ℕ) → 1 ≤ m → m ≤ 64 → is_marked result m ≡ (not (m == n) && is_marked self m) }
+    {
+        Marks {
+            bits: self.bits & !(1 << (n - 1)),
+        }
+    }
+
+    /// Whether n is marked.
+    pub fn has(&self, n: u8) -> bool
+        requires { (1 ≤ n) × (n ≤ 64) }
+        ensures { result ≡ is_marked self.now n }
+    {
+        (self.bits >> (n - 1)) & 1 == 1
+    }
+
+    /// Whether each number that is marked here is marked there.
+    pub fn are_within(&self, other: &Marks) -> bool
+        ensures { IsTrue result ↔ ((m : ℕ) → 1 ≤ m → m ≤ 64 → is_marked self.now m ≡ true → is_marked other.now m ≡ true) }
+    {
+        self.bits & other.bits == self.bits
+    }
+}

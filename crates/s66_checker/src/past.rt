@@ -1,0 +1,126 @@
+ghost use Rattle.std.specs.Prelude.{◌≡◌, ◌≤◌, ◌<◌, length};
+
+use crate::point::KeptPoint;
+use crate::words::Words;
+use arrayvec::ArrayVec;
+use s66_isa::{Kind, Memory, Profile, Reg, kind_number};
+use s66_line::BLOCK_LIMIT;
+use std::marker::Model;
+
+/// What is placed under the standard profile, with what it leaves for the next instruction. All times are in minor cycles.
+///
+/// Beside the points stand words that are as many before each of them: a push and a pop copy them, and no question but `rest_busy`
+/// looks back at more than a word.
+#[derive(Debug, Drop)]
+pub struct Past {
+    /// The oldest first.
+    points: ArrayVec<KeptPoint, BLOCK_LIMIT>,
+    words: Words,
+    /// The words before each point.
+    before: ArrayVec<Words, BLOCK_LIMIT>,
+}
+
+impl Model for Past {
+    ghost use Rattle.std.specs.Prelude.{List};
+    ghost use Rattle.s66_model.specs.Timing.{Point};
+    ghost use Rattle.s66_checker.specs.PastWords.{ArePast};
+
+    ghost Value = { List Point };
+
+    ghost view = { λ p. p.points.items };
+
+    ghost invariant = { λ p. ArePast p.points.items p.words p.before.items };
+}
+
+impl Past {
+    ghost use Rattle.std.specs.Prelude.{ℕ, ◌+◌, ◌-◌, ◌++◌, [], ◌∷◌, if◌then◌else◌, take};
+    ghost use Rattle.s66_isa.specs.Lists.{greatest, tally, weigh};
+    ghost use Rattle.s66_isa.specs.Table.{copies_of, memory_pair, standard};
+    ghost use Rattle.s66_line.specs.declared.limits.TheConstants.{BLOCK_LIMIT};
+    ghost use Rattle.s66_model.specs.Timing.{Point, busy_at, done_of, readers_wait, total};
+
+    /// Before the first instruction.
+    pub fn new() -> Past
+        ensures { result ≡ [] }
+    {
+        Past {
+            points: ArrayVec::new(),
+            words: Words::new(),
+            before: ArrayVec::new(),
+        }
+    }
+
+    /// The oldest first.
+    pub fn points(&self) -> &[KeptPoint]
+        ensures { result.now ≡ self.now }
+    {
+        self.points.as_slice()
+    }
+
+    /// Places one more instruction.
+    pub fn push(&mut self, point: KeptPoint)
+        requires { length self.old < BLOCK_LIMIT }
+        ensures { self.new ≡ self.old ++ point ∷ [] }
+    {
+        self.before.push(self.words);
+        self.words.push(&point);
+        self.points.push(point);
+    }
+
+    /// Takes the last instruction off, where there is one.
+    pub fn pop(&mut self)
+        ensures { self.new ≡ take (length self.old - 1) self.old }
+    {
+        let Some(words) = self.before.pop() else {
+            return;
+        };
+        self.words = words;
+        self.points.pop();
+    }
+
+    /// When all units are free and all results are done.
+    pub fn total(&self) -> u32
+        ensures { result ≡ total self.now }
+    {
+        self.words.total
+    }
+
+    /// When the last result in a register is done, 0 where there is none.
+    pub fn done_of(&self, register: Reg) -> u32
+        ensures { result ≡ done_of self.now register }
+    {
+        self.words.done.at(register)
+    }
+
+    /// From when on a register may be written: when all its earlier readers have started.
+    pub fn readers_wait(&self, register: Reg) -> u32
+        ensures { result ≡ readers_wait self.now register }
+    {
+        self.words.read.at(register)
+    }
+
+    /// From when on a reference to memory of this kind may start.
+    pub fn memory_wait(&self, memory: Memory) -> u32
+        ensures { result ≡ greatest (λ (p : Point). if memory_pair p.row.memory memory then p.start + 1 else 0) self.now }
+    {
+        match memory {
+            Memory::None => 0,
+            Memory::Load => self.words.load,
+            Memory::Store => self.words.store,
+        }
+    }
+
+    /// The first time, at least this one, at which a unit of the kind is free: there are one or two of it.
+    pub fn first_free(&self, kind: Kind, from: u32) -> u32
+        ensures late { from ≤ result }
+        ensures free { tally (busy_at kind result) self.now < copies_of standard kind }
+        ensures least { (u : ℕ) → from ≤ u → tally (busy_at kind u) self.now < copies_of standard kind → result ≤ u }
+    {
+        let free = self.words.free[kind_number(kind)];
+        if Profile::standard().copies(kind) == 1 {
+            from.max(free.all)
+        } else {
+            from.max(free.all_but_one)
+        }
+    }
+}
