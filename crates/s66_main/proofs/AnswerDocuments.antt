@@ -1,8 +1,8 @@
 -- The document of an answer is a document, whose tree its lines tell.
-use Rattle.std.proofs.Common.{ℕ, zero, suc, ◌+◌, ◌≤◌, ◌≡◌, Bool, true, List, [], ◌∷◌, ◌++◌, length, refl, sym, ap, arith, inl, inr, subst, ◌∙◌, map}
-use Rattle.std.proofs.lemmas.Bool.{and_parts, ltb-true, cond_both}
+use Rattle.std.proofs.Common.{ℕ, zero, suc, ◌+◌, ◌≤◌, ◌≡◌, true, not, List, [], ◌∷◌, ◌++◌, length, refl, sym, ap, arith, inl, inr, subst, ◌∙◌, map}
+use Rattle.std.proofs.lemmas.Bool.{and_parts, ltb-true}
 use Rattle.std.proofs.lemmas.List.{length-map}
-use Rattle.std.specs.List.{filter}
+use Rattle.std.proofs.lemmas.List.Filters.{length-filter_both}
 use Rattle.std.specs.Prelude.{nat_lt}
 use Rattle.s66_isa.specs.declared.instr.Instr.{Instr}
 use Rattle.s66_isa.specs.declared.profile.Profile.{Profile}
@@ -31,12 +31,6 @@ use Rattle.s66_main.specs.ProveText.{document_under, texts_of}
 
 -- RANGES
 
-filter-short : {X : Type 0} (test : X → Bool) (xs : List X) → length (filter test xs) ≤ length xs
-filter-short test [] = omega arith
-filter-short test (x ∷ xs) =
-    cond_both (test x) (x ∷ filter test xs) (filter test xs) (λ ys. length ys ≤ suc (length xs))
-    (λ is. omega (arith, filter-short test xs)) (λ is. omega (arith, filter-short test xs))
-
 are-in : (low high : ℕ) (ns : List ℕ) → ((n : ℕ) → Among n ns → (low ≤ n) × (n ≤ high)) → AreIn low high ns
 are-in low high [] within = tt
 are-in low high (n ∷ ns) within =
@@ -58,9 +52,10 @@ some-ready block prefix begins short =
 module _ (block : List Instr) (few : length block ≤ BLOCK_LIMIT) where
   ready-numbers : (prefix : List ℕ) → IsBeginning block prefix → IsIncomplete block prefix → AreNumbers BLOCK_LIMIT (ready block prefix)
   ready-numbers prefix begins short =
-      let (n, among) = some-ready block prefix begins short in (
+      let (n, among) = some-ready block prefix begins short in
+      let both = length-filter_both (is_ready block prefix) (λ m. not (is_ready block prefix m)) (λ m. refl) (numbers block) in (
         not-empty n (ready block prefix) among,
-        omega (arith, few, filter-short (is_ready block prefix) (numbers block), length-rising (length block) 1),
+        omega (arith, few, both, length-rising (length block) 1),
         are-in 1 BLOCK_LIMIT (ready block prefix)
             (λ m among. let parts = ready-parts block prefix m (ready-among block prefix m among) in (parts.0, omega (arith, parts.1, few))),
       )

@@ -1,7 +1,7 @@
 -- The numbers of a block from a place on, and how many a set has.
-use Rattle.std.proofs.Common.{ℕ, zero, suc, ◌+◌, ◌-◌, ◌≤◌, ◌<◌, ◌≡◌, Bool, List, ◌∷◌, length, filter, drop, get_or, ap, arith, ◌∙◌}
-use Rattle.std.proofs.lemmas.Bool.{cond_both}
+use Rattle.std.proofs.Common.{ℕ, suc, ◌+◌, ◌-◌, ◌≤◌, ◌<◌, ◌≡◌, not, List, ◌∷◌, length, drop, get_or, refl, ap, arith, ◌∙◌}
 use Rattle.std.proofs.lemmas.List.{drop_more, length-map}
+use Rattle.std.proofs.lemmas.List.Filters.{length-filter_both}
 use Rattle.s66_isa.specs.declared.instr.Instr.{Instr}
 use Rattle.s66_isa.specs.Lists.{rising, weigh}
 use Rattle.s66_isa.specs.Table.{numbers}
@@ -20,16 +20,9 @@ rising-next n i lt =
 
 -- HOW MANY A SET HAS
 
-filter-few : (test : ℕ → Bool) (k low : ℕ) → length (filter test (rising k low)) ≤ k
-filter-few test zero low = omega arith
-filter-few test (suc k) low =
-    let rest = filter test (rising k (suc low)) in
-    let few : length rest ≤ k = filter-few test k (suc low) in
-    cond_both (test low) (low ∷ rest) rest (λ ns. length ns ≤ suc k) (λ is. omega arith) (λ is. omega arith)
-
 pub numbers_in-few : (set : Set) → length (numbers_in set) ≤ 64
 unfolding numbers_in
-numbers_in-few set = filter-few (is_member set.bits) 64 1
+numbers_in-few set = omega (arith, length-filter_both (is_member set.bits) (λ n. not (is_member set.bits n)) (λ n. refl) (rising 64 1))
 
 -- THE SUM OF WHAT IS LEFT
 

@@ -10,25 +10,6 @@ use Rattle.s66_main.specs.declared.outcome.Status.{Status}
 use Rattle.s66_main.specs.Device.{IsUntouched, ReadFails, Reader, ReadsAll, WriteFails, Writer, Writes}
 use Rattle.s66_main.specs.Output.{IsOutput, reads_source}
 
--- what a command leaves of its reader and its writer, by its result; want of memory is Memory and never Source or Document
-abbrev pub IsOutcome : Command → Reader → Reader → Writer → Writer → Result Status Fault → Type 0
-IsOutcome command reader reader' writer writer' (Ok status) =
-    (input : List ℕ) × ReadsAll reader reader' input
-    × ((text : List ℕ) × IsOutput command input text status × Writes writer writer' text)
-IsOutcome command reader reader' writer writer' (Err (fault.Source e)) =
-    (reads_source command ≡ true) × (e ≢ OutOfMemory)
-    × ((input : List ℕ) × ReadsAll reader reader' input × (source_of input ≡ Err e))
-    × IsUntouched writer writer'
-IsOutcome command reader reader' writer writer' (Err (fault.Document e)) =
-    (reads_source command ≡ false)
-    × ((input : List ℕ) × ReadsAll reader reader' input × IsFault input e)
-    × IsUntouched writer writer'
-IsOutcome command reader reader' writer writer' (Err fault.Memory) = (reader'.failures ≡ reader.failures) × IsUntouched writer writer'
-IsOutcome command reader reader' writer writer' (Err fault.Read) = ReadFails reader reader' × IsUntouched writer writer'
-IsOutcome command reader reader' writer writer' (Err fault.Write) =
-    (input : List ℕ) × ReadsAll reader reader' input
-    × ((text : List ℕ) × (status : Status) × IsOutput command input text status × WriteFails writer writer' text)
-
 -- why a command writes nothing for an input
 abbrev pub IsRefusal : Command → List ℕ → Fault → Type 0
 IsRefusal command input (fault.Source e) = (reads_source command ≡ true) × (e ≢ OutOfMemory) × (source_of input ≡ Err e)
@@ -36,6 +17,21 @@ IsRefusal command input (fault.Document e) = (reads_source command ≡ false) ×
 IsRefusal command input fault.Memory = Unit {0}
 IsRefusal command input fault.Read = ⊥
 IsRefusal command input fault.Write = ⊥
+
+-- what a command leaves of its reader and its writer, by its result; want of memory is Memory and never Source or Document
+abbrev pub IsOutcome : Command → Reader → Reader → Writer → Writer → Result Status Fault → Type 0
+IsOutcome command reader reader' writer writer' (Ok status) =
+    (input : List ℕ) × ReadsAll reader reader' input
+    × ((text : List ℕ) × IsOutput command input text status × Writes writer writer' text)
+IsOutcome command reader reader' writer writer' (Err (fault.Source e)) =
+    ((input : List ℕ) × ReadsAll reader reader' input × IsRefusal command input (fault.Source e)) × IsUntouched writer writer'
+IsOutcome command reader reader' writer writer' (Err (fault.Document e)) =
+    ((input : List ℕ) × ReadsAll reader reader' input × IsRefusal command input (fault.Document e)) × IsUntouched writer writer'
+IsOutcome command reader reader' writer writer' (Err fault.Memory) = (reader'.failures ≡ reader.failures) × IsUntouched writer writer'
+IsOutcome command reader reader' writer writer' (Err fault.Read) = ReadFails reader reader' × IsUntouched writer writer'
+IsOutcome command reader reader' writer writer' (Err fault.Write) =
+    (input : List ℕ) × ReadsAll reader reader' input
+    × ((text : List ℕ) × (status : Status) × IsOutput command input text status × WriteFails writer writer' text)
 
 -- why reading to the end fails
 abbrev pub IsReadFault : Reader → Reader → Fault → Type 0

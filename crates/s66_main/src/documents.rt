@@ -99,7 +99,8 @@ fn tree_of(alloc: Global, block: &Block, answer: &Answer) -> Result<Tree, AllocE
     Ok(tree)
 }
 
-/// The document of an answer to this block under this profile: what it claims, and the tree that shows its bound.
+/// The document of an answer to this block under this profile: what it claims, and the tree that shows its bound. `Err` is want of
+/// memory.
 pub fn document_of(
     alloc: Global,
     block: &Block,
