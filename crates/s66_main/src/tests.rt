@@ -11,6 +11,7 @@ use std::alloc::AllocError;
 use std::process::Abort;
 use std::test::Fail;
 
+mod blocks;
 mod certificates;
 mod chart;
 mod clock;

@@ -124,3 +124,22 @@ fn orders_worked_rows(rt: HostRuntime) -> Result<(), Fail> {
     );
     Ok(())
 }
+
+/// Each instruction waits for the one before it, so the source order is the only one.
+#[test]
+fn orders_sixty_four(rt: HostRuntime) -> Result<(), Fail> {
+    let lines = "          BX0 X0\n".repeat(rt.alloc(), 64)?;
+    let mut text = String::new(rt.alloc());
+    text.push_str("* BLOCK 1 COUNT 64 SOURCE 256 TIME 256 BEST\n* SPLITS 0\n")?;
+    text.push_str(lines.as_str())?;
+    check_order(
+        &rt,
+        "sixty-four",
+        lines.as_str(),
+        100_000,
+        true,
+        Status::Done,
+        text.as_str(),
+    );
+    Ok(())
+}

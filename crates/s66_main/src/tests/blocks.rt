@@ -1,0 +1,56 @@
+ghost use Rattle.std.specs.Prelude.{ℕ, List, map, IsTrue};
+ghost use Rattle.std.specs.declared.alloc.Global.{Global};
+ghost use Rattle.std.specs.declared.vec.Vec.{Vec};
+ghost use Rattle.s66_isa.specs.Lists.{Among};
+ghost use Rattle.s66_line.specs.InstructionText.{IsInstruction};
+
+use super::clock::MULTIPLIES;
+use s66_dep::Order;
+use s66_isa::Profile;
+use s66_line::{BLOCK_LIMIT, Block, is_instruction};
+use s66_time::time_of;
+use std::alloc::AllocError;
+use std::test::Fail;
+
+/// The lines of code, each a text.
+fn texts_of<R: AllocGlobal>(rt: &R, code: &str) -> Result<Vec<Vec<u8>>, AllocError> {
+    let mut texts = Vec::new(rt.alloc());
+    for line in code.split('\n') {
+        let mut text = Vec::new(rt.alloc());
+        text.extend_from_slice(line.as_bytes())?;
+        texts.push(text)?;
+    }
+    Ok(texts)
+}
+
+/// Whether each text is one of an instruction.
+fn are_instructions(texts: &[Vec<u8>]) -> bool
+    ensures { IsTrue result → (text : List ℕ) → Among text (map (λ (t : Vec ℕ Global). t.items) texts.now) → IsInstruction text }
+{
+    for text in texts {
+        if !is_instruction(text.as_slice()) {
+            return false;
+        }
+    }
+    true
+}
+
+/// A block that is made of texts has no label, and a line for each.
+#[test]
+fn makes_block_of_texts(rt: HostRuntime) -> Result<(), Fail> {
+    let texts = texts_of(&rt, MULTIPLIES)?;
+    assert!(rt; !texts.is_empty() && texts.len() <= BLOCK_LIMIT);
+    assert!(rt; are_instructions(texts.as_slice()));
+    let block = Block::of(rt.alloc(), texts.as_slice())?;
+    assert_eq!(rt; block.count(), 3);
+    assert!(rt; block.label().is_empty());
+    for (position, text) in texts.iter().enumerate() {
+        let number = position + 1;
+        assert!(rt; number <= block.count());
+        assert_eq!(rt; block.line(number) as usize, number);
+        assert_eq!(rt; block.text(number).as_slice(), text.as_slice());
+    }
+    let timed = time_of(&block, &Profile::standard(), &Order::source(&block));
+    assert_eq!(rt; timed.total(), 22);
+    Ok(())
+}
