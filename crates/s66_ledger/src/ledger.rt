@@ -321,7 +321,7 @@ impl<'a> Ledger<'a> {
 
     /// Brings the search to its end: offers two list schedules, takes back every allowance and every node that is out, offers the
     /// whole orders among the nodes, and goes on until no open node's floor is below the best time, or the budget is spent and no
-    /// whole order is below it. The history ends where it begins, and is dropped.
+    /// whole order is below it. The history is dropped first, and nothing of this is recorded.
     ///
     /// The time is that of expanding what it claims, and linear in the number of nodes. `Err` is want of memory.
     pub fn finish(self, alloc: Global) -> Result<Answer, AllocError>
@@ -330,7 +330,8 @@ impl<'a> Ledger<'a> {
         ensures budget { IfOk result (λ a. a.budget ≡ self.entry.budget) }
         ensures finished { IfOk result (λ a. IsFinished self.entry.problem self.entry.budget self.entry.state (answer_of a)) }
     {
-        let Ledger { machine, .. } = self;
+        let Ledger { machine, history } = self;
+        drop(history);
         machine.finish(alloc)
     }
 }

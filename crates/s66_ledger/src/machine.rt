@@ -222,17 +222,10 @@ impl<'a> Machine<'a> {
 
     /// How many workers there are.
     pub fn workers(&self) -> u8
-        ensures { result ≡ self.now.workers }
-    {
-        self.allowances.len() as u8
-    }
-
-    /// How many workers there are, as a number of places.
-    pub(crate) fn worker_count(&self) -> usize
         ensures value { result ≡ self.now.workers }
         ensures allowances { result ≡ length self.now.state.allowances }
     {
-        self.allowances.len()
+        self.allowances.len() as u8
     }
 
     /// How many nodes there are.

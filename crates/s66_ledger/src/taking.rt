@@ -14,7 +14,7 @@ impl Machine<'_> {
         ensures leads { OnOk result (Leads self.old self.new) }
         ensures idle { OnOk result (IsIdle self.new.state) }
     {
-        for at in 0..self.worker_count() {
+        for at in 0..self.workers() as usize {
             self.retire_at(at);
         }
         for node in 0..self.node_count() {

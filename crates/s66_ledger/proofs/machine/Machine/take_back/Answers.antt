@@ -30,5 +30,5 @@ returns-clause-idle c =
     let l = c.loop-node.self.state in
     let kept = c.loop-node.invariant in
     idle-after l c.loop-node.node kept.in_hand (omega (arith, kept.count, c.node_count-node-end.ensures, c.loop-node-test.false))
-    (retired-all l.allowances c.loop-at.at (omega (arith, ap length kept.allowances, c.loop-at.invariant.count, c.worker_count-at-end.ensures.allowances, c.loop-at-test.false))
+    (retired-all l.allowances c.loop-at.at (omega (arith, ap length kept.allowances, c.loop-at.invariant.count, c.workers-at-end.ensures.allowances, c.loop-at-test.false))
     (rw kept.allowances c.loop-at.invariant.retired))
