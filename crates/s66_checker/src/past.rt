@@ -9,8 +9,8 @@ use std::marker::Model;
 
 /// What is placed under the standard profile, with what it leaves for the next instruction. All times are in minor cycles.
 ///
-/// Beside the points stand words that are as many before each of them: a push and a pop copy them, and no question but `rest_busy`
-/// looks back at more than a word.
+/// Beside the points it keeps the words that they leave, and those before each point: a push copies them and a pop takes them back
+/// whole, so that neither takes longer the more is placed.
 #[derive(Debug, Drop)]
 pub struct Past {
     /// The oldest first.
