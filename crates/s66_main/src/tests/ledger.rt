@@ -162,8 +162,14 @@ fn take_step(ledger: &mut Ledger, event: Event) -> Result<Reply, Fail>
 /// Checks the same search by events that name nodes by their numbers, and a node that isn't out.
 fn check_steps<R: AllocGlobal + Abort>(rt: &R, block: &Block) -> Result<(), Fail> {
     let mut ledger = Ledger::new(rt.alloc(), block, &Profile::standard(), BUDGET, 2)?;
-    assert_eq!(rt; take_step(&mut ledger, Event::Grant { w: 1 })?, Reply::Granted(BUDGET));
-    assert_eq!(rt; take_step(&mut ledger, Event::Claim { w: 1 })?, Reply::Claimed(Some(0)));
+    assert_eq!(rt;
+        take_step(&mut ledger, Event::Grant { w: 1 })?,
+        Reply::Granted(BUDGET)
+    );
+    assert_eq!(rt;
+        take_step(&mut ledger, Event::Claim { w: 1 })?,
+        Reply::Claimed(Some(0))
+    );
     assert!(rt; is_beginning(block, &[]));
     let piece = expand(rt.alloc(), block, ledger.profile(), &[], ledger.best(), 1)?;
     let graft = Event::Graft {
@@ -173,15 +179,39 @@ fn check_steps<R: AllocGlobal + Abort>(rt: &R, block: &Block) -> Result<(), Fail
     };
     assert_eq!(rt; take_step(&mut ledger, graft)?, Reply::Taken);
     let timed = time_of(block, ledger.profile(), &Order::source(block));
-    assert_eq!(rt; take_step(&mut ledger, Event::Offer { w: 2, timed })?, Reply::NotLower(22));
-    assert_eq!(rt; take_step(&mut ledger, Event::Grant { w: 2 })?, Reply::Granted(0));
-    assert_eq!(rt; take_step(&mut ledger, Event::Claim { w: 2 })?, Reply::Claimed(Some(3)));
-    assert_eq!(rt; take_step(&mut ledger, Event::Back { w: 2, node: 3 })?, Reply::Returned);
-    assert_eq!(rt; take_step(&mut ledger, Event::Claim { w: 2 })?, Reply::Claimed(Some(3)));
-    assert_eq!(rt; take_step(&mut ledger, Event::Retire { w: 1 })?, Reply::Retired);
-    assert_eq!(rt; take_step(&mut ledger, Event::Grant { w: 2 })?, Reply::Granted(BUDGET - 1));
+    assert_eq!(rt;
+        take_step(&mut ledger, Event::Offer { w: 2, timed })?,
+        Reply::NotLower(22)
+    );
+    assert_eq!(rt;
+        take_step(&mut ledger, Event::Grant { w: 2 })?,
+        Reply::Granted(0)
+    );
+    assert_eq!(rt;
+        take_step(&mut ledger, Event::Claim { w: 2 })?,
+        Reply::Claimed(Some(3))
+    );
+    assert_eq!(rt;
+        take_step(&mut ledger, Event::Back { w: 2, node: 3 })?,
+        Reply::Returned
+    );
+    assert_eq!(rt;
+        take_step(&mut ledger, Event::Claim { w: 2 })?,
+        Reply::Claimed(Some(3))
+    );
+    assert_eq!(rt;
+        take_step(&mut ledger, Event::Retire { w: 1 })?,
+        Reply::Retired
+    );
+    assert_eq!(rt;
+        take_step(&mut ledger, Event::Grant { w: 2 })?,
+        Reply::Granted(BUDGET - 1)
+    );
     check_history(rt, &ledger);
-    assert_eq!(rt; take_step(&mut ledger, Event::Back { w: 1, node: 4 })?, Reply::NotOut);
+    assert_eq!(rt;
+        take_step(&mut ledger, Event::Back { w: 1, node: 4 })?,
+        Reply::NotOut
+    );
     assert_eq!(rt; ledger.history().len(), HISTORY.len() + 1);
     Ok(())
 }
