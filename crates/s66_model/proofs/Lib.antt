@@ -1,3 +1,4 @@
+pub mod AccountLaws
 pub mod Issue
 pub mod Packed
 pub mod GoodRows

@@ -10,6 +10,7 @@ pub mod Tails
 pub mod Tree
 pub mod Preorder
 pub mod Later
+pub mod Accounts
 pub mod Answer
 pub mod Piece
 pub mod Told
@@ -21,7 +22,6 @@ pub mod NodeTree
 pub mod Ended
 pub mod Reached
 pub mod Recorded
-pub mod Accounts
 pub mod Examples
 pub use Rattle.s66_isa.specs.Lists
 pub use Rattle.s66_isa.specs.Table

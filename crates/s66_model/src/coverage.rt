@@ -1,6 +1,6 @@
 //! What every state of the ledger keeps, the bound that it shows, and how it ends.
 
-ghost use Rattle.std.specs.Prelude.{ℕ, List, ◌≡◌, [], ◌∷◌, true, false};
+ghost use Rattle.std.specs.Prelude.{ℕ, List, ◌≡◌, [], ◌∷◌, ◌++◌, true, false};
 ghost use Rattle.s66_isa.specs.declared.instr.Kind.TheVariants.{Boolean, Multiply};
 ghost use Rattle.s66_isa.specs.Lists.{tally};
 ghost use Rattle.s66_model.specs.Timing.{Problem};
@@ -26,6 +26,7 @@ pub fn step_law()
 /// However the steps of the workers fall, every legal order is covered after each of them, and the best time never rises.
 pub fn coverage_law()
     ensures covers { (b : Problem) (budget workers : ℕ) (history : List (Event × Reply)) (new : Ledger) → Run b (opening b budget workers) history new → Covers b budget new }
+    ensures after_each { (b : Problem) (budget workers : ℕ) (front rest : List (Event × Reply)) (new : Ledger) → Run b (opening b budget workers) (front ++ rest) new → (mid : Ledger) × Run b (opening b budget workers) front mid × Covers b budget mid × NeverRises b mid new }
     ensures never_rises { (b : Problem) (history : List (Event × Reply)) (old new : Ledger) → Run b old history new → NeverRises b old new }
 {}
 

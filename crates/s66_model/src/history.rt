@@ -13,14 +13,12 @@ ghost use Rattle.s66_model.specs.Reached.{IsReached};
 ghost use Rattle.s66_model.specs.Recorded.{IsGraftOf, IsOfferOf, spent_by};
 ghost use Rattle.s66_model.specs.Examples.{load_problem, multiply_problem, one_split, ledger_events};
 
-/// The front of a history is one, histories that follow each other are one, and a history leads to one state. After each
-/// entry every legal order is covered, and later the best time isn't higher. What the workers' entries spend adds up to what
-/// was spent.
+/// The front of a history is one, histories that follow each other are one, and a history leads to one state. What the workers'
+/// entries spend adds up to what was spent.
 pub fn history_law()
     ensures front { (b : Problem) (front rest : List (Event × Reply)) (old new : Ledger) → Run b old (front ++ rest) new → (mid : Ledger) × Run b old front mid × Run b mid rest new }
     ensures joined { (b : Problem) (front rest : List (Event × Reply)) (old mid new : Ledger) → Run b old front mid → Run b mid rest new → Run b old (front ++ rest) new }
     ensures one_state { (b : Problem) (history : List (Event × Reply)) (old new other : Ledger) → Run b old history new → Run b old history other → new ≡ other }
-    ensures after_each { (b : Problem) (budget workers : ℕ) (front rest : List (Event × Reply)) (new : Ledger) → Run b (opening b budget workers) (front ++ rest) new → (mid : Ledger) × Run b (opening b budget workers) front mid × Covers b budget mid × NeverRises b mid new }
     ensures spent { (b : Problem) (budget workers : ℕ) (history : List (Event × Reply)) (l : Ledger) → Run b (opening b budget workers) history l → weigh (λ w. spent_by w history) (rising workers 1) ≡ l.spent }
 {}
 

@@ -26,7 +26,7 @@ mod timing;
 mod told;
 mod tree;
 
-pub use accounts::account_examples;
+pub use accounts::{account_examples, account_law, passbook_law};
 pub use answer::{answer_examples, answer_law};
 pub use best_and_bound::bound_examples;
 pub use coverage::{coverage_examples, coverage_law, ledger_bound_law, opening_law, step_law};

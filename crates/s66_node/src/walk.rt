@@ -45,7 +45,7 @@ impl<'a> Model for Walk<'a> {
 }
 
 impl<'a> Walk<'a> {
-    ghost use Rattle.std.specs.Prelude.{◌≡◌, ◌<◌, ◌≤◌, ◌↔◌, ◌⊎◌, ◌++◌, [], ◌∷◌, true, IsTrue, length};
+    ghost use Rattle.std.specs.Prelude.{◌≡◌, ◌<◌, ◌≤◌, ◌↔◌, ◌⊎◌, ◌++◌, [], ◌∷◌, true, IsTrue, length, take};
     ghost use Rattle.s66_line.specs.Block.{instrs_of};
     ghost use Rattle.s66_line.specs.declared.limits.TheConstants.{BLOCK_LIMIT};
     ghost use Rattle.s66_model.specs.LegalOrder.{is_ready, ready, IsBeginning, IsComplete, IsIncomplete};
@@ -88,19 +88,46 @@ impl<'a> Walk<'a> {
         self.numbers.pop();
     }
 
+    /// Goes back to the longest front that its prefix has in common with another, and tells how long that is.
+    fn go_back(&mut self, prefix: &[u8]) -> usize
+        ensures within { result ≤ length prefix.now }
+        ensures front { self.new ≡ record self.old { numbers = take result prefix.now } }
+        ensures begins { IsBeginning self.old.problem.block (take result prefix.now) }
+    {
+        let common = common_length(self.numbers(), prefix);
+        while common < self.numbers().len() {
+            self.undo();
+        }
+        common
+    }
+
     /// Goes to another prefix, back to the longest front in common and on from there: an undo or a push for each number in which
     /// the two differ.
     pub fn go_to(&mut self, prefix: &[u8])
         requires { IsBeginning self.old.problem.block prefix.now }
         ensures { self.new ≡ record self.old { numbers = prefix.now } }
     {
-        let common = common_length(self.numbers(), prefix);
-        while common < self.numbers().len() {
-            self.undo();
-        }
+        let common = self.go_back(prefix);
         for position in common..prefix.len() {
             self.push(prefix[position]);
         }
+    }
+
+    /// Goes to another prefix as `go_to` does, if it is a beginning, and tells whether it is; else it stops on the way. Each push
+    /// comes after one look at what is ready.
+    pub fn try_go_to(&mut self, prefix: &[u8]) -> bool
+        ensures same { self.new.problem ≡ self.old.problem }
+        ensures begins { IsTrue result ↔ IsBeginning self.old.problem.block prefix.now }
+        ensures there { IsTrue result → self.new.numbers ≡ prefix.now }
+    {
+        let common = self.go_back(prefix);
+        for position in common..prefix.len() {
+            if !self.ready().has(prefix[position]) {
+                return false;
+            }
+            self.push(prefix[position]);
+        }
+        true
     }
 
     /// The prefix.

@@ -1,4 +1,4 @@
-use Rattle.s66_model.proofs.Histories.{run-front, run-join, run-same, run-each, history-spent}
+use Rattle.s66_model.proofs.Histories.{run-front, run-join, run-same, history-spent}
 use Rattle.s66_model.proofs.history.history_law.Goals as goal
 
 pub returns-clause-front : goal.returns-clause-front
@@ -9,9 +9,6 @@ returns-clause-joined c = run-join
 
 pub returns-clause-one_state : goal.returns-clause-one_state
 returns-clause-one_state c = run-same
-
-pub returns-clause-after_each : goal.returns-clause-after_each
-returns-clause-after_each c = run-each
 
 pub returns-clause-spent : goal.returns-clause-spent
 returns-clause-spent c = history-spent

@@ -1,0 +1,12 @@
+pub mod Books
+pub mod Dealt
+pub mod Returned
+pub mod Seats
+pub mod Sums
+pub mod Events
+pub mod AfterCalls
+pub mod Spending
+pub mod Dealing
+pub mod Present
+pub mod Turns
+pub mod Collecting

@@ -1,0 +1,50 @@
+-- To be believed: what contracts see of a hub and of a seat at it, and what a call makes of a seat.
+use Rattle.std.specs.Prelude.{ℕ, ⊤, ◌≡◌, ◌≤◌, ◌==◌, true, List}
+use Rattle.atomic_table.specs.Seated.{TableId}
+use Rattle.s66_isa.specs.Lists.{some_of}
+use Rattle.s66_model.specs.Ledger as model
+use Rattle.s66_model.specs.Ledger.{Event, Reply}
+use Rattle.s66_model.specs.Recorded.{IsGraftOf, IsOfferOf}
+use Rattle.s66_model.specs.Accounts.{Summary, Passbook, after_event}
+use Rattle.s66_node.specs.Pieces.{PieceOf, tree_of}
+use Rattle.s66_time.specs.TimedOrder.{TimedOrder}
+use Rattle.s66_ledger.specs.Handed.{TicketOf}
+use Rattle.s66_ledger.specs.declared.reply.GraftError.{GraftError}
+use Rattle.s66_ledger.specs.declared.reply.GraftError.TheVariants as refused
+
+-- which hub, and the summary of the ledger with which it opened
+pub record HubOf : Type 0 where
+  pub id : TableId
+  pub summary : Summary
+
+-- at which hub, and what it keeps of its worker
+pub record SeatOf : Type 0 where
+  pub hub : TableId
+  pub book : Passbook
+
+-- each of so many workers has a seat among these
+abbrev pub HaveSeats : ℕ → List SeatOf → Type 0
+HaveSeats workers seats = (w : ℕ) → 1 ≤ w → w ≤ workers → some_of (λ s. s.book.who == w) seats ≡ true
+
+-- after its worker's graft of this piece at the ticket's node, with this reply
+abbrev pub HasGrafted : SeatOf → TicketOf → PieceOf → Reply → SeatOf → Type 0
+HasGrafted old ticket piece reply new =
+    (event : Event) × IsGraftOf old.book.problem old.book.who ticket.node piece.problem piece.prefix (tree_of piece) reply event
+    × (new.book ≡ after_event old.book event reply)
+
+-- a refusal is a reply too, but for want of memory, after which the seat is as it was
+abbrev pub HasBeenRefused : SeatOf → TicketOf → PieceOf → GraftError → SeatOf → Type 0
+HasBeenRefused old ticket piece refused.NotOut new = HasGrafted old ticket piece model.NotOut new
+HasBeenRefused old ticket piece refused.OtherPrefix new = HasGrafted old ticket piece model.OtherPrefix new
+HasBeenRefused old ticket piece refused.OverAllowance new = HasGrafted old ticket piece model.OverAllowance new
+HasBeenRefused old ticket piece refused.OutOfMemory new = new ≡ old
+
+-- after its worker's offer of this order, with this reply
+abbrev pub HasOffered : SeatOf → TimedOrder → Reply → SeatOf → Type 0
+HasOffered old timed reply new =
+    (event : Event) × IsOfferOf old.book.problem old.book.who timed.problem timed.numbers event × (new.book ≡ after_event old.book event reply)
+
+-- an answered time isn't above the least that the seat knew
+abbrev pub IsKnown : Reply → Passbook → Type 0
+IsKnown (model.NotLower time) book = time ≤ book.least
+IsKnown reply book = ⊤

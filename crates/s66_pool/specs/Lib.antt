@@ -1,0 +1,5 @@
+pub mod Hubs
+pub mod Views
+pub mod Locked
+pub mod Tokens
+pub mod Workers

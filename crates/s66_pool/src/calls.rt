@@ -1,0 +1,146 @@
+//! The calls of a hub: each waits for the lock, makes one call of the ledger, and gives it back.
+
+use crate::hub::Hub;
+use crate::seat::Seat;
+use s66_ledger::{BackError, GraftError, Offered, Ticket};
+use s66_node::Piece;
+use s66_time::Timed;
+use std::alloc::AllocError;
+use std::sync::Wait;
+
+impl<'a> Hub<'a> {
+    ghost use Rattle.std.specs.Prelude.{◌≡◌, ◌≤◌, IfOk, IfErr, OnOk, OnErr};
+    ghost use Rattle.s66_model.specs.Ledger.{Grant, Granted, Claim, Claimed, Taken, Back, Returned, NotOut, Retire, Retired};
+    ghost use Rattle.s66_model.specs.Accounts.{after_event, after_reading};
+    ghost use Rattle.s66_ledger.specs.Claims.{claimed_node};
+    ghost use Rattle.s66_ledger.specs.Replies.{offered_reply};
+    ghost use Rattle.s66_ledger.specs.declared.reply.BackError.TheVariants as refused;
+    ghost use Rattle.s66_pool.specs.Hubs.{HasGrafted, HasBeenRefused, HasOffered, IsKnown};
+
+    /// Moves splits of the budget to the worker, as `Ledger::grant` does.
+    pub fn grant<R: Wait>(&self, rt: &R, seat: &mut Seat<'a>) -> Result<u32, AllocError>
+        requires { seat.old.hub ≡ self.now.id }
+        ensures here { seat.new.hub ≡ seat.old.hub }
+        ensures ok { IfOk result (λ n. seat.new.book ≡ after_event seat.old.book (Grant seat.old.book.who) (Granted n)) }
+        ensures err { OnErr result (seat.new ≡ seat.old) }
+    {
+        let mut ledger = self.lock.take(rt, &mut seat.token);
+        let granted = ledger.grant(seat.number);
+        self.lock.give(&mut seat.token, ledger);
+        granted
+    }
+
+    /// Gives the worker's allowance back to the budget.
+    pub fn retire<R: Wait>(&self, rt: &R, seat: &mut Seat<'a>) -> Result<(), AllocError>
+        requires { seat.old.hub ≡ self.now.id }
+        ensures here { seat.new.hub ≡ seat.old.hub }
+        ensures ok { OnOk result (seat.new.book ≡ after_event seat.old.book (Retire seat.old.book.who) Retired) }
+        ensures err { OnErr result (seat.new ≡ seat.old) }
+    {
+        let mut ledger = self.lock.take(rt, &mut seat.token);
+        let retired = ledger.retire(seat.number);
+        self.lock.give(&mut seat.token, ledger);
+        retired
+    }
+
+    /// Hands out the best open node, as `Ledger::claim` does; None only where no node is open.
+    pub fn claim<R: Wait>(&self, rt: &R, seat: &mut Seat<'a>) -> Result<Option<Ticket>, AllocError>
+        requires { seat.old.hub ≡ self.now.id }
+        ensures here { seat.new.hub ≡ seat.old.hub }
+        ensures ok { IfOk result (λ ticket. seat.new.book ≡ after_event seat.old.book (Claim seat.old.book.who) (Claimed (claimed_node ticket))) }
+        ensures err { OnErr result (seat.new ≡ seat.old) }
+    {
+        let mut ledger = self.lock.take(rt, &mut seat.token);
+        let claimed = ledger.claim(seat.number);
+        self.lock.give(&mut seat.token, ledger);
+        claimed
+    }
+
+    /// Takes a node back that was handed out, so that it is open again.
+    pub fn back<R: Wait>(
+        &self,
+        rt: &R,
+        seat: &mut Seat<'a>,
+        ticket: Ticket,
+    ) -> Result<(), (BackError, Ticket)>
+        requires { seat.old.hub ≡ self.now.id }
+        ensures here { seat.new.hub ≡ seat.old.hub }
+        ensures ok { OnOk result (seat.new.book ≡ after_event seat.old.book (Back seat.old.book.who ticket.node) Returned) }
+        ensures not_out { IfErr result (λ e. e.0 ≡ refused.NotOut → seat.new.book ≡ after_event seat.old.book (Back seat.old.book.who ticket.node) NotOut) }
+        ensures no_memory { IfErr result (λ e. e.0 ≡ refused.OutOfMemory → seat.new ≡ seat.old) }
+        ensures handed_back { IfErr result (λ e. e.1 ≡ ticket) }
+    {
+        let mut ledger = self.lock.take(rt, &mut seat.token);
+        let returned = ledger.back(seat.number, ticket);
+        self.lock.give(&mut seat.token, ledger);
+        returned
+    }
+
+    /// Makes an order the best if it is faster. The seat then knows the best time, but where the order is of another block or
+    /// profile.
+    pub fn offer<R: Wait>(
+        &self,
+        rt: &R,
+        seat: &mut Seat<'a>,
+        timed: Timed,
+    ) -> Result<Offered, AllocError>
+        requires { seat.old.hub ≡ self.now.id }
+        ensures here { seat.new.hub ≡ seat.old.hub }
+        ensures ok { IfOk result (λ offered. HasOffered seat.old timed (offered_reply offered) seat.new) }
+        ensures answer { IfOk result (λ offered. IsKnown (offered_reply offered) seat.old.book) }
+        ensures err { OnErr result (seat.new ≡ seat.old) }
+    {
+        let mut ledger = self.lock.take(rt, &mut seat.token);
+        let Ok(offered) = ledger.offer(seat.number, timed) else {
+            self.lock.give(&mut seat.token, ledger);
+            return Err(AllocError);
+        };
+        match offered {
+            Offered::OtherBlock => self.lock.give(&mut seat.token, ledger),
+            _ => self.lock.give_read(&mut seat.token, ledger),
+        }
+        Ok(offered)
+    }
+
+    /// Puts a piece in the place of a node that was handed out, as `Ledger::graft` does.
+    pub fn graft<R: Wait>(
+        &self,
+        rt: &R,
+        seat: &mut Seat<'a>,
+        ticket: Ticket,
+        piece: Piece,
+    ) -> Result<(), (GraftError, Ticket, Piece)>
+        requires { seat.old.hub ≡ self.now.id }
+        ensures here { seat.new.hub ≡ seat.old.hub }
+        ensures ok { OnOk result (HasGrafted seat.old ticket piece Taken seat.new) }
+        ensures refused { IfErr result (λ e. HasBeenRefused seat.old ticket piece e.0 seat.new) }
+        ensures handed_back { IfErr result (λ e. (e.1 ≡ ticket) × (e.2 ≡ piece)) }
+    {
+        let splits = piece.splits();
+        let mut ledger = self.lock.take(rt, &mut seat.token);
+        match ledger.graft(seat.number, ticket, piece) {
+            Ok(()) => {
+                // no worker has spent more than all have
+                let _spent = ledger.splits();
+                self.lock.give(&mut seat.token, ledger);
+                seat.splits += splits;
+                Ok(())
+            }
+            Err(refused) => {
+                self.lock.give(&mut seat.token, ledger);
+                Err(refused)
+            }
+        }
+    }
+
+    /// The best time, in minor cycles, which the seat then knows. It isn't above what the seat knew.
+    pub fn best<R: Wait>(&self, rt: &R, seat: &mut Seat<'a>) -> u32
+        requires { seat.old.hub ≡ self.now.id }
+        ensures read { (result ≤ seat.old.book.least) × (seat.new ≡ record seat.old { book = after_reading seat.old.book result }) }
+    {
+        let ledger = self.lock.take(rt, &mut seat.token);
+        let best = ledger.best();
+        self.lock.give_read(&mut seat.token, ledger);
+        best
+    }
+}

@@ -1,0 +1,18 @@
+/// Where workers tell of their moves, and may be made to wait; workers count from 1.
+pub trait Gate {
+    /// The worker is about to graft a piece.
+    fn before_graft(&self, w: u8);
+
+    /// The worker claimed, and got a node or none.
+    fn after_claim(&self, w: u8, got: bool);
+}
+
+/// The gate that stands open.
+#[derive(Clone, Copy, Debug, PartialEq, Eq)]
+pub struct Free;
+
+impl Gate for Free {
+    fn before_graft(&self, _w: u8) {}
+
+    fn after_claim(&self, _w: u8, _got: bool) {}
+}

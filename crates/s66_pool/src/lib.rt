@@ -1,0 +1,24 @@
+//! The workers of a search: its ledger under a lock, a seat at it for each worker, and threads.
+#![tactic(auto)]
+
+mod calls;
+mod crew;
+mod gate;
+mod hub;
+mod limits;
+mod lock;
+mod opening;
+mod options;
+mod schedule;
+mod search;
+mod seat;
+mod view;
+mod worker;
+
+pub use crew::work;
+pub use gate::{Free, Gate};
+pub use hub::{Hub, SeatsMissing};
+pub use limits::WORKERS_LIMIT;
+pub use options::Options;
+pub use search::run;
+pub use seat::Seat;

@@ -1,0 +1,8 @@
+/// How a block's orders are searched.
+#[derive(Clone, Copy, Debug, PartialEq, Eq)]
+pub struct Options {
+    /// How many workers search, 1 to `WORKERS_LIMIT`.
+    pub workers: u8,
+    /// The most splits of the search, 0 to `BUDGET_LIMIT`.
+    pub nodes: u32,
+}

@@ -1,0 +1,273 @@
+ghost use Rattle.std.specs.Prelude.{◌≡◌};
+ghost use Rattle.s66_pool.specs.Workers.{IsSameSeat};
+
+use crate::gate::Gate;
+use crate::hub::Hub;
+use crate::limits::{NONES_LIMIT, SCHEDULE_ROUNDS};
+use crate::schedule::schedule_below;
+use crate::seat::Seat;
+use s66_isa::Profile;
+use s66_ledger::{Offered, Ticket};
+use s66_line::Block;
+use s66_node::{Piece, Priority, Walk};
+use s66_time::Timed;
+use std::alloc::{AllocError, Global};
+use std::sync::Wait;
+use std::thread::yield_now;
+
+/// Where a worker works.
+#[derive(Drop)]
+pub(crate) struct Site<'s, 'a, R, G> {
+    pub rt: &'s R,
+    pub hub: &'s Hub<'a>,
+    pub gate: &'s G,
+}
+
+/// A worker of a search, with what it keeps from round to round. Times are in minor cycles.
+#[derive(Drop)]
+struct Worker<'b> {
+    walk: Walk<'b>,
+    /// How many splits are left of what it was granted.
+    allowance: u32,
+    has_claimed: bool,
+    /// How many claims in a row have got no node.
+    nones: u32,
+    /// How many pieces it has grafted.
+    rounds: u32,
+    /// The least time that it knows.
+    best: u32,
+}
+
+/// A worker's rounds at its seat, until there is nothing more for it to do; then it retires.
+pub(crate) fn work_at<'a, R: AllocGlobal + Wait, G: Gate>(
+    site: &Site<'_, 'a, R, G>,
+    seat: &mut Seat<'a>,
+    block: &Block,
+    profile: &Profile,
+)
+    requires { seat.old.hub ≡ site.now.hub.now.id }
+    ensures { IsSameSeat seat.old seat.new }
+{
+    let mut worker = Worker::new(block, profile);
+    for _ in site.rt.forever() {
+        if !worker.round(site, seat) {
+            break;
+        }
+    }
+    // an allowance that memory keeps out is taken back when the ledger is finished
+    let _ = site.hub.retire(site.rt, seat);
+}
+
+impl<'b> Worker<'b> {
+    ghost use Rattle.std.specs.Prelude.{◌≡◌, ◌≤◌};
+    ghost use Rattle.s66_model.specs.Tree.{splits};
+    ghost use Rattle.s66_node.specs.Pieces.{tree_of};
+    ghost use Rattle.s66_pool.specs.Workers.{IsSameSeat};
+
+    /// One that has done nothing yet.
+    fn new(block: &'b Block<'b>, profile: &Profile) -> Worker<'b> {
+        Worker {
+            walk: Walk::new(block, profile),
+            allowance: 0,
+            has_claimed: false,
+            nones: 0,
+            rounds: 0,
+            best: u32::MAX,
+        }
+    }
+
+    /// Claims a node, expands it and grafts the piece; false where the worker has ended, with no ticket in its hand.
+    fn round<'a, R: AllocGlobal + Wait, G: Gate>(
+        &mut self,
+        site: &Site<'_, 'a, R, G>,
+        seat: &mut Seat<'a>,
+    ) -> bool
+        requires { seat.old.hub ≡ site.now.hub.now.id }
+        ensures { IsSameSeat seat.old seat.new }
+    {
+        if !self.may_claim(site, seat) {
+            return false;
+        }
+        match self.claim(site, seat) {
+            Ok(Some(ticket)) => self.take_on(site, seat, ticket),
+            Ok(None) => self.wait_for_nodes(),
+            Err(AllocError) => false,
+        }
+    }
+
+    /// Whether it may claim, after a grant where it has no allowance: it has some then, or it hasn't claimed yet.
+    fn may_claim<'a, R: Wait, G: Gate>(
+        &mut self,
+        site: &Site<'_, 'a, R, G>,
+        seat: &mut Seat<'a>,
+    ) -> bool
+        requires { seat.old.hub ≡ site.now.hub.now.id }
+        ensures { IsSameSeat seat.old seat.new }
+    {
+        if 0 < self.allowance {
+            return true;
+        }
+        let Ok(granted) = site.hub.grant(site.rt, seat) else {
+            return false;
+        };
+        self.allowance = granted;
+        0 < granted || !self.has_claimed
+    }
+
+    /// Claims a node, and tells the gate.
+    fn claim<'a, R: Wait, G: Gate>(
+        &mut self,
+        site: &Site<'_, 'a, R, G>,
+        seat: &mut Seat<'a>,
+    ) -> Result<Option<Ticket>, AllocError>
+        requires { seat.old.hub ≡ site.now.hub.now.id }
+        ensures { IsSameSeat seat.old seat.new }
+    {
+        let claimed = site.hub.claim(site.rt, seat);
+        self.has_claimed = true;
+        site.gate
+            .after_claim(seat.number(), matches!(claimed, Ok(Some(_))));
+        claimed
+    }
+
+    /// Lets another thread run, since no node was open; false after `NONES_LIMIT` times in a row.
+    fn wait_for_nodes(&mut self) -> bool {
+        yield_now();
+        self.nones = self.nones.saturating_add(1);
+        self.nones < NONES_LIMIT
+    }
+
+    /// Expands a claimed node and hands its piece in; false where the ticket was given back.
+    fn take_on<'a, R: AllocGlobal + Wait, G: Gate>(
+        &mut self,
+        site: &Site<'_, 'a, R, G>,
+        seat: &mut Seat<'a>,
+        ticket: Ticket,
+    ) -> bool
+        requires { seat.old.hub ≡ site.now.hub.now.id }
+        ensures { IsSameSeat seat.old seat.new }
+    {
+        self.nones = 0;
+        // the hub may be another block's
+        if !self.walk.try_go_to(ticket.prefix()) {
+            return give_back(site, seat, ticket);
+        }
+        self.best = site.hub.best(site.rt, seat);
+        match self.walk.expand(site.rt.alloc(), ticket.prefix(), self.best, self.allowance) {
+            Ok(piece) => self.hand_in(site, seat, ticket, piece),
+            Err(AllocError) => give_back(site, seat, ticket),
+        }
+    }
+
+    /// Offers a piece's best whole order and grafts the piece; false where the worker has ended.
+    fn hand_in<'a, R: Wait, G: Gate>(
+        &mut self,
+        site: &Site<'_, 'a, R, G>,
+        seat: &mut Seat<'a>,
+        ticket: Ticket,
+        piece: Piece,
+    ) -> bool
+        requires here { seat.old.hub ≡ site.now.hub.now.id }
+        requires within { splits (tree_of piece) ≤ self.old.allowance }
+        ensures { IsSameSeat seat.old seat.new }
+    {
+        if !self.offer_whole(site, seat, &piece) {
+            return give_back(site, seat, ticket);
+        }
+        let splits = piece.splits();
+        if let Err(ticket) = graft(site, seat, ticket, piece) {
+            return give_back(site, seat, ticket);
+        }
+        self.allowance -= splits;
+        self.rounds = self.rounds.wrapping_add(1);
+        self.offer_sometimes(site, seat)
+    }
+
+    /// Offers a piece's best whole order, where its time is below the best; false where memory was refused.
+    fn offer_whole<'a, R: Wait, G: Gate>(
+        &mut self,
+        site: &Site<'_, 'a, R, G>,
+        seat: &mut Seat<'a>,
+        piece: &Piece,
+    ) -> bool
+        requires { seat.old.hub ≡ site.now.hub.now.id }
+        ensures here { IsSameSeat seat.old seat.new }
+        ensures allowance { self.new.allowance ≡ self.old.allowance }
+    {
+        match piece.timed() {
+            Some(timed) if timed.total() < self.best => self.offer(site, seat, timed.duplicate()),
+            _ => true,
+        }
+    }
+
+    /// Offers a list schedule from the walk's prefix on, after each `SCHEDULE_ROUNDS` rounds and where its time is below the best;
+    /// false where memory was refused.
+    fn offer_sometimes<'a, R: Wait, G: Gate>(
+        &mut self,
+        site: &Site<'_, 'a, R, G>,
+        seat: &mut Seat<'a>,
+    ) -> bool
+        requires { seat.old.hub ≡ site.now.hub.now.id }
+        ensures { IsSameSeat seat.old seat.new }
+    {
+        if self.rounds % SCHEDULE_ROUNDS != 0 {
+            return true;
+        }
+        match schedule_below(&mut self.walk, Priority::Start, self.best) {
+            Some(timed) => self.offer(site, seat, timed),
+            None => true,
+        }
+    }
+
+    /// Offers an order, and keeps the best time that is answered; false where memory was refused.
+    fn offer<'a, R: Wait, G: Gate>(
+        &mut self,
+        site: &Site<'_, 'a, R, G>,
+        seat: &mut Seat<'a>,
+        timed: Timed,
+    ) -> bool
+        requires { seat.old.hub ≡ site.now.hub.now.id }
+        ensures here { IsSameSeat seat.old seat.new }
+        ensures allowance { self.new.allowance ≡ self.old.allowance }
+    {
+        let total = timed.total();
+        match site.hub.offer(site.rt, seat, timed) {
+            Ok(Offered::Lower) => self.best = total,
+            Ok(Offered::NotLower { least }) => self.best = least,
+            // the hub is another block's
+            Ok(Offered::OtherBlock) => {}
+            Err(AllocError) => return false,
+        }
+        true
+    }
+}
+
+/// Grafts a piece, and tells the gate before; refused, the ticket comes back.
+fn graft<'a, R: Wait, G: Gate>(
+    site: &Site<'_, 'a, R, G>,
+    seat: &mut Seat<'a>,
+    ticket: Ticket,
+    piece: Piece,
+) -> Result<(), Ticket>
+    requires { seat.old.hub ≡ site.now.hub.now.id }
+    ensures { IsSameSeat seat.old seat.new }
+{
+    site.gate.before_graft(seat.number());
+    site.hub
+        .graft(site.rt, seat, ticket, piece)
+        .map_err(|refusal| refusal.1)
+}
+
+/// Gives a ticket back, and the worker's end with it: always false. Refused for want of memory, its node stays out until the
+/// ledger is finished.
+fn give_back<'a, R: Wait, G: Gate>(
+    site: &Site<'_, 'a, R, G>,
+    seat: &mut Seat<'a>,
+    ticket: Ticket,
+) -> bool
+    requires { seat.old.hub ≡ site.now.hub.now.id }
+    ensures { IsSameSeat seat.old seat.new }
+{
+    let _ = site.hub.back(site.rt, seat, ticket);
+    false
+}
