@@ -11,7 +11,8 @@ pub enum Offered {
     OtherBlock,
 }
 
-/// Why a piece wasn't taken; nothing has changed.
+/// Why a piece wasn't taken: nodes, best order and allowances are as before, and the history has the refusal, but for want of memory,
+/// which changes nothing.
 #[derive(Clone, Copy, Debug, Drop, Error, PartialEq, Eq)]
 pub enum GraftError {
     #[error("the node is not handed out")]
@@ -24,7 +25,8 @@ pub enum GraftError {
     OutOfMemory,
 }
 
-/// Why a node wasn't taken back; nothing has changed.
+/// Why a node wasn't taken back: nodes, best order and allowances are as before, and the history has the refusal, but for want of
+/// memory, which changes nothing.
 #[derive(Clone, Copy, Debug, Drop, Error, PartialEq, Eq)]
 pub enum BackError {
     #[error("the node is not handed out")]

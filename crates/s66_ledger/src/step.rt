@@ -81,6 +81,7 @@ impl Ledger<'_> {
             }
         }
     }
+
     /// Puts a piece in the place of a node.
     fn step_graft(&mut self, w: u8, node: u32, piece: Piece) -> Result<Reply, AllocError>
         requires { (1 ≤ w) × (w ≤ self.old.workers) }

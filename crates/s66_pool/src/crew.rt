@@ -17,7 +17,7 @@ use std::thread::Threads;
 /// Starts a worker for each seat, each in a thread of its own where one can be made, and else one after the other; waits for all
 /// of them, and gives the seats back, each in its place. A worker that meets want of memory ends.
 ///
-/// No memory is asked for before the workers start, so it is never refused.
+/// No memory is asked for before the workers start, so it is never refused; nothing of the options is read.
 pub fn work<'a, R: AllocGlobal + Threads + Wait + Sync, G: Gate + Sync>(
     rt: &R,
     hub: &Hub<'a>,
@@ -41,8 +41,8 @@ pub fn work<'a, R: AllocGlobal + Threads + Wait + Sync, G: Gate + Sync>(
     Ok(seats)
 }
 
-// What threads do at places of a slice. The borrow checker covers no closure whose parameter's type names a lifetime, as `Seat`'s
-// does; of a type parameter it covers one.
+/// What is done at each place of a slice. It stands between `work_at` and the threads since the borrow checker doesn't cover a closure
+/// over `&mut Seat<'a>`, whose lifetime is invariant; over a `&mut` to a type parameter it does.
 trait Task<T> {
     ghost accepts: { Self → T → Type 0 };
 
@@ -53,6 +53,7 @@ trait Task<T> {
         ensures { changes self.now at.old at.new };
 }
 
+/// A worker's rounds at a seat.
 #[derive(Drop)]
 struct SeatWork<'s, 'a, R, G> {
     site: Site<'s, 'a, R, G>,
@@ -70,6 +71,7 @@ impl<'s, 'a, R: AllocGlobal + Wait, G: Gate> Task<Seat<'a>> for SeatWork<'s, 'a,
     }
 }
 
+/// Runs a task at each place, in at most `WORKERS_LIMIT` threads.
 fn run_at_each<R: Threads + Sync, T: Send, W: Task<T> + Sync>(rt: &R, task: &W, places: &mut [T])
     requires { All (λ p. W.accepts task.now p) places.old }
     ensures len { length places.new ≡ length places.old }
