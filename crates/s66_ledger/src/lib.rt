@@ -24,7 +24,7 @@ mod ticket;
 pub use answer::Answer;
 pub use entry::{Entry, Refusal};
 pub use ledger::Ledger;
-pub use limits::{BUDGET_LIMIT, GRANT_LIMIT};
+pub use limits::{BUDGET_LIMIT, GRANT_LIMIT, SCHEDULE_ROUNDS};
 pub use lines::{AnswerLine, AnswerLines};
 pub use reply::{BackError, GraftError, Offered};
 pub use s66_model::coverage_law;

@@ -10,5 +10,5 @@ pub const RANKED_LIMIT: u32 = 0xff_ffff;
 /// How many depths are told from one another among open nodes of one floor; a block's prefixes are far shorter.
 pub const DEPTH_RANKS: u32 = 256;
 
-/// After how many rounds of a search a list schedule is offered again.
+/// After how many rounds of a search, and of each of its workers, a list schedule is offered again.
 pub const SCHEDULE_ROUNDS: u32 = 16;

@@ -2,7 +2,7 @@ use crate::limits::SCHEDULE_ROUNDS;
 use crate::machine::Machine;
 use crate::reply::{BackError, GraftError};
 use crate::ticket::Ticket;
-use s66_node::{Piece, Priority, Walk, schedule_rest};
+use s66_node::{Piece, Priority, Walk, schedule_below};
 use std::alloc::{AllocError, Global};
 
 impl<'a> Machine<'a> {
@@ -101,10 +101,8 @@ impl<'a> Machine<'a> {
         ensures walk { walk.new.problem ≡ walk.old.problem }
         ensures offers { IsOffering self.old self.new }
     {
-        schedule_rest(walk, priority);
-        // few are, and only these are timed anew
-        if walk.floor_value() < self.best() {
-            self.offer(1, walk.timed());
+        if let Some(timed) = schedule_below(walk, priority, self.best()) {
+            self.offer(1, timed);
         }
     }
 

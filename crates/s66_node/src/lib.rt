@@ -12,6 +12,6 @@ mod whole_order;
 pub use expansion::expand;
 pub use knot::Knot;
 pub use piece::Piece;
-pub use schedule::{Priority, schedule_rest};
+pub use schedule::{Priority, schedule_below, schedule_rest};
 pub use walk::Walk;
 pub use whole_order::copy_of;

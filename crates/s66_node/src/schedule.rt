@@ -1,8 +1,8 @@
-ghost use Rattle.std.specs.Prelude.{◌≡◌, ◌||◌, ◌&&◌, ◌==◌, nat_lt, true, [], IfSome, IfNone};
+ghost use Rattle.std.specs.Prelude.{◌≡◌, ◌≤◌, ◌<◌, ◌||◌, ◌&&◌, ◌==◌, nat_lt, true, [], IfSome, IfNone};
 ghost use Rattle.s66_isa.specs.Lists.{greatest};
 ghost use Rattle.s66_model.specs.LegalOrder.{is_ready, ready, IsComplete};
 ghost use Rattle.s66_node.specs.Walked.{BeginsWith};
-ghost use Rattle.s66_model.specs.Timing.{points_of, point_of, done_of};
+ghost use Rattle.s66_model.specs.Timing.{points_of, point_of, done_of, total_of};
 
 use crate::walk::Walk;
 use s66_dep::Order;
@@ -134,4 +134,22 @@ pub fn schedule_rest(walk: &mut Walk<'_>, priority: Priority)
     while let Some(n) = first_ready(walk, priority) {
         walk.push(n);
     }
+}
+
+/// A list schedule of what remains after the walk's prefix, as `schedule_rest` makes it, with its times, where its total is below
+/// this one, in minor cycles; None where it isn't. The walk ends at the whole order in either case.
+pub fn schedule_below(walk: &mut Walk<'_>, priority: Priority, best: u32) -> Option<Timed>
+    ensures same { walk.new.problem ≡ walk.old.problem }
+    ensures complete { IsComplete walk.new.problem.block walk.new.numbers }
+    ensures begins { BeginsWith walk.old.numbers walk.new.numbers }
+    ensures order { IfSome result (λ timed. timed ≡ record { problem = walk.new.problem; numbers = walk.new.numbers }) }
+    ensures below { IfSome result (λ timed. total_of walk.new.problem walk.new.numbers < best) }
+    ensures none { IfNone result (best ≤ total_of walk.new.problem walk.new.numbers) }
+{
+    schedule_rest(walk, priority);
+    // few are, and only these are timed anew
+    if best <= walk.floor_value() {
+        return None;
+    }
+    Some(walk.timed())
 }

@@ -9,7 +9,6 @@ mod limits;
 mod lock;
 mod opening;
 mod options;
-mod schedule;
 mod search;
 mod seat;
 mod view;

@@ -3,6 +3,3 @@ pub const WORKERS_LIMIT: u8 = 16;
 
 /// After how many claims in a row that get no node a worker ends.
 pub const NONES_LIMIT: u32 = 1_000;
-
-/// After how many rounds a worker offers a list schedule again.
-pub const SCHEDULE_ROUNDS: u32 = 16;

@@ -3,13 +3,12 @@ ghost use Rattle.s66_pool.specs.Workers.{IsSameSeat};
 
 use crate::gate::Gate;
 use crate::hub::Hub;
-use crate::limits::{NONES_LIMIT, SCHEDULE_ROUNDS};
-use crate::schedule::schedule_below;
+use crate::limits::NONES_LIMIT;
 use crate::seat::Seat;
 use s66_isa::Profile;
-use s66_ledger::{Offered, Ticket};
+use s66_ledger::{Offered, SCHEDULE_ROUNDS, Ticket};
 use s66_line::Block;
-use s66_node::{Piece, Priority, Walk};
+use s66_node::{Piece, Priority, Walk, schedule_below};
 use s66_time::Timed;
 use std::alloc::{AllocError, Global};
 use std::sync::Wait;
