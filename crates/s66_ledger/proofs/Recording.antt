@@ -1,5 +1,5 @@
 -- A move of the machine with its entry is an event, and the history leads on; what its accounts spend adds up.
-use Rattle.std.proofs.Common.{ℕ, ◌+◌, ◌≡◌, ◌↔◌, ◌∙◌, Bool, true, false, true≢false, IsTrue, List, [], ◌∷◌, ◌++◌, Some, None, map, refl, ap, sym, subst}
+use Rattle.std.proofs.Common.{ℕ, ◌+◌, ◌≡◌, ◌≢◌, ◌↔◌, ◌∙◌, Bool, true, false, true≢false, IsTrue, List, [], ◌∷◌, ◌++◌, Some, None, map, refl, ap, sym, subst}
 use Rattle.std.proofs.lemmas.List.{map-append}
 use Rattle.s66_isa.specs.declared.instr.Instr.{Instr}
 use Rattle.s66_isa.specs.declared.profile.Profile.{Profile}
@@ -8,7 +8,7 @@ use Rattle.s66_model.specs.Timing.{Problem, total_of}
 use Rattle.s66_model.specs.Tree.{Tree, Knot, splits}
 use Rattle.s66_model.specs.Piece.{Tip}
 use Rattle.s66_model.specs.Told.{Told}
-use Rattle.s66_model.specs.Ledger.{Event, Graft, Offer, Reply, Taken, Run, opening}
+use Rattle.s66_model.specs.Ledger.{Ledger, Event, Graft, Offer, Reply, Taken, Moves, Run, opening}
 use Rattle.s66_model.specs.Recorded.{IsOwn, IsOfferOf, graft_event}
 use Rattle.s66_model.specs.Accounts.{Account, account_of}
 use Rattle.s66_model.proofs.Histories.{run-next, history-spent}
@@ -18,6 +18,9 @@ use Rattle.s66_node.specs.Pieces.{PieceOf, tree_of}
 use Rattle.s66_ledger.specs.declared.entry.Entry.{Entry}
 use Rattle.s66_ledger.specs.declared.entry.Refusal.{Refusal}
 use Rattle.s66_ledger.specs.declared.entry.Refusal.TheVariants as refusal
+use Rattle.s66_ledger.specs.declared.reply.Offered.{Offered}
+use Rattle.s66_ledger.specs.declared.reply.Offered.TheVariants as offered
+use Rattle.s66_ledger.specs.Replies.{offered_reply}
 use Rattle.s66_ledger.specs.Entries.{entry_of, refusal_reply, error_of, piece_of}
 use Rattle.s66_ledger.specs.Kept.{MachineOf, IsMove}
 use Rattle.s66_ledger.specs.GraftMoves.{IsGraftMove, IsRefusedMove}
@@ -57,6 +60,22 @@ pub is-own : (b p : Problem) (own : Bool) (block : List Instr) (profile : Profil
 is-own b p own block profile blocks profiles h =
     subst (λ (q : Profile). IsTrue own ↔ (p ≡ record { block = b.block; profile = q })) profiles
     (subst (λ (is : List Instr). IsTrue own ↔ (p ≡ record { block = is; profile = profile })) blocks h)
+
+abbrev is-other : Offered → Bool
+is-other offered.OtherBlock = true
+is-other offered.Lower = false
+is-other (offered.NotLower least) = false
+
+-- what is answered to an offer tells it
+pub offered-own : (b p : Problem) (old new : Ledger) (w : ℕ) (order : List ℕ) (event : Event) (answer : Offered) (own : Bool) → IsOfferOf b w p order event → Moves b old event (offered_reply answer) new → (answer ≡ offered.OtherBlock → own ≡ false) → (answer ≢ offered.OtherBlock → own ≡ true) → IsOwn b p own
+offered-own b p old new w order event answer own (other, owns, is) moves foreign ours =
+    let told : Moves b old (Offer w other order (total_of p order)) (offered_reply answer) new = subst (λ e. Moves b old e (offered_reply answer) new) is moves in
+    subst (IsOwn b p) (sym (same answer told foreign ours)) owns
+  where
+    same : (a : Offered) → Moves b old (Offer w other order (total_of p order)) (offered_reply a) new → (a ≡ offered.OtherBlock → own ≡ false) → (a ≢ offered.OtherBlock → own ≡ true) → own ≡ other
+    same offered.Lower h foreign ours = ours (λ e. true≢false (sym (ap is-other e))) ∙ sym h.0.0
+    same (offered.NotLower least) h foreign ours = ours (λ e. true≢false (sym (ap is-other e))) ∙ sym h.0.0
+    same offered.OtherBlock h foreign ours = foreign refl ∙ sym h.0
 
 -- ENTRIES
 

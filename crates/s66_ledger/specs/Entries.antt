@@ -24,7 +24,7 @@ error_of refusal.NotOut = error.NotOut
 error_of refusal.OtherPrefix = error.OtherPrefix
 error_of refusal.OverAllowance = error.OverAllowance
 
--- of which these are the prefix and the lines
+-- a piece with this prefix and these lines
 abbrev pub piece_of : Problem → List ℕ → List Knot → PieceOf
 piece_of b prefix knots = record { problem = b; prefix = prefix; knots = seen knots; timed = None }
 

@@ -235,13 +235,12 @@ impl<'a> Ledger<'a> {
         ensures err { OnErr result (self.new ≡ self.old) }
     {
         self.history.reserve(1)?;
-        let own = timed.is_of(self.machine.block(), self.machine.profile());
         let order = copy_of(timed.order().numbers());
         let time = timed.total();
         let offered = self.machine.offer(w, timed);
         self.history.push_reserved(Entry::Offer {
             w,
-            own,
+            own: offered.is_own(),
             order,
             time,
             offered,
@@ -289,7 +288,6 @@ impl<'a> Ledger<'a> {
         let Ok(()) = self.history.reserve(1) else {
             return Err((GraftError::OutOfMemory, piece));
         };
-        let own = piece.is_of(self.machine.block(), self.machine.profile());
         let prefix = copy_of(piece.prefix());
         let splits = piece.splits();
         let error = match self.machine.graft(w, node, &piece) {
@@ -308,6 +306,7 @@ impl<'a> Ledger<'a> {
         let Some(why) = refusal_of(error) else {
             return Err((error, piece));
         };
+        let own = piece.is_of(self.machine.block(), self.machine.profile());
         self.history.push_reserved(Entry::Refused {
             w,
             node,

@@ -1,3 +1,6 @@
+ghost use Rattle.std.specs.Prelude.{◌≡◌, ◌≢◌, true, false};
+ghost use Rattle.s66_ledger.specs.declared.reply.Offered.TheVariants as offered;
+
 use thiserror::Error;
 
 /// What became of an order that was offered.
@@ -9,6 +12,16 @@ pub enum Offered {
     NotLower { least: u32 },
     /// It is of another block or profile.
     OtherBlock,
+}
+
+impl Offered {
+    /// Whether the order is of the ledger's block and profile.
+    pub(crate) fn is_own(&self) -> bool
+        ensures other { self.now ≡ offered.OtherBlock → result ≡ false }
+        ensures own { self.now ≢ offered.OtherBlock → result ≡ true }
+    {
+        !matches!(self, Offered::OtherBlock)
+    }
 }
 
 /// Why a piece wasn't taken: nodes, best order and allowances are as before, and the history has the refusal, but for want of memory,

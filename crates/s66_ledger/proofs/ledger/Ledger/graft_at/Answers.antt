@@ -1,5 +1,6 @@
-use Rattle.std.proofs.Common.{◌∙◌, sym, subst}
+use Rattle.std.proofs.Common.{◌∙◌, ap, sym, subst}
 use Rattle.s66_line.specs.Block.{instrs_of}
+use Rattle.s66_model.specs.Timing.{Problem}
 use Rattle.s66_model.specs.Ledger.{Taken}
 use Rattle.s66_model.specs.Recorded.{IsOwn}
 use Rattle.s66_ledger.specs.declared.reply.GraftError.{GraftError}
@@ -38,10 +39,10 @@ invariant_of-self-2 c =
     let p = c.args.piece in
     let why = c.in-Some.why in
     let over = c.copy_of-prefix.ensures ∙ c.prefix.ensures.value in
-    let own : IsOwn m.problem p.problem c.is_of-own.result = is-own m.problem p.problem c.is_of-own.result (instrs_of c.block.result.now) c.profile.result.now c.block.ensures c.profile.ensures c.is_of-own.ensures in
     let h : IsGraftMove m c.args.w c.args.node p (refusal_reply why) c.graft.new.self =
     refused-move m c.graft.new.self c.args.w c.args.node p c.copy_of-prefix.result.items c.splits-splits.result over c.splits-splits.ensures why
     (subst (λ (e : GraftError). IsRefusedMove m c.args.w c.args.node p e c.graft.new.self) c.in-Some.ensures.some c.in-Err.ensures.refused) in
+    let own : IsOwn m.problem p.problem c.is_of-own.result = is-own m.problem p.problem c.is_of-own.result (instrs_of c.block.result.now) c.profile.result.now (c.block.ensures ∙ ap (λ (b : Problem). b.block) h.2.0) (c.profile.ensures ∙ ap (λ (b : Problem). b.profile) h.2.0) c.is_of-own.ensures in
     recorded m c.graft.new.self c.self.inside.history.items c.reserve.new.self.items c.push_reserved-2.new.self.items _ h.0 (refusal_reply why) h.2
     (refused-entry m c.graft.new.self c.args.w c.args.node p c.copy_of-prefix.result.items c.splits-splits.result over c.splits-splits.ensures c.is_of-own.result why own h)
     c.reserve.ensures.items c.push_reserved-2.ensures.items c.self.invariant
@@ -52,10 +53,10 @@ returns-clause-refused c =
     let p = c.args.piece in
     let why = c.in-Some.why in
     let over = c.copy_of-prefix.ensures ∙ c.prefix.ensures.value in
-    let own : IsOwn m.problem p.problem c.is_of-own.result = is-own m.problem p.problem c.is_of-own.result (instrs_of c.block.result.now) c.profile.result.now c.block.ensures c.profile.ensures c.is_of-own.ensures in
     let h : IsGraftMove m c.args.w c.args.node p (refusal_reply why) c.graft.new.self =
     refused-move m c.graft.new.self c.args.w c.args.node p c.copy_of-prefix.result.items c.splits-splits.result over c.splits-splits.ensures why
     (subst (λ (e : GraftError). IsRefusedMove m c.args.w c.args.node p e c.graft.new.self) c.in-Some.ensures.some c.in-Err.ensures.refused) in
+    let own : IsOwn m.problem p.problem c.is_of-own.result = is-own m.problem p.problem c.is_of-own.result (instrs_of c.block.result.now) c.profile.result.now (c.block.ensures ∙ ap (λ (b : Problem). b.block) h.2.0) (c.profile.ensures ∙ ap (λ (b : Problem). b.profile) h.2.0) c.is_of-own.ensures in
     let new = with_history c.graft.new.self c.push_reserved-2.new.self.items in
     subst (λ (e : GraftError). IsRefusedGraftAt c.args.self.now c.args.w c.args.node p e new) (sym c.in-Some.ensures.some)
     (refused-at c.args.self.now new c.args.w c.args.node p why
