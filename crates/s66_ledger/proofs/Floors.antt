@@ -9,7 +9,7 @@ use Rattle.s66_ledger.specs.declared.node.Node.{Node}
 use Rattle.s66_ledger.specs.declared.node.State.{State}
 use Rattle.s66_ledger.specs.declared.node.State.TheVariants as state
 use Rattle.s66_ledger.specs.Nodes.{prefixes, node_at, no_node, with_state, HaveFloors}
-use Rattle.s66_ledger.proofs.Prefixes.{get_or-front, get_or-last, length-prefixes, prefixes-push, prefixes-set}
+use Rattle.s66_ledger.proofs.Prefixes.{get_or-front, get_or-last, push-front, push-last, prefixes-set}
 use Rattle.s66_ledger.proofs.OpenHeap.{set-here, set-other}
 
 at-front : (xs : List Node) (x : Node) (i : ℕ) → i < length xs → node_at (xs ++ x ∷ []) i ≡ node_at xs i
@@ -17,18 +17,15 @@ at-front xs x i lt = get_or-front xs x i _ lt
 
 pub floors-push : (b : Problem) (xs : List Node) (x : Node) → 0 < length xs → HaveFloors b xs → (x.state ≢ state.Split → x.value ≡ floor_value b (get_or (prefixes xs) x.parent [] ++ x.number ∷ [])) → HaveFloors b (xs ++ x ∷ [])
 floors-push b xs x some floors own i lt live =
-    let new = get_or (prefixes xs) x.parent [] ++ x.number ∷ [] in
-    let pushed : prefixes (xs ++ x ∷ []) ≡ prefixes xs ++ new ∷ [] = prefixes-push xs x some in
     elim (cases_le (length xs) i) [
       | inl le ↦
           (let last : i ≡ length xs = omega (arith, le, lt, length-append xs (x ∷ [])) in
           let here : node_at (xs ++ x ∷ []) i ≡ x = ap (node_at (xs ++ x ∷ [])) last ∙ get_or-last xs x _ in
-          let there : get_or (prefixes (xs ++ x ∷ [])) i [] ≡ new = ap (λ ats. get_or ats i []) pushed ∙ (ap (λ k. get_or (prefixes xs ++ new ∷ []) k []) (last ∙ sym (length-prefixes xs)) ∙ get_or-last (prefixes xs) new []) in
+          let there = ap (λ k. get_or (prefixes (xs ++ x ∷ [])) k []) last ∙ push-last xs x some in
           ap (λ (n : Node). n.value) here ∙ (own (subst (λ (n : Node). n.state ≢ state.Split) here live) ∙ ap (floor_value b) (sym there)))
       | inr within ↦
           (let here = at-front xs x i within in
-          let there : get_or (prefixes (xs ++ x ∷ [])) i [] ≡ get_or (prefixes xs) i [] = ap (λ ats. get_or ats i []) pushed ∙ get_or-front (prefixes xs) new i [] (omega (arith, within, length-prefixes xs)) in
-          ap (λ (n : Node). n.value) here ∙ (floors i within (subst (λ (n : Node). n.state ≢ state.Split) here live) ∙ ap (floor_value b) (sym there)))
+          ap (λ (n : Node). n.value) here ∙ (floors i within (subst (λ (n : Node). n.state ≢ state.Split) here live) ∙ ap (floor_value b) (sym (push-front xs x i within))))
     ]
 
 pub floors-set : (b : Problem) (nodes : List Node) (i : ℕ) (y d : Node) → i < length nodes → y.parent ≡ (get_or nodes i d).parent → y.number ≡ (get_or nodes i d).number → (y.state ≢ state.Split → y.value ≡ floor_value b (get_or (prefixes nodes) i [])) → HaveFloors b nodes → HaveFloors b (set nodes i y)

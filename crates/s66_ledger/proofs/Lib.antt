@@ -1,3 +1,4 @@
+pub mod Depths
 pub mod Ends
 pub mod Events
 pub mod Floors

@@ -46,6 +46,17 @@ pub length-prefixes : (xs : List Node) → length (prefixes xs) ≡ length xs
 length-prefixes [] = refl
 length-prefixes (x ∷ xs) = omega (arith, length-prefixes_from ([] ∷ []) xs)
 
+pub push-front : (xs : List Node) (x : Node) (i : ℕ) → i < length xs → get_or (prefixes (xs ++ x ∷ [])) i [] ≡ get_or (prefixes xs) i []
+push-front xs x i lt =
+    ap (λ ats. get_or ats i []) (prefixes-push xs x (omega (arith, lt)))
+    ∙ get_or-front (prefixes xs) (get_or (prefixes xs) x.parent [] ++ x.number ∷ []) i [] (omega (arith, lt, length-prefixes xs))
+
+pub push-last : (xs : List Node) (x : Node) → 0 < length xs → get_or (prefixes (xs ++ x ∷ [])) (length xs) [] ≡ get_or (prefixes xs) x.parent [] ++ x.number ∷ []
+push-last xs x some =
+    let last = get_or (prefixes xs) x.parent [] ++ x.number ∷ [] in
+    ap (λ ats. get_or ats (length xs) []) (prefixes-push xs x some)
+    ∙ (ap (λ k. get_or (prefixes xs ++ last ∷ []) k []) (sym (length-prefixes xs)) ∙ get_or-last (prefixes xs) last [])
+
 -- ANOTHER STATE
 
 prefixes_from-set : (made : List (List ℕ)) (xs : List Node) (i : ℕ) (y d : Node) → y.parent ≡ (get_or xs i d).parent → y.number ≡ (get_or xs i d).number → prefixes_from made (set xs i y) ≡ prefixes_from made xs

@@ -102,6 +102,9 @@ module _ (b : Problem) (best : ℕ) (total : List model.Node) (at : List ℕ) (o
   pub reading-room : length ps < length b.block
   reading-room = omega (arith, deep, reading.part)
 
+  pub reading-within : p.node < length made
+  reading-within = omega (arith, stands.0, length-prefixes made)
+
   here : (ns : List ℕ) → numbers_in p.left ≡ ns → place_lefts old ≡ ns ∷ place_lefts ps
   here ns is = ap place_lefts popped ∙ (place_lefts-push ps p ∙ ap (λ x. x ∷ place_lefts ps) is)
 

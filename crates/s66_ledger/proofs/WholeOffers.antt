@@ -11,7 +11,6 @@ use Rattle.s66_model.specs.Ledger.{Ledger, is_live, best_time, Event, Offer, Mov
 use Rattle.s66_model.specs.Recorded.{IsOfferOf}
 use Rattle.s66_model.proofs.Floors.{floor-whole}
 use Rattle.s66_model.proofs.LegalOrders.{order-legal}
-use Rattle.s66_dep.proofs.Fronts.{beginning-few}
 use Rattle.s66_time.specs.TimedOrder.{TimedOrder}
 use Rattle.s66_ledger.specs.declared.reply.Offered.{Offered}
 use Rattle.s66_ledger.specs.declared.reply.Offered.TheVariants as offered
@@ -45,8 +44,8 @@ timed-next old new i h before j lt =
 pub all-timed : (b : Problem) (l : Ledger) → ((i : ℕ) → i < length l.nodes → IsTimedAt b l i) → WholesAreTimed b l
 all-timed b l h = each-among (λ (n : model.Node). is_live n ≡ true → IsComplete b.block n.prefix → best_time b l ≤ floor_value b n.prefix) model.no_node l.nodes h
 
-pub whole-legal : (block : List Instr) (prefix : List ℕ) → IsBeginning block prefix → length block ≤ length prefix → IsLegal block prefix
-whole-legal block prefix begins le = order-legal block prefix (begins, omega (arith, le, beginning-few block prefix begins))
+pub whole-legal : (block : List Instr) (prefix : List ℕ) → IsBeginning block prefix → IsComplete block prefix → IsLegal block prefix
+whole-legal block prefix begins whole = order-legal block prefix (begins, whole)
 
 -- the best order takes no more time than what is offered
 at-most : (b : Problem) (old new : Ledger) (w : ℕ) (own : Bool) (order : List ℕ) (time : ℕ) (answer : Offered) → own ≡ true → time ≡ total_of b order → Moves b old (Offer w own order time) (offered_reply answer) new → best_time b new ≤ total_of b order

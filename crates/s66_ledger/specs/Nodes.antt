@@ -1,5 +1,5 @@
 -- Used by contracts: the nodes that a ledger keeps, each by its parent and its last number, as the definition's nodes with whole prefixes.
-use Rattle.std.specs.Prelude.{ℕ, ◌≡◌, ◌≢◌, ◌<◌, List, [], ◌∷◌, ◌++◌, length, get_or, set}
+use Rattle.std.specs.Prelude.{ℕ, ◌≡◌, ◌≢◌, ◌<◌, min, List, [], ◌∷◌, ◌++◌, length, get_or, set}
 use Rattle.s66_model.specs.Timing.{Problem}
 use Rattle.s66_model.specs.Leaves.{floor, floor_value}
 use Rattle.s66_model.specs.Ledger as model
@@ -51,3 +51,10 @@ nodes_of b xs = nodes_at b (prefixes xs) xs
 abbrev pub HaveFloors : Problem → List Node → Type 0
 HaveFloors b nodes =
     (i : ℕ) → i < length nodes → (node_at nodes i).state ≢ state.Split → (node_at nodes i).value ≡ floor_value b (get_or (prefixes nodes) i [])
+
+-- DEPTHS
+
+-- each is the length of the node's prefix, and 255 where that is more
+abbrev pub HaveDepths : List Node → Type 0
+HaveDepths nodes =
+    (i : ℕ) → i < length nodes → (node_at nodes i).depth ≡ min 255 (length (get_or (prefixes nodes) i []))

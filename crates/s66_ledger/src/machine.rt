@@ -38,7 +38,7 @@ impl<'a> Model for Machine<'a> {
 }
 
 impl<'a> Machine<'a> {
-    ghost use Rattle.std.specs.Prelude.{ℕ, Bool, true, false, Some, None, ◌+◌, ◌≡◌, ◌<◌, ◌≤◌, ◌↔◌, length, IfOk, IfErr, IfSome, IfNone, OnOk, OnErr, IsTrue, if◌then◌else◌};
+    ghost use Rattle.std.specs.Prelude.{ℕ, Bool, true, false, Some, None, ◌+◌, ◌≡◌, ◌<◌, ◌≤◌, ◌⊎◌, ◌↔◌, length, IfOk, IfErr, IfSome, IfNone, OnOk, OnErr, IsTrue, if◌then◌else◌};
     ghost use Rattle.s66_line.specs.Block.{instrs_of};
     ghost use Rattle.s66_isa.specs.Lists.{tally};
     ghost use Rattle.s66_model.specs.Timing.{total_of};
@@ -235,16 +235,19 @@ impl<'a> Machine<'a> {
         self.table.count() as u32
     }
 
-    /// The prefix of a node, where it is open or out and its floor is below the best time.
-    pub(crate) fn promising_prefix(&self, node: u32) -> Option<ArrayVec<u8, BLOCK_LIMIT>>
+    /// The whole order of a node that is open or out, with its floor below the best time; None of any other node, in constant time.
+    pub(crate) fn promising_order(&self, node: u32) -> Option<ArrayVec<u8, BLOCK_LIMIT>>
         requires { node < length self.now.state.nodes }
-        ensures prefix { IfSome result (λ prefix. prefix.items ≡ (node_at self.now.state.nodes node).prefix) }
-        ensures begins { IfSome result (λ prefix. IsBeginning self.now.problem.block prefix.items) }
-        ensures none { IfNone result (is_live (node_at self.now.state.nodes node) ≡ true → best_time self.now.problem self.now.state ≤ floor_value self.now.problem (node_at self.now.state.nodes node).prefix) }
+        ensures prefix { IfSome result (λ order. order.items ≡ (node_at self.now.state.nodes node).prefix) }
+        ensures begins { IfSome result (λ order. IsBeginning self.now.problem.block order.items) }
+        ensures whole { IfSome result (λ order. length order.items ≡ length self.now.problem.block) }
+        ensures none { IfNone result (is_live (node_at self.now.state.nodes node) ≡ true → (length (node_at self.now.state.nodes node).prefix < length self.now.problem.block) ⊎ (best_time self.now.problem self.now.state ≤ floor_value self.now.problem (node_at self.now.state.nodes node).prefix)) }
     {
-        // so the prefix fits
+        // so the order fits
         prove!(self.block.count() <= BLOCK_LIMIT);
-        if self.table.is_live_below(node, self.best.total()) {
+        if self.table.is_live_below(node, self.best.total())
+            && self.table.has_length(node, self.block.count())
+        {
             Some(self.table.prefix_of(node))
         } else {
             None

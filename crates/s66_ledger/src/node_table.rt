@@ -22,13 +22,14 @@ impl Model for NodeTable {
     ghost use Rattle.std.specs.Prelude.{List};
     ghost use Rattle.std.specs.BinaryHeap.{IsHeap, heap_items};
     ghost use Rattle.s66_ledger.specs.declared.node.Node.{Node};
+    ghost use Rattle.s66_ledger.specs.Nodes.{HaveDepths};
     ghost use Rattle.s66_ledger.specs.OpenNodes.{AreOpenNodes, compare_ranked};
 
     ghost Value = { List Node };
 
     ghost view = { λ t. t.nodes.items };
 
-    ghost invariant = { λ t. IsHeap compare_ranked (heap_items t.open) × AreOpenNodes t.nodes.items (heap_items t.open) };
+    ghost invariant = { λ t. IsHeap compare_ranked (heap_items t.open) × AreOpenNodes t.nodes.items (heap_items t.open) × HaveDepths t.nodes.items };
 }
 
 impl NodeTable {
@@ -117,6 +118,15 @@ impl NodeTable {
         ensures { result.items ≡ get_or (prefixes self.now) node [] }
     {
         path::prefix_of(self.nodes.as_slice(), node)
+    }
+
+    /// Whether the prefix of a node has this length.
+    pub fn has_length(&self, node: u32, count: usize) -> bool
+        requires within { node < length self.now }
+        requires few { count ≤ BLOCK_LIMIT }
+        ensures { IsTrue result ↔ (length (get_or (prefixes self.now) node []) ≡ count) }
+    {
+        self.nodes[node as usize].depth as usize == count
     }
 
     /// The value that a node has: its floor's, where it isn't split.

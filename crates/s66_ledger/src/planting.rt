@@ -6,7 +6,7 @@ ghost use Rattle.s66_model.specs.Tree.{Parted};
 ghost use Rattle.s66_model.specs.Ledger.{kid_nodes};
 ghost use Rattle.s66_model.specs.Told.{kids_seen, tip_of};
 ghost use Rattle.s66_node.specs.Pieces.{told_tree};
-ghost use Rattle.s66_ledger.specs.Nodes.{nodes_of, prefixes, HaveFloors};
+ghost use Rattle.s66_ledger.specs.Nodes.{nodes_of, prefixes, HaveDepths, HaveFloors};
 ghost use Rattle.s66_ledger.specs.OpenNodes.{AreOpenNodes, compare_ranked};
 ghost use Rattle.s66_ledger.specs.Planting.{kids_of, knot_state, knot_value};
 
@@ -66,16 +66,17 @@ pub fn append(
     requires root { root.node < length nodes.old.items }
     requires over { get_or (prefixes nodes.old.items) root.node [] ≡ piece.now.prefix }
     requires floors { HaveFloors piece.now.problem nodes.old.items }
+    requires depths { HaveDepths nodes.old.items }
     requires room { length nodes.old.items + length piece.now.knots < 2 ^ 32 }
     ensures err { OnErr result (nodes.new.items ≡ nodes.old.items) }
     ensures front { OnOk result (take (length nodes.old.items) nodes.new.items ≡ nodes.old.items) }
     ensures count { OnOk result (length nodes.new.items + 1 ≡ length nodes.old.items + length piece.now.knots) }
     ensures floors { OnOk result (HaveFloors piece.now.problem nodes.new.items) }
+    ensures depths { OnOk result (HaveDepths nodes.new.items) }
     ensures ok { OnOk result (nodes_of piece.now.problem nodes.new.items ≡ nodes_of piece.now.problem nodes.old.items ++ kid_nodes piece.now.problem best piece.now.prefix (numbers_in root.left) (kids_seen (tip_of piece.now.problem) piece.now.prefix (numbers_in root.left) (kids_of (told_tree piece.now)))) }
 {
     let knots = piece.knots();
     nodes.reserve(knots.len())?;
-    let root_depth = nodes[root.node as usize].depth;
     let mut places: ArrayVec<Place, BLOCK_LIMIT> = ArrayVec::new();
     places.push(root);
     let mut cursor = 1;
@@ -85,12 +86,12 @@ pub fn append(
             let knot = &knots[cursor];
             cursor += 1;
             let made = nodes.len() as u32;
+            let depth = nodes[place.node as usize].depth.saturating_add(1);
             nodes.push_reserved(Node {
                 parent: place.node,
                 value: value_of(knot),
                 number,
-                // there is a place for each prefix from the root's to its parent's
-                depth: root_depth.saturating_add(places.len() as u8),
+                depth,
                 state: state_of(knot, best),
                 from: 0,
             });

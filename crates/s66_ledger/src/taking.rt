@@ -24,7 +24,7 @@ impl Machine<'_> {
     }
 
     /// Offers every whole order that is open or out and has a time below the best, in time linear in the number of nodes, and in the
-    /// length of the prefix of each whose floor is below the best. What is offered is timed anew.
+    /// length of each order that is offered. What is offered is timed anew.
     pub(crate) fn offer_wholes(&mut self)
         requires { 1 ≤ self.old.workers }
         ensures offers { IsOffering self.old self.new }
@@ -41,14 +41,11 @@ impl Machine<'_> {
         requires within { node < length self.old.state.nodes }
         ensures { IsTiming self.old node self.new }
     {
-        let Some(prefix) = self.promising_prefix(node) else {
+        let Some(numbers) = self.promising_order(node) else {
             return;
         };
-        if prefix.len() < self.block().count() {
-            return;
-        }
         // a beginning of a legal order, and as long as the block
-        let Ok(order) = Order::new(self.block(), prefix.as_slice()) else {
+        let Ok(order) = Order::new(self.block(), numbers.as_slice()) else {
             unreachable!()
         };
         let timed = time_of(self.block(), self.profile(), &order);

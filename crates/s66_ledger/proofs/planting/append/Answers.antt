@@ -1,4 +1,4 @@
-use Rattle.std.proofs.Common.{ℕ, ◌+◌, ◌≡◌, ◌<◌, ◌++◌, ◌∷◌, [], List, true≢false, arith, sym, ◌∙◌, ap, subst, refl, length, take, drop, length-append, length-drop}
+use Rattle.std.proofs.Common.{ℕ, min, ◌+◌, ◌≡◌, ◌<◌, ◌++◌, ◌∷◌, [], List, true≢false, arith, sym, ◌∙◌, ap, subst, refl, length, take, drop, length-append, length-drop}
 use Rattle.std.proofs.lemmas.List.{take_all}
 use Rattle.s66_dep.specs.Members.{numbers_in}
 use Rattle.s66_model.specs.Tree.{Knot, AtSplit, TreeHolds, flat}
@@ -11,9 +11,11 @@ use Rattle.s66_node.specs.Walked.{front}
 use Rattle.s66_node.proofs.Walks.{none-empty}
 use Rattle.s66_ledger.specs.declared.node.Node.{Node}
 use Rattle.s66_ledger.specs.declared.planting.Place.{Place}
-use Rattle.s66_ledger.specs.Nodes.{nodes_of}
+use Rattle.s66_ledger.specs.Nodes.{nodes_of, node_at, no_node, HaveDepths}
 use Rattle.s66_ledger.specs.Planting.{kids_of, knot_state, IsReading}
-use Rattle.s66_ledger.proofs.Reading.{reading-start, reading-up, reading-next, reading-deeper, reading-tip, reading-split, reading-done, reading-none, line-at, line-told, lines-below, length-seen, take-push}
+use Rattle.s66_ledger.proofs.Depths.{depths-push}
+use Rattle.s66_ledger.proofs.Prefixes.{get_or-any}
+use Rattle.s66_ledger.proofs.Reading.{reading-start, reading-within, reading-up, reading-next, reading-deeper, reading-tip, reading-split, reading-done, reading-none, line-at, line-told, lines-below, length-seen, take-push}
 use Rattle.s66_ledger.proofs.planting.append.Goals as goal
 
 -- all nodes that there will be
@@ -34,8 +36,17 @@ loop-place-init c =
       within = omega (arith, length-seen c.knots-knots.result.now, ap length (c.knots-knots.ensures.value ∙ (sym c.knots-knots.ensures.preorder ∙ ap flat c.requires.split)));
       room = omega (arith, c.in_ok-reserve.ensures.ok);
       first = omega arith;
+      depths = subst HaveDepths (sym c.reserve.ensures.items) c.requires.depths;
       reading = (p.prefix, subst (λ xs. IsReading p.problem c.args.best (all-nodes p c.args.best c.args.nodes.now.items numbers) p.prefix c.push.new.self.items xs (drop 1 (seen c.knots-knots.result.now))) (sym c.reserve.ensures.items) (rw (places, below) start));
     }
+
+pub index-requires : goal.index-requires
+index-requires c =
+    let p = c.args.piece.now in
+    let l = c.loop-place in
+    let total = all-nodes p c.args.best c.args.nodes.now.items (numbers_in c.args.root.left) in
+    let (at, reading) = l.invariant.reading in
+    omega (arith, reading-within p.problem c.args.best total at l.places.items c.pop.new.self.items c.in-Some.place l.nodes.items (drop l.cursor (seen c.knots-knots.result.now)) reading c.in-Some.ensures.items)
 
 pub push-requires-in-Split : goal.push-requires-in-Split
 push-requires-in-Split c =
@@ -63,6 +74,7 @@ loop-place-preserved c =
       within = l.invariant.within;
       room = l.invariant.room;
       first = l.invariant.first;
+      depths = l.invariant.depths;
       reading = (front at, reading-up p.problem c.args.best total at l.places.items c.pop.new.self.items c.in-Some.place l.nodes.items (drop l.cursor (seen c.knots-knots.result.now)) reading c.in-Some.ensures.items c.in_default-pop_first.ensures.none);
     }
 
@@ -75,10 +87,12 @@ loop-place-preserved-in-Split c =
     let (at, reading) = l.invariant.reading in
     let left = numbers_in c.pop_first.new.self in
     let place : Place = record { node = c.in-Some.place.node; left = c.pop_first.new.self } in
-    let node : Node = record { parent = c.in-Some.place.node; value = c.value_of.result; number = c.in-Some-pop_first.number; depth = c.saturating_add.result; state = c.state_of.result; from = 0 } in
+    let node : Node = record { parent = c.in-Some.place.node; value = c.value_of.result; number = c.in-Some-pop_first.number; depth = c.saturating_add-depth.result; state = c.state_of.result; from = 0 } in
     let lt : l.cursor < length c.knots-knots.result.now = omega (arith, reading-next p.problem c.args.best total at l.places.items c.pop.new.self.items c.in-Some.place l.nodes.items (drop l.cursor ks) reading c.in-Some.ensures.items c.in-Some-pop_first.number left c.in-Some-pop_first.ensures.some, length-drop l.cursor ks, length-seen c.knots-knots.result.now) in
     let first : drop l.cursor ks ≡ AtSplit (numbers_in c.in-Split.numbers) ∷ drop (l.cursor + 1) ks = line-at c.knots-knots.result.now l.cursor _ _ lt refl ∙ ap (λ k. seen_knot k ∷ drop (l.cursor + 1) ks) c.in-Split.is in
     let below : Place = record { node = c.len-made.result; left = c.in-Split.numbers } in
+    let above : c.in-Some.place.node < length l.nodes.items = reading-within p.problem c.args.best total at l.places.items c.pop.new.self.items c.in-Some.place l.nodes.items (drop l.cursor ks) reading c.in-Some.ensures.items in
+    let own : node.depth ≡ min 255 ((node_at l.nodes.items c.in-Some.place.node).depth + 1) = omega (arith, c.saturating_add-depth.ensures, ap (λ (n : Node). n.depth) c.index.ensures, get_or-any l.nodes.items c.in-Some.place.node c.index.result.now no_node (λ (n : Node). n.depth) above) in
     let one = l.invariant.first in
     record {
       count = omega (arith, l.invariant.count, c.push_reserved.ensures.len);
@@ -86,6 +100,7 @@ loop-place-preserved-in-Split c =
       within = omega (arith, lt);
       room = omega (arith, l.invariant.room, lt, c.push_reserved.ensures.len, c.push_reserved.ensures.capacity);
       first = omega (arith, one);
+      depths = subst HaveDepths (sym c.push_reserved.ensures.items) (depths-push l.nodes.items node above own l.invariant.depths);
       reading = (
         at ++ c.in-Some-pop_first.number ∷ [],
         reading-split p.problem c.args.best total at l.places.items c.pop.new.self.items c.in-Some.place l.nodes.items (drop l.cursor ks) reading c.in-Some.ensures.items
@@ -103,10 +118,12 @@ loop-place-preserved-in_default-knot c =
     let (at, reading) = l.invariant.reading in
     let left = numbers_in c.pop_first.new.self in
     let place : Place = record { node = c.in-Some.place.node; left = c.pop_first.new.self } in
-    let node : Node = record { parent = c.in-Some.place.node; value = c.value_of.result; number = c.in-Some-pop_first.number; depth = c.saturating_add.result; state = c.state_of.result; from = 0 } in
+    let node : Node = record { parent = c.in-Some.place.node; value = c.value_of.result; number = c.in-Some-pop_first.number; depth = c.saturating_add-depth.result; state = c.state_of.result; from = 0 } in
     let lt : l.cursor < length c.knots-knots.result.now = omega (arith, reading-next p.problem c.args.best total at l.places.items c.pop.new.self.items c.in-Some.place l.nodes.items (drop l.cursor ks) reading c.in-Some.ensures.items c.in-Some-pop_first.number left c.in-Some-pop_first.ensures.some, length-drop l.cursor ks, length-seen c.knots-knots.result.now) in
     let (told, seen_is, state_is, value_is) = line-told c.args.best _ c.in_default-knot.not-Split in
     let first = line-at c.knots-knots.result.now l.cursor _ _ lt refl ∙ ap (λ (k : Knot Told). k ∷ drop (l.cursor + 1) ks) seen_is in
+    let above : c.in-Some.place.node < length l.nodes.items = reading-within p.problem c.args.best total at l.places.items c.pop.new.self.items c.in-Some.place l.nodes.items (drop l.cursor ks) reading c.in-Some.ensures.items in
+    let own : node.depth ≡ min 255 ((node_at l.nodes.items c.in-Some.place.node).depth + 1) = omega (arith, c.saturating_add-depth.ensures, ap (λ (n : Node). n.depth) c.index.ensures, get_or-any l.nodes.items c.in-Some.place.node c.index.result.now no_node (λ (n : Node). n.depth) above) in
     let one = l.invariant.first in
     record {
       count = omega (arith, l.invariant.count, c.push_reserved.ensures.len);
@@ -114,6 +131,7 @@ loop-place-preserved-in_default-knot c =
       within = omega (arith, lt);
       room = omega (arith, l.invariant.room, lt, c.push_reserved.ensures.len, c.push_reserved.ensures.capacity);
       first = omega (arith, one);
+      depths = subst HaveDepths (sym c.push_reserved.ensures.items) (depths-push l.nodes.items node above own l.invariant.depths);
       reading = (
         at,
         reading-tip p.problem c.args.best total at l.places.items c.pop.new.self.items c.in-Some.place l.nodes.items (drop l.cursor ks) reading c.in-Some.ensures.items
@@ -136,6 +154,9 @@ pub returns-clause-floors : goal.returns-clause-floors
 returns-clause-floors c =
     let (at, reading) = c.loop-place.invariant.reading in
     reading.floors
+
+pub returns-clause-depths : goal.returns-clause-depths
+returns-clause-depths c = c.loop-place.invariant.depths
 
 pub returns-clause-ok : goal.returns-clause-ok
 returns-clause-ok c =

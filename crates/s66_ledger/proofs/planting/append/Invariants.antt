@@ -5,7 +5,7 @@ use Rattle.s66_model.specs.Ledger.{kid_nodes}
 use Rattle.s66_model.specs.Told.{kids_seen, tip_of}
 use Rattle.s66_node.specs.SeenKnots.{seen}
 use Rattle.s66_node.specs.Pieces.{told_tree}
-use Rattle.s66_ledger.specs.Nodes.{nodes_of}
+use Rattle.s66_ledger.specs.Nodes.{nodes_of, HaveDepths}
 use Rattle.s66_ledger.specs.Planting.{kids_of, IsReading}
 use Rattle.s66_ledger.proofs.planting.append.Given as goal
 
@@ -17,6 +17,7 @@ invariant-loop-place l =
       within : l.cursor ≤ length l.knots;
       room : vec_len l.nodes + (length l.knots - l.cursor) ≤ vec_capacity l.nodes;
       first : 1 ≤ l.cursor;
+      depths : HaveDepths l.nodes.items;
       reading : (at : List ℕ) × IsReading l.fn.piece.problem l.best (nodes_of l.fn.piece.problem l.fn.nodes.items ++ kid_nodes l.fn.piece.problem l.best l.fn.piece.prefix (numbers_in l.fn.root.left) (kids_seen (tip_of l.fn.piece.problem) l.fn.piece.prefix (numbers_in l.fn.root.left) (kids_of (told_tree l.fn.piece)))) at l.places.items l.nodes.items (drop l.cursor (seen l.knots));
     }
 

@@ -1,4 +1,4 @@
-use Rattle.std.proofs.Common.{◌≡◌, ◌≤◌, ◌∙◌, length, arith, true≢false, List, ap, sym, subst}
+use Rattle.std.proofs.Common.{◌≡◌, ◌∙◌, true≢false, List, ap, sym, subst}
 use Rattle.std.specs.Result.{is_ok}
 use Rattle.s66_line.specs.Block.{instrs_of}
 use Rattle.s66_isa.specs.declared.instr.Instr.{Instr}
@@ -11,11 +11,10 @@ use Rattle.s66_ledger.proofs.machine.Machine.offer_whole.Goals as goal
 pub unreachable-requires : goal.unreachable-requires
 unreachable-requires c =
     let block = c.args.self.now.problem.block in
-    let at = c.in-Some.prefix.items in
-    let le : length block ≤ length at = omega (arith, c.if-len-count.false, c.len.ensures.value, c.count.ensures.value, ap length c.block.ensures) in
-    let legal : IsLegal block at = whole-legal block at c.in-Some.ensures.begins le in
-    let here : IsLegal (instrs_of c.block-2.result.now) c.as_slice.result.now =
-    subst (λ ns. IsLegal (instrs_of c.block-2.result.now) ns) (sym c.as_slice.ensures.value) (subst (λ (is : List Instr). IsLegal is at) (sym c.block-2.ensures) legal) in
+    let at = c.in-Some.numbers.items in
+    let legal : IsLegal block at = whole-legal block at c.in-Some.ensures.begins c.in-Some.ensures.whole in
+    let here : IsLegal (instrs_of c.block.result.now) c.as_slice.result.now =
+    subst (λ ns. IsLegal (instrs_of c.block.result.now) ns) (sym c.as_slice.ensures.value) (subst (λ (is : List Instr). IsLegal is at) (sym c.block.ensures) legal) in
     absurd (true≢false (sym (c.new.ensures.taken.1 here) ∙ ap is_ok c.in_default-new.is))
 
 pub returns : goal.returns
@@ -24,7 +23,7 @@ returns c =
     let numbers : c.in-Ok.order.numbers ≡ (node_at c.args.self.now.state.nodes c.args.node).prefix = c.in-Ok.ensures.ok.1 ∙ (c.as_slice.ensures.value ∙ c.in-Some.ensures.prefix) in
     let timed : c.time_of-timed.result ≡ record { problem = b; numbers = (node_at c.args.self.now.state.nodes c.args.node).prefix } =
     c.time_of-timed.ensures
-    ∙ (ap (λ (is : List Instr). record { problem = record { block = is; profile = c.profile.result.now }; numbers = c.in-Ok.order.numbers }) c.block-3.ensures
+    ∙ (ap (λ (is : List Instr). record { problem = record { block = is; profile = c.profile.result.now }; numbers = c.in-Ok.order.numbers }) c.block-2.ensures
     ∙ (ap (λ p. record { problem = record { block = b.block; profile = p }; numbers = c.in-Ok.order.numbers }) c.profile.ensures
     ∙ ap (λ ns. record { problem = b; numbers = ns }) numbers)) in
     timed-now c.args.self.now c.offer.new.self 1 c.args.node c.time_of-timed.result c.offer.result timed c.offer.ensures

@@ -2,8 +2,10 @@ use Rattle.std.proofs.Common.{ℕ, true, ◌≡◌, ◌≤◌, ◌∙◌, ap, re
 use Rattle.std.proofs.lemmas.List.Sorted.{first_le_from_greatest}
 use Rattle.std.specs.Ordering.{nat_cmp}
 use Rattle.s66_ledger.specs.declared.node.Node.{Node}
+use Rattle.s66_ledger.specs.declared.node.State.TheVariants as state
 use Rattle.s66_ledger.specs.Nodes.{no_node, node_at}
 use Rattle.s66_ledger.specs.OpenNodes.{is_open, ranked}
+use Rattle.s66_ledger.proofs.Depths.{depths-set}
 use Rattle.s66_ledger.proofs.Prefixes.{get_or-any}
 use Rattle.s66_ledger.proofs.OpenHeap.{taken, taken-within, greatest-least}
 use Rattle.s66_ledger.proofs.node_table.NodeTable.claim.Goals as goal
@@ -12,10 +14,13 @@ pub invariant_of-self-2 : goal.invariant_of-self-2
 invariant_of-self-2 c =
     let t = c.self.inside in
     let popped = c.in_ok-node.ensures.permutation in
+    let node = c.index_mut.result.now in
+    let y : Node = record { parent = node.parent; value = node.value; number = node.number; depth = node.depth; state = state.Out; from = node.from } in
     let within = taken-within t.nodes.items (heap_items t.open) c.self.invariant.1 (heap_items c.pop.new.self) c.in_ok-node.field-0-0 c.in_ok-node.node popped in (
       (c.in_ok-node.ensures.heap_order c.self.invariant.0).0,
       taken t.nodes.items (heap_items t.open) c.self.invariant.1 (heap_items c.pop.new.self) c.in_ok-node.field-0-0 c.in_ok-node.node popped _ refl
           (ap (λ (x : Node). x.value) c.index_mut.ensures.value ∙ get_or-any t.nodes.items c.in_ok-node.node c.index_mut.result.now no_node (λ x. x.value) within),
+      depths-set t.nodes.items c.in_ok-node.node y node within (ap (λ (x : Node). x.parent) c.index_mut.ensures.value) (ap (λ (x : Node). x.number) c.index_mut.ensures.value) (ap (λ (x : Node). x.depth) c.index_mut.ensures.value) c.self.invariant.2,
     )
 
 pub returns-clause-least : goal.returns-clause-least

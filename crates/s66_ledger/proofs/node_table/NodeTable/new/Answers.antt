@@ -1,7 +1,9 @@
 use Rattle.std.proofs.Common.{List, ◌≡◌, ◌∙◌, ◌∷◌, ◌++◌, [], ap, sym, subst, heap_items}
 use Rattle.std.specs.List.Sorted.{IsPermutation}
 use Rattle.s66_ledger.specs.declared.node.Node.{Node}
+use Rattle.s66_ledger.specs.Nodes.{HaveDepths}
 use Rattle.s66_ledger.specs.OpenNodes.{AreOpenNodes, rank_of}
+use Rattle.s66_ledger.proofs.Depths.{depths-first}
 use Rattle.s66_ledger.proofs.OpenHeap.{first-open}
 use Rattle.s66_ledger.proofs.node_table.NodeTable.new.Goals as goal
 
@@ -12,4 +14,5 @@ invariant_of-result c =
       c.in_ok-push-2.ensures.heap_order c.new-open.ensures.heap_order,
       subst (λ ns. AreOpenNodes ns (heap_items c.push-2.new.self)) (sym nodes)
           (first-open c.root.result (heap_items c.new-open.result) (heap_items c.push-2.new.self) (ap (λ (n : Node). n.state) c.root.ensures) c.new-open.ensures.items pushed),
+      subst HaveDepths (sym nodes) (depths-first c.root.result (ap (λ (n : Node). n.depth) c.root.ensures)),
     )

@@ -8,6 +8,7 @@ use Rattle.s66_ledger.specs.declared.node.State.TheVariants as state
 use Rattle.s66_ledger.specs.OpenNodes.{IsOut, is_open_state}
 use Rattle.s66_ledger.specs.Nodes.{no_node, node_at, nodes_of, prefixes, HaveFloors}
 use Rattle.s66_ledger.specs.Planting.{told_state}
+use Rattle.s66_ledger.proofs.Depths.{depths-set}
 use Rattle.s66_ledger.proofs.Floors.{floors-set, floors-state}
 use Rattle.s66_ledger.proofs.OpenHeap.{still-shut, out-shut, is-open}
 use Rattle.s66_ledger.proofs.Planted.{alone-nodes, tip-root, tip-lines, told-closed}
@@ -44,8 +45,11 @@ invariant_of-self c =
     let node = c.index_mut.result.now in
     let y : Node = record { parent = node.parent; value = node.value; number = node.number; depth = node.depth; state = state.Closed; from = node.from } in
     let out : IsOut t.nodes.items i = subst (λ ns. IsOut ns i) (sym c.self.view_is) c.requires.out in
-    let value : node.value ≡ (node_at t.nodes.items i).value = ap (λ (n : Node). n.value) c.index_mut.ensures.value ∙ get_or-any t.nodes.items i node no_node (λ n. n.value) out.0 in
-    (c.self.invariant.0, still-shut t.nodes.items (heap_items t.open) c.self.invariant.1 i y out.0 (out-shut t.nodes.items i out.1) value refl)
+    let value : node.value ≡ (node_at t.nodes.items i).value = ap (λ (n : Node). n.value) c.index_mut.ensures.value ∙ get_or-any t.nodes.items i node no_node (λ n. n.value) out.0 in (
+      c.self.invariant.0,
+      still-shut t.nodes.items (heap_items t.open) c.self.invariant.1 i y out.0 (out-shut t.nodes.items i out.1) value refl,
+      depths-set t.nodes.items i y node out.0 (ap (λ (n : Node). n.parent) c.index_mut.ensures.value) (ap (λ (n : Node). n.number) c.index_mut.ensures.value) (ap (λ (n : Node). n.depth) c.index_mut.ensures.value) c.self.invariant.2,
+    )
 
 pub returns : goal.returns
 returns c =

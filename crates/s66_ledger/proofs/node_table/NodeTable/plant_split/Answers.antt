@@ -7,6 +7,7 @@ use Rattle.s66_ledger.specs.declared.node.Node.{Node}
 use Rattle.s66_ledger.specs.declared.node.State.TheVariants as state
 use Rattle.s66_ledger.specs.OpenNodes.{AreOpenNodes, IsOut}
 use Rattle.s66_ledger.specs.Nodes.{no_node, node_at, nodes_of}
+use Rattle.s66_ledger.proofs.Depths.{depths-set}
 use Rattle.s66_ledger.proofs.Floors.{floors-set}
 use Rattle.s66_ledger.proofs.OpenHeap.{still-shut, out-shut}
 use Rattle.s66_ledger.proofs.Planted.{take-set, front-longer, front-at, split-nodes}
@@ -34,6 +35,20 @@ list_open-requires-clause-open c =
     (subst (λ ns. AreOpenNodes ns (heap_items c.reserve.new.self)) (sym front)
     (subst (λ es. AreOpenNodes (set t.nodes.items i y) es) (sym c.reserve.ensures.items)
     (still-shut t.nodes.items (heap_items t.open) c.self.invariant.1 i y out.0 (out-shut t.nodes.items i out.1) value refl)))
+
+pub invariant_of-self-2 : goal.invariant_of-self-2
+invariant_of-self-2 c =
+    let t = c.self.inside in
+    let i = c.args.root in
+    let new = c.append.new.nodes.items in
+    let node = c.index_mut-node.result.now in
+    let y : Node = record { parent = node.parent; value = node.value; number = node.number; depth = node.depth; state = state.Split; from = c.len-made.result } in
+    let out : IsOut t.nodes.items i = subst (λ ns. IsOut ns i) (sym c.self.view_is) c.requires.out in
+    let within : i < length new = omega (arith, out.0, front-longer t.nodes.items new c.in_ok-append.ensures.front) in (
+      c.list_open.ensures.heap,
+      subst (λ ns. AreOpenNodes ns (heap_items c.list_open.new.heap)) c.as_slice.ensures.value c.list_open.ensures.open,
+      depths-set new i y node within (ap (λ (n : Node). n.parent) c.index_mut-node.ensures.value) (ap (λ (n : Node). n.number) c.index_mut-node.ensures.value) (ap (λ (n : Node). n.depth) c.index_mut-node.ensures.value) c.in_ok-append.ensures.depths,
+    )
 
 pub returns-clause-floors : goal.returns-clause-floors
 returns-clause-floors c =

@@ -1,4 +1,4 @@
-use Rattle.std.proofs.Common.{◌<◌, ◌∙◌, [], arith, length, get_or, true≢false, ap, sym, subst}
+use Rattle.std.proofs.Common.{inl, inr, ◌≢◌, ◌<◌, ◌∙◌, [], arith, length, get_or, true≢false, ap, sym, subst}
 use Rattle.s66_line.specs.Block.{instrs_of}
 use Rattle.s66_model.specs.Timing.{Problem}
 use Rattle.s66_model.specs.LegalOrder.{IsBeginning}
@@ -8,7 +8,8 @@ use Rattle.s66_ledger.specs.Kept.{MachineOf}
 use Rattle.s66_ledger.proofs.SeenNodes.{length-nodes, at-nodes}
 use Rattle.s66_ledger.proofs.Events.{kept-short, kept-beginning}
 use Rattle.s66_ledger.proofs.WholeOffers.{not-below}
-use Rattle.s66_ledger.proofs.machine.Machine.promising_prefix.Goals as goal
+use Rattle.s66_ledger.proofs.machine.Machine.promising_order.Goals as goal
+use Rattle.s66_ledger.proofs.machine.Machine.promising_order.Goals.{else-is_live_below-via-then-is_live_below+else-has_length, else-is_live_below-via-else-is_live_below}
 
 pub is_live_below-requires : goal.is_live_below-requires
 is_live_below-requires c =
@@ -23,8 +24,8 @@ prefix_of-requires-clause-few c =
     let lt : c.args.node < length s.table = omega (arith, c.requires, length-nodes b s.table, ap (λ (l : MachineOf). length l.state.nodes) c.self.view_is) in
     omega (arith, kept-short b s.budget s.table s.best s.left s.allowances.items s.spent c.self.invariant c.args.node lt, c.count.ensures.value, c.count.ensures.few)
 
-pub returns-then-is_live_below-clause-prefix : goal.returns-then-is_live_below-clause-prefix
-returns-then-is_live_below-clause-prefix c =
+pub returns-then-has_length-clause-prefix : goal.returns-then-has_length-clause-prefix
+returns-then-has_length-clause-prefix c =
     let s = c.self.inside in
     let b : Problem = record { block = instrs_of s.block.now; profile = s.profile } in
     let lt : c.args.node < length s.table = omega (arith, c.requires, length-nodes b s.table, ap (λ (l : MachineOf). length l.state.nodes) c.self.view_is) in
@@ -32,8 +33,8 @@ returns-then-is_live_below-clause-prefix c =
     ∙ (sym (ap (λ (n : model.Node). n.prefix) (at-nodes b s.table c.args.node lt))
     ∙ ap (λ (l : MachineOf). (model.node_at l.state.nodes c.args.node).prefix) c.self.view_is)
 
-pub returns-then-is_live_below-clause-begins : goal.returns-then-is_live_below-clause-begins
-returns-then-is_live_below-clause-begins c =
+pub returns-then-has_length-clause-begins : goal.returns-then-has_length-clause-begins
+returns-then-has_length-clause-begins c =
     let s = c.self.inside in
     let b : Problem = record { block = instrs_of s.block.now; profile = s.profile } in
     let lt : c.args.node < length s.table = omega (arith, c.requires, length-nodes b s.table, ap (λ (l : MachineOf). length l.state.nodes) c.self.view_is) in
@@ -41,10 +42,27 @@ returns-then-is_live_below-clause-begins c =
     (subst (λ (l : MachineOf). IsBeginning l.problem.block (get_or (prefixes s.table) c.args.node [])) c.self.view_is
     (kept-beginning b s.budget s.table s.best s.left s.allowances.items s.spent c.self.invariant c.args.node lt))
 
+pub returns-then-has_length-clause-whole : goal.returns-then-has_length-clause-whole
+returns-then-has_length-clause-whole c =
+    ap length c.prefix_of.ensures
+    ∙ (c.has_length.ensures.0 c.if-has_length.true
+    ∙ (c.count-then-is_live_below.ensures.value
+    ∙ ap (λ (l : MachineOf). length l.problem.block) c.self.view_is))
+
 pub returns-else-is_live_below-clause-none : goal.returns-else-is_live_below-clause-none
 returns-else-is_live_below-clause-none c =
     let s = c.self.inside in
     let b : Problem = record { block = instrs_of s.block.now; profile = s.profile } in
     let lt : c.args.node < length s.table = omega (arith, c.requires, length-nodes b s.table, ap (λ (l : MachineOf). length l.state.nodes) c.self.view_is) in
-    not-below b s.budget s.table s.best s.left s.allowances.items s.spent c.self.invariant c.args.self.now c.self.view_is c.args.node c.total.result lt c.total.ensures.value
-    (λ below. true≢false (sym (c.is_live_below.ensures.1 below) ∙ c.if-is_live_below.false))
+    elim c.else-is_live_below.branch [
+      | else-is_live_below-via-then-is_live_below+else-has_length w ↦
+          (let other : length (get_or (prefixes s.table) c.args.node []) ≢ w.count-then-is_live_below.result = λ same. true≢false (sym (w.has_length.ensures.1 same) ∙ w.if-has_length.false) in
+          let part : length (get_or (prefixes s.table) c.args.node []) < length b.block =
+          omega (arith, kept-short b s.budget s.table s.best s.left s.allowances.items s.spent c.self.invariant c.args.node lt, w.count-then-is_live_below.ensures.value, other) in
+          λ live. inl (omega (arith, part, ap (λ (n : model.Node). length n.prefix) (at-nodes b s.table c.args.node lt), ap (λ (l : MachineOf). length (model.node_at l.state.nodes c.args.node).prefix) c.self.view_is, ap (λ (l : MachineOf). length l.problem.block) c.self.view_is)))
+      | else-is_live_below-via-else-is_live_below w ↦
+          λ live.
+          inr
+          (not-below b s.budget s.table s.best s.left s.allowances.items s.spent c.self.invariant c.args.self.now c.self.view_is c.args.node c.total.result lt c.total.ensures.value
+          (λ below. true≢false (sym (c.is_live_below.ensures.1 below) ∙ w.if-is_live_below.false)) live)
+    ]
