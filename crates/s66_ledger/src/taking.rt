@@ -1,10 +1,16 @@
 use crate::machine::Machine;
+use crate::reply::Offered;
 use s66_dep::Order;
 use s66_time::time_of;
 use std::alloc::AllocError;
 
 impl Machine<'_> {
     ghost use Rattle.std.specs.Prelude.{◌≡◌, ◌<◌, ◌≤◌, length, OnOk};
+    ghost use Rattle.s66_model.specs.LegalOrder.{IsLegal};
+    ghost use Rattle.s66_model.specs.Ledger.{Event};
+    ghost use Rattle.s66_model.specs.Recorded.{IsOfferOf};
+    ghost use Rattle.s66_ledger.specs.Kept.{IsMove};
+    ghost use Rattle.s66_ledger.specs.Replies.{offered_reply};
     ghost use Rattle.s66_ledger.specs.Finishing.{Leads, IsIdle, WholesAreTimed, IsOffering, IsTiming};
 
     /// Takes back every allowance and every node that is out, in time linear in the number of nodes, with a logarithm of the number of
@@ -44,11 +50,19 @@ impl Machine<'_> {
         let Some(numbers) = self.promising_order(node) else {
             return;
         };
-        // a beginning of a legal order, and as long as the block
-        let Ok(order) = Order::new(self.block(), numbers.as_slice()) else {
+        self.offer_numbers(numbers.as_slice());
+    }
+
+    /// Times a legal order and offers it as worker 1. It stands apart so that no room is made for what isn't offered.
+    fn offer_numbers(&mut self, numbers: &[u8]) -> Offered
+        requires workers { 1 ≤ self.old.workers }
+        requires legal { IsLegal self.old.problem.block numbers.now }
+        ensures { (event : Event) × IsOfferOf self.old.problem 1 self.old.problem numbers.now event × IsMove self.old event (offered_reply result) self.new }
+    {
+        let Ok(order) = Order::new(self.block(), numbers) else {
             unreachable!()
         };
         let timed = time_of(self.block(), self.profile(), &order);
-        self.offer(1, timed);
+        self.offer(1, timed)
     }
 }
