@@ -7,7 +7,7 @@ use Rattle.s66_model.specs.Accounts.{Summary, account_of, opened}
 use Rattle.s66_model.proofs.Beginnings.{length-rising}
 use Rattle.s66_ledger.specs.Ledgers.{LedgerOf, account_summary, events_of}
 use Rattle.s66_pool.specs.Hubs.{HubOf, SeatOf, HaveSeats}
-use Rattle.s66_pool.specs.Workers.{AreSameSeats}
+use Rattle.s66_pool.specs.Workers.{AreSameSeats, IsSameSearch}
 
 have-seats-from : (f : ℕ → SeatOf) → ((n : ℕ) → (f n).book.who ≡ n) → (count low : ℕ) (back : List SeatOf) → AreSameSeats (map f (rising count low)) back →
     (w : ℕ) → low ≤ w → w < low + count → some_of (λ s. s.book.who == w) back ≡ true
@@ -30,3 +30,8 @@ pub have-seats : (hub : HubOf) (l : LedgerOf) (seats back : List SeatOf) → hub
     seats ≡ map (λ w. record { hub = hub.id; book = opened hub.summary w }) (rising l.workers 1) → AreSameSeats seats back → HaveSeats (length hub.summary.accounts) back
 have-seats hub l seats back is dealt same w from within =
     have-seats-from (λ n. record { hub = hub.id; book = opened hub.summary n }) (λ n. refl) l.workers 1 back (subst (λ (items : List SeatOf). AreSameSeats items back) dealt same) w from (omega (arith, within, workers-counted hub.summary l is))
+
+-- what is closed is a ledger of the search that was opened
+pub same-search : (s : Summary) (l closed : LedgerOf) → s ≡ account_summary l → closed.problem ≡ s.problem → closed.budget ≡ s.budget → closed.workers ≡ length s.accounts → IsSameSearch l closed
+same-search s l closed is problem budget workers =
+    (problem ∙ ap (λ (x : Summary). x.problem) is, budget ∙ ap (λ (x : Summary). x.budget) is, workers ∙ workers-counted s l is)

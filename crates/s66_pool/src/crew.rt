@@ -11,6 +11,7 @@ use s66_isa::Profile;
 use s66_line::Block;
 use std::alloc::AllocError;
 use std::sync::Wait;
+use std::sync::atomic::AtomicUsize;
 use std::thread;
 use std::thread::Threads;
 
@@ -33,7 +34,12 @@ pub fn work<'a, R: AllocGlobal + Threads + Wait + Sync, G: Gate + Sync>(
     ensures err { IfErr result (λ e. AreSameSeats seats.entry.items e.1.items × All (λ s. s.hub ≡ hub.now.id) e.1.items) }
 {
     let task = SeatWork {
-        site: Site { rt, hub, gate },
+        site: Site {
+            rt,
+            hub,
+            gate,
+            searching: AtomicUsize::new(seats.len()),
+        },
         block,
         profile,
     };

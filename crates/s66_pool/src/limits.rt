@@ -3,3 +3,6 @@ pub const WORKERS_LIMIT: u8 = 16;
 
 /// After how many claims in a row that get no node a worker ends.
 pub const NONES_LIMIT: u32 = 1_000;
+
+/// How often a worker that got no node looks whether another has one, before it claims again.
+pub const LOOKS: u32 = 16;

@@ -42,8 +42,33 @@ fn offer_schedules(ledger: &mut Ledger<'_>) -> Result<(), AllocError>
     offer_schedule(ledger, &mut walk, Priority::Issue)
 }
 
+/// Lets workers search, until there is nothing more for them to do.
+fn search_by_workers<'a, R: AllocGlobal + Threads + Wait + Sync, G: Gate + Sync>(
+    rt: &R,
+    ledger: Ledger<'a>,
+    block: &Block,
+    profile: &Profile,
+    options: Options,
+    gate: &G,
+) -> Result<Ledger<'a>, AllocError>
+    requires { 1 ≤ ledger.workers }
+    ensures { IfOk result (λ searched. IsSameSearch ledger.entry searched) }
+{
+    let (hub, seats) = Hub::new(rt.alloc(), ledger)?;
+    let seats = match work(rt, &hub, seats, block, profile, options, gate) {
+        Ok(seats) => seats,
+        Err((refusal, _)) => return Err(refusal),
+    };
+    // every seat came back
+    let Ok(ledger) = hub.close(seats) else {
+        unreachable!()
+    };
+    Ok(ledger)
+}
+
 /// Searches the orders of a block by several workers, each in a thread of its own where one can be made, and else one after the
-/// other. However their steps fall, what comes is an answer for that many splits.
+/// other. However their steps fall, what comes is an answer for that many splits. Where a list schedule takes no more than the
+/// bound, nothing is left to search, and no worker starts.
 ///
 /// `Err` is want of memory of the caller's own part.
 pub fn run<R: AllocGlobal + Threads + Wait + Sync, G: Gate + Sync>(
@@ -61,14 +86,8 @@ pub fn run<R: AllocGlobal + Threads + Wait + Sync, G: Gate + Sync>(
     let alloc = rt.alloc();
     let mut ledger = Ledger::new(alloc, block, profile, options.nodes, options.workers)?;
     offer_schedules(&mut ledger)?;
-    let (hub, seats) = Hub::new(alloc, ledger)?;
-    let seats = match work(rt, &hub, seats, block, profile, options, gate) {
-        Ok(seats) => seats,
-        Err((refusal, _)) => return Err(refusal),
-    };
-    // every seat came back
-    let Ok(ledger) = hub.close(seats) else {
-        unreachable!()
-    };
+    if ledger.bound() < ledger.best() {
+        ledger = search_by_workers(rt, ledger, block, profile, options, gate)?;
+    }
     ledger.finish(alloc)
 }

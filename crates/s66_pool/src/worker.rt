@@ -3,7 +3,7 @@ ghost use Rattle.s66_pool.specs.Workers.{IsSameSeat};
 
 use crate::gate::Gate;
 use crate::hub::Hub;
-use crate::limits::NONES_LIMIT;
+use crate::limits::{LOOKS, NONES_LIMIT};
 use crate::seat::Seat;
 use s66_isa::Profile;
 use s66_ledger::{Offered, SCHEDULE_ROUNDS, Ticket};
@@ -12,6 +12,7 @@ use s66_node::{Piece, Priority, Walk, schedule_below};
 use s66_time::Timed;
 use std::alloc::{AllocError, Global};
 use std::sync::Wait;
+use std::sync::atomic::{AtomicUsize, Ordering};
 use std::thread::yield_now;
 
 /// Where a worker works.
@@ -20,6 +21,8 @@ pub(crate) struct Site<'s, 'a, R, G> {
     pub rt: &'s R,
     pub hub: &'s Hub<'a>,
     pub gate: &'s G,
+    /// How many workers have a node, or have still to hear that none is open.
+    pub searching: AtomicUsize,
 }
 
 /// A worker of a search, with what it keeps from round to round. Times are in minor cycles.
@@ -53,6 +56,7 @@ pub(crate) fn work_at<'a, R: AllocGlobal + Wait, G: Gate>(
             break;
         }
     }
+    site.searching.fetch_sub(1, Ordering::SeqCst);
     // an allowance that memory keeps out is taken back when the ledger is finished
     let _ = site.hub.retire(site.rt, seat);
 }
@@ -89,7 +93,7 @@ impl<'b> Worker<'b> {
         }
         match self.claim(site, seat) {
             Ok(Some(ticket)) => self.take_on(site, seat, ticket),
-            Ok(None) => self.wait_for_nodes(),
+            Ok(None) => self.wait_for_nodes(site),
             Err(AllocError) => false,
         }
     }
@@ -129,11 +133,13 @@ impl<'b> Worker<'b> {
         claimed
     }
 
-    /// Lets another thread run, since no node was open; false after `NONES_LIMIT` times in a row.
-    fn wait_for_nodes(&mut self) -> bool {
-        yield_now();
+    /// Waits for nodes, since none was open; false where none will be, and after `NONES_LIMIT` times in a row.
+    fn wait_for_nodes<'a, R, G>(&mut self, site: &Site<'_, 'a, R, G>) -> bool {
         self.nones = self.nones.saturating_add(1);
-        self.nones < NONES_LIMIT
+        site.searching.fetch_sub(1, Ordering::SeqCst);
+        let others_search = is_searched(&site.searching);
+        site.searching.fetch_add(1, Ordering::SeqCst);
+        others_search && self.nones < NONES_LIMIT
     }
 
     /// Expands a claimed node and hands its piece in; false where the ticket was given back.
@@ -239,6 +245,18 @@ impl<'b> Worker<'b> {
         }
         true
     }
+}
+
+/// Looks `LOOKS` times whether any worker is searching, and lets other threads run between. Where none is, each was told of no node
+/// after its last graft: so none is open and none is out, and none will ever be.
+fn is_searched(searching: &AtomicUsize) -> bool {
+    for _ in 0..LOOKS {
+        if searching.load(Ordering::SeqCst) == 0 {
+            return false;
+        }
+        yield_now();
+    }
+    true
 }
 
 /// Grafts a piece, and tells the gate before; refused, the ticket comes back.
