@@ -11,3 +11,4 @@ pub mod Numbers
 pub mod PlacedAnswers
 pub mod ProvedAnswers
 pub mod Refused
+pub mod RefusedInput

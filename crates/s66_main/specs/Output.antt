@@ -2,9 +2,9 @@
 use Rattle.std.specs.Prelude.{ℕ, ◌+◌, ◌≡◌, ◌≤◌, Bool, true, false, List, [], ◌∷◌, ◌++◌, Ok}
 use Rattle.s66_ledger.specs.declared.limits.TheConstants.{BUDGET_LIMIT}
 use Rattle.s66_line.specs.Source.{Block, source_of}
+use Rattle.s66_pool.specs.declared.limits.TheConstants.{WORKERS_LIMIT}
 use Rattle.s66_main.specs.declared.command.Command.{Command}
 use Rattle.s66_main.specs.declared.command.Command.TheVariants.{Time, Deps, Chart, Order, Prove, Check}
-use Rattle.s66_main.specs.declared.limits.TheConstants.{WORKERS_LIMIT}
 use Rattle.s66_main.specs.declared.outcome.Status.{Status}
 use Rattle.s66_main.specs.declared.outcome.Status.TheVariants.{Done}
 use Rattle.s66_main.specs.declared.output.Listing.{Listing}

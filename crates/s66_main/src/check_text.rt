@@ -3,6 +3,7 @@ ghost use Rattle.s66_cert.specs.Parts.{document_of};
 ghost use Rattle.s66_cert.specs.Reads.{Refuses};
 ghost use Rattle.s66_main.specs.CheckText.{IsCheckOutput, verdict_line, verdict_lines, verdicts_status};
 
+use crate::observer::Observer;
 use crate::outcome::{Output, Status};
 use s66_cert::{CertError, Document, read};
 use s66_checker::{Verdict, verify};
@@ -28,13 +29,18 @@ fn push_verdict_line(out: &mut Vec<u8>, number: usize, verdict: Verdict) -> Resu
 }
 
 /// The verdict on each document, and whether each is yes.
-fn check_all(alloc: Global, documents: &[Document]) -> Result<Output, AllocError>
+fn check_all<O: Observer>(
+    alloc: Global,
+    documents: &[Document],
+    observer: &mut O,
+) -> Result<Output, AllocError>
     ensures text { IfOk result (λ output. output.text.items ≡ verdict_lines 0 (map document_of documents.now)) }
     ensures status { IfOk result (λ output. output.status ≡ verdicts_status (map document_of documents.now)) }
 {
     let mut text = Vec::new(alloc);
     let mut all_yes = true;
     for (i, document) in documents.iter().enumerate() {
+        observer.done(i, documents.len());
         let verdict = verify(document);
         push_verdict_line(&mut text, i + 1, verdict)?;
         all_yes = all_yes && matches!(verdict, Verdict::Yes { .. });
@@ -48,10 +54,14 @@ fn check_all(alloc: Global, documents: &[Document]) -> Result<Output, AllocError
 }
 
 /// The verdict on each document of a text, or why it is no text of documents.
-pub fn check_output(alloc: Global, text: &[u8]) -> Result<Output, CertError>
+pub fn check_output<O: Observer>(
+    alloc: Global,
+    text: &[u8],
+    observer: &mut O,
+) -> Result<Output, CertError>
     ensures ok { IfOk result (λ output. IsCheckOutput text.now output.text.items output.status) }
     ensures err { Refuses text.now result }
 {
     let documents = read(alloc, text)?;
-    Ok(check_all(alloc, documents.as_slice())?)
+    Ok(check_all(alloc, documents.as_slice(), observer)?)
 }

@@ -11,10 +11,12 @@ mod laws;
 mod limits;
 #[cfg(test)]
 mod line_tests;
+mod observer;
 mod order_text;
 mod outcome;
 mod output;
 mod program;
+mod progress;
 mod prove_text;
 mod run;
 #[cfg(test)]
@@ -23,7 +25,9 @@ mod time_text;
 mod usage;
 
 use program::{refuse_words, run_program};
+use progress::Progress;
 use s66_line::{OverRead, OverWrite};
+use std::io::IsTerminal;
 use std::process::ExitCode;
 use std::{env, io};
 
@@ -36,8 +40,18 @@ fn main(rt: HostRuntime) -> ExitCode {
     let mut reader = OverRead::new(rt.stdin());
     let mut writer = OverWrite::new(rt.stdout());
     let mut errors = OverWrite::new(rt.stderr());
+    let mut terminal = rt.stderr();
+    let is_terminal = terminal.is_terminal();
+    let mut progress = Progress::new(&rt, is_terminal.then_some(&mut terminal));
     let status = match words_of(&rt) {
-        Ok(words) => run_program(&rt, words.as_slice(), &mut reader, &mut writer, &mut errors),
+        Ok(words) => run_program(
+            &rt,
+            words.as_slice(),
+            &mut reader,
+            &mut writer,
+            &mut errors,
+            &mut progress,
+        ),
         Err(error) => refuse_words(&error, &mut errors),
     };
     ExitCode::from(status)

@@ -1,17 +1,20 @@
-ghost use Rattle.std.specs.Prelude.{◌≡◌, ◌≤◌, if◌then◌else◌, IfOk};
-ghost use Rattle.s66_ledger.specs.declared.limits.TheConstants.{BUDGET_LIMIT};
+ghost use Rattle.std.specs.Prelude.{◌≡◌, if◌then◌else◌, IfOk};
 ghost use Rattle.s66_main.specs.declared.outcome.Status.TheVariants.{Done, Bounded};
 ghost use Rattle.s66_main.specs.OrderText.{IsOrderOutput};
+ghost use Rattle.s66_main.specs.Output.{IsSearchWithin};
 ghost use Rattle.s66_main.specs.PlacedAnswers.{AreAllPlaced, IsPlaced, tell_best};
 
+use crate::observer::Observer;
 use crate::outcome::{Output, Status};
 use s66_dep::Order;
 use s66_isa::Profile;
-use s66_ledger::Ledger;
 use s66_line::{Block, Placed, Source, print_source};
+use s66_pool::{Free, Options, run};
 use s66_time::time_of;
 use std::alloc::{AllocError, Global};
 use std::marker::Model;
+use std::sync::Wait;
+use std::thread::Threads;
 
 /// What is printed of an answer, without its tree.
 #[derive(Debug, Drop)]
@@ -32,13 +35,18 @@ impl Model for Found {
 }
 
 /// Searches the orders of a block.
-fn search(alloc: Global, block: &Block, nodes: u32, trace: bool) -> Result<Found, AllocError>
-    requires { nodes ≤ BUDGET_LIMIT }
-    ensures { IfOk result (λ found. IsPlaced nodes trace block.now found) }
+fn search<R: AllocGlobal + Threads + Wait + Sync>(
+    rt: &R,
+    block: &Block,
+    options: Options,
+    trace: bool,
+) -> Result<Found, AllocError>
+    requires { IsSearchWithin options.workers options.nodes }
+    ensures { IfOk result (λ found. IsPlaced options.nodes trace block.now found) }
 {
     let profile = Profile::standard();
     let source = time_of(block, &profile, &Order::source(block)).total();
-    let answer = Ledger::new(alloc, block, &profile, nodes, 1)?.finish(alloc)?;
+    let answer = run(rt, block, &profile, options, &Free)?;
     Ok(Found {
         order: answer.order().duplicate(),
         source,
@@ -49,18 +57,20 @@ fn search(alloc: Global, block: &Block, nodes: u32, trace: bool) -> Result<Found
 }
 
 /// Searches the orders of each block.
-fn search_all(
-    alloc: Global,
+fn search_all<R: AllocGlobal + Threads + Wait + Sync, O: Observer>(
+    rt: &R,
     blocks: &[Block],
-    nodes: u32,
+    options: Options,
     trace: bool,
+    observer: &mut O,
 ) -> Result<Vec<Found>, AllocError>
-    requires { nodes ≤ BUDGET_LIMIT }
-    ensures { IfOk result (λ found. AreAllPlaced nodes trace blocks.now found.items) }
+    requires { IsSearchWithin options.workers options.nodes }
+    ensures { IfOk result (λ found. AreAllPlaced options.nodes trace blocks.now found.items) }
 {
-    let mut found = Vec::new(alloc);
+    let mut found = Vec::new(rt.alloc());
     for block in blocks {
-        found.push(search(alloc, block, nodes, trace)?)?;
+        observer.done(found.len(), blocks.len());
+        found.push(search(rt, block, options, trace)?)?;
     }
     Ok(found)
 }
@@ -94,17 +104,19 @@ fn placed_of<'a>(alloc: Global, found: &'a [Found]) -> Result<Vec<Placed<'a>>, A
     Ok(placed)
 }
 
-/// A source with each block in the best order that a search of at most so many splits finds.
-pub fn order_output(
-    alloc: Global,
+/// A source with each block in the best order that a search finds.
+pub fn order_output<R: AllocGlobal + Threads + Wait + Sync, O: Observer>(
+    rt: &R,
     source: &Source,
-    nodes: u32,
+    options: Options,
     trace: bool,
+    observer: &mut O,
 ) -> Result<Output, AllocError>
-    requires { nodes ≤ BUDGET_LIMIT }
-    ensures { IfOk result (λ output. IsOrderOutput nodes trace source.now output.text.items output.status) }
+    requires { IsSearchWithin options.workers options.nodes }
+    ensures { IfOk result (λ output. IsOrderOutput options.nodes trace source.now output.text.items output.status) }
 {
-    let found = search_all(alloc, source.blocks(), nodes, trace)?;
+    let alloc = rt.alloc();
+    let found = search_all(rt, source.blocks(), options, trace, observer)?;
     let placed = placed_of(alloc, found.as_slice())?;
     Ok(Output {
         text: print_source(alloc, source, placed.as_slice())?,

@@ -7,12 +7,16 @@ use crate::chart_text::push_chart_lines;
 use crate::check_text::check_output;
 use crate::command::Command;
 use crate::deps_text::push_deps_lines;
+use crate::observer::Observer;
 use crate::order_text::order_output;
 use crate::outcome::{Fault, Output, Status};
 use crate::prove_text::prove_output;
 use crate::time_text::push_time_lines;
 use s66_line::{Block, Source, read_source};
+use s66_pool::Options;
 use std::alloc::{AllocError, Global};
+use std::sync::Wait;
+use std::thread::Threads;
 
 /// What is told of each block as it was written.
 #[derive(Clone, Copy, Debug, PartialEq, Eq)]
@@ -63,12 +67,19 @@ fn listing_output(alloc: Global, listing: Listing, source: &Source) -> Result<Ou
     })
 }
 
-/// What a command writes for an input, or why the input was refused; no other fault than `Source`, `Document` and `Memory`.
-pub fn output_for(alloc: Global, command: Command, input: &[u8]) -> Result<Output, Fault>
+/// What a command writes for an input, or why the input was refused; no other fault than `Source`, `Document` and `Memory`. The
+/// observer is told how far it is, and not of the end.
+pub fn output_for<R: AllocGlobal + Threads + Wait + Sync, O: Observer>(
+    rt: &R,
+    command: Command,
+    input: &[u8],
+    observer: &mut O,
+) -> Result<Output, Fault>
     requires { IsWithin command }
     ensures ok { IfOk result (λ output. IsOutput command input.now output.text.items output.status) }
     ensures err { IfErr result (IsRefusal command input.now) }
 {
+    let alloc = rt.alloc();
     let output = match command {
         Command::Time { trace } => {
             listing_output(alloc, Listing::Times { trace }, &read_source(alloc, input)?)?
@@ -78,14 +89,18 @@ pub fn output_for(alloc: Global, command: Command, input: &[u8]) -> Result<Outpu
         }
         Command::Chart => listing_output(alloc, Listing::Chart, &read_source(alloc, input)?)?,
         Command::Order {
-            workers: _,
+            workers,
             nodes,
             trace,
-        } => order_output(alloc, &read_source(alloc, input)?, nodes, trace)?,
-        Command::Prove { workers: _, nodes } => {
-            prove_output(alloc, &read_source(alloc, input)?, nodes)?
+        } => {
+            let options = Options { workers, nodes };
+            order_output(rt, &read_source(alloc, input)?, options, trace, observer)?
         }
-        Command::Check => check_output(alloc, input)?,
+        Command::Prove { workers, nodes } => {
+            let options = Options { workers, nodes };
+            prove_output(rt, &read_source(alloc, input)?, options, observer)?
+        }
+        Command::Check => check_output(alloc, input, observer)?,
     };
     Ok(output)
 }

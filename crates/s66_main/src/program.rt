@@ -3,12 +3,15 @@ ghost use Rattle.std.specs.IoError.{error_kind};
 ghost use Rattle.s66_main.specs.Device.{Tells};
 ghost use Rattle.s66_main.specs.Program.{EndsAt, IsRun, LacksWords, ShowsUsage};
 
+use crate::observer::Observer;
 use crate::outcome::Fault;
-use crate::run::run_command;
+use crate::run::run_observed;
 use crate::usage::{Usage, command_of};
 use s66_line::{Feed, Sink, write_all};
 use std::convert::AsStr;
 use std::io;
+use std::sync::Wait;
+use std::thread::Threads;
 
 /// Tells a text, as far as the writer takes it.
 fn tell<S: Sink>(errors: &mut S, text: &[u8])
@@ -56,14 +59,17 @@ fn show_usage<S: Sink, E: Sink>(usage: &Usage, writer: &mut S, errors: &mut E) -
 }
 
 /// Runs the command that the words give, of which the first is the program's name, or tells why they give none, and
-/// answers the status of the process. What can't be told changes neither the status nor what is written.
-pub fn run_program<'a, R: AllocGlobal, W: AsStr, F: Feed, S: Sink, E: Sink>(
-    rt: &R,
-    words: &'a [W],
-    reader: &mut F,
-    writer: &mut S,
-    errors: &mut E,
-) -> u8
+/// answers the status of the process. What can't be told changes neither the status nor what is written; nor does what the
+/// observer does, which is told how far the command is.
+pub fn run_program<
+    'a,
+    R: AllocGlobal + Threads + Wait + Sync,
+    W: AsStr,
+    F: Feed,
+    S: Sink,
+    E: Sink,
+    O: Observer,
+>(rt: &R, words: &'a [W], reader: &mut F, writer: &mut S, errors: &mut E, observer: &mut O) -> u8
     requires reads { F.failures reader.old < 2 ^ 64 - 1 }
     requires writes { S.failures writer.old < 2 ^ 64 - 1 }
     requires tells { E.failures errors.old < 2 ^ 64 - 1 }
@@ -79,7 +85,7 @@ pub fn run_program<'a, R: AllocGlobal, W: AsStr, F: Feed, S: Sink, E: Sink>(
         Ok(command) => command,
         Err(usage) => return show_usage(&usage, writer, errors),
     };
-    match run_command(rt, command, reader, writer) {
+    match run_observed(rt, command, reader, writer, observer) {
         Ok(status) => status.code(),
         Err(fault) => tell_fault(errors, fault),
     }

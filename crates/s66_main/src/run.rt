@@ -5,10 +5,13 @@ ghost use Rattle.s66_main.specs.Run.{IsReadFault, IsOutcome};
 
 use crate::command::Command;
 use crate::limits::{FEED_CALLS, FEED_ROOM};
+use crate::observer::{Observer, Silent};
 use crate::outcome::{Fault, Status};
 use crate::output::output_for;
 use s66_line::{Feed, Sink, write_all};
 use std::alloc::{AllocError, Global};
+use std::sync::Wait;
+use std::thread::Threads;
 
 /// Room for what a call reads.
 fn room(alloc: Global) -> Result<Vec<u8>, AllocError>
@@ -64,7 +67,7 @@ fn read_all<F: Feed>(alloc: Global, reader: &mut F) -> Result<Vec<u8>, Fault>
 /// Errors: `Source` tells why the source was refused, `Document` why the documents were, `Memory` that memory was wanting, `Read` that the reader failed or none
 /// of `FEED_CALLS` calls gave the end, `Write` that the writer failed; nothing is written but at `Write`, which leaves a
 /// beginning of the text.
-pub fn run_command<R: AllocGlobal, F: Feed, S: Sink>(
+pub fn run_command<R: AllocGlobal + Threads + Wait + Sync, F: Feed, S: Sink>(
     rt: &R,
     command: Command,
     reader: &mut F,
@@ -79,9 +82,30 @@ pub fn run_command<R: AllocGlobal, F: Feed, S: Sink>(
         (record { bytes = S.bytes writer.old; failures = S.failures writer.old })
         (record { bytes = S.bytes writer.new; failures = S.failures writer.new }) result }
 {
-    let alloc = rt.alloc();
-    let input = read_all(alloc, reader)?;
-    let output = output_for(alloc, command, input.as_slice())?;
+    run_observed(rt, command, reader, writer, &mut Silent)
+}
+
+/// `run_command`, of which an observer is told how far it is; that changes nothing of what is written and answered.
+pub fn run_observed<R: AllocGlobal + Threads + Wait + Sync, F: Feed, S: Sink, O: Observer>(
+    rt: &R,
+    command: Command,
+    reader: &mut F,
+    writer: &mut S,
+    observer: &mut O,
+) -> Result<Status, Fault>
+    requires within { IsWithin command }
+    requires reads { F.failures reader.old < 2 ^ 64 - 1 }
+    requires writes { S.failures writer.old < 2 ^ 64 - 1 }
+    ensures { IsOutcome command
+        (record { bytes = F.bytes reader.old; failures = F.failures reader.old; room = F.room reader.old })
+        (record { bytes = F.bytes reader.new; failures = F.failures reader.new; room = F.room reader.new })
+        (record { bytes = S.bytes writer.old; failures = S.failures writer.old })
+        (record { bytes = S.bytes writer.new; failures = S.failures writer.new }) result }
+{
+    let input = read_all(rt.alloc(), reader)?;
+    let output = output_for(rt, command, input.as_slice(), observer);
+    observer.ended();
+    let output = output?;
     match write_all(writer, output.text.as_slice()) {
         Ok(()) => Ok(output.status),
         Err(_) => Err(Fault::Write),

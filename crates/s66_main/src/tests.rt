@@ -9,7 +9,9 @@ use arrayvec::ArrayVec;
 use s66_line::{Failed, Feed, OverRead, OverWrite, Sink, SourceError};
 use std::alloc::AllocError;
 use std::process::Abort;
+use std::sync::Wait;
 use std::test::Fail;
+use std::thread::Threads;
 
 mod blocks;
 mod certificates;
@@ -29,6 +31,7 @@ mod orders;
 mod plain_clock;
 mod printing;
 mod program;
+mod progress;
 mod schedule;
 mod trace;
 
@@ -48,7 +51,11 @@ fn source_of<R: AllocGlobal>(rt: &R, code: &str) -> Result<String, AllocError> {
 }
 
 /// The result of a command at a source, and what it wrote.
-fn run<R: AllocGlobal>(rt: &R, command: Command, source: &[u8]) -> (Result<Status, Fault>, Vec<u8>)
+fn run<R: AllocGlobal + Threads + Wait + Sync>(
+    rt: &R,
+    command: Command,
+    source: &[u8],
+) -> (Result<Status, Fault>, Vec<u8>)
     requires { IsWithin command }
 {
     let mut reader = OverRead::new(source);
@@ -58,7 +65,7 @@ fn run<R: AllocGlobal>(rt: &R, command: Command, source: &[u8]) -> (Result<Statu
 }
 
 /// Checks what a command writes for a source.
-fn check_text<R: AllocGlobal + Abort>(
+fn check_text<R: AllocGlobal + Abort + Threads + Wait + Sync>(
     rt: &R,
     command: Command,
     name: &str,
@@ -84,7 +91,7 @@ fn adler32(bytes: &[u8]) -> u32 {
 }
 
 /// Checks how many bytes a command writes for a source, and their checksum.
-fn check_sum<R: AllocGlobal + Abort>(
+fn check_sum<R: AllocGlobal + Abort + Threads + Wait + Sync>(
     rt: &R,
     command: Command,
     name: &str,
@@ -101,7 +108,7 @@ fn check_sum<R: AllocGlobal + Abort>(
 }
 
 /// Checks what `time` writes for the lines of code.
-fn check_row<R: AllocGlobal + Abort>(
+fn check_row<R: AllocGlobal + Abort + Threads + Wait + Sync>(
     rt: &R,
     name: &str,
     code: &str,
@@ -113,7 +120,12 @@ fn check_row<R: AllocGlobal + Abort>(
 }
 
 /// Checks that `time` refuses a source, and writes nothing.
-fn check_refused<R: AllocGlobal + Abort>(rt: &R, name: &str, source: &[u8], refusal: SourceError) {
+fn check_refused<R: AllocGlobal + Abort + Threads + Wait + Sync>(
+    rt: &R,
+    name: &str,
+    source: &[u8],
+    refusal: SourceError,
+) {
     let (result, written) = run(rt, TIME, source);
     assert_eq!(rt; result, Err(Fault::Source(refusal)), "{name}");
     assert!(rt; written.is_empty(), "{name}");
@@ -322,7 +334,7 @@ impl Sink for TakesFew {
 }
 
 /// Checks that `time` fails to read a device to its end, and writes nothing.
-fn check_read_fault<R: AllocGlobal + Abort, F: Feed>(rt: &R, reader: &mut F)
+fn check_read_fault<R: AllocGlobal + Abort + Threads + Wait + Sync, F: Feed>(rt: &R, reader: &mut F)
     requires { F.failures reader.old < 2 ^ 64 - 1 }
 {
     let mut writer = OverWrite::new(Vec::new(rt.alloc()));
@@ -342,7 +354,10 @@ fn tells_read_fault(rt: HostRuntime) {
 }
 
 /// Runs `time` on a source of one block over a writer with room for so many bytes, 8 at most.
-fn run_into<R: AllocGlobal>(rt: &R, room: usize) -> (Result<Status, Fault>, ArrayVec<u8, 8>) {
+fn run_into<R: AllocGlobal + Threads + Wait + Sync>(
+    rt: &R,
+    room: usize,
+) -> (Result<Status, Fault>, ArrayVec<u8, 8>) {
     let mut reader = OverRead::new(b"  BX1 X2+X3\n".as_slice());
     let mut writer = TakesFew {
         room,

@@ -5,10 +5,11 @@ ghost use Rattle.s66_main.specs.OptionNumbers.{IsNumber, IsReadAs};
 ghost use Rattle.s66_main.specs.declared.usage.Usage.TheVariants.{OutOfMemory};
 
 use crate::command::Command as Asked;
-use crate::limits::{NODES_DEFAULT, WORKERS_DEFAULT, WORKERS_LIMIT};
+use crate::limits::{NODES_DEFAULT, WORKERS_DEFAULT};
 use clap::error::ErrorKind;
 use clap::{Arg, ArgAction, ArgMatches, Command, Error, value_parser};
 use s66_ledger::BUDGET_LIMIT;
+use s66_pool::WORKERS_LIMIT;
 use std::alloc::{AllocError, Global};
 use std::convert::AsStr;
 

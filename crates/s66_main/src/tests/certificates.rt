@@ -4,14 +4,16 @@ use crate::outcome::{Fault, Status};
 use s66_cert::CertError;
 use std::alloc::AllocError;
 use std::process::Abort;
+use std::sync::Wait;
 use std::test::Fail;
+use std::thread::Threads;
 
 const PROVE: Command = Command::Prove {
     workers: 1,
     nodes: 100_000,
 };
 
-const THREE_MULTIPLIES: &str =
+pub const THREE_MULTIPLIES: &str =
     "S66 CERTIFICATE 1\nPROFILE 3 3 4 4 3 10 29 8 3 8 1 1 1 1 2 1 2\nBLOCK 3\nI FX1 X2*X3\nI FX4 X5*X6\nI FX0 X7*X7\nTIME 22\nBOUND 22\nORDER 1 2 3\nS 1 2 3\nS 2 3\nS 3\nT\nS 2\nT\nS 1 3\nS 3\nT\nS 1\nT\nS 1 2\nS 2\nT\nS 1\nT\nEND\n";
 
 const ONE_LOAD: &str =
@@ -32,7 +34,7 @@ fn altered<R: AllocGlobal>(rt: &R, text: &str, old: &str, new: &str) -> Result<S
 }
 
 /// Checks what `prove` writes for a source.
-fn check_proof<R: AllocGlobal + Abort>(
+fn check_proof<R: AllocGlobal + Abort + Threads + Wait + Sync>(
     rt: &R,
     name: &str,
     source: &str,
@@ -51,7 +53,7 @@ fn check_proof<R: AllocGlobal + Abort>(
 }
 
 /// Checks what `check` writes for documents, and how it ends.
-fn check_verdicts<R: AllocGlobal + Abort>(
+fn check_verdicts<R: AllocGlobal + Abort + Threads + Wait + Sync>(
     rt: &R,
     name: &str,
     documents: &str,
@@ -64,7 +66,12 @@ fn check_verdicts<R: AllocGlobal + Abort>(
 }
 
 /// Checks that `check` refuses a text, and writes nothing.
-fn check_refused<R: AllocGlobal + Abort>(rt: &R, name: &str, text: &str, refusal: CertError) {
+fn check_refused<R: AllocGlobal + Abort + Threads + Wait + Sync>(
+    rt: &R,
+    name: &str,
+    text: &str,
+    refusal: CertError,
+) {
     let (result, written) = run(rt, Command::Check, text.as_bytes());
     assert_eq!(rt; result, Err(Fault::Document(refusal)), "{name}");
     assert!(rt; written.is_empty(), "{name}");

@@ -18,12 +18,12 @@ struct Example {
 #[test]
 fn prints_examples(rt: HostRuntime) -> Result<(), Fail> {
     let order = Command::Order {
-        workers: 4,
+        workers: 1,
         nodes: 100_000,
         trace: true,
     };
     let prove = Command::Prove {
-        workers: 4,
+        workers: 1,
         nodes: 100_000,
     };
     let examples = [

@@ -5,10 +5,12 @@ use super::run;
 use crate::command::Command;
 use crate::outcome::Status;
 use std::process::Abort;
+use std::sync::Wait;
 use std::test::Fail;
+use std::thread::Threads;
 
 /// Checks what `order` prints of a source, and how it ends.
-fn check_order<R: AllocGlobal + Abort>(
+fn check_order<R: AllocGlobal + Abort + Threads + Wait + Sync>(
     rt: &R,
     name: &str,
     source: &str,

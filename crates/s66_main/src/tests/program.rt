@@ -1,16 +1,30 @@
 ghost use Rattle.std.specs.Prelude.{◌≡◌};
 
 use super::TakesFew;
+use crate::observer::Silent;
 use crate::program::run_program;
 use arrayvec::ArrayVec;
 use s66_line::{OverRead, OverWrite};
+use std::sync::Wait;
+use std::thread::Threads;
 
 /// The status of the words over a source, what was written, and what was told of errors.
-fn run_words<R: AllocGlobal>(rt: &R, words: &[&str], source: &[u8]) -> (u8, Vec<u8>, Vec<u8>) {
+fn run_words<R: AllocGlobal + Threads + Wait + Sync>(
+    rt: &R,
+    words: &[&str],
+    source: &[u8],
+) -> (u8, Vec<u8>, Vec<u8>) {
     let mut reader = OverRead::new(source);
     let mut writer = OverWrite::new(Vec::new(rt.alloc()));
     let mut errors = OverWrite::new(Vec::new(rt.alloc()));
-    let status = run_program(rt, words, &mut reader, &mut writer, &mut errors);
+    let status = run_program(
+        rt,
+        words,
+        &mut reader,
+        &mut writer,
+        &mut errors,
+        &mut Silent,
+    );
     (status, writer.into_inner(), errors.into_inner())
 }
 
@@ -133,7 +147,14 @@ fn keeps_the_status_untold(rt: HostRuntime) {
         let mut reader = OverRead::new(b"  SA1 *+2\n".as_slice());
         let mut writer = OverWrite::new(Vec::new(rt.alloc()));
         let mut errors = broken_writer();
-        let status = run_program(&rt, words, &mut reader, &mut writer, &mut errors);
+        let status = run_program(
+            &rt,
+            words,
+            &mut reader,
+            &mut writer,
+            &mut errors,
+            &mut Silent,
+        );
         assert_eq!(rt; status, wanted);
         assert!(rt; writer.into_inner().is_empty());
     }
@@ -150,6 +171,7 @@ fn tells_that_help_fails(rt: HostRuntime) {
         &mut reader,
         &mut writer,
         &mut errors,
+        &mut Silent,
     );
     assert_eq!(rt; status, 6);
     assert_eq!(rt;

@@ -11,15 +11,14 @@ use Rattle.s66_main.specs.ProveText.{document_by, document_under}
 use Rattle.s66_main.proofs.prove_text.push_proof.Goals as goal
 
 pub returns : goal.returns
-returns c =
+returns g c =
     let block = c.args.block.now in
     let answer = c.in_ok-answer.answer in
     let a = answer_of answer in
     let problem : answer.problem ≡ problem_of block =
-    c.in_ok-answer.ensures.problem ∙ c.in_ok-new.ensures.problem ∙ ap (λ (p : Profile). record { block = instrs_of block; profile = p }) c.standard-profile.ensures in
-    let budget : answer.budget ≡ c.args.nodes = c.in_ok-answer.ensures.budget ∙ c.in_ok-new.ensures.budget in
-    let is : IsAnswer (problem_of block) c.args.nodes a =
-    subst (λ (b : Problem). IsAnswer b c.args.nodes a) problem (subst (λ n. IsAnswer answer.problem n a) budget c.time.ensures.answer) in
+    c.in_ok-answer.ensures.problem ∙ ap (λ (p : Profile). record { block = instrs_of block; profile = p }) c.standard-profile.ensures in
+    let is : IsAnswer (problem_of block) c.args.options.nodes a =
+    subst (λ (b : Problem). IsAnswer b c.args.options.nodes a) problem (subst (λ n. IsAnswer answer.problem n a) c.in_ok-answer.ensures.budget c.time.ensures.answer) in
     let says : document_of c.in_ok-document.document ≡ document_by block a =
     c.in_ok-document.ensures ∙ ap (λ (p : Profile). document_under p block a) c.standard-profile.ensures in (
       a,
