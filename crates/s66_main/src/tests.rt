@@ -29,6 +29,7 @@ mod lines;
 mod order;
 mod orders;
 mod plain_clock;
+mod pool;
 mod printing;
 mod program;
 mod progress;
