@@ -2,8 +2,9 @@
 """Measures the clock that a search pushes and undoes, the tree that the search walks, and the search itself.
 
     bench/search.py [--budget SPLITS]         machine instructions a push, an undo, a new clock and a split
-    bench/search.py [--budget SPLITS] order   machine instructions a split of `s66 order`, all that ends a search included, and
-                                              the seconds of a source of 1,000 blocks of 4 to 20 instructions
+    bench/search.py [--budget SPLITS] order   machine instructions a split of `s66 order` by one worker, all that ends a search
+                                              included, and the seconds of a source of 1,000 blocks of 4 to 20 instructions by
+                                              one worker and by four
 
 The program is the crate s66_bench, and for `order` s66_main, which `rt run` proves and builds where that is needed.
 Instructions are those of valgrind's callgrind, and what is the same in two runs is taken off by their difference. The blocks
@@ -61,17 +62,17 @@ def splits_of(words, text):
 def tell_order(program, length, texts, budget):
     splits = ran = 0
     for text in texts:
-        words = [program, "order", "--trace", "--nodes"]
+        words = [program, "order", "--workers", "1", "--trace", "--nodes"]
         splits += splits_of(words + [str(budget)], text) - splits_of(words + ["1"], text)
         ran += instructions(words + [str(budget)], text) - instructions(words + ["1"], text)
     print("%d instructions: %.0f a split of a search, %d splits" % (length, ran / splits, splits))
 
 
-def tell_mixed(program):
+def tell_mixed(program, workers):
     text = mixed_source()
     begun = time.perf_counter()
-    subprocess.run([program, "order"], input=text, capture_output=True)
-    print("1,000 blocks of 4 to 20 instructions: %.1f seconds" % (time.perf_counter() - begun))
+    subprocess.run([program, "order", "--workers", str(workers)], input=text, capture_output=True)
+    print("1,000 blocks of 4 to 20 instructions, --workers %d: %.1f seconds" % (workers, time.perf_counter() - begun))
 
 
 def added(program, mode, text, rounds):
@@ -113,7 +114,8 @@ def main():
         program = build("s66_main", ["time"])
         for length in LENGTHS:
             tell_order(program, length, list(blocks_of(length)), asked.budget)
-        tell_mixed(program)
+        for workers in (1, 4):
+            tell_mixed(program, workers)
         return
     program = build("s66_bench", ["tree", "1"])
     for length in LENGTHS:
