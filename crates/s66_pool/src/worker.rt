@@ -21,7 +21,7 @@ pub(crate) struct Site<'s, 'a, R, G> {
     pub rt: &'s R,
     pub hub: &'s Hub<'a>,
     pub gate: &'s G,
-    /// How many workers have a node, or have still to hear that none is open.
+    /// How many workers have a node, or may have left some open since they were last told of none.
     pub searching: AtomicUsize,
 }
 
@@ -56,7 +56,9 @@ pub(crate) fn work_at<'a, R: AllocGlobal + Wait, G: Gate>(
             break;
         }
     }
-    site.searching.fetch_sub(1, Ordering::SeqCst);
+    if worker.was_told_of_none() {
+        site.searching.fetch_sub(1, Ordering::SeqCst);
+    }
     // an allowance that memory keeps out is taken back when the ledger is finished
     let _ = site.hub.retire(site.rt, seat);
 }
@@ -131,6 +133,11 @@ impl<'b> Worker<'b> {
         site.gate
             .after_claim(seat.number(), matches!(claimed, Ok(Some(_))));
         claimed
+    }
+
+    /// Whether its last claim got no node.
+    fn was_told_of_none(&self) -> bool {
+        0 < self.nones
     }
 
     /// Waits for nodes, since none was open; false where none will be, and after `NONES_LIMIT` times in a row.
@@ -248,7 +255,7 @@ impl<'b> Worker<'b> {
 }
 
 /// Looks `LOOKS` times whether any worker is searching, and lets other threads run between. Where none is, each was told of no node
-/// after its last graft: so none is open and none is out, and none will ever be.
+/// after it last grafted or gave one back, so none is open, and none will be.
 fn is_searched(searching: &AtomicUsize) -> bool {
     for _ in 0..LOOKS {
         if searching.load(Ordering::SeqCst) == 0 {
