@@ -57,7 +57,7 @@ impl<'a, C: Clock, W: Write> Observer for Progress<'a, C, W> {
             return;
         }
         if let Some(terminal) = &mut self.terminal {
-            // longer from time to time, and never shorter
+            // the line never gets shorter, so nothing is left of the one before
             let _ = write!(terminal, "\r{count} of {of} blocks");
             self.is_shown = true;
         }

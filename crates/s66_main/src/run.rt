@@ -85,7 +85,8 @@ pub fn run_command<R: AllocGlobal + Threads + Wait + Sync, F: Feed, S: Sink>(
     run_observed(rt, command, reader, writer, &mut Silent)
 }
 
-/// `run_command`, of which an observer is told how far it is; that changes nothing of what is written and answered.
+/// `run_command`, of which an observer is told how far it is, and that it has ended before anything is written; what it does with
+/// that changes nothing of what is written and answered. Errors are those of `run_command`.
 pub fn run_observed<R: AllocGlobal + Threads + Wait + Sync, F: Feed, S: Sink, O: Observer>(
     rt: &R,
     command: Command,

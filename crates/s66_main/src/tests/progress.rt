@@ -107,9 +107,7 @@ fn check_two<R: AllocGlobal + Abort + Threads + Wait + Sync>(
 
 #[test]
 fn tells_of_blocks_and_documents(rt: HostRuntime) {
-    let source = b"  BX1 X2+X3
-L BX1 X2
-";
+    let source = b"  BX1 X2+X3\nL BX1 X2\n";
     let order = Command::Order {
         workers: 2,
         nodes: 100,
@@ -131,12 +129,7 @@ fn tells_the_end_of_refused_work(rt: HostRuntime) {
         nodes: 0,
         trace: false,
     };
-    let (result, written, told) = run_told(
-        &rt,
-        command,
-        b"  SA1 *+2
-",
-    );
+    let (result, written, told) = run_told(&rt, command, b"  SA1 *+2\n");
     assert!(rt; result.is_err() && written.is_empty());
     assert!(rt; told.steps.is_empty());
     assert_eq!(rt; told.ends, 1);
