@@ -1,18 +1,24 @@
 #!/usr/bin/env python3
-"""Measures how much faster several workers search a block than one, and how long they wait.
+"""Measures how much faster several workers search a block than one, how long they wait, and what a worker costs.
 
-    bench/pool.py [--runs N] [--against OTHER] [PROGRAM]    splits a second of `s66 order`, by 1, 2 and 4 workers
+    bench/pool.py [--runs N] [PROGRAM]    splits a second of `s66 order`, by 1, 2 and 4 workers, and what they are measured by
 
-PROGRAM is the built program; without it, the one that `./s66` leaves when it has built it. OTHER is another one, such as an
-older build, which searches the same blocks by one worker. The blocks are random ones of 24 and of 40 instructions, each of
-which uses up 1,000,000 splits, and that is checked in each run. All that a process does is counted, from its start to its
-end. Programs and numbers of workers take turns, and of the runs of each the fastest counts.
+PROGRAM is the built program; without it, the one that `./s66` leaves when it has built it. The blocks are random ones of 24 and
+of 40 instructions, each of which uses up 1,000,000 splits, and that is checked in each run. All that a process does is counted,
+from its start to its end. All searches take turns, and of the runs of each the fastest counts.
 
-A worker that finds the ledger's lock taken asks the kernel to let other threads run, and tries again; so does one that finds
-no open node. The kernel returns at once unless it has other work, so waiting is no idle time but processor time, of which two
-figures tell how much it is. "In the kernel" is the kernel's time beyond that of one worker, which waits for nobody: waiting is
-at least about that. "Beyond one worker's" is all processor time beyond that of one worker for as many splits, in which are
-also the waiting outside of the kernel, and what it costs that processors share caches or a core: waiting is at most about
+How much four workers can gain depends on the machine: four processors may be two cores with two threads each, or share a memory
+that is too slow for four. So the same is told of four processes at once, each a search by one worker. They share nothing, and wait
+for nobody: four workers can hardly gain more.
+
+What a worker costs beside a search without (the lock, the history, a thread) is told by the crate s66_bench, which searches by
+one worker and without; `rt run` proves and builds it where that is needed.
+
+A worker that finds the ledger's lock taken looks for it for a while, and then asks the kernel to let other threads run; so does
+one that finds no open node. The kernel returns at once unless it has other work, so waiting is no idle time but processor time, of
+which two figures tell how much it is. "In the kernel" is the kernel's time beyond that of one worker, which waits for nobody:
+waiting is at least about that. "Beyond one worker's" is all processor time beyond that of one worker for as many splits, in which
+are also the waiting outside of the kernel, and what it costs that processors share caches or a core: waiting is at most about
 that. Both are shares of the processor time of the run. Other work on the machine spoils the seconds more than the shares.
 """
 import argparse
@@ -23,14 +29,25 @@ import subprocess
 import time
 from collections import namedtuple
 
-from search import block_of
+from search import block_of, build
 from speed import ENDED, PROGRAM
 
 BUDGET = 1_000_000
-WORKERS = [1, 2, 4]
 SEEDS = {24: [2, 5, 6], 40: [2, 3, 4]}  # of blocks that use up the budget
 
+Search = namedtuple("Search", "words processes pattern")  # how many processes do the same at once, and where one tells its splits
 Run = namedtuple("Run", "seconds user kernel")  # by the clock, and of processors
+
+
+def order(program, workers, processes=1):
+    """Processes of `s66 order`."""
+    words = (program, "order", "--workers", str(workers), "--nodes", str(BUDGET), "--trace")
+    return Search(words, processes, rb"\* SPLITS (\d+)")
+
+
+def bench(program, mode):
+    """A process of s66_bench."""
+    return Search((program, mode, str(BUDGET)), 1, rb"\d+ (\d+)")
 
 
 def block_from(seed, length):
@@ -38,28 +55,30 @@ def block_from(seed, length):
     return block_of(random.Random(seed), length).encode()
 
 
-def searched(program, workers, text):
-    """One search, which uses up the budget."""
-    words = [program, "order", "--workers", str(workers), "--nodes", str(BUDGET), "--trace"]
+def searched(search, text):
+    """One run of a search, of which each process uses up the budget."""
     before = resource.getrusage(resource.RUSAGE_CHILDREN)
     begun = time.perf_counter()
-    told = subprocess.run(words, input=text, capture_output=True)
+    started = [subprocess.Popen(search.words, stdin=subprocess.PIPE, stdout=subprocess.PIPE) for _ in range(search.processes)]
+    for process in started:
+        process.stdin.write(text)
+        process.stdin.close()
+    told = [process.stdout.read() for process in started]
+    ended = [process.wait() for process in started]
     seconds = time.perf_counter() - begun
     after = resource.getrusage(resource.RUSAGE_CHILDREN)
-    if told.returncode not in ENDED:
-        raise SystemExit(told.stderr.decode())
-    splits = int(re.search(rb"\* SPLITS (\d+)", told.stdout)[1])
-    if splits != BUDGET:
-        raise SystemExit("a search took %d splits: choose another seed" % splits)
+    for status, output in zip(ended, told):
+        if status not in ENDED or int(re.search(search.pattern, output)[1]) != BUDGET:
+            raise SystemExit("a search ended with %d, or took other splits: %s" % (status, " ".join(search.words)))
     return Run(seconds, after.ru_utime - before.ru_utime, after.ru_stime - before.ru_stime)
 
 
 def fastest(searches, text, runs):
-    """Of each search, which is a program and a number of workers, the fastest run on a block."""
+    """Of each search the fastest run on a block."""
     best = {}
     for _ in range(runs):
         for search in searches:
-            run = searched(*search, text)
+            run = searched(search, text)
             best[search] = min(run, best.get(search, run))
     return best
 
@@ -69,11 +88,12 @@ def added(runs):
     return Run(*map(sum, zip(*runs)))
 
 
-def tell(name, blocks, run, one):
+def tell(name, search, blocks, run, one):
     """A line on the runs over so many blocks, beside those of one worker."""
-    rate = blocks * BUDGET / run.seconds
-    print("%s %9s splits a second, %.2f of one worker's" % (name, format(round(rate), ","), one.seconds / run.seconds), end="")
-    if run is one:
+    rate = search.processes * blocks * BUDGET / run.seconds
+    gain = search.processes * one.seconds / run.seconds
+    print("%s %9s splits a second, %.2f of one worker's" % (name, format(round(rate), ","), gain), end="")
+    if run is one or search.processes > 1 or "order" not in search.words:
         print()
         return
     spent = run.user + run.kernel
@@ -82,25 +102,29 @@ def tell(name, blocks, run, one):
     print("; of its time %.0f in 100 in the kernel, %.0f beyond one worker's" % (100 * in_kernel, 100 * beyond_one))
 
 
-def measure(length, program, other, runs):
-    searches = {(program, workers): "--workers %d:" % workers for workers in WORKERS}
-    if other:
-        searches[other, 1] = "the other:  "
-    blocks = [fastest(searches, block_from(seed, length), runs) for seed in SEEDS[length]]
-    one = added(best[program, 1] for best in blocks)
-    for search, name in searches.items():
-        run = one if search == (program, 1) else added(best[search] for best in blocks)
-        tell("%d instructions, %s" % (length, name), len(blocks), run, one)
+def measure(length, program, benches, runs):
+    named = {
+        "1 worker:          ": order(program, 1),
+        "2 workers:         ": order(program, 2),
+        "4 workers:         ": order(program, 4),
+        "4 processes:       ": order(program, 1, 4),
+        "bench, 1 worker:   ": bench(benches, "run"),
+        "bench, no worker:  ": bench(benches, "finish"),
+    }
+    blocks = [fastest(named.values(), block_from(seed, length), runs) for seed in SEEDS[length]]
+    runs_of = {search: added(best[search] for best in blocks) for search in named.values()}
+    for name, search in named.items():
+        tell("%d instructions, %s" % (length, name), search, len(blocks), runs_of[search], runs_of[order(program, 1)])
 
 
 def main():
     parser = argparse.ArgumentParser(description="Measures how much faster several workers search than one.")
     parser.add_argument("--runs", type=int, default=5, help="runs of each search, of which the fastest counts, 5 if left out")
-    parser.add_argument("--against", metavar="OTHER", help="another program, which searches by one worker")
     parser.add_argument("program", nargs="?", default=PROGRAM)
     asked = parser.parse_args()
+    benches = build("s66_bench", ["tree", "1"])
     for length in SEEDS:
-        measure(length, asked.program, asked.against, asked.runs)
+        measure(length, asked.program, benches, asked.runs)
 
 
 if __name__ == "__main__":

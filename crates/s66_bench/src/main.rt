@@ -1,15 +1,22 @@
-//! Runs a clock over the blocks of a source, for `bench/search.py` to count the instructions: `new`, `push` or `both` and how many
-//! times, or `tree` and how many splits.
+//! Runs parts of a search over the blocks of a source, for `bench/search.py` and `bench/pool.py` to measure: `new`, `push` or `both`
+//! and how many times, `tree` or `finish` and how many splits, or `run`, how many splits and how many workers.
 #![tactic(auto)]
 
 mod rounds;
+mod searches;
 mod tree;
 
 use rounds::{sum_of_pushes, sum_of_rounds};
 use s66_isa::Profile;
-use s66_line::{Source, read_source};
+use s66_ledger::BUDGET_LIMIT;
+use s66_line::{Block, Source, read_source};
+use s66_pool::{Options, WORKERS_LIMIT};
+use searches::{search_alone, search_by_workers};
+use std::alloc::AllocError;
 use std::io::Read;
 use std::process::ExitCode;
+use std::sync::Wait;
+use std::thread::Threads;
 use std::{env, io};
 use tree::{Counts, walk};
 
@@ -22,6 +29,19 @@ enum Mode {
     Both(u32),
     /// A tree of at most so many splits.
     Tree(u32),
+    /// A search of at most so many splits, without workers.
+    Finish(u32),
+    /// A search by workers.
+    Run(Options),
+}
+
+/// How workers search, at most with so many splits; the words say how many workers, one if they don't.
+fn options_of(words: &[String], nodes: u32) -> Option<Options> {
+    let workers = match words.get(3) {
+        Some(word) => word.parse::<u8>().ok()?,
+        None => 1,
+    };
+    Some(Options { workers, nodes })
 }
 
 /// The mode that the words of the command line ask for.
@@ -39,34 +59,62 @@ fn mode_of(words: &[String]) -> Option<Mode> {
         }),
         "both" => Some(Mode::Both(count)),
         "tree" => Some(Mode::Tree(count)),
+        "finish" => Some(Mode::Finish(count)),
+        "run" => Some(Mode::Run(options_of(words, count)?)),
         _ => None,
     }
 }
 
-/// Runs a mode over each block; it answers the totals, added up, and what the trees count.
-fn run(source: &Source<'_>, mode: Mode) -> (u64, Counts) {
+/// Runs a mode over a block; it answers the total, or the totals added up, and what a tree or a search counts.
+fn run_block<R: AllocGlobal + Threads + Wait + Sync>(
+    rt: &R,
+    block: &Block,
+    mode: Mode,
+) -> Result<(u64, Counts), AllocError> {
     let profile = Profile::standard();
+    let none = Counts::default();
+    Ok(match mode {
+        Mode::Push { is_whole, rounds } => {
+            // a count that the compiler doesn't know, so that both kinds of rounds run the same code
+            let count = if is_whole { block.count() } else { 1 };
+            prove!(1 <= block.count());
+            (sum_of_pushes(block, &profile, count, rounds), none)
+        }
+        Mode::Both(rounds) => (sum_of_rounds(block, &profile, rounds), none),
+        Mode::Tree(budget) => {
+            let counts = walk(block, &profile, budget);
+            (counts.best as u64, counts)
+        }
+        Mode::Finish(budget) => {
+            let counts = search_alone(rt.alloc(), block, &profile, budget.min(BUDGET_LIMIT))?;
+            (counts.best as u64, counts)
+        }
+        Mode::Run(options) => {
+            let within = Options {
+                workers: options.workers.max(1).min(WORKERS_LIMIT),
+                nodes: options.nodes.min(BUDGET_LIMIT),
+            };
+            let counts = search_by_workers(rt, block, &profile, within)?;
+            (counts.best as u64, counts)
+        }
+    })
+}
+
+/// Runs a mode over each block; it answers the totals, added up, and what the trees and searches count.
+fn run<R: AllocGlobal + Threads + Wait + Sync>(
+    rt: &R,
+    source: &Source<'_>,
+    mode: Mode,
+) -> Result<(u64, Counts), AllocError> {
     let mut sum = 0u64;
     let mut counts = Counts::default();
     for block in source.blocks() {
-        let totals = match mode {
-            Mode::Push { is_whole, rounds } => {
-                // a count that the compiler doesn't know, so that both kinds of rounds run the same code
-                let count = if is_whole { block.count() } else { 1 };
-                prove!(1 <= block.count());
-                sum_of_pushes(block, &profile, count, rounds)
-            }
-            Mode::Both(rounds) => sum_of_rounds(block, &profile, rounds),
-            Mode::Tree(budget) => {
-                let walked = walk(block, &profile, budget);
-                counts.splits = counts.splits.wrapping_add(walked.splits);
-                counts.pushes = counts.pushes.wrapping_add(walked.pushes);
-                walked.best as u64
-            }
-        };
+        let (totals, counted) = run_block(rt, block, mode)?;
         sum = sum.wrapping_add(totals);
+        counts.splits = counts.splits.wrapping_add(counted.splits);
+        counts.pushes = counts.pushes.wrapping_add(counted.pushes);
     }
-    (sum, counts)
+    Ok((sum, counts))
 }
 
 fn read_all(rt: &HostRuntime) -> io::Result<Vec<u8>> {
@@ -80,14 +128,14 @@ fn main(rt: HostRuntime) -> io::Result<ExitCode> {
     let words = env::args(&rt)?.collect::<Vec<String>>(rt.alloc())?;
     let text = read_all(&rt)?;
     let Some(mode) = mode_of(words.as_slice()) else {
-        eprintln!(rt; "wanted: new, push, both or tree, and a number")?;
+        eprintln!(rt; "wanted: new, push, both, tree, finish or run, and a number")?;
         return Ok(ExitCode::FAILURE);
     };
     let Ok(source) = read_source(rt.alloc(), text.as_slice()) else {
         eprintln!(rt; "the source is refused")?;
         return Ok(ExitCode::FAILURE);
     };
-    let (sum, counts) = run(&source, mode);
+    let (sum, counts) = run(&rt, &source, mode)?;
     println!(rt; "{sum} {} {}", counts.splits, counts.pushes)?;
     Ok(ExitCode::SUCCESS)
 }

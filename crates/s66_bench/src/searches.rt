@@ -1,0 +1,49 @@
+ghost use Rattle.std.specs.Prelude.{◌≤◌};
+ghost use Rattle.s66_ledger.specs.declared.limits.TheConstants.{BUDGET_LIMIT};
+ghost use Rattle.s66_pool.specs.declared.limits.TheConstants.{WORKERS_LIMIT};
+
+use crate::tree::Counts;
+use s66_isa::Profile;
+use s66_ledger::{Answer, Ledger};
+use s66_line::Block;
+use s66_pool::{Free, Options, run};
+use std::alloc::{AllocError, Global};
+use std::sync::Wait;
+use std::thread::Threads;
+
+/// How many splits a search takes, and the least total that it finds. It doesn't tell its pushes.
+fn counts_of(answer: &Answer) -> Counts {
+    Counts {
+        splits: answer.splits(),
+        pushes: 0,
+        best: answer.time(),
+    }
+}
+
+/// A search without workers, which keeps no history.
+pub fn search_alone(
+    alloc: Global,
+    block: &Block,
+    profile: &Profile,
+    budget: u32,
+) -> Result<Counts, AllocError>
+    requires { budget ≤ BUDGET_LIMIT }
+{
+    let ledger = Ledger::new(alloc, block, profile, budget, 1)?;
+    let answer = ledger.finish(alloc)?;
+    Ok(counts_of(&answer))
+}
+
+/// A search by workers.
+pub fn search_by_workers<R: AllocGlobal + Threads + Wait + Sync>(
+    rt: &R,
+    block: &Block,
+    profile: &Profile,
+    options: Options,
+) -> Result<Counts, AllocError>
+    requires workers { (1 ≤ options.workers) × (options.workers ≤ WORKERS_LIMIT) }
+    requires nodes { options.nodes ≤ BUDGET_LIMIT }
+{
+    let answer = run(rt, block, profile, options, &Free)?;
+    Ok(counts_of(&answer))
+}
