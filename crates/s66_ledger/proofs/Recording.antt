@@ -5,15 +5,13 @@ use Rattle.s66_isa.specs.declared.instr.Instr.{Instr}
 use Rattle.s66_isa.specs.declared.profile.Profile.{Profile}
 use Rattle.s66_isa.specs.Lists.{weigh, rising}
 use Rattle.s66_model.specs.Timing.{Problem, total_of}
-use Rattle.s66_model.specs.Tree.{Tree, Knot, splits}
-use Rattle.s66_model.specs.Piece.{Tip}
-use Rattle.s66_model.specs.Told.{Told}
+use Rattle.s66_model.specs.Tree.{splits}
 use Rattle.s66_model.specs.Ledger.{Ledger, Event, Graft, Offer, Reply, Taken, Moves, Run, opening}
 use Rattle.s66_model.specs.Recorded.{IsOwn, IsOfferOf, graft_event}
 use Rattle.s66_model.specs.Accounts.{Account, account_of}
 use Rattle.s66_model.proofs.Histories.{run-next, history-spent}
-use Rattle.s66_node.specs.declared.knot.Knot as code
-use Rattle.s66_node.specs.SeenKnots.{seen}
+use Rattle.s66_node.specs.declared.outline.Outline.{Outline}
+use Rattle.s66_node.specs.Outlines.{outline_tree, IsOutlineOf}
 use Rattle.s66_node.specs.Pieces.{PieceOf, tree_of}
 use Rattle.s66_ledger.specs.declared.entry.Entry.{Entry}
 use Rattle.s66_ledger.specs.declared.entry.Refusal.{Refusal}
@@ -21,7 +19,7 @@ use Rattle.s66_ledger.specs.declared.entry.Refusal.TheVariants as refusal
 use Rattle.s66_ledger.specs.declared.reply.Offered.{Offered}
 use Rattle.s66_ledger.specs.declared.reply.Offered.TheVariants as offered
 use Rattle.s66_ledger.specs.Replies.{offered_reply}
-use Rattle.s66_ledger.specs.Entries.{entry_of, refusal_reply, error_of, piece_of}
+use Rattle.s66_ledger.specs.Entries.{entry_of, refusal_reply, error_of}
 use Rattle.s66_ledger.specs.Kept.{MachineOf, IsMove}
 use Rattle.s66_ledger.specs.GraftMoves.{IsGraftMove, IsRefusedMove}
 use Rattle.s66_ledger.specs.Grafts.{IsGraftAt, IsRefusedGraftAt}
@@ -89,19 +87,15 @@ offer-entry b p w order numbers own time reply event owns same total (other, oth
     ∙ (ap (λ o. told (Offer w o order (total_of p order)) reply) (own-same b p own other owns others)
     ∙ ap (λ e. told e reply) (sym is)))
 
-module _ (m next : MachineOf) (w i : ℕ) (p : PieceOf) (prefix : List ℕ) (count : ℕ) (over : prefix ≡ p.prefix) (counts : count ≡ splits (tree_of p)) where
-  abbrev tree-by : Problem → List ℕ → List (Knot Told) → Tree Tip
-  tree-by b at knots = tree_of (record { problem = b; prefix = at; knots = knots; timed = None })
-
-  pub taken-entry : (knots : List code.Knot) → seen knots ≡ p.knots → (h : IsGraftMove m w i p Taken next) → told (Graft w i true prefix count (Some (tree_of (piece_of m.problem prefix knots)))) Taken ≡ told h.0 Taken
-  taken-entry knots lines (event, (own, owns, is), move) =
+module _ (m next : MachineOf) (w i : ℕ) (p : PieceOf) (count : ℕ) (counts : count ≡ splits (tree_of p)) where
+  pub taken-entry : (outline : Outline) → IsOutlineOf p outline → (h : IsGraftMove m w i p Taken next) → told (Graft w i true outline.prefix.items count (Some (outline_tree m.problem outline))) Taken ≡ told h.0 Taken
+  taken-entry outline of (event, (own, owns, is), move) =
       let k : IsMove m (Graft w i own p.prefix (splits (tree_of p)) (Some (tree_of p))) Taken next = subst (λ e. IsMove m e Taken next) is move in
       let mine : own ≡ true = k.3.1.1.0 in
-      let tree : tree-by m.problem prefix (seen knots) ≡ tree_of p =
-      ap (λ at. tree-by m.problem at (seen knots)) over ∙ (ap (tree-by m.problem p.prefix) lines ∙ ap (λ b. tree-by b p.prefix p.knots) (sym (owns.0 mine))) in
-      ap (λ t. told (Graft w i true prefix count (Some t)) Taken) tree
-      ∙ (ap (λ n. told (Graft w i true prefix n (Some (tree_of p))) Taken) counts
-      ∙ (ap (λ at. told (Graft w i true at (splits (tree_of p)) (Some (tree_of p))) Taken) over
+      let tree : outline_tree m.problem outline ≡ tree_of p = ap (λ b. outline_tree b outline) (sym (owns.0 mine)) ∙ of.1 in
+      ap (λ t. told (Graft w i true outline.prefix.items count (Some t)) Taken) tree
+      ∙ (ap (λ n. told (Graft w i true outline.prefix.items n (Some (tree_of p))) Taken) counts
+      ∙ (ap (λ at. told (Graft w i true at (splits (tree_of p)) (Some (tree_of p))) Taken) of.0
       ∙ (ap (λ o. told (Graft w i o p.prefix (splits (tree_of p)) (Some (tree_of p))) Taken) (sym mine)
       ∙ ap (λ e. told e Taken) (sym is))))
 
@@ -110,8 +104,8 @@ module _ (m next : MachineOf) (w i : ℕ) (p : PieceOf) (prefix : List ℕ) (cou
   refused-move refusal.OtherPrefix h = h
   refused-move refusal.OverAllowance h = h
 
-  pub refused-entry : (own : Bool) (why : Refusal) → IsOwn m.problem p.problem own → (h : IsGraftMove m w i p (refusal_reply why) next) → told (Graft w i own prefix count None) (refusal_reply why) ≡ told h.0 (refusal_reply why)
-  refused-entry own why owned (event, (other, owns, is), move) =
+  pub refused-entry : (prefix : List ℕ) → prefix ≡ p.prefix → (own : Bool) (why : Refusal) → IsOwn m.problem p.problem own → (h : IsGraftMove m w i p (refusal_reply why) next) → told (Graft w i own prefix count None) (refusal_reply why) ≡ told h.0 (refusal_reply why)
+  refused-entry prefix over own why owned (event, (other, owns, is), move) =
       ap (λ n. told (Graft w i own prefix n None) (refusal_reply why)) counts
       ∙ (ap (λ at. told (Graft w i own at (splits (tree_of p)) None) (refusal_reply why)) over
       ∙ (ap (λ o. told (Graft w i o p.prefix (splits (tree_of p)) None) (refusal_reply why)) (own-same m.problem p.problem own other owned owns)

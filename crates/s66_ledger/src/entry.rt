@@ -5,7 +5,7 @@ ghost use Rattle.s66_ledger.specs.declared.reply.GraftError.TheVariants as error
 use crate::reply::{GraftError, Offered};
 use arrayvec::ArrayVec;
 use s66_line::BLOCK_LIMIT;
-use s66_node::Knot;
+use s66_node::Outline;
 
 /// What a ledger's history has of one event, with its reply. Workers count from 1, nodes from 0; times are in minor cycles.
 #[derive(Debug, Drop)]
@@ -20,12 +20,11 @@ pub enum Entry {
         w: u8,
         node: Option<u32>,
     },
-    /// A piece was put in the place of the node: its prefix, its lines in preorder, and how many splits it has.
+    /// A piece was put in the place of the node: its prefix and its tree, and how many splits it has.
     Taken {
         w: u8,
         node: u32,
-        prefix: ArrayVec<u8, BLOCK_LIMIT>,
-        knots: Vec<Knot>,
+        outline: Outline,
         splits: u32,
     },
     /// A piece was refused; `own` tells whether it is of the ledger's block and profile.
@@ -33,7 +32,7 @@ pub enum Entry {
         w: u8,
         node: u32,
         own: bool,
-        prefix: ArrayVec<u8, BLOCK_LIMIT>,
+        prefix: Vec<u8>,
         splits: u32,
         why: Refusal,
     },

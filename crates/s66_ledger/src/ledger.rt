@@ -6,7 +6,7 @@ use crate::reply::{BackError, GraftError, Offered};
 use crate::ticket::{Ticket, node_of};
 use s66_isa::Profile;
 use s66_line::Block;
-use s66_node::{Piece, copy_of};
+use s66_node::{Outline, Piece, copy_of};
 use s66_time::Timed;
 use std::alloc::{AllocError, Global};
 use std::marker::Model;
@@ -17,6 +17,7 @@ pub struct Ledger<'a> {
     machine: Machine<'a>,
     /// An entry for each event, the oldest first.
     history: Vec<Entry>,
+    pub(crate) alloc: Global,
 }
 
 impl<'a> Model for Ledger<'a> {
@@ -42,6 +43,7 @@ impl<'a> Ledger<'a> {
     ghost use Rattle.s66_ledger.specs.Ledgers.{IsEvent, IsRecorded, events_of, account_summary};
     ghost use Rattle.s66_ledger.specs.Answers.{answer_of};
     ghost use Rattle.s66_ledger.specs.Grafts.{IsGraft, IsRefusedGraft, IsGraftAt, IsRefusedGraftAt};
+    ghost use Rattle.s66_node.specs.Outlines.{IsOutlineOf};
     ghost use Rattle.s66_ledger.specs.Claims.{claimed_node, IsTicketOf, IsLeastOpen};
     ghost use Rattle.s66_ledger.specs.Replies.{offered_reply};
     ghost use Rattle.s66_ledger.specs.declared.limits.TheConstants.{BUDGET_LIMIT};
@@ -66,6 +68,7 @@ impl<'a> Ledger<'a> {
         Ok(Ledger {
             machine: Machine::new(alloc, block, profile, budget, workers)?,
             history: Vec::new(alloc),
+            alloc,
         })
     }
 
@@ -266,37 +269,40 @@ impl<'a> Ledger<'a> {
         ensures err { OnErr result (self.new.state ≡ self.old.state) }
         ensures handed_back { IfErr result (λ e. (e.1 ≡ ticket) × (e.2 ≡ piece)) }
     {
-        match self.graft_at(w, ticket.node(), piece) {
+        let Ok(outline) = piece.outline(self.alloc) else {
+            return Err((GraftError::OutOfMemory, ticket, piece));
+        };
+        match self.graft_at(w, ticket.node(), &piece, outline) {
             Ok(()) => Ok(()),
-            Err((why, piece)) => Err((why, ticket, piece)),
+            Err(why) => Err((why, ticket, piece)),
         }
     }
 
-    /// Puts a piece in the place of the node of this number, as `graft` does.
-    pub(crate) fn graft_at(
+    /// Puts a piece in the place of the node of this number, as `graft` does; its outline goes into the history. The piece stays with
+    /// the caller, who can drop it where no other thread waits.
+    pub fn graft_at(
         &mut self,
         w: u8,
         node: u32,
-        piece: Piece,
-    ) -> Result<(), (GraftError, Piece)>
-        requires { (1 ≤ w) × (w ≤ self.old.workers) }
-        ensures ok { OnOk result (IsGraftAt self.old w node piece Taken self.new) }
-        ensures refused { IfErr result (λ e. IsRefusedGraftAt self.old w node piece e.0 self.new) }
+        piece: &Piece,
+        outline: Outline,
+    ) -> Result<(), GraftError>
+        requires worker { (1 ≤ w) × (w ≤ self.old.workers) }
+        requires outline { IsOutlineOf piece.now outline }
+        ensures ok { OnOk result (IsGraftAt self.old w node piece.now Taken self.new) }
+        ensures refused { IfErr result (λ why. IsRefusedGraftAt self.old w node piece.now why self.new) }
         ensures err { OnErr result (self.new.state ≡ self.old.state) }
-        ensures handed_back { IfErr result (λ e. e.1 ≡ piece) }
     {
         let Ok(()) = self.history.reserve(1) else {
-            return Err((GraftError::OutOfMemory, piece));
+            return Err(GraftError::OutOfMemory);
         };
-        let prefix = copy_of(piece.prefix());
         let splits = piece.splits();
-        let error = match self.machine.graft(w, node, &piece) {
+        let error = match self.machine.graft(w, node, piece) {
             Ok(()) => {
                 self.history.push_reserved(Entry::Taken {
                     w,
                     node,
-                    prefix,
-                    knots: piece.into_knots(),
+                    outline,
                     splits,
                 });
                 return Ok(());
@@ -304,9 +310,10 @@ impl<'a> Ledger<'a> {
             Err(error) => error,
         };
         let Some(why) = refusal_of(error) else {
-            return Err((error, piece));
+            return Err(error);
         };
         let own = piece.is_of(self.machine.block(), self.machine.profile());
+        let Outline { prefix, .. } = outline;
         self.history.push_reserved(Entry::Refused {
             w,
             node,
@@ -315,7 +322,7 @@ impl<'a> Ledger<'a> {
             splits,
             why,
         });
-        Err((error, piece))
+        Err(error)
     }
 
     /// Brings the search to its end: offers two list schedules, takes back every allowance and every node that is out, offers the
@@ -329,7 +336,11 @@ impl<'a> Ledger<'a> {
         ensures budget { IfOk result (λ a. a.budget ≡ self.entry.budget) }
         ensures finished { IfOk result (λ a. IsFinished self.entry.problem self.entry.budget self.entry.state (answer_of a)) }
     {
-        let Ledger { machine, history } = self;
+        let Ledger {
+            machine,
+            history,
+            ..
+        } = self;
         drop(history);
         machine.finish(alloc)
     }

@@ -88,12 +88,13 @@ impl Ledger<'_> {
         ensures ok { IfOk result (λ reply. IsGraftAt self.old w node piece (reply_of reply) self.new) }
         ensures err { OnErr result (self.new ≡ self.old) }
     {
-        match self.graft_at(w, node, piece) {
+        let outline = piece.outline(self.alloc)?;
+        match self.graft_at(w, node, &piece, outline) {
             Ok(()) => Ok(Reply::Taken),
-            Err((GraftError::NotOut, _)) => Ok(Reply::NotOut),
-            Err((GraftError::OtherPrefix, _)) => Ok(Reply::OtherPrefix),
-            Err((GraftError::OverAllowance, _)) => Ok(Reply::OverAllowance),
-            Err((GraftError::OutOfMemory, _)) => Err(AllocError),
+            Err(GraftError::NotOut) => Ok(Reply::NotOut),
+            Err(GraftError::OtherPrefix) => Ok(Reply::OtherPrefix),
+            Err(GraftError::OverAllowance) => Ok(Reply::OverAllowance),
+            Err(GraftError::OutOfMemory) => Err(AllocError),
         }
     }
 

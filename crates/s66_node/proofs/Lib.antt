@@ -1,5 +1,6 @@
 pub mod Growing
 pub mod Leasts
+pub mod Outlines
 pub mod Pieces
 pub mod Schedules
 pub mod Standing

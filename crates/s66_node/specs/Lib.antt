@@ -1,4 +1,5 @@
 pub mod SeenKnots
+pub mod Outlines
 pub mod Pieces
 pub mod Walked
 pub mod Growing

@@ -4,6 +4,7 @@
 mod expansion;
 mod grow;
 mod knot;
+mod outline;
 mod piece;
 mod schedule;
 mod walk;
@@ -11,6 +12,7 @@ mod whole_order;
 
 pub use expansion::expand;
 pub use knot::Knot;
+pub use outline::{Mark, Outline};
 pub use piece::Piece;
 pub use schedule::{Priority, schedule_below, schedule_rest};
 pub use walk::Walk;

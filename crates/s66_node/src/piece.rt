@@ -71,14 +71,6 @@ impl Piece {
         self.knots.as_slice()
     }
 
-    /// The lines of the tree in preorder.
-    pub fn into_knots(self) -> Vec<Knot>
-        ensures { seen result.items ≡ self.knots }
-    {
-        let Piece { knots, .. } = self;
-        knots
-    }
-
     /// A least one of the tree's whole orders, timed, where it has some.
     pub fn timed(&self) -> Option<&Timed>
         ensures value { option_copied result ≡ self.now.timed }

@@ -3,11 +3,11 @@ ghost use Rattle.s66_ledger.specs.Steps.{worker_of};
 
 use super::clock::MULTIPLIES;
 use super::source_of;
-use s66_dep::{Order, is_beginning};
+use s66_dep::{Order, Set, is_beginning};
 use s66_isa::Profile;
 use s66_ledger::{Entry, Event, Ledger, Offered, Reply, Ticket};
 use s66_line::{Block, read_source};
-use s66_node::expand;
+use s66_node::{Mark, Outline, expand};
 use s66_time::time_of;
 use std::process::Abort;
 use std::test::Fail;
@@ -54,14 +54,28 @@ fn in_brief(entry: &Entry) -> (Kind, u8, Option<u32>) {
     }
 }
 
-/// Checks that the ledger's history is `HISTORY`, whose piece has a line for its root and one for each of its children.
+/// Checks that a piece splits the empty prefix into all three numbers, which stay open.
+fn check_outline<R: Abort>(rt: &R, outline: &Outline) {
+    let marks = [Mark::Split, Mark::Frontier, Mark::Frontier, Mark::Frontier];
+    assert!(rt; outline.prefix.is_empty());
+    assert_eq!(rt; outline.marks.as_slice(), marks.as_slice());
+    assert_eq!(rt; outline.splits.as_slice(), [Set::up_to(3)].as_slice());
+}
+
+/// Checks that the ledger's history is `HISTORY`.
 fn check_history<R: Abort>(rt: &R, ledger: &Ledger) {
     assert_eq!(rt; ledger.workers(), 2);
     assert_eq!(rt; ledger.history().len(), HISTORY.len());
     for (entry, expected) in ledger.history().iter().zip(HISTORY) {
         assert_eq!(rt; in_brief(entry), expected);
-        if let Entry::Taken { knots, splits, .. } = entry {
-            assert_eq!(rt; (knots.len(), *splits), (4, 1));
+        if let Entry::Taken {
+            outline,
+            splits,
+            ..
+        } = entry
+        {
+            assert_eq!(rt; *splits, 1);
+            check_outline(rt, outline);
         }
     }
 }
