@@ -102,7 +102,8 @@ impl<'a> Hub<'a> {
         Ok(offered)
     }
 
-    /// Puts a piece in the place of a node that was handed out, as `Ledger::graft` does.
+    /// Puts a piece in the place of a node that was handed out, as `Ledger::graft` does. What the history keeps of the piece is made
+    /// before the lock is taken, and ticket and piece are dropped after it is given back.
     pub fn graft<R: Wait>(
         &self,
         rt: &R,
@@ -116,9 +117,12 @@ impl<'a> Hub<'a> {
         ensures refused { IfErr result (λ e. HasBeenRefused seat.old ticket piece e.0 seat.new) }
         ensures handed_back { IfErr result (λ e. (e.1 ≡ ticket) × (e.2 ≡ piece)) }
     {
+        let Ok(outline) = piece.outline(self.alloc) else {
+            return Err((GraftError::OutOfMemory, ticket, piece));
+        };
         let splits = piece.splits();
         let mut ledger = self.lock.take(rt, &mut seat.token);
-        match ledger.graft(seat.number, ticket, piece) {
+        match ledger.graft_at(seat.number, ticket.node(), &piece, outline) {
             Ok(()) => {
                 // no worker has spent more than all have
                 let _spent = ledger.splits();
@@ -126,9 +130,9 @@ impl<'a> Hub<'a> {
                 seat.splits += splits;
                 Ok(())
             }
-            Err(refused) => {
+            Err(why) => {
                 self.lock.give(&mut seat.token, ledger);
-                Err(refused)
+                Err((why, ticket, piece))
             }
         }
     }

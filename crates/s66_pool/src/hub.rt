@@ -19,6 +19,7 @@ impl<'a> Summed for Box<Ledger<'a>> {
 pub struct Hub<'a> {
     pub(crate) lock: Lock<Box<Ledger<'a>>>,
     pub(crate) workers: u8,
+    pub(crate) alloc: Global,
 }
 
 impl<'a> Model for Hub<'a> {
@@ -65,7 +66,14 @@ impl<'a> Hub<'a> {
             let token = lock.deal(&mut founder);
             seats.push(Seat::new(i + 1, splits[i as usize], token))?;
         }
-        Ok((Hub { lock, workers }, seats))
+        Ok((
+            Hub {
+                lock,
+                workers,
+                alloc,
+            },
+            seats,
+        ))
     }
 
     /// The ledger, once the seats of all workers are back, in any order; else hub and seats are handed back.
@@ -83,9 +91,21 @@ impl<'a> Hub<'a> {
         ensures splits { IfOk result (λ l. weigh (λ s. s.book.account.splits) seats.entry.items ≡ l.state.spent) }
         ensures missing { IfErr result (λ e. (e.1 ≡ self.entry) × (e.2.items ≡ seats.entry.items) × ¬ HaveSeats (length self.entry.summary.accounts) seats.entry.items) }
     {
-        let Hub { lock, workers } = self;
+        let Hub {
+            lock,
+            workers,
+            alloc,
+        } = self;
         if !have_seats(workers, seats.as_slice()) {
-            return Err((SeatsMissing, Hub { lock, workers }, seats));
+            return Err((
+                SeatsMissing,
+                Hub {
+                    lock,
+                    workers,
+                    alloc,
+                },
+                seats,
+            ));
         }
         let Some(last) = seats.pop() else {
             unreachable!()

@@ -1,5 +1,7 @@
 use Rattle.std.proofs.Common.{◌≡◌, ◌≤◌, ◌+◌, ap, refl, ◌∙◌, subst, sym, arith}
 use Rattle.s66_isa.specs.Lists.{weigh}
+use Rattle.s66_model.specs.Ledger.{Taken}
+use Rattle.s66_ledger.specs.Grafts.{IsGraftAt, IsRefusedGraftAt}
 use Rattle.s66_ledger.specs.Ledgers.{LedgerOf, account_summary}
 use Rattle.s66_pool.specs.Tokens.{book}
 use Rattle.s66_pool.specs.Views.{renewed}
@@ -8,8 +10,8 @@ use Rattle.s66_pool.proofs.Events.{number_within, follows-at, gave-book}
 use Rattle.s66_pool.proofs.AfterCalls.{seat-keeps, grafted, graft-refused, account-within}
 use Rattle.s66_pool.proofs.hub.Hub.graft.Goals as goal
 
-pub graft-requires : goal.graft-requires
-graft-requires g c =
+pub graft_at-requires-clause-worker : goal.graft_at-requires-clause-worker
+graft_at-requires-clause-worker g c =
     let at : c.deref_mut.result.now ≡ c.take-ledger.result.value = c.deref_mut.ensures.value in
     let within = number_within c.take-ledger.result.value (book c.seat.inside.token) c.seat.inside.number c.take-ledger.ensures.agrees c.seat.invariant.1 in
     subst (λ (l : LedgerOf). (1 ≤ c.seat.inside.number) × (c.seat.inside.number ≤ l.workers)) (sym at) within
@@ -18,26 +20,26 @@ pub give-requires-clause-follows : goal.give-requires-clause-follows
 give-requires-clause-follows g c =
     let p = book c.seat.inside.token in
     let s : SeatOf = record { hub = c.seat.inside.token.table_id; book = p } in
-    let after : SeatOf = record { hub = c.seat.inside.token.table_id; book = renewed (account_summary c.graft.new.self) p p.least } in
-    let call = grafted c.take-ledger.result.value c.deref_mut.result.now c.graft.new.self c.deref_mut.ensures.value p c.seat.inside.number c.seat.invariant.1 c.take-ledger.ensures.agrees
-    c.args.ticket c.args.piece s after refl refl refl c.in-Ok.ensures.ok in
-    follows-at c.take-ledger.new.token.me (account_summary c.take-ledger.result.value) p c.take-ledger.ensures.holding (account_summary c.graft.new.self) call.0.0
+    let after : SeatOf = record { hub = c.seat.inside.token.table_id; book = renewed (account_summary c.graft_at.new.self) p p.least } in
+    let call = grafted c.take-ledger.result.value c.deref_mut.result.now c.graft_at.new.self c.deref_mut.ensures.value p c.seat.inside.number c.seat.invariant.1 c.take-ledger.ensures.agrees
+    c.args.ticket c.args.piece s after refl refl refl (subst (λ i. IsGraftAt c.deref_mut.result.now c.seat.inside.number i c.args.piece Taken c.graft_at.new.self) c.node.ensures c.in-Ok-graft_at.ensures.ok) in
+    follows-at c.take-ledger.new.token.me (account_summary c.take-ledger.result.value) p c.take-ledger.ensures.holding (account_summary c.graft_at.new.self) call.0.0
 
 pub overflow_add-seat : goal.overflow_add-seat
 overflow_add-seat g c =
     let p = book c.seat.inside.token in
     let s : SeatOf = record { hub = c.seat.inside.token.table_id; book = p } in
-    let after : SeatOf = record { hub = c.seat.inside.token.table_id; book = renewed (account_summary c.graft.new.self) p p.least } in
-    let call = grafted c.take-ledger.result.value c.deref_mut.result.now c.graft.new.self c.deref_mut.ensures.value p c.seat.inside.number c.seat.invariant.1 c.take-ledger.ensures.agrees
-    c.args.ticket c.args.piece s after refl refl refl c.in-Ok.ensures.ok in
+    let after : SeatOf = record { hub = c.seat.inside.token.table_id; book = renewed (account_summary c.graft_at.new.self) p p.least } in
+    let call = grafted c.take-ledger.result.value c.deref_mut.result.now c.graft_at.new.self c.deref_mut.ensures.value p c.seat.inside.number c.seat.invariant.1 c.take-ledger.ensures.agrees
+    c.args.ticket c.args.piece s after refl refl refl (subst (λ i. IsGraftAt c.deref_mut.result.now c.seat.inside.number i c.args.piece Taken c.graft_at.new.self) c.node.ensures c.in-Ok-graft_at.ensures.ok) in
     let agrees = c.take-ledger.ensures.agrees in
     let worker = agrees.worker in
     let workers = call.0.0.search.workers in
-    let now : c.deref.result.now ≡ c.graft.new.self = c.deref.ensures in
+    let now : c.deref.result.now ≡ c.graft_at.new.self = c.deref.ensures in
     omega (
       arith,
       call.0.1,
-      account-within (account_summary c.graft.new.self) p.who worker.0 (omega (arith, worker.1, workers)),
+      account-within (account_summary c.graft_at.new.self) p.who worker.0 (omega (arith, worker.1, workers)),
       c.splits-spent.ensures.accounts,
       c.splits-spent.ensures.value,
       ap (λ (l : LedgerOf). weigh (λ a. a.splits) (account_summary l).accounts) now,
@@ -49,43 +51,43 @@ pub invariant_of-seat : goal.invariant_of-seat
 invariant_of-seat g c =
     let p = book c.seat.inside.token in
     let s : SeatOf = record { hub = c.seat.inside.token.table_id; book = p } in
-    let after : SeatOf = record { hub = c.seat.inside.token.table_id; book = renewed (account_summary c.graft.new.self) p p.least } in
-    let call = grafted c.take-ledger.result.value c.deref_mut.result.now c.graft.new.self c.deref_mut.ensures.value p c.seat.inside.number c.seat.invariant.1 c.take-ledger.ensures.agrees
-    c.args.ticket c.args.piece s after refl refl refl c.in-Ok.ensures.ok in
-    seat-keeps c.take-ledger.new.token.me (account_summary c.take-ledger.result.value) p c.take-ledger.ensures.holding (account_summary c.graft.new.self) c.give.new.token.me c.give.ensures.resting c.seat.inside.number
+    let after : SeatOf = record { hub = c.seat.inside.token.table_id; book = renewed (account_summary c.graft_at.new.self) p p.least } in
+    let call = grafted c.take-ledger.result.value c.deref_mut.result.now c.graft_at.new.self c.deref_mut.ensures.value p c.seat.inside.number c.seat.invariant.1 c.take-ledger.ensures.agrees
+    c.args.ticket c.args.piece s after refl refl refl (subst (λ i. IsGraftAt c.deref_mut.result.now c.seat.inside.number i c.args.piece Taken c.graft_at.new.self) c.node.ensures c.in-Ok-graft_at.ensures.ok) in
+    seat-keeps c.take-ledger.new.token.me (account_summary c.take-ledger.result.value) p c.take-ledger.ensures.holding (account_summary c.graft_at.new.self) c.give.new.token.me c.give.ensures.resting c.seat.inside.number
     (c.seat.inside.splits + c.splits-splits.result) c.seat.invariant.1 (omega (arith, call.0.1, c.seat.invariant.2, c.splits-splits.ensures))
 
 pub give-requires-in-Err-clause-follows : goal.give-requires-in-Err-clause-follows
 give-requires-in-Err-clause-follows g c =
     let p = book c.seat.inside.token in
     let s : SeatOf = record { hub = c.seat.inside.token.table_id; book = p } in
-    let after : SeatOf = record { hub = c.seat.inside.token.table_id; book = renewed (account_summary c.graft.new.self) p p.least } in
-    let call = graft-refused c.take-ledger.result.value c.deref_mut.result.now c.graft.new.self c.deref_mut.ensures.value p c.seat.inside.number c.seat.invariant.1 c.take-ledger.ensures.agrees
-    c.args.ticket c.args.piece s after refl refl refl c.in-Err.refused.0 c.in-Err.ensures.refused in
-    follows-at c.take-ledger.new.token.me (account_summary c.take-ledger.result.value) p c.take-ledger.ensures.holding (account_summary c.graft.new.self) call.0.0
+    let after : SeatOf = record { hub = c.seat.inside.token.table_id; book = renewed (account_summary c.graft_at.new.self) p p.least } in
+    let call = graft-refused c.take-ledger.result.value c.deref_mut.result.now c.graft_at.new.self c.deref_mut.ensures.value p c.seat.inside.number c.seat.invariant.1 c.take-ledger.ensures.agrees
+    c.args.ticket c.args.piece s after refl refl refl c.in-Err.why (subst (λ i. IsRefusedGraftAt c.deref_mut.result.now c.seat.inside.number i c.args.piece c.in-Err.why c.graft_at.new.self) c.node.ensures c.in-Err.ensures.refused) in
+    follows-at c.take-ledger.new.token.me (account_summary c.take-ledger.result.value) p c.take-ledger.ensures.holding (account_summary c.graft_at.new.self) call.0.0
 
 pub invariant_of-seat-in-Err : goal.invariant_of-seat-in-Err
 invariant_of-seat-in-Err g c =
     let p = book c.seat.inside.token in
     let s : SeatOf = record { hub = c.seat.inside.token.table_id; book = p } in
-    let after : SeatOf = record { hub = c.seat.inside.token.table_id; book = renewed (account_summary c.graft.new.self) p p.least } in
-    let call = graft-refused c.take-ledger.result.value c.deref_mut.result.now c.graft.new.self c.deref_mut.ensures.value p c.seat.inside.number c.seat.invariant.1 c.take-ledger.ensures.agrees
-    c.args.ticket c.args.piece s after refl refl refl c.in-Err.refused.0 c.in-Err.ensures.refused in
-    seat-keeps c.take-ledger.new.token.me (account_summary c.take-ledger.result.value) p c.take-ledger.ensures.holding (account_summary c.graft.new.self) c.give-in-Err.new.token.me c.give-in-Err.ensures.resting c.seat.inside.number
+    let after : SeatOf = record { hub = c.seat.inside.token.table_id; book = renewed (account_summary c.graft_at.new.self) p p.least } in
+    let call = graft-refused c.take-ledger.result.value c.deref_mut.result.now c.graft_at.new.self c.deref_mut.ensures.value p c.seat.inside.number c.seat.invariant.1 c.take-ledger.ensures.agrees
+    c.args.ticket c.args.piece s after refl refl refl c.in-Err.why (subst (λ i. IsRefusedGraftAt c.deref_mut.result.now c.seat.inside.number i c.args.piece c.in-Err.why c.graft_at.new.self) c.node.ensures c.in-Err.ensures.refused) in
+    seat-keeps c.take-ledger.new.token.me (account_summary c.take-ledger.result.value) p c.take-ledger.ensures.holding (account_summary c.graft_at.new.self) c.give-in-Err.new.token.me c.give-in-Err.ensures.resting c.seat.inside.number
     c.seat.inside.splits c.seat.invariant.1 (call.0.1 ∙ c.seat.invariant.2)
 
-pub returns-in-Ok-clause-ok : goal.returns-in-Ok-clause-ok
-returns-in-Ok-clause-ok g c =
+pub returns-in-Ok-graft_at-clause-ok : goal.returns-in-Ok-graft_at-clause-ok
+returns-in-Ok-graft_at-clause-ok g c =
     let p = book c.seat.inside.token in
     let now : SeatOf = record { hub = c.give.new.token.table_id; book = book c.give.new.token } in
-    let gave = gave-book c.take-ledger.new.token.me (account_summary c.take-ledger.result.value) p c.take-ledger.ensures.holding (account_summary c.graft.new.self) c.give.new.token.me c.give.ensures.resting in
-    (grafted c.take-ledger.result.value c.deref_mut.result.now c.graft.new.self c.deref_mut.ensures.value p c.seat.inside.number c.seat.invariant.1 c.take-ledger.ensures.agrees c.args.ticket c.args.piece
-    c.args.seat.now now (ap (λ (t : SeatOf). t.book) c.seat.view_is) gave (c.give.ensures.here ∙ c.take-ledger.ensures.here ∙ ap (λ (t : SeatOf). t.hub) c.seat.view_is) c.in-Ok.ensures.ok).1
+    let gave = gave-book c.take-ledger.new.token.me (account_summary c.take-ledger.result.value) p c.take-ledger.ensures.holding (account_summary c.graft_at.new.self) c.give.new.token.me c.give.ensures.resting in
+    (grafted c.take-ledger.result.value c.deref_mut.result.now c.graft_at.new.self c.deref_mut.ensures.value p c.seat.inside.number c.seat.invariant.1 c.take-ledger.ensures.agrees c.args.ticket c.args.piece
+    c.args.seat.now now (ap (λ (t : SeatOf). t.book) c.seat.view_is) gave (c.give.ensures.here ∙ c.take-ledger.ensures.here ∙ ap (λ (t : SeatOf). t.hub) c.seat.view_is) (subst (λ i. IsGraftAt c.deref_mut.result.now c.seat.inside.number i c.args.piece Taken c.graft_at.new.self) c.node.ensures c.in-Ok-graft_at.ensures.ok)).1
 
 pub returns-in-Err-clause-refused : goal.returns-in-Err-clause-refused
 returns-in-Err-clause-refused g c =
     let p = book c.seat.inside.token in
     let now : SeatOf = record { hub = c.give-in-Err.new.token.table_id; book = book c.give-in-Err.new.token } in
-    let gave = gave-book c.take-ledger.new.token.me (account_summary c.take-ledger.result.value) p c.take-ledger.ensures.holding (account_summary c.graft.new.self) c.give-in-Err.new.token.me c.give-in-Err.ensures.resting in
-    (graft-refused c.take-ledger.result.value c.deref_mut.result.now c.graft.new.self c.deref_mut.ensures.value p c.seat.inside.number c.seat.invariant.1 c.take-ledger.ensures.agrees c.args.ticket c.args.piece
-    c.args.seat.now now (ap (λ (t : SeatOf). t.book) c.seat.view_is) gave (c.give-in-Err.ensures.here ∙ c.take-ledger.ensures.here ∙ ap (λ (t : SeatOf). t.hub) c.seat.view_is) c.in-Err.refused.0 c.in-Err.ensures.refused).1
+    let gave = gave-book c.take-ledger.new.token.me (account_summary c.take-ledger.result.value) p c.take-ledger.ensures.holding (account_summary c.graft_at.new.self) c.give-in-Err.new.token.me c.give-in-Err.ensures.resting in
+    (graft-refused c.take-ledger.result.value c.deref_mut.result.now c.graft_at.new.self c.deref_mut.ensures.value p c.seat.inside.number c.seat.invariant.1 c.take-ledger.ensures.agrees c.args.ticket c.args.piece
+    c.args.seat.now now (ap (λ (t : SeatOf). t.book) c.seat.view_is) gave (c.give-in-Err.ensures.here ∙ c.take-ledger.ensures.here ∙ ap (λ (t : SeatOf). t.hub) c.seat.view_is) c.in-Err.why (subst (λ i. IsRefusedGraftAt c.deref_mut.result.now c.seat.inside.number i c.args.piece c.in-Err.why c.graft_at.new.self) c.node.ensures c.in-Err.ensures.refused)).1
