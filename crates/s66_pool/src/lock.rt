@@ -1,8 +1,10 @@
 ghost use Rattle.std.specs.Prelude.{◌≡◌};
 
+use crate::limits::SPINS;
 use crate::view::View;
 use atomic_table::{Join, Play, Seat, Split, Table, TableRule};
 use std::alloc::{AllocError, Global};
+use std::hint::spin_loop;
 use std::sync::Wait;
 use std::thread::yield_now;
 
@@ -124,9 +126,20 @@ impl<S: Summed + Drop> Lock<S> {
                 };
                 return value;
             }
-            yield_now();
+            self.wait();
         }
         unreachable!()
+    }
+
+    /// Waits until the lock seems to be free, for a short time on its processor; after that it lets other threads run.
+    fn wait(&self) {
+        for _ in 0..SPINS {
+            if self.table.shared.peek(0) == 0 {
+                return;
+            }
+            spin_loop();
+        }
+        yield_now();
     }
 
     /// Gives the value back after a call of the token's worker, which keeps the least time that it knew.
