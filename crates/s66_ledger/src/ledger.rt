@@ -252,8 +252,8 @@ impl<'a> Ledger<'a> {
     }
 
     /// Puts a piece in the place of a node that was handed out, and spends its splits: the node takes the state of the piece's root,
-    /// and the piece's other prefixes become nodes. A leaf that is below the best time is kept open. The piece's lines go into the
-    /// history.
+    /// and the piece's other prefixes become nodes. A leaf that is below the best time is kept open. The piece's outline goes into
+    /// the history.
     ///
     /// In time linear in the piece's lines, with a logarithm of the number of open nodes for each that is open; all room is made
     /// before anything changes.
@@ -278,8 +278,8 @@ impl<'a> Ledger<'a> {
         }
     }
 
-    /// Puts a piece in the place of the node of this number, as `graft` does; its outline goes into the history. The piece stays with
-    /// the caller, who can drop it where no other thread waits.
+    /// Puts a piece, whose outline comes with it, in the place of the node of this number, in the time of `graft` and with its
+    /// refusals. The piece stays with the caller, who can drop it where no other thread waits.
     pub fn graft_at(
         &mut self,
         w: u8,

@@ -1,4 +1,4 @@
--- An outline of a piece is its tree.
+-- An outline of a piece tells its prefix and its tree.
 use Rattle.std.proofs.Common.{ℕ, ◌≡◌, Bool, true, false, List, [], ◌∷◌, ◌++◌, ◌+◌, map, take, append_assoc, refl, sym, ap, ◌∙◌}
 use Rattle.std.proofs.lemmas.List.{append-nil, map-append}
 use Rattle.s66_model.specs.Timing.{Problem}
@@ -99,14 +99,14 @@ module _ (b : Problem) where
   tree-untold (Alone tip) prefix = ap Alone (tip-untold prefix tip)
   tree-untold (Parted numbers kids) prefix = ap (Parted numbers) (kids-untold kids prefix numbers)
 
--- the prefix of a piece, and the marks and the sets of its lines
-pub outline-of : (p : PieceOf) (knots : List code.Knot) (outline : Outline) → seen knots ≡ p.knots → outline.prefix.items ≡ p.prefix → outline.marks.items ≡ map mark_of knots → outline.splits.items ≡ sets_of knots → IsOutlineOf p outline
+-- what has a piece's prefix, and the marks and the sets of its lines, is its outline
+pub outline-of : (p : PieceOf) (knots : List code.Knot) (outline : Outline) → seen knots ≡ p.knots → outline.prefix.items ≡ p.prefix → outline.marks.items ≡ map mark_of knots → outline.sets.items ≡ sets_of knots → IsOutlineOf p outline
 outline-of p knots outline lines prefix marks sets =
     let told : Tree Told = read_tree (ToldFrontier 0) (seen knots) in
-    let read : read_tree false (outline_knots outline.marks.items outline.splits.items) ≡ untold told =
+    let read : read_tree false (outline_knots outline.marks.items outline.sets.items) ≡ untold told =
     rw (marks, sets) (ap (read_tree false) (knots-untold knots) ∙ (ap (first_tree (Alone false)) (forest-untold (seen knots)) ∙ first_tree-untold (forest (seen knots)))) in
     let tree : outline_tree p.problem outline ≡ tree_of p =
-    ap (λ at. tree_seen (outline_tip p.problem) at (read_tree false (outline_knots outline.marks.items outline.splits.items))) prefix
+    ap (λ at. tree_seen (outline_tip p.problem) at (read_tree false (outline_knots outline.marks.items outline.sets.items))) prefix
     ∙ (ap (tree_seen (outline_tip p.problem) p.prefix) read
     ∙ (tree-untold p.problem told p.prefix
     ∙ ap (λ ks. tree_seen (tip_of p.problem) p.prefix (read_tree (ToldFrontier 0) ks)) lines)) in

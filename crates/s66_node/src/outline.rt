@@ -30,43 +30,45 @@ impl Mark {
     }
 }
 
-/// A piece's prefix, and its tree by the lines in preorder, without the values of its floors. It takes a byte a number of the
-/// prefix, a byte a line, and a word a split.
+/// A piece's prefix, and its tree without the values of its floors. It takes a byte for each number of the prefix, a byte for each
+/// line of the tree, and eight for each split.
 #[derive(Debug, Drop)]
 pub struct Outline {
+    /// The prefix, by its numbers.
     pub prefix: Vec<u8>,
+    /// What each line of the tree says, in preorder.
     pub marks: Vec<Mark>,
-    /// With which numbers each prefix goes on that is split.
-    pub splits: Vec<Set>,
+    /// Of each line that is a split, in the same order, the numbers with which its prefix goes on.
+    pub sets: Vec<Set>,
 }
 
-/// Keeps the numbers of a line that is a split.
-fn keep_numbers(splits: &mut Vec<Set>, knot: &Knot) -> Result<(), AllocError>
-    ensures { OnOk result (splits.new.items ≡ splits.old.items ++ sets_in knot.now) }
+/// Appends the numbers of a line that is a split, and nothing of any other.
+fn keep_numbers(sets: &mut Vec<Set>, knot: &Knot) -> Result<(), AllocError>
+    ensures { OnOk result (sets.new.items ≡ sets.old.items ++ sets_in knot.now) }
 {
     if let Knot::Split(numbers) = knot {
-        splits.push(*numbers)?;
+        sets.push(*numbers)?;
     }
     Ok(())
 }
 
 impl Piece {
-    /// Its prefix and its tree without the values of its floors, in time linear in the number of its lines.
+    /// Its prefix, and its tree without the values of its floors, in time linear in the number of its lines. `Err` is want of memory.
     pub fn outline(&self, alloc: Global) -> Result<Outline, AllocError>
         ensures { IfOk result (IsOutlineOf self.now) }
     {
         let prefix = Vec::from_slice(alloc, self.prefix())?;
         let knots = self.knots();
         let mut marks = Vec::with_capacity(alloc, knots.len())?;
-        let mut splits = Vec::with_capacity(alloc, self.splits as usize)?;
+        let mut sets = Vec::with_capacity(alloc, self.splits as usize)?;
         for knot in knots {
             marks.push_reserved(Mark::of(knot));
-            keep_numbers(&mut splits, knot)?;
+            keep_numbers(&mut sets, knot)?;
         }
         Ok(Outline {
             prefix,
             marks,
-            splits,
+            sets,
         })
     }
 }

@@ -7,5 +7,5 @@ pub const NONES_LIMIT: u32 = 1_000;
 /// How often a worker that got no node looks whether another has one, before it claims again.
 pub const LOOKS: u32 = 16;
 
-/// How often a worker looks whether the lock is free before it lets other threads run. A turn at the lock is over in less.
+/// How often a worker looks whether the lock is free before it lets other threads run. Most turns at the lock are over in less.
 pub const SPINS: u32 = 100;

@@ -59,7 +59,7 @@ fn check_outline<R: Abort>(rt: &R, outline: &Outline) {
     let marks = [Mark::Split, Mark::Frontier, Mark::Frontier, Mark::Frontier];
     assert!(rt; outline.prefix.is_empty());
     assert_eq!(rt; outline.marks.as_slice(), marks.as_slice());
-    assert_eq!(rt; outline.splits.as_slice(), [Set::up_to(3)].as_slice());
+    assert_eq!(rt; outline.sets.as_slice(), [Set::up_to(3)].as_slice());
 }
 
 /// Checks that the ledger's history is `HISTORY`.

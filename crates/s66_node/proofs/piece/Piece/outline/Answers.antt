@@ -13,12 +13,12 @@ loop-knot-preserved c =
       omega (arith, c.loop-knot.invariant.0, c.push_reserved.ensures.capacity),
       omega (arith, c.loop-knot.invariant.1, c.push_reserved.ensures.len),
       next-marks knots _ i next c.loop-knot.marks.items c.push_reserved.new.self.items c.of.result c.loop-knot.invariant.2 c.of.ensures c.push_reserved.ensures.items,
-      next-sets knots _ i next c.loop-knot.splits.items c.keep_numbers.new.splits.items c.loop-knot.invariant.3 c.in_ok-keep_numbers.ensures,
+      next-sets knots _ i next c.loop-knot.sets.items c.keep_numbers.new.sets.items c.loop-knot.invariant.3 c.in_ok-keep_numbers.ensures,
     )
 
 pub returns : goal.returns
 returns c =
     let knots = c.knots-knots.result.now in
     let all = take_all c.loop-knot.knot-index knots c.loop-knot-test.false in
-    let outline : Outline = record { prefix = c.in_ok-prefix.prefix; marks = c.loop-knot.marks; splits = c.loop-knot.splits } in
+    let outline : Outline = record { prefix = c.in_ok-prefix.prefix; marks = c.loop-knot.marks; sets = c.loop-knot.sets } in
     outline-of c.args.self.now knots outline c.knots-knots.ensures.value (c.in_ok-prefix.ensures.items ∙ c.prefix.ensures.value) (c.loop-knot.invariant.2 ∙ ap (map mark_of) all) (c.loop-knot.invariant.3 ∙ ap sets_of all)

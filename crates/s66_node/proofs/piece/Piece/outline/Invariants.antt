@@ -9,4 +9,4 @@ invariant-loop-knot l =
     (length l.knots ≤ vec_capacity l.marks)
     × (vec_len l.marks ≡ l.knot-index)
     × (l.marks.items ≡ map mark_of (take l.knot-index l.knots))
-    × (l.splits.items ≡ sets_of (take l.knot-index l.knots))
+    × (l.sets.items ≡ sets_of (take l.knot-index l.knots))
