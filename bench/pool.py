@@ -35,19 +35,19 @@ from speed import ENDED, PROGRAM
 BUDGET = 1_000_000
 SEEDS = {24: [2, 5, 6], 40: [2, 3, 4]}  # of blocks that use up the budget
 
-Search = namedtuple("Search", "words processes pattern")  # how many processes do the same at once, and where one tells its splits
+Search = namedtuple("Search", "words workers processes pattern")  # so many processes at once; the pattern finds the splits of one
 Run = namedtuple("Run", "seconds user kernel")  # by the clock, and of processors
 
 
 def order(program, workers, processes=1):
-    """Processes of `s66 order`."""
+    """Processes of `s66 order` at once, each with so many workers."""
     words = (program, "order", "--workers", str(workers), "--nodes", str(BUDGET), "--trace")
-    return Search(words, processes, rb"\* SPLITS (\d+)")
+    return Search(words, workers, processes, rb"\* SPLITS (\d+)")
 
 
 def bench(program, mode):
-    """A process of s66_bench."""
-    return Search((program, mode, str(BUDGET)), 1, rb"\d+ (\d+)")
+    """A process of s66_bench, with one worker or none."""
+    return Search((program, mode, str(BUDGET)), 1, 1, rb"\d+ (\d+)")
 
 
 def block_from(seed, length):
@@ -93,7 +93,7 @@ def tell(name, search, blocks, run, one):
     rate = search.processes * blocks * BUDGET / run.seconds
     gain = search.processes * one.seconds / run.seconds
     print("%s %9s splits a second, %.2f of one worker's" % (name, format(round(rate), ","), gain), end="")
-    if run is one or search.processes > 1 or "order" not in search.words:
+    if search.workers == 1:
         print()
         return
     spent = run.user + run.kernel
