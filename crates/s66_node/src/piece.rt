@@ -67,7 +67,10 @@ impl Piece {
         ensures preorder { flat (told_tree self.now) ≡ self.now.knots }
         ensures told { TreeHolds self.now.problem.block (ToldHolds self.now.problem) self.now.prefix (told_tree self.now) }
         ensures piece { IsPiece self.now.problem self.now.prefix (tree_of self.now) }
+        ensures few { length self.now.problem.block ≤ BLOCK_LIMIT }
     {
+        // a number for each instruction
+        let _few = self.source.numbers();
         self.knots.as_slice()
     }
 
