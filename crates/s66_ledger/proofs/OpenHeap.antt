@@ -1,7 +1,7 @@
 -- The heap of open nodes: one taken, one put in.
-use Rattle.std.proofs.Common.{ℕ, zero, suc, ◌+◌, ◌≤◌, ◌<◌, ◌≡◌, ◌≢◌, Bool, true, false, cond, ◌==◌, List, [], ◌∷◌, ◌++◌, length, get_or, set, take, refl, sym, ap, arith, inl, inr, eqb, ◌∙◌, subst, length-append}
+use Rattle.std.proofs.Common.{ℕ, zero, suc, ◌+◌, ◌≤◌, ◌<◌, ◌≡◌, ◌≢◌, Bool, true, false, cond, ◌==◌, List, [], ◌∷◌, ◌++◌, length, set, refl, sym, ap, arith, inl, inr, eqb, ◌∙◌, subst, length-append}
 use Rattle.std.proofs.lemmas.Bool.{cases_Bool, cases_eq, eq-eqb, ne_eqb, eqb-true}
-use Rattle.std.proofs.lemmas.List.{length-set, take_more, length-take}
+use Rattle.std.proofs.lemmas.List.{length-set}
 use Rattle.std.proofs.lemmas.List.Elements.{All-cons, All-tail, All-head, All-nil, All-weaker}
 use Rattle.std.proofs.lemmas.List.Sums.{sum_by-cons}
 use Rattle.std.proofs.lemmas.List.Sorted.{All-permutation, sum_by-IsPermutation, length_permutation}
@@ -17,7 +17,7 @@ use Rattle.s66_ledger.specs.Nodes.{no_node, node_at}
 use Rattle.s66_ledger.proofs.Prefixes.{get_or-front, get_or-last, get_or-past}
 use Rattle.s66_ledger.specs.OpenNodes.{is_open_state, is_open, ranked, rank_of, IsRanked, AreOpenNodes}
 
-abbrev Entry : Type 0
+abbrev pub Entry : Type 0
 Entry = ℕ × ℕ
 
 tally-sum : {X : Type 0} (test : X → Bool) (xs : List X) → sum_by (λ x. cond (test x) 1 0) xs ≡ tally test xs
@@ -214,19 +214,6 @@ module _ (nodes : List Node) (x : Node) (entries : List Entry) (are : AreOpenNod
         count = omega (arith, are.count, tally-append is_open nodes (x ∷ []), one (is_open_state x.state) false shuts);
         ranks = ranks-push nodes x entries are.ranks;
       }
-
--- of the nodes up to one more
-module _ (nodes : List Node) (i : ℕ) (d : Node) (entries : List Entry) (lt : i < length nodes) (are : AreOpenNodes (take i nodes) entries) where
-  short : length (take i nodes) ≡ i
-  short = omega (arith, length-take i nodes, lt)
-
-  pub listed-open : (more : List Entry) (depth : ℕ) → is_open_state (get_or nodes i d).state ≡ true → depth < DEPTH_RANKS → IsPermutation ((rank_of (get_or nodes i d).value depth, i) ∷ entries) more → AreOpenNodes (take (i + 1) nodes) more
-  listed-open more depth opens few pushed =
-      subst (λ ns. AreOpenNodes ns more) (sym (take_more nodes i d lt))
-      (more-open (take i nodes) (get_or nodes i d) entries are more depth opens few (subst (λ k. IsPermutation ((rank_of (get_or nodes i d).value depth, k) ∷ entries) more) (sym short) pushed))
-
-  pub listed-shut : is_open_state (get_or nodes i d).state ≡ false → AreOpenNodes (take (i + 1) nodes) entries
-  listed-shut shuts = subst (λ ns. AreOpenNodes ns entries) (sym (take_more nodes i d lt)) (more-shut (take i nodes) (get_or nodes i d) entries are shuts)
 
 -- THE FIRST NODE
 

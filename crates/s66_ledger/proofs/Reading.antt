@@ -1,5 +1,5 @@
 -- A piece's lines are read in preorder and become nodes.
-use Rattle.std.proofs.Common.{ℕ, zero, suc, ◌+◌, ◌-◌, ◌≤◌, ◌<◌, ◌≡◌, ◌≢◌, Bool, true, false, cond, drop, take, List, [], ◌∷◌, ◌++◌, length, get_or, map, reverse, refl, sym, ap, arith, leb, ◌∙◌, length-append, append_assoc, subst}
+use Rattle.std.proofs.Common.{ℕ, zero, suc, ◌+◌, ◌-◌, ◌≤◌, ◌<◌, ◌≡◌, ◌≢◌, Bool, true, false, cond, drop, List, [], ◌∷◌, ◌++◌, length, get_or, map, reverse, refl, sym, ap, arith, leb, ◌∙◌, length-append, append_assoc, subst}
 use Rattle.std.proofs.lemmas.List.{append-nil, reverse-append, length-take, length-map}
 use Rattle.s66_model.specs.Timing.{Problem}
 use Rattle.s66_model.specs.Leaves.{floor, floor_value}
@@ -18,7 +18,7 @@ use Rattle.s66_node.specs.Growing.{flat_rests}
 use Rattle.s66_node.proofs.Growing.{front-push}
 use Rattle.s66_ledger.specs.declared.node.Node.{Node}
 use Rattle.s66_ledger.specs.declared.node.State.TheVariants as state
-use Rattle.s66_ledger.specs.declared.planting.Place.{Place}
+use Rattle.s66_ledger.specs.declared.subtree.Place.{Place}
 use Rattle.s66_ledger.specs.Nodes.{prefixes, seen_state, nodes_of, HaveFloors}
 use Rattle.s66_ledger.specs.Planting.{kids_of, knot_state, knot_value, told_state, RestsHold, rest_nodes, place_lefts, PlacesStand, IsReading}
 use Rattle.s66_ledger.proofs.Prefixes.{get_or-front, get_or-last, length-prefixes, prefixes-push}
@@ -104,6 +104,9 @@ module _ (b : Problem) (best : ℕ) (total : List model.Node) (at : List ℕ) (o
 
   pub reading-within : p.node < length made
   reading-within = omega (arith, stands.0, length-prefixes made)
+
+  pub reading-over : get_or (prefixes made) p.node [] ≡ at
+  reading-over = stands.1
 
   here : (ns : List ℕ) → numbers_in p.left ≡ ns → place_lefts old ≡ ns ∷ place_lefts ps
   here ns is = ap place_lefts popped ∙ (place_lefts-push ps p ∙ ap (λ x. x ∷ place_lefts ps) is)
@@ -264,8 +267,3 @@ lines-below tree numbers knots lines is e f = ap (drop 1) (f ∙ (sym e ∙ ap f
 
 pub length-seen : (knots : List code.Knot) → length (seen knots) ≡ length knots
 length-seen knots = length-map knots seen_knot
-
-pub take-push : {X : Type 0} (k : ℕ) (xs : List X) (x : X) → k ≤ length xs → take k (xs ++ x ∷ []) ≡ take k xs
-take-push zero xs x le = refl
-take-push (suc k) [] x le = absurd (omega (arith, le))
-take-push (suc k) (y ∷ xs) x le = ap (λ ys. y ∷ ys) (take-push k xs x (omega (arith, le)))

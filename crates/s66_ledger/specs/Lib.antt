@@ -15,3 +15,4 @@ pub mod OpenNodes
 pub mod Planting
 pub mod Replies
 pub mod Steps
+pub mod Subtrees

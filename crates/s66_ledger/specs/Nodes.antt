@@ -9,7 +9,7 @@ use Rattle.s66_ledger.specs.declared.node.State.TheVariants as state
 
 -- past the last one stands a node that is split
 abbrev pub no_node : Node
-no_node = record { parent = 0; value = 0; number = 0; depth = 0; state = state.Split; from = 0 }
+no_node = record { parent = 0; value = 0; number = 0; depth = 0; state = state.Split }
 
 abbrev pub node_at : List Node → ℕ → Node
 node_at nodes i = get_or nodes i no_node

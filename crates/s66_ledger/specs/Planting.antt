@@ -13,7 +13,7 @@ use Rattle.s66_node.specs.Growing.{flat_rests}
 use Rattle.s66_ledger.specs.declared.node.Node.{Node}
 use Rattle.s66_ledger.specs.declared.node.State.{State}
 use Rattle.s66_ledger.specs.declared.node.State.TheVariants as state
-use Rattle.s66_ledger.specs.declared.planting.Place.{Place}
+use Rattle.s66_ledger.specs.declared.subtree.Place.{Place}
 use Rattle.s66_ledger.specs.Nodes.{prefixes, nodes_of, HaveFloors}
 
 -- the children of a tree's root
@@ -27,6 +27,12 @@ abbrev pub knot_state : ℕ → code.Knot → State
 knot_state best (line.Split numbers) = state.Split
 knot_state best (line.Leaf value) = if nat_le best value then state.Closed else state.Open
 knot_state best (line.Frontier value) = state.Open
+
+-- where it isn't known which leaves are below the best time
+abbrev pub made_state : code.Knot → State
+made_state (line.Split numbers) = state.Split
+made_state (line.Leaf value) = state.Closed
+made_state (line.Frontier value) = state.Open
 
 abbrev pub knot_value : code.Knot → ℕ
 knot_value (line.Split numbers) = 0

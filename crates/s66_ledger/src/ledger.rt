@@ -3,6 +3,7 @@ use crate::entry::{Entry, refusal_of};
 use crate::limits::BUDGET_LIMIT;
 use crate::machine::Machine;
 use crate::reply::{BackError, GraftError, Offered};
+use crate::subtree::Subtree;
 use crate::ticket::{Ticket, node_of};
 use s66_isa::Profile;
 use s66_line::Block;
@@ -44,6 +45,7 @@ impl<'a> Ledger<'a> {
     ghost use Rattle.s66_ledger.specs.Answers.{answer_of};
     ghost use Rattle.s66_ledger.specs.Grafts.{IsGraft, IsRefusedGraft, IsGraftAt, IsRefusedGraftAt};
     ghost use Rattle.s66_node.specs.Outlines.{IsOutlineOf};
+    ghost use Rattle.s66_ledger.specs.Subtrees.{IsSubtreeOf};
     ghost use Rattle.s66_ledger.specs.Claims.{claimed_node, IsTicketOf, IsLeastOpen};
     ghost use Rattle.s66_ledger.specs.Replies.{offered_reply};
     ghost use Rattle.s66_ledger.specs.declared.limits.TheConstants.{BUDGET_LIMIT};
@@ -269,25 +271,30 @@ impl<'a> Ledger<'a> {
         ensures err { OnErr result (self.new.state ≡ self.old.state) }
         ensures handed_back { IfErr result (λ e. (e.1 ≡ ticket) × (e.2 ≡ piece)) }
     {
+        let Ok(subtree) = Subtree::of(self.alloc, &piece) else {
+            return Err((GraftError::OutOfMemory, ticket, piece));
+        };
         let Ok(outline) = piece.outline(self.alloc) else {
             return Err((GraftError::OutOfMemory, ticket, piece));
         };
-        match self.graft_at(w, ticket.node(), &piece, outline) {
+        match self.graft_at(w, ticket.node(), &piece, &subtree, outline) {
             Ok(()) => Ok(()),
             Err(why) => Err((why, ticket, piece)),
         }
     }
 
-    /// Puts a piece, whose outline comes with it, in the place of the node of this number, in the time of `graft` and with its
-    /// refusals. The piece stays with the caller, who can drop it where no other thread waits.
+    /// Puts a piece, whose subtree and outline come with it, in the place of the node of this number, in the time of `graft` and with
+    /// its refusals. Piece and subtree stay with the caller, who can make and drop them where no other thread waits.
     pub fn graft_at(
         &mut self,
         w: u8,
         node: u32,
         piece: &Piece,
+        subtree: &Subtree,
         outline: Outline,
     ) -> Result<(), GraftError>
         requires worker { (1 ≤ w) × (w ≤ self.old.workers) }
+        requires subtree { IsSubtreeOf piece.now subtree.now }
         requires outline { IsOutlineOf piece.now outline }
         ensures ok { OnOk result (IsGraftAt self.old w node piece.now Taken self.new) }
         ensures refused { IfErr result (λ why. IsRefusedGraftAt self.old w node piece.now why self.new) }
@@ -297,7 +304,7 @@ impl<'a> Ledger<'a> {
             return Err(GraftError::OutOfMemory);
         };
         let splits = piece.splits();
-        let error = match self.machine.graft(w, node, piece) {
+        let error = match self.machine.graft(w, node, piece, subtree) {
             Ok(()) => {
                 self.history.push_reserved(Entry::Taken {
                     w,

@@ -18,6 +18,7 @@ mod rank;
 mod reply;
 mod search;
 mod step;
+mod subtree;
 mod taking;
 mod ticket;
 
@@ -29,4 +30,5 @@ pub use lines::{AnswerLine, AnswerLines};
 pub use reply::{BackError, GraftError, Offered};
 pub use s66_model::coverage_law;
 pub use step::{Event, Reply};
+pub use subtree::Subtree;
 pub use ticket::Ticket;

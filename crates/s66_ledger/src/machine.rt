@@ -2,6 +2,7 @@ use crate::answer::Answer;
 use crate::limits::{BUDGET_LIMIT, GRANT_LIMIT};
 use crate::node_table::NodeTable;
 use crate::reply::{BackError, GraftError, Offered};
+use crate::subtree::Subtree;
 use crate::ticket::Ticket;
 use arrayvec::ArrayVec;
 use s66_bound::Bounds;
@@ -56,6 +57,7 @@ impl<'a> Machine<'a> {
     ghost use Rattle.s66_ledger.specs.GraftMoves.{IsGraftMove, IsRefusedMove};
     ghost use Rattle.s66_ledger.specs.Claims.{claimed_node, IsTicketOf, IsLeastOpen};
     ghost use Rattle.s66_ledger.specs.Replies.{offered_reply};
+    ghost use Rattle.s66_ledger.specs.Subtrees.{IsSubtreeOf};
     ghost use Rattle.s66_ledger.specs.declared.limits.TheConstants.{BUDGET_LIMIT};
     ghost use Rattle.s66_ledger.specs.declared.reply.BackError.TheVariants as refused;
 
@@ -272,13 +274,20 @@ impl<'a> Machine<'a> {
         }
     }
 
-    /// Puts a piece in the place of a node that was handed out, and spends its splits: the node takes the state of the piece's root,
-    /// and the piece's other prefixes become nodes. A leaf that is below the best time is kept open.
+    /// Puts a piece, whose subtree comes with it, in the place of a node that was handed out, and spends its splits: the node takes
+    /// the state of the piece's root, and the piece's other prefixes become nodes. A leaf that is below the best time is kept open.
     ///
     /// In time linear in the piece's lines, with a logarithm of the number of open nodes for each that is open; all room is made
     /// before anything changes.
-    pub fn graft(&mut self, w: u8, node: u32, piece: &Piece) -> Result<(), GraftError>
-        requires { (1 ≤ w) × (w ≤ self.old.workers) }
+    pub fn graft(
+        &mut self,
+        w: u8,
+        node: u32,
+        piece: &Piece,
+        subtree: &Subtree,
+    ) -> Result<(), GraftError>
+        requires worker { (1 ≤ w) × (w ≤ self.old.workers) }
+        requires subtree { IsSubtreeOf piece.now subtree.now }
         ensures ok { OnOk result (IsGraftMove self.old w node piece.now Taken self.new) }
         ensures refused { IfErr result (λ e. IsRefusedMove self.old w node piece.now e self.new) }
         ensures err { OnErr result (self.new ≡ self.old) }
@@ -302,7 +311,7 @@ impl<'a> Machine<'a> {
             return Err(GraftError::OverAllowance);
         }
         let best = self.best.total();
-        let Ok(()) = self.table.plant(node, best, piece) else {
+        let Ok(()) = self.table.plant(node, best, piece, subtree) else {
             return Err(GraftError::OutOfMemory);
         };
         self.allowances[at] -= splits;

@@ -37,8 +37,6 @@ pub struct Node {
     /// How many numbers the prefix has.
     pub depth: u8,
     pub state: State,
-    /// The first of the nodes below it where a later piece split it, and else 0: then they stand behind it, in preorder.
-    pub from: u32,
 }
 
 impl Node {
@@ -47,7 +45,7 @@ impl Node {
 
     /// The empty prefix, open.
     pub fn root(value: u32) -> Node
-        ensures { result ≡ record { parent = 0; value = value; number = 0; depth = 0; state = State.Open; from = 0 } }
+        ensures { result ≡ record { parent = 0; value = value; number = 0; depth = 0; state = State.Open } }
     {
         Node {
             parent: 0,
@@ -55,7 +53,6 @@ impl Node {
             number: 0,
             depth: 0,
             state: State::Open,
-            from: 0,
         }
     }
 }

@@ -1,9 +1,9 @@
 use crate::node::{Node, State};
-use crate::planting::{Place, append, list_open, state_of};
+use crate::planting::{append, set_state, state_of};
 use crate::rank::rank_of;
+use crate::subtree::Subtree;
 use crate::{live, path};
 use arrayvec::ArrayVec;
-use s66_dep::Set;
 use s66_line::BLOCK_LIMIT;
 use s66_node::{Knot, Piece};
 use std::alloc::{AllocError, Global};
@@ -40,16 +40,14 @@ impl NodeTable {
     ghost use Rattle.s66_ledger.specs.declared.node.State.{State};
     ghost use Rattle.s66_model.specs.Ledger as model;
     ghost use Rattle.s66_model.specs.Ledger.{root_state, new_nodes};
-    ghost use Rattle.s66_model.specs.Tree.{Parted};
-    ghost use Rattle.s66_dep.specs.Members.{numbers_in};
-    ghost use Rattle.s66_node.specs.Pieces.{told_tree, tree_of};
-    ghost use Rattle.s66_ledger.specs.Planting.{kids_of};
-    ghost use Rattle.s66_ledger.specs.Nodes.{node_at, with_state, prefixes, nodes_of, HaveFloors};
+    ghost use Rattle.s66_node.specs.Pieces.{tree_of};
+    ghost use Rattle.s66_ledger.specs.Subtrees.{IsSubtreeOf, planted};
+    ghost use Rattle.s66_ledger.specs.Nodes.{node_at, with_state, prefixes, nodes_of, HaveFloors, HaveDepths};
     ghost use Rattle.s66_ledger.specs.OpenNodes.{is_open, IsOut, ranked};
 
     /// One node, the empty prefix with its floor, open.
     pub fn new(alloc: Global, floor: u32) -> Result<NodeTable, AllocError>
-        ensures { IfOk result (λ t. t ≡ (record { parent = 0; value = floor; number = 0; depth = 0; state = State.Open; from = 0 }) ∷ []) }
+        ensures { IfOk result (λ t. t ≡ (record { parent = 0; value = floor; number = 0; depth = 0; state = State.Open }) ∷ []) }
     {
         let mut nodes = Vec::new(alloc);
         nodes.push(Node::root(floor))?;
@@ -165,64 +163,50 @@ impl NodeTable {
         Ok(())
     }
 
-    /// Puts a piece in the place of a node that is handed out: the node takes the state of the piece's root, and the piece's other
-    /// prefixes become nodes, the first of them the one that the node names. In time linear in the piece's lines, with a
-    /// logarithm of the number of open nodes for each that is open. `Err` leaves all as it was.
-    pub fn plant(&mut self, root: u32, best: u32, piece: &Piece) -> Result<(), AllocError>
-        requires few { length piece.now.problem.block ≤ BLOCK_LIMIT }
+    /// Puts a piece, whose subtree comes with it, in the place of a node that is handed out: the node takes the state of the piece's
+    /// root, and the piece's other prefixes become nodes. In time linear in the piece's lines, with a logarithm of the number of open
+    /// nodes for each that is open. `Err` leaves all as it was.
+    pub fn plant(
+        &mut self,
+        root: u32,
+        best: u32,
+        piece: &Piece,
+        subtree: &Subtree,
+    ) -> Result<(), AllocError>
         requires out { IsOut self.old root }
         requires over { get_or (prefixes self.old) root [] ≡ piece.now.prefix }
         requires floors { HaveFloors piece.now.problem self.old }
         requires room { length self.old + length piece.now.knots < 2 ^ 32 }
+        requires subtree { IsSubtreeOf piece.now subtree.now }
         ensures err { OnErr result (self.new ≡ self.old) }
         ensures count { OnOk result (length self.new + 1 ≡ length self.old + length piece.now.knots) }
         ensures floors { OnOk result (HaveFloors piece.now.problem self.new) }
         ensures ok { OnOk result (nodes_of piece.now.problem self.new ≡ model.with_state (nodes_of piece.now.problem self.old) root (root_state piece.now.problem best piece.now.prefix (tree_of piece.now)) ++ new_nodes piece.now.problem best piece.now.prefix (tree_of piece.now)) }
     {
-        let knots = piece.knots();
-        let knot = &knots[0];
-        if let Knot::Split(numbers) = knot {
-            return self.plant_split(root, *numbers, best, piece);
+        // the nodes have depths
+        let _ = &self.nodes;
+        let knot = &piece.knots()[0];
+        if let Knot::Split(_) = knot {
+            return self.plant_split(root, best, subtree);
         }
         if state_of(knot, best).is_open() {
             self.give_back(root)?;
             return Ok(());
         }
-        self.nodes[root as usize].state = State::Closed;
+        set_state(&mut self.nodes, root as usize, State::Closed);
         Ok(())
     }
 
-    /// Puts a piece whose root is split in the place of a node that is handed out.
-    fn plant_split(
-        &mut self,
-        root: u32,
-        numbers: Set,
-        best: u32,
-        piece: &Piece,
-    ) -> Result<(), AllocError>
-        requires few { length piece.now.problem.block ≤ BLOCK_LIMIT }
-        requires split { told_tree piece.now ≡ Parted (numbers_in numbers) (kids_of (told_tree piece.now)) }
+    /// Splits a node that is handed out: these nodes stand under it.
+    fn plant_split(&mut self, root: u32, best: u32, subtree: &Subtree) -> Result<(), AllocError>
         requires out { IsOut self.old root }
-        requires over { get_or (prefixes self.old) root [] ≡ piece.now.prefix }
-        requires floors { HaveFloors piece.now.problem self.old }
-        requires room { length self.old + length piece.now.knots < 2 ^ 32 }
+        requires room { length self.old + length subtree.now < 2 ^ 32 }
+        requires depths { HaveDepths (planted best root self.old subtree.now) }
         ensures err { OnErr result (self.new ≡ self.old) }
-        ensures count { OnOk result (length self.new + 1 ≡ length self.old + length piece.now.knots) }
-        ensures floors { OnOk result (HaveFloors piece.now.problem self.new) }
-        ensures ok { OnOk result (nodes_of piece.now.problem self.new ≡ model.with_state (nodes_of piece.now.problem self.old) root (root_state piece.now.problem best piece.now.prefix (tree_of piece.now)) ++ new_nodes piece.now.problem best piece.now.prefix (tree_of piece.now)) }
+        ensures ok { OnOk result (self.new ≡ with_state (planted best root self.old subtree.now) root State.Split) }
     {
-        self.open.reserve(piece.knots().len())?;
-        let at = root as usize;
-        let made = self.nodes.len();
-        let place = Place {
-            node: root,
-            left: numbers,
-        };
-        append(&mut self.nodes, place, best, piece)?;
-        let node = &mut self.nodes[at];
-        node.state = State::Split;
-        node.from = made as u32;
-        list_open(self.nodes.as_slice(), &mut self.open, made);
+        append(&mut self.nodes, &mut self.open, root, best, subtree.nodes())?;
+        set_state(&mut self.nodes, root as usize, State::Split);
         Ok(())
     }
 }

@@ -1,6 +1,7 @@
 use crate::limits::SCHEDULE_ROUNDS;
 use crate::machine::Machine;
 use crate::reply::{BackError, GraftError};
+use crate::subtree::Subtree;
 use crate::ticket::Ticket;
 use s66_node::{Piece, Priority, Walk, schedule_below};
 use std::alloc::{AllocError, Global};
@@ -63,7 +64,7 @@ impl<'a> Machine<'a> {
             };
         }
         let piece = walk.expand(alloc, ticket.prefix(), best, allowance)?;
-        self.take_in(ticket, piece)?;
+        self.take_in(alloc, ticket, piece)?;
         Ok(true)
     }
 
@@ -115,7 +116,7 @@ impl<'a> Machine<'a> {
     }
 
     /// Offers the best of the piece's whole orders, and puts the piece in the place of the ticket's node.
-    fn take_in(&mut self, ticket: Ticket, piece: Piece) -> Result<(), AllocError>
+    fn take_in(&mut self, alloc: Global, ticket: Ticket, piece: Piece) -> Result<(), AllocError>
         requires workers { 1 ≤ self.old.workers }
         requires covers { Covers self.old.problem self.old.budget self.old.state }
         requires within { IsWithin self.old.problem self.old.state ticket }
@@ -131,7 +132,8 @@ impl<'a> Machine<'a> {
     {
         // first, so that no whole order is left open below the best time
         self.offer_best(&piece);
-        match self.graft(1, ticket.node(), &piece) {
+        let subtree = Subtree::of(alloc, &piece)?;
+        match self.graft(1, ticket.node(), &piece, &subtree) {
             Ok(()) => Ok(()),
             Err(GraftError::OutOfMemory) => Err(AllocError),
             Err(GraftError::NotOut | GraftError::OtherPrefix | GraftError::OverAllowance) => {

@@ -4,6 +4,7 @@ ghost use Rattle.s66_ledger.specs.Steps.{reply_of};
 
 use crate::ledger::Ledger;
 use crate::reply::{BackError, GraftError, Offered};
+use crate::subtree::Subtree;
 use crate::ticket::node_of;
 use s66_node::Piece;
 use s66_time::Timed;
@@ -88,8 +89,9 @@ impl Ledger<'_> {
         ensures ok { IfOk result (λ reply. IsGraftAt self.old w node piece (reply_of reply) self.new) }
         ensures err { OnErr result (self.new ≡ self.old) }
     {
+        let subtree = Subtree::of(self.alloc, &piece)?;
         let outline = piece.outline(self.alloc)?;
-        match self.graft_at(w, node, &piece, outline) {
+        match self.graft_at(w, node, &piece, &subtree, outline) {
             Ok(()) => Ok(Reply::Taken),
             Err(GraftError::NotOut) => Ok(Reply::NotOut),
             Err(GraftError::OtherPrefix) => Ok(Reply::OtherPrefix),

@@ -2,7 +2,7 @@
 
 use crate::hub::Hub;
 use crate::seat::Seat;
-use s66_ledger::{BackError, GraftError, Offered, Ticket};
+use s66_ledger::{BackError, GraftError, Offered, Subtree, Ticket};
 use s66_node::Piece;
 use s66_time::Timed;
 use std::alloc::AllocError;
@@ -102,8 +102,8 @@ impl<'a> Hub<'a> {
         Ok(offered)
     }
 
-    /// Puts a piece in the place of a node that was handed out, as `Ledger::graft` does. What the history keeps of the piece is made
-    /// before the lock is taken, and ticket and piece are dropped after it is given back.
+    /// Puts a piece in the place of a node that was handed out, as `Ledger::graft` does. The piece's nodes, and what the history keeps
+    /// of it, are made before the lock is taken; ticket and piece are dropped after it is given back.
     pub fn graft<R: Wait>(
         &self,
         rt: &R,
@@ -117,12 +117,15 @@ impl<'a> Hub<'a> {
         ensures refused { IfErr result (λ e. HasBeenRefused seat.old ticket piece e.0 seat.new) }
         ensures handed_back { IfErr result (λ e. (e.1 ≡ ticket) × (e.2 ≡ piece)) }
     {
+        let Ok(subtree) = Subtree::of(self.alloc, &piece) else {
+            return Err((GraftError::OutOfMemory, ticket, piece));
+        };
         let Ok(outline) = piece.outline(self.alloc) else {
             return Err((GraftError::OutOfMemory, ticket, piece));
         };
         let splits = piece.splits();
         let mut ledger = self.lock.take(rt, &mut seat.token);
-        match ledger.graft_at(seat.number, ticket.node(), &piece, outline) {
+        match ledger.graft_at(seat.number, ticket.node(), &piece, &subtree, outline) {
             Ok(()) => {
                 // no worker has spent more than all have
                 let _spent = ledger.splits();

@@ -1,25 +1,16 @@
-use Rattle.std.proofs.Common.{ℕ, List, ◌+◌, ◌-◌, ◌*◌, ◌≡◌, ◌≤◌, ◌++◌, length, take, drop, vec_len}
+use Rattle.std.proofs.Common.{◌+◌, ◌-◌, ◌≡◌, ◌≤◌, length, take, heap_items, heap_len, vec_len}
+use Rattle.std.specs.BinaryHeap.{IsHeap, heap_capacity}
 use Rattle.std.specs.Vec.{vec_capacity}
-use Rattle.s66_dep.specs.Members.{numbers_in}
-use Rattle.s66_model.specs.Ledger.{kid_nodes}
-use Rattle.s66_model.specs.Told.{kids_seen, tip_of}
-use Rattle.s66_node.specs.SeenKnots.{seen}
-use Rattle.s66_node.specs.Pieces.{told_tree}
-use Rattle.s66_ledger.specs.Nodes.{nodes_of, HaveDepths}
-use Rattle.s66_ledger.specs.Planting.{kids_of, IsReading}
+use Rattle.s66_ledger.specs.OpenNodes.{AreOpenNodes, compare_ranked}
+use Rattle.s66_ledger.specs.Subtrees.{planted}
 use Rattle.s66_ledger.proofs.planting.append.Given as goal
 
-abbrev pub invariant-loop-place : goal.invariant-loop-place
-invariant-loop-place l =
+abbrev pub invariant-loop-i : goal.invariant-loop-i
+invariant-loop-i l =
     record {
-      count : length l.nodes.items + 1 ≡ length l.fn.nodes.items + l.cursor;
-      front : take (length l.fn.nodes.items) l.nodes.items ≡ l.fn.nodes.items;
-      within : l.cursor ≤ length l.knots;
-      room : vec_len l.nodes + (length l.knots - l.cursor) ≤ vec_capacity l.nodes;
-      first : 1 ≤ l.cursor;
-      depths : HaveDepths l.nodes.items;
-      reading : (at : List ℕ) × IsReading l.fn.piece.problem l.best (nodes_of l.fn.piece.problem l.fn.nodes.items ++ kid_nodes l.fn.piece.problem l.best l.fn.piece.prefix (numbers_in l.fn.root.left) (kids_seen (tip_of l.fn.piece.problem) l.fn.piece.prefix (numbers_in l.fn.root.left) (kids_of (told_tree l.fn.piece)))) at l.places.items l.nodes.items (drop l.cursor (seen l.knots));
+      nodes : l.nodes.items ≡ planted l.best l.root l.fn.nodes.items (take l.i l.subtree);
+      heap : IsHeap compare_ranked (heap_items l.heap);
+      listed : AreOpenNodes l.nodes.items (heap_items l.heap);
+      heap_room : heap_len l.heap + (length l.subtree - l.i) ≤ heap_capacity l.heap;
+      room : vec_len l.nodes + (length l.subtree - l.i) ≤ vec_capacity l.nodes;
     }
-
-abbrev pub decreases-loop-place : goal.decreases-loop-place
-decreases-loop-place l = (length l.knots - l.cursor) * 2 + length l.places.items

@@ -19,8 +19,8 @@ returns-then-not-is_out-clause-refused c =
     let b : Problem = record { block = instrs_of s.block.now; profile = s.profile } in
     let p = c.args.piece.now in
     let i = c.args.node in
-    let le : c.args.w ≤ length s.allowances.items = omega (arith, c.requires.1, ap (λ (l : MachineOf). l.workers) c.self.view_is) in
-    graft-not-out b s.budget s.table s.best s.left s.allowances.items s.spent c.self.invariant c.args.w i p c.requires.0 le c.is_of-own.result c.is_of-own.ensures c.args.self.now c.self.view_is (λ out. true≢false (sym (c.is_out.ensures.1 out) ∙ c.if-not-is_out.true))
+    let le : c.args.w ≤ length s.allowances.items = omega (arith, c.requires.worker.1, ap (λ (l : MachineOf). l.workers) c.self.view_is) in
+    graft-not-out b s.budget s.table s.best s.left s.allowances.items s.spent c.self.invariant c.args.w i p c.requires.worker.0 le c.is_of-own.result c.is_of-own.ensures c.args.self.now c.self.view_is (λ out. true≢false (sym (c.is_out.ensures.1 out) ∙ c.if-not-is_out.true))
 
 pub returns-then-not-own-clause-refused : goal.returns-then-not-own-clause-refused
 returns-then-not-own-clause-refused c =
@@ -28,9 +28,9 @@ returns-then-not-own-clause-refused c =
     let b : Problem = record { block = instrs_of s.block.now; profile = s.profile } in
     let p = c.args.piece.now in
     let i = c.args.node in
-    let le : c.args.w ≤ length s.allowances.items = omega (arith, c.requires.1, ap (λ (l : MachineOf). l.workers) c.self.view_is) in
+    let le : c.args.w ≤ length s.allowances.items = omega (arith, c.requires.worker.1, ap (λ (l : MachineOf). l.workers) c.self.view_is) in
     let out : IsOut s.table i = c.is_out.ensures.0 c.if-not-is_out.false in
-    graft-other b s.budget s.table s.best s.left s.allowances.items s.spent c.self.invariant c.args.w i p c.requires.0 le c.is_of-own.result c.is_of-own.ensures c.args.self.now c.self.view_is out c.if-not-own.true
+    graft-other b s.budget s.table s.best s.left s.allowances.items s.spent c.self.invariant c.args.w i p c.requires.worker.0 le c.is_of-own.result c.is_of-own.ensures c.args.self.now c.self.view_is out c.if-not-own.true
 
 pub returns-then-not-is_over-clause-refused : goal.returns-then-not-is_over-clause-refused
 returns-then-not-is_over-clause-refused c =
@@ -38,9 +38,9 @@ returns-then-not-is_over-clause-refused c =
     let b : Problem = record { block = instrs_of s.block.now; profile = s.profile } in
     let p = c.args.piece.now in
     let i = c.args.node in
-    let le : c.args.w ≤ length s.allowances.items = omega (arith, c.requires.1, ap (λ (l : MachineOf). l.workers) c.self.view_is) in
+    let le : c.args.w ≤ length s.allowances.items = omega (arith, c.requires.worker.1, ap (λ (l : MachineOf). l.workers) c.self.view_is) in
     let out : IsOut s.table i = c.is_out.ensures.0 c.if-not-is_out.false in
-    graft-other-prefix b s.budget s.table s.best s.left s.allowances.items s.spent c.self.invariant c.args.w i p c.requires.0 le c.is_of-own.result c.is_of-own.ensures c.args.self.now c.self.view_is out (λ over. true≢false (sym (c.is_over.ensures.1 (over ∙ sym c.prefix.ensures.value)) ∙ c.if-not-is_over.true))
+    graft-other-prefix b s.budget s.table s.best s.left s.allowances.items s.spent c.self.invariant c.args.w i p c.requires.worker.0 le c.is_of-own.result c.is_of-own.ensures c.args.self.now c.self.view_is out (λ over. true≢false (sym (c.is_over.ensures.1 (over ∙ sym c.prefix.ensures.value)) ∙ c.if-not-is_over.true))
 
 pub returns-then-index-splits-clause-refused : goal.returns-then-index-splits-clause-refused
 returns-then-index-splits-clause-refused c =
@@ -48,11 +48,11 @@ returns-then-index-splits-clause-refused c =
     let b : Problem = record { block = instrs_of s.block.now; profile = s.profile } in
     let p = c.args.piece.now in
     let i = c.args.node in
-    let le : c.args.w ≤ length s.allowances.items = omega (arith, c.requires.1, ap (λ (l : MachineOf). l.workers) c.self.view_is) in
+    let le : c.args.w ≤ length s.allowances.items = omega (arith, c.requires.worker.1, ap (λ (l : MachineOf). l.workers) c.self.view_is) in
     let out : IsOut s.table i = c.is_out.ensures.0 c.if-not-is_out.false in
     let over : get_or (prefixes s.table) i [] ≡ p.prefix = c.is_over.ensures.0 c.if-not-is_over.false ∙ c.prefix.ensures.value in
-    let was = c.index.ensures ∙ get_or-any s.allowances.items (c.args.w - 1) c.index.result.now 0 (λ n. n) (omega (arith, c.requires.0, le)) in
-    graft-over b s.budget s.table s.best s.left s.allowances.items s.spent c.self.invariant c.args.w i p c.requires.0 le c.is_of-own.result c.is_of-own.ensures c.args.self.now c.self.view_is out c.if-not-own.false over (omega (arith, was, c.if-index-splits.true, c.splits-splits.ensures))
+    let was = c.index.ensures ∙ get_or-any s.allowances.items (c.args.w - 1) c.index.result.now 0 (λ n. n) (omega (arith, c.requires.worker.0, le)) in
+    graft-over b s.budget s.table s.best s.left s.allowances.items s.spent c.self.invariant c.args.w i p c.requires.worker.0 le c.is_of-own.result c.is_of-own.ensures c.args.self.now c.self.view_is out c.if-not-own.false over (omega (arith, was, c.if-index-splits.true, c.splits-splits.ensures))
 
 pub plant-requires-clause-floors : goal.plant-requires-clause-floors
 plant-requires-clause-floors c =
@@ -60,8 +60,8 @@ plant-requires-clause-floors c =
     let b : Problem = record { block = instrs_of s.block.now; profile = s.profile } in
     let p = c.args.piece.now in
     let i = c.args.node in
-    let le : c.args.w ≤ length s.allowances.items = omega (arith, c.requires.1, ap (λ (l : MachineOf). l.workers) c.self.view_is) in
-    piece-floors b s.budget s.table s.best s.left s.allowances.items s.spent c.self.invariant c.args.w i p c.requires.0 le c.is_of-own.result c.is_of-own.ensures c.if-not-own.false
+    let le : c.args.w ≤ length s.allowances.items = omega (arith, c.requires.worker.1, ap (λ (l : MachineOf). l.workers) c.self.view_is) in
+    piece-floors b s.budget s.table s.best s.left s.allowances.items s.spent c.self.invariant c.args.w i p c.requires.worker.0 le c.is_of-own.result c.is_of-own.ensures c.if-not-own.false
 
 pub plant-requires-clause-room : goal.plant-requires-clause-room
 plant-requires-clause-room c =
@@ -69,10 +69,10 @@ plant-requires-clause-room c =
     let b : Problem = record { block = instrs_of s.block.now; profile = s.profile } in
     let p = c.args.piece.now in
     let i = c.args.node in
-    let le : c.args.w ≤ length s.allowances.items = omega (arith, c.requires.1, ap (λ (l : MachineOf). l.workers) c.self.view_is) in
+    let le : c.args.w ≤ length s.allowances.items = omega (arith, c.requires.worker.1, ap (λ (l : MachineOf). l.workers) c.self.view_is) in
     let few : length p.problem.block ≤ 64 = omega (arith, c.count.ensures.value, c.count.ensures.few, ap (λ (q : Problem). length q.block) (c.is_of-own.ensures.0 c.if-not-own.false)) in
     let lines = piece-lines p c.knots-lines.ensures.told c.knots-lines.ensures.preorder few in
-    let was = c.index.ensures ∙ get_or-any s.allowances.items (c.args.w - 1) c.index.result.now 0 (λ n. n) (omega (arith, c.requires.0, le)) in
+    let was = c.index.ensures ∙ get_or-any s.allowances.items (c.args.w - 1) c.index.result.now 0 (λ n. n) (omega (arith, c.requires.worker.0, le)) in
     let room = kept-room b s.budget s.table s.best s.left s.allowances.items s.spent c.self.invariant (c.args.w - 1) in
     omega (arith, lines, was, room, c.if-index-splits.false, c.splits-splits.ensures, c.self.invariant.room, c.self.invariant.few)
 
@@ -82,10 +82,10 @@ overflow_add-self c =
     let b : Problem = record { block = instrs_of s.block.now; profile = s.profile } in
     let p = c.args.piece.now in
     let i = c.args.node in
-    let le : c.args.w ≤ length s.allowances.items = omega (arith, c.requires.1, ap (λ (l : MachineOf). l.workers) c.self.view_is) in
+    let le : c.args.w ≤ length s.allowances.items = omega (arith, c.requires.worker.1, ap (λ (l : MachineOf). l.workers) c.self.view_is) in
     let few : length p.problem.block ≤ 64 = omega (arith, c.count.ensures.value, c.count.ensures.few, ap (λ (q : Problem). length q.block) (c.is_of-own.ensures.0 c.if-not-own.false)) in
     let lines = piece-lines p c.knots-lines.ensures.told c.knots-lines.ensures.preorder few in
-    let was = c.index.ensures ∙ get_or-any s.allowances.items (c.args.w - 1) c.index.result.now 0 (λ n. n) (omega (arith, c.requires.0, le)) in
+    let was = c.index.ensures ∙ get_or-any s.allowances.items (c.args.w - 1) c.index.result.now 0 (λ n. n) (omega (arith, c.requires.worker.0, le)) in
     let room = kept-room b s.budget s.table s.best s.left s.allowances.items s.spent c.self.invariant (c.args.w - 1) in
     omega (arith, was, room, c.if-index-splits.false, c.self.invariant.few)
 
@@ -95,20 +95,20 @@ invariant_of-self-2 c =
     let b : Problem = record { block = instrs_of s.block.now; profile = s.profile } in
     let p = c.args.piece.now in
     let i = c.args.node in
-    let le : c.args.w ≤ length s.allowances.items = omega (arith, c.requires.1, ap (λ (l : MachineOf). l.workers) c.self.view_is) in
+    let le : c.args.w ≤ length s.allowances.items = omega (arith, c.requires.worker.1, ap (λ (l : MachineOf). l.workers) c.self.view_is) in
     let out : IsOut s.table i = c.is_out.ensures.0 c.if-not-is_out.false in
     let over : get_or (prefixes s.table) i [] ≡ p.prefix = c.is_over.ensures.0 c.if-not-is_over.false ∙ c.prefix.ensures.value in
     let few : length p.problem.block ≤ 64 = omega (arith, c.count.ensures.value, c.count.ensures.few, ap (λ (q : Problem). length q.block) (c.is_of-own.ensures.0 c.if-not-own.false)) in
     let lines = piece-lines p c.knots-lines.ensures.told c.knots-lines.ensures.preorder few in
-    let was = c.index.ensures ∙ get_or-any s.allowances.items (c.args.w - 1) c.index.result.now 0 (λ n. n) (omega (arith, c.requires.0, le)) in
+    let was = c.index.ensures ∙ get_or-any s.allowances.items (c.args.w - 1) c.index.result.now 0 (λ n. n) (omega (arith, c.requires.worker.0, le)) in
     let room = kept-room b s.budget s.table s.best s.left s.allowances.items s.spent c.self.invariant (c.args.w - 1) in
-    let now = c.index_mut.ensures.value ∙ get_or-any s.allowances.items (c.args.w - 1) c.index_mut.result.now 0 (λ n. n) (omega (arith, c.requires.0, le)) in
+    let now = c.index_mut.ensures.value ∙ get_or-any s.allowances.items (c.args.w - 1) c.index_mut.result.now 0 (λ n. n) (omega (arith, c.requires.worker.0, le)) in
     let best = total_of s.best.problem s.best.numbers in
     let planted : nodes_of p.problem c.plant.new.self ≡ model.with_state (nodes_of p.problem s.table) i (root_state p.problem best p.prefix (tree_of p)) ++ new_nodes p.problem best p.prefix (tree_of p) =
     (subst (λ k. nodes_of p.problem c.plant.new.self ≡ model.with_state (nodes_of p.problem s.table) i (root_state p.problem k p.prefix (tree_of p)) ++ new_nodes p.problem k p.prefix (tree_of p)) c.total-best.ensures.value c.in-Ok.ensures.ok) in
     let piece = c.knots-lines.ensures.piece in
     subst (λ n. IsKept b s.budget c.plant.new.self s.best s.left (set s.allowances.items (c.args.w - 1) (n - c.splits-splits.result)) (s.spent + c.splits-splits.result)) (sym now)
-    (kept-taken b s.budget s.table s.best s.left s.allowances.items s.spent c.self.invariant c.args.w i p c.requires.0 le c.is_of-own.result c.is_of-own.ensures c.if-not-own.false c.plant.new.self c.splits-splits.result out over c.splits-splits.ensures (omega (arith, was, c.if-index-splits.false)) piece planted c.in-Ok.ensures.floors c.in-Ok.ensures.count lines)
+    (kept-taken b s.budget s.table s.best s.left s.allowances.items s.spent c.self.invariant c.args.w i p c.requires.worker.0 le c.is_of-own.result c.is_of-own.ensures c.if-not-own.false c.plant.new.self c.splits-splits.result out over c.splits-splits.ensures (omega (arith, was, c.if-index-splits.false)) piece planted c.in-Ok.ensures.floors c.in-Ok.ensures.count lines)
 
 pub returns-clause-ok : goal.returns-clause-ok
 returns-clause-ok c =
@@ -116,17 +116,17 @@ returns-clause-ok c =
     let b : Problem = record { block = instrs_of s.block.now; profile = s.profile } in
     let p = c.args.piece.now in
     let i = c.args.node in
-    let le : c.args.w ≤ length s.allowances.items = omega (arith, c.requires.1, ap (λ (l : MachineOf). l.workers) c.self.view_is) in
+    let le : c.args.w ≤ length s.allowances.items = omega (arith, c.requires.worker.1, ap (λ (l : MachineOf). l.workers) c.self.view_is) in
     let out : IsOut s.table i = c.is_out.ensures.0 c.if-not-is_out.false in
     let over : get_or (prefixes s.table) i [] ≡ p.prefix = c.is_over.ensures.0 c.if-not-is_over.false ∙ c.prefix.ensures.value in
     let few : length p.problem.block ≤ 64 = omega (arith, c.count.ensures.value, c.count.ensures.few, ap (λ (q : Problem). length q.block) (c.is_of-own.ensures.0 c.if-not-own.false)) in
     let lines = piece-lines p c.knots-lines.ensures.told c.knots-lines.ensures.preorder few in
-    let was = c.index.ensures ∙ get_or-any s.allowances.items (c.args.w - 1) c.index.result.now 0 (λ n. n) (omega (arith, c.requires.0, le)) in
+    let was = c.index.ensures ∙ get_or-any s.allowances.items (c.args.w - 1) c.index.result.now 0 (λ n. n) (omega (arith, c.requires.worker.0, le)) in
     let room = kept-room b s.budget s.table s.best s.left s.allowances.items s.spent c.self.invariant (c.args.w - 1) in
-    let now = c.index_mut.ensures.value ∙ get_or-any s.allowances.items (c.args.w - 1) c.index_mut.result.now 0 (λ n. n) (omega (arith, c.requires.0, le)) in
+    let now = c.index_mut.ensures.value ∙ get_or-any s.allowances.items (c.args.w - 1) c.index_mut.result.now 0 (λ n. n) (omega (arith, c.requires.worker.0, le)) in
     let best = total_of s.best.problem s.best.numbers in
     let planted : nodes_of p.problem c.plant.new.self ≡ model.with_state (nodes_of p.problem s.table) i (root_state p.problem best p.prefix (tree_of p)) ++ new_nodes p.problem best p.prefix (tree_of p) =
     (subst (λ k. nodes_of p.problem c.plant.new.self ≡ model.with_state (nodes_of p.problem s.table) i (root_state p.problem k p.prefix (tree_of p)) ++ new_nodes p.problem k p.prefix (tree_of p)) c.total-best.ensures.value c.in-Ok.ensures.ok) in
     let piece = c.knots-lines.ensures.piece in
     subst (λ n. IsGraftMove c.args.self.now c.args.w i p Taken (machine_of b s.budget c.plant.new.self s.best.numbers s.left (set s.allowances.items (c.args.w - 1) (n - c.splits-splits.result)) (s.spent + c.splits-splits.result))) (sym now)
-    (graft-taken b s.budget s.table s.best s.left s.allowances.items s.spent c.self.invariant c.args.w i p c.requires.0 le c.is_of-own.result c.is_of-own.ensures c.if-not-own.false c.plant.new.self c.splits-splits.result out over c.splits-splits.ensures (omega (arith, was, c.if-index-splits.false)) piece planted c.args.self.now c.self.view_is)
+    (graft-taken b s.budget s.table s.best s.left s.allowances.items s.spent c.self.invariant c.args.w i p c.requires.worker.0 le c.is_of-own.result c.is_of-own.ensures c.if-not-own.false c.plant.new.self c.splits-splits.result out over c.splits-splits.ensures (omega (arith, was, c.if-index-splits.false)) piece planted c.args.self.now c.self.view_is)

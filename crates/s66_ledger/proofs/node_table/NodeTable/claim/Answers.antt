@@ -15,7 +15,7 @@ invariant_of-self-2 c =
     let t = c.self.inside in
     let popped = c.in_ok-node.ensures.permutation in
     let node = c.index_mut.result.now in
-    let y : Node = record { parent = node.parent; value = node.value; number = node.number; depth = node.depth; state = state.Out; from = node.from } in
+    let y : Node = record { parent = node.parent; value = node.value; number = node.number; depth = node.depth; state = state.Out } in
     let within = taken-within t.nodes.items (heap_items t.open) c.self.invariant.1 (heap_items c.pop.new.self) c.in_ok-node.field-0-0 c.in_ok-node.node popped in (
       (c.in_ok-node.ensures.heap_order c.self.invariant.0).0,
       taken t.nodes.items (heap_items t.open) c.self.invariant.1 (heap_items c.pop.new.self) c.in_ok-node.field-0-0 c.in_ok-node.node popped _ refl

@@ -1,80 +1,130 @@
-use Rattle.std.proofs.Common.{◌≡◌, ◌∙◌, ◌++◌, ap, arith, refl, sym, subst, length, set, heap_items, get_or, []}
+use Rattle.std.proofs.Common.{ℕ, ◌+◌, ◌≡◌, ◌≢◌, ◌∙◌, ◌++◌, List, ap, arith, refl, sym, subst, length, length-append, map, get_or, heap_items, []}
 use Rattle.std.proofs.lemmas.List.{length-set}
-use Rattle.s66_node.specs.Pieces.{told_tree, tree_of}
+use Rattle.std.proofs.lemmas.Result.{on_ok_weaker}
+use Rattle.s66_dep.specs.Members.{numbers_in}
 use Rattle.s66_model.specs.Ledger as model
 use Rattle.s66_model.specs.Ledger.{root_state, new_nodes}
+use Rattle.s66_model.specs.Tree.{Alone, Parted, TreeHolds, flat}
+use Rattle.s66_model.specs.Told.{Told, ToldHolds}
+use Rattle.s66_node.specs.Pieces.{PieceOf, told_tree, tree_of}
+use Rattle.s66_node.specs.SeenKnots.{seen_knot}
 use Rattle.s66_ledger.specs.declared.node.Node.{Node}
+use Rattle.s66_ledger.specs.declared.node.State.{State}
 use Rattle.s66_ledger.specs.declared.node.State.TheVariants as state
-use Rattle.s66_ledger.specs.OpenNodes.{IsOut, is_open_state}
-use Rattle.s66_ledger.specs.Nodes.{no_node, node_at, nodes_of, prefixes, HaveFloors}
-use Rattle.s66_ledger.specs.Planting.{told_state}
-use Rattle.s66_ledger.proofs.Depths.{depths-set}
-use Rattle.s66_ledger.proofs.Floors.{floors-set, floors-state}
+use Rattle.s66_ledger.specs.OpenNodes.{IsOut, is_open_state, AreOpenNodes}
+use Rattle.s66_ledger.specs.Nodes.{node_at, with_state, nodes_of, prefixes, HaveFloors, HaveDepths}
+use Rattle.s66_ledger.specs.Planting.{kids_of, told_state}
+use Rattle.s66_ledger.specs.Subtrees.{placed, settled, planted, IsPlanted}
+use Rattle.s66_ledger.proofs.Depths.{depths-state}
+use Rattle.s66_ledger.proofs.Floors.{floors-state}
 use Rattle.s66_ledger.proofs.OpenHeap.{still-shut, out-shut, is-open}
-use Rattle.s66_ledger.proofs.Planted.{alone-nodes, tip-root, tip-lines, told-closed}
-use Rattle.s66_ledger.proofs.Prefixes.{get_or-any}
+use Rattle.s66_ledger.proofs.Planted.{split-root, split-nodes, alone-nodes, tip-root, told-closed}
+use Rattle.s66_ledger.proofs.PlantedNodes.{still-out}
 use Rattle.s66_ledger.proofs.Reading.{line-told}
 use Rattle.s66_ledger.proofs.node_table.NodeTable.plant.Goals as goal
+
+out-split : (s : State) → s ≡ state.Out → s ≢ state.Split
+out-split s out split = let no : state.Out ≡ state.Split = sym out ∙ split in absurd cc
+
+-- in these nodes the piece stands in the place of one that was out
+abbrev Stands : PieceOf → ℕ → ℕ → List Node → List Node → Type 0
+Stands p best i old new = nodes_of p.problem new ≡ model.with_state (nodes_of p.problem old) i (root_state p.problem best p.prefix (tree_of p)) ++ new_nodes p.problem best p.prefix (tree_of p)
+
+-- a piece that isn't split
+module _ (p : PieceOf) (best i : ℕ) (s : State) (told : Told) (old new : List Node) (out : IsOut old i) (alone : told_tree p ≡ Alone told) (is : s ≡ told_state best told) (moved : new ≡ with_state old i s) where
+  alone-count : flat (told_tree p) ≡ p.knots → length new + 1 ≡ length old + length p.knots
+  alone-count preorder = omega (arith, ap length moved, length-set old i (record (node_at old i) { state = s }), ap length (sym preorder ∙ ap flat alone))
+
+  alone-floors : HaveFloors p.problem old → HaveFloors p.problem new
+  alone-floors floors = subst (HaveFloors p.problem) (sym moved) (floors-state p.problem old i s out.0 (out-split (node_at old i).state out.1) floors)
+
+  alone-stands : get_or (prefixes old) i [] ≡ p.prefix → TreeHolds p.problem.block (ToldHolds p.problem) p.prefix (told_tree p) → Stands p best i old new
+  alone-stands over holds =
+      subst (Stands p best i old) (sym moved)
+      (alone-nodes p.problem best i p.prefix (told_tree p) old s told out.0 is over holds alone)
+
+-- a piece that is split
+module _ (p : PieceOf) (best i : ℕ) (old subtree new : List Node) (out : IsOut old i) (whole : IsPlanted p best old (planted best i old subtree)) (moved : new ≡ with_state (planted best i old subtree) i state.Split) where
+  abbrev all : List Node
+  all = planted best i old subtree
+
+  split-floors : HaveFloors p.problem new
+  split-floors =
+      let there : IsOut all i = still-out old (map (placed i (length old)) (map (settled best) subtree)) i out in
+      subst (HaveFloors p.problem) (sym moved) (floors-state p.problem all i state.Split there.0 (out-split (node_at all i).state there.1) whole.floors)
+
+  split-stands : (numbers : List ℕ) → told_tree p ≡ Parted numbers (kids_of (told_tree p)) → Stands p best i old new
+  split-stands numbers parted =
+      subst (Stands p best i old) (sym moved)
+      (split-nodes p.problem best i p.prefix (told_tree p) old all numbers out.0 (omega (arith, length-append old (map (placed i (length old)) (map (settled best) subtree)))) whole.nodes parted)
+
+pub returns-in-Split-clause-floors : goal.returns-in-Split-clause-floors
+returns-in-Split-clause-floors c =
+    let p = c.args.piece.now in
+    let old = c.args.self.now in
+    let new = c.plant_split.new.self in
+    let i = c.args.root in
+    let whole = c.requires.subtree.anywhere c.args.best i old (record { within = c.requires.out.0; over = c.requires.over; floors = c.requires.floors; depths = subst HaveDepths c.self.view_is c.self.invariant.2; room = c.requires.room }) in
+    let split : new ≡ with_state (planted c.args.best i old c.args.subtree.now) i state.Split → HaveFloors p.problem new = split-floors p c.args.best i old c.args.subtree.now new c.requires.out whole in
+    on_ok_weaker c.plant_split.result split c.plant_split.ensures.ok
+
+pub returns-in-Split-clause-ok : goal.returns-in-Split-clause-ok
+returns-in-Split-clause-ok c =
+    let p = c.args.piece.now in
+    let old = c.args.self.now in
+    let new = c.plant_split.new.self in
+    let i = c.args.root in
+    let knots = c.knots.result.now in
+    let whole = c.requires.subtree.anywhere c.args.best i old (record { within = c.requires.out.0; over = c.requires.over; floors = c.requires.floors; depths = subst HaveDepths c.self.view_is c.self.invariant.2; room = c.requires.room }) in
+    let numbers = numbers_in c.in-Split.field-0 in
+    let parted = split-root (told_tree p) knots p.knots c.knots.ensures.preorder c.knots.ensures.value _ _ numbers refl (ap seen_knot c.in-Split.is) in
+    let split : new ≡ with_state (planted c.args.best i old c.args.subtree.now) i state.Split → Stands p c.args.best i old new =
+    λ moved. split-stands p c.args.best i old c.args.subtree.now new c.requires.out whole moved numbers parted in
+    on_ok_weaker c.plant_split.result split c.plant_split.ensures.ok
 
 pub returns-then-is_open : goal.returns-then-is_open
 returns-then-is_open c =
     let p = c.args.piece.now in
     let old = c.args.self.now in
     let i = c.args.root in
-    let knots = c.knots-knots.result.now in
+    let knots = c.knots.result.now in
     let (told, seen_is, state_is, value_is) = line-told c.args.best _ c.in_default.not-Split in
-    let alone = tip-root (told_tree p) knots p.knots c.knots-knots.ensures.preorder c.knots-knots.ensures.value _ _ told refl seen_is in
-    let y : Node = record (node_at old i) { state = state.Open } in
-    let now : y.state ≡ told_state c.args.best told = sym (is-open c.state_of.result (sym c.is_open.ensures ∙ c.if-is_open.true)) ∙ (c.state_of.ensures ∙ state_is) in
+    let alone = tip-root (told_tree p) knots p.knots c.knots.ensures.preorder c.knots.ensures.value _ _ told refl seen_is in
+    let now : state.Open ≡ told_state c.args.best told = sym (is-open c.state_of.result (sym c.is_open.ensures ∙ c.if-is_open.true)) ∙ (c.state_of.ensures ∙ state_is) in
     let moved = c.in_ok-give_back.ensures.ok in
     record {
       err = tt;
-      count = omega (arith, ap length moved, length-set old i y, tip-lines (told_tree p) knots p.knots c.knots-knots.ensures.preorder c.knots-knots.ensures.value told alone);
-      floors = subst (λ ns. HaveFloors p.problem ns) (sym moved) (floors-state p.problem old i state.Open c.requires.out.0 (λ e. out-split (sym c.requires.out.1 ∙ e)) c.requires.floors);
-      ok = subst (λ ns. nodes_of p.problem ns ≡ model.with_state (nodes_of p.problem old) i (root_state p.problem c.args.best p.prefix (tree_of p)) ++ new_nodes p.problem c.args.best p.prefix (tree_of p)) (sym moved)
-          (alone-nodes p.problem c.args.best i p.prefix (told_tree p) y no_node old told c.requires.out.0 refl refl now c.requires.over c.knots-knots.ensures.told alone);
+      count = alone-count p c.args.best i state.Open told old c.give_back.new.self c.requires.out alone now moved c.knots.ensures.preorder;
+      floors = alone-floors p c.args.best i state.Open told old c.give_back.new.self c.requires.out alone now moved c.requires.floors;
+      ok = alone-stands p c.args.best i state.Open told old c.give_back.new.self c.requires.out alone now moved c.requires.over c.knots.ensures.told;
     }
-  where
-    out-split : state.Out ≡ state.Split → ⊥
-    out-split e = absurd cc
 
 pub invariant_of-self : goal.invariant_of-self
 invariant_of-self c =
     let t = c.self.inside in
+    let nodes = t.nodes.items in
     let i = c.args.root in
-    let node = c.index_mut.result.now in
-    let y : Node = record { parent = node.parent; value = node.value; number = node.number; depth = node.depth; state = state.Closed; from = node.from } in
-    let out : IsOut t.nodes.items i = subst (λ ns. IsOut ns i) (sym c.self.view_is) c.requires.out in
-    let value : node.value ≡ (node_at t.nodes.items i).value = ap (λ (n : Node). n.value) c.index_mut.ensures.value ∙ get_or-any t.nodes.items i node no_node (λ n. n.value) out.0 in (
+    let out : IsOut nodes i = subst (λ ns. IsOut ns i) (sym c.self.view_is) c.requires.out in
+    let moved = c.set_state.ensures in (
       c.self.invariant.0,
-      still-shut t.nodes.items (heap_items t.open) c.self.invariant.1 i y out.0 (out-shut t.nodes.items i out.1) value refl,
-      depths-set t.nodes.items i y node out.0 (ap (λ (n : Node). n.parent) c.index_mut.ensures.value) (ap (λ (n : Node). n.number) c.index_mut.ensures.value) (ap (λ (n : Node). n.depth) c.index_mut.ensures.value) c.self.invariant.2,
+      subst (λ ns. AreOpenNodes ns (heap_items t.open)) (sym moved) (still-shut nodes (heap_items t.open) c.self.invariant.1 i _ out.0 (out-shut nodes i out.1) refl refl),
+      subst HaveDepths (sym moved) (depths-state nodes i state.Closed out.0 c.self.invariant.2),
     )
 
 pub returns : goal.returns
 returns c =
-    let t = c.self.inside in
     let p = c.args.piece.now in
+    let old = c.args.self.now in
     let i = c.args.root in
-    let knots = c.knots-knots.result.now in
-    let node = c.index_mut.result.now in
-    let y : Node = record { parent = node.parent; value = node.value; number = node.number; depth = node.depth; state = state.Closed; from = node.from } in
+    let knots = c.knots.result.now in
     let (told, seen_is, state_is, value_is) = line-told c.args.best _ c.in_default.not-Split in
-    let alone = tip-root (told_tree p) knots p.knots c.knots-knots.ensures.preorder c.knots-knots.ensures.value _ _ told refl seen_is in
+    let alone = tip-root (told_tree p) knots p.knots c.knots.ensures.preorder c.knots.ensures.value _ _ told refl seen_is in
     let told_is = c.state_of.ensures ∙ state_is in
-    let now : y.state ≡ told_state c.args.best told = sym (told-closed c.args.best told (ap is_open_state (sym told_is) ∙ (sym c.is_open.ensures ∙ c.if-is_open.false))) in
-    let out : IsOut t.nodes.items i = subst (λ ns. IsOut ns i) (sym c.self.view_is) c.requires.out in
-    let over = subst (λ ns. get_or (prefixes ns) i [] ≡ p.prefix) (sym c.self.view_is) c.requires.over in
-    let floors = subst (λ ns. HaveFloors p.problem ns) (sym c.self.view_is) c.requires.floors in
-    let value : node.value ≡ (node_at t.nodes.items i).value = ap (λ (n : Node). n.value) c.index_mut.ensures.value ∙ get_or-any t.nodes.items i node no_node (λ n. n.value) out.0 in
+    let now : state.Closed ≡ told_state c.args.best told = sym (told-closed c.args.best told (ap is_open_state (sym told_is) ∙ (sym c.is_open.ensures ∙ c.if-is_open.false))) in
+    let moved = c.set_state.ensures ∙ ap (λ (ns : List Node). with_state ns i state.Closed) c.self.view_is in
     record {
       err = tt;
-      count = omega (arith, ap length c.self.view_is, length-set t.nodes.items i y, tip-lines (told_tree p) knots p.knots c.knots-knots.ensures.preorder c.knots-knots.ensures.value told alone);
-      floors = floors-set p.problem t.nodes.items i y node out.0 (ap (λ (n : Node). n.parent) c.index_mut.ensures.value) (ap (λ (n : Node). n.number) c.index_mut.ensures.value) (λ live. value ∙ floors i out.0 (λ e. out-split (sym out.1 ∙ e))) floors;
-      ok =
-          subst (λ ns. nodes_of p.problem (set t.nodes.items i y) ≡ model.with_state (nodes_of p.problem ns) i (root_state p.problem c.args.best p.prefix (tree_of p)) ++ new_nodes p.problem c.args.best p.prefix (tree_of p)) c.self.view_is
-          (alone-nodes p.problem c.args.best i p.prefix (told_tree p) y node t.nodes.items told out.0 (ap (λ (n : Node). n.parent) c.index_mut.ensures.value) (ap (λ (n : Node). n.number) c.index_mut.ensures.value) now over c.knots-knots.ensures.told alone);
+      count = alone-count p c.args.best i state.Closed told old _ c.requires.out alone now moved c.knots.ensures.preorder;
+      floors = alone-floors p c.args.best i state.Closed told old _ c.requires.out alone now moved c.requires.floors;
+      ok = alone-stands p c.args.best i state.Closed told old _ c.requires.out alone now moved c.requires.over c.knots.ensures.told;
     }
-  where
-    out-split : state.Out ≡ state.Split → ⊥
-    out-split e = absurd cc

@@ -66,8 +66,8 @@ give-requires-in-Err-clause-follows g c =
     c.args.ticket c.args.piece s after refl refl refl c.in-Err.why (subst (λ i. IsRefusedGraftAt c.deref_mut.result.now c.seat.inside.number i c.args.piece c.in-Err.why c.graft_at.new.self) c.node.ensures c.in-Err.ensures.refused) in
     follows-at c.take-ledger.new.token.me (account_summary c.take-ledger.result.value) p c.take-ledger.ensures.holding (account_summary c.graft_at.new.self) call.0.0
 
-pub invariant_of-seat-in-Err : goal.invariant_of-seat-in-Err
-invariant_of-seat-in-Err g c =
+pub invariant_of-seat-in-Err-graft_at : goal.invariant_of-seat-in-Err-graft_at
+invariant_of-seat-in-Err-graft_at g c =
     let p = book c.seat.inside.token in
     let s : SeatOf = record { hub = c.seat.inside.token.table_id; book = p } in
     let after : SeatOf = record { hub = c.seat.inside.token.table_id; book = renewed (account_summary c.graft_at.new.self) p p.least } in

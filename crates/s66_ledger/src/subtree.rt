@@ -1,0 +1,121 @@
+ghost use Rattle.std.specs.Prelude.{◌≡◌, ◌<◌, length, IfOk};
+ghost use Rattle.s66_dep.specs.Members.{numbers_in};
+ghost use Rattle.s66_model.specs.Tree.{Parted};
+ghost use Rattle.s66_node.specs.Pieces.{told_tree};
+ghost use Rattle.s66_ledger.specs.Planting.{kids_of, knot_value, made_state};
+ghost use Rattle.s66_ledger.specs.Subtrees.{IsSubtreeOf};
+ghost use Rattle.s66_ledger.specs.declared.limits.TheConstants.{LINES_LIMIT};
+
+use crate::limits::LINES_LIMIT;
+use crate::node::{Node, State};
+use arrayvec::ArrayVec;
+use s66_dep::Set;
+use s66_line::BLOCK_LIMIT;
+use s66_node::{Knot, Piece};
+use std::alloc::{AllocError, Global};
+use std::marker::Model;
+
+/// The nodes of a piece below its root, in preorder, before they have their place in a ledger: each names its parent by the place
+/// among them, counted from 1, and by 0 the root. What carries its floor is closed.
+#[derive(Debug, Drop)]
+pub struct Subtree {
+    nodes: Vec<Node>,
+}
+
+impl Model for Subtree {
+    ghost use Rattle.std.specs.Prelude.{List};
+    ghost use Rattle.s66_ledger.specs.declared.node.Node.{Node};
+
+    ghost Value = { List Node };
+
+    ghost view = { λ s. s.nodes.items };
+}
+
+/// A split node by its place, and the last numbers of its children that are still to come.
+#[derive(Clone, Copy, Debug, Default)]
+pub(crate) struct Place {
+    pub node: u32,
+    pub left: Set,
+}
+
+/// What the node of a piece's line is, where it isn't known whether its value is below the best time.
+fn state_of(knot: &Knot) -> State
+    ensures { result ≡ made_state knot.now }
+{
+    match knot {
+        Knot::Split(_) => State::Split,
+        Knot::Leaf { .. } => State::Closed,
+        Knot::Frontier { .. } => State::Open,
+    }
+}
+
+/// The floor's value that a piece's line tells, 0 of a split.
+fn value_of(knot: &Knot) -> u32
+    ensures { result ≡ knot_value knot.now }
+{
+    match knot {
+        Knot::Split(_) => 0,
+        Knot::Leaf { value } => *value,
+        Knot::Frontier { value } => *value,
+    }
+}
+
+/// The nodes below a root that is split into these numbers, in time linear in the piece's lines.
+fn nodes_below(alloc: Global, numbers: Set, piece: &Piece) -> Result<Vec<Node>, AllocError>
+    requires split { told_tree piece.now ≡ Parted (numbers_in numbers) (kids_of (told_tree piece.now)) }
+    requires few { length piece.now.knots < LINES_LIMIT }
+    ensures { IfOk result (λ nodes. IsSubtreeOf piece.now nodes.items) }
+{
+    let knots = piece.knots();
+    let above = piece.prefix().len() as u8;
+    let mut nodes = Vec::with_capacity(alloc, knots.len())?;
+    let mut places: ArrayVec<Place, BLOCK_LIMIT> = ArrayVec::new();
+    places.push(Place {
+        node: 0,
+        left: numbers,
+    });
+    while let Some(mut place) = places.pop() {
+        if let Some(number) = place.left.pop_first() {
+            places.push(place);
+            let knot = &knots[nodes.len() + 1];
+            nodes.push_reserved(Node {
+                parent: place.node,
+                value: value_of(knot),
+                number,
+                depth: above + places.len() as u8,
+                state: state_of(knot),
+            });
+            if let Knot::Split(numbers) = knot {
+                places.push(Place {
+                    node: nodes.len() as u32,
+                    left: *numbers,
+                });
+            }
+        }
+    }
+    Ok(nodes)
+}
+
+impl Subtree {
+    /// Of this piece, in time linear in its lines. `Err` is want of memory; a piece of `LINES_LIMIT` lines or more gets it in any case.
+    pub fn of(alloc: Global, piece: &Piece) -> Result<Subtree, AllocError>
+        ensures { IfOk result (IsSubtreeOf piece.now) }
+    {
+        let knots = piece.knots();
+        if LINES_LIMIT <= knots.len() {
+            return Err(AllocError);
+        }
+        let nodes = match &knots[0] {
+            Knot::Split(numbers) => nodes_below(alloc, *numbers, piece)?,
+            Knot::Leaf { .. } | Knot::Frontier { .. } => Vec::new(alloc),
+        };
+        Ok(Subtree { nodes })
+    }
+
+    /// Its nodes.
+    pub(crate) fn nodes(&self) -> &[Node]
+        ensures { result.now ≡ self.now }
+    {
+        self.nodes.as_slice()
+    }
+}
