@@ -7,6 +7,7 @@ pub mod Events
 pub mod Floors
 pub mod GraftSteps
 pub mod Leading
+pub mod LiveCounts
 pub mod LiveFloors
 pub mod OpenHeap
 pub mod Planted

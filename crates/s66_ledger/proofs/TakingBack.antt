@@ -4,8 +4,13 @@ use Rattle.std.proofs.lemmas.Bool.{cases_eq}
 use Rattle.std.proofs.lemmas.List.{length-set, get_or-set_other, get_or-set_same, take_all}
 use Rattle.s66_isa.specs.Lists.{weigh}
 use Rattle.s66_model.specs.Ledger.{Ledger, Node, State, Open, Out, no_node, node_at, with_state, Back, Retire, Returned, Retired, IsOut}
-use Rattle.s66_ledger.specs.Finishing.{NoneOutBelow, IsIdle, IsReopening}
-use Rattle.s66_ledger.specs.Kept.{MachineOf, IsMove}
+use Rattle.s66_ledger.specs.Finishing.{NoneOut, NoneOutBelow, IsIdle, IsReopening}
+use Rattle.s66_ledger.specs.Kept.{MachineOf, IsMove, state_of}
+use Rattle.s66_ledger.specs.Nodes.{nodes_of}
+use Rattle.s66_ledger.specs.OpenNodes as OpenNodes
+use Rattle.s66_ledger.specs.declared.node.Node as kept
+use Rattle.s66_model.specs.Timing.{Problem}
+use Rattle.s66_ledger.proofs.Events.{not-out}
 use Rattle.s66_ledger.proofs.Leading.{each-among, leads-nowhere, event-leads}
 
 retired-one : (xs : List ℕ) (i : ℕ) → weigh (λ n. n) (take i xs) ≡ 0 → weigh (λ n. n) (take (suc i) (set xs i 0)) ≡ 0
@@ -81,3 +86,8 @@ idle-after l count none is nothing =
       none_out = each-among (λ (n : Node). n.state ≢ Out) no_node l.nodes (λ i lt. none i (omega (arith, lt, is)));
       no_allowance = nothing;
     }
+
+-- none of the nodes that are kept is out
+pub none-kept-out : (b : Problem) (nodes : List kept.Node) (best : List ℕ) (left : ℕ) (allowances : List ℕ) (spent : ℕ) → ((i : ℕ) → ¬ OpenNodes.IsOut nodes i) → NoneOut (state_of b nodes best left allowances spent)
+none-kept-out b nodes best left allowances spent none =
+    each-among (λ (n : Node). n.state ≢ Out) no_node (nodes_of b nodes) (λ i lt out. not-out b nodes best left allowances spent i (none i) (lt, out))

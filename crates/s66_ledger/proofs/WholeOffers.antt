@@ -15,14 +15,14 @@ use Rattle.s66_time.specs.TimedOrder.{TimedOrder}
 use Rattle.s66_ledger.specs.declared.reply.Offered.{Offered}
 use Rattle.s66_ledger.specs.declared.reply.Offered.TheVariants as offered
 use Rattle.s66_ledger.specs.Finishing.{WholesAreTimed, IsTimedAt, IsOffering, IsTiming}
-use Rattle.s66_ledger.specs.Kept.{MachineOf, IsMove, IsKept, machine_of}
+use Rattle.s66_ledger.specs.Kept.{MachineOf, IsMove, IsKept, machine_of, state_of}
 use Rattle.s66_ledger.specs.LiveNodes.{is_live_state}
-use Rattle.s66_ledger.specs.Nodes.{prefixes, node_at, seen_state}
+use Rattle.s66_ledger.specs.Nodes.{prefixes, node_at, nodes_of, seen_state}
 use Rattle.s66_ledger.specs.declared.node.Node.{Node}
 use Rattle.s66_ledger.specs.declared.node.State.{State}
 use Rattle.s66_ledger.specs.declared.node.State.TheVariants as state
 use Rattle.s66_ledger.specs.Replies.{offered_reply}
-use Rattle.s66_ledger.proofs.SeenNodes.{at-nodes}
+use Rattle.s66_ledger.proofs.SeenNodes.{at-nodes, length-nodes}
 use Rattle.s66_ledger.proofs.Leading.{each-among, leads-fall}
 use Rattle.s66_ledger.proofs.Rounds.{offer-offers}
 
@@ -95,3 +95,14 @@ not-below b budget nodes best left allowances spent h l is i time lt total never
       | inr below ↦ absurd (never (here, below))
       | inl ge ↦ omega (arith, ge, total, ap (λ p. total_of p best.numbers) h.own, h.floors i lt (live-uncut s here))
     ]))
+
+-- no node that is open or out has a whole order
+pub none-whole : (b : Problem) (nodes : List Node) (best : List ℕ) (left : ℕ) (allowances : List ℕ) (spent : ℕ) → ((i : ℕ) → i < length nodes → is_live_state (node_at nodes i).state ≡ true → length (get_or (prefixes nodes) i []) < length b.block) → WholesAreTimed b (state_of b nodes best left allowances spent)
+none-whole b nodes best left allowances spent short = all-timed b (state_of b nodes best left allowances spent) never
+  where
+    never : (i : ℕ) → i < length (nodes_of b nodes) → IsTimedAt b (state_of b nodes best left allowances spent) i
+    never i lt live whole =
+        let within : i < length nodes = omega (arith, lt, length-nodes b nodes) in
+        let at = get_or (prefixes nodes) i [] in
+        let is = at-nodes b nodes i within in
+        absurd (omega (arith, short i within (sym (live-seen b at (node_at nodes i).state) ∙ (sym (ap is_live is) ∙ live)), whole, ap (λ (n : model.Node). length n.prefix) is))

@@ -16,10 +16,10 @@ placed_parent root first (suc place) = min (first + place) (2 ^ 32 - 1)
 abbrev pub placed : (root first : ℕ) → Node → Node
 placed root first node = record node { parent = placed_parent root first node.parent }
 
--- a leaf whose value is below the best time is open
+-- a leaf whose value is below the best time is open, and none is handed out
 abbrev pub settled_state : (best value : ℕ) → State → State
 settled_state best value state.Open = state.Open
-settled_state best value state.Out = state.Out
+settled_state best value state.Out = state.Open
 settled_state best value state.Closed = if nat_le best value then state.Closed else state.Open
 settled_state best value state.Split = state.Split
 

@@ -53,7 +53,7 @@ impl<'a> Machine<'a> {
     ghost use Rattle.s66_ledger.specs.Kept.{IsMove};
     ghost use Rattle.s66_model.specs.Ended.{IsEnded, ended_answer};
     ghost use Rattle.s66_ledger.specs.Answers.{answer_of};
-    ghost use Rattle.s66_ledger.specs.Finishing.{IsReopening};
+    ghost use Rattle.s66_ledger.specs.Finishing.{IsReopening, NoneOut, WholesAreTimed};
     ghost use Rattle.s66_ledger.specs.GraftMoves.{IsGraftMove, IsRefusedMove};
     ghost use Rattle.s66_ledger.specs.Claims.{claimed_node, IsTicketOf, IsLeastOpen};
     ghost use Rattle.s66_ledger.specs.Replies.{offered_reply};
@@ -220,6 +220,22 @@ impl<'a> Machine<'a> {
             self.table.give_back(node)?;
         }
         Ok(())
+    }
+
+    /// Whether it is known that no node is out.
+    pub(crate) fn has_none_out(&self) -> bool
+        ensures { IsTrue result → NoneOut self.now.state }
+    {
+        !self.table.has_out()
+    }
+
+    /// Whether it is known that no whole order is open or out.
+    pub(crate) fn has_no_whole(&self) -> bool
+        ensures { IsTrue result → WholesAreTimed self.now.problem self.now.state }
+    {
+        // so a depth tells such a length
+        prove!(self.block.count() <= BLOCK_LIMIT);
+        !self.table.may_reach(self.block.count())
     }
 
     /// How many workers there are.

@@ -16,6 +16,10 @@ pub struct NodeTable {
     nodes: Vec<Node>,
     /// The rank and the number of each open node.
     open: BinaryHeap<(u32, u32)>,
+    /// How many nodes are handed out.
+    out: usize,
+    /// No prefix that is open or out is longer, or this is the most that is told.
+    deepest: u8,
 }
 
 impl Model for NodeTable {
@@ -24,16 +28,17 @@ impl Model for NodeTable {
     ghost use Rattle.s66_ledger.specs.declared.node.Node.{Node};
     ghost use Rattle.s66_ledger.specs.Nodes.{HaveDepths};
     ghost use Rattle.s66_ledger.specs.OpenNodes.{AreOpenNodes, compare_ranked};
+    ghost use Rattle.s66_ledger.specs.LiveNodes.{AreCounted};
 
     ghost Value = { List Node };
 
     ghost view = { λ t. t.nodes.items };
 
-    ghost invariant = { λ t. IsHeap compare_ranked (heap_items t.open) × AreOpenNodes t.nodes.items (heap_items t.open) × HaveDepths t.nodes.items };
+    ghost invariant = { λ t. IsHeap compare_ranked (heap_items t.open) × AreOpenNodes t.nodes.items (heap_items t.open) × HaveDepths t.nodes.items × AreCounted t.nodes.items t.out t.deepest };
 }
 
 impl NodeTable {
-    ghost use Rattle.std.specs.Prelude.{ℕ, [], ◌∷◌, ◌++◌, ◌+◌, ◌^◌, ◌≡◌, ◌<◌, ◌≤◌, ◌↔◌, true, IsTrue, IfOk, OnOk, OnErr, IfSome, IfNone, length, get_or};
+    ghost use Rattle.std.specs.Prelude.{ℕ, [], ◌∷◌, ◌++◌, ◌+◌, ◌^◌, ◌≡◌, ◌<◌, ◌≤◌, ◌↔◌, true, false, IsTrue, IfOk, OnOk, OnErr, IfSome, IfNone, length, get_or};
     ghost use Rattle.s66_isa.specs.Lists.{tally, least};
     ghost use Rattle.s66_ledger.specs.LiveNodes.{is_live_state, live_values};
     ghost use Rattle.s66_line.specs.declared.limits.TheConstants.{BLOCK_LIMIT};
@@ -53,7 +58,12 @@ impl NodeTable {
         nodes.push(Node::root(floor))?;
         let mut open = BinaryHeap::new(alloc);
         open.push((rank_of(floor, 0), 0))?;
-        Ok(NodeTable { nodes, open })
+        Ok(NodeTable {
+            nodes,
+            open,
+            out: 0,
+            deepest: 0,
+        })
     }
 
     /// How many nodes there are.
@@ -82,6 +92,21 @@ impl NodeTable {
         ensures { result ≡ least (λ v. v) (value ∷ live_values self.now) }
     {
         live::least_floor(self.nodes.as_slice(), value)
+    }
+
+    /// Whether any node is handed out.
+    pub fn has_out(&self) -> bool
+        ensures { result ≡ false → (i : ℕ) → ¬ IsOut self.now i }
+    {
+        self.out != 0
+    }
+
+    /// Whether some prefix of so many numbers may be open or out.
+    pub fn may_reach(&self, count: usize) -> bool
+        requires { count ≤ BLOCK_LIMIT }
+        ensures { result ≡ false → (i : ℕ) → i < length self.now → is_live_state (node_at self.now i).state ≡ true → length (get_or (prefixes self.now) i []) < count }
+    {
+        count <= self.deepest as usize
     }
 
     /// Whether this node is handed out.
@@ -146,7 +171,10 @@ impl NodeTable {
         ensures same { IfNone result (self.new ≡ self.old) }
     {
         let (_, node) = self.open.pop()?;
+        // this one isn't out
+        prove!(self.out < self.nodes.len());
         self.nodes[node as usize].state = State::Out;
+        self.out += 1;
         Some(node)
     }
 
@@ -160,6 +188,7 @@ impl NodeTable {
         let rank = rank_of(self.nodes[i].value, self.nodes[i].depth);
         self.open.push((rank, node))?;
         self.nodes[i].state = State::Open;
+        self.out -= 1;
         Ok(())
     }
 
@@ -194,6 +223,7 @@ impl NodeTable {
             return Ok(());
         }
         set_state(&mut self.nodes, root as usize, State::Closed);
+        self.out -= 1;
         Ok(())
     }
 
@@ -205,8 +235,17 @@ impl NodeTable {
         ensures err { OnErr result (self.new ≡ self.old) }
         ensures ok { OnOk result (self.new ≡ with_state (planted best root self.old subtree.now) root State.Split) }
     {
-        append(&mut self.nodes, &mut self.open, root, best, subtree.nodes())?;
+        let deepest = append(
+            &mut self.nodes,
+            &mut self.open,
+            self.deepest,
+            root,
+            best,
+            subtree.nodes(),
+        )?;
+        self.deepest = deepest;
         set_state(&mut self.nodes, root as usize, State::Split);
+        self.out -= 1;
         Ok(())
     }
 }

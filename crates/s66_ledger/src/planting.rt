@@ -1,5 +1,6 @@
-ghost use Rattle.std.specs.Prelude.{◌+◌, ◌≡◌, ◌<◌, ◌^◌, length, OnOk, OnErr};
+ghost use Rattle.std.specs.Prelude.{ℕ, ◌+◌, ◌≡◌, ◌<◌, ◌^◌, length, IfOk, OnOk, OnErr};
 ghost use Rattle.std.specs.BinaryHeap.{IsHeap, heap_items};
+ghost use Rattle.s66_ledger.specs.LiveNodes.{AreCounted};
 ghost use Rattle.s66_ledger.specs.Nodes.{with_state};
 ghost use Rattle.s66_ledger.specs.OpenNodes.{AreOpenNodes, compare_ranked};
 ghost use Rattle.s66_ledger.specs.Planting.{knot_state};
@@ -36,7 +37,7 @@ pub fn set_state(nodes: &mut Vec<Node>, i: usize, state: State)
     nodes[i].state = state;
 }
 
-/// The state of a subtree's node for this best time: a leaf below it is open.
+/// The state of a subtree's node for this best time: a leaf below it is open, and none is handed out.
 fn settled_state(node: &Node, best: u32) -> State
     ensures { result ≡ settled_state best node.now.value node.now.state }
 {
@@ -48,8 +49,7 @@ fn settled_state(node: &Node, best: u32) -> State
                 State::Open
             }
         }
-        State::Open => State::Open,
-        State::Out => State::Out,
+        State::Open | State::Out => State::Open,
         State::Split => State::Split,
     }
 }
@@ -71,25 +71,29 @@ fn placed(node: &Node, root: u32, first: u32, best: u32) -> Node
     }
 }
 
-/// Puts a subtree's nodes behind those that there are, under the root of this number, and those that are open into the heap. In
-/// time linear in their number, with a logarithm of the number of open nodes for each that is open. `Err` leaves all as it was.
+/// Puts a subtree's nodes behind those that there are, under the root of this number, and those that are open into the heap; it
+/// answers how deep those that are open or out are then. In time linear in their number, with a logarithm of the number of open
+/// nodes for each that is open. `Err` leaves all as it was.
 pub fn append(
     nodes: &mut Vec<Node>,
     heap: &mut BinaryHeap<(u32, u32)>,
+    deepest: u8,
     root: u32,
     best: u32,
     subtree: &[Node],
-) -> Result<(), AllocError>
+) -> Result<u8, AllocError>
     requires heap { IsHeap compare_ranked (heap_items heap.old) }
     requires open_nodes { AreOpenNodes nodes.old.items (heap_items heap.old) }
     requires room { length nodes.old.items + length subtree.now < 2 ^ 32 }
     ensures heap { IsHeap compare_ranked (heap_items heap.new) }
     ensures open_nodes { AreOpenNodes nodes.new.items (heap_items heap.new) }
     ensures ok { OnOk result (nodes.new.items ≡ planted best root nodes.old.items subtree.now) }
+    ensures counted { IfOk result (λ d. (out : ℕ) → AreCounted nodes.old.items out deepest → AreCounted nodes.new.items out d) }
     ensures err { OnErr result (nodes.new.items ≡ nodes.old.items) }
 {
     heap.reserve(subtree.len())?;
     nodes.reserve(subtree.len())?;
+    let mut deepest = deepest;
     let first = nodes.len() as u32;
     for i in 0..subtree.len() {
         let node = placed(&subtree[i], root, first, best);
@@ -97,8 +101,9 @@ pub fn append(
             let Ok(()) = heap.push((rank_of(node.value, node.depth), first + i as u32)) else {
                 unreachable!()
             };
+            deepest = deepest.max(node.depth);
         }
         nodes.push_reserved(node);
     }
-    Ok(())
+    Ok(deepest)
 }

@@ -13,8 +13,8 @@ impl Machine<'_> {
     ghost use Rattle.s66_ledger.specs.Replies.{offered_reply};
     ghost use Rattle.s66_ledger.specs.Finishing.{Leads, IsIdle, WholesAreTimed, IsOffering, IsTiming};
 
-    /// Takes back every allowance and every node that is out, in time linear in the number of nodes, with a logarithm of the number of
-    /// open nodes for each that is out.
+    /// Takes back every allowance and every node that is out. Where some node is out, in time linear in the number of nodes, with a
+    /// logarithm of the number of open nodes for each that is.
     pub(crate) fn take_back(&mut self) -> Result<(), AllocError>
         requires { 1 ≤ self.old.workers }
         ensures leads { OnOk result (Leads self.old self.new) }
@@ -23,19 +23,25 @@ impl Machine<'_> {
         for at in 0..self.workers() as usize {
             self.retire_at(at);
         }
+        if self.has_none_out() {
+            return Ok(());
+        }
         for node in 0..self.node_count() {
             self.reopen(node)?;
         }
         Ok(())
     }
 
-    /// Offers every whole order that is open or out and has a time below the best, in time linear in the number of nodes, and in the
-    /// length of each order that is offered. What is offered is timed anew.
+    /// Offers every whole order that is open or out and has a time below the best; what is offered is timed anew. Where some prefix that
+    /// has been open or out was so long, in time linear in the number of nodes, and in the length of each order that is offered.
     pub(crate) fn offer_wholes(&mut self)
         requires { 1 ≤ self.old.workers }
         ensures offers { IsOffering self.old self.new }
         ensures timed { WholesAreTimed self.new.problem self.new.state }
     {
+        if self.has_no_whole() {
+            return;
+        }
         for node in 0..self.node_count() {
             self.offer_whole(node);
         }

@@ -8,7 +8,7 @@ use Rattle.s66_model.specs.Ledger.{Event, Reply, Back, Returned, NotOut, Offer, 
 use Rattle.s66_model.specs.Recorded.{IsGraftOf, IsOfferOf, IsOwn, graft_event, spends}
 use Rattle.s66_model.specs.Timing.{Problem, total_of}
 use Rattle.s66_model.specs.Tree.{splits}
-use Rattle.s66_model.specs.Accounts.{Summary, Passbook, Account, Agrees, opened, account_at, after_event, least_after, no_account}
+use Rattle.s66_model.specs.Accounts.{Summary, Passbook, Account, Agrees, opened, account_at, after_event, after_reading, least_after, no_account}
 use Rattle.s66_node.specs.Pieces.{PieceOf, tree_of}
 use Rattle.s66_ledger.specs.Handed.{TicketOf}
 use Rattle.s66_ledger.specs.Ledgers.{LedgerOf, IsEvent, account_summary}
@@ -23,7 +23,7 @@ use Rattle.s66_ledger.specs.declared.reply.BackError.{BackError}
 use Rattle.s66_ledger.specs.declared.reply.BackError.TheVariants as kept
 use Rattle.s66_pool.specs.Views.{View, Follows, renewed, idle, holding, first_book}
 use Rattle.s66_pool.specs.Hubs.{SeatOf, HasGrafted, HasBeenRefused, HasOffered, IsKnown}
-use Rattle.s66_pool.proofs.Events.{same-follows, same-book, event-follows, quiet-book, told-book, lower-told, answer-told, gave-book, gave-opened}
+use Rattle.s66_pool.proofs.Events.{same-follows, same-book, event-follows, event-read, event-known, quiet-book, told-book, lower-told, answer-told, gave-book, gave-opened}
 
 -- A SEAT THAT GAVE THE LEDGER BACK
 
@@ -67,6 +67,19 @@ module _ (l old new : LedgerOf) (e : old ≡ l) (p : Passbook) (number : ℕ) (w
       let now = called event reply h in
       let book = quiet-book l new p (event p.who) reply now own agrees quiet in
       ((event-follows l new p (event p.who) reply now own, ap (λ (q : Passbook). q.account.splits) book), book)
+
+  -- an event that tells no time, after which the best time was read
+  pub reading-call : (event : ℕ → Event) (reply : Reply) → worker (event p.who) ≡ p.who → least_after p.least (event p.who) reply ≡ p.least → spends (event p.who) reply ≡ 0 → IsEvent old (event number) reply new
+      → Follows p.who (account_summary l) (account_summary new) × ((opened (account_summary new) p.who).account.splits ≡ p.account.splits)
+      × (opened (account_summary new) p.who ≡ after_reading (after_event p (event p.who) reply) (account_summary new).best) × ((account_summary new).best ≤ p.least)
+  reading-call event reply own quiet free h =
+      let now = called event reply h in
+      let read = event-read l new p (event p.who) reply now own agrees in (
+        event-follows l new p (event p.who) reply now own,
+        ap (λ (q : Passbook). q.account.splits) read ∙ omega (arith, free),
+        read,
+        omega (arith, event-known l new p (event p.who) reply now own agrees, quiet),
+      )
 
   -- a graft
   module _ (t : TicketOf) (piece : PieceOf) (s now : SeatOf) (at : p ≡ s.book) (after : now.book ≡ renewed (account_summary new) p p.least) (here : now.hub ≡ s.hub) where

@@ -26,6 +26,12 @@ follows-itself w s = record { search = record { problem = refl; budget = refl; w
 renewed-is : (s : Summary) (p : Passbook) → Agrees s p → renewed s p p.least ≡ p
 renewed-is s p is = λ i. record { who = p.who; problem = sym is.problem i; budget = sym is.budget i; account = sym is.account i; least = p.least }
 
+-- after the best time was read
+pub read-book : (s : Summary) (p : Passbook) → Agrees s p → opened s p.who ≡ after_reading p s.best
+read-book s p is =
+    let low : s.best ≡ min p.least s.best = omega (arith, is.least) in
+    ap (λ (n : ℕ). renewed s p n) low ∙ renewed-is s (after_reading p s.best) (agrees-read s p is)
+
 module _ (old new : LedgerOf) (p : Passbook) where
   -- THE LEDGER IS AS IT WAS
 
@@ -67,6 +73,13 @@ module _ (old new : LedgerOf) (p : Passbook) where
       told-book is told =
           ap (λ (n : ℕ). renewed (account_summary new) p n) told ∙ renewed-is (account_summary new) (after_event p event reply) (event-agrees is)
 
+      -- and then the best time was read
+      pub event-read : Agrees (account_summary old) p → opened (account_summary new) p.who ≡ after_reading (after_event p event reply) (account_summary new).best
+      event-read is = read-book (account_summary new) (after_event p event reply) (event-agrees is)
+
+      pub event-known : Agrees (account_summary old) p → (account_summary new).best ≤ least_after p.least event reply
+      event-known is = (event-agrees is).least
+
   -- an offer that is lower is the best time
   pub lower-told : (w : ℕ) (own : Bool) (order : List ℕ) (time : ℕ) → IsEvent old (Offer w own order time) Lower new → Agrees (account_summary old) p
       → (account_summary new).best ≡ least_after p.least (Offer w own order time) Lower
@@ -82,12 +95,6 @@ module _ (old new : LedgerOf) (p : Passbook) where
         omega (arith, ap (λ (b : Problem). best_time b new.state) h.0, ap (best_time old.problem) m.3, m.1, m.2, is.least),
         omega (arith, m.2, is.least),
       )
-
--- after the best time was read
-pub read-book : (s : Summary) (p : Passbook) → Agrees s p → opened s p.who ≡ after_reading p s.best
-read-book s p is =
-    let low : s.best ≡ min p.least s.best = omega (arith, is.least) in
-    ap (λ (n : ℕ). renewed s p n) low ∙ renewed-is s (after_reading p s.best) (agrees-read s p is)
 
 -- THE TOKEN
 

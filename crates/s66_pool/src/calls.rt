@@ -56,6 +56,29 @@ impl<'a> Hub<'a> {
         claimed
     }
 
+    /// Hands out the best open node, as `claim` does, and then reads the best time in minor cycles, as `best` does, in one turn at the
+    /// lock.
+    pub fn claim_and_read<R: Wait>(
+        &self,
+        rt: &R,
+        seat: &mut Seat<'a>,
+    ) -> Result<(Option<Ticket>, u32), AllocError>
+        requires { seat.old.hub ≡ self.now.id }
+        ensures here { seat.new.hub ≡ seat.old.hub }
+        ensures ok { IfOk result (λ r. seat.new.book ≡ after_reading (after_event seat.old.book (Claim seat.old.book.who) (Claimed (claimed_node r.0))) r.1) }
+        ensures known { IfOk result (λ r. r.1 ≤ seat.old.book.least) }
+        ensures err { OnErr result (seat.new ≡ seat.old) }
+    {
+        let mut ledger = self.lock.take(rt, &mut seat.token);
+        let Ok(ticket) = ledger.claim(seat.number) else {
+            self.lock.give(&mut seat.token, ledger);
+            return Err(AllocError);
+        };
+        let best = ledger.best();
+        self.lock.give_read(&mut seat.token, ledger);
+        Ok((ticket, best))
+    }
+
     /// Takes a node back that was handed out, so that it is open again.
     pub fn back<R: Wait>(
         &self,

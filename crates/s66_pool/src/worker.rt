@@ -119,7 +119,7 @@ impl<'b> Worker<'b> {
         0 < granted || !self.has_claimed
     }
 
-    /// Claims a node, and tells the gate.
+    /// Claims a node, learns the best time, and tells the gate.
     fn claim<'a, R: Wait, G: Gate>(
         &mut self,
         site: &Site<'_, 'a, R, G>,
@@ -128,11 +128,13 @@ impl<'b> Worker<'b> {
         requires { seat.old.hub ≡ site.now.hub.now.id }
         ensures { IsSameSeat seat.old seat.new }
     {
-        let claimed = site.hub.claim(site.rt, seat);
+        let claimed = site.hub.claim_and_read(site.rt, seat);
         self.has_claimed = true;
         site.gate
-            .after_claim(seat.number(), matches!(claimed, Ok(Some(_))));
-        claimed
+            .after_claim(seat.number(), matches!(claimed, Ok((Some(_), _))));
+        let (ticket, best) = claimed?;
+        self.best = best;
+        Ok(ticket)
     }
 
     /// Whether its last claim got no node.
@@ -164,7 +166,6 @@ impl<'b> Worker<'b> {
         if !self.walk.try_go_to(ticket.prefix()) {
             return give_back(site, seat, ticket);
         }
-        self.best = site.hub.best(site.rt, seat);
         match self.walk.expand(site.rt.alloc(), ticket.prefix(), self.best, self.allowance) {
             Ok(piece) => self.hand_in(site, seat, ticket, piece),
             Err(AllocError) => give_back(site, seat, ticket),

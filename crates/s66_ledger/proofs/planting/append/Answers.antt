@@ -1,9 +1,10 @@
-use Rattle.std.proofs.Common.{◌+◌, ◌≡◌, ◌∙◌, ◌++◌, ◌∷◌, [], arith, ap, sym, subst, length, take, heap_items}
+use Rattle.std.proofs.Common.{◌+◌, ◌≡◌, ◌∙◌, ◌++◌, ◌∷◌, [], arith, ap, sym, subst, length, take, heap_items, true≢false}
 use Rattle.std.proofs.lemmas.List.{length-take}
 use Rattle.std.specs.List.Sorted.{IsPermutation}
 use Rattle.s66_ledger.specs.declared.node.Node.{Node}
 use Rattle.s66_ledger.specs.Nodes.{no_node, node_at}
 use Rattle.s66_ledger.specs.Subtrees.{placed, settled, planted}
+use Rattle.s66_ledger.proofs.LiveCounts.{counted-push, settled-in, shut-in}
 use Rattle.s66_ledger.proofs.OpenHeap.{more-open, more-shut}
 use Rattle.s66_ledger.proofs.Prefixes.{get_or-any}
 use Rattle.s66_ledger.proofs.PlantedNodes.{planted-more}
@@ -24,6 +25,7 @@ loop-i-preserved c =
     c.placed-node.ensures
     ∙ (get_or-any subtree l.i _ no_node (λ (n : Node). placed c.args.root c.len-first.result (settled c.args.best n)) c.loop-i-test.true
     ∙ ap (λ k. placed c.args.root k (settled c.args.best (node_at subtree l.i))) behind) in
+    let in_table = settled-in c.args.best c.args.root (length made) x (node_at subtree l.i) is in
     let put : new ≡ l.nodes.items ++ x ∷ [] = c.push_reserved.ensures.items in
     let all : new ≡ planted c.args.best c.args.root made (take (l.i + 1) subtree) =
     put
@@ -37,6 +39,7 @@ loop-i-preserved c =
             nodes = all;
             heap = rw w.heap-is (w.in-Ok.ensures.heap_order l.invariant.heap);
             listed = rw (w.heap-is, put) (more-open l.nodes.items x (heap_items l.heap) l.invariant.listed (heap_items w.push.new.self) x.depth (sym c.is_open.ensures ∙ w.if-is_open.true) w.rank_of.ensures.few (subst (λ r. IsPermutation ((r, length l.nodes.items) ∷ heap_items l.heap) (heap_items w.push.new.self)) w.rank_of.ensures.value pushed));
+            counted = λ out are. rw put (counted-push l.nodes.items x out l.deepest _ (l.invariant.counted out are) in_table (omega arith) (λ live. omega arith));
             heap_room = rw w.heap-is (omega (arith, l.invariant.heap_room, w.in-Ok.ensures.len, w.in-Ok.ensures.capacity, w.push.ensures.capacity, c.loop-i-test.true));
             room = omega (arith, l.invariant.room, c.push_reserved.ensures.len, c.push_reserved.ensures.capacity, c.loop-i-test.true);
           })
@@ -45,6 +48,7 @@ loop-i-preserved c =
             nodes = all;
             heap = rw w.heap-is l.invariant.heap;
             listed = rw (w.heap-is, put) (more-shut l.nodes.items x (heap_items l.heap) l.invariant.listed (sym c.is_open.ensures ∙ w.if-is_open.false));
+            counted = λ out are. rw (w.deepest-is, put) (counted-push l.nodes.items x out l.deepest l.deepest (l.invariant.counted out are) in_table (omega arith) (λ live. absurd (true≢false (sym live ∙ shut-in x.state (sym c.is_open.ensures ∙ w.if-is_open.false) in_table))));
             heap_room = rw w.heap-is (omega (arith, l.invariant.heap_room));
             room = omega (arith, l.invariant.room, c.push_reserved.ensures.len, c.push_reserved.ensures.capacity, c.loop-i-test.true);
           }

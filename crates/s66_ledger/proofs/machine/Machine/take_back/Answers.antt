@@ -32,3 +32,11 @@ returns-clause-idle c =
     idle-after l c.loop-node.node kept.in_hand (omega (arith, kept.count, c.node_count-node-end.ensures, c.loop-node-test.false))
     (retired-all l.allowances c.loop-at.at (omega (arith, ap length kept.allowances, c.loop-at.invariant.count, c.workers-at-end.ensures.allowances, c.loop-at-test.false))
     (rw kept.allowances c.loop-at.invariant.retired))
+
+pub returns-then-has_none_out-clause-idle : goal.returns-then-has_none_out-clause-idle
+returns-then-has_none_out-clause-idle c =
+    let l = c.loop-at.self.state in
+    record {
+      none_out = c.has_none_out.ensures c.if-has_none_out.true;
+      no_allowance = retired-all l.allowances c.loop-at.at (omega (arith, c.loop-at.invariant.count, c.workers-at-end.ensures.allowances, c.loop-at-test.false)) c.loop-at.invariant.retired;
+    }

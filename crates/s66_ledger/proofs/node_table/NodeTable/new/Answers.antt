@@ -3,7 +3,9 @@ use Rattle.std.specs.List.Sorted.{IsPermutation}
 use Rattle.s66_ledger.specs.declared.node.Node.{Node}
 use Rattle.s66_ledger.specs.Nodes.{HaveDepths}
 use Rattle.s66_ledger.specs.OpenNodes.{AreOpenNodes, rank_of}
+use Rattle.s66_ledger.specs.LiveNodes.{AreCounted}
 use Rattle.s66_ledger.proofs.Depths.{depths-first}
+use Rattle.s66_ledger.proofs.LiveCounts.{counted-first}
 use Rattle.s66_ledger.proofs.OpenHeap.{first-open}
 use Rattle.s66_ledger.proofs.node_table.NodeTable.new.Goals as goal
 
@@ -15,4 +17,5 @@ invariant_of-result c =
       subst (λ ns. AreOpenNodes ns (heap_items c.push-2.new.self)) (sym nodes)
           (first-open c.root.result (heap_items c.new-open.result) (heap_items c.push-2.new.self) (ap (λ (n : Node). n.state) c.root.ensures) c.new-open.ensures.items pushed),
       subst HaveDepths (sym nodes) (depths-first c.root.result (ap (λ (n : Node). n.depth) c.root.ensures)),
+      subst (λ ns. AreCounted ns 0 0) (sym nodes) (counted-first c.root.result (ap (λ (n : Node). n.state) c.root.ensures) (ap (λ (n : Node). n.depth) c.root.ensures)),
     )

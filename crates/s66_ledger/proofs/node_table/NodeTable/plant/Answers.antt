@@ -1,4 +1,4 @@
-use Rattle.std.proofs.Common.{ℕ, ◌+◌, ◌≡◌, ◌≢◌, ◌∙◌, ◌++◌, List, ap, arith, refl, sym, subst, length, length-append, map, get_or, heap_items, []}
+use Rattle.std.proofs.Common.{ℕ, true, ◌+◌, ◌-◌, ◌≡◌, ◌≢◌, ◌∙◌, ◌++◌, List, ap, arith, refl, sym, subst, length, length-append, map, get_or, heap_items, []}
 use Rattle.std.proofs.lemmas.List.{length-set}
 use Rattle.std.proofs.lemmas.Result.{on_ok_weaker}
 use Rattle.s66_dep.specs.Members.{numbers_in}
@@ -12,11 +12,13 @@ use Rattle.s66_ledger.specs.declared.node.Node.{Node}
 use Rattle.s66_ledger.specs.declared.node.State.{State}
 use Rattle.s66_ledger.specs.declared.node.State.TheVariants as state
 use Rattle.s66_ledger.specs.OpenNodes.{IsOut, is_open_state, AreOpenNodes}
-use Rattle.s66_ledger.specs.Nodes.{node_at, with_state, nodes_of, prefixes, HaveFloors, HaveDepths}
+use Rattle.s66_ledger.specs.LiveNodes.{is_out_state, AreCounted}
+use Rattle.s66_ledger.specs.Nodes.{no_node, node_at, with_state, nodes_of, prefixes, HaveFloors, HaveDepths}
 use Rattle.s66_ledger.specs.Planting.{kids_of, told_state}
 use Rattle.s66_ledger.specs.Subtrees.{placed, settled, planted, IsPlanted}
 use Rattle.s66_ledger.proofs.Depths.{depths-state}
 use Rattle.s66_ledger.proofs.Floors.{floors-state}
+use Rattle.s66_ledger.proofs.LiveCounts.{counted-set, some-out, one}
 use Rattle.s66_ledger.proofs.OpenHeap.{still-shut, out-shut, is-open}
 use Rattle.s66_ledger.proofs.Planted.{split-root, split-nodes, alone-nodes, tip-root, told-closed}
 use Rattle.s66_ledger.proofs.PlantedNodes.{still-out}
@@ -109,6 +111,10 @@ invariant_of-self c =
       c.self.invariant.0,
       subst (λ ns. AreOpenNodes ns (heap_items t.open)) (sym moved) (still-shut nodes (heap_items t.open) c.self.invariant.1 i _ out.0 (out-shut nodes i out.1) refl refl),
       subst HaveDepths (sym moved) (depths-state nodes i state.Closed out.0 c.self.invariant.2),
+      subst (λ ns. AreCounted ns (t.out - 1) t.deepest) (sym moved)
+          (counted-set nodes i (record (node_at nodes i) { state = state.Closed }) no_node t.out (t.out - 1) t.deepest out.0 c.self.invariant.3
+          (omega (arith, one (is_out_state (node_at nodes i).state) true (ap is_out_state out.1), some-out nodes i out, c.self.invariant.3.count))
+          (λ live. absurd cc)),
     )
 
 pub returns : goal.returns
@@ -128,3 +134,9 @@ returns c =
       floors = alone-floors p c.args.best i state.Closed told old _ c.requires.out alone now moved c.requires.floors;
       ok = alone-stands p c.args.best i state.Closed told old _ c.requires.out alone now moved c.requires.over c.knots.ensures.told;
     }
+
+pub overflow_sub-self : goal.overflow_sub-self
+overflow_sub-self c =
+    let t = c.self.inside in
+    let out : IsOut t.nodes.items c.args.root = subst (λ ns. IsOut ns c.args.root) (sym c.self.view_is) c.requires.out in
+    omega (arith, some-out t.nodes.items c.args.root out, c.self.invariant.3.count)
