@@ -74,9 +74,9 @@ impl<'a> Hub<'a> {
             self.lock.give(&mut seat.token, ledger);
             return Err(AllocError);
         };
-        let best = ledger.best();
+        let claimed = (ticket, ledger.best());
         self.lock.give_read(&mut seat.token, ledger);
-        Ok((ticket, best))
+        Ok(claimed)
     }
 
     /// Takes a node back that was handed out, so that it is open again.

@@ -1,4 +1,4 @@
-use Rattle.std.proofs.Common.{ℕ, rules, ◌≡◌, ◌≤◌, ap, refl, ◌∙◌, subst, sym, arith}
+use Rattle.std.proofs.Common.{ℕ, rules, ◌≡◌, ◌≤◌, ap, refl, ◌∙◌, subst, sym}
 use Rattle.s66_model.specs.Ledger.{Claim, Claimed}
 use Rattle.s66_model.specs.Accounts.{Passbook, after_event, after_reading}
 use Rattle.s66_ledger.specs.Claims.{claimed_node}
@@ -52,7 +52,7 @@ returns-clause-ok g c =
     gave
     ∙ (call.2
     ∙ ap (λ (n : ℕ). after_reading (after_event p (Claim p.who) event) n) (sym best_is)
-    ∙ ap (λ (q : Passbook). after_reading (after_event q (Claim q.who) event) c.best-best.result) at)
+    ∙ ap (λ (q : Passbook). after_reading (after_event q (Claim q.who) event) c.best.result) at)
   where
-    best_is : ◌≡◌ {A = ℕ} c.best-best.result (account_summary c.claim.new.self).best
-    best_is = c.best-best.ensures.value ∙ ap (λ (l : LedgerOf). (account_summary l).best) c.deref.ensures
+    best_is : ◌≡◌ {A = ℕ} c.best.result (account_summary c.claim.new.self).best
+    best_is = c.best.ensures.value ∙ ap (λ (l : LedgerOf). (account_summary l).best) c.deref.ensures
