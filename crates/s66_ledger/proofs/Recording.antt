@@ -11,7 +11,7 @@ use Rattle.s66_model.specs.Recorded.{IsOwn, IsOfferOf, graft_event}
 use Rattle.s66_model.specs.Accounts.{Account, account_of}
 use Rattle.s66_model.proofs.Histories.{run-next, history-spent}
 use Rattle.s66_node.specs.declared.outline.Outline.{Outline}
-use Rattle.s66_node.specs.Outlines.{outline_tree, IsOutlineOf}
+use Rattle.s66_node.specs.Outlines.{outline_prefix, outline_tree, IsOutlineOf}
 use Rattle.s66_node.specs.Pieces.{PieceOf, tree_of}
 use Rattle.s66_ledger.specs.declared.entry.Entry.{Entry}
 use Rattle.s66_ledger.specs.declared.entry.Refusal.{Refusal}
@@ -88,13 +88,13 @@ offer-entry b p w order numbers own time reply event owns same total (other, oth
     ∙ ap (λ e. told e reply) (sym is)))
 
 module _ (m next : MachineOf) (w i : ℕ) (p : PieceOf) (count : ℕ) (counts : count ≡ splits (tree_of p)) where
-  pub taken-entry : (outline : Outline) → IsOutlineOf p outline → (h : IsGraftMove m w i p Taken next) → told (Graft w i true outline.prefix.items count (Some (outline_tree m.problem outline))) Taken ≡ told h.0 Taken
+  pub taken-entry : (outline : Outline) → IsOutlineOf p outline → (h : IsGraftMove m w i p Taken next) → told (Graft w i true (outline_prefix outline) count (Some (outline_tree m.problem outline))) Taken ≡ told h.0 Taken
   taken-entry outline of (event, (own, owns, is), move) =
       let k : IsMove m (Graft w i own p.prefix (splits (tree_of p)) (Some (tree_of p))) Taken next = subst (λ e. IsMove m e Taken next) is move in
       let mine : own ≡ true = k.3.1.1.0 in
       let tree : outline_tree m.problem outline ≡ tree_of p = ap (λ b. outline_tree b outline) (sym (owns.0 mine)) ∙ of.1 in
-      ap (λ t. told (Graft w i true outline.prefix.items count (Some t)) Taken) tree
-      ∙ (ap (λ n. told (Graft w i true outline.prefix.items n (Some (tree_of p))) Taken) counts
+      ap (λ t. told (Graft w i true (outline_prefix outline) count (Some t)) Taken) tree
+      ∙ (ap (λ n. told (Graft w i true (outline_prefix outline) n (Some (tree_of p))) Taken) counts
       ∙ (ap (λ at. told (Graft w i true at (splits (tree_of p)) (Some (tree_of p))) Taken) of.0
       ∙ (ap (λ o. told (Graft w i o p.prefix (splits (tree_of p)) (Some (tree_of p))) Taken) (sym mine)
       ∙ ap (λ e. told e Taken) (sym is))))

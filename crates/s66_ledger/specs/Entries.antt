@@ -3,7 +3,7 @@ use Rattle.std.specs.Prelude.{true, Some, None, if◌then◌else◌}
 use Rattle.s66_model.specs.Timing.{Problem}
 use Rattle.s66_model.specs.Ledger as model
 use Rattle.s66_model.specs.Ledger.{Event, Reply, Granted, Claimed, Returned, NotOut, Retired, Taken}
-use Rattle.s66_node.specs.Outlines.{outline_tree}
+use Rattle.s66_node.specs.Outlines.{outline_prefix, outline_tree}
 use Rattle.s66_ledger.specs.declared.entry.Entry.{Entry}
 use Rattle.s66_ledger.specs.declared.entry.Entry.TheVariants as entry
 use Rattle.s66_ledger.specs.declared.entry.Refusal.{Refusal}
@@ -27,7 +27,7 @@ abbrev pub entry_of : Problem → Entry → Event × Reply
 entry_of b (entry.Grant w splits) = (model.Grant w, Granted splits)
 entry_of b (entry.Claim w node) = (model.Claim w, Claimed node)
 entry_of b (entry.Taken w node outline splits) =
-    (model.Graft w node true outline.prefix.items splits (Some (outline_tree b outline)), Taken)
+    (model.Graft w node true (outline_prefix outline) splits (Some (outline_tree b outline)), Taken)
 entry_of b (entry.Refused w node own prefix splits why) = (model.Graft w node own prefix.items splits None, refusal_reply why)
 entry_of b (entry.Offer w own order time offered) = (model.Offer w own order.items time, offered_reply offered)
 entry_of b (entry.Back w node returned) = (model.Back w node, if returned then Returned else NotOut)

@@ -3,8 +3,6 @@ ghost use Rattle.s66_ledger.specs.Entries.{error_of};
 ghost use Rattle.s66_ledger.specs.declared.reply.GraftError.TheVariants as error;
 
 use crate::reply::{GraftError, Offered};
-use arrayvec::ArrayVec;
-use s66_line::BLOCK_LIMIT;
 use s66_node::Outline;
 
 /// What a ledger's history has of one event, with its reply. Workers count from 1, nodes from 0; times are in minor cycles.
@@ -40,7 +38,7 @@ pub enum Entry {
     Offer {
         w: u8,
         own: bool,
-        order: ArrayVec<u8, BLOCK_LIMIT>,
+        order: Vec<u8>,
         time: u32,
         offered: Offered,
     },

@@ -7,7 +7,7 @@ use crate::subtree::Subtree;
 use crate::ticket::{Ticket, node_of};
 use s66_isa::Profile;
 use s66_line::Block;
-use s66_node::{Outline, Piece, copy_of};
+use s66_node::{Outline, Piece};
 use s66_time::Timed;
 use std::alloc::{AllocError, Global};
 use std::marker::Model;
@@ -239,8 +239,8 @@ impl<'a> Ledger<'a> {
         ensures ok { IfOk result (λ offered. (event : Event) × IsOfferOf self.old.problem w timed.problem timed.numbers event × IsEvent self.old event (offered_reply offered) self.new) }
         ensures err { OnErr result (self.new ≡ self.old) }
     {
+        let order = Vec::from_slice(self.alloc, timed.order().numbers())?;
         self.history.reserve(1)?;
-        let order = copy_of(timed.order().numbers());
         let time = timed.total();
         let offered = self.machine.offer(w, timed);
         self.history.push_reserved(Entry::Offer {
@@ -320,12 +320,11 @@ impl<'a> Ledger<'a> {
             return Err(error);
         };
         let own = piece.is_of(self.machine.block(), self.machine.profile());
-        let Outline { prefix, .. } = outline;
         self.history.push_reserved(Entry::Refused {
             w,
             node,
             own,
-            prefix,
+            prefix: outline.into_prefix(),
             splits,
             why,
         });

@@ -1,72 +1,73 @@
 -- An outline of a piece tells its prefix and its tree.
-use Rattle.std.proofs.Common.{ℕ, ◌≡◌, Bool, true, false, List, [], ◌∷◌, ◌++◌, ◌+◌, map, take, append_assoc, refl, sym, ap, ◌∙◌}
-use Rattle.std.proofs.lemmas.List.{append-nil, map-append}
+use Rattle.std.proofs.Common.{ℕ, ◌≡◌, Bool, true, false, List, [], ◌∷◌, ◌++◌, ◌+◌, map, take, length, replicate, append_assoc, refl, sym, ap, ◌∙◌, arith}
+use Rattle.std.proofs.lemmas.Bool.{ne_eqb}
+use Rattle.std.proofs.lemmas.List.{map-append}
+use Rattle.std.proofs.Math.Seq.{take-append_seam, drop-append_seam}
 use Rattle.s66_model.specs.Timing.{Problem}
-use Rattle.s66_model.specs.Tree.{Tree, Kids, NoMore, Unsplit, Split, Alone, Parted, Knot, AtTip, AtSplit}
+use Rattle.s66_model.specs.Tree.{Tree, TreeHolds, Kids, KidsHold, NoMore, Unsplit, Split, Alone, Parted, Knot, AtTip, AtSplit}
 use Rattle.s66_model.specs.Preorder.{first_kids, later_kids, forest, first_tree, read_tree}
-use Rattle.s66_model.specs.Told.{Told, ToldLeaf, ToldFrontier, tip_of, kids_seen, tree_seen}
-use Rattle.s66_dep.specs.declared.set.Set.{Set}
+use Rattle.s66_model.specs.Told.{Told, ToldLeaf, ToldFrontier, ToldHolds, tip_of, kids_seen, tree_seen}
+use Rattle.s66_dep.specs.Members.{numbers_in}
 use Rattle.s66_node.specs.declared.knot.Knot as code
 use Rattle.s66_node.specs.declared.knot.Knot.TheVariants as line
 use Rattle.s66_node.specs.SeenKnots.{seen}
-use Rattle.s66_node.specs.Pieces.{PieceOf, tree_of}
-use Rattle.s66_node.specs.declared.outline.Mark.{Mark}
+use Rattle.s66_node.specs.Pieces.{PieceOf, told_tree, tree_of}
 use Rattle.s66_node.specs.declared.outline.Outline.{Outline}
-use Rattle.s66_node.specs.Outlines.{mark_of, sets_in, outline_knots, outline_tip, outline_tree, IsOutlineOf}
-
--- the sets of the splits among these lines
-abbrev pub sets_of : List code.Knot → List Set
-sets_of [] = []
-sets_of (knot ∷ knots) = sets_in knot ++ sets_of knots
-
-sets-append : (knots more : List code.Knot) → sets_of (knots ++ more) ≡ sets_of knots ++ sets_of more
-sets-append [] more = refl
-sets-append (knot ∷ knots) more = ap (λ sets. sets_in knot ++ sets) (sets-append knots more) ∙ sym (append_assoc (sets_in knot) (sets_of knots) (sets_of more))
+use Rattle.s66_node.specs.declared.outline.TheConstants.{LEAF, FRONTIER, SPLIT}
+use Rattle.s66_node.specs.Outlines.{line_byte, told_line, outline_prefix, outline_lines, outline_tip, outline_kids, with_ready, outline_tree, IsOutlineOf}
 
 -- one line more
-module _ (knots : List code.Knot) (knot : code.Knot) (i : ℕ) (next : take (i + 1) knots ≡ take i knots ++ knot ∷ []) where
-  pub next-marks : (old new : List Mark) (m : Mark) → old ≡ map mark_of (take i knots) → m ≡ mark_of knot → new ≡ old ++ m ∷ [] → new ≡ map mark_of (take (i + 1) knots)
-  next-marks old new m so_far is pushed =
-      pushed ∙ (rw (so_far, is) refl ∙ sym (ap (map mark_of) next ∙ map-append mark_of (take i knots) (knot ∷ [])))
+pub next-bytes : (prefix : List ℕ) (knots : List code.Knot) (knot : code.Knot) (i : ℕ) → take (i + 1) knots ≡ take i knots ++ knot ∷ [] → (old new : List ℕ) (byte : ℕ) → old ≡ prefix ++ map line_byte (take i knots) → byte ≡ line_byte knot → new ≡ old ++ byte ∷ [] → new ≡ prefix ++ map line_byte (take (i + 1) knots)
+next-bytes prefix knots knot i next old new byte so_far is pushed =
+    pushed
+    ∙ (rw (so_far, is) refl
+    ∙ (append_assoc prefix (map line_byte (take i knots)) (line_byte knot ∷ [])
+    ∙ ap (λ bytes. prefix ++ bytes) (sym (ap (map line_byte) next ∙ map-append line_byte (take i knots) (knot ∷ [])))))
 
-  pub next-sets : (old new : List Set) → old ≡ sets_of (take i knots) → new ≡ old ++ sets_in knot → new ≡ sets_of (take (i + 1) knots)
-  next-sets old new so_far pushed =
-      pushed
-      ∙ (rw so_far refl
-      ∙ sym (ap sets_of next ∙ (sets-append (take i knots) (knot ∷ []) ∙ ap (λ sets. sets_of (take i knots) ++ sets) (append-nil (sets_in knot)))))
-
--- WITHOUT VALUES
+-- WITHOUT VALUES AND NUMBERS
 
 abbrev is_leaf : Told → Bool
 is_leaf (ToldLeaf value) = true
 is_leaf (ToldFrontier value) = false
 
+-- as many numbers
+abbrev opened : List ℕ → List ℕ
+opened numbers = replicate (length numbers) 0
+
 abbrev untold_knot : Knot Told → Knot Bool
 untold_knot (AtTip tip) = AtTip (is_leaf tip)
-untold_knot (AtSplit numbers) = AtSplit numbers
+untold_knot (AtSplit numbers) = AtSplit (opened numbers)
 
 abbrev untold_kids : Kids Told → Kids Bool
 untold_kids NoMore = NoMore
 untold_kids (Unsplit tip kids) = Unsplit (is_leaf tip) (untold_kids kids)
-untold_kids (Split numbers sub kids) = Split numbers (untold_kids sub) (untold_kids kids)
+untold_kids (Split numbers sub kids) = Split (opened numbers) (untold_kids sub) (untold_kids kids)
 
 abbrev untold : Tree Told → Tree Bool
 untold (Alone tip) = Alone (is_leaf tip)
-untold (Parted numbers kids) = Parted numbers (untold_kids kids)
+untold (Parted numbers kids) = Parted (opened numbers) (untold_kids kids)
 
-knots-untold : (knots : List code.Knot) → outline_knots (map mark_of knots) (sets_of knots) ≡ map untold_knot (seen knots)
-knots-untold [] = refl
-knots-untold (line.Split numbers ∷ knots) = rw (knots-untold knots) refl
-knots-untold (line.Leaf value ∷ knots) = rw (knots-untold knots) refl
-knots-untold (line.Frontier value ∷ knots) = rw (knots-untold knots) refl
+-- the byte of a split is no other line's, and tells how many numbers it has
+split-told : (count : ℕ) → told_line (SPLIT + count) ≡ AtSplit (replicate count 0)
+split-told count =
+    rw (ne_eqb (SPLIT + count) LEAF (λ e. omega (arith, e)), ne_eqb (SPLIT + count) FRONTIER (λ e. omega (arith, e)))
+    (ap (λ n. AtSplit (replicate n 0)) (omega arith))
 
-first-untold : (ns : List ℕ) (kids : Kids Told) → first_kids ns (untold_kids kids) ≡ untold_kids (first_kids ns kids)
+lines-untold : (knots : List code.Knot) → map told_line (map line_byte knots) ≡ map untold_knot (seen knots)
+lines-untold [] = refl
+lines-untold (line.Split numbers ∷ knots) =
+    ap (λ told. told ∷ map told_line (map line_byte knots)) (split-told (length (numbers_in numbers)))
+    ∙ ap (λ lines. AtSplit (opened (numbers_in numbers)) ∷ lines) (lines-untold knots)
+lines-untold (line.Leaf value ∷ knots) = rw (lines-untold knots) refl
+lines-untold (line.Frontier value ∷ knots) = rw (lines-untold knots) refl
+
+first-untold : (ns : List ℕ) (kids : Kids Told) → first_kids (opened ns) (untold_kids kids) ≡ untold_kids (first_kids ns kids)
 first-untold [] kids = refl
 first-untold (n ∷ ns) NoMore = refl
 first-untold (n ∷ ns) (Unsplit tip kids) = ap (Unsplit (is_leaf tip)) (first-untold ns kids)
-first-untold (n ∷ ns) (Split numbers sub kids) = ap (Split numbers (untold_kids sub)) (first-untold ns kids)
+first-untold (n ∷ ns) (Split numbers sub kids) = ap (Split (opened numbers) (untold_kids sub)) (first-untold ns kids)
 
-later-untold : (ns : List ℕ) (kids : Kids Told) → later_kids ns (untold_kids kids) ≡ untold_kids (later_kids ns kids)
+later-untold : (ns : List ℕ) (kids : Kids Told) → later_kids (opened ns) (untold_kids kids) ≡ untold_kids (later_kids ns kids)
 later-untold [] kids = refl
 later-untold (n ∷ ns) NoMore = refl
 later-untold (n ∷ ns) (Unsplit tip kids) = later-untold ns kids
@@ -83,31 +84,34 @@ first_tree-untold NoMore = refl
 first_tree-untold (Unsplit tip kids) = refl
 first_tree-untold (Split numbers sub kids) = refl
 
+-- THE NUMBERS ARE THE READY ONES
+
 module _ (b : Problem) where
   tip-untold : (prefix : List ℕ) (tip : Told) → outline_tip b prefix (is_leaf tip) ≡ tip_of b prefix tip
   tip-untold prefix (ToldLeaf value) = refl
   tip-untold prefix (ToldFrontier value) = refl
 
-  kids-untold : (kids : Kids Told) (prefix ns : List ℕ) → kids_seen (outline_tip b) prefix ns (untold_kids kids) ≡ kids_seen (tip_of b) prefix ns kids
-  kids-untold kids prefix [] = refl
-  kids-untold NoMore prefix (n ∷ ns) = refl
-  kids-untold (Unsplit tip kids) prefix (n ∷ ns) = rw (tip-untold (prefix ++ n ∷ []) tip, kids-untold kids prefix ns) refl
-  kids-untold (Split numbers sub kids) prefix (n ∷ ns) =
-      rw (kids-untold sub (prefix ++ n ∷ []) numbers, kids-untold kids prefix ns) refl
+  kids-untold : (kids : Kids Told) (prefix ns : List ℕ) → KidsHold b.block (ToldHolds b) prefix ns kids → outline_kids b prefix ns (untold_kids kids) ≡ kids_seen (tip_of b) prefix ns kids
+  kids-untold NoMore prefix [] holds = refl
+  kids-untold NoMore prefix (n ∷ ns) holds = refl
+  kids-untold (Unsplit tip kids) prefix [] holds = refl
+  kids-untold (Unsplit tip kids) prefix (n ∷ ns) holds = rw (tip-untold (prefix ++ n ∷ []) tip, kids-untold kids prefix ns holds.1) refl
+  kids-untold (Split numbers sub kids) prefix [] holds = refl
+  kids-untold (Split numbers sub kids) prefix (n ∷ ns) (incomplete, are, below, rest) =
+      rw (sym are, kids-untold sub (prefix ++ n ∷ []) numbers below, kids-untold kids prefix ns rest) refl
 
-  tree-untold : (tree : Tree Told) (prefix : List ℕ) → tree_seen (outline_tip b) prefix (untold tree) ≡ tree_seen (tip_of b) prefix tree
-  tree-untold (Alone tip) prefix = ap Alone (tip-untold prefix tip)
-  tree-untold (Parted numbers kids) prefix = ap (Parted numbers) (kids-untold kids prefix numbers)
+  tree-untold : (tree : Tree Told) (prefix : List ℕ) → TreeHolds b.block (ToldHolds b) prefix tree → with_ready b prefix (untold tree) ≡ tree_seen (tip_of b) prefix tree
+  tree-untold (Alone tip) prefix holds = ap Alone (tip-untold prefix tip)
+  tree-untold (Parted numbers kids) prefix (incomplete, are, holds) = rw (sym are, kids-untold kids prefix numbers holds) refl
 
--- what has a piece's prefix, and the marks and the sets of its lines, is its outline
-pub outline-of : (p : PieceOf) (knots : List code.Knot) (outline : Outline) → seen knots ≡ p.knots → outline.prefix.items ≡ p.prefix → outline.marks.items ≡ map mark_of knots → outline.sets.items ≡ sets_of knots → IsOutlineOf p outline
-outline-of p knots outline lines prefix marks sets =
-    let told : Tree Told = read_tree (ToldFrontier 0) (seen knots) in
-    let read : read_tree false (outline_knots outline.marks.items outline.sets.items) ≡ untold told =
-    rw (marks, sets) (ap (read_tree false) (knots-untold knots) ∙ (ap (first_tree (Alone false)) (forest-untold (seen knots)) ∙ first_tree-untold (forest (seen knots)))) in
+-- the bytes of a piece's prefix and of its lines are its outline
+pub outline-of : (p : PieceOf) (knots : List code.Knot) (outline : Outline) → seen knots ≡ p.knots → TreeHolds p.problem.block (ToldHolds p.problem) p.prefix (told_tree p) → outline.depth ≡ length p.prefix → outline.bytes.items ≡ p.prefix ++ map line_byte knots → IsOutlineOf p outline
+outline-of p knots outline lines holds depth bytes =
+    let prefix : outline_prefix outline ≡ p.prefix = rw (depth, bytes) (take-append_seam p.prefix (map line_byte knots)) in
+    let read : read_tree false (outline_lines outline) ≡ untold (told_tree p) =
+    rw (depth, bytes, drop-append_seam p.prefix (map line_byte knots)) (ap (read_tree false) (lines-untold knots) ∙ (ap (first_tree (Alone false)) (forest-untold (seen knots)) ∙ (first_tree-untold (forest (seen knots)) ∙ ap (λ ks. untold (read_tree (ToldFrontier 0) ks)) lines))) in
     let tree : outline_tree p.problem outline ≡ tree_of p =
-    ap (λ at. tree_seen (outline_tip p.problem) at (read_tree false (outline_knots outline.marks.items outline.sets.items))) prefix
-    ∙ (ap (tree_seen (outline_tip p.problem) p.prefix) read
-    ∙ (tree-untold p.problem told p.prefix
-    ∙ ap (λ ks. tree_seen (tip_of p.problem) p.prefix (read_tree (ToldFrontier 0) ks)) lines)) in
+    ap (λ at. with_ready p.problem at (read_tree false (outline_lines outline))) prefix
+    ∙ (ap (with_ready p.problem p.prefix) read
+    ∙ tree-untold p.problem (told_tree p) p.prefix holds) in
     (prefix, tree)

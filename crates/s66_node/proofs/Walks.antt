@@ -172,7 +172,7 @@ module _ (b : Problem) (best allowance : ℕ) (root : List ℕ) where
 
 -- WHAT IS LEFT TO DO falls at each turn: each number of a frame, the frame itself, and splits
 
-set-few : (s : Set) → length (numbers_in s) ≤ 64
+pub set-few : (s : Set) → length (numbers_in s) ≤ 64
 unfolding numbers_in
 set-few s = omega (arith, length-filter_both (is_member s.bits) (λ n. not (is_member s.bits n)) (λ n. refl) (rising 64 1))
 

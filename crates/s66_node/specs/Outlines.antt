@@ -1,50 +1,57 @@
--- Used by contracts: the tree that an outline tells, by lines that leave out the values of a piece's floors.
-use Rattle.std.specs.Prelude.{ℕ, ◌≡◌, Bool, true, false, List, [], ◌∷◌}
+-- Used by contracts: the tree that an outline tells, by lines that leave out the values of a piece's floors and the numbers of its splits.
+use Rattle.std.specs.Prelude.{ℕ, ◌≡◌, ◌+◌, ◌-◌, ◌==◌, Bool, true, false, if◌then◌else◌, List, [], ◌∷◌, ◌++◌, length, take, drop, map, replicate}
 use Rattle.s66_model.specs.Timing.{Problem}
+use Rattle.s66_model.specs.LegalOrder.{ready}
 use Rattle.s66_model.specs.Leaves.{floor}
-use Rattle.s66_model.specs.Tree.{Tree, Knot, AtTip, AtSplit}
+use Rattle.s66_model.specs.Tree.{Tree, Alone, Parted, Kids, NoMore, Unsplit, Split, Knot, AtTip, AtSplit}
 use Rattle.s66_model.specs.Preorder.{read_tree}
 use Rattle.s66_model.specs.Piece.{Tip, Carries, Frontier}
-use Rattle.s66_model.specs.Told.{tree_seen}
-use Rattle.s66_dep.specs.declared.set.Set.{Set}
 use Rattle.s66_dep.specs.Members.{numbers_in}
 use Rattle.s66_node.specs.declared.knot.Knot as code
 use Rattle.s66_node.specs.declared.knot.Knot.TheVariants as line
-use Rattle.s66_node.specs.declared.outline.Mark.{Mark}
-use Rattle.s66_node.specs.declared.outline.Mark.TheVariants as mark
 use Rattle.s66_node.specs.declared.outline.Outline.{Outline}
+use Rattle.s66_node.specs.declared.outline.TheConstants.{LEAF, FRONTIER, SPLIT}
 use Rattle.s66_node.specs.Pieces.{PieceOf, tree_of}
 
--- what a line of a piece says, without a value
-abbrev pub mark_of : code.Knot → Mark
-mark_of (line.Split numbers) = mark.Split
-mark_of (line.Leaf value) = mark.Leaf
-mark_of (line.Frontier value) = mark.Frontier
+-- of a line of a piece; a split tells how many numbers it has
+abbrev pub line_byte : code.Knot → ℕ
+line_byte (line.Split numbers) = SPLIT + length (numbers_in numbers)
+line_byte (line.Leaf value) = LEAF
+line_byte (line.Frontier value) = FRONTIER
 
--- the numbers of a line that is a split, and none of any other
-abbrev pub sets_in : code.Knot → List Set
-sets_in (line.Split numbers) = numbers ∷ []
-sets_in (line.Leaf value) = []
-sets_in (line.Frontier value) = []
+-- the line of this byte: its prefix carries its floor, stays open, or is split into so many, whose numbers stand open as 0
+abbrev pub told_line : ℕ → Knot Bool
+told_line byte =
+    if byte == LEAF then AtTip true else if byte == FRONTIER then AtTip false else AtSplit (replicate (byte - SPLIT) 0)
 
--- An outline's lines: each split has the next of the sets, and each other line tells whether its prefix carries its floor.
-abbrev pub outline_knots : List Mark → List Set → List (Knot Bool)
-outline_knots [] sets = []
-outline_knots (mark.Split ∷ marks) [] = AtSplit [] ∷ outline_knots marks []
-outline_knots (mark.Split ∷ marks) (set ∷ sets) = AtSplit (numbers_in set) ∷ outline_knots marks sets
-outline_knots (mark.Leaf ∷ marks) sets = AtTip true ∷ outline_knots marks sets
-outline_knots (mark.Frontier ∷ marks) sets = AtTip false ∷ outline_knots marks sets
+abbrev pub outline_prefix : Outline → List ℕ
+outline_prefix outline = take outline.depth outline.bytes.items
+
+abbrev pub outline_lines : Outline → List (Knot Bool)
+outline_lines outline = map told_line (drop outline.depth outline.bytes.items)
 
 -- a prefix that isn't split carries its floor, or stands in the frontier
 abbrev pub outline_tip : Problem → List ℕ → Bool → Tip
 outline_tip b prefix true = Carries (floor b prefix)
 outline_tip b prefix false = Frontier
 
+-- each split goes on with the ready numbers: here those of the children under these, of which each has a tree
+abbrev pub outline_kids : Problem → List ℕ → List ℕ → Kids Bool → Kids Tip
+outline_kids b prefix [] kids = NoMore
+outline_kids b prefix (n ∷ ns) NoMore = NoMore
+outline_kids b prefix (n ∷ ns) (Unsplit leaf kids) = Unsplit (outline_tip b (prefix ++ n ∷ []) leaf) (outline_kids b prefix ns kids)
+outline_kids b prefix (n ∷ ns) (Split numbers sub kids) =
+    let below = prefix ++ n ∷ [] in
+    Split (ready b.block below) (outline_kids b below (ready b.block below) sub) (outline_kids b prefix ns kids)
+
+abbrev pub with_ready : Problem → List ℕ → Tree Bool → Tree Tip
+with_ready b prefix (Alone leaf) = Alone (outline_tip b prefix leaf)
+with_ready b prefix (Parted numbers kids) = Parted (ready b.block prefix) (outline_kids b prefix (ready b.block prefix) kids)
+
 -- the tree over its prefix
 abbrev pub outline_tree : Problem → Outline → Tree Tip
-outline_tree b outline =
-    tree_seen (outline_tip b) outline.prefix.items (read_tree false (outline_knots outline.marks.items outline.sets.items))
+outline_tree b outline = with_ready b (outline_prefix outline) (read_tree false (outline_lines outline))
 
 -- it tells this piece's prefix and tree
 abbrev pub IsOutlineOf : PieceOf → Outline → Type 0
-IsOutlineOf p outline = (outline.prefix.items ≡ p.prefix) × (outline_tree p.problem outline ≡ tree_of p)
+IsOutlineOf p outline = (outline_prefix outline ≡ p.prefix) × (outline_tree p.problem outline ≡ tree_of p)

@@ -12,7 +12,7 @@ mod whole_order;
 
 pub use expansion::expand;
 pub use knot::Knot;
-pub use outline::{Mark, Outline};
+pub use outline::{FRONTIER, LEAF, Outline, SPLIT};
 pub use piece::Piece;
 pub use schedule::{Priority, schedule_below, schedule_rest};
 pub use walk::Walk;

@@ -1,55 +1,52 @@
-ghost use Rattle.std.specs.Prelude.{◌≡◌, ◌++◌, IfOk, OnOk};
-ghost use Rattle.s66_node.specs.Outlines.{sets_in, IsOutlineOf};
+ghost use Rattle.std.specs.Prelude.{◌≡◌, IfOk};
+ghost use Rattle.s66_node.specs.Outlines.{line_byte, IsOutlineOf};
 
 use crate::knot::Knot;
 use crate::piece::Piece;
-use s66_dep::Set;
 use std::alloc::{AllocError, Global};
 
-/// What a line of an outline says: the prefix is split, carries its floor as leaf, or stays open.
-#[derive(Clone, Copy, Debug, PartialEq, Eq)]
-pub enum Mark {
-    Split,
-    Leaf,
-    Frontier,
-}
+/// The byte of a line whose prefix carries its floor as leaf.
+pub const LEAF: u8 = 0;
 
-impl Mark {
-    ghost use Rattle.std.specs.Prelude.{◌≡◌};
-    ghost use Rattle.s66_node.specs.Outlines.{mark_of};
+/// The byte of a line whose prefix stays open.
+pub const FRONTIER: u8 = 1;
 
-    /// What a line of a piece says, without a value.
-    fn of(knot: &Knot) -> Mark
-        ensures { result ≡ mark_of knot.now }
-    {
-        match knot {
-            Knot::Split(_) => Mark::Split,
-            Knot::Leaf { .. } => Mark::Leaf,
-            Knot::Frontier { .. } => Mark::Frontier,
-        }
-    }
-}
+/// The byte of a line whose prefix is split is this and how many numbers it goes on with, which are the ready ones.
+pub const SPLIT: u8 = 2;
 
-/// A piece's prefix, and its tree without the values of its floors. It takes a byte for each number of the prefix, a byte for each
-/// line of the tree, and eight for each split.
+/// A piece's prefix, and its tree without the values of its floors: a byte for each number of the prefix, and one for each line of the
+/// tree.
 #[derive(Debug, Drop)]
 pub struct Outline {
-    /// The prefix, by its numbers.
-    pub prefix: Vec<u8>,
-    /// What each line of the tree says, in preorder.
-    pub marks: Vec<Mark>,
-    /// Of each line that is a split, in the same order, the numbers with which its prefix goes on.
-    pub sets: Vec<Set>,
+    /// How many numbers the prefix has.
+    pub depth: u8,
+    /// The prefix, by its numbers, and then the lines of the tree in preorder.
+    pub bytes: Vec<u8>,
 }
 
-/// Appends the numbers of a line that is a split, and nothing of any other.
-fn keep_numbers(sets: &mut Vec<Set>, knot: &Knot) -> Result<(), AllocError>
-    ensures { OnOk result (sets.new.items ≡ sets.old.items ++ sets_in knot.now) }
+/// What a line of a piece says, without a value and the numbers of a split.
+fn line_byte(knot: &Knot) -> u8
+    ensures { result ≡ line_byte knot.now }
 {
-    if let Knot::Split(numbers) = knot {
-        sets.push(*numbers)?;
+    match knot {
+        Knot::Split(numbers) => SPLIT + numbers.count() as u8,
+        Knot::Leaf { .. } => LEAF,
+        Knot::Frontier { .. } => FRONTIER,
     }
-    Ok(())
+}
+
+impl Outline {
+    ghost use Rattle.std.specs.Prelude.{◌≡◌};
+    ghost use Rattle.s66_node.specs.Outlines.{outline_prefix};
+
+    /// The prefix alone, by its numbers.
+    pub fn into_prefix(self) -> Vec<u8>
+        ensures { result.items ≡ outline_prefix self }
+    {
+        let Outline { depth, mut bytes } = self;
+        bytes.truncate(depth as usize);
+        bytes
+    }
 }
 
 impl Piece {
@@ -57,18 +54,16 @@ impl Piece {
     pub fn outline(&self, alloc: Global) -> Result<Outline, AllocError>
         ensures { IfOk result (IsOutlineOf self.now) }
     {
-        let prefix = Vec::from_slice(alloc, self.prefix())?;
+        let prefix = self.prefix();
         let knots = self.knots();
-        let mut marks = Vec::with_capacity(alloc, knots.len())?;
-        let mut sets = Vec::with_capacity(alloc, self.splits as usize)?;
+        let mut bytes = Vec::with_capacity(alloc, prefix.len() + knots.len())?;
+        bytes.extend_from_slice(prefix)?;
         for knot in knots {
-            marks.push_reserved(Mark::of(knot));
-            keep_numbers(&mut sets, knot)?;
+            bytes.push_reserved(line_byte(knot));
         }
         Ok(Outline {
-            prefix,
-            marks,
-            sets,
+            depth: prefix.len() as u8,
+            bytes,
         })
     }
 }

@@ -3,11 +3,11 @@ ghost use Rattle.s66_ledger.specs.Steps.{worker_of};
 
 use super::clock::MULTIPLIES;
 use super::source_of;
-use s66_dep::{Order, Set, is_beginning};
+use s66_dep::{Order, is_beginning};
 use s66_isa::Profile;
 use s66_ledger::{Entry, Event, Ledger, Offered, Reply, Ticket};
 use s66_line::{Block, read_source};
-use s66_node::{Mark, Outline, expand};
+use s66_node::{FRONTIER, Outline, SPLIT, expand};
 use s66_time::time_of;
 use std::process::Abort;
 use std::test::Fail;
@@ -56,10 +56,9 @@ fn in_brief(entry: &Entry) -> (Kind, u8, Option<u32>) {
 
 /// Checks that a piece splits the empty prefix into all three numbers, which stay open.
 fn check_outline<R: Abort>(rt: &R, outline: &Outline) {
-    let marks = [Mark::Split, Mark::Frontier, Mark::Frontier, Mark::Frontier];
-    assert!(rt; outline.prefix.is_empty());
-    assert_eq!(rt; outline.marks.as_slice(), marks.as_slice());
-    assert_eq!(rt; outline.sets.as_slice(), [Set::up_to(3)].as_slice());
+    let bytes = [SPLIT + 3, FRONTIER, FRONTIER, FRONTIER];
+    assert_eq!(rt; outline.depth, 0);
+    assert_eq!(rt; outline.bytes.as_slice(), bytes.as_slice());
 }
 
 /// Checks that the ledger's history is `HISTORY`.

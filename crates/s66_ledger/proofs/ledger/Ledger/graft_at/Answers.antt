@@ -43,7 +43,7 @@ invariant_of-self-2 c =
     (subst (λ (e : GraftError). IsRefusedMove m c.args.w c.args.node p e c.graft.new.self) c.in-Some.ensures.some c.in-Err.ensures.refused) in
     let own : IsOwn m.problem p.problem c.is_of-own.result = is-own m.problem p.problem c.is_of-own.result (instrs_of c.block.result.now) c.profile.result.now (c.block.ensures ∙ ap (λ (b : Problem). b.block) h.2.0) (c.profile.ensures ∙ ap (λ (b : Problem). b.profile) h.2.0) c.is_of-own.ensures in
     recorded m c.graft.new.self c.self.inside.history.items c.reserve.new.self.items c.push_reserved-2.new.self.items _ h.0 (refusal_reply why) h.2
-    (refused-entry m c.graft.new.self c.args.w c.args.node p c.splits-splits.result c.splits-splits.ensures c.args.outline.prefix.items c.requires.outline.0 c.is_of-own.result why own h)
+    (refused-entry m c.graft.new.self c.args.w c.args.node p c.splits-splits.result c.splits-splits.ensures c.into_prefix.result.items (c.into_prefix.ensures ∙ c.requires.outline.0) c.is_of-own.result why own h)
     c.reserve.ensures.items c.push_reserved-2.ensures.items c.self.invariant
 
 pub returns-clause-refused : goal.returns-clause-refused
@@ -62,7 +62,7 @@ returns-clause-refused c =
       h.0,
       h.1,
       recorded-event m c.graft.new.self c.self.inside.history.items c.reserve.new.self.items c.push_reserved-2.new.self.items _ h.0 (refusal_reply why) h.2
-          (refused-entry m c.graft.new.self c.args.w c.args.node p c.splits-splits.result c.splits-splits.ensures c.args.outline.prefix.items c.requires.outline.0 c.is_of-own.result why own h)
+          (refused-entry m c.graft.new.self c.args.w c.args.node p c.splits-splits.result c.splits-splits.ensures c.into_prefix.result.items (c.into_prefix.ensures ∙ c.requires.outline.0) c.is_of-own.result why own h)
           c.reserve.ensures.items c.push_reserved-2.ensures.items,
     )))
 

@@ -1,4 +1,4 @@
-use Rattle.std.proofs.Common.{ℕ, true, false, ◌+◌, ◌≡◌, ◌≤◌, ◌∙◌, ap, arith, refl, subst, heap_items}
+use Rattle.std.proofs.Common.{ℕ, true, false, ◌≡◌, ◌≤◌, ◌∙◌, ap, arith, refl, subst, heap_items}
 use Rattle.std.proofs.lemmas.List.Sorted.{first_le_from_greatest}
 use Rattle.std.specs.Ordering.{nat_cmp}
 use Rattle.s66_ledger.specs.declared.node.Node.{Node}

@@ -1,4 +1,4 @@
-use Rattle.std.proofs.Common.{◌≡◌, ◌<◌, ◌+◌, ◌-◌, true, arith, length, ◌∙◌, ◌∷◌, ap, refl, sym, subst, heap_items}
+use Rattle.std.proofs.Common.{◌≡◌, ◌<◌, true, arith, length, ◌∙◌, ◌∷◌, ap, refl, sym, subst, heap_items}
 use Rattle.std.specs.List.Sorted.{IsPermutation}
 use Rattle.s66_ledger.specs.declared.node.Node.{Node}
 use Rattle.s66_ledger.specs.declared.node.State.TheVariants as state

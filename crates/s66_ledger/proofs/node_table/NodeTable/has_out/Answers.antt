@@ -1,4 +1,4 @@
-use Rattle.std.proofs.Common.{ℕ, ◌∙◌, ◌≡◌, false, nat_eq, sym, subst}
+use Rattle.std.proofs.Common.{ℕ, ◌∙◌, nat_eq, subst}
 use Rattle.std.proofs.lemmas.Bool.{not-false, eqb-true}
 use Rattle.s66_ledger.specs.OpenNodes.{IsOut}
 use Rattle.s66_ledger.proofs.LiveCounts.{none-out}

@@ -1,4 +1,4 @@
-use Rattle.std.proofs.Common.{List, ◌+◌, ◌-◌, true, arith, ◌≡◌, ◌∙◌, ap, length, map, refl, sym, subst, heap_items}
+use Rattle.std.proofs.Common.{List, ◌-◌, true, arith, ◌≡◌, ◌∙◌, ap, length, map, refl, sym, subst, heap_items}
 use Rattle.s66_ledger.specs.declared.node.Node.{Node}
 use Rattle.s66_ledger.specs.declared.node.State.TheVariants as state
 use Rattle.s66_ledger.specs.Nodes.{no_node, node_at, with_state, HaveDepths}
