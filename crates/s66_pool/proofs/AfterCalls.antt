@@ -23,7 +23,7 @@ use Rattle.s66_ledger.specs.declared.reply.BackError.{BackError}
 use Rattle.s66_ledger.specs.declared.reply.BackError.TheVariants as kept
 use Rattle.s66_pool.specs.Views.{View, Follows, renewed, idle, holding, first_book}
 use Rattle.s66_pool.specs.Hubs.{SeatOf, HasGrafted, HasBeenRefused, HasOffered, IsKnown}
-use Rattle.s66_pool.proofs.Events.{same-follows, same-book, event-follows, event-read, event-known, quiet-book, told-book, lower-told, answer-told, gave-book, gave-opened}
+use Rattle.s66_pool.proofs.Events.{follows-on, renewed-agrees, same-follows, same-book, event-follows, event-read, event-known, quiet-book, told-book, lower-told, answer-told, gave-book, gave-opened}
 
 -- A SEAT THAT GAVE THE LEDGER BACK
 
@@ -128,6 +128,38 @@ module _ (l old new : LedgerOf) (e : old ≡ l) (p : Passbook) (number : ℕ) (w
 pub weaker-err : {T E : Type 0} (r : Result T E) (P Q : E → Type 0) → ((e : E) → P e → Q e) → IfErr r P → IfErr r Q
 weaker-err (Ok x) P Q f h = tt
 weaker-err (Err e) P Q f h = f e h
+
+-- A GRAFT, AND THEN A CLAIM IN THE SAME TURN
+
+module _ (l old between : LedgerOf) (e : old ≡ l) (now new : LedgerOf) (same : now ≡ between) (p : Passbook) (number : ℕ) (who : p.who ≡ number) (agrees : Agrees (account_summary l) p)
+    (hub : TableId) (t : TicketOf) (piece : PieceOf) (h : IsGraftAt old number t.node piece model.Taken between) where
+  -- the worker's passbook between them
+  abbrev pub middle : Passbook
+  middle = renewed (account_summary between) p p.least
+
+  pub first-grafted : (s : SeatOf) → p ≡ s.book → Keeps l between p (p.account.splits + splits (tree_of piece)) × HasGrafted s t piece model.Taken (record { hub = s.hub; book = middle })
+  first-grafted s at = grafted l old between e p number who agrees t piece s (record { hub = s.hub; book = middle }) at refl refl h
+
+  keeps : Keeps l between p (p.account.splits + splits (tree_of piece))
+  keeps = (first-grafted (record { hub = hub; book = p }) refl).0
+
+  pub middle-agrees : Agrees (account_summary between) middle
+  middle-agrees = renewed-agrees (account_summary l) (account_summary between) p agrees keeps.0
+
+  pub then-refused : new ≡ now → Keeps l new p (p.account.splits + splits (tree_of piece)) × (renewed (account_summary new) p p.least ≡ middle)
+  then-refused is =
+      let call = same-call between now new same middle number who middle-agrees is in (
+        (follows-on p.who (account_summary l) (account_summary between) (account_summary new) keeps.0 call.0.0, call.0.1 ∙ keeps.1),
+        call.1,
+      )
+
+  pub then-claimed : (node : Option ℕ) → IsEvent now (model.Claim number) (model.Claimed node) new
+      → Follows p.who (account_summary l) (account_summary new) × ((opened (account_summary new) p.who).account.splits ≡ p.account.splits + splits (tree_of piece))
+      × (opened (account_summary new) p.who ≡ after_reading (after_event middle (model.Claim middle.who) (model.Claimed node)) (account_summary new).best)
+      × ((account_summary new).best ≤ p.least)
+  then-claimed node is =
+      let call = reading-call between now new same middle number who middle-agrees (λ w. model.Claim w) (model.Claimed node) refl refl refl is in
+      (follows-on p.who (account_summary l) (account_summary between) (account_summary new) keeps.0 call.0, call.1 ∙ keeps.1, call.2, call.3)
 
 -- NO WORKER HAS SPENT MORE THAN ALL HAVE
 

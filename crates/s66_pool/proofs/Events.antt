@@ -22,6 +22,23 @@ number_within l p number is who =
 follows-itself : (w : ℕ) (s : Summary) → Follows w s s
 follows-itself w s = record { search = record { problem = refl; budget = refl; workers = refl }; lower = omega arith; others = λ p ne is. is }
 
+pub follows-on : (w : ℕ) (s t u : Summary) → Follows w s t → Follows w t u → Follows w s u
+follows-on w s t u f g = record {
+  search = record { problem = g.search.problem ∙ f.search.problem; budget = g.search.budget ∙ f.search.budget; workers = g.search.workers ∙ f.search.workers };
+  lower = omega (arith, f.lower, g.lower);
+  others = λ p ne is. g.others p ne (f.others p ne is);
+}
+
+-- a call leaves a worker's passbook behind that agrees, where it is opened anew
+pub renewed-agrees : (s t : Summary) (p : Passbook) → Agrees s p → Follows p.who s t → Agrees t (renewed t p p.least)
+renewed-agrees s t p is follows = record {
+  worker = (is.worker.0, omega (arith, is.worker.1, follows.search.workers));
+  problem = refl;
+  budget = refl;
+  account = refl;
+  least = omega (arith, is.least, follows.lower);
+}
+
 -- the passbook that agrees is the one that is opened, but for its least time
 renewed-is : (s : Summary) (p : Passbook) → Agrees s p → renewed s p p.least ≡ p
 renewed-is s p is = λ i. record { who = p.who; problem = sym is.problem i; budget = sym is.budget i; account = sym is.account i; least = p.least }

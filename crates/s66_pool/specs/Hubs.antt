@@ -1,11 +1,11 @@
 -- To be believed: what contracts see of a hub and of a seat at it, and what a call makes of a seat.
-use Rattle.std.specs.Prelude.{ℕ, ⊤, ◌≡◌, ◌≤◌, ◌==◌, true, List}
+use Rattle.std.specs.Prelude.{ℕ, ⊤, ◌≡◌, ◌≤◌, ◌==◌, true, Option, List}
 use Rattle.atomic_table.specs.Seated.{TableId}
 use Rattle.s66_isa.specs.Lists.{some_of}
 use Rattle.s66_model.specs.Ledger as model
 use Rattle.s66_model.specs.Ledger.{Event, Reply}
 use Rattle.s66_model.specs.Recorded.{IsGraftOf, IsOfferOf}
-use Rattle.s66_model.specs.Accounts.{Summary, Passbook, after_event}
+use Rattle.s66_model.specs.Accounts.{Summary, Passbook, after_event, after_reading}
 use Rattle.s66_node.specs.Pieces.{PieceOf, tree_of}
 use Rattle.s66_time.specs.TimedOrder.{TimedOrder}
 use Rattle.s66_ledger.specs.Handed.{TicketOf}
@@ -31,6 +31,12 @@ abbrev pub HasGrafted : SeatOf → TicketOf → PieceOf → Reply → SeatOf →
 HasGrafted old ticket piece reply new =
     (event : Event) × IsGraftOf old.book.problem old.book.who ticket.node piece.problem piece.prefix (tree_of piece) reply event
     × (new.book ≡ after_event old.book event reply)
+
+-- after such a graft that was taken, then a claim that got this node, and then a look at the best time
+abbrev pub HasGraftedAndClaimed : SeatOf → TicketOf → PieceOf → Option ℕ → ℕ → SeatOf → Type 0
+HasGraftedAndClaimed old ticket piece node best new =
+    (between : SeatOf) × HasGrafted old ticket piece model.Taken between
+    × (new.book ≡ after_reading (after_event between.book (model.Claim between.book.who) (model.Claimed node)) best)
 
 -- a refusal is a reply too, but for want of memory, after which the seat is as it was
 abbrev pub HasBeenRefused : SeatOf → TicketOf → PieceOf → GraftError → SeatOf → Type 0

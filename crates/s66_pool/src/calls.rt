@@ -1,12 +1,26 @@
-//! The calls of a hub: each waits for the lock, makes one call of the ledger, and gives it back.
+//! The calls of a hub: each waits for the lock, makes one or two calls of the ledger, and gives it back.
+
+ghost use Rattle.std.specs.Prelude.{IfOk};
+ghost use Rattle.s66_node.specs.Outlines.{IsOutlineOf};
+ghost use Rattle.s66_ledger.specs.Subtrees.{IsSubtreeOf};
 
 use crate::hub::Hub;
 use crate::seat::Seat;
 use s66_ledger::{BackError, GraftError, Offered, Subtree, Ticket};
-use s66_node::Piece;
+use s66_node::{Outline, Piece};
 use s66_time::Timed;
-use std::alloc::AllocError;
+use std::alloc::{AllocError, Global};
 use std::sync::Wait;
+
+/// What a graft makes of a piece before it takes the lock: the piece's nodes, and what the history keeps of it.
+fn prepared(alloc: Global, piece: &Piece) -> Result<(Subtree, Outline), AllocError>
+    ensures subtree { IfOk result (λ r. IsSubtreeOf piece.now r.0) }
+    ensures outline { IfOk result (λ r. IsOutlineOf piece.now r.1) }
+{
+    let subtree = Subtree::of(alloc, piece)?;
+    let outline = piece.outline(alloc)?;
+    Ok((subtree, outline))
+}
 
 impl<'a> Hub<'a> {
     ghost use Rattle.std.specs.Prelude.{◌≡◌, ◌≤◌, IfOk, IfErr, OnOk, OnErr};
@@ -15,7 +29,7 @@ impl<'a> Hub<'a> {
     ghost use Rattle.s66_ledger.specs.Claims.{claimed_node};
     ghost use Rattle.s66_ledger.specs.Replies.{offered_reply};
     ghost use Rattle.s66_ledger.specs.declared.reply.BackError.TheVariants as refused;
-    ghost use Rattle.s66_pool.specs.Hubs.{HasGrafted, HasBeenRefused, HasOffered, IsKnown};
+    ghost use Rattle.s66_pool.specs.Hubs.{HasGrafted, HasGraftedAndClaimed, HasBeenRefused, HasOffered, IsKnown};
 
     /// Moves splits of the budget to the worker, as `Ledger::grant` does.
     pub fn grant<R: Wait>(&self, rt: &R, seat: &mut Seat<'a>) -> Result<u32, AllocError>
@@ -79,6 +93,44 @@ impl<'a> Hub<'a> {
         Ok(claimed)
     }
 
+    /// Grafts a piece as `graft` does, and where it is taken, claims and reads as `claim_and_read` does, in one turn at the lock. The
+    /// inner `Err` is want of memory for the claim.
+    pub fn graft_and_claim<R: Wait>(
+        &self,
+        rt: &R,
+        seat: &mut Seat<'a>,
+        ticket: Ticket,
+        piece: Piece,
+    ) -> Result<Result<(Option<Ticket>, u32), AllocError>, (GraftError, Ticket, Piece)>
+        requires { seat.old.hub ≡ self.now.id }
+        ensures here { seat.new.hub ≡ seat.old.hub }
+        ensures ok { IfOk result (λ next. IfOk next (λ r. HasGraftedAndClaimed seat.old ticket piece (claimed_node r.0) r.1 seat.new)) }
+        ensures known { IfOk result (λ next. IfOk next (λ r. r.1 ≤ seat.old.book.least)) }
+        ensures unclaimed { IfOk result (λ next. OnErr next (HasGrafted seat.old ticket piece Taken seat.new)) }
+        ensures refused { IfErr result (λ e. HasBeenRefused seat.old ticket piece e.0 seat.new) }
+        ensures handed_back { IfErr result (λ e. (e.1 ≡ ticket) × (e.2 ≡ piece)) }
+    {
+        let Ok((subtree, outline)) = prepared(self.alloc, &piece) else {
+            return Err((GraftError::OutOfMemory, ticket, piece));
+        };
+        let added = piece.splits();
+        let mut ledger = self.lock.take(rt, &mut seat.token);
+        if let Err(why) = ledger.graft_at(seat.number, ticket.node(), &piece, &subtree, outline) {
+            self.lock.give(&mut seat.token, ledger);
+            return Err((why, ticket, piece));
+        }
+        // no worker has spent more than all have
+        let _spent = ledger.splits();
+        seat.splits += added;
+        let Ok(next) = ledger.claim(seat.number) else {
+            self.lock.give(&mut seat.token, ledger);
+            return Ok(Err(AllocError));
+        };
+        let claimed = (next, ledger.best());
+        self.lock.give_read(&mut seat.token, ledger);
+        Ok(Ok(claimed))
+    }
+
     /// Takes a node back that was handed out, so that it is open again.
     pub fn back<R: Wait>(
         &self,
@@ -140,10 +192,7 @@ impl<'a> Hub<'a> {
         ensures refused { IfErr result (λ e. HasBeenRefused seat.old ticket piece e.0 seat.new) }
         ensures handed_back { IfErr result (λ e. (e.1 ≡ ticket) × (e.2 ≡ piece)) }
     {
-        let Ok(subtree) = Subtree::of(self.alloc, &piece) else {
-            return Err((GraftError::OutOfMemory, ticket, piece));
-        };
-        let Ok(outline) = piece.outline(self.alloc) else {
+        let Ok((subtree, outline)) = prepared(self.alloc, &piece) else {
             return Err((GraftError::OutOfMemory, ticket, piece));
         };
         let splits = piece.splits();

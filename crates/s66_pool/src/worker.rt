@@ -40,7 +40,28 @@ struct Worker<'b> {
     best: u32,
 }
 
-/// A worker's rounds at its seat, until there is nothing more for it to do; then it retires.
+/// What a worker does next.
+#[derive(Drop)]
+enum Step {
+    Claim,
+    /// Expand the node that it has claimed.
+    Expand(Ticket),
+    /// Wait, since no node was open.
+    Wait,
+    End,
+}
+
+impl Step {
+    /// What follows a claim.
+    fn after_claim(claimed: Option<Ticket>) -> Step {
+        match claimed {
+            Some(ticket) => Step::Expand(ticket),
+            None => Step::Wait,
+        }
+    }
+}
+
+/// A worker's steps at its seat, until there is nothing more for it to do; then it retires.
 pub(crate) fn work_at<'a, R: AllocGlobal + Wait, G: Gate>(
     site: &Site<'_, 'a, R, G>,
     seat: &mut Seat<'a>,
@@ -51,10 +72,14 @@ pub(crate) fn work_at<'a, R: AllocGlobal + Wait, G: Gate>(
     ensures { IsSameSeat seat.old seat.new }
 {
     let mut worker = Worker::new(block, profile);
+    let mut step = Step::Claim;
     for _ in site.rt.forever() {
-        if !worker.round(site, seat) {
-            break;
-        }
+        step = match step {
+            Step::Claim => worker.claim(site, seat),
+            Step::Expand(ticket) => worker.expand(site, seat, ticket),
+            Step::Wait => worker.wait_for_nodes(site),
+            Step::End => break,
+        };
     }
     if worker.was_told_of_none() {
         site.searching.fetch_sub(1, Ordering::SeqCst);
@@ -81,25 +106,6 @@ impl<'b> Worker<'b> {
         }
     }
 
-    /// Claims a node, expands it and grafts the piece; false where the worker has ended, with no ticket in its hand.
-    fn round<'a, R: AllocGlobal + Wait, G: Gate>(
-        &mut self,
-        site: &Site<'_, 'a, R, G>,
-        seat: &mut Seat<'a>,
-    ) -> bool
-        requires { seat.old.hub ≡ site.now.hub.now.id }
-        ensures { IsSameSeat seat.old seat.new }
-    {
-        if !self.may_claim(site, seat) {
-            return false;
-        }
-        match self.claim(site, seat) {
-            Ok(Some(ticket)) => self.take_on(site, seat, ticket),
-            Ok(None) => self.wait_for_nodes(site),
-            Err(AllocError) => false,
-        }
-    }
-
     /// Whether it may claim, after a grant where it has no allowance: it has some then, or it hasn't claimed yet.
     fn may_claim<'a, R: Wait, G: Gate>(
         &mut self,
@@ -119,22 +125,39 @@ impl<'b> Worker<'b> {
         0 < granted || !self.has_claimed
     }
 
-    /// Claims a node, learns the best time, and tells the gate.
+    /// Claims a node where it may, and learns the best time.
     fn claim<'a, R: Wait, G: Gate>(
         &mut self,
         site: &Site<'_, 'a, R, G>,
         seat: &mut Seat<'a>,
-    ) -> Result<Option<Ticket>, AllocError>
+    ) -> Step
         requires { seat.old.hub ≡ site.now.hub.now.id }
         ensures { IsSameSeat seat.old seat.new }
     {
+        if !self.may_claim(site, seat) {
+            return Step::End;
+        }
         let claimed = site.hub.claim_and_read(site.rt, seat);
         self.has_claimed = true;
+        self.learn(site, seat.number(), claimed)
+    }
+
+    /// Tells the gate of a claim, and keeps the best time.
+    fn learn<'a, R, G: Gate>(
+        &mut self,
+        site: &Site<'_, 'a, R, G>,
+        w: u8,
+        claimed: Result<(Option<Ticket>, u32), AllocError>,
+    ) -> Step
+        ensures { self.new.allowance ≡ self.old.allowance }
+    {
         site.gate
-            .after_claim(seat.number(), matches!(claimed, Ok((Some(_), _))));
-        let (ticket, best) = claimed?;
+            .after_claim(w, matches!(claimed, Ok((Some(_), _))));
+        let Ok((ticket, best)) = claimed else {
+            return Step::End;
+        };
         self.best = best;
-        Ok(ticket)
+        Step::after_claim(ticket)
     }
 
     /// Whether its last claim got no node.
@@ -142,22 +165,26 @@ impl<'b> Worker<'b> {
         0 < self.nones
     }
 
-    /// Waits for nodes, since none was open; false where none will be, and after `NONES_LIMIT` times in a row.
-    fn wait_for_nodes<'a, R, G>(&mut self, site: &Site<'_, 'a, R, G>) -> bool {
+    /// Waits for nodes, since none was open; it ends where none will be, and after `NONES_LIMIT` times in a row.
+    fn wait_for_nodes<'a, R, G>(&mut self, site: &Site<'_, 'a, R, G>) -> Step {
         self.nones = self.nones.saturating_add(1);
         site.searching.fetch_sub(1, Ordering::SeqCst);
         let others_search = is_searched(&site.searching);
         site.searching.fetch_add(1, Ordering::SeqCst);
-        others_search && self.nones < NONES_LIMIT
+        if others_search && self.nones < NONES_LIMIT {
+            Step::Claim
+        } else {
+            Step::End
+        }
     }
 
-    /// Expands a claimed node and hands its piece in; false where the ticket was given back.
-    fn take_on<'a, R: AllocGlobal + Wait, G: Gate>(
+    /// Expands a claimed node and hands its piece in.
+    fn expand<'a, R: AllocGlobal + Wait, G: Gate>(
         &mut self,
         site: &Site<'_, 'a, R, G>,
         seat: &mut Seat<'a>,
         ticket: Ticket,
-    ) -> bool
+    ) -> Step
         requires { seat.old.hub ≡ site.now.hub.now.id }
         ensures { IsSameSeat seat.old seat.new }
     {
@@ -172,14 +199,14 @@ impl<'b> Worker<'b> {
         }
     }
 
-    /// Offers a piece's best whole order and grafts the piece; false where the worker has ended.
+    /// Offers a piece's best whole order, grafts the piece, and claims the next node in the same turn where it has allowance left.
     fn hand_in<'a, R: Wait, G: Gate>(
         &mut self,
         site: &Site<'_, 'a, R, G>,
         seat: &mut Seat<'a>,
         ticket: Ticket,
         piece: Piece,
-    ) -> bool
+    ) -> Step
         requires here { seat.old.hub ≡ site.now.hub.now.id }
         requires within { splits (tree_of piece) ≤ self.old.allowance }
         ensures { IsSameSeat seat.old seat.new }
@@ -188,12 +215,42 @@ impl<'b> Worker<'b> {
             return give_back(site, seat, ticket);
         }
         let splits = piece.splits();
-        if let Err(ticket) = graft(site, seat, ticket, piece) {
-            return give_back(site, seat, ticket);
+        if splits == self.allowance {
+            return match graft(site, seat, ticket, piece) {
+                Ok(()) => self.end_round(site, seat, splits, Step::Claim),
+                Err(ticket) => give_back(site, seat, ticket),
+            };
         }
+        match graft_and_claim(site, seat, ticket, piece) {
+            Ok(claimed) => {
+                let next = self.learn(site, seat.number(), claimed);
+                self.end_round(site, seat, splits, next)
+            }
+            Err(ticket) => give_back(site, seat, ticket),
+        }
+    }
+
+    /// Counts a piece that was grafted, offers a list schedule where it is time, and goes on with the next step.
+    fn end_round<'a, R: Wait, G: Gate>(
+        &mut self,
+        site: &Site<'_, 'a, R, G>,
+        seat: &mut Seat<'a>,
+        splits: u32,
+        next: Step,
+    ) -> Step
+        requires here { seat.old.hub ≡ site.now.hub.now.id }
+        requires within { splits ≤ self.old.allowance }
+        ensures { IsSameSeat seat.old seat.new }
+    {
         self.allowance -= splits;
         self.rounds = self.rounds.wrapping_add(1);
-        self.offer_sometimes(site, seat)
+        if self.offer_sometimes(site, seat) {
+            return next;
+        }
+        match next {
+            Step::Expand(ticket) => give_back(site, seat, ticket),
+            _ => Step::End,
+        }
     }
 
     /// Offers a piece's best whole order, where its time is below the best; false where memory was refused.
@@ -283,16 +340,31 @@ fn graft<'a, R: Wait, G: Gate>(
         .map_err(|refusal| refusal.1)
 }
 
-/// Gives a ticket back, and the worker's end with it: always false. Refused for want of memory, its node stays out until the
-/// ledger is finished.
+/// Grafts a piece and claims the next node in one turn, and tells the gate before; refused, the ticket comes back.
+fn graft_and_claim<'a, R: Wait, G: Gate>(
+    site: &Site<'_, 'a, R, G>,
+    seat: &mut Seat<'a>,
+    ticket: Ticket,
+    piece: Piece,
+) -> Result<Result<(Option<Ticket>, u32), AllocError>, Ticket>
+    requires { seat.old.hub ≡ site.now.hub.now.id }
+    ensures { IsSameSeat seat.old seat.new }
+{
+    site.gate.before_graft(seat.number());
+    site.hub
+        .graft_and_claim(site.rt, seat, ticket, piece)
+        .map_err(|refusal| refusal.1)
+}
+
+/// Gives a ticket back, with which the worker ends. Refused for want of memory, its node stays out until the ledger is finished.
 fn give_back<'a, R: Wait, G: Gate>(
     site: &Site<'_, 'a, R, G>,
     seat: &mut Seat<'a>,
     ticket: Ticket,
-) -> bool
+) -> Step
     requires { seat.old.hub ≡ site.now.hub.now.id }
     ensures { IsSameSeat seat.old seat.new }
 {
     let _ = site.hub.back(site.rt, seat, ticket);
-    false
+    Step::End
 }

@@ -1,4 +1,4 @@
-use Rattle.std.proofs.Common.{ℕ, rules, ◌≡◌, ◌≤◌, ap, refl, ◌∙◌, subst, sym}
+use Rattle.std.proofs.Common.{ℕ, ◌≡◌, ◌≤◌, ap, refl, ◌∙◌, subst, sym}
 use Rattle.s66_model.specs.Ledger.{Claim, Claimed}
 use Rattle.s66_model.specs.Accounts.{Passbook, after_event, after_reading}
 use Rattle.s66_ledger.specs.Claims.{claimed_node}

@@ -1,0 +1,128 @@
+use Rattle.std.proofs.Common.{ℕ, ◌≡◌, ◌≤◌, ◌+◌, ap, refl, ◌∙◌, subst, sym, arith}
+use Rattle.s66_isa.specs.Lists.{weigh}
+use Rattle.s66_model.specs.Ledger.{Taken, Claim, Claimed}
+use Rattle.s66_model.specs.Accounts.{Passbook, after_event, after_reading}
+use Rattle.s66_ledger.specs.Claims.{claimed_node}
+use Rattle.s66_ledger.specs.Grafts.{IsGraftAt, IsRefusedGraftAt}
+use Rattle.s66_ledger.specs.Ledgers.{LedgerOf, account_summary}
+use Rattle.s66_pool.specs.Tokens.{book}
+use Rattle.s66_pool.specs.Views.{renewed}
+use Rattle.s66_pool.specs.Hubs.{SeatOf}
+use Rattle.s66_pool.proofs.Events.{number_within, renewed-agrees, follows-at, gave-book, gave-opened}
+use Rattle.s66_pool.proofs.AfterCalls.{seat-keeps, seat-reads, grafted, graft-refused, account-within, first-grafted, then-refused, then-claimed}
+use Rattle.s66_pool.proofs.hub.Hub.graft_and_claim.Goals as goal
+
+pub graft_at-requires-clause-worker : goal.graft_at-requires-clause-worker
+graft_at-requires-clause-worker g c =
+    let at : c.deref_mut.result.now ≡ c.take-ledger.result.value = c.deref_mut.ensures.value in
+    let within = number_within c.take-ledger.result.value (book c.seat.inside.token) c.seat.inside.number c.take-ledger.ensures.agrees c.seat.invariant.1 in
+    subst (λ (l : LedgerOf). (1 ≤ c.seat.inside.number) × (c.seat.inside.number ≤ l.workers)) (sym at) within
+
+pub give-requires-clause-follows : goal.give-requires-clause-follows
+give-requires-clause-follows g c =
+    let p = book c.seat.inside.token in
+    let s : SeatOf = record { hub = c.seat.inside.token.table_id; book = p } in
+    let after : SeatOf = record { hub = c.seat.inside.token.table_id; book = renewed (account_summary c.graft_at.new.self) p p.least } in
+    let call = graft-refused c.take-ledger.result.value c.deref_mut.result.now c.graft_at.new.self c.deref_mut.ensures.value p c.seat.inside.number c.seat.invariant.1 c.take-ledger.ensures.agrees
+    c.args.ticket c.args.piece s after refl refl refl c.in-Err.why (subst (λ i. IsRefusedGraftAt c.deref_mut.result.now c.seat.inside.number i c.args.piece c.in-Err.why c.graft_at.new.self) c.node.ensures c.in-Err.ensures.refused) in
+    follows-at c.take-ledger.new.token.me (account_summary c.take-ledger.result.value) p c.take-ledger.ensures.holding (account_summary c.graft_at.new.self) call.0.0
+
+pub invariant_of-seat : goal.invariant_of-seat
+invariant_of-seat g c =
+    let p = book c.seat.inside.token in
+    let s : SeatOf = record { hub = c.seat.inside.token.table_id; book = p } in
+    let after : SeatOf = record { hub = c.seat.inside.token.table_id; book = renewed (account_summary c.graft_at.new.self) p p.least } in
+    let call = graft-refused c.take-ledger.result.value c.deref_mut.result.now c.graft_at.new.self c.deref_mut.ensures.value p c.seat.inside.number c.seat.invariant.1 c.take-ledger.ensures.agrees
+    c.args.ticket c.args.piece s after refl refl refl c.in-Err.why (subst (λ i. IsRefusedGraftAt c.deref_mut.result.now c.seat.inside.number i c.args.piece c.in-Err.why c.graft_at.new.self) c.node.ensures c.in-Err.ensures.refused) in
+    seat-keeps c.take-ledger.new.token.me (account_summary c.take-ledger.result.value) p c.take-ledger.ensures.holding (account_summary c.graft_at.new.self) c.give.new.token.me c.give.ensures.resting c.seat.inside.number
+    c.seat.inside.splits c.seat.invariant.1 (call.0.1 ∙ c.seat.invariant.2)
+
+pub returns-in-Err-clause-refused : goal.returns-in-Err-clause-refused
+returns-in-Err-clause-refused g c =
+    let p = book c.seat.inside.token in
+    let now : SeatOf = record { hub = c.give.new.token.table_id; book = book c.give.new.token } in
+    let gave = gave-book c.take-ledger.new.token.me (account_summary c.take-ledger.result.value) p c.take-ledger.ensures.holding (account_summary c.graft_at.new.self) c.give.new.token.me c.give.ensures.resting in
+    (graft-refused c.take-ledger.result.value c.deref_mut.result.now c.graft_at.new.self c.deref_mut.ensures.value p c.seat.inside.number c.seat.invariant.1 c.take-ledger.ensures.agrees c.args.ticket c.args.piece
+    c.args.seat.now now (ap (λ (t : SeatOf). t.book) c.seat.view_is) gave (c.give.ensures.here ∙ c.take-ledger.ensures.here ∙ ap (λ (t : SeatOf). t.hub) c.seat.view_is) c.in-Err.why (subst (λ i. IsRefusedGraftAt c.deref_mut.result.now c.seat.inside.number i c.args.piece c.in-Err.why c.graft_at.new.self) c.node.ensures c.in-Err.ensures.refused)).1
+
+pub overflow_add-seat : goal.overflow_add-seat
+overflow_add-seat g c =
+    let p = book c.seat.inside.token in
+    let s : SeatOf = record { hub = c.seat.inside.token.table_id; book = p } in
+    let after : SeatOf = record { hub = c.seat.inside.token.table_id; book = renewed (account_summary c.graft_at.new.self) p p.least } in
+    let call = grafted c.take-ledger.result.value c.deref_mut.result.now c.graft_at.new.self c.deref_mut.ensures.value p c.seat.inside.number c.seat.invariant.1 c.take-ledger.ensures.agrees
+    c.args.ticket c.args.piece s after refl refl refl (subst (λ i. IsGraftAt c.deref_mut.result.now c.seat.inside.number i c.args.piece Taken c.graft_at.new.self) c.node.ensures c.in_default-graft_at.ensures.ok) in
+    let agrees = c.take-ledger.ensures.agrees in
+    let worker = agrees.worker in
+    let workers = call.0.0.search.workers in
+    let now : c.deref.result.now ≡ c.graft_at.new.self = c.deref.ensures in
+    omega (
+      arith,
+      call.0.1,
+      account-within (account_summary c.graft_at.new.self) p.who worker.0 (omega (arith, worker.1, workers)),
+      c.splits-spent.ensures.accounts,
+      c.splits-spent.ensures.value,
+      ap (λ (l : LedgerOf). weigh (λ a. a.splits) (account_summary l).accounts) now,
+      c.seat.invariant.2,
+      c.splits-added.ensures,
+    )
+
+pub claim-requires : goal.claim-requires
+claim-requires g c =
+    let p = book c.seat.inside.token in
+    let s : SeatOf = record { hub = c.seat.inside.token.table_id; book = p } in
+    let after : SeatOf = record { hub = c.seat.inside.token.table_id; book = renewed (account_summary c.graft_at.new.self) p p.least } in
+    let call = grafted c.take-ledger.result.value c.deref_mut.result.now c.graft_at.new.self c.deref_mut.ensures.value p c.seat.inside.number c.seat.invariant.1 c.take-ledger.ensures.agrees
+    c.args.ticket c.args.piece s after refl refl refl (subst (λ i. IsGraftAt c.deref_mut.result.now c.seat.inside.number i c.args.piece Taken c.graft_at.new.self) c.node.ensures c.in_default-graft_at.ensures.ok) in
+    let at : c.deref_mut-2.result.now ≡ c.graft_at.new.self = c.deref_mut-2.ensures.value in
+    let within = number_within c.graft_at.new.self after.book c.seat.inside.number (renewed-agrees (account_summary c.take-ledger.result.value) (account_summary c.graft_at.new.self) p c.take-ledger.ensures.agrees call.0.0) c.seat.invariant.1 in
+    subst (λ (l : LedgerOf). (1 ≤ c.seat.inside.number) × (c.seat.inside.number ≤ l.workers)) (sym at) within
+
+pub give-requires-in_default-claim-clause-follows : goal.give-requires-in_default-claim-clause-follows
+give-requires-in_default-claim-clause-follows g c =
+    let p = book c.seat.inside.token in
+    let call = then-refused c.take-ledger.result.value c.deref_mut.result.now c.graft_at.new.self c.deref_mut.ensures.value c.deref_mut-2.result.now c.claim.new.self c.deref_mut-2.ensures.value p c.seat.inside.number c.seat.invariant.1 c.take-ledger.ensures.agrees c.seat.inside.token.table_id c.args.ticket c.args.piece (subst (λ i. IsGraftAt c.deref_mut.result.now c.seat.inside.number i c.args.piece Taken c.graft_at.new.self) c.node.ensures c.in_default-graft_at.ensures.ok) c.in_default-claim.ensures.err in
+    follows-at c.take-ledger.new.token.me (account_summary c.take-ledger.result.value) p c.take-ledger.ensures.holding (account_summary c.claim.new.self) call.0.0
+
+pub invariant_of-seat-in_default-claim : goal.invariant_of-seat-in_default-claim
+invariant_of-seat-in_default-claim g c =
+    let p = book c.seat.inside.token in
+    let call = then-refused c.take-ledger.result.value c.deref_mut.result.now c.graft_at.new.self c.deref_mut.ensures.value c.deref_mut-2.result.now c.claim.new.self c.deref_mut-2.ensures.value p c.seat.inside.number c.seat.invariant.1 c.take-ledger.ensures.agrees c.seat.inside.token.table_id c.args.ticket c.args.piece (subst (λ i. IsGraftAt c.deref_mut.result.now c.seat.inside.number i c.args.piece Taken c.graft_at.new.self) c.node.ensures c.in_default-graft_at.ensures.ok) c.in_default-claim.ensures.err in
+    seat-keeps c.take-ledger.new.token.me (account_summary c.take-ledger.result.value) p c.take-ledger.ensures.holding (account_summary c.claim.new.self) c.give-in_default-claim.new.token.me c.give-in_default-claim.ensures.resting c.seat.inside.number
+    (c.seat.inside.splits + c.splits-added.result) c.seat.invariant.1 (omega (arith, call.0.1, c.seat.invariant.2, c.splits-added.ensures))
+
+pub returns-in_default-claim-clause-unclaimed : goal.returns-in_default-claim-clause-unclaimed
+returns-in_default-claim-clause-unclaimed g c =
+    let p = book c.seat.inside.token in
+    let call = then-refused c.take-ledger.result.value c.deref_mut.result.now c.graft_at.new.self c.deref_mut.ensures.value c.deref_mut-2.result.now c.claim.new.self c.deref_mut-2.ensures.value p c.seat.inside.number c.seat.invariant.1 c.take-ledger.ensures.agrees c.seat.inside.token.table_id c.args.ticket c.args.piece (subst (λ i. IsGraftAt c.deref_mut.result.now c.seat.inside.number i c.args.piece Taken c.graft_at.new.self) c.node.ensures c.in_default-graft_at.ensures.ok) c.in_default-claim.ensures.err in
+    let gave = gave-book c.take-ledger.new.token.me (account_summary c.take-ledger.result.value) p c.take-ledger.ensures.holding (account_summary c.claim.new.self) c.give-in_default-claim.new.token.me c.give-in_default-claim.ensures.resting in
+    let (event, of, is) = (first-grafted c.take-ledger.result.value c.deref_mut.result.now c.graft_at.new.self c.deref_mut.ensures.value c.deref_mut-2.result.now c.claim.new.self c.deref_mut-2.ensures.value p c.seat.inside.number c.seat.invariant.1 c.take-ledger.ensures.agrees c.seat.inside.token.table_id c.args.ticket c.args.piece (subst (λ i. IsGraftAt c.deref_mut.result.now c.seat.inside.number i c.args.piece Taken c.graft_at.new.self) c.node.ensures c.in_default-graft_at.ensures.ok) c.args.seat.now (ap (λ (t : SeatOf). t.book) c.seat.view_is)).1 in
+    (event, of, gave ∙ (call.1 ∙ is))
+
+pub give_read-requires-clause-follows : goal.give_read-requires-clause-follows
+give_read-requires-clause-follows g c =
+    let p = book c.seat.inside.token in
+    let call = then-claimed c.take-ledger.result.value c.deref_mut.result.now c.graft_at.new.self c.deref_mut.ensures.value c.deref_mut-2.result.now c.claim.new.self c.deref_mut-2.ensures.value p c.seat.inside.number c.seat.invariant.1 c.take-ledger.ensures.agrees c.seat.inside.token.table_id c.args.ticket c.args.piece (subst (λ i. IsGraftAt c.deref_mut.result.now c.seat.inside.number i c.args.piece Taken c.graft_at.new.self) c.node.ensures c.in_default-graft_at.ensures.ok) (claimed_node c.in-Ok-claim.next) c.in-Ok-claim.ensures.ok in
+    follows-at c.take-ledger.new.token.me (account_summary c.take-ledger.result.value) p c.take-ledger.ensures.holding (account_summary c.claim.new.self) call.0
+
+pub invariant_of-seat-2 : goal.invariant_of-seat-2
+invariant_of-seat-2 g c =
+    let p = book c.seat.inside.token in
+    let call = then-claimed c.take-ledger.result.value c.deref_mut.result.now c.graft_at.new.self c.deref_mut.ensures.value c.deref_mut-2.result.now c.claim.new.self c.deref_mut-2.ensures.value p c.seat.inside.number c.seat.invariant.1 c.take-ledger.ensures.agrees c.seat.inside.token.table_id c.args.ticket c.args.piece (subst (λ i. IsGraftAt c.deref_mut.result.now c.seat.inside.number i c.args.piece Taken c.graft_at.new.self) c.node.ensures c.in_default-graft_at.ensures.ok) (claimed_node c.in-Ok-claim.next) c.in-Ok-claim.ensures.ok in
+    seat-reads c.take-ledger.new.token.me (account_summary c.take-ledger.result.value) p c.take-ledger.ensures.holding (account_summary c.claim.new.self) c.give_read.new.token.me c.give_read.ensures.resting c.seat.inside.number
+    (c.seat.inside.splits + c.splits-added.result) c.seat.invariant.1 (omega (arith, call.1, c.seat.invariant.2, c.splits-added.ensures))
+
+pub returns-clause-ok : goal.returns-clause-ok
+returns-clause-ok g c =
+    let p = book c.seat.inside.token in
+    let call = then-claimed c.take-ledger.result.value c.deref_mut.result.now c.graft_at.new.self c.deref_mut.ensures.value c.deref_mut-2.result.now c.claim.new.self c.deref_mut-2.ensures.value p c.seat.inside.number c.seat.invariant.1 c.take-ledger.ensures.agrees c.seat.inside.token.table_id c.args.ticket c.args.piece (subst (λ i. IsGraftAt c.deref_mut.result.now c.seat.inside.number i c.args.piece Taken c.graft_at.new.self) c.node.ensures c.in_default-graft_at.ensures.ok) (claimed_node c.in-Ok-claim.next) c.in-Ok-claim.ensures.ok in
+    let gave = gave-opened c.take-ledger.new.token.me (account_summary c.take-ledger.result.value) p c.take-ledger.ensures.holding (account_summary c.claim.new.self) c.give_read.new.token.me c.give_read.ensures.resting in
+    let between : Passbook = renewed (account_summary c.graft_at.new.self) p p.least in
+    let event = Claimed (claimed_node c.in-Ok-claim.next) in (
+      record { hub = c.args.seat.now.hub; book = between },
+      (first-grafted c.take-ledger.result.value c.deref_mut.result.now c.graft_at.new.self c.deref_mut.ensures.value c.deref_mut-2.result.now c.claim.new.self c.deref_mut-2.ensures.value p c.seat.inside.number c.seat.invariant.1 c.take-ledger.ensures.agrees c.seat.inside.token.table_id c.args.ticket c.args.piece (subst (λ i. IsGraftAt c.deref_mut.result.now c.seat.inside.number i c.args.piece Taken c.graft_at.new.self) c.node.ensures c.in_default-graft_at.ensures.ok) c.args.seat.now (ap (λ (t : SeatOf). t.book) c.seat.view_is)).1,
+      gave ∙ (call.2 ∙ ap (λ (n : ℕ). after_reading (after_event between (Claim between.who) event) n) (sym best_is)),
+    )
+  where
+    best_is : ◌≡◌ {A = ℕ} c.best.result (account_summary c.claim.new.self).best
+    best_is = c.best.ensures.value ∙ ap (λ (l : LedgerOf). (account_summary l).best) c.deref-2.ensures
