@@ -19,7 +19,7 @@ line_byte (line.Split numbers) = SPLIT + length (numbers_in numbers)
 line_byte (line.Leaf value) = LEAF
 line_byte (line.Frontier value) = FRONTIER
 
--- the line of this byte: its prefix carries its floor, stays open, or is split into so many, whose numbers stand open as 0
+-- the line of this byte: its prefix carries its floor, stays open, or is split into so many children, whose numbers are yet unknown, and 0 here
 abbrev pub told_line : ℕ → Knot Bool
 told_line byte =
     if byte == LEAF then AtTip true else if byte == FRONTIER then AtTip false else AtSplit (replicate (byte - SPLIT) 0)
@@ -35,7 +35,7 @@ abbrev pub outline_tip : Problem → List ℕ → Bool → Tip
 outline_tip b prefix true = Carries (floor b prefix)
 outline_tip b prefix false = Frontier
 
--- each split goes on with the ready numbers: here those of the children under these, of which each has a tree
+-- the trees of the children with these last numbers; each split below goes on with the ready numbers of its own prefix
 abbrev pub outline_kids : Problem → List ℕ → List ℕ → Kids Bool → Kids Tip
 outline_kids b prefix [] kids = NoMore
 outline_kids b prefix (n ∷ ns) NoMore = NoMore
@@ -44,6 +44,7 @@ outline_kids b prefix (n ∷ ns) (Split numbers sub kids) =
     let below = prefix ++ n ∷ [] in
     Split (ready b.block below) (outline_kids b below (ready b.block below) sub) (outline_kids b prefix ns kids)
 
+-- the tree over this prefix; so does its own split
 abbrev pub with_ready : Problem → List ℕ → Tree Bool → Tree Tip
 with_ready b prefix (Alone leaf) = Alone (outline_tip b prefix leaf)
 with_ready b prefix (Parted numbers kids) = Parted (ready b.block prefix) (outline_kids b prefix (ready b.block prefix) kids)

@@ -134,7 +134,7 @@ weaker-err (Err e) P Q f h = f e h
 module _ (l old between : LedgerOf) (e : old ≡ l) (now new : LedgerOf) (same : now ≡ between) (p : Passbook) (number : ℕ) (who : p.who ≡ number) (agrees : Agrees (account_summary l) p)
     (hub : TableId) (t : TicketOf) (piece : PieceOf) (h : IsGraftAt old number t.node piece model.Taken between) where
   -- the worker's passbook between them
-  abbrev pub middle : Passbook
+  abbrev middle : Passbook
   middle = renewed (account_summary between) p p.least
 
   pub first-grafted : (s : SeatOf) → p ≡ s.book → Keeps l between p (p.account.splits + splits (tree_of piece)) × HasGrafted s t piece model.Taken (record { hub = s.hub; book = middle })
@@ -143,7 +143,7 @@ module _ (l old between : LedgerOf) (e : old ≡ l) (now new : LedgerOf) (same :
   keeps : Keeps l between p (p.account.splits + splits (tree_of piece))
   keeps = (first-grafted (record { hub = hub; book = p }) refl).0
 
-  pub middle-agrees : Agrees (account_summary between) middle
+  middle-agrees : Agrees (account_summary between) middle
   middle-agrees = renewed-agrees (account_summary l) (account_summary between) p agrees keeps.0
 
   pub then-refused : new ≡ now → Keeps l new p (p.account.splits + splits (tree_of piece)) × (renewed (account_summary new) p p.least ≡ middle)

@@ -12,7 +12,8 @@ use s66_time::Timed;
 use std::alloc::{AllocError, Global};
 use std::sync::Wait;
 
-/// What a graft makes of a piece before it takes the lock: the piece's nodes, and what the history keeps of it.
+/// What a graft makes of a piece before it takes the lock: the piece's nodes, and what the history keeps of it. `Err` is want of
+/// memory.
 fn prepared(alloc: Global, piece: &Piece) -> Result<(Subtree, Outline), AllocError>
     ensures subtree { IfOk result (λ r. IsSubtreeOf piece.now r.0) }
     ensures outline { IfOk result (λ r. IsOutlineOf piece.now r.1) }
@@ -94,7 +95,8 @@ impl<'a> Hub<'a> {
     }
 
     /// Grafts a piece as `graft` does, and where it is taken, claims and reads as `claim_and_read` does, in one turn at the lock. The
-    /// inner `Err` is want of memory for the claim.
+    /// outer `Err` hands ticket and piece back, and nothing is claimed; the inner one is want of memory for the claim, and the piece
+    /// stays grafted.
     pub fn graft_and_claim<R: Wait>(
         &self,
         rt: &R,

@@ -59,7 +59,7 @@ trait Task<T> {
         ensures { changes self.now at.old at.new };
 }
 
-/// A worker's rounds at a seat.
+/// A worker's steps at a seat.
 #[derive(Drop)]
 struct SeatWork<'s, 'a, R, G> {
     site: Site<'s, 'a, R, G>,

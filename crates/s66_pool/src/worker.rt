@@ -25,7 +25,7 @@ pub(crate) struct Site<'s, 'a, R, G> {
     pub searching: AtomicUsize,
 }
 
-/// A worker of a search, with what it keeps from round to round. Times are in minor cycles.
+/// A worker of a search, with what it keeps from step to step. Times are in minor cycles.
 #[derive(Drop)]
 struct Worker<'b> {
     walk: Walk<'b>,
@@ -230,7 +230,8 @@ impl<'b> Worker<'b> {
         }
     }
 
-    /// Counts a piece that was grafted, offers a list schedule where it is time, and goes on with the next step.
+    /// Counts a piece that was grafted, and offers a list schedule where it is time; then comes the next step. Where memory is refused
+    /// the worker ends, and gives back what it has claimed.
     fn end_round<'a, R: Wait, G: Gate>(
         &mut self,
         site: &Site<'_, 'a, R, G>,
