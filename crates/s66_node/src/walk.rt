@@ -114,7 +114,7 @@ impl<'a> Walk<'a> {
     }
 
     /// Goes to another prefix as `go_to` does, if it is a beginning, and tells whether it is; else it stops on the way. Each push
-    /// comes after one look at what is ready.
+    /// comes after a look at whether its number is ready.
     pub fn try_go_to(&mut self, prefix: &[u8]) -> bool
         ensures same { self.new.problem ≡ self.old.problem }
         ensures begins { IsTrue result ↔ IsBeginning self.old.problem.block prefix.now }
@@ -122,7 +122,7 @@ impl<'a> Walk<'a> {
     {
         let common = self.go_back(prefix);
         for position in common..prefix.len() {
-            if !self.ready().has(prefix[position]) {
+            if !self.is_ready(prefix[position]) {
                 return false;
             }
             self.push(prefix[position]);
@@ -181,9 +181,11 @@ impl<'a> Walk<'a> {
 
     /// Whether a number is ready after the prefix, in constant time.
     fn is_ready(&self, n: u8) -> bool
-        requires { (1 ≤ n) × (n ≤ length self.now.problem.block) }
         ensures { result ≡ is_ready self.now.problem.block self.now.numbers n }
     {
+        if n == 0 || self.clock.block().count() < n as usize {
+            return false;
+        }
         let pushed = self.clock.pushed();
         if pushed.has(n) {
             return false;

@@ -5,10 +5,6 @@ use Rattle.s66_line.specs.Block.{instrs_of}
 use Rattle.s66_node.specs.Walked.{Walked}
 use Rattle.s66_node.proofs.walk.Walk.next_ready.Goals as goal
 
-pub is_ready-requires : goal.is_ready-requires
-is_ready-requires c =
-    (omega arith, omega (arith, c.loop-number-test.true, c.count-count.ensures.value, ap (λ block. length (instrs_of block)) c.block.ensures, ap (λ (x : Walked). length x.problem.block) c.self.view_is))
-
 pub returns-then-is_ready : goal.returns-then-is_ready
 returns-then-is_ready c =
     let w = c.args.self.now in

@@ -1,29 +1,25 @@
 use Rattle.std.proofs.Common.{◌≡◌, true, false, [], ◌∷◌, ◌++◌, ap, sym, subst, get_or, take, arith, ◌∙◌}
 use Rattle.std.proofs.lemmas.Bool.{true≢false}
 use Rattle.std.proofs.lemmas.List.{take_more}
-use Rattle.s66_isa.specs.Lists.{has}
 use Rattle.s66_model.specs.LegalOrder.{IsBeginning, is_ready}
 use Rattle.s66_model.proofs.Remaining.{step-begins}
-use Rattle.s66_dep.proofs.Readiness.{has-ready}
 use Rattle.s66_node.specs.Walked.{Walked}
 use Rattle.s66_node.proofs.Standing.{ready-at}
 use Rattle.s66_node.proofs.walk.Walk.try_go_to.Goals as goal
 
-pub returns-then-not-has-clause-begins : goal.returns-then-not-has-clause-begins
-returns-then-not-has-clause-begins c =
+pub returns-then-not-is_ready-clause-begins : goal.returns-then-not-is_ready-clause-begins
+returns-then-not-is_ready-clause-begins c =
     let w = c.loop-position.self in
     let block = c.args.self.now.problem.block in
     let ns = c.args.prefix.now in
     let i = c.loop-position.position in
     let n = get_or ns i 0 in
-    let off : is_ready w.problem.block w.numbers n ≡ false = sym (c.has.ensures ∙ (ap (has n) c.ready.ensures ∙ has-ready w.problem.block w.numbers n)) ∙ c.if-not-has.true in
+    let off : is_ready w.problem.block w.numbers n ≡ false = sym c.is_ready.ensures ∙ c.if-not-is_ready.true in
     (λ is. absurd (true≢false (sym is)), λ h. absurd (true≢false (sym (ready-at block ns i h (omega arith)) ∙ subst (λ (x : Walked). is_ready x.problem.block x.numbers n ≡ false) c.loop-position.invariant.front off)))
 
 pub push-requires : goal.push-requires
 push-requires c =
-    let w = c.loop-position.self in
-    let n = get_or c.args.prefix.now c.loop-position.position 0 in
-    sym (c.has.ensures ∙ (ap (has n) c.ready.ensures ∙ has-ready w.problem.block w.numbers n)) ∙ c.if-not-has.false
+    sym c.is_ready.ensures ∙ c.if-not-is_ready.false
 
 pub loop-position-preserved : goal.loop-position-preserved
 loop-position-preserved c =
@@ -32,7 +28,7 @@ loop-position-preserved c =
     let ns = c.args.prefix.now in
     let i = c.loop-position.position in
     let n = get_or ns i 0 in
-    let on : is_ready w.problem.block w.numbers n ≡ true = sym (c.has.ensures ∙ (ap (has n) c.ready.ensures ∙ has-ready w.problem.block w.numbers n)) ∙ c.if-not-has.false in
+    let on : is_ready w.problem.block w.numbers n ≡ true = sym c.is_ready.ensures ∙ c.if-not-is_ready.false in
     let here : is_ready block (take i ns) n ≡ true = subst (λ (x : Walked). is_ready x.problem.block x.numbers n ≡ true) c.loop-position.invariant.front on in
     let more = take_more ns i 0 (omega arith) in
     record {
