@@ -1,10 +1,11 @@
 -- To be believed: what contracts see of a ledger with its history, and what one call of it is. Used by an invariant: what is true of every ledger.
-use Rattle.std.specs.Prelude.{ℕ, ◌≡◌, List, [], ◌∷◌, ◌++◌, map}
+use Rattle.std.specs.Prelude.{ℕ, ◌≡◌, List, [], ◌∷◌, ◌++◌, length}
+use Rattle.s66_isa.specs.Lists.{weigh}
 use Rattle.s66_model.specs.Timing.{Problem}
 use Rattle.s66_model.specs.Ledger.{Ledger, Event, Reply, Step, Run, opening}
 use Rattle.s66_model.specs.Accounts.{Summary, summary_of}
 use Rattle.s66_ledger.specs.declared.entry.Entry.{Entry}
-use Rattle.s66_ledger.specs.Entries.{entry_of}
+use Rattle.s66_ledger.specs.Entries.{byte_count, entries_of}
 use Rattle.s66_ledger.specs.Kept.{MachineOf}
 
 -- a problem's ledger, for a budget and so many workers
@@ -14,11 +15,13 @@ pub record LedgerOf : Type 0 where
   pub workers : ℕ
   pub state : Ledger
   -- an entry for each event, the oldest first
-  pub history : List Entry
+  pub entries : List Entry
+  -- the bytes of the entries, one's after another's
+  pub bytes : List ℕ
 
 -- the events of its history, with their replies
 abbrev pub events_of : LedgerOf → List (Event × Reply)
-events_of l = map (entry_of l.problem) l.history
+events_of l = entries_of l.problem l.entries l.bytes
 
 -- one event with its reply: a step of the machine, and an entry
 abbrev pub IsEvent : LedgerOf → Event → Reply → LedgerOf → Type 0
@@ -26,13 +29,15 @@ IsEvent old event reply new =
     (new.problem ≡ old.problem) × (new.budget ≡ old.budget) × (new.workers ≡ old.workers)
     × Step old.problem old.state event reply new.state × (events_of new ≡ events_of old ++ (event, reply) ∷ [])
 
--- its history leads from the opening to its state
-abbrev pub IsRecorded : LedgerOf → Type 0
-IsRecorded l = Run l.problem (opening l.problem l.budget l.workers) (events_of l) l.state
+-- its history leads from the opening to its state, and each of its bytes is some entry's
+pub record IsRecorded (l : LedgerOf) : Type 0 where
+  pub run : Run l.problem (opening l.problem l.budget l.workers) (events_of l) l.state
+  pub bytes : weigh byte_count l.entries ≡ length l.bytes
 
 -- what the rule of a lock reads of it
 abbrev pub account_summary : LedgerOf → Summary
 account_summary l = summary_of l.problem l.budget l.workers (events_of l) l.state
 
-abbrev pub with_history : MachineOf → List Entry → LedgerOf
-with_history m history = record { problem = m.problem; budget = m.budget; workers = m.workers; state = m.state; history = history }
+abbrev pub with_history : MachineOf → List Entry → List ℕ → LedgerOf
+with_history m entries bytes =
+    record { problem = m.problem; budget = m.budget; workers = m.workers; state = m.state; entries = entries; bytes = bytes }

@@ -3,10 +3,11 @@ ghost use Rattle.s66_ledger.specs.Entries.{error_of};
 ghost use Rattle.s66_ledger.specs.declared.reply.GraftError.TheVariants as error;
 
 use crate::reply::{GraftError, Offered};
-use s66_node::Outline;
 
 /// What a ledger's history has of one event, with its reply. Workers count from 1, nodes from 0; times are in minor cycles.
-#[derive(Debug, Drop)]
+///
+/// Some entries have bytes of the history besides, and tell how many.
+#[derive(Clone, Copy, Debug, PartialEq, Eq)]
 pub enum Entry {
     /// So many splits of the budget went to the worker.
     Grant {
@@ -18,27 +19,30 @@ pub enum Entry {
         w: u8,
         node: Option<u32>,
     },
-    /// A piece was put in the place of the node: its prefix and its tree, and how many splits it has.
+    /// A piece of so many splits was put in the place of the node. The bytes are those of its outline, of this depth.
     Taken {
         w: u8,
         node: u32,
-        outline: Outline,
+        depth: u8,
+        bytes: u32,
         splits: u32,
     },
-    /// A piece was refused; `own` tells whether it is of the ledger's block and profile.
+    /// A piece of so many splits was refused; `own` tells whether it is of the ledger's block and profile. The bytes are the `depth`
+    /// numbers of its prefix.
     Refused {
         w: u8,
         node: u32,
         own: bool,
-        prefix: Vec<u8>,
+        depth: u8,
         splits: u32,
         why: Refusal,
     },
-    /// An order of this time was offered; `own` tells whether it is of the ledger's block and profile.
+    /// An order of this time was offered; `own` tells whether it is of the ledger's block and profile. The bytes are its `count`
+    /// numbers.
     Offer {
         w: u8,
         own: bool,
-        order: Vec<u8>,
+        count: u8,
         time: u32,
         offered: Offered,
     },

@@ -1,6 +1,9 @@
+ghost use Rattle.std.specs.Prelude.{◌≡◌, ◌++◌, length, IfOk, OnOk, OnErr};
+
 use crate::answer::Answer;
 use crate::entry::{Entry, refusal_of};
-use crate::limits::BUDGET_LIMIT;
+use crate::history::History;
+use crate::limits::{BUDGET_LIMIT, LINES_LIMIT};
 use crate::machine::Machine;
 use crate::reply::{BackError, GraftError, Offered};
 use crate::subtree::Subtree;
@@ -16,8 +19,7 @@ use std::marker::Model;
 #[derive(Drop)]
 pub struct Ledger<'a> {
     machine: Machine<'a>,
-    /// An entry for each event, the oldest first.
-    history: Vec<Entry>,
+    history: History,
     pub(crate) alloc: Global,
 }
 
@@ -26,9 +28,24 @@ impl<'a> Model for Ledger<'a> {
 
     ghost Value = { LedgerOf };
 
-    ghost view = { λ l. with_history l.machine l.history.items };
+    ghost view = { λ l. with_history l.machine l.history.entries.items l.history.bytes.items };
 
-    ghost invariant = { λ l. IsRecorded (with_history l.machine l.history.items) };
+    ghost invariant = { λ l. IsRecorded (with_history l.machine l.history.entries.items l.history.bytes.items) };
+}
+
+/// Puts an outline's bytes behind those that are kept, and tells how many they are. `Err` is want of memory; an outline of `LINES_LIMIT`
+/// bytes or more gets it in any case.
+fn keep_outline(bytes: &mut Vec<u8>, outline: &Outline) -> Result<u32, AllocError>
+    ensures count { IfOk result (λ n. n ≡ length outline.now.bytes.items) }
+    ensures ok { OnOk result (bytes.new.items ≡ bytes.old.items ++ outline.now.bytes.items) }
+    ensures err { OnErr result (bytes.new.items ≡ bytes.old.items) }
+{
+    let count = outline.bytes.len();
+    if LINES_LIMIT <= count {
+        return Err(AllocError);
+    }
+    bytes.extend_from_slice(outline.bytes.as_slice())?;
+    Ok(count as u32)
 }
 
 impl<'a> Ledger<'a> {
@@ -65,11 +82,11 @@ impl<'a> Ledger<'a> {
         ensures budget { IfOk result (λ l. l.budget ≡ budget) }
         ensures workers { IfOk result (λ l. l.workers ≡ workers) }
         ensures state { IfOk result (λ l. l.state ≡ opening l.problem budget workers) }
-        ensures history { IfOk result (λ l. l.history ≡ []) }
+        ensures history { IfOk result (λ l. (l.entries ≡ []) × (l.bytes ≡ [])) }
     {
         Ok(Ledger {
             machine: Machine::new(alloc, block, profile, budget, workers)?,
-            history: Vec::new(alloc),
+            history: History::new(alloc),
             alloc,
         })
     }
@@ -103,12 +120,13 @@ impl<'a> Ledger<'a> {
         self.machine.workers()
     }
 
-    /// An entry for each event, the oldest first: its events lead from the opening to the ledger as it is.
-    pub fn history(&self) -> &[Entry]
-        ensures value { result.now ≡ self.now.history }
+    /// What is kept of the events, which lead from the opening to the ledger as it is.
+    pub fn history(&self) -> &History
+        ensures entries { result.now.entries.items ≡ self.now.entries }
+        ensures bytes { result.now.bytes.items ≡ self.now.bytes }
         ensures run { Run self.now.problem (opening self.now.problem self.now.budget self.now.workers) (events_of self.now) self.now.state }
     {
-        self.history.as_slice()
+        &self.history
     }
 
     /// How many splits are spent, which is what the accounts of the workers add up to.
@@ -152,9 +170,11 @@ impl<'a> Ledger<'a> {
         ensures ok { IfOk result (λ n. IsEvent self.old (Grant w) (Granted n) self.new) }
         ensures err { OnErr result (self.new ≡ self.old) }
     {
-        self.history.reserve(1)?;
+        self.history.entries.reserve(1)?;
         let splits = self.machine.grant(w);
-        self.history.push_reserved(Entry::Grant { w, splits });
+        self.history
+            .entries
+            .push_reserved(Entry::Grant { w, splits });
         Ok(splits)
     }
 
@@ -164,9 +184,9 @@ impl<'a> Ledger<'a> {
         ensures ok { OnOk result (IsEvent self.old (Retire w) Retired self.new) }
         ensures err { OnErr result (self.new ≡ self.old) }
     {
-        self.history.reserve(1)?;
+        self.history.entries.reserve(1)?;
         self.machine.retire(w);
-        self.history.push_reserved(Entry::Retire { w });
+        self.history.entries.push_reserved(Entry::Retire { w });
         Ok(())
     }
 
@@ -179,10 +199,10 @@ impl<'a> Ledger<'a> {
         ensures least { IfOk result (λ ticket. IsLeastOpen self.old.problem self.old.state ticket) }
         ensures err { OnErr result (self.new ≡ self.old) }
     {
-        self.history.reserve(1)?;
+        self.history.entries.reserve(1)?;
         let ticket = self.machine.claim(w);
         let node = node_of(&ticket);
-        self.history.push_reserved(Entry::Claim { w, node });
+        self.history.entries.push_reserved(Entry::Claim { w, node });
         Ok(ticket)
     }
 
@@ -209,12 +229,12 @@ impl<'a> Ledger<'a> {
         ensures no_memory { IfErr result (λ e. e ≡ refused.OutOfMemory → self.new ≡ self.old) }
         ensures err { OnErr result (self.new.state ≡ self.old.state) }
     {
-        let Ok(()) = self.history.reserve(1) else {
+        let Ok(()) = self.history.entries.reserve(1) else {
             return Err(BackError::OutOfMemory);
         };
         match self.machine.back(w, node) {
             Ok(()) => {
-                self.history.push_reserved(Entry::Back {
+                self.history.entries.push_reserved(Entry::Back {
                     w,
                     node,
                     returned: true,
@@ -222,7 +242,7 @@ impl<'a> Ledger<'a> {
                 Ok(())
             }
             Err(BackError::NotOut) => {
-                self.history.push_reserved(Entry::Back {
+                self.history.entries.push_reserved(Entry::Back {
                     w,
                     node,
                     returned: false,
@@ -239,14 +259,16 @@ impl<'a> Ledger<'a> {
         ensures ok { IfOk result (λ offered. (event : Event) × IsOfferOf self.old.problem w timed.problem timed.numbers event × IsEvent self.old event (offered_reply offered) self.new) }
         ensures err { OnErr result (self.new ≡ self.old) }
     {
-        let order = Vec::from_slice(self.alloc, timed.order().numbers())?;
-        self.history.reserve(1)?;
+        let numbers = timed.order().numbers();
+        let count = numbers.len() as u8;
+        self.history.entries.reserve(1)?;
+        self.history.bytes.extend_from_slice(numbers)?;
         let time = timed.total();
         let offered = self.machine.offer(w, timed);
-        self.history.push_reserved(Entry::Offer {
+        self.history.entries.push_reserved(Entry::Offer {
             w,
             own: offered.is_own(),
-            order,
+            count,
             time,
             offered,
         });
@@ -277,39 +299,44 @@ impl<'a> Ledger<'a> {
         let Ok(outline) = piece.outline(self.alloc) else {
             return Err((GraftError::OutOfMemory, ticket, piece));
         };
-        match self.graft_at(w, ticket.node(), &piece, &subtree, outline) {
+        match self.graft_at(w, ticket.node(), &piece, &subtree, &outline) {
             Ok(()) => Ok(()),
             Err(why) => Err((why, ticket, piece)),
         }
     }
 
     /// Puts a piece, whose subtree and outline come with it, in the place of the node of this number, in the time of `graft` and with
-    /// its refusals. Piece and subtree stay with the caller, who can make and drop them where no other thread waits.
+    /// its refusals. All three stay with the caller, who can make and drop them where no other thread waits.
     pub fn graft_at(
         &mut self,
         w: u8,
         node: u32,
         piece: &Piece,
         subtree: &Subtree,
-        outline: Outline,
+        outline: &Outline,
     ) -> Result<(), GraftError>
         requires worker { (1 ≤ w) × (w ≤ self.old.workers) }
         requires subtree { IsSubtreeOf piece.now subtree.now }
-        requires outline { IsOutlineOf piece.now outline }
+        requires outline { IsOutlineOf piece.now outline.now }
         ensures ok { OnOk result (IsGraftAt self.old w node piece.now Taken self.new) }
         ensures refused { IfErr result (λ why. IsRefusedGraftAt self.old w node piece.now why self.new) }
         ensures err { OnErr result (self.new.state ≡ self.old.state) }
     {
-        let Ok(()) = self.history.reserve(1) else {
+        let Ok(()) = self.history.entries.reserve(1) else {
+            return Err(GraftError::OutOfMemory);
+        };
+        let kept = self.history.bytes.len();
+        let Ok(bytes) = keep_outline(&mut self.history.bytes, outline) else {
             return Err(GraftError::OutOfMemory);
         };
         let splits = piece.splits();
         let error = match self.machine.graft(w, node, piece, subtree) {
             Ok(()) => {
-                self.history.push_reserved(Entry::Taken {
+                self.history.entries.push_reserved(Entry::Taken {
                     w,
                     node,
-                    outline,
+                    depth: outline.depth,
+                    bytes,
                     splits,
                 });
                 return Ok(());
@@ -317,14 +344,16 @@ impl<'a> Ledger<'a> {
             Err(error) => error,
         };
         let Some(why) = refusal_of(error) else {
+            self.history.bytes.truncate(kept);
             return Err(error);
         };
         let own = piece.is_of(self.machine.block(), self.machine.profile());
-        self.history.push_reserved(Entry::Refused {
+        self.history.bytes.truncate(kept + outline.depth as usize);
+        self.history.entries.push_reserved(Entry::Refused {
             w,
             node,
             own,
-            prefix: outline.into_prefix(),
+            depth: outline.depth,
             splits,
             why,
         });

@@ -4,6 +4,7 @@
 
 mod answer;
 mod entry;
+mod history;
 mod ledger;
 mod limits;
 mod lines;
@@ -24,6 +25,7 @@ mod ticket;
 
 pub use answer::Answer;
 pub use entry::{Entry, Refusal};
+pub use history::History;
 pub use ledger::Ledger;
 pub use limits::{BUDGET_LIMIT, GRANT_LIMIT, SCHEDULE_ROUNDS};
 pub use lines::{AnswerLine, AnswerLines};

@@ -91,7 +91,7 @@ impl Ledger<'_> {
     {
         let subtree = Subtree::of(self.alloc, &piece)?;
         let outline = piece.outline(self.alloc)?;
-        match self.graft_at(w, node, &piece, &subtree, outline) {
+        match self.graft_at(w, node, &piece, &subtree, &outline) {
             Ok(()) => Ok(Reply::Taken),
             Err(GraftError::NotOut) => Ok(Reply::NotOut),
             Err(GraftError::OtherPrefix) => Ok(Reply::OtherPrefix),

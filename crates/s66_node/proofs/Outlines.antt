@@ -107,11 +107,11 @@ module _ (b : Problem) where
 -- the bytes of a piece's prefix and of its lines are its outline
 pub outline-of : (p : PieceOf) (knots : List code.Knot) (outline : Outline) → seen knots ≡ p.knots → TreeHolds p.problem.block (ToldHolds p.problem) p.prefix (told_tree p) → outline.depth ≡ length p.prefix → outline.bytes.items ≡ p.prefix ++ map line_byte knots → IsOutlineOf p outline
 outline-of p knots outline lines holds depth bytes =
-    let prefix : outline_prefix outline ≡ p.prefix = rw (depth, bytes) (take-append_seam p.prefix (map line_byte knots)) in
-    let read : read_tree false (outline_lines outline) ≡ untold (told_tree p) =
+    let prefix : outline_prefix outline.depth outline.bytes.items ≡ p.prefix = rw (depth, bytes) (take-append_seam p.prefix (map line_byte knots)) in
+    let read : read_tree false (outline_lines outline.depth outline.bytes.items) ≡ untold (told_tree p) =
     rw (depth, bytes, drop-append_seam p.prefix (map line_byte knots)) (ap (read_tree false) (lines-untold knots) ∙ (ap (first_tree (Alone false)) (forest-untold (seen knots)) ∙ (first_tree-untold (forest (seen knots)) ∙ ap (λ ks. untold (read_tree (ToldFrontier 0) ks)) lines))) in
-    let tree : outline_tree p.problem outline ≡ tree_of p =
-    ap (λ at. with_ready p.problem at (read_tree false (outline_lines outline))) prefix
+    let tree : outline_tree p.problem outline.depth outline.bytes.items ≡ tree_of p =
+    ap (λ at. with_ready p.problem at (read_tree false (outline_lines outline.depth outline.bytes.items))) prefix
     ∙ (ap (with_ready p.problem p.prefix) read
     ∙ tree-untold p.problem (told_tree p) p.prefix holds) in
-    (prefix, tree)
+    (prefix, tree, depth)

@@ -24,11 +24,12 @@ abbrev pub told_line : ℕ → Knot Bool
 told_line byte =
     if byte == LEAF then AtTip true else if byte == FRONTIER then AtTip false else AtSplit (replicate (byte - SPLIT) 0)
 
-abbrev pub outline_prefix : Outline → List ℕ
-outline_prefix outline = take outline.depth outline.bytes.items
+-- of an outline's bytes, where its prefix has so many numbers
+abbrev pub outline_prefix : (depth : ℕ) → List ℕ → List ℕ
+outline_prefix depth bytes = take depth bytes
 
-abbrev pub outline_lines : Outline → List (Knot Bool)
-outline_lines outline = map told_line (drop outline.depth outline.bytes.items)
+abbrev pub outline_lines : (depth : ℕ) → List ℕ → List (Knot Bool)
+outline_lines depth bytes = map told_line (drop depth bytes)
 
 -- a prefix that isn't split carries its floor, or stands in the frontier
 abbrev pub outline_tip : Problem → List ℕ → Bool → Tip
@@ -50,9 +51,11 @@ with_ready b prefix (Alone leaf) = Alone (outline_tip b prefix leaf)
 with_ready b prefix (Parted numbers kids) = Parted (ready b.block prefix) (outline_kids b prefix (ready b.block prefix) kids)
 
 -- the tree over its prefix
-abbrev pub outline_tree : Problem → Outline → Tree Tip
-outline_tree b outline = with_ready b (outline_prefix outline) (read_tree false (outline_lines outline))
+abbrev pub outline_tree : Problem → (depth : ℕ) → List ℕ → Tree Tip
+outline_tree b depth bytes = with_ready b (outline_prefix depth bytes) (read_tree false (outline_lines depth bytes))
 
 -- it tells this piece's prefix and tree
 abbrev pub IsOutlineOf : PieceOf → Outline → Type 0
-IsOutlineOf p outline = (outline_prefix outline ≡ p.prefix) × (outline_tree p.problem outline ≡ tree_of p)
+IsOutlineOf p outline =
+    (outline_prefix outline.depth outline.bytes.items ≡ p.prefix) × (outline_tree p.problem outline.depth outline.bytes.items ≡ tree_of p)
+    × (outline.depth ≡ length p.prefix)

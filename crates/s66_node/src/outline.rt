@@ -35,20 +35,6 @@ fn line_byte(knot: &Knot) -> u8
     }
 }
 
-impl Outline {
-    ghost use Rattle.std.specs.Prelude.{◌≡◌};
-    ghost use Rattle.s66_node.specs.Outlines.{outline_prefix};
-
-    /// The prefix alone, by its numbers.
-    pub fn into_prefix(self) -> Vec<u8>
-        ensures { result.items ≡ outline_prefix self }
-    {
-        let Outline { depth, mut bytes } = self;
-        bytes.truncate(depth as usize);
-        bytes
-    }
-}
-
 impl Piece {
     /// Its prefix, and its tree without the values of its floors, in time linear in the number of its lines. `Err` is want of memory.
     pub fn outline(&self, alloc: Global) -> Result<Outline, AllocError>

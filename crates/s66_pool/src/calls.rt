@@ -117,7 +117,7 @@ impl<'a> Hub<'a> {
         };
         let added = piece.splits();
         let mut ledger = self.lock.take(rt, &mut seat.token);
-        if let Err(why) = ledger.graft_at(seat.number, ticket.node(), &piece, &subtree, outline) {
+        if let Err(why) = ledger.graft_at(seat.number, ticket.node(), &piece, &subtree, &outline) {
             self.lock.give(&mut seat.token, ledger);
             return Err((why, ticket, piece));
         }
@@ -180,7 +180,7 @@ impl<'a> Hub<'a> {
     }
 
     /// Puts a piece in the place of a node that was handed out, as `Ledger::graft` does. The piece's nodes, and what the history keeps
-    /// of it, are made before the lock is taken; ticket and piece are dropped after it is given back.
+    /// of it, are made before the lock is taken; they, ticket and piece are dropped after it is given back.
     pub fn graft<R: Wait>(
         &self,
         rt: &R,
@@ -199,7 +199,7 @@ impl<'a> Hub<'a> {
         };
         let splits = piece.splits();
         let mut ledger = self.lock.take(rt, &mut seat.token);
-        match ledger.graft_at(seat.number, ticket.node(), &piece, &subtree, outline) {
+        match ledger.graft_at(seat.number, ticket.node(), &piece, &subtree, &outline) {
             Ok(()) => {
                 // no worker has spent more than all have
                 let _spent = ledger.splits();

@@ -1,6 +1,6 @@
 //! What a hub opens with, and the seats with which it closes.
 
-ghost use Rattle.std.specs.Prelude.{ℕ, ◌≡◌, ◌≤◌, ◌==◌, ◌-◌, ◌↔◌, length, slice_index_or, IfOk, IsTrue, if◌then◌else◌};
+ghost use Rattle.std.specs.Prelude.{ℕ, [], ◌≡◌, ◌≤◌, ◌==◌, ◌-◌, ◌↔◌, length, slice_index_or, IfOk, IsTrue, if◌then◌else◌};
 ghost use Rattle.s66_isa.specs.Lists.{some_of};
 ghost use Rattle.s66_model.specs.Timing.{Problem};
 ghost use Rattle.s66_model.specs.Ledger.{worker};
@@ -16,7 +16,7 @@ use std::alloc::{AllocError, Global};
 
 /// How many splits an entry spends, if it is the worker's.
 fn splits_in(entry: &Entry, w: u8) -> u32
-    ensures { (b : Problem) → result ≡ (if worker (entry_of b entry.now).0 == w then spends (entry_of b entry.now).0 (entry_of b entry.now).1 else 0) }
+    ensures { (b : Problem) → let told = entry_of b entry.now [] in result ≡ (if worker told.0 == w then spends told.0 told.1 else 0) }
 {
     match entry {
         Entry::Taken { w: by, splits, .. } => { if *by == w { *splits } else { 0 } }
@@ -32,7 +32,7 @@ fn splits_by(ledger: &Ledger<'_>, w: u8) -> u32
     // no worker has spent more than all have
     let _spent = ledger.splits();
     let mut splits = 0;
-    for entry in ledger.history() {
+    for entry in &ledger.history().entries {
         splits += splits_in(entry, w);
     }
     splits

@@ -7,7 +7,7 @@ use s66_dep::{Order, is_beginning};
 use s66_isa::Profile;
 use s66_ledger::{Entry, Event, Ledger, Offered, Reply, Ticket};
 use s66_line::{Block, read_source};
-use s66_node::{FRONTIER, Outline, SPLIT, expand};
+use s66_node::{FRONTIER, SPLIT, expand};
 use s66_time::time_of;
 use std::process::Abort;
 use std::test::Fail;
@@ -27,54 +27,47 @@ enum Kind {
     Retire,
 }
 
-/// The entries of the search: the kind, the worker, and the splits, node or time, where there is one.
-const HISTORY: [(Kind, u8, Option<u32>); 10] = [
-    (Kind::Grant, 1, Some(BUDGET)),
-    (Kind::Claim, 1, Some(0)),
-    (Kind::Taken, 1, Some(0)),
-    (Kind::Offer, 2, Some(22)),
-    (Kind::Grant, 2, Some(0)),
-    (Kind::Claim, 2, Some(3)),
-    (Kind::Back, 2, Some(3)),
-    (Kind::Claim, 2, Some(3)),
-    (Kind::Retire, 1, None),
-    (Kind::Grant, 2, Some(BUDGET - 1)),
+/// The entries of the search: the kind, the worker, the splits, node or time, where there is one, and how many bytes it has.
+const HISTORY: [(Kind, u8, Option<u32>, u32); 10] = [
+    (Kind::Grant, 1, Some(BUDGET), 0),
+    (Kind::Claim, 1, Some(0), 0),
+    (Kind::Taken, 1, Some(0), 4),
+    (Kind::Offer, 2, Some(22), 3),
+    (Kind::Grant, 2, Some(0), 0),
+    (Kind::Claim, 2, Some(3), 0),
+    (Kind::Back, 2, Some(3), 0),
+    (Kind::Claim, 2, Some(3), 0),
+    (Kind::Retire, 1, None, 0),
+    (Kind::Grant, 2, Some(BUDGET - 1), 0),
 ];
 
+/// The bytes of the entries: a piece that splits the empty prefix into all three numbers, which stay open, and the source order.
+const BYTES: [u8; 7] = [SPLIT + 3, FRONTIER, FRONTIER, FRONTIER, 1, 2, 3];
+
 /// An entry as a row of `HISTORY` tells it.
-fn in_brief(entry: &Entry) -> (Kind, u8, Option<u32>) {
+fn in_brief(entry: &Entry) -> (Kind, u8, Option<u32>, u32) {
     match entry {
-        Entry::Grant { w, splits } => (Kind::Grant, *w, Some(*splits)),
-        Entry::Claim { w, node } => (Kind::Claim, *w, *node),
-        Entry::Taken { w, node, .. } => (Kind::Taken, *w, Some(*node)),
-        Entry::Refused { w, node, .. } => (Kind::Refused, *w, Some(*node)),
-        Entry::Offer { w, time, .. } => (Kind::Offer, *w, Some(*time)),
-        Entry::Back { w, node, .. } => (Kind::Back, *w, Some(*node)),
-        Entry::Retire { w } => (Kind::Retire, *w, None),
+        Entry::Grant { w, splits } => (Kind::Grant, *w, Some(*splits), 0),
+        Entry::Claim { w, node } => (Kind::Claim, *w, *node, 0),
+        Entry::Taken { w, node, bytes, .. } => (Kind::Taken, *w, Some(*node), *bytes),
+        Entry::Refused { w, node, depth, .. } => (Kind::Refused, *w, Some(*node), *depth as u32),
+        Entry::Offer { w, time, count, .. } => (Kind::Offer, *w, Some(*time), *count as u32),
+        Entry::Back { w, node, .. } => (Kind::Back, *w, Some(*node), 0),
+        Entry::Retire { w } => (Kind::Retire, *w, None, 0),
     }
 }
 
-/// Checks that a piece splits the empty prefix into all three numbers, which stay open.
-fn check_outline<R: Abort>(rt: &R, outline: &Outline) {
-    let bytes = [SPLIT + 3, FRONTIER, FRONTIER, FRONTIER];
-    assert_eq!(rt; outline.depth, 0);
-    assert_eq!(rt; outline.bytes.as_slice(), bytes.as_slice());
-}
-
-/// Checks that the ledger's history is `HISTORY`.
+/// Checks that the ledger's history is `HISTORY`, with these bytes.
 fn check_history<R: Abort>(rt: &R, ledger: &Ledger) {
     assert_eq!(rt; ledger.workers(), 2);
-    assert_eq!(rt; ledger.history().len(), HISTORY.len());
-    for (entry, expected) in ledger.history().iter().zip(HISTORY) {
+    let history = ledger.history();
+    assert_eq!(rt; history.bytes.as_slice(), BYTES.as_slice());
+    assert_eq!(rt; history.entries.len(), HISTORY.len());
+    for (entry, expected) in history.entries.iter().zip(HISTORY) {
         assert_eq!(rt; in_brief(entry), expected);
-        if let Entry::Taken {
-            outline,
-            splits,
-            ..
-        } = entry
-        {
+        if let Entry::Taken { depth, splits, .. } = entry {
+            assert_eq!(rt; *depth, 0);
             assert_eq!(rt; *splits, 1);
-            check_outline(rt, outline);
         }
     }
 }
@@ -225,7 +218,7 @@ fn check_steps<R: AllocGlobal + Abort>(rt: &R, block: &Block) -> Result<(), Fail
         take_step(&mut ledger, Event::Back { w: 1, node: 4 })?,
         Reply::NotOut
     );
-    assert_eq!(rt; ledger.history().len(), HISTORY.len() + 1);
+    assert_eq!(rt; ledger.history().entries.len(), HISTORY.len() + 1);
     Ok(())
 }
 

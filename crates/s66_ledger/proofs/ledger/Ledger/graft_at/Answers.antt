@@ -1,14 +1,15 @@
-use Rattle.std.proofs.Common.{◌∙◌, ap, sym, subst}
+use Rattle.std.proofs.Common.{◌∙◌, ap, sym, subst, arith}
 use Rattle.s66_line.specs.Block.{instrs_of}
 use Rattle.s66_model.specs.Timing.{Problem}
 use Rattle.s66_model.specs.Ledger.{Taken}
 use Rattle.s66_model.specs.Recorded.{IsOwn}
+use Rattle.s66_node.specs.Outlines.{outline_prefix}
 use Rattle.s66_ledger.specs.declared.reply.GraftError.{GraftError}
 use Rattle.s66_ledger.specs.Entries.{refusal_reply}
 use Rattle.s66_ledger.specs.GraftMoves.{IsGraftMove, IsRefusedMove}
 use Rattle.s66_ledger.specs.Grafts.{IsGraftAt, IsRefusedGraftAt}
 use Rattle.s66_ledger.specs.Ledgers.{LedgerOf, with_history}
-use Rattle.s66_ledger.proofs.Recording.{recorded, recorded-event, is-own, taken-entry, refused-move, refused-entry, refused-at}
+use Rattle.s66_ledger.proofs.Recording.{recorded, recorded-event, is-own, taken-entry, refused-move, refused-entry, refused-at, prefix-kept, prefix-counted, none-kept}
 use Rattle.s66_ledger.proofs.ledger.Ledger.graft_at.Goals as goal
 
 pub invariant_of-self-in-Ok-graft : goal.invariant_of-self-in-Ok-graft
@@ -16,21 +17,21 @@ invariant_of-self-in-Ok-graft c =
     let m = c.self.inside.machine in
     let p = c.args.piece.now in
     let h : IsGraftMove m c.args.w c.args.node p Taken c.graft.new.self = c.in-Ok-graft.ensures.ok in
-    recorded m c.graft.new.self c.self.inside.history.items c.reserve.new.self.items c.push_reserved.new.self.items _ h.0 Taken h.2
-    (taken-entry m c.graft.new.self c.args.w c.args.node p c.splits-splits.result c.splits-splits.ensures c.args.outline c.requires.outline h)
-    c.reserve.ensures.items c.push_reserved.ensures.items c.self.invariant
+    recorded m c.graft.new.self c.self.inside.history.entries.items c.reserve.new.self.items c.push_reserved.new.self.items c.self.inside.history.bytes.items c.keep_outline.new.bytes.items _ c.args.outline.now.bytes.items h.0 Taken h.2
+    (taken-entry m c.graft.new.self c.args.w c.args.node p c.splits-splits.result c.splits-splits.ensures c.args.outline.now c.requires.outline h)
+    c.reserve.ensures.items c.push_reserved.ensures.items c.in-Ok-keep_outline.ensures.ok c.in-Ok-keep_outline.ensures.count c.self.invariant
 
 pub returns-in-Ok-graft-clause-ok : goal.returns-in-Ok-graft-clause-ok
 returns-in-Ok-graft-clause-ok c =
     let m = c.self.inside.machine in
     let p = c.args.piece.now in
     let h : IsGraftMove m c.args.w c.args.node p Taken c.graft.new.self = c.in-Ok-graft.ensures.ok in
-    subst (λ (l : LedgerOf). IsGraftAt l c.args.w c.args.node p Taken (with_history c.graft.new.self c.push_reserved.new.self.items)) c.self.view_is (
+    subst (λ (l : LedgerOf). IsGraftAt l c.args.w c.args.node p Taken (with_history c.graft.new.self c.push_reserved.new.self.items c.keep_outline.new.bytes.items)) c.self.view_is (
       h.0,
       h.1,
-      recorded-event m c.graft.new.self c.self.inside.history.items c.reserve.new.self.items c.push_reserved.new.self.items _ h.0 Taken h.2
-          (taken-entry m c.graft.new.self c.args.w c.args.node p c.splits-splits.result c.splits-splits.ensures c.args.outline c.requires.outline h)
-          c.reserve.ensures.items c.push_reserved.ensures.items,
+      recorded-event m c.graft.new.self c.self.inside.history.entries.items c.reserve.new.self.items c.push_reserved.new.self.items c.self.inside.history.bytes.items c.keep_outline.new.bytes.items _ c.args.outline.now.bytes.items h.0 Taken h.2
+          (taken-entry m c.graft.new.self c.args.w c.args.node p c.splits-splits.result c.splits-splits.ensures c.args.outline.now c.requires.outline h)
+          c.reserve.ensures.items c.push_reserved.ensures.items c.in-Ok-keep_outline.ensures.ok c.in-Ok-keep_outline.ensures.count c.self.invariant,
     )
 
 pub invariant_of-self-2 : goal.invariant_of-self-2
@@ -42,9 +43,9 @@ invariant_of-self-2 c =
     refused-move m c.graft.new.self c.args.w c.args.node p c.splits-splits.result c.splits-splits.ensures why
     (subst (λ (e : GraftError). IsRefusedMove m c.args.w c.args.node p e c.graft.new.self) c.in-Some.ensures.some c.in-Err.ensures.refused) in
     let own : IsOwn m.problem p.problem c.is_of-own.result = is-own m.problem p.problem c.is_of-own.result (instrs_of c.block.result.now) c.profile.result.now (c.block.ensures ∙ ap (λ (b : Problem). b.block) h.2.0) (c.profile.ensures ∙ ap (λ (b : Problem). b.profile) h.2.0) c.is_of-own.ensures in
-    recorded m c.graft.new.self c.self.inside.history.items c.reserve.new.self.items c.push_reserved-2.new.self.items _ h.0 (refusal_reply why) h.2
-    (refused-entry m c.graft.new.self c.args.w c.args.node p c.splits-splits.result c.splits-splits.ensures c.into_prefix.result.items (c.into_prefix.ensures ∙ c.requires.outline.0) c.is_of-own.result why own h)
-    c.reserve.ensures.items c.push_reserved-2.ensures.items c.self.invariant
+    recorded m c.graft.new.self c.self.inside.history.entries.items c.reserve.new.self.items c.push_reserved-2.new.self.items c.self.inside.history.bytes.items c.truncate-2.new.self.items _ (outline_prefix c.args.outline.now.depth c.args.outline.now.bytes.items) h.0 (refusal_reply why) h.2
+    (refused-entry m c.graft.new.self c.args.w c.args.node p c.splits-splits.result c.splits-splits.ensures (outline_prefix c.args.outline.now.depth c.args.outline.now.bytes.items) c.requires.outline.0 c.is_of-own.result why own h)
+    c.reserve.ensures.items c.push_reserved-2.ensures.items (prefix-kept p c.args.outline.now c.requires.outline c.self.inside.history.bytes.items c.keep_outline.new.bytes.items c.truncate-2.new.self.items c.len-kept.result c.in-Ok-keep_outline.ensures.ok (omega (arith, c.len-kept.ensures)) c.truncate-2.ensures.items) (prefix-counted p c.args.outline.now c.requires.outline) c.self.invariant
 
 pub returns-clause-refused : goal.returns-clause-refused
 returns-clause-refused c =
@@ -55,17 +56,17 @@ returns-clause-refused c =
     refused-move m c.graft.new.self c.args.w c.args.node p c.splits-splits.result c.splits-splits.ensures why
     (subst (λ (e : GraftError). IsRefusedMove m c.args.w c.args.node p e c.graft.new.self) c.in-Some.ensures.some c.in-Err.ensures.refused) in
     let own : IsOwn m.problem p.problem c.is_of-own.result = is-own m.problem p.problem c.is_of-own.result (instrs_of c.block.result.now) c.profile.result.now (c.block.ensures ∙ ap (λ (b : Problem). b.block) h.2.0) (c.profile.ensures ∙ ap (λ (b : Problem). b.profile) h.2.0) c.is_of-own.ensures in
-    let new = with_history c.graft.new.self c.push_reserved-2.new.self.items in
+    let new = with_history c.graft.new.self c.push_reserved-2.new.self.items c.truncate-2.new.self.items in
     subst (λ (e : GraftError). IsRefusedGraftAt c.args.self.now c.args.w c.args.node p e new) (sym c.in-Some.ensures.some)
     (refused-at c.args.self.now new c.args.w c.args.node p why
     (subst (λ (l : LedgerOf). IsGraftAt l c.args.w c.args.node p (refusal_reply why) new) c.self.view_is (
       h.0,
       h.1,
-      recorded-event m c.graft.new.self c.self.inside.history.items c.reserve.new.self.items c.push_reserved-2.new.self.items _ h.0 (refusal_reply why) h.2
-          (refused-entry m c.graft.new.self c.args.w c.args.node p c.splits-splits.result c.splits-splits.ensures c.into_prefix.result.items (c.into_prefix.ensures ∙ c.requires.outline.0) c.is_of-own.result why own h)
-          c.reserve.ensures.items c.push_reserved-2.ensures.items,
+      recorded-event m c.graft.new.self c.self.inside.history.entries.items c.reserve.new.self.items c.push_reserved-2.new.self.items c.self.inside.history.bytes.items c.truncate-2.new.self.items _ (outline_prefix c.args.outline.now.depth c.args.outline.now.bytes.items) h.0 (refusal_reply why) h.2
+          (refused-entry m c.graft.new.self c.args.w c.args.node p c.splits-splits.result c.splits-splits.ensures (outline_prefix c.args.outline.now.depth c.args.outline.now.bytes.items) c.requires.outline.0 c.is_of-own.result why own h)
+          c.reserve.ensures.items c.push_reserved-2.ensures.items (prefix-kept p c.args.outline.now c.requires.outline c.self.inside.history.bytes.items c.keep_outline.new.bytes.items c.truncate-2.new.self.items c.len-kept.result c.in-Ok-keep_outline.ensures.ok (omega (arith, c.len-kept.ensures)) c.truncate-2.ensures.items) (prefix-counted p c.args.outline.now c.requires.outline) c.self.invariant,
     )))
 
 -- want of memory leaves all as it was
 pub invariant_of-self-in_default-refusal_of : goal.invariant_of-self-in_default-refusal_of
-invariant_of-self-in_default-refusal_of c = rw (c.in-Err.ensures.err, c.reserve.ensures.items) c.self.invariant
+invariant_of-self-in_default-refusal_of c = rw (c.in-Err.ensures.err, c.reserve.ensures.items, none-kept c.self.inside.history.bytes.items c.args.outline.now.bytes.items c.keep_outline.new.bytes.items c.truncate.new.self.items c.len-kept.result c.in-Ok-keep_outline.ensures.ok (omega (arith, c.len-kept.ensures)) c.truncate.ensures.items) c.self.invariant

@@ -1,0 +1,26 @@
+ghost use Rattle.std.specs.Prelude.{◌≡◌, []};
+
+use crate::entry::Entry;
+use std::alloc::Global;
+
+/// What a ledger keeps of its events.
+#[derive(Debug, Drop)]
+pub struct History {
+    /// An entry for each event, the oldest first.
+    pub entries: Vec<Entry>,
+    /// The bytes of the entries that have some, those of one after those of the entries before it.
+    pub bytes: Vec<u8>,
+}
+
+impl History {
+    /// Of no event.
+    pub(crate) fn new(alloc: Global) -> History
+        ensures entries { result.entries.items ≡ [] }
+        ensures bytes { result.bytes.items ≡ [] }
+    {
+        History {
+            entries: Vec::new(alloc),
+            bytes: Vec::new(alloc),
+        }
+    }
+}
