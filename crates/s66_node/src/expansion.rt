@@ -1,4 +1,5 @@
 ghost use Rattle.std.specs.Prelude.{◌≡◌, ℕ, List, IfOk};
+ghost use Rattle.std.specs.Option.{option_map};
 ghost use Rattle.s66_line.specs.Block.{instrs_of};
 ghost use Rattle.s66_model.specs.Timing.{Problem};
 ghost use Rattle.s66_model.specs.LegalOrder.{IsBeginning};
@@ -17,15 +18,23 @@ use s66_isa::Profile;
 use s66_line::Block;
 use s66_time::{Timed, time_of};
 use std::alloc::{AllocError, Global};
+use std::boxed::Box;
 
 /// The least order with its times.
-fn timed_of(block: &Block, profile: &Profile, least: Option<WholeOrder>) -> Option<Timed>
-    ensures { let b : Problem = record { block = instrs_of block.now; profile = profile.now } in (prefix : List ℕ) (tree : Tree Tip) → IsLeast b (whole_orders prefix tree) least → IsBestTimed b prefix tree result }
+fn timed_of(
+    alloc: Global,
+    block: &Block,
+    profile: &Profile,
+    least: Option<WholeOrder>,
+) -> Result<Option<Box<Timed>>, AllocError>
+    ensures { let b : Problem = record { block = instrs_of block.now; profile = profile.now } in (prefix : List ℕ) (tree : Tree Tip) → IsLeast b (whole_orders prefix tree) least → IfOk result (λ timed. IsBestTimed b prefix tree (option_map (λ t. t.value) timed)) }
 {
-    let least = least?;
+    let Some(least) = least else {
+        return Ok(None);
+    };
     match Order::new(block, least.numbers.as_slice()) {
-        Ok(order) => Some(time_of(block, profile, &order)),
-        Err(_) => None,
+        Ok(order) => Ok(Some(Box::new(alloc, time_of(block, profile, &order))?)),
+        Err(_) => Ok(None),
     }
 }
 
@@ -91,7 +100,7 @@ impl Walk<'_> {
             prefix: copy_of(prefix),
             knots,
             splits,
-            timed: timed_of(block, profile, least),
+            timed: timed_of(alloc, block, profile, least)?,
         })
     }
 }

@@ -4,6 +4,7 @@ use s66_dep::Order;
 use s66_isa::{Profile, is_same_profile};
 use s66_line::{BLOCK_LIMIT, Block};
 use s66_time::Timed;
+use std::boxed::Box;
 use std::marker::Model;
 
 /// A tree over a prefix of a block's legal orders: splits with exactly the ready numbers, leaves that are floors, and a frontier.
@@ -14,18 +15,20 @@ pub struct Piece {
     pub(crate) prefix: ArrayVec<u8, BLOCK_LIMIT>,
     pub(crate) knots: Vec<Knot>,
     pub(crate) splits: u32,
-    pub(crate) timed: Option<Timed>,
+    // boxed, so that a move of a piece is cheap
+    pub(crate) timed: Option<Box<Timed>>,
 }
 
 impl Model for Piece {
+    ghost use Rattle.std.specs.Option.{option_map};
     ghost use Rattle.s66_node.specs.Pieces.{PieceOf, IsKept};
     ghost use Rattle.s66_node.specs.SeenKnots.{seen};
 
     ghost Value = { PieceOf };
 
-    ghost view = { λ p. record { problem = record { block = p.source.block; profile = p.profile }; prefix = p.prefix.items; knots = seen p.knots.items; timed = p.timed } };
+    ghost view = { λ p. record { problem = record { block = p.source.block; profile = p.profile }; prefix = p.prefix.items; knots = seen p.knots.items; timed = option_map (λ t. t.value) p.timed } };
 
-    ghost invariant = { λ p. IsKept (record { problem = record { block = p.source.block; profile = p.profile }; prefix = p.prefix.items; knots = seen p.knots.items; timed = p.timed }) p.splits };
+    ghost invariant = { λ p. IsKept (record { problem = record { block = p.source.block; profile = p.profile }; prefix = p.prefix.items; knots = seen p.knots.items; timed = option_map (λ t. t.value) p.timed }) p.splits };
 }
 
 impl Piece {
@@ -79,6 +82,6 @@ impl Piece {
         ensures value { option_copied result ≡ self.now.timed }
         ensures best { IsBestTimed self.now.problem self.now.prefix (tree_of self.now) self.now.timed }
     {
-        self.timed.as_ref()
+        self.timed.as_deref()
     }
 }

@@ -1,4 +1,5 @@
-use Rattle.std.proofs.Common.{◌≡◌, List, arith, length, sym, ◌∙◌, ap, subst, refl}
+use Rattle.std.proofs.Common.{◌≡◌, List, Option, arith, length, sym, ◌∙◌, ap, subst, refl}
+use Rattle.std.specs.Option.{option_map}
 use Rattle.s66_isa.specs.declared.instr.Instr.{Instr}
 use Rattle.s66_line.specs.Block.{instrs_of}
 use Rattle.s66_model.specs.Timing.{Problem}
@@ -7,21 +8,25 @@ use Rattle.s66_model.specs.Told.{Told, tree_told}
 use Rattle.s66_model.specs.Expansion.{whole_orders}
 use Rattle.s66_dep.proofs.Fronts.{beginning-few}
 use Rattle.s66_time.specs.Ticking.{problem_of}
+use Rattle.s66_time.specs.TimedOrder.{TimedOrder}
 use Rattle.s66_node.specs.Pieces.{IsBestTimed}
 use Rattle.s66_node.specs.Walked.{Walked}
 use Rattle.s66_node.specs.Walking.{IsGrown, IsLeast}
 use Rattle.s66_node.proofs.Pieces.{grown-least, piece-tree, piece-expansion, piece-kept}
 use Rattle.s66_node.proofs.walk.Walk.expand.Goals as goal
-use Rattle.s66_node.proofs.walk.Walk.expand.Goals.{After-timed_of}
+use Rattle.s66_node.proofs.walk.Walk.expand.Goals.{In_ok-timed_of}
 
 pub copy_of-requires : goal.copy_of-requires
 copy_of-requires c =
     let own : problem_of c.self.inside.clock ≡ c.args.self.now.problem = ap (λ (w : Walked). w.problem) c.self.view_is ∙ (c.grow.ensures.same ∙ ap (λ (w : Walked). w.problem) c.go_to.ensures) in
     omega (arith, beginning-few c.args.self.now.problem.block c.args.prefix.now c.requires, c.self.invariant.few, ap (λ (p : Problem). length p.block) own)
 
-module _ (c : After-timed_of) where
+module _ (c : In_ok-timed_of) where
   abbrev b : Problem
   b = c.args.self.now.problem
+
+  abbrev shown : Option TimedOrder
+  shown = option_map (λ t. t.value) c.in_ok-timed_of.field-0
 
   asked : record { block = instrs_of c.block-block.result.now; profile = c.profile-profile.result.now } ≡ b
   asked =
@@ -34,24 +39,24 @@ module _ (c : After-timed_of) where
   grown : (tree : Tree Told) × IsGrown b c.args.best c.args.allowance c.args.prefix.now c.in_ok-knots.field-0 tree
   grown = subst (λ (w : Walked). (tree : Tree Told) × IsGrown w.problem c.args.best c.args.allowance w.numbers c.in_ok-knots.field-0 tree) c.go_to.ensures c.in_ok-knots.ensures.grown
 
-  timed : (tree : Tree Told) → IsGrown b c.args.best c.args.allowance c.args.prefix.now c.in_ok-knots.field-0 tree → IsBestTimed b c.args.prefix.now (tree_told b c.args.prefix.now tree) c.timed_of.result
+  timed : (tree : Tree Told) → IsGrown b c.args.best c.args.allowance c.args.prefix.now c.in_ok-knots.field-0 tree → IsBestTimed b c.args.prefix.now (tree_told b c.args.prefix.now tree) shown
   timed tree h =
       let ns = c.args.prefix.now in
       let all = tree_told b ns tree in
-      subst (λ (p : Problem). IsLeast p (whole_orders ns all) c.in_ok-knots.field-0.least → IsBestTimed p ns all c.timed_of.result) asked (c.timed_of.ensures ns all) (grown-least b c.args.best c.args.allowance ns c.in_ok-knots.field-0 tree h)
+      subst (λ (p : Problem). IsLeast p (whole_orders ns all) c.in_ok-knots.field-0.least → IsBestTimed p ns all shown) asked (c.in_ok-timed_of.ensures ns all) (grown-least b c.args.best c.args.allowance ns c.in_ok-knots.field-0 tree h)
 
 pub invariant_of-result : goal.invariant_of-result
 invariant_of-result c =
     let (tree, h) = grown c in
-    piece-kept (b c) c.args.best c.args.allowance c.args.prefix.now c.in_ok-knots.field-0 tree h (record { problem = _; prefix = _; knots = _; timed = c.timed_of.result }) (own c) c.copy_of.ensures refl (timed c tree h)
+    piece-kept (b c) c.args.best c.args.allowance c.args.prefix.now c.in_ok-knots.field-0 tree h (record { problem = _; prefix = _; knots = _; timed = shown c }) (own c) c.copy_of.ensures refl (timed c tree h)
 
 pub returns-clause-expansion : goal.returns-clause-expansion
 returns-clause-expansion c =
     let (tree, h) = grown c in
-    piece-expansion (b c) c.args.best c.args.allowance c.args.prefix.now c.in_ok-knots.field-0 tree h (record { problem = _; prefix = _; knots = _; timed = c.timed_of.result }) (own c) c.copy_of.ensures refl
+    piece-expansion (b c) c.args.best c.args.allowance c.args.prefix.now c.in_ok-knots.field-0 tree h (record { problem = _; prefix = _; knots = _; timed = shown c }) (own c) c.copy_of.ensures refl
 
 pub returns-clause-timed : goal.returns-clause-timed
 returns-clause-timed c =
     let (tree, h) = grown c in
-    let is = piece-tree (b c) c.args.best c.args.allowance c.args.prefix.now c.in_ok-knots.field-0 tree h (record { problem = _; prefix = _; knots = _; timed = c.timed_of.result }) (own c) c.copy_of.ensures refl in
-    subst (λ t. IsBestTimed (b c) c.args.prefix.now t c.timed_of.result) (sym is) (timed c tree h)
+    let is = piece-tree (b c) c.args.best c.args.allowance c.args.prefix.now c.in_ok-knots.field-0 tree h (record { problem = _; prefix = _; knots = _; timed = shown c }) (own c) c.copy_of.ensures refl in
+    subst (λ t. IsBestTimed (b c) c.args.prefix.now t (shown c)) (sym is) (timed c tree h)
