@@ -199,19 +199,15 @@ impl<'a> Hub<'a> {
         };
         let splits = piece.splits();
         let mut ledger = self.lock.take(rt, &mut seat.token);
-        match ledger.graft_at(seat.number, ticket.node(), &piece, &subtree, &outline) {
-            Ok(()) => {
-                // no worker has spent more than all have
-                let _spent = ledger.splits();
-                self.lock.give(&mut seat.token, ledger);
-                seat.splits += splits;
-                Ok(())
-            }
-            Err(why) => {
-                self.lock.give(&mut seat.token, ledger);
-                Err((why, ticket, piece))
-            }
+        if let Err(err) = ledger.graft_at(seat.number, ticket.node(), &piece, &subtree, &outline) {
+            self.lock.give(&mut seat.token, ledger);
+            return Err((err, ticket, piece));
         }
+        // no worker has spent more than all have
+        let _spent = ledger.splits();
+        self.lock.give(&mut seat.token, ledger);
+        seat.splits += splits;
+        Ok(())
     }
 
     /// The best time, in minor cycles, which the seat then knows. It isn't above what the seat knew.
