@@ -16,7 +16,7 @@ pub record IsChain (b : Problem) (at : List ℕ) (made : List Node) : Type 0 whe
   pub depths : HaveDepths made
 
 abbrev chain_root : Node
-chain_root = record { parent = 0; value = 0; number = 0; depth = 0; state = state.Split }
+chain_root = record { parent = 0; value = 0; number = 0; depth = 0; line = 0; state = state.Split }
 
 chain-first : (b : Problem) → IsChain b [] (chain_root ∷ [])
 chain-first b =
@@ -33,7 +33,7 @@ chain-first b =
 
 chain-longer : (b : Problem) (at : List ℕ) (n : ℕ) (made : List Node) → IsChain b at made → (more : List Node) × IsChain b (at ++ n ∷ []) more
 chain-longer b at n made c =
-    let x : Node = record { parent = length at; value = 0; number = n; depth = min 255 (length at + 1); state = state.Split } in
+    let x : Node = record { parent = length at; value = 0; number = n; depth = min 255 (length at + 1); line = 0; state = state.Split } in
     let some : 0 < length made = omega (arith, c.count) in
     let before : length at < length made = omega (arith, c.count) in
     let here : length (at ++ n ∷ []) ≡ length made = omega (arith, c.count, length-append at (n ∷ [])) in (

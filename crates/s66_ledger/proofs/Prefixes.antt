@@ -3,7 +3,8 @@ use Rattle.std.proofs.Common.{ℕ, zero, suc, ◌+◌, ◌≤◌, ◌<◌, ◌�
 use Rattle.std.proofs.lemmas.Bool.{cases_Bool, lt-ltb, ltb-true}
 use Rattle.s66_isa.proofs.Lists.{cases_le}
 use Rattle.s66_ledger.specs.declared.node.Node.{Node}
-use Rattle.s66_ledger.specs.Nodes.{prefixes_from, prefixes}
+use Rattle.s66_ledger.specs.declared.node.State.{State}
+use Rattle.s66_ledger.specs.Nodes.{prefixes_from, prefixes, lines_of, no_node, node_at, with_state}
 
 -- LISTS
 
@@ -69,6 +70,15 @@ pub prefixes-set : (xs : List Node) (i : ℕ) (y d : Node) → y.parent ≡ (get
 prefixes-set [] i y d e f = refl
 prefixes-set (x ∷ xs) zero y d e f = refl
 prefixes-set (x ∷ xs) (suc i) y d e f = prefixes_from-set ([] ∷ []) xs i y d e f
+
+-- a node with its line too
+pub lines-set : (xs : List Node) (i : ℕ) (y d : Node) → y.line ≡ (get_or xs i d).line → lines_of (set xs i y) ≡ lines_of xs
+lines-set [] i y d e = refl
+lines-set (x ∷ xs) zero y d e = ap (λ line. line ∷ lines_of xs) e
+lines-set (x ∷ xs) (suc i) y d e = ap (λ lines. x.line ∷ lines) (lines-set xs i y d e)
+
+pub lines-state : (xs : List Node) (i : ℕ) (s : State) → lines_of (with_state xs i s) ≡ lines_of xs
+lines-state xs i s = lines-set xs i (record (node_at xs i) { state = s }) no_node refl
 
 -- UP TO THE PARENT
 

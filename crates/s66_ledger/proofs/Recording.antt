@@ -1,7 +1,7 @@
 -- A move of the machine with its entry is an event, and the history leads on; what its accounts spend adds up.
-use Rattle.std.proofs.Common.{ℕ, ◌+◌, ◌≡◌, ◌≢◌, ◌≤◌, ◌↔◌, ◌∙◌, Bool, true, false, true≢false, IsTrue, List, [], ◌∷◌, ◌++◌, Some, None, map, take, drop, length, length-append, refl, ap, sym, subst, arith}
+use Rattle.std.proofs.Common.{ℕ, ◌+◌, ◌≡◌, ◌≢◌, ◌≤◌, ◌<◌, ◌↔◌, ◌∙◌, Bool, true, false, true≢false, IsTrue, List, [], ◌∷◌, ◌++◌, Some, None, map, take, drop, length, length-append, append_assoc, refl, ap, sym, subst, arith}
 use Rattle.std.proofs.Math.Seq.{take-length, take-append_seam, take-append-add}
-use Rattle.std.proofs.lemmas.List.{append-nil, nil_from_length, take-append-le, drop-append-le, length-drop}
+use Rattle.std.proofs.lemmas.List.{append-nil, nil_from_length, take-append-le, drop-append-le, length-drop, length-take, length-map, take-append-drop}
 use Rattle.s66_isa.specs.declared.instr.Instr.{Instr}
 use Rattle.s66_isa.specs.declared.profile.Profile.{Profile}
 use Rattle.s66_isa.specs.Lists.{weigh, rising}
@@ -12,8 +12,7 @@ use Rattle.s66_model.specs.Ledger.{Ledger, Event, Graft, Offer, Reply, Taken, Mo
 use Rattle.s66_model.specs.Recorded.{IsOwn, IsOfferOf, graft_event}
 use Rattle.s66_model.specs.Accounts.{Account, account_of}
 use Rattle.s66_model.proofs.Histories.{run-next, history-spent}
-use Rattle.s66_node.specs.declared.outline.Outline.{Outline}
-use Rattle.s66_node.specs.Outlines.{outline_prefix, outline_tree, IsOutlineOf}
+use Rattle.s66_node.specs.Outlines.{line_byte, outline_of, outline_prefix, outline_tree, IsOutlineOf}
 use Rattle.s66_node.specs.Pieces.{PieceOf, tree_of}
 use Rattle.s66_ledger.specs.declared.entry.Entry.{Entry}
 use Rattle.s66_ledger.specs.declared.entry.Refusal.{Refusal}
@@ -21,28 +20,33 @@ use Rattle.s66_ledger.specs.declared.entry.Refusal.TheVariants as refusal
 use Rattle.s66_ledger.specs.declared.reply.Offered.{Offered}
 use Rattle.s66_ledger.specs.declared.reply.Offered.TheVariants as offered
 use Rattle.s66_ledger.specs.Replies.{offered_reply}
-use Rattle.s66_ledger.specs.Entries.{byte_count, entry_of, entries_of, refusal_reply, error_of}
+use Rattle.s66_ledger.specs.Entries.{byte_count, line_count, entry_of, entries_of, refusal_reply, error_of}
 use Rattle.s66_ledger.specs.Kept.{MachineOf, IsMove}
+use Rattle.s66_ledger.specs.declared.node.Node.{Node}
+use Rattle.s66_ledger.specs.Subtrees.{IsSubtreeOf, lines_below, root_bytes}
 use Rattle.s66_ledger.specs.GraftMoves.{IsGraftMove, IsRefusedMove}
 use Rattle.s66_ledger.specs.Grafts.{IsGraftAt, IsRefusedGraftAt}
 use Rattle.s66_ledger.specs.Ledgers.{LedgerOf, IsEvent, IsRecorded, events_of, account_summary, with_history}
 
--- the next entry comes with its own bytes
-entries-next : (b : Problem) (before : List Entry) (bytes : List ℕ) (entry : Entry) (own : List ℕ) → weigh byte_count before ≡ length bytes → byte_count entry ≡ length own → entries_of b (before ++ entry ∷ []) (bytes ++ own) ≡ entries_of b before bytes ++ entry_of b entry own ∷ []
-entries-next b [] bytes entry own all counted =
-    rw (nil_from_length bytes (sym all), counted, take-length own) refl
-entries-next b (e ∷ es) bytes entry own all counted =
+-- the next entry comes with its own bytes, and those of its lines
+entries-next : (b : Problem) (before : List Entry) (bytes lines : List ℕ) (entry : Entry) (own own_lines : List ℕ) → weigh byte_count before ≡ length bytes → weigh line_count before ≡ length lines → byte_count entry ≡ length own → line_count entry ≡ length own_lines → entries_of b (before ++ entry ∷ []) (bytes ++ own) (lines ++ own_lines) ≡ entries_of b before bytes lines ++ entry_of b entry own own_lines ∷ []
+entries-next b [] bytes lines entry own own_lines all all_lines counted lines_counted =
+    rw (nil_from_length bytes (sym all), nil_from_length lines (sym all_lines), counted, lines_counted, take-length own, take-length own_lines) refl
+entries-next b (e ∷ es) bytes lines entry own own_lines all all_lines counted lines_counted =
     let within : byte_count e ≤ length bytes = omega (arith, all) in
+    let lines_within : line_count e ≤ length lines = omega (arith, all_lines) in
     let rest : weigh byte_count es ≡ length (drop (byte_count e) bytes) = omega (arith, all, length-drop (byte_count e) bytes) in
-    rw (take-append-le (byte_count e) bytes own within, drop-append-le (byte_count e) bytes own within)
-    (ap (λ told. entry_of b e (take (byte_count e) bytes) ∷ told) (entries-next b es (drop (byte_count e) bytes) entry own rest counted))
+    let lines_rest : weigh line_count es ≡ length (drop (line_count e) lines) = omega (arith, all_lines, length-drop (line_count e) lines) in
+    rw (take-append-le (byte_count e) bytes own within, drop-append-le (byte_count e) bytes own within, take-append-le (line_count e) lines own_lines lines_within, drop-append-le (line_count e) lines own_lines lines_within)
+    (ap (λ told. entry_of b e (take (byte_count e) bytes) (take (line_count e) lines) ∷ told) (entries-next b es (drop (byte_count e) bytes) (drop (line_count e) lines) entry own own_lines rest lines_rest counted lines_counted))
 
--- room is reserved, and the entry pushed with its own bytes
-module _ (m next : MachineOf) (before reserved after : List Entry) (bytes all : List ℕ) (entry : Entry) (own : List ℕ) (event : Event) (reply : Reply) (moved : IsMove m event reply next) (is : entry_of m.problem entry own ≡ (event, reply)) (same : reserved ≡ before) (pushed : after ≡ reserved ++ entry ∷ []) (put : all ≡ bytes ++ own) (counted : byte_count entry ≡ length own) (kept : IsRecorded (with_history m before bytes)) where
+-- room is reserved, and the entry pushed with its own bytes; the machine has its lines
+module _ (m next : MachineOf) (before reserved after : List Entry) (bytes all : List ℕ) (entry : Entry) (own own_lines : List ℕ) (event : Event) (reply : Reply) (moved : IsMove m event reply next) (more : next.lines ≡ m.lines ++ own_lines) (is : entry_of m.problem entry own own_lines ≡ (event, reply)) (same : reserved ≡ before) (pushed : after ≡ reserved ++ entry ∷ []) (put : all ≡ bytes ++ own) (counted : byte_count entry ≡ length own) (lines_counted : line_count entry ≡ length own_lines) (kept : IsRecorded (with_history m before bytes)) where
   events-on : events_of (with_history next after all) ≡ events_of (with_history m before bytes) ++ (event, reply) ∷ []
   events-on =
-      ap (λ (p : Problem). entries_of p after all) moved.0
-      ∙ (rw (pushed, same, put) (entries-next m.problem before bytes entry own kept.bytes counted)
+      let lines : weigh line_count before ≡ length (drop 1 m.lines) = omega (arith, kept.lines, length-drop 1 m.lines) in
+      ap (λ (p : Problem). entries_of p after all (drop 1 next.lines)) moved.0
+      ∙ (rw (pushed, same, put, more, drop-append-le 1 m.lines own_lines (omega (arith, kept.lines))) (entries-next m.problem before bytes (drop 1 m.lines) entry own own_lines kept.bytes lines counted lines_counted)
       ∙ ap (λ (e : Event × Reply). events_of (with_history m before bytes) ++ e ∷ []) is)
 
   pub recorded : IsRecorded (with_history next after all)
@@ -58,18 +62,28 @@ module _ (m next : MachineOf) (before reserved after : List Entry) (bytes all : 
             (subst (λ n. Run m.problem (opening m.problem m.budget n) (old ++ (event, reply) ∷ []) next.state) (sym moved.2) run)));
         bytes =
             omega (arith, ap (weigh byte_count) pushed, ap (λ es. weigh byte_count (es ++ entry ∷ [])) same, weigh-append byte_count before (entry ∷ []), ap length put, length-append bytes own, kept.bytes, counted);
+        lines =
+            omega (arith, ap (weigh line_count) pushed, ap (λ es. weigh line_count (es ++ entry ∷ [])) same, weigh-append line_count before (entry ∷ []), ap length more, length-append m.lines own_lines, kept.lines, lines_counted);
       }
 
   pub recorded-event : IsEvent (with_history m before bytes) event reply (with_history next after all)
   recorded-event = (moved.0, moved.1, moved.2, moved.3, events-on)
 
+-- an entry without lines
+module _ (m next : MachineOf) (before reserved after : List Entry) (bytes all : List ℕ) (entry : Entry) (own : List ℕ) (event : Event) (reply : Reply) (moved : IsMove m event reply next) (still : next.lines ≡ m.lines) (is : entry_of m.problem entry own [] ≡ (event, reply)) (same : reserved ≡ before) (pushed : after ≡ reserved ++ entry ∷ []) (put : all ≡ bytes ++ own) (counted : byte_count entry ≡ length own) (none : line_count entry ≡ 0) (kept : IsRecorded (with_history m before bytes)) where
+  pub recorded-lineless : IsRecorded (with_history next after all)
+  recorded-lineless = recorded m next before reserved after bytes all entry own [] event reply moved (still ∙ sym (append-nil m.lines)) is same pushed put counted none kept
+
+  pub event-lineless : IsEvent (with_history m before bytes) event reply (with_history next after all)
+  event-lineless = recorded-event m next before reserved after bytes all entry own [] event reply moved (still ∙ sym (append-nil m.lines)) is same pushed put counted none kept
+
 -- an entry without bytes
-module _ (m next : MachineOf) (before reserved after : List Entry) (bytes : List ℕ) (entry : Entry) (event : Event) (reply : Reply) (moved : IsMove m event reply next) (is : entry_of m.problem entry [] ≡ (event, reply)) (same : reserved ≡ before) (pushed : after ≡ reserved ++ entry ∷ []) (none : byte_count entry ≡ 0) (kept : IsRecorded (with_history m before bytes)) where
+module _ (m next : MachineOf) (before reserved after : List Entry) (bytes : List ℕ) (entry : Entry) (event : Event) (reply : Reply) (moved : IsMove m event reply next) (still : next.lines ≡ m.lines) (is : entry_of m.problem entry [] [] ≡ (event, reply)) (same : reserved ≡ before) (pushed : after ≡ reserved ++ entry ∷ []) (none : byte_count entry ≡ 0) (lineless : line_count entry ≡ 0) (kept : IsRecorded (with_history m before bytes)) where
   pub recorded-alone : IsRecorded (with_history next after bytes)
-  recorded-alone = recorded m next before reserved after bytes bytes entry [] event reply moved is same pushed (sym (append-nil bytes)) none kept
+  recorded-alone = recorded-lineless m next before reserved after bytes bytes entry [] event reply moved still is same pushed (sym (append-nil bytes)) none lineless kept
 
   pub event-alone : IsEvent (with_history m before bytes) event reply (with_history next after bytes)
-  event-alone = recorded-event m next before reserved after bytes bytes entry [] event reply moved is same pushed (sym (append-nil bytes)) none kept
+  event-alone = event-lineless m next before reserved after bytes bytes entry [] event reply moved still is same pushed (sym (append-nil bytes)) none lineless kept
 
 -- WHETHER A PIECE OR AN ORDER IS THE LEDGER'S
 
@@ -113,14 +127,16 @@ offer-entry b p w order numbers own time reply event owns same total (other, oth
     ∙ ap (λ e. told e reply) (sym is)))
 
 module _ (m next : MachineOf) (w i : ℕ) (p : PieceOf) (count : ℕ) (counts : count ≡ splits (tree_of p)) where
-  pub taken-entry : (outline : Outline) → IsOutlineOf p outline → (h : IsGraftMove m w i p Taken next) → told (Graft w i true (outline_prefix outline.depth outline.bytes.items) count (Some (outline_tree m.problem outline.depth outline.bytes.items))) Taken ≡ told h.0 Taken
-  taken-entry outline of (event, (own, owns, is), move) =
+  -- the bytes of the root and of the lines below it tell the piece
+  pub taken-entry : (outline : List ℕ) (depth : ℕ) → outline ≡ outline_of p → depth ≡ length p.prefix → IsOutlineOf p (outline_of p) → (h : IsGraftMove m w i p Taken next) → told (Graft w i true (outline_prefix depth outline) count (Some (outline_tree m.problem depth outline))) Taken ≡ told h.0 Taken
+  taken-entry outline depth whole deep of (event, (own, owns, is), move) =
       let k : IsMove m (Graft w i own p.prefix (splits (tree_of p)) (Some (tree_of p))) Taken next = subst (λ e. IsMove m e Taken next) is move in
       let mine : own ≡ true = k.3.1.1.0 in
-      let tree : outline_tree m.problem outline.depth outline.bytes.items ≡ tree_of p = ap (λ b. outline_tree b outline.depth outline.bytes.items) (sym (owns.0 mine)) ∙ of.1 in
-      ap (λ t. told (Graft w i true (outline_prefix outline.depth outline.bytes.items) count (Some t)) Taken) tree
-      ∙ (ap (λ n. told (Graft w i true (outline_prefix outline.depth outline.bytes.items) n (Some (tree_of p))) Taken) counts
-      ∙ (ap (λ at. told (Graft w i true at (splits (tree_of p)) (Some (tree_of p))) Taken) of.0
+      let prefix : outline_prefix depth outline ≡ p.prefix = rw (whole, deep) of.0 in
+      let tree : outline_tree m.problem depth outline ≡ tree_of p = ap (λ b. outline_tree b depth outline) (sym (owns.0 mine)) ∙ rw (whole, deep) of.1 in
+      ap (λ t. told (Graft w i true (outline_prefix depth outline) count (Some t)) Taken) tree
+      ∙ (ap (λ n. told (Graft w i true (outline_prefix depth outline) n (Some (tree_of p))) Taken) counts
+      ∙ (ap (λ at. told (Graft w i true at (splits (tree_of p)) (Some (tree_of p))) Taken) prefix
       ∙ (ap (λ o. told (Graft w i o p.prefix (splits (tree_of p)) (Some (tree_of p))) Taken) (sym mine)
       ∙ ap (λ e. told e Taken) (sym is))))
 
@@ -129,27 +145,34 @@ module _ (m next : MachineOf) (w i : ℕ) (p : PieceOf) (count : ℕ) (counts : 
   refused-move refusal.OtherPrefix h = h
   refused-move refusal.OverAllowance h = h
 
-  pub refused-entry : (prefix : List ℕ) → prefix ≡ p.prefix → (own : Bool) (why : Refusal) → IsOwn m.problem p.problem own → (h : IsGraftMove m w i p (refusal_reply why) next) → told (Graft w i own prefix count None) (refusal_reply why) ≡ told h.0 (refusal_reply why)
-  refused-entry prefix over own why owned (event, (other, owns, is), move) =
-      ap (λ n. told (Graft w i own prefix n None) (refusal_reply why)) counts
-      ∙ (ap (λ at. told (Graft w i own at (splits (tree_of p)) None) (refusal_reply why)) over
+  pub refused-entry : (own : Bool) (why : Refusal) → IsOwn m.problem p.problem own → (h : IsGraftMove m w i p (refusal_reply why) next) → told (Graft w i own p.prefix count None) (refusal_reply why) ≡ told h.0 (refusal_reply why)
+  refused-entry own why owned (event, (other, owns, is), move) =
+      ap (λ n. told (Graft w i own p.prefix n None) (refusal_reply why)) counts
       ∙ (ap (λ o. told (Graft w i o p.prefix (splits (tree_of p)) None) (refusal_reply why)) (own-same m.problem p.problem own other owned owns)
-      ∙ ap (λ e. told e (refusal_reply why)) (sym (is ∙ without-tree why))))
+      ∙ ap (λ e. told e (refusal_reply why)) (sym (is ∙ without-tree why)))
     where
       without-tree : (r : Refusal) → graft_event w i other p.prefix (tree_of p) (refusal_reply r) ≡ Graft w i other p.prefix (splits (tree_of p)) None
       without-tree refusal.NotOut = refl
       without-tree refusal.OtherPrefix = refl
       without-tree refusal.OverAllowance = refl
 
--- the bytes of an outline are put behind those that are kept, and all but its prefix taken off
-pub prefix-kept : (p : PieceOf) (outline : Outline) → IsOutlineOf p outline → (kept put left : List ℕ) (n : ℕ) → put ≡ kept ++ outline.bytes.items → n ≡ length kept → left ≡ take (n + outline.depth) put → left ≡ kept ++ outline_prefix outline.depth outline.bytes.items
-prefix-kept p outline of kept put left n is count cut = cut ∙ rw (is, count) (take-append-add kept outline.bytes.items outline.depth)
+-- the bytes of a root are put behind those that are kept, and its line's taken off
+pub prefix-kept : (p : PieceOf) (kept put left : List ℕ) (n depth : ℕ) → put ≡ kept ++ root_bytes p → n ≡ length kept → depth ≡ length p.prefix → left ≡ take (n + depth) put → left ≡ kept ++ p.prefix
+prefix-kept p kept put left n depth is count deep cut =
+    cut ∙ (rw (is, count, deep) (take-append-add kept (root_bytes p) (length p.prefix)) ∙ ap (λ at. kept ++ at) (take-append_seam p.prefix (take 1 (map line_byte p.knots))))
 
-pub prefix-counted : (p : PieceOf) (outline : Outline) → IsOutlineOf p outline → outline.depth ≡ length (outline_prefix outline.depth outline.bytes.items)
-prefix-counted p outline of = of.2 ∙ ap length (sym of.0)
+-- a piece's root has a line
+pub root-counted : (p : PieceOf) → 0 < length p.knots → length p.prefix + 1 ≡ length (root_bytes p)
+root-counted p some =
+    omega (arith, some, length-append p.prefix (take 1 (map line_byte p.knots)), length-take 1 (map line_byte p.knots), length-map p.knots line_byte)
 
-pub none-kept : (kept more put left : List ℕ) (n : ℕ) → put ≡ kept ++ more → n ≡ length kept → left ≡ take n put → left ≡ kept
-none-kept kept more put left n is count cut = cut ∙ rw (is, count) (take-append_seam kept more)
+pub root-outline : (p : PieceOf) → root_bytes p ++ lines_below p ≡ outline_of p
+root-outline p =
+    append_assoc p.prefix (take 1 (map line_byte p.knots)) (lines_below p) ∙ ap (λ lines. p.prefix ++ lines) (take-append-drop 1 (map line_byte p.knots))
+
+-- a node for each line below the root
+pub lines-counted : (p : PieceOf) (nodes : List Node) → IsSubtreeOf p nodes → length nodes ≡ length (lines_below p)
+lines-counted p nodes of = omega (arith, ap length of.lines, length-map nodes (λ (n : Node). n.line))
 
 pub refused-at : (old new : LedgerOf) (w i : ℕ) (p : PieceOf) (why : Refusal) → IsGraftAt old w i p (refusal_reply why) new → IsRefusedGraftAt old w i p (error_of why) new
 refused-at old new w i p refusal.NotOut h = h

@@ -1,6 +1,6 @@
 -- The nodes of a piece before they have their place: wherever they are planted, the piece's lines are read in preorder.
 use Rattle.std.proofs.Common.{ℕ, suc, ◌+◌, ◌-◌, ◌^◌, ◌≤◌, ◌<◌, ◌≡◌, min, List, [], ◌∷◌, ◌++◌, length, drop, get_or, map, refl, sym, ap, arith, ◌∙◌, length-append, length-drop, append_assoc, subst}
-use Rattle.std.proofs.lemmas.List.{append-nil, length-map, length-take, map-append}
+use Rattle.std.proofs.lemmas.List.{append-nil, length-map, length-take, map-append, nil_from_length}
 use Rattle.s66_model.specs.Tree.{Tree, Alone, Parted, Knot, AtTip, AtSplit, TreeHolds, flat_kids}
 use Rattle.s66_model.specs.Ledger as model
 use Rattle.s66_model.specs.Ledger.{kid_nodes, new_nodes}
@@ -10,13 +10,14 @@ use Rattle.s66_dep.specs.Members.{numbers_in}
 use Rattle.s66_node.specs.declared.knot.Knot as code
 use Rattle.s66_node.specs.declared.knot.Knot.TheVariants as line
 use Rattle.s66_node.specs.Pieces.{PieceOf, told_tree}
+use Rattle.s66_node.specs.Outlines.{line_byte}
 use Rattle.s66_node.specs.SeenKnots.{seen_knot}
 use Rattle.s66_node.specs.Walked.{front}
 use Rattle.s66_ledger.specs.declared.node.Node.{Node}
 use Rattle.s66_ledger.specs.declared.subtree.Place.{Place}
-use Rattle.s66_ledger.specs.Nodes.{prefixes, nodes_of, node_at, HaveDepths}
+use Rattle.s66_ledger.specs.Nodes.{prefixes, nodes_of, node_at, lines_of, HaveDepths}
 use Rattle.s66_ledger.specs.Planting.{kids_of, knot_state, knot_value, made_state, told_state, IsReading}
-use Rattle.s66_ledger.specs.Subtrees.{placed_parent, placed, settled_state, settled, planted, CanBeOver, IsPlanted, IsSubtreeOf}
+use Rattle.s66_ledger.specs.Subtrees.{placed_parent, placed, settled_state, settled, planted, lines_below, CanBeOver, IsPlanted, IsSubtreeOf}
 use Rattle.s66_ledger.proofs.Chains.{chain-of}
 use Rattle.s66_ledger.proofs.Depths.{depths-push}
 use Rattle.s66_ledger.proofs.Reading.{reading-start, reading-within, reading-over, reading-room, reading-up, reading-next, reading-tip, reading-deeper, reading-split, reading-done, reading-none}
@@ -39,6 +40,17 @@ length-planted best root made nodes =
 
 shifted-push : (root first : ℕ) (old ps : List Place) (q : Place) → old ≡ ps ++ q ∷ [] → map (shifted root first) old ≡ map (shifted root first) ps ++ shifted root first q ∷ []
 shifted-push root first old ps q is = ap (map (shifted root first)) is ∙ map-append (shifted root first) ps (q ∷ [])
+
+-- those that are planted keep their lines
+pub lines-planted : (best root : ℕ) (made nodes : List Node) → lines_of (planted best root made nodes) ≡ lines_of made ++ lines_of nodes
+lines-planted best root made nodes =
+    let line = λ (n : Node). n.line in
+    map-append line made (map (placed root (length made)) (map (settled best) nodes))
+    ∙ ap (λ lines. lines_of made ++ lines) (lines-placed root (length made) best nodes)
+  where
+    lines-placed : (root first best : ℕ) (nodes : List Node) → lines_of (map (placed root first) (map (settled best) nodes)) ≡ lines_of nodes
+    lines-placed root first best [] = refl
+    lines-placed root first best (x ∷ xs) = ap (λ lines. x.line ∷ lines) (lines-placed root first best xs)
 
 -- a leaf that was closed at first has in the end the state of its line
 settled-line : (best : ℕ) (k : code.Knot) → settled_state best (knot_value k) (made_state k) ≡ knot_state best k
@@ -187,23 +199,48 @@ module _ (p : PieceOf) (numbers : List ℕ) (places ps : List Place) (q : Place)
         let s = shifted root (length made) in
         omega (arith, reading-deeper p.problem 0 (all_planted p 0 made numbers) g.at (map s places) (map s ps) (s q) (planted 0 root made nodes) later g.reading (shifted-push root (length made) places ps q popped) n ns ms after is first, length-map ps s)
 
+-- ITS LINES
+
+-- those of the nodes so far, and those to come, are all below the root
+abbrev pub AreLined : List (Knot Told) → List Node → Type 0
+AreLined lines nodes = lines_of nodes ++ map line_byte (drop (length nodes + 1) lines) ≡ drop 1 (map line_byte lines)
+
+pub lined-start : (lines : List (Knot Told)) → AreLined lines []
+lined-start [] = refl
+lined-start (k ∷ ks) = refl
+
+pub lined-more : (lines : List (Knot Told)) (nodes more : List Node) (x : Node) (k : Knot Told) → AreLined lines nodes → more ≡ nodes ++ x ∷ [] → drop (length nodes + 1) lines ≡ k ∷ drop (length nodes + 1 + 1) lines → x.line ≡ line_byte k → AreLined lines more
+lined-more lines nodes more x k lined put first told =
+    let after = map line_byte (drop (length nodes + 1 + 1) lines) in
+    let longer : length more ≡ length nodes + 1 = omega (arith, ap length put, length-append nodes (x ∷ [])) in
+    ap (λ i. lines_of more ++ map line_byte (drop (i + 1) lines)) longer
+    ∙ (ap (λ (xs : List Node). lines_of xs ++ after) put
+    ∙ (ap (λ ls. ls ++ after) (map-append (λ (n : Node). n.line) nodes (x ∷ []))
+    ∙ (append_assoc (lines_of nodes) (x.line ∷ []) after
+    ∙ (ap (λ byte. lines_of nodes ++ byte ∷ after) told
+    ∙ (ap (λ ks. lines_of nodes ++ map line_byte ks) (sym first) ∙ lined)))))
+
+lined-done : (lines : List (Knot Told)) (nodes : List Node) → AreLined lines nodes → drop (length nodes + 1) lines ≡ [] → lines_of nodes ≡ drop 1 (map line_byte lines)
+lined-done lines nodes lined none = sym (ap (λ ks. lines_of nodes ++ map line_byte ks) none ∙ append-nil (lines_of nodes)) ∙ lined
+
 -- THE END
 
-pub growing-done : (p : PieceOf) (numbers : List ℕ) (places : List Place) (nodes : List Node) (lines : List (Knot Told)) → AreGrowing p numbers places nodes (drop (length nodes + 1) lines) → places ≡ [] → lines ≡ p.knots → length nodes + 1 ≤ length lines → length p.prefix + 1 + length p.knots < 2 ^ 32 → told_tree p ≡ Parted numbers (kids_of (told_tree p)) → IsSubtreeOf p nodes
-growing-done p numbers places nodes lines growing none whole within few split =
+pub growing-done : (p : PieceOf) (numbers : List ℕ) (places : List Place) (nodes : List Node) (lines : List (Knot Told)) → AreGrowing p numbers places nodes (drop (length nodes + 1) lines) → places ≡ [] → lines ≡ p.knots → length nodes + 1 ≤ length lines → length p.prefix + 1 + length p.knots < 2 ^ 32 → told_tree p ≡ Parted numbers (kids_of (told_tree p)) → AreLined lines nodes → IsSubtreeOf p nodes
+growing-done p numbers places nodes lines growing none whole within few split lined =
+    let later = drop (length nodes + 1) lines in
+    let all_read : length later ≡ 0 =
+    (let root = length p.prefix in
+    let (made, over) = some-over p few in
+    let g = growing 0 root made over in
+    let s = shifted root (length made) in
+    omega (arith, reading-none p.problem 0 (all_planted p 0 made numbers) g.at (map s places) (planted 0 root made nodes) later (ap (map s) none) g.reading)) in
     record {
-      count =
-          (let root = length p.prefix in
-          let (made, over) = some-over p few in
-          let g = growing 0 root made over in
-          let s = shifted root (length made) in
-          let later = drop (length nodes + 1) lines in
-          omega (arith, within, ap length whole, length-drop (length nodes + 1) lines, reading-none p.problem 0 (all_planted p 0 made numbers) g.at (map s places) (planted 0 root made nodes) later (ap (map s) none) g.reading));
+      count = omega (arith, within, ap length whole, length-drop (length nodes + 1) lines, all_read);
+      lines = lined-done lines nodes lined (nil_from_length later all_read) ∙ ap (λ (ks : List (Knot Told)). drop 1 (map line_byte ks)) whole;
       anywhere =
           λ best root made over.
           (let g = growing best root made over in
           let s = shifted root (length made) in
-          let later = drop (length nodes + 1) lines in
           let there : nodes_of p.problem (planted best root made nodes) ≡ all_planted p best made numbers =
           reading-done p.problem best (all_planted p best made numbers) g.at (map s places) (planted best root made nodes) later (ap (map s) none) g.reading in
           record {
@@ -213,11 +250,15 @@ growing-done p numbers places nodes lines growing none whole within few split =
           });
     }
 
+pub tip-lineless : (p : PieceOf) → length p.knots ≡ 1 → lines_below p ≡ []
+tip-lineless p one = nil_from_length (lines_below p) (omega (arith, one, length-drop 1 (map line_byte p.knots), length-map p.knots line_byte))
+
 -- a tree that isn't split has no node below its root
 pub tip-subtree : (p : PieceOf) (t : Told) → told_tree p ≡ Alone t → length p.knots ≡ 1 → IsSubtreeOf p []
 tip-subtree p t alone one =
     record {
       count = sym one;
+      lines = sym (tip-lineless p one);
       anywhere =
           λ best root made over.
           subst (IsPlanted p best made) (sym (append-nil made))

@@ -1,5 +1,5 @@
 -- To be believed: which event of the machine an entry of a ledger's history is, and with which reply.
-use Rattle.std.specs.Prelude.{ℕ, true, Some, None, if◌then◌else◌, List, [], ◌∷◌, take, drop}
+use Rattle.std.specs.Prelude.{ℕ, true, Some, None, if◌then◌else◌, ◌+◌, List, [], ◌∷◌, ◌++◌, take, drop}
 use Rattle.s66_model.specs.Timing.{Problem}
 use Rattle.s66_model.specs.Ledger as model
 use Rattle.s66_model.specs.Ledger.{Event, Reply, Granted, Claimed, Returned, NotOut, Retired, Taken}
@@ -26,24 +26,36 @@ error_of refusal.OverAllowance = error.OverAllowance
 abbrev pub byte_count : Entry → ℕ
 byte_count (entry.Grant _ _) = 0
 byte_count (entry.Claim _ _) = 0
-byte_count (entry.Taken _ _ _ bytes _) = bytes
+byte_count (entry.Taken _ _ depth _ _) = depth + 1
 byte_count (entry.Refused _ _ _ depth _ _) = depth
 byte_count (entry.Offer _ _ count _ _) = count
 byte_count (entry.Back _ _ _) = 0
 byte_count (entry.Retire _) = 0
 
--- of a ledger of this problem, by the entry and its own bytes
-abbrev pub entry_of : Problem → Entry → List ℕ → Event × Reply
-entry_of b (entry.Grant w splits) own_bytes = (model.Grant w, Granted splits)
-entry_of b (entry.Claim w node) own_bytes = (model.Claim w, Claimed node)
-entry_of b (entry.Taken w node depth bytes splits) own_bytes =
-    (model.Graft w node true (outline_prefix depth own_bytes) splits (Some (outline_tree b depth own_bytes)), Taken)
-entry_of b (entry.Refused w node own depth splits why) own_bytes = (model.Graft w node own own_bytes splits None, refusal_reply why)
-entry_of b (entry.Offer w own count time offered) own_bytes = (model.Offer w own own_bytes time, offered_reply offered)
-entry_of b (entry.Back w node returned) own_bytes = (model.Back w node, if returned then Returned else NotOut)
-entry_of b (entry.Retire w) own_bytes = (model.Retire w, Retired)
+-- how many nodes of the ledger the entry made, each by a line of its piece below the root
+abbrev pub line_count : Entry → ℕ
+line_count (entry.Grant _ _) = 0
+line_count (entry.Claim _ _) = 0
+line_count (entry.Taken _ _ _ lines _) = lines
+line_count (entry.Refused _ _ _ _ _ _) = 0
+line_count (entry.Offer _ _ _ _ _) = 0
+line_count (entry.Back _ _ _) = 0
+line_count (entry.Retire _) = 0
 
--- of entries, where the bytes of one come after those of the entries before it
-abbrev pub entries_of : Problem → List Entry → List ℕ → List (Event × Reply)
-entries_of b [] bytes = []
-entries_of b (e ∷ es) bytes = entry_of b e (take (byte_count e) bytes) ∷ entries_of b es (drop (byte_count e) bytes)
+-- of a ledger of this problem, by the entry, its own bytes, and those of the lines that it made nodes of; the bytes of a piece that was taken end with its root's line
+abbrev pub entry_of : Problem → Entry → List ℕ → List ℕ → Event × Reply
+entry_of b (entry.Grant w splits) own_bytes own_lines = (model.Grant w, Granted splits)
+entry_of b (entry.Claim w node) own_bytes own_lines = (model.Claim w, Claimed node)
+entry_of b (entry.Taken w node depth lines splits) own_bytes own_lines =
+    let outline = own_bytes ++ own_lines in
+    (model.Graft w node true (outline_prefix depth outline) splits (Some (outline_tree b depth outline)), Taken)
+entry_of b (entry.Refused w node own depth splits why) own_bytes own_lines = (model.Graft w node own own_bytes splits None, refusal_reply why)
+entry_of b (entry.Offer w own count time offered) own_bytes own_lines = (model.Offer w own own_bytes time, offered_reply offered)
+entry_of b (entry.Back w node returned) own_bytes own_lines = (model.Back w node, if returned then Returned else NotOut)
+entry_of b (entry.Retire w) own_bytes own_lines = (model.Retire w, Retired)
+
+-- of entries, where the bytes of one come after those of the entries before it, and so do its lines
+abbrev pub entries_of : Problem → List Entry → List ℕ → List ℕ → List (Event × Reply)
+entries_of b [] bytes lines = []
+entries_of b (e ∷ es) bytes lines =
+    entry_of b e (take (byte_count e) bytes) (take (line_count e) lines) ∷ entries_of b es (drop (byte_count e) bytes) (drop (line_count e) lines)

@@ -7,7 +7,7 @@ use Rattle.s66_model.specs.Reached.{IsReached}
 use Rattle.s66_time.specs.TimedOrder.{TimedOrder}
 use Rattle.s66_ledger.specs.declared.node.Node.{Node}
 use Rattle.s66_ledger.specs.declared.limits.TheConstants.{BUDGET_LIMIT}
-use Rattle.s66_ledger.specs.Nodes.{nodes_of, HaveFloors}
+use Rattle.s66_ledger.specs.Nodes.{nodes_of, lines_of, HaveFloors}
 
 -- a ledger without its history, for a budget and so many workers
 pub record MachineOf : Type 0 where
@@ -15,6 +15,8 @@ pub record MachineOf : Type 0 where
   pub budget : ℕ
   pub workers : ℕ
   pub state : Ledger
+  -- the bytes of the lines that made its nodes
+  pub lines : List ℕ
 
 -- one event with its reply: a step of the machine
 abbrev pub IsMove : MachineOf → Event → Reply → MachineOf → Type 0
@@ -27,7 +29,7 @@ state_of b nodes best left allowances spent =
 
 abbrev pub machine_of : Problem → ℕ → List Node → List ℕ → ℕ → List ℕ → ℕ → MachineOf
 machine_of b budget nodes best left allowances spent =
-    record { problem = b; budget = budget; workers = length allowances; state = state_of b nodes best left allowances spent }
+    record { problem = b; budget = budget; workers = length allowances; state = state_of b nodes best left allowances spent; lines = lines_of nodes }
 
 pub record IsKept (b : Problem) (budget : ℕ) (nodes : List Node) (best : TimedOrder) (left : ℕ) (allowances : List ℕ) (spent : ℕ) : Type 0 where
   -- some history leads here from the opening

@@ -1,11 +1,11 @@
 -- To be believed: what contracts see of a ledger with its history, and what one call of it is. Used by an invariant: what is true of every ledger.
-use Rattle.std.specs.Prelude.{ℕ, ◌≡◌, List, [], ◌∷◌, ◌++◌, length}
+use Rattle.std.specs.Prelude.{ℕ, ◌≡◌, List, [], ◌∷◌, ◌++◌, ◌+◌, length, drop}
 use Rattle.s66_isa.specs.Lists.{weigh}
 use Rattle.s66_model.specs.Timing.{Problem}
 use Rattle.s66_model.specs.Ledger.{Ledger, Event, Reply, Step, Run, opening}
 use Rattle.s66_model.specs.Accounts.{Summary, summary_of}
 use Rattle.s66_ledger.specs.declared.entry.Entry.{Entry}
-use Rattle.s66_ledger.specs.Entries.{byte_count, entries_of}
+use Rattle.s66_ledger.specs.Entries.{byte_count, line_count, entries_of}
 use Rattle.s66_ledger.specs.Kept.{MachineOf}
 
 -- a problem's ledger, for a budget and so many workers
@@ -18,10 +18,12 @@ pub record LedgerOf : Type 0 where
   pub entries : List Entry
   -- the bytes of the entries, one's after another's
   pub bytes : List ℕ
+  -- the bytes of the lines that made its nodes
+  pub lines : List ℕ
 
--- the events of its history, with their replies
+-- the events of its history, with their replies; no line made the first node
 abbrev pub events_of : LedgerOf → List (Event × Reply)
-events_of l = entries_of l.problem l.entries l.bytes
+events_of l = entries_of l.problem l.entries l.bytes (drop 1 l.lines)
 
 -- one event with its reply: a step of the machine, and an entry
 abbrev pub IsEvent : LedgerOf → Event → Reply → LedgerOf → Type 0
@@ -29,10 +31,11 @@ IsEvent old event reply new =
     (new.problem ≡ old.problem) × (new.budget ≡ old.budget) × (new.workers ≡ old.workers)
     × Step old.problem old.state event reply new.state × (events_of new ≡ events_of old ++ (event, reply) ∷ [])
 
--- its history leads from the opening to its state, and each of its bytes is some entry's
+-- its history leads from the opening to its state, and each of its bytes is some entry's, as is each line but the first
 pub record IsRecorded (l : LedgerOf) : Type 0 where
   pub run : Run l.problem (opening l.problem l.budget l.workers) (events_of l) l.state
   pub bytes : weigh byte_count l.entries ≡ length l.bytes
+  pub lines : weigh line_count l.entries + 1 ≡ length l.lines
 
 -- what the rule of a lock reads of it
 abbrev pub account_summary : LedgerOf → Summary
@@ -40,4 +43,4 @@ account_summary l = summary_of l.problem l.budget l.workers (events_of l) l.stat
 
 abbrev pub with_history : MachineOf → List Entry → List ℕ → LedgerOf
 with_history m entries bytes =
-    record { problem = m.problem; budget = m.budget; workers = m.workers; state = m.state; entries = entries; bytes = bytes }
+    record { problem = m.problem; budget = m.budget; workers = m.workers; state = m.state; entries = entries; bytes = bytes; lines = m.lines }

@@ -1,5 +1,5 @@
 -- Used by contracts: the nodes that a ledger keeps, each by its parent and its last number, as the definition's nodes with whole prefixes.
-use Rattle.std.specs.Prelude.{ℕ, ◌≡◌, ◌≢◌, ◌<◌, min, List, [], ◌∷◌, ◌++◌, length, get_or, set}
+use Rattle.std.specs.Prelude.{ℕ, ◌≡◌, ◌≢◌, ◌<◌, min, List, [], ◌∷◌, ◌++◌, length, get_or, set, map}
 use Rattle.s66_model.specs.Timing.{Problem}
 use Rattle.s66_model.specs.Leaves.{floor, floor_value}
 use Rattle.s66_model.specs.Ledger as model
@@ -9,7 +9,7 @@ use Rattle.s66_ledger.specs.declared.node.State.TheVariants as state
 
 -- past the last one stands a node that is split
 abbrev pub no_node : Node
-no_node = record { parent = 0; value = 0; number = 0; depth = 0; state = state.Split }
+no_node = record { parent = 0; value = 0; number = 0; depth = 0; line = 0; state = state.Split }
 
 abbrev pub node_at : List Node → ℕ → Node
 node_at nodes i = get_or nodes i no_node
@@ -28,6 +28,12 @@ prefixes_from made (x ∷ xs) = prefixes_from (made ++ (get_or made x.parent [] 
 abbrev pub prefixes : List Node → List (List ℕ)
 prefixes [] = []
 prefixes (x ∷ xs) = prefixes_from ([] ∷ []) xs
+
+-- LINES
+
+-- the bytes of the lines that made them
+abbrev pub lines_of : List Node → List ℕ
+lines_of nodes = map (λ (n : Node). n.line) nodes
 
 -- STATES
 

@@ -1,11 +1,12 @@
 -- Used by contracts: the nodes of a piece below its root, before they have their place in a ledger and its best time.
-use Rattle.std.specs.Prelude.{ℕ, zero, suc, ◌+◌, ◌-◌, ◌^◌, ◌≡◌, ◌<◌, if◌then◌else◌, nat_le, min, List, [], ◌++◌, length, get_or, map}
+use Rattle.std.specs.Prelude.{ℕ, zero, suc, ◌+◌, ◌-◌, ◌^◌, ◌≡◌, ◌<◌, if◌then◌else◌, nat_le, min, List, [], ◌++◌, length, get_or, map, take, drop}
 use Rattle.s66_model.specs.Ledger.{new_nodes}
 use Rattle.s66_node.specs.Pieces.{PieceOf, tree_of}
+use Rattle.s66_node.specs.Outlines.{line_byte}
 use Rattle.s66_ledger.specs.declared.node.Node.{Node}
 use Rattle.s66_ledger.specs.declared.node.State.{State}
 use Rattle.s66_ledger.specs.declared.node.State.TheVariants as state
-use Rattle.s66_ledger.specs.Nodes.{prefixes, nodes_of, HaveFloors, HaveDepths}
+use Rattle.s66_ledger.specs.Nodes.{prefixes, nodes_of, lines_of, HaveFloors, HaveDepths}
 
 -- among them a node names its parent by the place, counted from 1, and by 0 the root
 abbrev pub placed_parent : (root first parent : ℕ) → ℕ
@@ -44,7 +45,17 @@ pub record IsPlanted (p : PieceOf) (best : ℕ) (made all : List Node) : Type 0 
   pub depths : HaveDepths all
   pub nodes : nodes_of p.problem all ≡ nodes_of p.problem made ++ new_nodes p.problem best p.prefix (tree_of p)
 
+-- THE LINES of a piece: the bytes of those below its root
+
+abbrev pub lines_below : PieceOf → List ℕ
+lines_below p = drop 1 (map line_byte p.knots)
+
+-- its prefix, by its numbers, and the byte of its root's line
+abbrev pub root_bytes : PieceOf → List ℕ
+root_bytes p = p.prefix ++ take 1 (map line_byte p.knots)
+
 -- wherever they are planted, they are the nodes of the piece
 pub record IsSubtreeOf (p : PieceOf) (nodes : List Node) : Type 0 where
   pub count : length nodes + 1 ≡ length p.knots
+  pub lines : lines_of nodes ≡ lines_below p
   pub anywhere : (best root : ℕ) (made : List Node) → CanBeOver p root made → IsPlanted p best made (planted best root made nodes)

@@ -19,12 +19,13 @@ pub enum Entry {
         w: u8,
         node: Option<u32>,
     },
-    /// A piece of so many splits was put in the place of the node. The bytes are those of its outline, of this depth.
+    /// A piece of so many splits was put in the place of the node. The bytes are the `depth` numbers of its prefix and the byte of its
+    /// root's line; those of so many lines below are in the nodes that the piece became, one in each.
     Taken {
         w: u8,
         node: u32,
         depth: u8,
-        bytes: u32,
+        lines: u32,
         splits: u32,
     },
     /// A piece of so many splits was refused; `own` tells whether it is of the ledger's block and profile. The bytes are the `depth`

@@ -1,16 +1,18 @@
-ghost use Rattle.std.specs.Prelude.{◌≡◌, ◌++◌, length, IfOk, OnOk, OnErr};
+ghost use Rattle.std.specs.Prelude.{◌≡◌, ◌++◌, OnOk, OnErr};
+ghost use Rattle.s66_node.specs.Outlines.{outline_of, IsOutlineOf};
+ghost use Rattle.s66_ledger.specs.Subtrees.{root_bytes};
 
 use crate::answer::Answer;
 use crate::entry::{Entry, refusal_of};
 use crate::history::History;
-use crate::limits::{BUDGET_LIMIT, LINES_LIMIT};
+use crate::limits::BUDGET_LIMIT;
 use crate::machine::Machine;
 use crate::reply::{BackError, GraftError, Offered};
 use crate::subtree::Subtree;
 use crate::ticket::{Ticket, node_of};
 use s66_isa::Profile;
 use s66_line::Block;
-use s66_node::{Outline, Piece};
+use s66_node::Piece;
 use s66_time::Timed;
 use std::alloc::{AllocError, Global};
 use std::marker::Model;
@@ -33,23 +35,22 @@ impl<'a> Model for Ledger<'a> {
     ghost invariant = { λ l. IsRecorded (with_history l.machine l.history.entries.items l.history.bytes.items) };
 }
 
-/// Puts an outline's bytes behind those that are kept, and tells how many they are. `Err` is want of memory; an outline of `LINES_LIMIT`
-/// bytes or more gets it in any case.
-fn keep_outline(bytes: &mut Vec<u8>, outline: &Outline) -> Result<u32, AllocError>
-    ensures count { IfOk result (λ n. n ≡ length outline.now.bytes.items) }
-    ensures ok { OnOk result (bytes.new.items ≡ bytes.old.items ++ outline.now.bytes.items) }
+/// Puts the bytes of a piece's root behind those that are kept: its prefix and the byte of its line. `Err` is want of memory.
+fn keep_root(bytes: &mut Vec<u8>, piece: &Piece) -> Result<(), AllocError>
+    ensures outline { IsOutlineOf piece.now (outline_of piece.now) }
+    ensures ok { OnOk result (bytes.new.items ≡ bytes.old.items ++ root_bytes piece.now) }
     ensures err { OnErr result (bytes.new.items ≡ bytes.old.items) }
 {
-    let count = outline.bytes.len();
-    if LINES_LIMIT <= count {
-        return Err(AllocError);
-    }
-    bytes.extend_from_slice(outline.bytes.as_slice())?;
-    Ok(count as u32)
+    let prefix = piece.prefix();
+    let line = piece.knots()[0].byte();
+    bytes.reserve(prefix.len() + 1)?;
+    bytes.extend_from_slice(prefix)?;
+    bytes.push_reserved(line);
+    Ok(())
 }
 
 impl<'a> Ledger<'a> {
-    ghost use Rattle.std.specs.Prelude.{ℕ, [], ◌≡◌, ◌≤◌, length, IfOk, IfErr, OnOk, OnErr};
+    ghost use Rattle.std.specs.Prelude.{ℕ, [], ◌≡◌, ◌≤◌, length, slice_get, IfOk, IfErr, OnOk, OnErr};
     ghost use Rattle.s66_line.specs.Block.{instrs_of};
     ghost use Rattle.s66_isa.specs.Lists.{tally, weigh};
     ghost use Rattle.s66_model.specs.Accounts.{Account};
@@ -61,7 +62,6 @@ impl<'a> Ledger<'a> {
     ghost use Rattle.s66_ledger.specs.Ledgers.{IsEvent, IsRecorded, events_of, account_summary};
     ghost use Rattle.s66_ledger.specs.Answers.{answer_of};
     ghost use Rattle.s66_ledger.specs.Grafts.{IsGraft, IsRefusedGraft, IsGraftAt, IsRefusedGraftAt};
-    ghost use Rattle.s66_node.specs.Outlines.{IsOutlineOf};
     ghost use Rattle.s66_ledger.specs.Subtrees.{IsSubtreeOf};
     ghost use Rattle.s66_ledger.specs.Claims.{claimed_node, IsTicketOf, IsLeastOpen};
     ghost use Rattle.s66_ledger.specs.Replies.{offered_reply};
@@ -127,6 +127,14 @@ impl<'a> Ledger<'a> {
         ensures run { Run self.now.problem (opening self.now.problem self.now.budget self.now.workers) (events_of self.now) self.now.state }
     {
         &self.history
+    }
+
+    /// What the line of a piece says that made the node of this number, as `Knot::byte` tells it: of each piece that was taken, the
+    /// history leaves these bytes to the nodes. No line made node 0. None where there is no such node.
+    pub fn line(&self, node: u32) -> Option<u8>
+        ensures { result ≡ slice_get self.now.lines node }
+    {
+        self.machine.line_of(node)
     }
 
     /// How many splits are spent, which is what the accounts of the workers add up to.
@@ -276,8 +284,7 @@ impl<'a> Ledger<'a> {
     }
 
     /// Puts a piece in the place of a node that was handed out, and spends its splits: the node takes the state of the piece's root,
-    /// and the piece's other prefixes become nodes. A leaf that is below the best time is kept open. The piece's outline goes into
-    /// the history.
+    /// and the piece's other prefixes become nodes. A leaf that is below the best time is kept open.
     ///
     /// In time linear in the piece's lines, with a logarithm of the number of open nodes for each that is open; all room is made
     /// before anything changes.
@@ -296,28 +303,23 @@ impl<'a> Ledger<'a> {
         let Ok(subtree) = Subtree::of(self.alloc, &piece) else {
             return Err((GraftError::OutOfMemory, ticket, piece));
         };
-        let Ok(outline) = piece.outline(self.alloc) else {
-            return Err((GraftError::OutOfMemory, ticket, piece));
-        };
-        match self.graft_at(w, ticket.node(), &piece, &subtree, &outline) {
+        match self.graft_at(w, ticket.node(), &piece, &subtree) {
             Ok(()) => Ok(()),
             Err(why) => Err((why, ticket, piece)),
         }
     }
 
-    /// Puts a piece, whose subtree and outline come with it, in the place of the node of this number, in the time of `graft` and with
-    /// its refusals. All three stay with the caller, who can make and drop them where no other thread waits.
+    /// Puts a piece, whose subtree comes with it, in the place of the node of this number, in the time of `graft` and with its refusals.
+    /// Both stay with the caller, who can make and drop them where no other thread waits.
     pub fn graft_at(
         &mut self,
         w: u8,
         node: u32,
         piece: &Piece,
         subtree: &Subtree,
-        outline: &Outline,
     ) -> Result<(), GraftError>
         requires worker { (1 ≤ w) × (w ≤ self.old.workers) }
         requires subtree { IsSubtreeOf piece.now subtree.now }
-        requires outline { IsOutlineOf piece.now outline.now }
         ensures ok { OnOk result (IsGraftAt self.old w node piece.now Taken self.new) }
         ensures refused { IfErr result (λ why. IsRefusedGraftAt self.old w node piece.now why self.new) }
         ensures err { OnErr result (self.new.state ≡ self.old.state) }
@@ -326,17 +328,19 @@ impl<'a> Ledger<'a> {
             return Err(GraftError::OutOfMemory);
         };
         let kept = self.history.bytes.len();
-        let Ok(bytes) = keep_outline(&mut self.history.bytes, outline) else {
+        let Ok(()) = keep_root(&mut self.history.bytes, piece) else {
             return Err(GraftError::OutOfMemory);
         };
+        let prefix = piece.prefix();
+        let depth = prefix.len() as u8;
         let splits = piece.splits();
         let error = match self.machine.graft(w, node, piece, subtree) {
             Ok(()) => {
                 self.history.entries.push_reserved(Entry::Taken {
                     w,
                     node,
-                    depth: outline.depth,
-                    bytes,
+                    depth,
+                    lines: subtree.count(),
                     splits,
                 });
                 return Ok(());
@@ -348,12 +352,12 @@ impl<'a> Ledger<'a> {
             return Err(error);
         };
         let own = piece.is_of(self.machine.block(), self.machine.profile());
-        self.history.bytes.truncate(kept + outline.depth as usize);
+        self.history.bytes.truncate(kept + depth as usize);
         self.history.entries.push_reserved(Entry::Refused {
             w,
             node,
             own,
-            depth: outline.depth,
+            depth,
             splits,
             why,
         });

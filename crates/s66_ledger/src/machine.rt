@@ -39,7 +39,7 @@ impl<'a> Model for Machine<'a> {
 }
 
 impl<'a> Machine<'a> {
-    ghost use Rattle.std.specs.Prelude.{ℕ, Bool, true, false, Some, None, ◌+◌, ◌≡◌, ◌<◌, ◌≤◌, ◌⊎◌, ◌↔◌, length, IfOk, IfErr, IfSome, IfNone, OnOk, OnErr, IsTrue, if◌then◌else◌};
+    ghost use Rattle.std.specs.Prelude.{ℕ, Bool, true, false, Some, None, ◌+◌, ◌++◌, ◌≡◌, ◌<◌, ◌≤◌, ◌⊎◌, ◌↔◌, length, slice_get, IfOk, IfErr, IfSome, IfNone, OnOk, OnErr, IsTrue, if◌then◌else◌};
     ghost use Rattle.s66_line.specs.Block.{instrs_of};
     ghost use Rattle.s66_isa.specs.Lists.{tally};
     ghost use Rattle.s66_model.specs.Timing.{total_of};
@@ -57,7 +57,7 @@ impl<'a> Machine<'a> {
     ghost use Rattle.s66_ledger.specs.GraftMoves.{IsGraftMove, IsRefusedMove};
     ghost use Rattle.s66_ledger.specs.Claims.{claimed_node, IsTicketOf, IsLeastOpen};
     ghost use Rattle.s66_ledger.specs.Replies.{offered_reply};
-    ghost use Rattle.s66_ledger.specs.Subtrees.{IsSubtreeOf};
+    ghost use Rattle.s66_ledger.specs.Subtrees.{IsSubtreeOf, lines_below};
     ghost use Rattle.s66_ledger.specs.declared.limits.TheConstants.{BUDGET_LIMIT};
     ghost use Rattle.s66_ledger.specs.declared.reply.BackError.TheVariants as refused;
 
@@ -74,6 +74,7 @@ impl<'a> Machine<'a> {
         ensures budget { IfOk result (λ l. l.budget ≡ budget) }
         ensures workers { IfOk result (λ l. l.workers ≡ workers) }
         ensures state { IfOk result (λ l. l.state ≡ opening l.problem budget workers) }
+        ensures lines { IfOk result (λ l. length l.lines ≡ 1) }
     {
         let mut allowances = Vec::new(alloc);
         for _ in 0..workers {
@@ -153,7 +154,8 @@ impl<'a> Machine<'a> {
     /// Moves `GRANT_LIMIT` splits of the budget to the worker, or what is left of it, and tells how many.
     pub fn grant(&mut self, w: u8) -> u32
         requires { (1 ≤ w) × (w ≤ self.old.workers) }
-        ensures { IsMove self.old (Grant w) (Granted result) self.new }
+        ensures granted { IsMove self.old (Grant w) (Granted result) self.new }
+        ensures lines { self.new.lines ≡ self.old.lines }
     {
         let share = self.left.min(GRANT_LIMIT);
         self.left -= share;
@@ -164,7 +166,8 @@ impl<'a> Machine<'a> {
     /// Gives the worker's allowance back to the budget.
     pub fn retire(&mut self, w: u8)
         requires { (1 ≤ w) × (w ≤ self.old.workers) }
-        ensures { IsMove self.old (Retire w) Retired self.new }
+        ensures retired { IsMove self.old (Retire w) Retired self.new }
+        ensures lines { self.new.lines ≡ self.old.lines }
     {
         self.retire_at(w as usize - 1);
     }
@@ -172,7 +175,8 @@ impl<'a> Machine<'a> {
     /// Gives the allowance of the worker at this place, from 0, back to the budget.
     pub(crate) fn retire_at(&mut self, at: usize)
         requires { at < self.old.workers }
-        ensures { IsMove self.old (Retire (at + 1)) Retired self.new }
+        ensures retired { IsMove self.old (Retire (at + 1)) Retired self.new }
+        ensures lines { self.new.lines ≡ self.old.lines }
     {
         self.left += self.allowances[at];
         self.allowances[at] = 0;
@@ -183,6 +187,7 @@ impl<'a> Machine<'a> {
     pub fn claim(&mut self, w: u8) -> Option<Ticket>
         requires { (1 ≤ w) × (w ≤ self.old.workers) }
         ensures ok { IsMove self.old (Claim w) (Claimed (claimed_node result)) self.new }
+        ensures lines { self.new.lines ≡ self.old.lines }
         ensures ticket { IsTicketOf self.old.state result }
         ensures least { IsLeastOpen self.old.problem self.old.state result }
     {
@@ -198,6 +203,7 @@ impl<'a> Machine<'a> {
     pub fn back(&mut self, w: u8, node: u32) -> Result<(), BackError>
         requires { (1 ≤ w) × (w ≤ self.old.workers) }
         ensures ok { OnOk result (IsMove self.old (Back w node) Returned self.new) }
+        ensures lines { self.new.lines ≡ self.old.lines }
         ensures not_out { IfErr result (λ e. e ≡ refused.NotOut → IsMove self.old (Back w node) NotOut self.new) }
         ensures err { OnErr result (self.new ≡ self.old) }
     {
@@ -253,6 +259,13 @@ impl<'a> Machine<'a> {
         self.table.count() as u32
     }
 
+    /// The byte of the line that made a node, where there is one of this number.
+    pub fn line_of(&self, node: u32) -> Option<u8>
+        ensures { result ≡ slice_get self.now.lines node }
+    {
+        self.table.line_of(node)
+    }
+
     /// The whole order of a node that is open or out, with its floor below the best time; None of any other node, in constant time.
     pub(crate) fn promising_order(&self, node: u32) -> Option<ArrayVec<u8, BLOCK_LIMIT>>
         requires { node < length self.now.state.nodes }
@@ -275,7 +288,8 @@ impl<'a> Machine<'a> {
     /// Makes an order the best if it is faster.
     pub fn offer(&mut self, w: u8, timed: Timed) -> Offered
         requires { (1 ≤ w) × (w ≤ self.old.workers) }
-        ensures { (event : Event) × IsOfferOf self.old.problem w timed.problem timed.numbers event × IsMove self.old event (offered_reply result) self.new }
+        ensures offered { (event : Event) × IsOfferOf self.old.problem w timed.problem timed.numbers event × IsMove self.old event (offered_reply result) self.new }
+        ensures lines { self.new.lines ≡ self.old.lines }
     {
         if !timed.is_of(self.block, &self.profile) {
             return Offered::OtherBlock;
@@ -305,6 +319,7 @@ impl<'a> Machine<'a> {
         requires worker { (1 ≤ w) × (w ≤ self.old.workers) }
         requires subtree { IsSubtreeOf piece.now subtree.now }
         ensures ok { OnOk result (IsGraftMove self.old w node piece.now Taken self.new) }
+        ensures lines { OnOk result (self.new.lines ≡ self.old.lines ++ lines_below piece.now) }
         ensures refused { IfErr result (λ e. IsRefusedMove self.old w node piece.now e self.new) }
         ensures err { OnErr result (self.new ≡ self.old) }
     {

@@ -1,3 +1,5 @@
+use s66_node::FRONTIER;
+
 /// What a node of a ledger is: it can be claimed, is handed out, is closed with its floor, or is split.
 #[derive(Clone, Copy, Debug, PartialEq, Eq)]
 pub enum State {
@@ -36,22 +38,26 @@ pub struct Node {
     pub number: u8,
     /// How many numbers the prefix has.
     pub depth: u8,
+    /// The byte of the line that made it, in the piece that was grafted.
+    pub line: u8,
     pub state: State,
 }
 
 impl Node {
     ghost use Rattle.std.specs.Prelude.{◌≡◌};
+    ghost use Rattle.s66_node.specs.declared.knot.TheConstants.{FRONTIER};
     ghost use Rattle.s66_ledger.specs.declared.node.Node.{Node};
 
     /// The empty prefix, open.
     pub fn root(value: u32) -> Node
-        ensures { result ≡ record { parent = 0; value = value; number = 0; depth = 0; state = State.Open } }
+        ensures { result ≡ record { parent = 0; value = value; number = 0; depth = 0; line = FRONTIER; state = State.Open } }
     {
         Node {
             parent: 0,
             value,
             number: 0,
             depth: 0,
+            line: FRONTIER,
             state: State::Open,
         }
     }

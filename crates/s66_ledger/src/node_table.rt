@@ -38,7 +38,7 @@ impl Model for NodeTable {
 }
 
 impl NodeTable {
-    ghost use Rattle.std.specs.Prelude.{ℕ, [], ◌∷◌, ◌++◌, ◌+◌, ◌^◌, ◌≡◌, ◌<◌, ◌≤◌, ◌↔◌, true, false, IsTrue, IfOk, OnOk, OnErr, IfSome, IfNone, length, get_or};
+    ghost use Rattle.std.specs.Prelude.{ℕ, [], ◌∷◌, ◌++◌, ◌+◌, ◌^◌, ◌≡◌, ◌<◌, ◌≤◌, ◌↔◌, true, false, IsTrue, IfOk, OnOk, OnErr, IfSome, IfNone, length, get_or, slice_get};
     ghost use Rattle.s66_isa.specs.Lists.{tally, least};
     ghost use Rattle.s66_ledger.specs.LiveNodes.{is_live_state, live_values};
     ghost use Rattle.s66_line.specs.declared.limits.TheConstants.{BLOCK_LIMIT};
@@ -46,13 +46,14 @@ impl NodeTable {
     ghost use Rattle.s66_model.specs.Ledger as model;
     ghost use Rattle.s66_model.specs.Ledger.{root_state, new_nodes};
     ghost use Rattle.s66_node.specs.Pieces.{tree_of};
-    ghost use Rattle.s66_ledger.specs.Subtrees.{IsSubtreeOf, planted};
-    ghost use Rattle.s66_ledger.specs.Nodes.{node_at, with_state, prefixes, nodes_of, HaveFloors, HaveDepths};
+    ghost use Rattle.s66_node.specs.declared.knot.TheConstants.{FRONTIER};
+    ghost use Rattle.s66_ledger.specs.Subtrees.{IsSubtreeOf, planted, lines_below};
+    ghost use Rattle.s66_ledger.specs.Nodes.{node_at, with_state, prefixes, nodes_of, lines_of, HaveFloors, HaveDepths};
     ghost use Rattle.s66_ledger.specs.OpenNodes.{is_open, IsOut, ranked};
 
     /// One node, the empty prefix with its floor, open.
     pub fn new(alloc: Global, floor: u32) -> Result<NodeTable, AllocError>
-        ensures { IfOk result (λ t. t ≡ (record { parent = 0; value = floor; number = 0; depth = 0; state = State.Open }) ∷ []) }
+        ensures { IfOk result (λ t. t ≡ (record { parent = 0; value = floor; number = 0; depth = 0; line = FRONTIER; state = State.Open }) ∷ []) }
     {
         let mut nodes = Vec::new(alloc);
         nodes.push(Node::root(floor))?;
@@ -160,6 +161,13 @@ impl NodeTable {
         self.nodes[node as usize].value
     }
 
+    /// The byte of the line that made a node, where there is one of this number.
+    pub fn line_of(&self, node: u32) -> Option<u8>
+        ensures { result ≡ slice_get (lines_of self.now) node }
+    {
+        Some(self.nodes.get(node as usize)?.line)
+    }
+
     /// Hands out the open node of the least floor, of equal ones the deepest, and of these the newest; None only where no node is
     /// open. In time logarithmic in the number of open nodes.
     pub fn claim(&mut self) -> Option<u32>
@@ -210,6 +218,7 @@ impl NodeTable {
         ensures err { OnErr result (self.new ≡ self.old) }
         ensures count { OnOk result (length self.new + 1 ≡ length self.old + length piece.now.knots) }
         ensures floors { OnOk result (HaveFloors piece.now.problem self.new) }
+        ensures lines { OnOk result (lines_of self.new ≡ lines_of self.old ++ lines_below piece.now) }
         ensures ok { OnOk result (nodes_of piece.now.problem self.new ≡ model.with_state (nodes_of piece.now.problem self.old) root (root_state piece.now.problem best piece.now.prefix (tree_of piece.now)) ++ new_nodes piece.now.problem best piece.now.prefix (tree_of piece.now)) }
     {
         // the nodes have depths

@@ -67,6 +67,7 @@ fn placed(node: &Node, root: u32, first: u32, best: u32) -> Node
         value: node.value,
         number: node.number,
         depth: node.depth,
+        line: node.line,
         state: settled_state(node, best),
     }
 }

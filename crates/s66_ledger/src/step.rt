@@ -90,8 +90,7 @@ impl Ledger<'_> {
         ensures err { OnErr result (self.new ≡ self.old) }
     {
         let subtree = Subtree::of(self.alloc, &piece)?;
-        let outline = piece.outline(self.alloc)?;
-        match self.graft_at(w, node, &piece, &subtree, &outline) {
+        match self.graft_at(w, node, &piece, &subtree) {
             Ok(()) => Ok(Reply::Taken),
             Err(GraftError::NotOut) => Ok(Reply::NotOut),
             Err(GraftError::OtherPrefix) => Ok(Reply::OtherPrefix),

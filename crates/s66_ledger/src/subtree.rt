@@ -23,12 +23,15 @@ pub struct Subtree {
 }
 
 impl Model for Subtree {
-    ghost use Rattle.std.specs.Prelude.{List};
+    ghost use Rattle.std.specs.Prelude.{List, ◌<◌, length};
     ghost use Rattle.s66_ledger.specs.declared.node.Node.{Node};
+    ghost use Rattle.s66_ledger.specs.declared.limits.TheConstants.{LINES_LIMIT};
 
     ghost Value = { List Node };
 
     ghost view = { λ s. s.nodes.items };
+
+    ghost invariant = { λ s. length s.nodes.items < LINES_LIMIT };
 }
 
 /// A split node by its place, and the last numbers of its children that are still to come.
@@ -83,6 +86,7 @@ fn nodes_below(alloc: Global, numbers: Set, piece: &Piece) -> Result<Vec<Node>, 
                 value: value_of(knot),
                 number,
                 depth: above + places.len() as u8,
+                line: knot.byte(),
                 state: state_of(knot),
             });
             if let Knot::Split(numbers) = knot {
@@ -110,6 +114,13 @@ impl Subtree {
             Knot::Leaf { .. } | Knot::Frontier { .. } => Vec::new(alloc),
         };
         Ok(Subtree { nodes })
+    }
+
+    /// How many nodes it has.
+    pub(crate) fn count(&self) -> u32
+        ensures { result ≡ length self.now }
+    {
+        self.nodes.len() as u32
     }
 
     /// Its nodes.

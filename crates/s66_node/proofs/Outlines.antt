@@ -1,28 +1,14 @@
 -- An outline of a piece tells its prefix and its tree.
-use Rattle.std.proofs.Common.{ℕ, ◌≡◌, Bool, true, false, List, [], ◌∷◌, ◌++◌, ◌+◌, map, take, length, replicate, append_assoc, refl, sym, ap, ◌∙◌, arith}
+use Rattle.std.proofs.Common.{ℕ, ◌≡◌, Bool, true, false, List, [], ◌∷◌, ◌++◌, ◌+◌, map, length, replicate, refl, sym, ap, subst, ◌∙◌, arith}
 use Rattle.std.proofs.lemmas.Bool.{ne_eqb}
-use Rattle.std.proofs.lemmas.List.{map-append}
 use Rattle.std.proofs.Math.Seq.{take-append_seam, drop-append_seam}
 use Rattle.s66_model.specs.Timing.{Problem}
 use Rattle.s66_model.specs.Tree.{Tree, TreeHolds, Kids, KidsHold, NoMore, Unsplit, Split, Alone, Parted, Knot, AtTip, AtSplit}
 use Rattle.s66_model.specs.Preorder.{first_kids, later_kids, forest, first_tree, read_tree}
 use Rattle.s66_model.specs.Told.{Told, ToldLeaf, ToldFrontier, ToldHolds, tip_of, kids_seen, tree_seen}
-use Rattle.s66_dep.specs.Members.{numbers_in}
-use Rattle.s66_node.specs.declared.knot.Knot as code
-use Rattle.s66_node.specs.declared.knot.Knot.TheVariants as line
-use Rattle.s66_node.specs.SeenKnots.{seen}
-use Rattle.s66_node.specs.Pieces.{PieceOf, told_tree, tree_of}
-use Rattle.s66_node.specs.declared.outline.Outline.{Outline}
-use Rattle.s66_node.specs.declared.outline.TheConstants.{LEAF, FRONTIER, SPLIT}
-use Rattle.s66_node.specs.Outlines.{line_byte, told_line, outline_prefix, outline_lines, outline_tip, outline_kids, with_ready, outline_tree, IsOutlineOf}
-
--- one line more
-pub next-bytes : (prefix : List ℕ) (knots : List code.Knot) (knot : code.Knot) (i : ℕ) → take (i + 1) knots ≡ take i knots ++ knot ∷ [] → (old new : List ℕ) (byte : ℕ) → old ≡ prefix ++ map line_byte (take i knots) → byte ≡ line_byte knot → new ≡ old ++ byte ∷ [] → new ≡ prefix ++ map line_byte (take (i + 1) knots)
-next-bytes prefix knots knot i next old new byte so_far is pushed =
-    pushed
-    ∙ (rw (so_far, is) refl
-    ∙ (append_assoc prefix (map line_byte (take i knots)) (line_byte knot ∷ [])
-    ∙ ap (λ bytes. prefix ++ bytes) (sym (ap (map line_byte) next ∙ map-append line_byte (take i knots) (knot ∷ [])))))
+use Rattle.s66_node.specs.Pieces.{PieceOf, IsKept, told_tree, tree_of}
+use Rattle.s66_node.specs.declared.knot.TheConstants.{LEAF, FRONTIER, SPLIT}
+use Rattle.s66_node.specs.Outlines.{line_byte, told_line, outline_of, outline_prefix, outline_lines, outline_tip, outline_kids, with_ready, outline_tree, IsOutlineOf}
 
 -- WITHOUT VALUES AND NUMBERS
 
@@ -53,13 +39,13 @@ split-told count =
     rw (ne_eqb (SPLIT + count) LEAF (λ e. omega (arith, e)), ne_eqb (SPLIT + count) FRONTIER (λ e. omega (arith, e)))
     (ap (λ n. AtSplit (replicate n 0)) (omega arith))
 
-lines-untold : (knots : List code.Knot) → map told_line (map line_byte knots) ≡ map untold_knot (seen knots)
+lines-untold : (knots : List (Knot Told)) → map told_line (map line_byte knots) ≡ map untold_knot knots
 lines-untold [] = refl
-lines-untold (line.Split numbers ∷ knots) =
-    ap (λ told. told ∷ map told_line (map line_byte knots)) (split-told (length (numbers_in numbers)))
-    ∙ ap (λ lines. AtSplit (opened (numbers_in numbers)) ∷ lines) (lines-untold knots)
-lines-untold (line.Leaf value ∷ knots) = rw (lines-untold knots) refl
-lines-untold (line.Frontier value ∷ knots) = rw (lines-untold knots) refl
+lines-untold (AtSplit numbers ∷ knots) =
+    ap (λ told. told ∷ map told_line (map line_byte knots)) (split-told (length numbers))
+    ∙ ap (λ lines. AtSplit (opened numbers) ∷ lines) (lines-untold knots)
+lines-untold (AtTip (ToldLeaf value) ∷ knots) = rw (lines-untold knots) refl
+lines-untold (AtTip (ToldFrontier value) ∷ knots) = rw (lines-untold knots) refl
 
 first-untold : (ns : List ℕ) (kids : Kids Told) → first_kids (opened ns) (untold_kids kids) ≡ untold_kids (first_kids ns kids)
 first-untold [] kids = refl
@@ -104,14 +90,19 @@ module _ (b : Problem) where
   tree-untold (Alone tip) prefix holds = ap Alone (tip-untold prefix tip)
   tree-untold (Parted numbers kids) prefix (incomplete, are, holds) = rw (sym are, kids-untold kids prefix numbers holds) refl
 
--- the bytes of a piece's prefix and of its lines are its outline
-pub outline-of : (p : PieceOf) (knots : List code.Knot) (outline : Outline) → seen knots ≡ p.knots → TreeHolds p.problem.block (ToldHolds p.problem) p.prefix (told_tree p) → outline.depth ≡ length p.prefix → outline.bytes.items ≡ p.prefix ++ map line_byte knots → IsOutlineOf p outline
-outline-of p knots outline lines holds depth bytes =
-    let prefix : outline_prefix outline.depth outline.bytes.items ≡ p.prefix = rw (depth, bytes) (take-append_seam p.prefix (map line_byte knots)) in
-    let read : read_tree false (outline_lines outline.depth outline.bytes.items) ≡ untold (told_tree p) =
-    rw (depth, bytes, drop-append_seam p.prefix (map line_byte knots)) (ap (read_tree false) (lines-untold knots) ∙ (ap (first_tree (Alone false)) (forest-untold (seen knots)) ∙ (first_tree-untold (forest (seen knots)) ∙ ap (λ ks. untold (read_tree (ToldFrontier 0) ks)) lines))) in
-    let tree : outline_tree p.problem outline.depth outline.bytes.items ≡ tree_of p =
-    ap (λ at. with_ready p.problem at (read_tree false (outline_lines outline.depth outline.bytes.items))) prefix
+-- a piece's prefix and lines tell its tree
+outline-of : (p : PieceOf) → TreeHolds p.problem.block (ToldHolds p.problem) p.prefix (told_tree p) → IsOutlineOf p (outline_of p)
+outline-of p holds =
+    let depth = length p.prefix in
+    let prefix : outline_prefix depth (outline_of p) ≡ p.prefix = take-append_seam p.prefix (map line_byte p.knots) in
+    let read : read_tree false (outline_lines depth (outline_of p)) ≡ untold (told_tree p) =
+    ap (λ bytes. read_tree false (map told_line bytes)) (drop-append_seam p.prefix (map line_byte p.knots))
+    ∙ (ap (read_tree false) (lines-untold p.knots) ∙ (ap (first_tree (Alone false)) (forest-untold p.knots) ∙ first_tree-untold (forest p.knots))) in
+    let tree : outline_tree p.problem depth (outline_of p) ≡ tree_of p =
+    ap (λ at. with_ready p.problem at (read_tree false (outline_lines depth (outline_of p)))) prefix
     ∙ (ap (with_ready p.problem p.prefix) read
     ∙ tree-untold p.problem (told_tree p) p.prefix holds) in
-    (prefix, tree, depth)
+    (prefix, tree)
+
+pub kept-outline : (p v : PieceOf) (count : ℕ) → IsKept p count → p ≡ v → IsOutlineOf v (outline_of v)
+kept-outline p v count kept is = subst (λ (q : PieceOf). IsOutlineOf q (outline_of q)) is (outline-of p kept.told)

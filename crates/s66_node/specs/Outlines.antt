@@ -6,25 +6,26 @@ use Rattle.s66_model.specs.Leaves.{floor}
 use Rattle.s66_model.specs.Tree.{Tree, Alone, Parted, Kids, NoMore, Unsplit, Split, Knot, AtTip, AtSplit}
 use Rattle.s66_model.specs.Preorder.{read_tree}
 use Rattle.s66_model.specs.Piece.{Tip, Carries, Frontier}
-use Rattle.s66_dep.specs.Members.{numbers_in}
-use Rattle.s66_node.specs.declared.knot.Knot as code
-use Rattle.s66_node.specs.declared.knot.Knot.TheVariants as line
-use Rattle.s66_node.specs.declared.outline.Outline.{Outline}
-use Rattle.s66_node.specs.declared.outline.TheConstants.{LEAF, FRONTIER, SPLIT}
+use Rattle.s66_model.specs.Told.{Told, ToldLeaf, ToldFrontier}
+use Rattle.s66_node.specs.declared.knot.TheConstants.{LEAF, FRONTIER, SPLIT}
 use Rattle.s66_node.specs.Pieces.{PieceOf, tree_of}
 
 -- of a line of a piece; a split tells how many numbers it has
-abbrev pub line_byte : code.Knot → ℕ
-line_byte (line.Split numbers) = SPLIT + length (numbers_in numbers)
-line_byte (line.Leaf value) = LEAF
-line_byte (line.Frontier value) = FRONTIER
+abbrev pub line_byte : Knot Told → ℕ
+line_byte (AtSplit numbers) = SPLIT + length numbers
+line_byte (AtTip (ToldLeaf value)) = LEAF
+line_byte (AtTip (ToldFrontier value)) = FRONTIER
+
+-- of a piece: its prefix, by its numbers, and then its lines in preorder
+abbrev pub outline_of : PieceOf → List ℕ
+outline_of p = p.prefix ++ map line_byte p.knots
 
 -- the line of this byte: its prefix carries its floor, stays open, or is split into so many children, whose numbers are yet unknown, and 0 here
 abbrev pub told_line : ℕ → Knot Bool
 told_line byte =
     if byte == LEAF then AtTip true else if byte == FRONTIER then AtTip false else AtSplit (replicate (byte - SPLIT) 0)
 
--- of an outline's bytes, where its prefix has so many numbers
+-- of an outline, where its prefix has so many numbers
 abbrev pub outline_prefix : (depth : ℕ) → List ℕ → List ℕ
 outline_prefix depth bytes = take depth bytes
 
@@ -54,8 +55,7 @@ with_ready b prefix (Parted numbers kids) = Parted (ready b.block prefix) (outli
 abbrev pub outline_tree : Problem → (depth : ℕ) → List ℕ → Tree Tip
 outline_tree b depth bytes = with_ready b (outline_prefix depth bytes) (read_tree false (outline_lines depth bytes))
 
--- it tells this piece's prefix and tree
-abbrev pub IsOutlineOf : PieceOf → Outline → Type 0
-IsOutlineOf p outline =
-    (outline_prefix outline.depth outline.bytes.items ≡ p.prefix) × (outline_tree p.problem outline.depth outline.bytes.items ≡ tree_of p)
-    × (outline.depth ≡ length p.prefix)
+-- they tell this piece's prefix and tree
+abbrev pub IsOutlineOf : PieceOf → List ℕ → Type 0
+IsOutlineOf p bytes =
+    (outline_prefix (length p.prefix) bytes ≡ p.prefix) × (outline_tree p.problem (length p.prefix) bytes ≡ tree_of p)

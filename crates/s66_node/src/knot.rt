@@ -1,5 +1,14 @@
 use s66_dep::Set;
 
+/// The byte of a line whose prefix carries its floor as leaf.
+pub const LEAF: u8 = 0;
+
+/// The byte of a line whose prefix stays open.
+pub const FRONTIER: u8 = 1;
+
+/// The byte of a line whose prefix is split is this and how many numbers it goes on with, which are the ready ones.
+pub const SPLIT: u8 = 2;
+
 /// A line of a piece's tree, which stands in preorder. A value is that of the prefix's floor, in minor cycles.
 #[derive(Clone, Copy, Debug, PartialEq, Eq)]
 pub enum Knot {
@@ -9,4 +18,21 @@ pub enum Knot {
     Leaf { value: u32 },
     /// The prefix isn't split, and stays open.
     Frontier { value: u32 },
+}
+
+impl Knot {
+    ghost use Rattle.std.specs.Prelude.{◌≡◌};
+    ghost use Rattle.s66_node.specs.SeenKnots.{seen_knot};
+    ghost use Rattle.s66_node.specs.Outlines.{line_byte};
+
+    /// The line's byte, which says what the line does without a value and the numbers of a split.
+    pub fn byte(&self) -> u8
+        ensures { result ≡ line_byte (seen_knot self.now) }
+    {
+        match self {
+            Knot::Split(numbers) => SPLIT + numbers.count() as u8,
+            Knot::Leaf { .. } => LEAF,
+            Knot::Frontier { .. } => FRONTIER,
+        }
+    }
 }

@@ -4,15 +4,13 @@
 mod expansion;
 mod grow;
 mod knot;
-mod outline;
 mod piece;
 mod schedule;
 mod walk;
 mod whole_order;
 
 pub use expansion::expand;
-pub use knot::Knot;
-pub use outline::{FRONTIER, LEAF, Outline, SPLIT};
+pub use knot::{FRONTIER, Knot, LEAF, SPLIT};
 pub use piece::Piece;
 pub use schedule::{Priority, schedule_below, schedule_rest};
 pub use walk::Walk;

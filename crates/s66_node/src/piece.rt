@@ -41,6 +41,7 @@ impl Piece {
     ghost use Rattle.s66_node.specs.Pieces.{told_tree, tree_of, IsBestTimed};
     ghost use Rattle.s66_model.specs.Told.{ToldHolds};
     ghost use Rattle.s66_node.specs.SeenKnots.{seen};
+    ghost use Rattle.s66_node.specs.Outlines.{outline_of, IsOutlineOf};
 
     /// Whether it is of this block under this profile, in time linear in the block's length.
     pub fn is_of(&self, block: &Block, profile: &Profile) -> bool
@@ -64,12 +65,14 @@ impl Piece {
         self.splits
     }
 
-    /// The lines of the tree in preorder, with the value of each floor in minor cycles.
+    /// The lines of the tree in preorder, with the value of each floor in minor cycles. Behind the prefix, their bytes alone tell the
+    /// tree: that is the piece's outline.
     pub fn knots(&self) -> &[Knot]
         ensures value { seen result.now ≡ self.now.knots }
         ensures preorder { flat (told_tree self.now) ≡ self.now.knots }
         ensures told { TreeHolds self.now.problem.block (ToldHolds self.now.problem) self.now.prefix (told_tree self.now) }
         ensures piece { IsPiece self.now.problem self.now.prefix (tree_of self.now) }
+        ensures outline { IsOutlineOf self.now (outline_of self.now) }
         ensures few { length self.now.problem.block ≤ BLOCK_LIMIT }
     {
         // a number for each instruction

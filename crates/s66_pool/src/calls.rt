@@ -1,27 +1,12 @@
 //! The calls of a hub: each waits for the lock, makes one or two calls of the ledger, and gives it back.
 
-ghost use Rattle.std.specs.Prelude.{IfOk};
-ghost use Rattle.s66_node.specs.Outlines.{IsOutlineOf};
-ghost use Rattle.s66_ledger.specs.Subtrees.{IsSubtreeOf};
-
 use crate::hub::Hub;
 use crate::seat::Seat;
 use s66_ledger::{BackError, GraftError, Offered, Subtree, Ticket};
-use s66_node::{Outline, Piece};
+use s66_node::Piece;
 use s66_time::Timed;
-use std::alloc::{AllocError, Global};
+use std::alloc::AllocError;
 use std::sync::Wait;
-
-/// What a graft makes of a piece before it takes the lock: the piece's nodes, and what the history keeps of it. `Err` is want of
-/// memory.
-fn prepared(alloc: Global, piece: &Piece) -> Result<(Subtree, Outline), AllocError>
-    ensures subtree { IfOk result (λ r. IsSubtreeOf piece.now r.0) }
-    ensures outline { IfOk result (λ r. IsOutlineOf piece.now r.1) }
-{
-    let subtree = Subtree::of(alloc, piece)?;
-    let outline = piece.outline(alloc)?;
-    Ok((subtree, outline))
-}
 
 impl<'a> Hub<'a> {
     ghost use Rattle.std.specs.Prelude.{◌≡◌, ◌≤◌, IfOk, IfErr, OnOk, OnErr};
@@ -112,12 +97,12 @@ impl<'a> Hub<'a> {
         ensures refused { IfErr result (λ e. HasBeenRefused seat.old ticket piece e.0 seat.new) }
         ensures handed_back { IfErr result (λ e. (e.1 ≡ ticket) × (e.2 ≡ piece)) }
     {
-        let Ok((subtree, outline)) = prepared(self.alloc, &piece) else {
+        let Ok(subtree) = Subtree::of(self.alloc, &piece) else {
             return Err((GraftError::OutOfMemory, ticket, piece));
         };
         let added = piece.splits();
         let mut ledger = self.lock.take(rt, &mut seat.token);
-        if let Err(why) = ledger.graft_at(seat.number, ticket.node(), &piece, &subtree, &outline) {
+        if let Err(why) = ledger.graft_at(seat.number, ticket.node(), &piece, &subtree) {
             self.lock.give(&mut seat.token, ledger);
             return Err((why, ticket, piece));
         }
@@ -179,8 +164,8 @@ impl<'a> Hub<'a> {
         Ok(offered)
     }
 
-    /// Puts a piece in the place of a node that was handed out, as `Ledger::graft` does. The piece's nodes, and what the history keeps
-    /// of it, are made before the lock is taken; they, ticket and piece are dropped after it is given back.
+    /// Puts a piece in the place of a node that was handed out, as `Ledger::graft` does. The piece's nodes are made before the lock is
+    /// taken; they, ticket and piece are dropped after it is given back.
     pub fn graft<R: Wait>(
         &self,
         rt: &R,
@@ -194,12 +179,12 @@ impl<'a> Hub<'a> {
         ensures refused { IfErr result (λ e. HasBeenRefused seat.old ticket piece e.0 seat.new) }
         ensures handed_back { IfErr result (λ e. (e.1 ≡ ticket) × (e.2 ≡ piece)) }
     {
-        let Ok((subtree, outline)) = prepared(self.alloc, &piece) else {
+        let Ok(subtree) = Subtree::of(self.alloc, &piece) else {
             return Err((GraftError::OutOfMemory, ticket, piece));
         };
         let splits = piece.splits();
         let mut ledger = self.lock.take(rt, &mut seat.token);
-        if let Err(err) = ledger.graft_at(seat.number, ticket.node(), &piece, &subtree, &outline) {
+        if let Err(err) = ledger.graft_at(seat.number, ticket.node(), &piece, &subtree) {
             self.lock.give(&mut seat.token, ledger);
             return Err((err, ticket, piece));
         }

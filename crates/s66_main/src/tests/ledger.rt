@@ -27,11 +27,12 @@ enum Kind {
     Retire,
 }
 
-/// The entries of the search: the kind, the worker, the splits, node or time, where there is one, and how many bytes it has.
+/// The entries of the search: the kind, the worker, the splits, node or time, where there is one, and how many nodes it made or numbers
+/// it has.
 const HISTORY: [(Kind, u8, Option<u32>, u32); 10] = [
     (Kind::Grant, 1, Some(BUDGET), 0),
     (Kind::Claim, 1, Some(0), 0),
-    (Kind::Taken, 1, Some(0), 4),
+    (Kind::Taken, 1, Some(0), 3),
     (Kind::Offer, 2, Some(22), 3),
     (Kind::Grant, 2, Some(0), 0),
     (Kind::Claim, 2, Some(3), 0),
@@ -41,15 +42,18 @@ const HISTORY: [(Kind, u8, Option<u32>, u32); 10] = [
     (Kind::Grant, 2, Some(BUDGET - 1), 0),
 ];
 
-/// The bytes of the entries: a piece that splits the empty prefix into all three numbers, which stay open, and the source order.
-const BYTES: [u8; 7] = [SPLIT + 3, FRONTIER, FRONTIER, FRONTIER, 1, 2, 3];
+/// The bytes of the entries: a piece that splits the empty prefix into all three numbers, and the source order.
+const BYTES: [u8; 4] = [SPLIT + 3, 1, 2, 3];
+
+/// The bytes of the nodes' lines: the empty prefix, which no line made, and the piece's three others, which stay open.
+const LINES: [u8; 4] = [FRONTIER, FRONTIER, FRONTIER, FRONTIER];
 
 /// An entry as a row of `HISTORY` tells it.
 fn in_brief(entry: &Entry) -> (Kind, u8, Option<u32>, u32) {
     match entry {
         Entry::Grant { w, splits } => (Kind::Grant, *w, Some(*splits), 0),
         Entry::Claim { w, node } => (Kind::Claim, *w, *node, 0),
-        Entry::Taken { w, node, bytes, .. } => (Kind::Taken, *w, Some(*node), *bytes),
+        Entry::Taken { w, node, lines, .. } => (Kind::Taken, *w, Some(*node), *lines),
         Entry::Refused { w, node, depth, .. } => (Kind::Refused, *w, Some(*node), *depth as u32),
         Entry::Offer { w, time, count, .. } => (Kind::Offer, *w, Some(*time), *count as u32),
         Entry::Back { w, node, .. } => (Kind::Back, *w, Some(*node), 0),
@@ -63,6 +67,10 @@ fn check_history<R: Abort>(rt: &R, ledger: &Ledger) {
     let history = ledger.history();
     assert_eq!(rt; history.bytes.as_slice(), BYTES.as_slice());
     assert_eq!(rt; history.entries.len(), HISTORY.len());
+    for (node, line) in (0..).zip(LINES) {
+        assert_eq!(rt; ledger.line(node), Some(line));
+    }
+    assert_eq!(rt; ledger.line(LINES.len() as u32), None);
     for (entry, expected) in history.entries.iter().zip(HISTORY) {
         assert_eq!(rt; in_brief(entry), expected);
         if let Entry::Taken { depth, splits, .. } = entry {

@@ -6,11 +6,12 @@ use Rattle.s66_node.specs.declared.knot.Knot as code
 use Rattle.s66_node.specs.declared.knot.Knot.TheVariants as line
 use Rattle.s66_node.specs.SeenKnots.{seen_knot, seen}
 use Rattle.s66_node.specs.Pieces.{told_tree}
+use Rattle.s66_node.specs.Outlines.{line_byte}
 use Rattle.s66_node.proofs.Walks.{none-empty}
 use Rattle.s66_ledger.specs.declared.node.Node.{Node}
 use Rattle.s66_ledger.specs.declared.subtree.Place.{Place}
 use Rattle.s66_ledger.proofs.Reading.{line-at, line-told, lines-below, length-seen}
-use Rattle.s66_ledger.proofs.Subtrees.{AreGrowing, growing-start, growing-up, growing-next, growing-room, growing-deeper, growing-tip, growing-split, growing-done}
+use Rattle.s66_ledger.proofs.Subtrees.{AreGrowing, growing-start, growing-up, growing-next, growing-room, growing-deeper, growing-tip, growing-split, growing-done, AreLined, lined-start, lined-more}
 use Rattle.s66_ledger.proofs.subtree.nodes_below.Goals as goal
 
 -- the line at a place, where the place is known by another number
@@ -29,6 +30,7 @@ loop-place-init c =
     record {
       within = omega (arith, ap length nodes, length-seen c.knots-knots.result.now, ap length (c.knots-knots.ensures.value ∙ (sym c.knots-knots.ensures.preorder ∙ ap flat c.requires.split)));
       room = omega (arith, c.in_ok-nodes.ensures.capacity);
+      lined = subst (AreLined ks) (sym nodes) (lined-start ks);
       growing = subst (λ xs. AreGrowing p numbers c.push.new.self.items xs (drop (length xs + 1) ks)) (sym nodes) (rw (places, below) (growing-start p c.args.numbers c.requires.split c.knots-knots.ensures.told));
     }
 
@@ -83,7 +85,7 @@ loop-place-preserved-in-Split c =
     let first : drop i ks ≡ AtSplit (numbers_in c.in-Split.numbers) ∷ drop (i + 1) ks = line-here knots i (c.len.result + 1) (omega (arith, c.len.ensures)) lt ∙ ap (λ k. seen_knot k ∷ drop (i + 1) ks) c.in-Split.is in
     let place : Place = record { node = c.in-Some.place.node; left = c.pop_first.new.self } in
     let below : Place = record { node = c.len-in-Split.result; left = c.in-Split.numbers } in
-    let node : Node = record { parent = c.in-Some.place.node; value = c.value_of.result; number = c.in-Some-pop_first.number; depth = length c.prefix.result.now + c.len-in-Some-pop_first.result; state = c.state_of.result } in
+    let node : Node = record { parent = c.in-Some.place.node; value = c.value_of.result; number = c.in-Some-pop_first.number; depth = length c.prefix.result.now + c.len-in-Some-pop_first.result; line = c.byte.result; state = c.state_of.result } in
     let longer : length c.push_reserved.new.self.items ≡ i = omega (arith, c.push_reserved.ensures.len) in
     let grown =
     growing-split p numbers l.places.items c.pop.new.self.items c.in-Some.place l.nodes.items (drop i ks) l.invariant.growing c.in-Some.ensures.items
@@ -96,6 +98,7 @@ loop-place-preserved-in-Split c =
     record {
       within = omega (arith, longer, lt);
       room = omega (arith, l.invariant.room, c.push_reserved.ensures.capacity);
+      lined = lined-more ks l.nodes.items c.push_reserved.new.self.items node (AtSplit (numbers_in c.in-Split.numbers)) l.invariant.lined c.push_reserved.ensures.items first (c.byte.ensures ∙ ap (λ k. line_byte (seen_knot k)) c.in-Split.is);
       growing = subst (λ j. AreGrowing p numbers c.push-in-Split.new.self.items c.push_reserved.new.self.items (drop (j + 1) ks)) (sym longer) grown;
     }
 
@@ -116,7 +119,7 @@ loop-place-preserved-in_default-knot c =
     let (told, seen_is, state_is, value_is) = line-told 0 k c.in_default-knot.not-Split in
     let first : drop i ks ≡ AtTip told ∷ drop (i + 1) ks = line-here knots i (c.len.result + 1) (omega (arith, c.len.ensures)) lt ∙ ap (λ (x : Knot Told). x ∷ drop (i + 1) ks) seen_is in
     let place : Place = record { node = c.in-Some.place.node; left = c.pop_first.new.self } in
-    let node : Node = record { parent = c.in-Some.place.node; value = c.value_of.result; number = c.in-Some-pop_first.number; depth = length c.prefix.result.now + c.len-in-Some-pop_first.result; state = c.state_of.result } in
+    let node : Node = record { parent = c.in-Some.place.node; value = c.value_of.result; number = c.in-Some-pop_first.number; depth = length c.prefix.result.now + c.len-in-Some-pop_first.result; line = c.byte.result; state = c.state_of.result } in
     let longer : length c.push_reserved.new.self.items ≡ i = omega (arith, c.push_reserved.ensures.len) in
     let grown =
     growing-tip p numbers l.places.items c.pop.new.self.items c.in-Some.place l.nodes.items (drop i ks) l.invariant.growing c.in-Some.ensures.items
@@ -128,6 +131,7 @@ loop-place-preserved-in_default-knot c =
     record {
       within = omega (arith, longer, lt);
       room = omega (arith, l.invariant.room, c.push_reserved.ensures.capacity);
+      lined = lined-more ks l.nodes.items c.push_reserved.new.self.items node (AtTip told) l.invariant.lined c.push_reserved.ensures.items first (c.byte.ensures ∙ ap line_byte seen_is);
       growing = subst (λ j. AreGrowing p numbers c.push-in-Some-pop_first.new.self.items c.push_reserved.new.self.items (drop (j + 1) ks)) (sym longer) grown;
     }
 
@@ -138,6 +142,7 @@ loop-place-preserved c =
     record {
       within = l.invariant.within;
       room = l.invariant.room;
+      lined = l.invariant.lined;
       growing = growing-up p (numbers_in c.args.numbers) l.places.items c.pop.new.self.items c.in-Some.place l.nodes.items (drop (length l.nodes.items + 1) (seen c.knots-knots.result.now)) l.invariant.growing c.in-Some.ensures.items c.in_default-pop_first.ensures.none;
     }
 
@@ -147,4 +152,4 @@ returns c =
     let l = c.loop-place in
     let few : length p.prefix + 1 + length p.knots < 2 ^ 32 = omega (arith, c.requires.few, c.prefix.ensures.few, ap length c.prefix.ensures.value) in
     let none = none-empty l.places.items (λ lt. true≢false (sym (c.in_default.ensures.variant.1 lt))) in
-    growing-done p (numbers_in c.args.numbers) l.places.items l.nodes.items (seen c.knots-knots.result.now) l.invariant.growing none c.knots-knots.ensures.value (omega (arith, l.invariant.within, length-seen c.knots-knots.result.now)) few c.requires.split
+    growing-done p (numbers_in c.args.numbers) l.places.items l.nodes.items (seen c.knots-knots.result.now) l.invariant.growing none c.knots-knots.ensures.value (omega (arith, l.invariant.within, length-seen c.knots-knots.result.now)) few c.requires.split l.invariant.lined

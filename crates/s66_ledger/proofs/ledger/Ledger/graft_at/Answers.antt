@@ -1,37 +1,46 @@
-use Rattle.std.proofs.Common.{◌∙◌, ap, sym, subst, arith}
+use Rattle.std.proofs.Common.{◌≡◌, ◌∙◌, ◌<◌, ◌++◌, refl, ap, sym, subst, length, arith}
 use Rattle.s66_line.specs.Block.{instrs_of}
 use Rattle.s66_model.specs.Timing.{Problem}
 use Rattle.s66_model.specs.Ledger.{Taken}
 use Rattle.s66_model.specs.Recorded.{IsOwn}
-use Rattle.s66_node.specs.Outlines.{outline_prefix}
 use Rattle.s66_ledger.specs.declared.reply.GraftError.{GraftError}
 use Rattle.s66_ledger.specs.Entries.{refusal_reply}
+use Rattle.s66_ledger.specs.Kept.{MachineOf}
 use Rattle.s66_ledger.specs.GraftMoves.{IsGraftMove, IsRefusedMove}
 use Rattle.s66_ledger.specs.Grafts.{IsGraftAt, IsRefusedGraftAt}
 use Rattle.s66_ledger.specs.Ledgers.{LedgerOf, with_history}
-use Rattle.s66_ledger.proofs.Recording.{recorded, recorded-event, is-own, taken-entry, refused-move, refused-entry, refused-at, prefix-kept, prefix-counted, none-kept}
+use Rattle.s66_ledger.specs.Subtrees.{lines_below, root_bytes}
+use Rattle.s66_ledger.proofs.Recording.{recorded, recorded-event, recorded-lineless, event-lineless, is-own, taken-entry, refused-move, refused-entry, refused-at, prefix-kept, root-counted, root-outline, lines-counted}
 use Rattle.s66_ledger.proofs.ledger.Ledger.graft_at.Goals as goal
 
 pub invariant_of-self-in-Ok-graft : goal.invariant_of-self-in-Ok-graft
 invariant_of-self-in-Ok-graft c =
     let m = c.self.inside.machine in
     let p = c.args.piece.now in
+    let depth = length c.prefix-prefix.result.now in
     let h : IsGraftMove m c.args.w c.args.node p Taken c.graft.new.self = c.in-Ok-graft.ensures.ok in
-    recorded m c.graft.new.self c.self.inside.history.entries.items c.reserve.new.self.items c.push_reserved.new.self.items c.self.inside.history.bytes.items c.keep_outline.new.bytes.items _ c.args.outline.now.bytes.items h.0 Taken h.2
-    (taken-entry m c.graft.new.self c.args.w c.args.node p c.splits-splits.result c.splits-splits.ensures c.args.outline.now c.requires.outline h)
-    c.reserve.ensures.items c.push_reserved.ensures.items c.in-Ok-keep_outline.ensures.ok c.in-Ok-keep_outline.ensures.count c.self.invariant
+    let deep : depth ≡ length p.prefix = ap length c.prefix-prefix.ensures.value in
+    let some : 0 < length p.knots = omega (arith, c.requires.subtree.count) in
+    let below : c.count.result ≡ length (lines_below p) = omega (arith, c.count.ensures, lines-counted p c.args.subtree.now c.requires.subtree) in
+    recorded m c.graft.new.self c.self.inside.history.entries.items c.reserve.new.self.items c.push_reserved.new.self.items c.self.inside.history.bytes.items c.keep_root.new.bytes.items _ (root_bytes p) (lines_below p) h.0 Taken h.2 c.in-Ok-graft.ensures.lines
+    (taken-entry m c.graft.new.self c.args.w c.args.node p c.splits-splits.result c.splits-splits.ensures (root_bytes p ++ lines_below p) depth (root-outline p) deep c.in-Ok-keep_root.ensures.outline h)
+    c.reserve.ensures.items c.push_reserved.ensures.items c.in-Ok-keep_root.ensures.ok (omega (arith, deep, root-counted p some)) below c.self.invariant
 
 pub returns-in-Ok-graft-clause-ok : goal.returns-in-Ok-graft-clause-ok
 returns-in-Ok-graft-clause-ok c =
     let m = c.self.inside.machine in
     let p = c.args.piece.now in
+    let depth = length c.prefix-prefix.result.now in
     let h : IsGraftMove m c.args.w c.args.node p Taken c.graft.new.self = c.in-Ok-graft.ensures.ok in
-    subst (λ (l : LedgerOf). IsGraftAt l c.args.w c.args.node p Taken (with_history c.graft.new.self c.push_reserved.new.self.items c.keep_outline.new.bytes.items)) c.self.view_is (
+    let deep : depth ≡ length p.prefix = ap length c.prefix-prefix.ensures.value in
+    let some : 0 < length p.knots = omega (arith, c.requires.subtree.count) in
+    let below : c.count.result ≡ length (lines_below p) = omega (arith, c.count.ensures, lines-counted p c.args.subtree.now c.requires.subtree) in
+    subst (λ (l : LedgerOf). IsGraftAt l c.args.w c.args.node p Taken (with_history c.graft.new.self c.push_reserved.new.self.items c.keep_root.new.bytes.items)) c.self.view_is (
       h.0,
       h.1,
-      recorded-event m c.graft.new.self c.self.inside.history.entries.items c.reserve.new.self.items c.push_reserved.new.self.items c.self.inside.history.bytes.items c.keep_outline.new.bytes.items _ c.args.outline.now.bytes.items h.0 Taken h.2
-          (taken-entry m c.graft.new.self c.args.w c.args.node p c.splits-splits.result c.splits-splits.ensures c.args.outline.now c.requires.outline h)
-          c.reserve.ensures.items c.push_reserved.ensures.items c.in-Ok-keep_outline.ensures.ok c.in-Ok-keep_outline.ensures.count c.self.invariant,
+      recorded-event m c.graft.new.self c.self.inside.history.entries.items c.reserve.new.self.items c.push_reserved.new.self.items c.self.inside.history.bytes.items c.keep_root.new.bytes.items _ (root_bytes p) (lines_below p) h.0 Taken h.2 c.in-Ok-graft.ensures.lines
+          (taken-entry m c.graft.new.self c.args.w c.args.node p c.splits-splits.result c.splits-splits.ensures (root_bytes p ++ lines_below p) depth (root-outline p) deep c.in-Ok-keep_root.ensures.outline h)
+          c.reserve.ensures.items c.push_reserved.ensures.items c.in-Ok-keep_root.ensures.ok (omega (arith, deep, root-counted p some)) below c.self.invariant,
     )
 
 pub invariant_of-self-2 : goal.invariant_of-self-2
@@ -39,19 +48,21 @@ invariant_of-self-2 c =
     let m = c.self.inside.machine in
     let p = c.args.piece.now in
     let why = c.in-Some.why in
+    let over = c.prefix-prefix.ensures.value in
     let h : IsGraftMove m c.args.w c.args.node p (refusal_reply why) c.graft.new.self =
     refused-move m c.graft.new.self c.args.w c.args.node p c.splits-splits.result c.splits-splits.ensures why
     (subst (λ (e : GraftError). IsRefusedMove m c.args.w c.args.node p e c.graft.new.self) c.in-Some.ensures.some c.in-Err.ensures.refused) in
     let own : IsOwn m.problem p.problem c.is_of-own.result = is-own m.problem p.problem c.is_of-own.result (instrs_of c.block.result.now) c.profile.result.now (c.block.ensures ∙ ap (λ (b : Problem). b.block) h.2.0) (c.profile.ensures ∙ ap (λ (b : Problem). b.profile) h.2.0) c.is_of-own.ensures in
-    recorded m c.graft.new.self c.self.inside.history.entries.items c.reserve.new.self.items c.push_reserved-2.new.self.items c.self.inside.history.bytes.items c.truncate-2.new.self.items _ (outline_prefix c.args.outline.now.depth c.args.outline.now.bytes.items) h.0 (refusal_reply why) h.2
-    (refused-entry m c.graft.new.self c.args.w c.args.node p c.splits-splits.result c.splits-splits.ensures (outline_prefix c.args.outline.now.depth c.args.outline.now.bytes.items) c.requires.outline.0 c.is_of-own.result why own h)
-    c.reserve.ensures.items c.push_reserved-2.ensures.items (prefix-kept p c.args.outline.now c.requires.outline c.self.inside.history.bytes.items c.keep_outline.new.bytes.items c.truncate-2.new.self.items c.len-kept.result c.in-Ok-keep_outline.ensures.ok (omega (arith, c.len-kept.ensures)) c.truncate-2.ensures.items) (prefix-counted p c.args.outline.now c.requires.outline) c.self.invariant
+    recorded-lineless m c.graft.new.self c.self.inside.history.entries.items c.reserve.new.self.items c.push_reserved-2.new.self.items c.self.inside.history.bytes.items c.truncate-2.new.self.items _ p.prefix h.0 (refusal_reply why) h.2 (ap (λ (n : MachineOf). n.lines) c.in-Err.ensures.err)
+    (refused-entry m c.graft.new.self c.args.w c.args.node p c.splits-splits.result c.splits-splits.ensures c.is_of-own.result why own h)
+    c.reserve.ensures.items c.push_reserved-2.ensures.items (prefix-kept p c.self.inside.history.bytes.items c.keep_root.new.bytes.items c.truncate-2.new.self.items c.len-kept.result (length c.prefix-prefix.result.now) c.in-Ok-keep_root.ensures.ok (omega (arith, c.len-kept.ensures)) (ap length over) c.truncate-2.ensures.items) (ap length over) refl c.self.invariant
 
 pub returns-clause-refused : goal.returns-clause-refused
 returns-clause-refused c =
     let m = c.self.inside.machine in
     let p = c.args.piece.now in
     let why = c.in-Some.why in
+    let over = c.prefix-prefix.ensures.value in
     let h : IsGraftMove m c.args.w c.args.node p (refusal_reply why) c.graft.new.self =
     refused-move m c.graft.new.self c.args.w c.args.node p c.splits-splits.result c.splits-splits.ensures why
     (subst (λ (e : GraftError). IsRefusedMove m c.args.w c.args.node p e c.graft.new.self) c.in-Some.ensures.some c.in-Err.ensures.refused) in
@@ -62,11 +73,7 @@ returns-clause-refused c =
     (subst (λ (l : LedgerOf). IsGraftAt l c.args.w c.args.node p (refusal_reply why) new) c.self.view_is (
       h.0,
       h.1,
-      recorded-event m c.graft.new.self c.self.inside.history.entries.items c.reserve.new.self.items c.push_reserved-2.new.self.items c.self.inside.history.bytes.items c.truncate-2.new.self.items _ (outline_prefix c.args.outline.now.depth c.args.outline.now.bytes.items) h.0 (refusal_reply why) h.2
-          (refused-entry m c.graft.new.self c.args.w c.args.node p c.splits-splits.result c.splits-splits.ensures (outline_prefix c.args.outline.now.depth c.args.outline.now.bytes.items) c.requires.outline.0 c.is_of-own.result why own h)
-          c.reserve.ensures.items c.push_reserved-2.ensures.items (prefix-kept p c.args.outline.now c.requires.outline c.self.inside.history.bytes.items c.keep_outline.new.bytes.items c.truncate-2.new.self.items c.len-kept.result c.in-Ok-keep_outline.ensures.ok (omega (arith, c.len-kept.ensures)) c.truncate-2.ensures.items) (prefix-counted p c.args.outline.now c.requires.outline) c.self.invariant,
+      event-lineless m c.graft.new.self c.self.inside.history.entries.items c.reserve.new.self.items c.push_reserved-2.new.self.items c.self.inside.history.bytes.items c.truncate-2.new.self.items _ p.prefix h.0 (refusal_reply why) h.2 (ap (λ (n : MachineOf). n.lines) c.in-Err.ensures.err)
+          (refused-entry m c.graft.new.self c.args.w c.args.node p c.splits-splits.result c.splits-splits.ensures c.is_of-own.result why own h)
+          c.reserve.ensures.items c.push_reserved-2.ensures.items (prefix-kept p c.self.inside.history.bytes.items c.keep_root.new.bytes.items c.truncate-2.new.self.items c.len-kept.result (length c.prefix-prefix.result.now) c.in-Ok-keep_root.ensures.ok (omega (arith, c.len-kept.ensures)) (ap length over) c.truncate-2.ensures.items) (ap length over) refl c.self.invariant,
     )))
-
--- want of memory leaves all as it was
-pub invariant_of-self-in_default-refusal_of : goal.invariant_of-self-in_default-refusal_of
-invariant_of-self-in_default-refusal_of c = rw (c.in-Err.ensures.err, c.reserve.ensures.items, none-kept c.self.inside.history.bytes.items c.args.outline.now.bytes.items c.keep_outline.new.bytes.items c.truncate.new.self.items c.len-kept.result c.in-Ok-keep_outline.ensures.ok (omega (arith, c.len-kept.ensures)) c.truncate.ensures.items) c.self.invariant

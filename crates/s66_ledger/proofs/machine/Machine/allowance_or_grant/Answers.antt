@@ -10,11 +10,11 @@ use Rattle.s66_ledger.proofs.machine.Machine.allowance_or_grant.Goals as goal
 
 pub returns-clause-leads : goal.returns-clause-leads
 returns-clause-leads c =
-    event-leads c.args.self.now c.grant.new.self (Grant 1) (Granted c.grant.result) c.grant.ensures
+    event-leads c.args.self.now c.grant.new.self (Grant 1) (Granted c.grant.result) c.grant.ensures.granted
 
 pub returns-clause-between : goal.returns-clause-between
 returns-clause-between c =
-    grant-between c.args.self.now c.grant.new.self c.grant.result c.grant.ensures c.requires.between
+    grant-between c.args.self.now c.grant.new.self c.grant.result c.grant.ensures.granted c.requires.between
 
 pub returns-clause-spent : goal.returns-clause-spent
 returns-clause-spent c =
@@ -24,4 +24,4 @@ returns-clause-spent c =
     omega (arith, c.if-allowance-gt0.false, c.index-allowance.ensures ∙ get_or-any s.allowances.items 0 c.index-allowance.result.now 0 (λ n. n) (omega (arith, some)), ap (λ (l : MachineOf). allowance l.state 1) c.self.view_is) in
     let covers : Covers c.args.self.now.problem c.args.self.now.budget c.args.self.now.state =
     subst (λ (l : MachineOf). Covers l.problem l.budget l.state) c.self.view_is (reached-covers _ s.budget (length s.allowances.items) _ c.self.invariant.reached) in
-    grant-spent c.args.self.now c.grant.new.self c.grant.result c.grant.ensures covers c.requires.between none
+    grant-spent c.args.self.now c.grant.new.self c.grant.result c.grant.ensures.granted covers c.requires.between none

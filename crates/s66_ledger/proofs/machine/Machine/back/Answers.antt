@@ -2,7 +2,10 @@ use Rattle.std.proofs.Common.{true≢false, ◌≤◌, ◌∙◌, arith, length,
 use Rattle.s66_line.specs.Block.{instrs_of}
 use Rattle.s66_model.specs.Timing.{Problem}
 use Rattle.s66_model.specs.Ledger as model
+use Rattle.s66_ledger.specs.declared.node.State.TheVariants as state
+use Rattle.s66_ledger.specs.Nodes.{lines_of}
 use Rattle.s66_ledger.specs.Kept.{MachineOf, IsMove, IsKept, machine_of}
+use Rattle.s66_ledger.proofs.Prefixes.{lines-state}
 use Rattle.s66_ledger.proofs.Events.{kept-back, event-back, event-not-out}
 use Rattle.s66_ledger.proofs.machine.Machine.back.Goals as goal
 
@@ -32,3 +35,6 @@ returns-clause-ok c =
     let moved = c.in-Ok.ensures.ok in
     subst (λ ns. IsMove c.args.self.now (model.Back c.args.w c.args.node) model.Returned (machine_of b s.budget ns s.best.numbers s.left s.allowances.items s.spent)) (sym moved)
     (event-back b s.budget s.table s.best s.left s.allowances.items s.spent c.self.invariant c.args.self.now c.args.w c.args.node c.self.view_is c.requires.0 le out)
+
+pub returns-clause-lines : goal.returns-clause-lines
+returns-clause-lines c = ap lines_of c.in-Ok.ensures.ok ∙ (lines-state c.self.inside.table c.args.node state.Open ∙ ap (λ (l : MachineOf). l.lines) c.self.view_is)

@@ -5,10 +5,10 @@ use Rattle.s66_model.specs.Leaves.{floor_value}
 use Rattle.s66_model.specs.Ledger as model
 use Rattle.s66_ledger.specs.declared.node.Node.{Node}
 use Rattle.s66_ledger.specs.declared.node.State.TheVariants as state
-use Rattle.s66_ledger.specs.Nodes.{prefixes, no_node, node_at}
+use Rattle.s66_ledger.specs.Nodes.{prefixes, lines_of, no_node, node_at}
 use Rattle.s66_ledger.specs.Handed.{TicketOf}
 use Rattle.s66_ledger.specs.Kept.{MachineOf, IsMove, IsKept, machine_of}
-use Rattle.s66_ledger.proofs.Prefixes.{prefixes-set}
+use Rattle.s66_ledger.proofs.Prefixes.{prefixes-set, lines-state}
 use Rattle.s66_ledger.proofs.SeenNodes.{at-nodes}
 use Rattle.s66_ledger.proofs.Events.{kept-short, kept-claim, event-claim, event-none, claimed-least}
 use Rattle.s66_ledger.proofs.machine.Machine.claim.Goals as goal
@@ -44,6 +44,9 @@ returns-clause-ok c =
     subst (λ (t : TicketOf). IsMove c.args.self.now (model.Claim c.args.w) (model.Claimed (Some t.node)) (machine_of b s.budget c.claim.new.self s.best.numbers s.left s.allowances.items s.spent)) (sym c.new.ensures)
     (subst (λ ns. IsMove c.args.self.now (model.Claim c.args.w) (model.Claimed (Some c.in-Some.node)) (machine_of b s.budget ns s.best.numbers s.left s.allowances.items s.spent)) (sym c.in-Some.ensures.moved)
     (event-claim b s.budget s.table s.best s.left s.allowances.items s.spent c.self.invariant c.args.self.now c.args.w c.in-Some.node c.self.view_is c.requires.0 le c.in-Some.ensures.within c.in-Some.ensures.was))
+
+pub returns-clause-lines : goal.returns-clause-lines
+returns-clause-lines c = ap lines_of c.in-Some.ensures.moved ∙ (lines-state c.self.inside.table c.in-Some.node state.Out ∙ ap (λ (l : MachineOf). l.lines) c.self.view_is)
 
 pub returns-clause-ticket : goal.returns-clause-ticket
 returns-clause-ticket c =

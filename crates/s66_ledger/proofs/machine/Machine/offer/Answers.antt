@@ -1,4 +1,4 @@
-use Rattle.std.proofs.Common.{◌≡◌, ◌≤◌, ◌∙◌, arith, length, ap, subst}
+use Rattle.std.proofs.Common.{◌≡◌, ◌≤◌, ◌∙◌, arith, length, refl, ap, subst}
 use Rattle.s66_line.specs.Block.{instrs_of}
 use Rattle.s66_model.specs.Timing.{Problem, total_of}
 use Rattle.s66_model.specs.LegalOrder.{IsLegal}
@@ -11,7 +11,11 @@ returns-then-not-is_of c =
     let s = c.self.inside in
     let b : Problem = record { block = instrs_of s.block.now; profile = s.profile } in
     let le : c.args.w ≤ length s.allowances.items = omega (arith, c.requires.1, ap (λ (l : MachineOf). l.workers) c.self.view_is) in
-    event-other b s.budget s.table s.best s.left s.allowances.items s.spent c.self.invariant c.args.self.now c.args.w c.args.timed c.self.view_is c.requires.0 le _ c.is_of.ensures c.if-not-is_of.true
+    record {
+      offered =
+          (event-other b s.budget s.table s.best s.left s.allowances.items s.spent c.self.invariant c.args.self.now c.args.w c.args.timed c.self.view_is c.requires.0 le _ c.is_of.ensures c.if-not-is_of.true);
+      lines = refl;
+    }
 
 pub invariant_of-self : goal.invariant_of-self
 invariant_of-self c =
@@ -30,8 +34,12 @@ returns-then-total-least c =
     let le : c.args.w ≤ length s.allowances.items = omega (arith, c.requires.1, ap (λ (l : MachineOf). l.workers) c.self.view_is) in
     let own : c.args.timed.problem ≡ b = c.is_of.ensures.0 c.if-not-is_of.false in
     let legal : IsLegal b.block c.args.timed.numbers = subst (λ (p : Problem). IsLegal p.block c.args.timed.numbers) own c.order-legal.ensures.legal in
-    event-lower b s.budget s.table s.best s.left s.allowances.items s.spent c.self.invariant c.args.self.now c.args.w c.args.timed c.self.view_is c.requires.0 le own legal
-    (omega (arith, c.if-total-least.true, c.total.ensures.value, c.total-least.ensures.value, ap (λ p. total_of p c.args.timed.numbers) own, ap (λ p. total_of p s.best.numbers) c.self.invariant.own))
+    record {
+      offered =
+          (event-lower b s.budget s.table s.best s.left s.allowances.items s.spent c.self.invariant c.args.self.now c.args.w c.args.timed c.self.view_is c.requires.0 le own legal
+          (omega (arith, c.if-total-least.true, c.total.ensures.value, c.total-least.ensures.value, ap (λ p. total_of p c.args.timed.numbers) own, ap (λ p. total_of p s.best.numbers) c.self.invariant.own)));
+      lines = ap (λ (l : MachineOf). l.lines) c.self.view_is;
+    }
 
 pub returns-else-total-least : goal.returns-else-total-least
 returns-else-total-least c =
@@ -41,5 +49,9 @@ returns-else-total-least c =
     let own : c.args.timed.problem ≡ b = c.is_of.ensures.0 c.if-not-is_of.false in
     let legal : IsLegal b.block c.args.timed.numbers = subst (λ (p : Problem). IsLegal p.block c.args.timed.numbers) own c.order-legal.ensures.legal in
     let least = c.total-least.ensures.value ∙ ap (λ p. total_of p s.best.numbers) c.self.invariant.own in
-    event-not-lower b s.budget s.table s.best s.left s.allowances.items s.spent c.self.invariant c.args.self.now c.args.w c.args.timed c.total-least.result c.self.view_is c.requires.0 le own legal least
-    (omega (arith, c.if-total-least.false, c.total.ensures.value, least, ap (λ p. total_of p c.args.timed.numbers) own))
+    record {
+      offered =
+          (event-not-lower b s.budget s.table s.best s.left s.allowances.items s.spent c.self.invariant c.args.self.now c.args.w c.args.timed c.total-least.result c.self.view_is c.requires.0 le own legal least
+          (omega (arith, c.if-total-least.false, c.total.ensures.value, least, ap (λ p. total_of p c.args.timed.numbers) own)));
+      lines = refl;
+    }

@@ -24,4 +24,4 @@ returns c =
     ∙ (ap (λ (is : List Instr). record { problem = record { block = is; profile = c.profile.result.now }; numbers = c.in-Ok.order.numbers }) c.block-2.ensures
     ∙ (ap (λ p. record { problem = record { block = b.block; profile = p }; numbers = c.in-Ok.order.numbers }) c.profile.ensures
     ∙ ap (λ ns. record { problem = b; numbers = ns }) c.in-Ok.ensures.ok.1)) in
-    subst (λ (t : TimedOrder). (event : Event) × IsOfferOf b 1 t.problem t.numbers event × IsMove c.args.self.now event (offered_reply c.offer.result) c.offer.new.self) timed c.offer.ensures
+    subst (λ (t : TimedOrder). (event : Event) × IsOfferOf b 1 t.problem t.numbers event × IsMove c.args.self.now event (offered_reply c.offer.result) c.offer.new.self) timed c.offer.ensures.offered

@@ -10,9 +10,9 @@ loop-at-preserved c =
     let new = c.retire_at.new.self in
     let at = c.loop-at.at in
     record {
-      leads = leads-on c.args.self.now old new c.loop-at.invariant.leads (event-leads old new (Retire (at + 1)) Retired c.retire_at.ensures);
-      count = retired-count old new at c.retire_at.ensures ∙ c.loop-at.invariant.count;
-      retired = retired-next old new at c.retire_at.ensures c.loop-at.invariant.retired;
+      leads = leads-on c.args.self.now old new c.loop-at.invariant.leads (event-leads old new (Retire (at + 1)) Retired c.retire_at.ensures.retired);
+      count = retired-count old new at c.retire_at.ensures.retired ∙ c.loop-at.invariant.count;
+      retired = retired-next old new at c.retire_at.ensures.retired c.loop-at.invariant.retired;
     }
 
 pub loop-node-preserved : goal.loop-node-preserved

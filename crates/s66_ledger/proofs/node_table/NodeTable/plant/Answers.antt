@@ -1,5 +1,5 @@
 use Rattle.std.proofs.Common.{ℕ, true, ◌+◌, ◌-◌, ◌≡◌, ◌≢◌, ◌∙◌, ◌++◌, List, ap, arith, refl, sym, subst, length, length-append, map, get_or, heap_items, []}
-use Rattle.std.proofs.lemmas.List.{length-set}
+use Rattle.std.proofs.lemmas.List.{append-nil, length-set}
 use Rattle.std.proofs.lemmas.Result.{on_ok_weaker}
 use Rattle.s66_dep.specs.Members.{numbers_in}
 use Rattle.s66_model.specs.Ledger as model
@@ -13,16 +13,18 @@ use Rattle.s66_ledger.specs.declared.node.State.{State}
 use Rattle.s66_ledger.specs.declared.node.State.TheVariants as state
 use Rattle.s66_ledger.specs.OpenNodes.{IsOut, is_open_state, AreOpenNodes}
 use Rattle.s66_ledger.specs.LiveNodes.{is_out_state, AreCounted}
-use Rattle.s66_ledger.specs.Nodes.{no_node, node_at, with_state, nodes_of, prefixes, HaveFloors, HaveDepths}
+use Rattle.s66_ledger.specs.Nodes.{no_node, node_at, with_state, nodes_of, lines_of, prefixes, HaveFloors, HaveDepths}
 use Rattle.s66_ledger.specs.Planting.{kids_of, told_state}
-use Rattle.s66_ledger.specs.Subtrees.{placed, settled, planted, IsPlanted}
+use Rattle.s66_ledger.specs.Subtrees.{placed, settled, planted, lines_below, IsPlanted}
 use Rattle.s66_ledger.proofs.Depths.{depths-state}
 use Rattle.s66_ledger.proofs.Floors.{floors-state}
 use Rattle.s66_ledger.proofs.LiveCounts.{counted-set, some-out, one}
 use Rattle.s66_ledger.proofs.OpenHeap.{still-shut, out-shut, is-open}
 use Rattle.s66_ledger.proofs.Planted.{split-root, split-nodes, alone-nodes, tip-root, told-closed}
 use Rattle.s66_ledger.proofs.PlantedNodes.{still-out}
+use Rattle.s66_ledger.proofs.Prefixes.{lines-state}
 use Rattle.s66_ledger.proofs.Reading.{line-told}
+use Rattle.s66_ledger.proofs.Subtrees.{lines-planted, tip-lineless}
 use Rattle.s66_ledger.proofs.node_table.NodeTable.plant.Goals as goal
 
 out-split : (s : State) → s ≡ state.Out → s ≢ state.Split
@@ -37,6 +39,12 @@ module _ (p : PieceOf) (best i : ℕ) (s : State) (told : Told) (old new : List 
   alone-count : flat (told_tree p) ≡ p.knots → length new + 1 ≡ length old + length p.knots
   alone-count preorder = omega (arith, ap length moved, length-set old i (record (node_at old i) { state = s }), ap length (sym preorder ∙ ap flat alone))
 
+  alone-lines : flat (told_tree p) ≡ p.knots → lines_of new ≡ lines_of old ++ lines_below p
+  alone-lines preorder =
+      ap lines_of moved
+      ∙ (lines-state old i s
+      ∙ (sym (append-nil (lines_of old)) ∙ ap (λ ls. lines_of old ++ ls) (sym (tip-lineless p (ap length (sym preorder ∙ ap flat alone))))))
+
   alone-floors : HaveFloors p.problem old → HaveFloors p.problem new
   alone-floors floors = subst (HaveFloors p.problem) (sym moved) (floors-state p.problem old i s out.0 (out-split (node_at old i).state out.1) floors)
 
@@ -49,6 +57,10 @@ module _ (p : PieceOf) (best i : ℕ) (s : State) (told : Told) (old new : List 
 module _ (p : PieceOf) (best i : ℕ) (old subtree new : List Node) (out : IsOut old i) (whole : IsPlanted p best old (planted best i old subtree)) (moved : new ≡ with_state (planted best i old subtree) i state.Split) where
   abbrev all : List Node
   all = planted best i old subtree
+
+  split-lines : lines_of subtree ≡ lines_below p → lines_of new ≡ lines_of old ++ lines_below p
+  split-lines below =
+      ap lines_of moved ∙ (lines-state all i state.Split ∙ (lines-planted best i old subtree ∙ ap (λ ls. lines_of old ++ ls) below))
 
   split-floors : HaveFloors p.problem new
   split-floors =
@@ -68,6 +80,17 @@ returns-in-Split-clause-floors c =
     let i = c.args.root in
     let whole = c.requires.subtree.anywhere c.args.best i old (record { within = c.requires.out.0; over = c.requires.over; floors = c.requires.floors; depths = subst HaveDepths c.self.view_is c.self.invariant.2; room = c.requires.room }) in
     let split : new ≡ with_state (planted c.args.best i old c.args.subtree.now) i state.Split → HaveFloors p.problem new = split-floors p c.args.best i old c.args.subtree.now new c.requires.out whole in
+    on_ok_weaker c.plant_split.result split c.plant_split.ensures.ok
+
+pub returns-in-Split-clause-lines : goal.returns-in-Split-clause-lines
+returns-in-Split-clause-lines c =
+    let p = c.args.piece.now in
+    let old = c.args.self.now in
+    let new = c.plant_split.new.self in
+    let i = c.args.root in
+    let whole = c.requires.subtree.anywhere c.args.best i old (record { within = c.requires.out.0; over = c.requires.over; floors = c.requires.floors; depths = subst HaveDepths c.self.view_is c.self.invariant.2; room = c.requires.room }) in
+    let split : new ≡ with_state (planted c.args.best i old c.args.subtree.now) i state.Split → lines_of new ≡ lines_of old ++ lines_below p =
+    λ moved. split-lines p c.args.best i old c.args.subtree.now new c.requires.out whole moved c.requires.subtree.lines in
     on_ok_weaker c.plant_split.result split c.plant_split.ensures.ok
 
 pub returns-in-Split-clause-ok : goal.returns-in-Split-clause-ok
@@ -98,6 +121,7 @@ returns-then-is_open c =
       err = tt;
       count = alone-count p c.args.best i state.Open told old c.give_back.new.self c.requires.out alone now moved c.knots.ensures.preorder;
       floors = alone-floors p c.args.best i state.Open told old c.give_back.new.self c.requires.out alone now moved c.requires.floors;
+      lines = alone-lines p c.args.best i state.Open told old c.give_back.new.self c.requires.out alone now moved c.knots.ensures.preorder;
       ok = alone-stands p c.args.best i state.Open told old c.give_back.new.self c.requires.out alone now moved c.requires.over c.knots.ensures.told;
     }
 
@@ -132,6 +156,7 @@ returns c =
       err = tt;
       count = alone-count p c.args.best i state.Closed told old _ c.requires.out alone now moved c.knots.ensures.preorder;
       floors = alone-floors p c.args.best i state.Closed told old _ c.requires.out alone now moved c.requires.floors;
+      lines = alone-lines p c.args.best i state.Closed told old _ c.requires.out alone now moved c.knots.ensures.preorder;
       ok = alone-stands p c.args.best i state.Closed told old _ c.requires.out alone now moved c.requires.over c.knots.ensures.told;
     }
 

@@ -1,6 +1,6 @@
 use Rattle.std.proofs.Common.{arith}
 use Rattle.s66_node.proofs.Walks.{set-few}
-use Rattle.s66_node.proofs.outline.line_byte.Goals as goal
+use Rattle.s66_node.proofs.knot.Knot.byte.Goals as goal
 
 pub overflow_cast-result : goal.overflow_cast-result
 overflow_cast-result c = omega (arith, c.count.ensures, set-few c.in-Split.numbers)
