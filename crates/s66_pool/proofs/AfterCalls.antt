@@ -10,9 +10,8 @@ use Rattle.s66_model.specs.Timing.{Problem, total_of}
 use Rattle.s66_model.specs.Tree.{splits}
 use Rattle.s66_model.specs.Accounts.{Summary, Passbook, Account, Agrees, opened, account_at, after_event, after_reading, least_after, no_account}
 use Rattle.s66_node.specs.Pieces.{PieceOf, tree_of}
-use Rattle.s66_ledger.specs.Handed.{TicketOf}
 use Rattle.s66_ledger.specs.Ledgers.{LedgerOf, IsEvent, account_summary}
-use Rattle.s66_ledger.specs.Grafts.{IsGraftAt, IsRefusedGraft}
+use Rattle.s66_ledger.specs.Grafts.{IsGraftAt, IsRefusedGraftAt}
 use Rattle.s66_time.specs.TimedOrder.{TimedOrder}
 use Rattle.s66_ledger.specs.declared.reply.Offered.{Offered}
 use Rattle.s66_ledger.specs.declared.reply.Offered.TheVariants as offered
@@ -23,7 +22,7 @@ use Rattle.s66_ledger.specs.declared.reply.BackError.{BackError}
 use Rattle.s66_ledger.specs.declared.reply.BackError.TheVariants as kept
 use Rattle.s66_pool.specs.Views.{View, Follows, renewed, idle, holding, first_book}
 use Rattle.s66_pool.specs.Hubs.{SeatOf, HasGrafted, HasBeenRefused, HasOffered, IsKnown}
-use Rattle.s66_pool.proofs.Events.{follows-on, renewed-agrees, same-follows, same-book, event-follows, event-read, event-known, quiet-book, told-book, lower-told, answer-told, gave-book, gave-opened}
+use Rattle.s66_pool.proofs.Events.{same-follows, same-book, event-follows, event-read, event-known, quiet-book, told-book, lower-told, answer-told, gave-book, gave-opened}
 
 -- A SEAT THAT GAVE THE LEDGER BACK
 
@@ -44,7 +43,7 @@ seat-same old hub now p q is here same = (λ i. record { hub = here i; book = sa
 -- A CALL BY THE WORKER OF THE PASSBOOK
 
 -- what a call keeps: the others' passbooks, and so many splits in its own
-abbrev Keeps : LedgerOf → LedgerOf → Passbook → ℕ → Type 0
+abbrev pub Keeps : LedgerOf → LedgerOf → Passbook → ℕ → Type 0
 Keeps l new p count = Follows p.who (account_summary l) (account_summary new) × ((renewed (account_summary new) p p.least).account.splits ≡ count)
 
 module _ (l old new : LedgerOf) (e : old ≡ l) (p : Passbook) (number : ℕ) (who : p.who ≡ number) (agrees : Agrees (account_summary l) p) where
@@ -82,28 +81,28 @@ module _ (l old new : LedgerOf) (e : old ≡ l) (p : Passbook) (number : ℕ) (w
       )
 
   -- a graft
-  module _ (t : TicketOf) (piece : PieceOf) (s now : SeatOf) (at : p ≡ s.book) (after : now.book ≡ renewed (account_summary new) p p.least) (here : now.hub ≡ s.hub) where
-    grafted-as : (reply : Reply) (cost : ℕ) → ((w : ℕ) (own : Bool) → worker (graft_event w t.node own piece.prefix (tree_of piece) reply) ≡ w)
-        → ((w : ℕ) (own : Bool) → least_after p.least (graft_event w t.node own piece.prefix (tree_of piece) reply) reply ≡ p.least)
-        → ((w : ℕ) (own : Bool) → spends (graft_event w t.node own piece.prefix (tree_of piece) reply) reply ≡ cost)
-        → IsGraftAt old number t.node piece reply new → Keeps l new p (p.account.splits + cost) × HasGrafted s t piece reply now
+  module _ (i : ℕ) (piece : PieceOf) (s now : SeatOf) (at : p ≡ s.book) (after : now.book ≡ renewed (account_summary new) p p.least) (here : now.hub ≡ s.hub) where
+    grafted-as : (reply : Reply) (cost : ℕ) → ((w : ℕ) (own : Bool) → worker (graft_event w i own piece.prefix (tree_of piece) reply) ≡ w)
+        → ((w : ℕ) (own : Bool) → least_after p.least (graft_event w i own piece.prefix (tree_of piece) reply) reply ≡ p.least)
+        → ((w : ℕ) (own : Bool) → spends (graft_event w i own piece.prefix (tree_of piece) reply) reply ≡ cost)
+        → IsGraftAt old number i piece reply new → Keeps l new p (p.account.splits + cost) × HasGrafted s i piece reply now
     grafted-as reply cost by quiet spent (event, (own, of, is), h) =
-        let named : ℕ → Event = λ w. graft_event w t.node own piece.prefix (tree_of piece) reply in
+        let named : ℕ → Event = λ w. graft_event w i own piece.prefix (tree_of piece) reply in
         let P : Event → Type 0 = λ v. IsEvent old v reply new in
         let call = quiet-call named reply (by p.who own) (quiet p.who own) (subst P is h) in
         let Q : Problem → Type 0 = λ b. IsOwn b piece.problem own in
-        let R : Passbook → Type 0 = λ q. (v : Event) × IsGraftOf q.problem q.who t.node piece.problem piece.prefix (tree_of piece) reply v × (now.book ≡ after_event q v reply) in (
+        let R : Passbook → Type 0 = λ q. (v : Event) × IsGraftOf q.problem q.who i piece.problem piece.prefix (tree_of piece) reply v × (now.book ≡ after_event q v reply) in (
           (call.0.0, call.0.1 ∙ ap (λ (n : ℕ). p.account.splits + n) (spent p.who own)),
           subst R at (named p.who, (own, subst Q (ap (λ (k : LedgerOf). k.problem) e ∙ sym agrees.problem) of, refl), after ∙ call.1),
         )
 
-    pub grafted : IsGraftAt old number t.node piece model.Taken new → Keeps l new p (p.account.splits + splits (tree_of piece)) × HasGrafted s t piece model.Taken now
+    pub grafted : IsGraftAt old number i piece model.Taken new → Keeps l new p (p.account.splits + splits (tree_of piece)) × HasGrafted s i piece model.Taken now
     grafted h = grafted-as model.Taken (splits (tree_of piece)) (λ w own. refl) (λ w own. refl) (λ w own. refl) h
 
-    plain : (reply : Reply) → Keeps l new p (p.account.splits + 0) × HasGrafted s t piece reply now → Keeps l new p p.account.splits × HasGrafted s t piece reply now
+    plain : (reply : Reply) → Keeps l new p (p.account.splits + 0) × HasGrafted s i piece reply now → Keeps l new p p.account.splits × HasGrafted s i piece reply now
     plain reply h = ((h.0.0, h.0.1 ∙ omega arith), h.1)
 
-    pub graft-refused : (why : GraftError) → IsRefusedGraft old number t piece why new → Keeps l new p p.account.splits × HasBeenRefused s t piece why now
+    pub graft-refused : (why : GraftError) → IsRefusedGraftAt old number i piece why new → Keeps l new p p.account.splits × HasBeenRefused s i piece why now
     graft-refused refused.NotOut h = plain model.NotOut (grafted-as model.NotOut 0 (λ w own. refl) (λ w own. refl) (λ w own. refl) h)
     graft-refused refused.OtherPrefix h = plain model.OtherPrefix (grafted-as model.OtherPrefix 0 (λ w own. refl) (λ w own. refl) (λ w own. refl) h)
     graft-refused refused.OverAllowance h = plain model.OverAllowance (grafted-as model.OverAllowance 0 (λ w own. refl) (λ w own. refl) (λ w own. refl) h)
@@ -128,38 +127,6 @@ module _ (l old new : LedgerOf) (e : old ≡ l) (p : Passbook) (number : ℕ) (w
 pub weaker-err : {T E : Type 0} (r : Result T E) (P Q : E → Type 0) → ((e : E) → P e → Q e) → IfErr r P → IfErr r Q
 weaker-err (Ok x) P Q f h = tt
 weaker-err (Err e) P Q f h = f e h
-
--- A GRAFT, AND THEN A CLAIM IN THE SAME TURN
-
-module _ (l old between : LedgerOf) (e : old ≡ l) (now new : LedgerOf) (same : now ≡ between) (p : Passbook) (number : ℕ) (who : p.who ≡ number) (agrees : Agrees (account_summary l) p)
-    (hub : TableId) (t : TicketOf) (piece : PieceOf) (h : IsGraftAt old number t.node piece model.Taken between) where
-  -- the worker's passbook between them
-  abbrev middle : Passbook
-  middle = renewed (account_summary between) p p.least
-
-  pub first-grafted : (s : SeatOf) → p ≡ s.book → Keeps l between p (p.account.splits + splits (tree_of piece)) × HasGrafted s t piece model.Taken (record { hub = s.hub; book = middle })
-  first-grafted s at = grafted l old between e p number who agrees t piece s (record { hub = s.hub; book = middle }) at refl refl h
-
-  keeps : Keeps l between p (p.account.splits + splits (tree_of piece))
-  keeps = (first-grafted (record { hub = hub; book = p }) refl).0
-
-  middle-agrees : Agrees (account_summary between) middle
-  middle-agrees = renewed-agrees (account_summary l) (account_summary between) p agrees keeps.0
-
-  pub then-refused : new ≡ now → Keeps l new p (p.account.splits + splits (tree_of piece)) × (renewed (account_summary new) p p.least ≡ middle)
-  then-refused is =
-      let call = same-call between now new same middle number who middle-agrees is in (
-        (follows-on p.who (account_summary l) (account_summary between) (account_summary new) keeps.0 call.0.0, call.0.1 ∙ keeps.1),
-        call.1,
-      )
-
-  pub then-claimed : (node : Option ℕ) → IsEvent now (model.Claim number) (model.Claimed node) new
-      → Follows p.who (account_summary l) (account_summary new) × ((opened (account_summary new) p.who).account.splits ≡ p.account.splits + splits (tree_of piece))
-      × (opened (account_summary new) p.who ≡ after_reading (after_event middle (model.Claim middle.who) (model.Claimed node)) (account_summary new).best)
-      × ((account_summary new).best ≤ p.least)
-  then-claimed node is =
-      let call = reading-call between now new same middle number who middle-agrees (λ w. model.Claim w) (model.Claimed node) refl refl refl is in
-      (follows-on p.who (account_summary l) (account_summary between) (account_summary new) keeps.0 call.0, call.1 ∙ keeps.1, call.2, call.3)
 
 -- NO WORKER HAS SPENT MORE THAN ALL HAVE
 

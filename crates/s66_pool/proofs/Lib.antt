@@ -5,6 +5,7 @@ pub mod Seats
 pub mod Sums
 pub mod Events
 pub mod AfterCalls
+pub mod GoingOn
 pub mod Spending
 pub mod Dealing
 pub mod Present

@@ -1,16 +1,17 @@
 -- To be believed: what contracts see of a hub and of a seat at it, and what a call makes of a seat.
-use Rattle.std.specs.Prelude.{ℕ, ⊤, ◌≡◌, ◌≤◌, ◌==◌, true, Option, List}
+use Rattle.std.specs.Prelude.{ℕ, ⊤, ◌≡◌, ◌≤◌, ◌==◌, Bool, true, List}
 use Rattle.atomic_table.specs.Seated.{TableId}
 use Rattle.s66_isa.specs.Lists.{some_of}
 use Rattle.s66_model.specs.Ledger as model
 use Rattle.s66_model.specs.Ledger.{Event, Reply}
 use Rattle.s66_model.specs.Recorded.{IsGraftOf, IsOfferOf}
-use Rattle.s66_model.specs.Accounts.{Summary, Passbook, after_event, after_reading}
+use Rattle.s66_model.specs.Accounts.{Summary, Passbook, after_event}
 use Rattle.s66_node.specs.Pieces.{PieceOf, tree_of}
 use Rattle.s66_time.specs.TimedOrder.{TimedOrder}
-use Rattle.s66_ledger.specs.Handed.{TicketOf}
 use Rattle.s66_ledger.specs.declared.reply.GraftError.{GraftError}
 use Rattle.s66_ledger.specs.declared.reply.GraftError.TheVariants as refused
+use Rattle.s66_pool.specs.declared.after_graft.AfterGraft.{AfterGraft}
+use Rattle.s66_pool.specs.GoingOn.{IsAfter}
 
 -- which hub, and the summary of the ledger with which it opened
 pub record HubOf : Type 0 where
@@ -26,24 +27,23 @@ pub record SeatOf : Type 0 where
 abbrev pub HaveSeats : ℕ → List SeatOf → Type 0
 HaveSeats workers seats = (w : ℕ) → 1 ≤ w → w ≤ workers → some_of (λ s. s.book.who == w) seats ≡ true
 
--- after its worker's graft of this piece at the ticket's node, with this reply
-abbrev pub HasGrafted : SeatOf → TicketOf → PieceOf → Reply → SeatOf → Type 0
-HasGrafted old ticket piece reply new =
-    (event : Event) × IsGraftOf old.book.problem old.book.who ticket.node piece.problem piece.prefix (tree_of piece) reply event
+-- after its worker's graft of this piece at a node, with this reply
+abbrev pub HasGrafted : SeatOf → (node : ℕ) → PieceOf → Reply → SeatOf → Type 0
+HasGrafted old node piece reply new =
+    (event : Event) × IsGraftOf old.book.problem old.book.who node piece.problem piece.prefix (tree_of piece) reply event
     × (new.book ≡ after_event old.book event reply)
 
--- after such a graft that was taken, then a claim that got this node, and then a look at the best time
-abbrev pub HasGraftedAndClaimed : SeatOf → TicketOf → PieceOf → Option ℕ → ℕ → SeatOf → Type 0
-HasGraftedAndClaimed old ticket piece node best new =
-    (between : SeatOf) × HasGrafted old ticket piece model.Taken between
-    × (new.book ≡ after_reading (after_event between.book (model.Claim between.book.who) (model.Claimed node)) best)
+-- after such a graft that was taken, and what the worker did after it in the same turn
+abbrev pub HasGraftedAndGoneOn : SeatOf → (node : ℕ) → PieceOf → (spent : Bool) → AfterGraft → SeatOf → Type 0
+HasGraftedAndGoneOn old node piece spent after new =
+    (between : SeatOf) × HasGrafted old node piece model.Taken between × IsAfter spent between.book after new.book
 
 -- a refusal is a reply too, but for want of memory, after which the seat is as it was
-abbrev pub HasBeenRefused : SeatOf → TicketOf → PieceOf → GraftError → SeatOf → Type 0
-HasBeenRefused old ticket piece refused.NotOut new = HasGrafted old ticket piece model.NotOut new
-HasBeenRefused old ticket piece refused.OtherPrefix new = HasGrafted old ticket piece model.OtherPrefix new
-HasBeenRefused old ticket piece refused.OverAllowance new = HasGrafted old ticket piece model.OverAllowance new
-HasBeenRefused old ticket piece refused.OutOfMemory new = new ≡ old
+abbrev pub HasBeenRefused : SeatOf → (node : ℕ) → PieceOf → GraftError → SeatOf → Type 0
+HasBeenRefused old node piece refused.NotOut new = HasGrafted old node piece model.NotOut new
+HasBeenRefused old node piece refused.OtherPrefix new = HasGrafted old node piece model.OtherPrefix new
+HasBeenRefused old node piece refused.OverAllowance new = HasGrafted old node piece model.OverAllowance new
+HasBeenRefused old node piece refused.OutOfMemory new = new ≡ old
 
 -- after its worker's offer of this order, with this reply
 abbrev pub HasOffered : SeatOf → TimedOrder → Reply → SeatOf → Type 0

@@ -1,4 +1,5 @@
 pub mod Hubs
+pub mod GoingOn
 pub mod Views
 pub mod Locked
 pub mod Tokens

@@ -1,5 +1,6 @@
-//! The calls of a hub: each waits for the lock, makes one or two calls of the ledger, and gives it back.
+//! The calls of a hub: each waits for the lock, makes a call of the ledger or some, and gives it back.
 
+use crate::after_graft::{AfterGraft, go_on};
 use crate::hub::Hub;
 use crate::seat::Seat;
 use s66_ledger::{BackError, GraftError, Offered, Subtree, Ticket};
@@ -15,7 +16,8 @@ impl<'a> Hub<'a> {
     ghost use Rattle.s66_ledger.specs.Claims.{claimed_node};
     ghost use Rattle.s66_ledger.specs.Replies.{offered_reply};
     ghost use Rattle.s66_ledger.specs.declared.reply.BackError.TheVariants as refused;
-    ghost use Rattle.s66_pool.specs.Hubs.{HasGrafted, HasGraftedAndClaimed, HasBeenRefused, HasOffered, IsKnown};
+    ghost use Rattle.s66_pool.specs.GoingOn.{IsKnownAfter};
+    ghost use Rattle.s66_pool.specs.Hubs.{HasGrafted, HasGraftedAndGoneOn, HasBeenRefused, HasOffered, IsKnown};
 
     /// Moves splits of the budget to the worker, as `Ledger::grant` does.
     pub fn grant<R: Wait>(&self, rt: &R, seat: &mut Seat<'a>) -> Result<u32, AllocError>
@@ -79,43 +81,42 @@ impl<'a> Hub<'a> {
         Ok(claimed)
     }
 
-    /// Grafts a piece as `graft` does, and where it is taken, claims and reads as `claim_and_read` does, in one turn at the lock. The
-    /// outer `Err` hands ticket and piece back, and nothing is claimed; the inner one is want of memory for the claim, and the piece
-    /// stays grafted.
-    pub fn graft_and_claim<R: Wait>(
+    /// Grafts a piece as `graft` does, and where it is taken, goes on in the same turn at the lock: grants splits where the worker's
+    /// allowance is spent with the piece, as the caller tells, and unless none came, claims a node and reads the best time. The piece
+    /// stays with the caller. On `Err` nothing more is done.
+    pub fn graft_and_go_on<R: Wait>(
         &self,
         rt: &R,
         seat: &mut Seat<'a>,
-        ticket: Ticket,
-        piece: Piece,
-    ) -> Result<Result<(Option<Ticket>, u32), AllocError>, (GraftError, Ticket, Piece)>
+        node: u32,
+        piece: &Piece,
+        is_spent: bool,
+    ) -> Result<AfterGraft, GraftError>
         requires { seat.old.hub ≡ self.now.id }
         ensures here { seat.new.hub ≡ seat.old.hub }
-        ensures ok { IfOk result (λ next. IfOk next (λ r. HasGraftedAndClaimed seat.old ticket piece (claimed_node r.0) r.1 seat.new)) }
-        ensures known { IfOk result (λ next. IfOk next (λ r. r.1 ≤ seat.old.book.least)) }
-        ensures unclaimed { IfOk result (λ next. OnErr next (HasGrafted seat.old ticket piece Taken seat.new)) }
-        ensures refused { IfErr result (λ e. HasBeenRefused seat.old ticket piece e.0 seat.new) }
-        ensures handed_back { IfErr result (λ e. (e.1 ≡ ticket) × (e.2 ≡ piece)) }
+        ensures ok { IfOk result (λ after. HasGraftedAndGoneOn seat.old node piece.now is_spent after seat.new) }
+        ensures known { IfOk result (λ after. IsKnownAfter after seat.old.book) }
+        ensures refused { IfErr result (λ why. HasBeenRefused seat.old node piece.now why seat.new) }
     {
-        let Ok(subtree) = Subtree::of(self.alloc, &piece) else {
-            return Err((GraftError::OutOfMemory, ticket, piece));
+        let Ok(subtree) = Subtree::of(self.alloc, piece) else {
+            return Err(GraftError::OutOfMemory);
         };
         let added = piece.splits();
         let mut ledger = self.lock.take(rt, &mut seat.token);
-        if let Err(why) = ledger.graft_at(seat.number, ticket.node(), &piece, &subtree) {
+        if let Err(why) = ledger.graft_at(seat.number, node, piece, &subtree) {
             self.lock.give(&mut seat.token, ledger);
-            return Err((why, ticket, piece));
+            return Err(why);
         }
         // no worker has spent more than all have
         let _spent = ledger.splits();
         seat.splits += added;
-        let Ok(next) = ledger.claim(seat.number) else {
+        let after = go_on(&mut *ledger, seat.number, is_spent);
+        if !after.is_claimed() {
             self.lock.give(&mut seat.token, ledger);
-            return Ok(Err(AllocError));
-        };
-        let claimed = (next, ledger.best());
+            return Ok(after);
+        }
         self.lock.give_read(&mut seat.token, ledger);
-        Ok(Ok(claimed))
+        Ok(after)
     }
 
     /// Takes a node back that was handed out, so that it is open again.
@@ -175,8 +176,8 @@ impl<'a> Hub<'a> {
     ) -> Result<(), (GraftError, Ticket, Piece)>
         requires { seat.old.hub ≡ self.now.id }
         ensures here { seat.new.hub ≡ seat.old.hub }
-        ensures ok { OnOk result (HasGrafted seat.old ticket piece Taken seat.new) }
-        ensures refused { IfErr result (λ e. HasBeenRefused seat.old ticket piece e.0 seat.new) }
+        ensures ok { OnOk result (HasGrafted seat.old ticket.node piece Taken seat.new) }
+        ensures refused { IfErr result (λ e. HasBeenRefused seat.old ticket.node piece e.0 seat.new) }
         ensures handed_back { IfErr result (λ e. (e.1 ≡ ticket) × (e.2 ≡ piece)) }
     {
         let Ok(subtree) = Subtree::of(self.alloc, &piece) else {

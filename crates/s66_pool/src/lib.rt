@@ -1,6 +1,7 @@
 //! The workers of a search: its ledger under a lock, a seat at it for each worker, and threads.
 #![tactic(auto)]
 
+mod after_graft;
 mod calls;
 mod crew;
 mod gate;
@@ -14,6 +15,7 @@ mod seat;
 mod view;
 mod worker;
 
+pub use after_graft::AfterGraft;
 pub use crew::work;
 pub use gate::{Free, Gate};
 pub use hub::{Hub, SeatsMissing};

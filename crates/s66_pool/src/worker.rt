@@ -1,6 +1,7 @@
 ghost use Rattle.std.specs.Prelude.{◌≡◌};
 ghost use Rattle.s66_pool.specs.Workers.{IsSameSeat};
 
+use crate::after_graft::AfterGraft;
 use crate::gate::Gate;
 use crate::hub::Hub;
 use crate::limits::{LOOKS, NONES_LIMIT};
@@ -49,16 +50,6 @@ enum Step {
     /// Wait, since no node was open.
     Wait,
     End,
-}
-
-impl Step {
-    /// What follows a claim.
-    fn after_claim(claimed: Option<Ticket>) -> Step {
-        match claimed {
-            Some(ticket) => Step::Expand(ticket),
-            None => Step::Wait,
-        }
-    }
 }
 
 /// A worker's steps at its seat, until there is nothing more for it to do; then it retires.
@@ -139,25 +130,26 @@ impl<'b> Worker<'b> {
         }
         let claimed = site.hub.claim_and_read(site.rt, seat);
         self.has_claimed = true;
-        self.learn(site, seat.number(), claimed)
+        match claimed {
+            Ok((ticket, best)) => self.take_up(site, seat.number(), ticket, best),
+            Err(AllocError) => end_unclaimed(site, seat.number()),
+        }
     }
 
-    /// Tells the gate of a claim, and keeps the best time.
-    fn learn<'a, R, G: Gate>(
+    /// Takes up what it has claimed: tells the gate, and keeps the best time.
+    fn take_up<'a, R, G: Gate>(
         &mut self,
         site: &Site<'_, 'a, R, G>,
         w: u8,
-        claimed: Result<(Option<Ticket>, u32), AllocError>,
-    ) -> Step
-        ensures { self.new.allowance ≡ self.old.allowance }
-    {
-        site.gate
-            .after_claim(w, matches!(claimed, Ok((Some(_), _))));
-        let Ok((ticket, best)) = claimed else {
-            return Step::End;
-        };
+        ticket: Option<Ticket>,
+        best: u32,
+    ) -> Step {
+        site.gate.after_claim(w, ticket.is_some());
         self.best = best;
-        Step::after_claim(ticket)
+        match ticket {
+            Some(ticket) => Step::Expand(ticket),
+            None => Step::Wait,
+        }
     }
 
     /// Whether its last claim got no node.
@@ -194,39 +186,59 @@ impl<'b> Worker<'b> {
             return give_back(site, seat, ticket);
         }
         match self.walk.expand(site.rt.alloc(), ticket.prefix(), self.best, self.allowance) {
-            Ok(piece) => self.hand_in(site, seat, ticket, piece),
+            Ok(piece) => self.hand_in(site, seat, ticket, &piece),
             Err(AllocError) => give_back(site, seat, ticket),
         }
     }
 
-    /// Offers a piece's best whole order, grafts the piece, and claims the next node in the same turn where it has allowance left.
+    /// Offers a piece's best whole order, grafts the piece, and goes on in the same turn.
     fn hand_in<'a, R: Wait, G: Gate>(
         &mut self,
         site: &Site<'_, 'a, R, G>,
         seat: &mut Seat<'a>,
         ticket: Ticket,
-        piece: Piece,
+        piece: &Piece,
     ) -> Step
         requires here { seat.old.hub ≡ site.now.hub.now.id }
-        requires within { splits (tree_of piece) ≤ self.old.allowance }
+        requires within { splits (tree_of piece.now) ≤ self.old.allowance }
         ensures { IsSameSeat seat.old seat.new }
     {
-        if !self.offer_whole(site, seat, &piece) {
+        if !self.offer_whole(site, seat, piece) {
             return give_back(site, seat, ticket);
         }
-        let splits = piece.splits();
-        if splits == self.allowance {
-            return match graft(site, seat, ticket, piece) {
-                Ok(()) => self.end_round(site, seat, splits, Step::Claim),
-                Err(ticket) => give_back(site, seat, ticket),
-            };
-        }
-        match graft_and_claim(site, seat, ticket, piece) {
-            Ok(claimed) => {
-                let next = self.learn(site, seat.number(), claimed);
-                self.end_round(site, seat, splits, next)
+        self.allowance -= piece.splits();
+        let is_spent = self.allowance == 0;
+        site.gate.before_graft(seat.number());
+        match site
+            .hub
+            .graft_and_go_on(site.rt, seat, ticket.node(), piece, is_spent)
+        {
+            Ok(after) => {
+                let next = self.go_on(site, seat.number(), after);
+                self.end_round(site, seat, next)
             }
-            Err(ticket) => give_back(site, seat, ticket),
+            Err(_) => give_back(site, seat, ticket),
+        }
+    }
+
+    /// Takes up what came of the turn of its graft.
+    fn go_on<'a, R, G: Gate>(
+        &mut self,
+        site: &Site<'_, 'a, R, G>,
+        w: u8,
+        after: AfterGraft,
+    ) -> Step {
+        match after {
+            AfterGraft::NotGranted => Step::End,
+            AfterGraft::NotClaimed { .. } => end_unclaimed(site, w),
+            AfterGraft::Claimed {
+                granted,
+                ticket,
+                best,
+            } => {
+                self.allowance = self.allowance.saturating_add(granted);
+                self.take_up(site, w, ticket, best)
+            }
         }
     }
 
@@ -236,14 +248,11 @@ impl<'b> Worker<'b> {
         &mut self,
         site: &Site<'_, 'a, R, G>,
         seat: &mut Seat<'a>,
-        splits: u32,
         next: Step,
     ) -> Step
-        requires here { seat.old.hub ≡ site.now.hub.now.id }
-        requires within { splits ≤ self.old.allowance }
+        requires { seat.old.hub ≡ site.now.hub.now.id }
         ensures { IsSameSeat seat.old seat.new }
     {
-        self.allowance -= splits;
         self.rounds = self.rounds.wrapping_add(1);
         if self.offer_sometimes(site, seat) {
             return next;
@@ -325,36 +334,10 @@ fn is_searched(searching: &AtomicUsize) -> bool {
     true
 }
 
-/// Grafts a piece, and tells the gate before; refused, the ticket comes back.
-fn graft<'a, R: Wait, G: Gate>(
-    site: &Site<'_, 'a, R, G>,
-    seat: &mut Seat<'a>,
-    ticket: Ticket,
-    piece: Piece,
-) -> Result<(), Ticket>
-    requires { seat.old.hub ≡ site.now.hub.now.id }
-    ensures { IsSameSeat seat.old seat.new }
-{
-    site.gate.before_graft(seat.number());
-    site.hub
-        .graft(site.rt, seat, ticket, piece)
-        .map_err(|refusal| refusal.1)
-}
-
-/// Grafts a piece and claims the next node in one turn, and tells the gate before; refused, the ticket comes back.
-fn graft_and_claim<'a, R: Wait, G: Gate>(
-    site: &Site<'_, 'a, R, G>,
-    seat: &mut Seat<'a>,
-    ticket: Ticket,
-    piece: Piece,
-) -> Result<Result<(Option<Ticket>, u32), AllocError>, Ticket>
-    requires { seat.old.hub ≡ site.now.hub.now.id }
-    ensures { IsSameSeat seat.old seat.new }
-{
-    site.gate.before_graft(seat.number());
-    site.hub
-        .graft_and_claim(site.rt, seat, ticket, piece)
-        .map_err(|refusal| refusal.1)
+/// Tells the gate of a claim for which memory was refused, with which the worker ends.
+fn end_unclaimed<'a, R, G: Gate>(site: &Site<'_, 'a, R, G>, w: u8) -> Step {
+    site.gate.after_claim(w, false);
+    Step::End
 }
 
 /// Gives a ticket back, with which the worker ends. Refused for want of memory, its node stays out until the ledger is finished.

@@ -22,7 +22,7 @@ give-requires-clause-follows g c =
     let s : SeatOf = record { hub = c.seat.inside.token.table_id; book = p } in
     let after : SeatOf = record { hub = c.seat.inside.token.table_id; book = renewed (account_summary c.graft_at.new.self) p p.least } in
     let call = graft-refused c.take-ledger.result.value c.deref_mut.result.now c.graft_at.new.self c.deref_mut.ensures.value p c.seat.inside.number c.seat.invariant.1 c.take-ledger.ensures.agrees
-    c.args.ticket c.args.piece s after refl refl refl c.in-Err.err (subst (λ i. IsRefusedGraftAt c.deref_mut.result.now c.seat.inside.number i c.args.piece c.in-Err.err c.graft_at.new.self) c.node.ensures c.in-Err.ensures.refused) in
+    c.args.ticket.node c.args.piece s after refl refl refl c.in-Err.err (subst (λ i. IsRefusedGraftAt c.deref_mut.result.now c.seat.inside.number i c.args.piece c.in-Err.err c.graft_at.new.self) c.node.ensures c.in-Err.ensures.refused) in
     follows-at c.take-ledger.new.token.me (account_summary c.take-ledger.result.value) p c.take-ledger.ensures.holding (account_summary c.graft_at.new.self) call.0.0
 
 pub invariant_of-seat : goal.invariant_of-seat
@@ -31,7 +31,7 @@ invariant_of-seat g c =
     let s : SeatOf = record { hub = c.seat.inside.token.table_id; book = p } in
     let after : SeatOf = record { hub = c.seat.inside.token.table_id; book = renewed (account_summary c.graft_at.new.self) p p.least } in
     let call = graft-refused c.take-ledger.result.value c.deref_mut.result.now c.graft_at.new.self c.deref_mut.ensures.value p c.seat.inside.number c.seat.invariant.1 c.take-ledger.ensures.agrees
-    c.args.ticket c.args.piece s after refl refl refl c.in-Err.err (subst (λ i. IsRefusedGraftAt c.deref_mut.result.now c.seat.inside.number i c.args.piece c.in-Err.err c.graft_at.new.self) c.node.ensures c.in-Err.ensures.refused) in
+    c.args.ticket.node c.args.piece s after refl refl refl c.in-Err.err (subst (λ i. IsRefusedGraftAt c.deref_mut.result.now c.seat.inside.number i c.args.piece c.in-Err.err c.graft_at.new.self) c.node.ensures c.in-Err.ensures.refused) in
     seat-keeps c.take-ledger.new.token.me (account_summary c.take-ledger.result.value) p c.take-ledger.ensures.holding (account_summary c.graft_at.new.self) c.give.new.token.me c.give.ensures.resting c.seat.inside.number
     c.seat.inside.splits c.seat.invariant.1 (call.0.1 ∙ c.seat.invariant.2)
 
@@ -40,7 +40,7 @@ returns-in-Err-clause-refused g c =
     let p = book c.seat.inside.token in
     let now : SeatOf = record { hub = c.give.new.token.table_id; book = book c.give.new.token } in
     let gave = gave-book c.take-ledger.new.token.me (account_summary c.take-ledger.result.value) p c.take-ledger.ensures.holding (account_summary c.graft_at.new.self) c.give.new.token.me c.give.ensures.resting in
-    (graft-refused c.take-ledger.result.value c.deref_mut.result.now c.graft_at.new.self c.deref_mut.ensures.value p c.seat.inside.number c.seat.invariant.1 c.take-ledger.ensures.agrees c.args.ticket c.args.piece
+    (graft-refused c.take-ledger.result.value c.deref_mut.result.now c.graft_at.new.self c.deref_mut.ensures.value p c.seat.inside.number c.seat.invariant.1 c.take-ledger.ensures.agrees c.args.ticket.node c.args.piece
     c.args.seat.now now (ap (λ (t : SeatOf). t.book) c.seat.view_is) gave (c.give.ensures.here ∙ c.take-ledger.ensures.here ∙ ap (λ (t : SeatOf). t.hub) c.seat.view_is) c.in-Err.err (subst (λ i. IsRefusedGraftAt c.deref_mut.result.now c.seat.inside.number i c.args.piece c.in-Err.err c.graft_at.new.self) c.node.ensures c.in-Err.ensures.refused)).1
 
 pub give-requires-2-clause-follows : goal.give-requires-2-clause-follows
@@ -49,7 +49,7 @@ give-requires-2-clause-follows g c =
     let s : SeatOf = record { hub = c.seat.inside.token.table_id; book = p } in
     let after : SeatOf = record { hub = c.seat.inside.token.table_id; book = renewed (account_summary c.graft_at.new.self) p p.least } in
     let call = grafted c.take-ledger.result.value c.deref_mut.result.now c.graft_at.new.self c.deref_mut.ensures.value p c.seat.inside.number c.seat.invariant.1 c.take-ledger.ensures.agrees
-    c.args.ticket c.args.piece s after refl refl refl (subst (λ i. IsGraftAt c.deref_mut.result.now c.seat.inside.number i c.args.piece Taken c.graft_at.new.self) c.node.ensures c.in_default-graft_at.ensures.ok) in
+    c.args.ticket.node c.args.piece s after refl refl refl (subst (λ i. IsGraftAt c.deref_mut.result.now c.seat.inside.number i c.args.piece Taken c.graft_at.new.self) c.node.ensures c.in_default-graft_at.ensures.ok) in
     follows-at c.take-ledger.new.token.me (account_summary c.take-ledger.result.value) p c.take-ledger.ensures.holding (account_summary c.graft_at.new.self) call.0.0
 
 pub overflow_add-seat : goal.overflow_add-seat
@@ -58,7 +58,7 @@ overflow_add-seat g c =
     let s : SeatOf = record { hub = c.seat.inside.token.table_id; book = p } in
     let after : SeatOf = record { hub = c.seat.inside.token.table_id; book = renewed (account_summary c.graft_at.new.self) p p.least } in
     let call = grafted c.take-ledger.result.value c.deref_mut.result.now c.graft_at.new.self c.deref_mut.ensures.value p c.seat.inside.number c.seat.invariant.1 c.take-ledger.ensures.agrees
-    c.args.ticket c.args.piece s after refl refl refl (subst (λ i. IsGraftAt c.deref_mut.result.now c.seat.inside.number i c.args.piece Taken c.graft_at.new.self) c.node.ensures c.in_default-graft_at.ensures.ok) in
+    c.args.ticket.node c.args.piece s after refl refl refl (subst (λ i. IsGraftAt c.deref_mut.result.now c.seat.inside.number i c.args.piece Taken c.graft_at.new.self) c.node.ensures c.in_default-graft_at.ensures.ok) in
     let agrees = c.take-ledger.ensures.agrees in
     let worker = agrees.worker in
     let workers = call.0.0.search.workers in
@@ -80,7 +80,7 @@ invariant_of-seat-2 g c =
     let s : SeatOf = record { hub = c.seat.inside.token.table_id; book = p } in
     let after : SeatOf = record { hub = c.seat.inside.token.table_id; book = renewed (account_summary c.graft_at.new.self) p p.least } in
     let call = grafted c.take-ledger.result.value c.deref_mut.result.now c.graft_at.new.self c.deref_mut.ensures.value p c.seat.inside.number c.seat.invariant.1 c.take-ledger.ensures.agrees
-    c.args.ticket c.args.piece s after refl refl refl (subst (λ i. IsGraftAt c.deref_mut.result.now c.seat.inside.number i c.args.piece Taken c.graft_at.new.self) c.node.ensures c.in_default-graft_at.ensures.ok) in
+    c.args.ticket.node c.args.piece s after refl refl refl (subst (λ i. IsGraftAt c.deref_mut.result.now c.seat.inside.number i c.args.piece Taken c.graft_at.new.self) c.node.ensures c.in_default-graft_at.ensures.ok) in
     seat-keeps c.take-ledger.new.token.me (account_summary c.take-ledger.result.value) p c.take-ledger.ensures.holding (account_summary c.graft_at.new.self) c.give-2.new.token.me c.give-2.ensures.resting c.seat.inside.number
     (c.seat.inside.splits + c.splits-splits.result) c.seat.invariant.1 (omega (arith, call.0.1, c.seat.invariant.2, c.splits-splits.ensures))
 
@@ -89,5 +89,5 @@ returns-clause-ok g c =
     let p = book c.seat.inside.token in
     let now : SeatOf = record { hub = c.give-2.new.token.table_id; book = book c.give-2.new.token } in
     let gave = gave-book c.take-ledger.new.token.me (account_summary c.take-ledger.result.value) p c.take-ledger.ensures.holding (account_summary c.graft_at.new.self) c.give-2.new.token.me c.give-2.ensures.resting in
-    (grafted c.take-ledger.result.value c.deref_mut.result.now c.graft_at.new.self c.deref_mut.ensures.value p c.seat.inside.number c.seat.invariant.1 c.take-ledger.ensures.agrees c.args.ticket c.args.piece
+    (grafted c.take-ledger.result.value c.deref_mut.result.now c.graft_at.new.self c.deref_mut.ensures.value p c.seat.inside.number c.seat.invariant.1 c.take-ledger.ensures.agrees c.args.ticket.node c.args.piece
     c.args.seat.now now (ap (λ (t : SeatOf). t.book) c.seat.view_is) gave (c.give-2.ensures.here ∙ c.take-ledger.ensures.here ∙ ap (λ (t : SeatOf). t.hub) c.seat.view_is) (subst (λ i. IsGraftAt c.deref_mut.result.now c.seat.inside.number i c.args.piece Taken c.graft_at.new.self) c.node.ensures c.in_default-graft_at.ensures.ok)).1
