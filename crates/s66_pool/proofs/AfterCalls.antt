@@ -80,35 +80,44 @@ module _ (l old new : LedgerOf) (e : old ≡ l) (p : Passbook) (number : ℕ) (w
         omega (arith, event-known l new p (event p.who) reply now own agrees, quiet),
       )
 
-  -- a graft
-  module _ (i : ℕ) (piece : PieceOf) (s now : SeatOf) (at : p ≡ s.book) (after : now.book ≡ renewed (account_summary new) p p.least) (here : now.hub ≡ s.hub) where
+  -- a graft, and of any seat with this passbook what became of it
+  module _ (i : ℕ) (piece : PieceOf) where
     grafted-as : (reply : Reply) (cost : ℕ) → ((w : ℕ) (own : Bool) → worker (graft_event w i own piece.prefix (tree_of piece) reply) ≡ w)
         → ((w : ℕ) (own : Bool) → least_after p.least (graft_event w i own piece.prefix (tree_of piece) reply) reply ≡ p.least)
         → ((w : ℕ) (own : Bool) → spends (graft_event w i own piece.prefix (tree_of piece) reply) reply ≡ cost)
-        → IsGraftAt old number i piece reply new → Keeps l new p (p.account.splits + cost) × HasGrafted s i piece reply now
+        → IsGraftAt old number i piece reply new
+        → Keeps l new p (p.account.splits + cost) × ((s now : SeatOf) → p ≡ s.book → now.book ≡ renewed (account_summary new) p p.least → HasGrafted s i piece reply now)
     grafted-as reply cost by quiet spent (event, (own, of, is), h) =
         let named : ℕ → Event = λ w. graft_event w i own piece.prefix (tree_of piece) reply in
         let P : Event → Type 0 = λ v. IsEvent old v reply new in
         let call = quiet-call named reply (by p.who own) (quiet p.who own) (subst P is h) in
-        let Q : Problem → Type 0 = λ b. IsOwn b piece.problem own in
-        let R : Passbook → Type 0 = λ q. (v : Event) × IsGraftOf q.problem q.who i piece.problem piece.prefix (tree_of piece) reply v × (now.book ≡ after_event q v reply) in (
+        let Q : Problem → Type 0 = λ b. IsOwn b piece.problem own in (
           (call.0.0, call.0.1 ∙ ap (λ (n : ℕ). p.account.splits + n) (spent p.who own)),
-          subst R at (named p.who, (own, subst Q (ap (λ (k : LedgerOf). k.problem) e ∙ sym agrees.problem) of, refl), after ∙ call.1),
+          λ s now at after.
+              (let R : Passbook → Type 0 = λ q. (v : Event) × IsGraftOf q.problem q.who i piece.problem piece.prefix (tree_of piece) reply v × (now.book ≡ after_event q v reply) in
+              subst R at (named p.who, (own, subst Q (ap (λ (k : LedgerOf). k.problem) e ∙ sym agrees.problem) of, refl), after ∙ call.1)),
         )
 
-    pub grafted : IsGraftAt old number i piece model.Taken new → Keeps l new p (p.account.splits + splits (tree_of piece)) × HasGrafted s i piece model.Taken now
+    pub grafted : IsGraftAt old number i piece model.Taken new
+        → Keeps l new p (p.account.splits + splits (tree_of piece)) × ((s now : SeatOf) → p ≡ s.book → now.book ≡ renewed (account_summary new) p p.least → HasGrafted s i piece model.Taken now)
     grafted h = grafted-as model.Taken (splits (tree_of piece)) (λ w own. refl) (λ w own. refl) (λ w own. refl) h
 
-    plain : (reply : Reply) → Keeps l new p (p.account.splits + 0) × HasGrafted s i piece reply now → Keeps l new p p.account.splits × HasGrafted s i piece reply now
-    plain reply h = ((h.0.0, h.0.1 ∙ omega arith), h.1)
+    abbrev Refused : GraftError → Type 0
+    Refused why = Keeps l new p p.account.splits × ((s now : SeatOf) → p ≡ s.book → now.book ≡ renewed (account_summary new) p p.least → now.hub ≡ s.hub → HasBeenRefused s i piece why now)
 
-    pub graft-refused : (why : GraftError) → IsRefusedGraftAt old number i piece why new → Keeps l new p p.account.splits × HasBeenRefused s i piece why now
-    graft-refused refused.NotOut h = plain model.NotOut (grafted-as model.NotOut 0 (λ w own. refl) (λ w own. refl) (λ w own. refl) h)
-    graft-refused refused.OtherPrefix h = plain model.OtherPrefix (grafted-as model.OtherPrefix 0 (λ w own. refl) (λ w own. refl) (λ w own. refl) h)
-    graft-refused refused.OverAllowance h = plain model.OverAllowance (grafted-as model.OverAllowance 0 (λ w own. refl) (λ w own. refl) (λ w own. refl) h)
+    pub graft-refused : (why : GraftError) → IsRefusedGraftAt old number i piece why new → Refused why
+    graft-refused refused.NotOut h =
+        let call = grafted-as model.NotOut 0 (λ w own. refl) (λ w own. refl) (λ w own. refl) h in
+        ((call.0.0, call.0.1 ∙ omega arith), λ s now at after here. call.1 s now at after)
+    graft-refused refused.OtherPrefix h =
+        let call = grafted-as model.OtherPrefix 0 (λ w own. refl) (λ w own. refl) (λ w own. refl) h in
+        ((call.0.0, call.0.1 ∙ omega arith), λ s now at after here. call.1 s now at after)
+    graft-refused refused.OverAllowance h =
+        let call = grafted-as model.OverAllowance 0 (λ w own. refl) (λ w own. refl) (λ w own. refl) h in
+        ((call.0.0, call.0.1 ∙ omega arith), λ s now at after here. call.1 s now at after)
     graft-refused refused.OutOfMemory h =
         let call = same-call h in
-        (call.0, (λ i. record { hub = here i; book = (after ∙ call.1 ∙ at) i }))
+        (call.0, λ s now at after here. (λ i. record { hub = here i; book = (after ∙ call.1 ∙ at) i }))
 
   -- a node given back
   pub back-call : {E : Type 0} (r : Result (Unit {0}) (BackError × E)) (node : ℕ) → IfOk r (λ _. IsEvent old (Back number node) Returned new)

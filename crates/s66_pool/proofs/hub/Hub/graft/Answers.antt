@@ -1,10 +1,9 @@
-use Rattle.std.proofs.Common.{◌≡◌, ◌≤◌, ◌+◌, ap, refl, ◌∙◌, subst, sym, arith}
+use Rattle.std.proofs.Common.{◌≡◌, ◌≤◌, ◌+◌, ap, ◌∙◌, subst, sym, arith}
 use Rattle.s66_isa.specs.Lists.{weigh}
 use Rattle.s66_model.specs.Ledger.{Taken}
 use Rattle.s66_ledger.specs.Grafts.{IsGraftAt, IsRefusedGraftAt}
 use Rattle.s66_ledger.specs.Ledgers.{LedgerOf, account_summary}
 use Rattle.s66_pool.specs.Tokens.{book}
-use Rattle.s66_pool.specs.Views.{renewed}
 use Rattle.s66_pool.specs.Hubs.{SeatOf}
 use Rattle.s66_pool.proofs.Events.{number_within, follows-at, gave-book}
 use Rattle.s66_pool.proofs.AfterCalls.{seat-keeps, grafted, graft-refused, account-within}
@@ -19,19 +18,15 @@ graft_at-requires-clause-worker g c =
 pub give-requires-clause-follows : goal.give-requires-clause-follows
 give-requires-clause-follows g c =
     let p = book c.seat.inside.token in
-    let s : SeatOf = record { hub = c.seat.inside.token.table_id; book = p } in
-    let after : SeatOf = record { hub = c.seat.inside.token.table_id; book = renewed (account_summary c.graft_at.new.self) p p.least } in
     let call = graft-refused c.take-ledger.result.value c.deref_mut.result.now c.graft_at.new.self c.deref_mut.ensures.value p c.seat.inside.number c.seat.invariant.1 c.take-ledger.ensures.agrees
-    c.args.ticket.node c.args.piece s after refl refl refl c.in-Err.err (subst (λ i. IsRefusedGraftAt c.deref_mut.result.now c.seat.inside.number i c.args.piece c.in-Err.err c.graft_at.new.self) c.node.ensures c.in-Err.ensures.refused) in
+    c.args.ticket.node c.args.piece c.in-Err.err (subst (λ i. IsRefusedGraftAt c.deref_mut.result.now c.seat.inside.number i c.args.piece c.in-Err.err c.graft_at.new.self) c.node.ensures c.in-Err.ensures.refused) in
     follows-at c.take-ledger.new.token.me (account_summary c.take-ledger.result.value) p c.take-ledger.ensures.holding (account_summary c.graft_at.new.self) call.0.0
 
 pub invariant_of-seat : goal.invariant_of-seat
 invariant_of-seat g c =
     let p = book c.seat.inside.token in
-    let s : SeatOf = record { hub = c.seat.inside.token.table_id; book = p } in
-    let after : SeatOf = record { hub = c.seat.inside.token.table_id; book = renewed (account_summary c.graft_at.new.self) p p.least } in
     let call = graft-refused c.take-ledger.result.value c.deref_mut.result.now c.graft_at.new.self c.deref_mut.ensures.value p c.seat.inside.number c.seat.invariant.1 c.take-ledger.ensures.agrees
-    c.args.ticket.node c.args.piece s after refl refl refl c.in-Err.err (subst (λ i. IsRefusedGraftAt c.deref_mut.result.now c.seat.inside.number i c.args.piece c.in-Err.err c.graft_at.new.self) c.node.ensures c.in-Err.ensures.refused) in
+    c.args.ticket.node c.args.piece c.in-Err.err (subst (λ i. IsRefusedGraftAt c.deref_mut.result.now c.seat.inside.number i c.args.piece c.in-Err.err c.graft_at.new.self) c.node.ensures c.in-Err.ensures.refused) in
     seat-keeps c.take-ledger.new.token.me (account_summary c.take-ledger.result.value) p c.take-ledger.ensures.holding (account_summary c.graft_at.new.self) c.give.new.token.me c.give.ensures.resting c.seat.inside.number
     c.seat.inside.splits c.seat.invariant.1 (call.0.1 ∙ c.seat.invariant.2)
 
@@ -40,25 +35,22 @@ returns-in-Err-clause-refused g c =
     let p = book c.seat.inside.token in
     let now : SeatOf = record { hub = c.give.new.token.table_id; book = book c.give.new.token } in
     let gave = gave-book c.take-ledger.new.token.me (account_summary c.take-ledger.result.value) p c.take-ledger.ensures.holding (account_summary c.graft_at.new.self) c.give.new.token.me c.give.ensures.resting in
-    (graft-refused c.take-ledger.result.value c.deref_mut.result.now c.graft_at.new.self c.deref_mut.ensures.value p c.seat.inside.number c.seat.invariant.1 c.take-ledger.ensures.agrees c.args.ticket.node c.args.piece
-    c.args.seat.now now (ap (λ (t : SeatOf). t.book) c.seat.view_is) gave (c.give.ensures.here ∙ c.take-ledger.ensures.here ∙ ap (λ (t : SeatOf). t.hub) c.seat.view_is) c.in-Err.err (subst (λ i. IsRefusedGraftAt c.deref_mut.result.now c.seat.inside.number i c.args.piece c.in-Err.err c.graft_at.new.self) c.node.ensures c.in-Err.ensures.refused)).1
+    (graft-refused c.take-ledger.result.value c.deref_mut.result.now c.graft_at.new.self c.deref_mut.ensures.value p c.seat.inside.number c.seat.invariant.1 c.take-ledger.ensures.agrees
+    c.args.ticket.node c.args.piece c.in-Err.err (subst (λ i. IsRefusedGraftAt c.deref_mut.result.now c.seat.inside.number i c.args.piece c.in-Err.err c.graft_at.new.self) c.node.ensures c.in-Err.ensures.refused)).1
+    c.args.seat.now now (ap (λ (t : SeatOf). t.book) c.seat.view_is) gave (c.give.ensures.here ∙ c.take-ledger.ensures.here ∙ ap (λ (t : SeatOf). t.hub) c.seat.view_is)
 
 pub give-requires-2-clause-follows : goal.give-requires-2-clause-follows
 give-requires-2-clause-follows g c =
     let p = book c.seat.inside.token in
-    let s : SeatOf = record { hub = c.seat.inside.token.table_id; book = p } in
-    let after : SeatOf = record { hub = c.seat.inside.token.table_id; book = renewed (account_summary c.graft_at.new.self) p p.least } in
     let call = grafted c.take-ledger.result.value c.deref_mut.result.now c.graft_at.new.self c.deref_mut.ensures.value p c.seat.inside.number c.seat.invariant.1 c.take-ledger.ensures.agrees
-    c.args.ticket.node c.args.piece s after refl refl refl (subst (λ i. IsGraftAt c.deref_mut.result.now c.seat.inside.number i c.args.piece Taken c.graft_at.new.self) c.node.ensures c.in_default-graft_at.ensures.ok) in
+    c.args.ticket.node c.args.piece (subst (λ i. IsGraftAt c.deref_mut.result.now c.seat.inside.number i c.args.piece Taken c.graft_at.new.self) c.node.ensures c.in_default-graft_at.ensures.ok) in
     follows-at c.take-ledger.new.token.me (account_summary c.take-ledger.result.value) p c.take-ledger.ensures.holding (account_summary c.graft_at.new.self) call.0.0
 
 pub overflow_add-seat : goal.overflow_add-seat
 overflow_add-seat g c =
     let p = book c.seat.inside.token in
-    let s : SeatOf = record { hub = c.seat.inside.token.table_id; book = p } in
-    let after : SeatOf = record { hub = c.seat.inside.token.table_id; book = renewed (account_summary c.graft_at.new.self) p p.least } in
     let call = grafted c.take-ledger.result.value c.deref_mut.result.now c.graft_at.new.self c.deref_mut.ensures.value p c.seat.inside.number c.seat.invariant.1 c.take-ledger.ensures.agrees
-    c.args.ticket.node c.args.piece s after refl refl refl (subst (λ i. IsGraftAt c.deref_mut.result.now c.seat.inside.number i c.args.piece Taken c.graft_at.new.self) c.node.ensures c.in_default-graft_at.ensures.ok) in
+    c.args.ticket.node c.args.piece (subst (λ i. IsGraftAt c.deref_mut.result.now c.seat.inside.number i c.args.piece Taken c.graft_at.new.self) c.node.ensures c.in_default-graft_at.ensures.ok) in
     let agrees = c.take-ledger.ensures.agrees in
     let worker = agrees.worker in
     let workers = call.0.0.search.workers in
@@ -77,10 +69,8 @@ overflow_add-seat g c =
 pub invariant_of-seat-2 : goal.invariant_of-seat-2
 invariant_of-seat-2 g c =
     let p = book c.seat.inside.token in
-    let s : SeatOf = record { hub = c.seat.inside.token.table_id; book = p } in
-    let after : SeatOf = record { hub = c.seat.inside.token.table_id; book = renewed (account_summary c.graft_at.new.self) p p.least } in
     let call = grafted c.take-ledger.result.value c.deref_mut.result.now c.graft_at.new.self c.deref_mut.ensures.value p c.seat.inside.number c.seat.invariant.1 c.take-ledger.ensures.agrees
-    c.args.ticket.node c.args.piece s after refl refl refl (subst (λ i. IsGraftAt c.deref_mut.result.now c.seat.inside.number i c.args.piece Taken c.graft_at.new.self) c.node.ensures c.in_default-graft_at.ensures.ok) in
+    c.args.ticket.node c.args.piece (subst (λ i. IsGraftAt c.deref_mut.result.now c.seat.inside.number i c.args.piece Taken c.graft_at.new.self) c.node.ensures c.in_default-graft_at.ensures.ok) in
     seat-keeps c.take-ledger.new.token.me (account_summary c.take-ledger.result.value) p c.take-ledger.ensures.holding (account_summary c.graft_at.new.self) c.give-2.new.token.me c.give-2.ensures.resting c.seat.inside.number
     (c.seat.inside.splits + c.splits-splits.result) c.seat.invariant.1 (omega (arith, call.0.1, c.seat.invariant.2, c.splits-splits.ensures))
 
@@ -89,5 +79,6 @@ returns-clause-ok g c =
     let p = book c.seat.inside.token in
     let now : SeatOf = record { hub = c.give-2.new.token.table_id; book = book c.give-2.new.token } in
     let gave = gave-book c.take-ledger.new.token.me (account_summary c.take-ledger.result.value) p c.take-ledger.ensures.holding (account_summary c.graft_at.new.self) c.give-2.new.token.me c.give-2.ensures.resting in
-    (grafted c.take-ledger.result.value c.deref_mut.result.now c.graft_at.new.self c.deref_mut.ensures.value p c.seat.inside.number c.seat.invariant.1 c.take-ledger.ensures.agrees c.args.ticket.node c.args.piece
-    c.args.seat.now now (ap (λ (t : SeatOf). t.book) c.seat.view_is) gave (c.give-2.ensures.here ∙ c.take-ledger.ensures.here ∙ ap (λ (t : SeatOf). t.hub) c.seat.view_is) (subst (λ i. IsGraftAt c.deref_mut.result.now c.seat.inside.number i c.args.piece Taken c.graft_at.new.self) c.node.ensures c.in_default-graft_at.ensures.ok)).1
+    (grafted c.take-ledger.result.value c.deref_mut.result.now c.graft_at.new.self c.deref_mut.ensures.value p c.seat.inside.number c.seat.invariant.1 c.take-ledger.ensures.agrees
+    c.args.ticket.node c.args.piece (subst (λ i. IsGraftAt c.deref_mut.result.now c.seat.inside.number i c.args.piece Taken c.graft_at.new.self) c.node.ensures c.in_default-graft_at.ensures.ok)).1
+    c.args.seat.now now (ap (λ (t : SeatOf). t.book) c.seat.view_is) gave
