@@ -22,7 +22,7 @@ use Rattle.s66_ledger.specs.declared.reply.BackError.{BackError}
 use Rattle.s66_ledger.specs.declared.reply.BackError.TheVariants as kept
 use Rattle.s66_pool.specs.Views.{View, Follows, renewed, idle, holding, first_book}
 use Rattle.s66_pool.specs.Hubs.{SeatOf, HasGrafted, HasBeenRefused, HasOffered, IsKnown}
-use Rattle.s66_pool.proofs.Events.{same-follows, same-book, event-follows, event-read, event-known, quiet-book, told-book, lower-told, answer-told, gave-book, gave-opened}
+use Rattle.s66_pool.proofs.Events.{renewed-agrees, same-follows, same-book, event-follows, event-read, event-known, quiet-book, told-book, lower-told, answer-told, gave-book, gave-opened}
 
 -- A SEAT THAT GAVE THE LEDGER BACK
 
@@ -147,9 +147,11 @@ got-le-weigh (a ∷ accounts) (suc i) h = omega (arith, got-le-weigh accounts i 
 pub account-within : (s : Summary) (w : ℕ) → 1 ≤ w → w ≤ length s.accounts → (account_at s w).splits ≤ weigh (λ a. a.splits) s.accounts
 account-within s w low high = got-le-weigh s.accounts (w - 1) (omega (arith, low, high))
 
-pub splits-within : (s : Summary) (q : Passbook) → Agrees s q → q.account.splits ≤ weigh (λ a. a.splits) s.accounts
-splits-within s q is =
-    omega (arith, ap (λ (a : Account). a.splits) is.account, account-within s q.who is.worker.0 is.worker.1)
+-- nor the worker who called
+pub keeps-within : (l new : LedgerOf) (p : Passbook) (count : ℕ) → Agrees (account_summary l) p → Keeps l new p count → count ≤ weigh (λ a. a.splits) (account_summary new).accounts
+keeps-within l new p count agrees keeps =
+    let is = renewed-agrees (account_summary l) (account_summary new) p agrees keeps.0 in
+    omega (arith, keeps.1, account-within (account_summary new) p.who is.worker.0 is.worker.1)
 
 -- AN OFFER
 

@@ -14,10 +14,11 @@ pub settled : {T E F : Type 0} (r : Result T E) (P : T → Type 0) (Q : E → Ty
 settled (Ok x) P Q f g ok err = f x ok
 settled (Err e) P Q f g ok err = g e err
 
-pub number_within : (l : LedgerOf) (p : Passbook) (number : ℕ) → Agrees (account_summary l) p → p.who ≡ number → (1 ≤ number) × (number ≤ l.workers)
-number_within l p number is who =
+-- a ledger, where it was found, has the worker
+pub number_within : (l found : LedgerOf) → found ≡ l → (p : Passbook) (number : ℕ) → Agrees (account_summary l) p → p.who ≡ number → (1 ≤ number) × (number ≤ found.workers)
+number_within l found at p number is who =
     let count = accounts-count l.problem l.budget l.workers (events_of l) l.state in
-    (omega (arith, is.worker.0, who), omega (arith, is.worker.1, who, count))
+    (omega (arith, is.worker.0, who), omega (arith, is.worker.1, who, count, ap (λ (k : LedgerOf). k.workers) at))
 
 follows-itself : (w : ℕ) (s : Summary) → Follows w s s
 follows-itself w s = record { search = record { problem = refl; budget = refl; workers = refl }; lower = omega arith; others = λ p ne is. is }

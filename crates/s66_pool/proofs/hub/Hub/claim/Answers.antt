@@ -1,9 +1,9 @@
-use Rattle.std.proofs.Common.{◌≡◌, ◌≤◌, ap, refl, ◌∙◌, subst, sym}
+use Rattle.std.proofs.Common.{◌≡◌, ap, refl, ◌∙◌}
 use Rattle.std.proofs.lemmas.Result.{IfOk-weaker, on_err_weaker}
 use Rattle.s66_model.specs.Ledger.{Claim, Claimed}
 use Rattle.s66_model.specs.Accounts.{Passbook, after_event}
 use Rattle.s66_ledger.specs.Claims.{claimed_node}
-use Rattle.s66_ledger.specs.Ledgers.{LedgerOf, account_summary}
+use Rattle.s66_ledger.specs.Ledgers.{account_summary}
 use Rattle.s66_pool.specs.Tokens.{book}
 use Rattle.s66_pool.specs.Hubs.{SeatOf}
 use Rattle.s66_pool.proofs.Events.{number_within, follows-at, gave-book}
@@ -12,9 +12,7 @@ use Rattle.s66_pool.proofs.hub.Hub.claim.Goals as goal
 
 pub claim-claimed-requires : goal.claim-claimed-requires
 claim-claimed-requires g c =
-    let at : c.deref_mut.result.now ≡ c.take-ledger.result.value = c.deref_mut.ensures.value in
-    let within = number_within c.take-ledger.result.value (book c.seat.inside.token) c.seat.inside.number c.take-ledger.ensures.agrees c.seat.invariant.1 in
-    subst (λ (l : LedgerOf). (1 ≤ c.seat.inside.number) × (c.seat.inside.number ≤ l.workers)) (sym at) within
+    number_within c.take-ledger.result.value c.deref_mut.result.now c.deref_mut.ensures.value (book c.seat.inside.token) c.seat.inside.number c.take-ledger.ensures.agrees c.seat.invariant.1
 
 pub give-requires-clause-follows : goal.give-requires-clause-follows
 give-requires-clause-follows g c =

@@ -1,4 +1,4 @@
-use Rattle.std.proofs.Common.{ℕ, ◌≡◌, ◌≤◌, ap, refl, ◌∙◌, subst, sym}
+use Rattle.std.proofs.Common.{ℕ, ◌≡◌, ap, refl, ◌∙◌, sym}
 use Rattle.s66_model.specs.Ledger.{Claim, Claimed}
 use Rattle.s66_model.specs.Accounts.{Passbook, after_event, after_reading}
 use Rattle.s66_ledger.specs.Claims.{claimed_node}
@@ -11,9 +11,7 @@ use Rattle.s66_pool.proofs.hub.Hub.claim_and_read.Goals as goal
 
 pub claim-requires : goal.claim-requires
 claim-requires g c =
-    let at : c.deref_mut.result.now ≡ c.take-ledger.result.value = c.deref_mut.ensures.value in
-    let within = number_within c.take-ledger.result.value (book c.seat.inside.token) c.seat.inside.number c.take-ledger.ensures.agrees c.seat.invariant.1 in
-    subst (λ (l : LedgerOf). (1 ≤ c.seat.inside.number) × (c.seat.inside.number ≤ l.workers)) (sym at) within
+    number_within c.take-ledger.result.value c.deref_mut.result.now c.deref_mut.ensures.value (book c.seat.inside.token) c.seat.inside.number c.take-ledger.ensures.agrees c.seat.invariant.1
 
 pub invariant_of-seat : goal.invariant_of-seat
 invariant_of-seat g c =

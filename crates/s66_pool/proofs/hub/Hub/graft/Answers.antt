@@ -1,4 +1,4 @@
-use Rattle.std.proofs.Common.{◌≡◌, ◌≤◌, ◌+◌, ap, ◌∙◌, subst, sym, arith}
+use Rattle.std.proofs.Common.{◌≡◌, ◌+◌, ap, ◌∙◌, subst, arith}
 use Rattle.s66_isa.specs.Lists.{weigh}
 use Rattle.s66_model.specs.Ledger.{Taken}
 use Rattle.s66_ledger.specs.Grafts.{IsGraftAt, IsRefusedGraftAt}
@@ -6,14 +6,12 @@ use Rattle.s66_ledger.specs.Ledgers.{LedgerOf, account_summary}
 use Rattle.s66_pool.specs.Tokens.{book}
 use Rattle.s66_pool.specs.Hubs.{SeatOf}
 use Rattle.s66_pool.proofs.Events.{number_within, follows-at, gave-book}
-use Rattle.s66_pool.proofs.AfterCalls.{seat-keeps, grafted, graft-refused, account-within}
+use Rattle.s66_pool.proofs.AfterCalls.{seat-keeps, grafted, graft-refused, keeps-within}
 use Rattle.s66_pool.proofs.hub.Hub.graft.Goals as goal
 
 pub graft_at-requires-clause-worker : goal.graft_at-requires-clause-worker
 graft_at-requires-clause-worker g c =
-    let at : c.deref_mut.result.now ≡ c.take-ledger.result.value = c.deref_mut.ensures.value in
-    let within = number_within c.take-ledger.result.value (book c.seat.inside.token) c.seat.inside.number c.take-ledger.ensures.agrees c.seat.invariant.1 in
-    subst (λ (l : LedgerOf). (1 ≤ c.seat.inside.number) × (c.seat.inside.number ≤ l.workers)) (sym at) within
+    number_within c.take-ledger.result.value c.deref_mut.result.now c.deref_mut.ensures.value (book c.seat.inside.token) c.seat.inside.number c.take-ledger.ensures.agrees c.seat.invariant.1
 
 pub give-requires-clause-follows : goal.give-requires-clause-follows
 give-requires-clause-follows g c =
@@ -51,14 +49,10 @@ overflow_add-seat g c =
     let p = book c.seat.inside.token in
     let call = grafted c.take-ledger.result.value c.deref_mut.result.now c.graft_at.new.self c.deref_mut.ensures.value p c.seat.inside.number c.seat.invariant.1 c.take-ledger.ensures.agrees
     c.args.ticket.node c.args.piece (subst (λ i. IsGraftAt c.deref_mut.result.now c.seat.inside.number i c.args.piece Taken c.graft_at.new.self) c.node.ensures c.in_default-graft_at.ensures.ok) in
-    let agrees = c.take-ledger.ensures.agrees in
-    let worker = agrees.worker in
-    let workers = call.0.0.search.workers in
     let now : c.deref.result.now ≡ c.graft_at.new.self = c.deref.ensures in
     omega (
       arith,
-      call.0.1,
-      account-within (account_summary c.graft_at.new.self) p.who worker.0 (omega (arith, worker.1, workers)),
+      keeps-within c.take-ledger.result.value c.graft_at.new.self p _ c.take-ledger.ensures.agrees call.0,
       c.splits-spent.ensures.accounts,
       c.splits-spent.ensures.value,
       ap (λ (l : LedgerOf). weigh (λ a. a.splits) (account_summary l).accounts) now,

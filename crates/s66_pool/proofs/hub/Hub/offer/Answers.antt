@@ -1,5 +1,5 @@
-use Rattle.std.proofs.Common.{rules, ◌≡◌, ◌≤◌, ap, ◌∙◌, subst, sym}
-use Rattle.s66_ledger.specs.Ledgers.{LedgerOf, account_summary}
+use Rattle.std.proofs.Common.{rules, ◌≡◌, ap, ◌∙◌}
+use Rattle.s66_ledger.specs.Ledgers.{account_summary}
 use Rattle.s66_pool.specs.Tokens.{book}
 use Rattle.s66_pool.specs.Hubs.{SeatOf}
 use Rattle.s66_pool.proofs.Events.{number_within, follows-at, gave-book, gave-opened}
@@ -8,9 +8,7 @@ use Rattle.s66_pool.proofs.hub.Hub.offer.Goals as goal
 
 pub offer-requires : goal.offer-requires
 offer-requires g c =
-    let at : c.deref_mut.result.now ≡ c.take-ledger.result.value = c.deref_mut.ensures.value in
-    let within = number_within c.take-ledger.result.value (book c.seat.inside.token) c.seat.inside.number c.take-ledger.ensures.agrees c.seat.invariant.1 in
-    subst (λ (l : LedgerOf). (1 ≤ c.seat.inside.number) × (c.seat.inside.number ≤ l.workers)) (sym at) within
+    number_within c.take-ledger.result.value c.deref_mut.result.now c.deref_mut.ensures.value (book c.seat.inside.token) c.seat.inside.number c.take-ledger.ensures.agrees c.seat.invariant.1
 
 pub invariant_of-seat : goal.invariant_of-seat
 invariant_of-seat g c =
