@@ -1,5 +1,5 @@
 -- To be believed: what contracts see of a hub and of a seat at it, and what a call makes of a seat.
-use Rattle.std.specs.Prelude.{ℕ, ⊤, ◌≡◌, ◌≤◌, ◌==◌, Bool, true, List}
+use Rattle.std.specs.Prelude.{ℕ, ⊤, ◌≡◌, ◌≤◌, ◌==◌, true, List}
 use Rattle.atomic_table.specs.Seated.{TableId}
 use Rattle.s66_isa.specs.Lists.{some_of}
 use Rattle.s66_model.specs.Ledger as model
@@ -10,6 +10,7 @@ use Rattle.s66_node.specs.Pieces.{PieceOf, tree_of}
 use Rattle.s66_time.specs.TimedOrder.{TimedOrder}
 use Rattle.s66_ledger.specs.declared.reply.GraftError.{GraftError}
 use Rattle.s66_ledger.specs.declared.reply.GraftError.TheVariants as refused
+use Rattle.s66_pool.specs.declared.after_graft.Next.{Next}
 use Rattle.s66_pool.specs.declared.after_graft.AfterGraft.{AfterGraft}
 use Rattle.s66_pool.specs.GoingOn.{IsAfter}
 
@@ -34,9 +35,9 @@ HasGrafted old node piece reply new =
     × (new.book ≡ after_event old.book event reply)
 
 -- after such a graft that was taken, and what the worker did after it in the same turn
-abbrev pub HasGraftedAndGoneOn : SeatOf → (node : ℕ) → PieceOf → (spent : Bool) → AfterGraft → SeatOf → Type 0
-HasGraftedAndGoneOn old node piece spent after new =
-    (between : SeatOf) × HasGrafted old node piece model.Taken between × IsAfter spent between.book after new.book
+abbrev pub HasGraftedAndGoneOn : SeatOf → (node : ℕ) → PieceOf → Next → AfterGraft → SeatOf → Type 0
+HasGraftedAndGoneOn old node piece asked after new =
+    (between : SeatOf) × HasGrafted old node piece model.Taken between × IsAfter asked between.book after new.book
 
 -- a refusal is a reply too, but for want of memory, after which the seat is as it was
 abbrev pub HasBeenRefused : SeatOf → (node : ℕ) → PieceOf → GraftError → SeatOf → Type 0

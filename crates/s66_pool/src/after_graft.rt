@@ -1,21 +1,34 @@
-ghost use Rattle.std.specs.Prelude.{true, ◌≡◌, ◌≤◌, ◌⊎◌, IfSome, IfNone};
+ghost use Rattle.std.specs.Prelude.{◌≤◌, ◌⊎◌, ◌≡◌, IfSome, IfNone};
 ghost use Rattle.s66_model.specs.Ledger.{Grant, Granted};
-ghost use Rattle.s66_ledger.specs.Ledgers.{IsEvent};
+ghost use Rattle.s66_ledger.specs.Ledgers.{LedgerOf, IsEvent};
 ghost use Rattle.s66_pool.specs.GoingOn.{IsGranted, GoesOn};
 
 use s66_ledger::{Ledger, Ticket};
 
+/// What a worker asks for in the turn of its graft, once its piece is taken.
+#[derive(Clone, Copy, Debug, PartialEq, Eq)]
+pub enum Next {
+    /// Nothing more.
+    Rest,
+    /// A claim, and a reading of the best time.
+    Claim,
+    /// A grant, since its allowance is spent, and unless it is granted nothing, a claim and a reading of the best time.
+    GrantAndClaim,
+}
+
 /// What a worker got in the turn of its graft, after a piece that was taken.
 #[derive(Debug, Drop)]
 pub enum AfterGraft {
-    /// Its allowance was spent and it was granted nothing, since the budget is spent or memory was refused. It claimed nothing.
+    /// It asked for nothing more.
+    Rested,
+    /// It asked for a grant and was granted nothing, since the budget is spent or memory was refused. It claimed nothing.
     NotGranted,
-    /// It was granted so many splits, or 0 where it had some left; then memory was refused for the claim.
+    /// It was granted so many splits, or 0 where it asked for no grant; then memory was refused for the claim.
     NotClaimed {
         granted: u32,
     },
-    /// It was granted so many splits, or 0 where it had some left; then it claimed, and got a node where one was open, and read the
-    /// best time in minor cycles.
+    /// It was granted so many splits, or 0 where it asked for no grant; then it claimed, and got a node where one was open, and read
+    /// the best time in minor cycles.
     Claimed {
         granted: u32,
         ticket: Option<Ticket>,
@@ -35,16 +48,13 @@ impl AfterGraft {
     }
 }
 
-/// Grants the worker splits where its allowance is spent; None where it then got none.
-fn grant_where(ledger: &mut Ledger<'_>, w: u8, is_spent: bool) -> Option<u32>
+/// Grants the worker splits; None where it got none.
+fn grant_some(ledger: &mut Ledger<'_>, w: u8) -> Option<u32>
     requires { (1 ≤ w) × (w ≤ ledger.old.workers) }
-    ensures granted { IfSome result (λ n. IsGranted w is_spent n ledger.old ledger.new) }
-    ensures not_granted { IfNone result ((is_spent ≡ true) × (IsEvent ledger.old (Grant w) (Granted 0) ledger.new ⊎ (ledger.new ≡ ledger.old))) }
+    ensures granted { IfSome result (λ n. IsEvent ledger.old (Grant w) (Granted n) ledger.new) }
+    ensures not_granted { IfNone result (IsEvent ledger.old (Grant w) (Granted 0) ledger.new ⊎ (ledger.new ≡ ledger.old)) }
     ensures workers { ledger.new.workers ≡ ledger.old.workers }
 {
-    if !is_spent {
-        return Some(0);
-    }
     let granted = ledger.grant(w).ok()?;
     if granted == 0 {
         return None;
@@ -52,15 +62,11 @@ fn grant_where(ledger: &mut Ledger<'_>, w: u8, is_spent: bool) -> Option<u32>
     Some(granted)
 }
 
-/// Goes on after a graft: grants the worker splits where its allowance is spent, and unless it then got none, claims a node and reads
-/// the best time.
-pub(crate) fn go_on(ledger: &mut Ledger<'_>, w: u8, is_spent: bool) -> AfterGraft
+/// Claims a node and reads the best time, after so many splits were granted.
+fn claim_after(ledger: &mut Ledger<'_>, w: u8, granted: u32) -> AfterGraft
     requires { (1 ≤ w) × (w ≤ ledger.old.workers) }
-    ensures { GoesOn w is_spent ledger.old result ledger.new }
+    ensures { (asked : Next) (before : LedgerOf) → IsGranted w asked granted before ledger.old → GoesOn w asked before result ledger.new }
 {
-    let Some(granted) = grant_where(ledger, w, is_spent) else {
-        return AfterGraft::NotGranted;
-    };
     let Ok(ticket) = ledger.claim(w) else {
         return AfterGraft::NotClaimed { granted };
     };
@@ -69,5 +75,22 @@ pub(crate) fn go_on(ledger: &mut Ledger<'_>, w: u8, is_spent: bool) -> AfterGraf
         granted,
         ticket,
         best,
+    }
+}
+
+/// Does what the worker asks for after its graft.
+pub(crate) fn go_on(ledger: &mut Ledger<'_>, w: u8, next: Next) -> AfterGraft
+    requires { (1 ≤ w) × (w ≤ ledger.old.workers) }
+    ensures { GoesOn w next ledger.old result ledger.new }
+{
+    match next {
+        Next::Rest => AfterGraft::Rested,
+        Next::Claim => claim_after(ledger, w, 0),
+        Next::GrantAndClaim => {
+            let Some(granted) = grant_some(ledger, w) else {
+                return AfterGraft::NotGranted;
+            };
+            claim_after(ledger, w, granted)
+        }
     }
 }

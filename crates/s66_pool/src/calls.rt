@@ -1,6 +1,6 @@
 //! The calls of a hub: each waits for the lock, makes a call of the ledger or some, and gives it back.
 
-use crate::after_graft::{AfterGraft, go_on};
+use crate::after_graft::{AfterGraft, Next, go_on};
 use crate::hub::Hub;
 use crate::seat::Seat;
 use s66_ledger::{BackError, GraftError, Offered, Subtree, Ticket};
@@ -81,20 +81,20 @@ impl<'a> Hub<'a> {
         Ok(claimed)
     }
 
-    /// Grafts a piece as `graft` does, and where it is taken, goes on in the same turn at the lock: grants splits where the worker's
-    /// allowance is spent with the piece, as the caller tells, and unless none came, claims a node and reads the best time. The piece
-    /// stays with the caller. On `Err` nothing more is done.
+    /// Puts a piece in the place of the node of this number, as `Ledger::graft_at` does, and where it is taken, does what the worker
+    /// asks for next in the same turn at the lock. The piece's nodes are made before the lock is taken; the piece stays with the
+    /// caller. On `Err` nothing more is done.
     pub fn graft_and_go_on<R: Wait>(
         &self,
         rt: &R,
         seat: &mut Seat<'a>,
         node: u32,
         piece: &Piece,
-        is_spent: bool,
+        next: Next,
     ) -> Result<AfterGraft, GraftError>
         requires { seat.old.hub ≡ self.now.id }
         ensures here { seat.new.hub ≡ seat.old.hub }
-        ensures ok { IfOk result (λ after. HasGraftedAndGoneOn seat.old node piece.now is_spent after seat.new) }
+        ensures ok { IfOk result (λ after. HasGraftedAndGoneOn seat.old node piece.now next after seat.new) }
         ensures known { IfOk result (λ after. IsKnownAfter after seat.old.book) }
         ensures refused { IfErr result (λ why. HasBeenRefused seat.old node piece.now why seat.new) }
     {
@@ -110,13 +110,34 @@ impl<'a> Hub<'a> {
         // no worker has spent more than all have
         let _spent = ledger.splits();
         seat.splits += added;
-        let after = go_on(&mut *ledger, seat.number, is_spent);
+        let after = go_on(&mut *ledger, seat.number, next);
         if !after.is_claimed() {
             self.lock.give(&mut seat.token, ledger);
             return Ok(after);
         }
         self.lock.give_read(&mut seat.token, ledger);
         Ok(after)
+    }
+
+    /// Puts a piece in the place of a node that was handed out, as `Ledger::graft` does. Ticket and piece are dropped after
+    /// the lock is given back.
+    pub fn graft<R: Wait>(
+        &self,
+        rt: &R,
+        seat: &mut Seat<'a>,
+        ticket: Ticket,
+        piece: Piece,
+    ) -> Result<(), (GraftError, Ticket, Piece)>
+        requires { seat.old.hub ≡ self.now.id }
+        ensures here { seat.new.hub ≡ seat.old.hub }
+        ensures ok { OnOk result (HasGrafted seat.old ticket.node piece Taken seat.new) }
+        ensures refused { IfErr result (λ e. HasBeenRefused seat.old ticket.node piece e.0 seat.new) }
+        ensures handed_back { IfErr result (λ e. (e.1 ≡ ticket) × (e.2 ≡ piece)) }
+    {
+        match self.graft_and_go_on(rt, seat, ticket.node(), &piece, Next::Rest) {
+            Ok(_) => Ok(()),
+            Err(why) => Err((why, ticket, piece)),
+        }
     }
 
     /// Takes a node back that was handed out, so that it is open again.
@@ -163,37 +184,6 @@ impl<'a> Hub<'a> {
             _ => self.lock.give_read(&mut seat.token, ledger),
         }
         Ok(offered)
-    }
-
-    /// Puts a piece in the place of a node that was handed out, as `Ledger::graft` does. The piece's nodes are made before the lock is
-    /// taken; they, ticket and piece are dropped after it is given back.
-    pub fn graft<R: Wait>(
-        &self,
-        rt: &R,
-        seat: &mut Seat<'a>,
-        ticket: Ticket,
-        piece: Piece,
-    ) -> Result<(), (GraftError, Ticket, Piece)>
-        requires { seat.old.hub ≡ self.now.id }
-        ensures here { seat.new.hub ≡ seat.old.hub }
-        ensures ok { OnOk result (HasGrafted seat.old ticket.node piece Taken seat.new) }
-        ensures refused { IfErr result (λ e. HasBeenRefused seat.old ticket.node piece e.0 seat.new) }
-        ensures handed_back { IfErr result (λ e. (e.1 ≡ ticket) × (e.2 ≡ piece)) }
-    {
-        let Ok(subtree) = Subtree::of(self.alloc, &piece) else {
-            return Err((GraftError::OutOfMemory, ticket, piece));
-        };
-        let splits = piece.splits();
-        let mut ledger = self.lock.take(rt, &mut seat.token);
-        if let Err(err) = ledger.graft_at(seat.number, ticket.node(), &piece, &subtree) {
-            self.lock.give(&mut seat.token, ledger);
-            return Err((err, ticket, piece));
-        }
-        // no worker has spent more than all have
-        let _spent = ledger.splits();
-        self.lock.give(&mut seat.token, ledger);
-        seat.splits += splits;
-        Ok(())
     }
 
     /// The best time, in minor cycles, which the seat then knows. It isn't above what the seat knew.

@@ -15,7 +15,7 @@ mod seat;
 mod view;
 mod worker;
 
-pub use after_graft::AfterGraft;
+pub use after_graft::{AfterGraft, Next};
 pub use crew::work;
 pub use gate::{Free, Gate};
 pub use hub::{Hub, SeatsMissing};

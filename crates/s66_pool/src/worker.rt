@@ -1,7 +1,7 @@
 ghost use Rattle.std.specs.Prelude.{◌≡◌};
 ghost use Rattle.s66_pool.specs.Workers.{IsSameSeat};
 
-use crate::after_graft::AfterGraft;
+use crate::after_graft::{AfterGraft, Next};
 use crate::gate::Gate;
 use crate::hub::Hub;
 use crate::limits::{LOOKS, NONES_LIMIT};
@@ -147,8 +147,14 @@ impl<'b> Worker<'b> {
         site.gate.after_claim(w, ticket.is_some());
         self.best = best;
         match ticket {
-            Some(ticket) => Step::Expand(ticket),
-            None => Step::Wait,
+            Some(ticket) => {
+                self.nones = 0;
+                Step::Expand(ticket)
+            }
+            None => {
+                self.nones = self.nones.saturating_add(1);
+                Step::Wait
+            }
         }
     }
 
@@ -159,7 +165,6 @@ impl<'b> Worker<'b> {
 
     /// Waits for nodes, since none was open; it ends where none will be, and after `NONES_LIMIT` times in a row.
     fn wait_for_nodes<'a, R, G>(&mut self, site: &Site<'_, 'a, R, G>) -> Step {
-        self.nones = self.nones.saturating_add(1);
         site.searching.fetch_sub(1, Ordering::SeqCst);
         let others_search = is_searched(&site.searching);
         site.searching.fetch_add(1, Ordering::SeqCst);
@@ -180,7 +185,6 @@ impl<'b> Worker<'b> {
         requires { seat.old.hub ≡ site.now.hub.now.id }
         ensures { IsSameSeat seat.old seat.new }
     {
-        self.nones = 0;
         // the hub may be another block's
         if !self.walk.try_go_to(ticket.prefix()) {
             return give_back(site, seat, ticket);
@@ -207,17 +211,26 @@ impl<'b> Worker<'b> {
             return give_back(site, seat, ticket);
         }
         self.allowance -= piece.splits();
-        let is_spent = self.allowance == 0;
+        let asked = self.asks();
         site.gate.before_graft(seat.number());
         match site
             .hub
-            .graft_and_go_on(site.rt, seat, ticket.node(), piece, is_spent)
+            .graft_and_go_on(site.rt, seat, ticket.node(), piece, asked)
         {
             Ok(after) => {
                 let next = self.go_on(site, seat.number(), after);
                 self.end_round(site, seat, next)
             }
             Err(_) => give_back(site, seat, ticket),
+        }
+    }
+
+    /// What it asks for in the turn of its graft: splits too, where it has none left.
+    fn asks(&self) -> Next {
+        if self.allowance == 0 {
+            Next::GrantAndClaim
+        } else {
+            Next::Claim
         }
     }
 
@@ -229,6 +242,7 @@ impl<'b> Worker<'b> {
         after: AfterGraft,
     ) -> Step {
         match after {
+            AfterGraft::Rested => Step::Claim,
             AfterGraft::NotGranted => Step::End,
             AfterGraft::NotClaimed { .. } => end_unclaimed(site, w),
             AfterGraft::Claimed {

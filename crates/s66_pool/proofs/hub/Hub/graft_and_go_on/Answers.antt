@@ -71,7 +71,7 @@ give-requires-then-not-is_claimed-clause-follows g c =
     let p = book c.seat.inside.token in
     let on = gone-on c.take-ledger.result.value c.deref_mut.result.now c.graft_at.new.self c.deref_mut.ensures.value p c.seat.inside.number c.seat.invariant.1 c.take-ledger.ensures.agrees
     c.args.node c.args.piece.now c.in_default-graft_at.ensures.ok
-    c.deref_mut-2.result.now c.deref_mut-2.ensures.value c.args.is_spent c.go_on-after.result c.go_on-after.new.ledger c.go_on-after.ensures (sym c.is_claimed.ensures ∙ c.if-not-is_claimed.true) in
+    c.deref_mut-2.result.now c.deref_mut-2.ensures.value c.args.next c.go_on-after.result c.go_on-after.new.ledger c.go_on-after.ensures (sym c.is_claimed.ensures ∙ c.if-not-is_claimed.true) in
     follows-at c.take-ledger.new.token.me (account_summary c.take-ledger.result.value) p c.take-ledger.ensures.holding (account_summary c.go_on-after.new.ledger) on.0.0
 
 pub invariant_of-seat-then-not-is_claimed : goal.invariant_of-seat-then-not-is_claimed
@@ -79,7 +79,7 @@ invariant_of-seat-then-not-is_claimed g c =
     let p = book c.seat.inside.token in
     let on = gone-on c.take-ledger.result.value c.deref_mut.result.now c.graft_at.new.self c.deref_mut.ensures.value p c.seat.inside.number c.seat.invariant.1 c.take-ledger.ensures.agrees
     c.args.node c.args.piece.now c.in_default-graft_at.ensures.ok
-    c.deref_mut-2.result.now c.deref_mut-2.ensures.value c.args.is_spent c.go_on-after.result c.go_on-after.new.ledger c.go_on-after.ensures (sym c.is_claimed.ensures ∙ c.if-not-is_claimed.true) in
+    c.deref_mut-2.result.now c.deref_mut-2.ensures.value c.args.next c.go_on-after.result c.go_on-after.new.ledger c.go_on-after.ensures (sym c.is_claimed.ensures ∙ c.if-not-is_claimed.true) in
     seat-keeps c.take-ledger.new.token.me (account_summary c.take-ledger.result.value) p c.take-ledger.ensures.holding (account_summary c.go_on-after.new.ledger) c.give-then-not-is_claimed.new.token.me c.give-then-not-is_claimed.ensures.resting c.seat.inside.number
     (c.seat.inside.splits + c.splits-added.result) c.seat.invariant.1 (omega (arith, on.0.1, c.seat.invariant.2, c.splits-added.ensures))
 
@@ -90,7 +90,7 @@ returns-then-not-is_claimed-clause-ok g c =
     let at : p ≡ c.args.seat.now.book = ap (λ (t : SeatOf). t.book) c.seat.view_is in
     let on = gone-on c.take-ledger.result.value c.deref_mut.result.now c.graft_at.new.self c.deref_mut.ensures.value p c.seat.inside.number c.seat.invariant.1 c.take-ledger.ensures.agrees
     c.args.node c.args.piece.now c.in_default-graft_at.ensures.ok
-    c.deref_mut-2.result.now c.deref_mut-2.ensures.value c.args.is_spent c.go_on-after.result c.go_on-after.new.ledger c.go_on-after.ensures (sym c.is_claimed.ensures ∙ c.if-not-is_claimed.true) in
+    c.deref_mut-2.result.now c.deref_mut-2.ensures.value c.args.next c.go_on-after.result c.go_on-after.new.ledger c.go_on-after.ensures (sym c.is_claimed.ensures ∙ c.if-not-is_claimed.true) in
     let gave = gave-book c.take-ledger.new.token.me (account_summary c.take-ledger.result.value) p c.take-ledger.ensures.holding (account_summary c.go_on-after.new.ledger) c.give-then-not-is_claimed.new.token.me c.give-then-not-is_claimed.ensures.resting in
     on.1 c.args.seat.now now at gave
 
@@ -101,7 +101,7 @@ give_read-requires-clause-follows g c =
     let p = book c.seat.inside.token in
     let on = gone-claiming c.take-ledger.result.value c.deref_mut.result.now c.graft_at.new.self c.deref_mut.ensures.value p c.seat.inside.number c.seat.invariant.1 c.take-ledger.ensures.agrees
     c.args.node c.args.piece.now c.in_default-graft_at.ensures.ok
-    c.deref_mut-2.result.now c.deref_mut-2.ensures.value c.args.is_spent c.go_on-after.result c.go_on-after.new.ledger c.go_on-after.ensures (sym c.is_claimed.ensures ∙ c.if-not-is_claimed.false) in
+    c.deref_mut-2.result.now c.deref_mut-2.ensures.value c.args.next c.go_on-after.result c.go_on-after.new.ledger c.go_on-after.ensures (sym c.is_claimed.ensures ∙ c.if-not-is_claimed.false) in
     follows-at c.take-ledger.new.token.me (account_summary c.take-ledger.result.value) p c.take-ledger.ensures.holding (account_summary c.go_on-after.new.ledger) on.0
 
 pub invariant_of-seat-2 : goal.invariant_of-seat-2
@@ -109,7 +109,7 @@ invariant_of-seat-2 g c =
     let p = book c.seat.inside.token in
     let on = gone-claiming c.take-ledger.result.value c.deref_mut.result.now c.graft_at.new.self c.deref_mut.ensures.value p c.seat.inside.number c.seat.invariant.1 c.take-ledger.ensures.agrees
     c.args.node c.args.piece.now c.in_default-graft_at.ensures.ok
-    c.deref_mut-2.result.now c.deref_mut-2.ensures.value c.args.is_spent c.go_on-after.result c.go_on-after.new.ledger c.go_on-after.ensures (sym c.is_claimed.ensures ∙ c.if-not-is_claimed.false) in
+    c.deref_mut-2.result.now c.deref_mut-2.ensures.value c.args.next c.go_on-after.result c.go_on-after.new.ledger c.go_on-after.ensures (sym c.is_claimed.ensures ∙ c.if-not-is_claimed.false) in
     seat-reads c.take-ledger.new.token.me (account_summary c.take-ledger.result.value) p c.take-ledger.ensures.holding (account_summary c.go_on-after.new.ledger) c.give_read.new.token.me c.give_read.ensures.resting c.seat.inside.number
     (c.seat.inside.splits + c.splits-added.result) c.seat.invariant.1 (omega (arith, on.1, c.seat.invariant.2, c.splits-added.ensures))
 
@@ -120,6 +120,6 @@ returns-clause-ok g c =
     let at : p ≡ c.args.seat.now.book = ap (λ (t : SeatOf). t.book) c.seat.view_is in
     let on = gone-claiming c.take-ledger.result.value c.deref_mut.result.now c.graft_at.new.self c.deref_mut.ensures.value p c.seat.inside.number c.seat.invariant.1 c.take-ledger.ensures.agrees
     c.args.node c.args.piece.now c.in_default-graft_at.ensures.ok
-    c.deref_mut-2.result.now c.deref_mut-2.ensures.value c.args.is_spent c.go_on-after.result c.go_on-after.new.ledger c.go_on-after.ensures (sym c.is_claimed.ensures ∙ c.if-not-is_claimed.false) in
+    c.deref_mut-2.result.now c.deref_mut-2.ensures.value c.args.next c.go_on-after.result c.go_on-after.new.ledger c.go_on-after.ensures (sym c.is_claimed.ensures ∙ c.if-not-is_claimed.false) in
     let gave = gave-opened c.take-ledger.new.token.me (account_summary c.take-ledger.result.value) p c.take-ledger.ensures.holding (account_summary c.go_on-after.new.ledger) c.give_read.new.token.me c.give_read.ensures.resting in
     on.2 c.args.seat.now now at gave
