@@ -7,11 +7,12 @@ use super::clock::{MULTIPLIES, ONE_LOAD};
 use super::{check_text, run, source_of};
 use crate::command::Command;
 use crate::outcome::Status;
-use s66_dep::Order;
+use s66_dep::{Order, is_beginning};
 use s66_isa::Profile;
-use s66_ledger::{BUDGET_LIMIT, Ledger, Offered, Ticket};
+use s66_ledger::{BUDGET_LIMIT, GraftError, Ledger, Offered, Ticket};
 use s66_line::{Block, Source, read_source};
-use s66_pool::{Free, Gate, Hub, Options, Seat, SeatsMissing, work};
+use s66_node::{Piece, expand};
+use s66_pool::{AfterGraft, Free, Gate, Hub, Next, Options, Seat, SeatsMissing, work};
 use s66_time::time_of;
 use std::alloc::AllocError;
 use std::process::Abort;
@@ -290,6 +291,116 @@ fn seat_is_missing(rt: HostRuntime) -> Result<(), Fail> {
     check_missing_seat(&rt, only_block(&rt, &source))
 }
 
+/// A piece of a claimed node, of at most so many splits.
+fn expand_claimed<R: AllocGlobal + Abort>(
+    rt: &R,
+    block: &Block,
+    ticket: &Ticket,
+    best: u32,
+    allowance: u32,
+) -> Result<Piece, Fail> {
+    assert!(rt; is_beginning(block, ticket.prefix()));
+    let piece = expand(
+        rt.alloc(),
+        block,
+        &Profile::standard(),
+        ticket.prefix(),
+        best,
+        allowance,
+    )?;
+    Ok(piece)
+}
+
+/// Claims a node, and checks the best time that is read in the same turn.
+fn claim_reading<'a, R: Abort + Wait>(
+    rt: &R,
+    hub: &Hub<'a>,
+    seat: &mut Seat<'a>,
+    expected: u32,
+) -> Result<Option<Ticket>, Fail>
+    requires { seat.old.hub ≡ hub.now.id }
+    ensures { seat.new.hub ≡ seat.old.hub }
+{
+    let (ticket, best) = hub.claim_and_read(rt, seat)?;
+    assert_eq!(rt; best, expected);
+    Ok(ticket)
+}
+
+/// Grafts a piece, and claims a node in the same turn; checks what is granted there, and the best time that is read.
+fn graft_claiming<'a, R: Abort + Wait>(
+    rt: &R,
+    hub: &Hub<'a>,
+    seat: &mut Seat<'a>,
+    node: u32,
+    piece: &Piece,
+    next: Next,
+    expected: (u32, u32),
+) -> Ticket
+    requires { seat.old.hub ≡ hub.now.id }
+    ensures { seat.new.hub ≡ seat.old.hub }
+{
+    let Ok(
+        AfterGraft::Claimed {
+            granted,
+            ticket,
+            best,
+        },
+    ) = hub.graft_and_go_on(rt, seat, node, piece, next)
+    else {
+        panic!(rt; "the piece wasn't taken, or nothing was claimed")
+    };
+    assert_eq!(rt; (granted, best), expected);
+    ticket.expect(rt, "no node is open")
+}
+
+/// Checks that a piece is grafted at a node that is out, and at no other.
+fn check_graft<R: AllocGlobal + Abort + Wait>(rt: &R, block: &Block) -> Result<(), Fail> {
+    let (hub, mut seats) = open_hub(rt, block, 10, 1)?;
+    let mut seat = take_seat(rt, &hub, &mut seats);
+    assert_eq!(rt; hub.grant(rt, &mut seat)?, 10);
+    let root = claim_root(rt, &hub, &mut seat)?;
+    let piece = expand_claimed(rt, block, &root, 22, 1)?;
+    let again = expand_claimed(rt, block, &root, 22, 1)?;
+    assert!(rt; hub.graft(rt, &mut seat, root, piece).is_ok());
+    assert_eq!(rt; seat.splits(), 1);
+    let refused = hub.graft_and_go_on(rt, &mut seat, 0, &again, Next::Claim);
+    assert!(rt; matches!(refused, Err(GraftError::NotOut)));
+    assert_eq!(rt; seat.splits(), 1);
+    Ok(())
+}
+
+/// Checks what two workers get in the turns of their grafts, of whom the first has the whole budget of 10 splits until it retires.
+/// Each prefix but a whole order has a floor of 17, below every total, so that some node is open all the time.
+fn check_turns<R: AllocGlobal + Abort + Wait>(rt: &R, block: &Block) -> Result<(), Fail> {
+    let (hub, mut seats) = open_hub(rt, block, 10, 2)?;
+    let mut second = take_seat(rt, &hub, &mut seats);
+    let mut first = take_seat(rt, &hub, &mut seats);
+    assert_eq!(rt; hub.grant(rt, &mut first)?, 10);
+    let root = claim_root(rt, &hub, &mut first)?;
+    let piece = expand_claimed(rt, block, &root, 22, 1)?;
+    let child = graft_claiming(rt, &hub, &mut first, 0, &piece, Next::Claim, (0, 22));
+    assert_eq!(rt; child.prefix().len(), 1);
+    let piece = expand_claimed(rt, block, &child, 22, 1)?;
+    let after = hub.graft_and_go_on(rt, &mut first, child.node(), &piece, Next::GrantAndClaim);
+    assert!(rt; matches!(after, Ok(AfterGraft::NotGranted)));
+    hub.retire(rt, &mut first)?;
+    let other = claim_reading(rt, &hub, &mut second, 22)?.expect(rt, "no node is open");
+    let piece = expand_claimed(rt, block, &other, 22, 0)?;
+    let (node, asked) = (other.node(), Next::GrantAndClaim);
+    graft_claiming(rt, &hub, &mut second, node, &piece, asked, (8, 22));
+    assert_eq!(rt; (first.splits(), second.splits()), (2, 0));
+    Ok(())
+}
+
+#[test]
+fn pieces_are_grafted(rt: HostRuntime) -> Result<(), Fail> {
+    let text = source_of(&rt, MULTIPLIES)?;
+    let source = read_source(rt.alloc(), text.as_bytes())?;
+    let block = only_block(&rt, &source);
+    check_graft(&rt, block)?;
+    check_turns(&rt, block)
+}
+
 /// Offers an order of the block, which is legal.
 fn offer_numbers<'a, R: Abort + Wait>(
     rt: &R,
@@ -309,12 +420,16 @@ fn offer_numbers<'a, R: Abort + Wait>(
     Ok(offered)
 }
 
-/// Checks that a seat reads what another has offered.
+/// Checks that a seat reads what another has offered, by itself, with a claim and after a graft.
 fn check_offers<R: AllocGlobal + Abort + Wait>(rt: &R, block: &Block) -> Result<(), Fail> {
-    let (hub, mut seats) = open_hub(rt, block, 10, 2)?;
-    let mut second = seats.pop().expect(rt, "a seat");
-    let mut first = seats.pop().expect(rt, "a seat");
+    let (hub, mut seats) = open_hub(rt, block, 10, 4)?;
+    let mut fourth = take_seat(rt, &hub, &mut seats);
+    let mut third = take_seat(rt, &hub, &mut seats);
+    let mut second = take_seat(rt, &hub, &mut seats);
+    let mut first = take_seat(rt, &hub, &mut seats);
     assert_eq!(rt; hub.best(rt, &mut second), 16);
+    let root = claim_reading(rt, &hub, &mut third, 16)?.expect(rt, "no node is open");
+    let piece = expand_claimed(rt, block, &root, 16, 0)?;
     assert_eq!(rt;
         offer_numbers(rt, &hub, &mut first, block, &[1, 3, 2])?,
         Offered::Lower
@@ -324,6 +439,9 @@ fn check_offers<R: AllocGlobal + Abort + Wait>(rt: &R, block: &Block) -> Result<
         offer_numbers(rt, &hub, &mut second, block, &[1, 2, 3])?,
         Offered::NotLower { least: 12 }
     );
+    assert!(rt; claim_reading(rt, &hub, &mut fourth, 12)?.is_none());
+    let node = root.node();
+    graft_claiming(rt, &hub, &mut third, node, &piece, Next::Claim, (0, 12));
     Ok(())
 }
 
