@@ -2,7 +2,7 @@
 use Rattle.std.proofs.Common.{ℕ, ◌+◌, ◌-◌, ◌≤◌, ◌≡◌, List, length, get_or, subst, arith}
 use Rattle.s66_model.specs.Timing.{Problem, row_at}
 use Rattle.s66_bound.specs.declared.entry.Entry.{Entry}
-use Rattle.s66_bound.specs.Entries.{IsEntry, AreEntries}
+use Rattle.s66_bound.specs.InstructionCosts.{IsEntry, AreEntries}
 use Rattle.s66_bound.proofs.EntryTables.{entry-at}
 
 pub entry-of : (b : Problem) (es : List Entry) (n : ℕ) (e : Entry) → AreEntries b es → 1 ≤ n → n ≤ length es → e ≡ get_or es (n - 1) e → IsEntry (row_at b n) e

@@ -9,7 +9,7 @@ use Rattle.s66_dep.specs.declared.set.Set.{Set}
 use Rattle.s66_dep.specs.Members.{numbers_in}
 use Rattle.s66_dep.proofs.Sets.{within, numbers_in-filter}
 use Rattle.s66_bound.specs.declared.entry.Entry.{Entry}
-use Rattle.s66_bound.specs.Entries.{IsEntry, AreEntries}
+use Rattle.s66_bound.specs.InstructionCosts.{IsEntry, AreEntries}
 use Rattle.s66_bound.specs.TableWords.{AreThose}
 
 -- with the entry of the next number

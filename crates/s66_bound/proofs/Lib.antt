@@ -5,7 +5,7 @@ pub mod EntryOfNumber
 pub mod FirstGreatest
 pub mod KindTables
 pub mod WrittenRegisters
-pub mod Walks
+pub mod LongestWalks
 pub mod RemainingSets
 pub mod RemainingSums
 pub mod ValueBounds

@@ -8,7 +8,7 @@ use Rattle.s66_isa.proofs.RegisterBits.{has-none, index-apart}
 use Rattle.s66_isa.proofs.SameRegister.{has_reg-append, same_reg-self, same_reg-true}
 use Rattle.s66_model.specs.Timing.{Problem, row_at}
 use Rattle.s66_bound.specs.declared.entry.Entry.{Entry}
-use Rattle.s66_bound.specs.Entries.{IsEntry, AreEntries}
+use Rattle.s66_bound.specs.InstructionCosts.{IsEntry, AreEntries}
 
 some-written : (ws : List Write) (w : Write) → Among w ws → some_of (λ (v : Write). same_reg v.reg w.reg) ws ≡ true
 some-written [] w among = absurd among

@@ -1,3 +1,3 @@
 pub mod LeafValues
-pub mod Entries
+pub mod InstructionCosts
 pub mod TableWords

@@ -21,7 +21,7 @@ pub struct Bounds<'a> {
 
 impl<'a> Model for Bounds<'a> {
     ghost use Rattle.s66_model.specs.Timing.{Problem};
-    ghost use Rattle.s66_bound.specs.Entries.{AreEntries};
+    ghost use Rattle.s66_bound.specs.InstructionCosts.{AreEntries};
     ghost use Rattle.s66_bound.specs.TableWords.{timed_by, IsTables};
 
     ghost Value = { Problem };

@@ -4,7 +4,7 @@ ghost use Rattle.s66_isa.specs.Table.{Row, Write as WriteOf, Reg as RegOf, row, 
 ghost use Rattle.s66_isa.specs.Registers.{registers_in};
 ghost use Rattle.s66_line.specs.Block.{instrs_of};
 ghost use Rattle.s66_model.specs.Leaves.{uses, link, tail};
-ghost use Rattle.s66_bound.specs.Entries.{IsEntry, AreEntries};
+ghost use Rattle.s66_bound.specs.InstructionCosts.{IsEntry, AreEntries};
 ghost use Rattle.s66_bound.specs.TableWords.{timed_by};
 
 use arrayvec::ArrayVec;

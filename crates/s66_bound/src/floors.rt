@@ -4,7 +4,7 @@ ghost use Rattle.std.specs.Prelude.{◌≡◌, ◌<◌, ◌≤◌, IfSome, IfNon
 ghost use Rattle.s66_line.specs.Block.{instrs_of};
 ghost use Rattle.s66_model.specs.Leaves.{Chain, chain, longest_chain, floor, floor_value};
 ghost use Rattle.s66_time.specs.Ticking.{problem_of};
-ghost use Rattle.s66_bound.specs.Entries.{AreEntries};
+ghost use Rattle.s66_bound.specs.InstructionCosts.{AreEntries};
 ghost use Rattle.s66_bound.specs.LeafValues.{leaf_of, value_of};
 ghost use Rattle.s66_bound.specs.TableWords.{AreRemaining, IsTables};
 

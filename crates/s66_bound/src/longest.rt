@@ -2,7 +2,7 @@ ghost use Rattle.std.specs.Prelude.{ℕ, ◌≡◌, ◌+◌, ◌-◌, ◌<◌, �
 ghost use Rattle.s66_model.specs.Timing.{Problem};
 ghost use Rattle.s66_model.specs.Tails.{longest_tail, walk_to, HasWords};
 ghost use Rattle.s66_line.specs.declared.limits.TheConstants.{BLOCK_LIMIT};
-ghost use Rattle.s66_bound.specs.Entries.{AreEntries};
+ghost use Rattle.s66_bound.specs.InstructionCosts.{AreEntries};
 ghost use Rattle.s66_bound.specs.TableWords.{HasLater};
 
 use crate::entry::{Entry, link};

@@ -10,7 +10,7 @@ ghost use Rattle.s66_model.specs.Leaves.{tail, link, is_linked, head, chain, lon
 ghost use Rattle.s66_model.specs.Tails.{longest_tail, chain_front, walk_after};
 ghost use Rattle.s66_dep.specs.Members.{numbers_in};
 ghost use Rattle.s66_time.specs.Ticking.{problem_of, points};
-ghost use Rattle.s66_bound.specs.Entries.{AreEntries};
+ghost use Rattle.s66_bound.specs.InstructionCosts.{AreEntries};
 ghost use Rattle.s66_bound.specs.TableWords.{AreRemaining, IsTables};
 
 use crate::entry::{Entry, link};

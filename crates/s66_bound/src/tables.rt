@@ -7,7 +7,7 @@ ghost use Rattle.s66_line.specs.declared.limits.TheConstants.{BLOCK_LIMIT};
 ghost use Rattle.s66_model.specs.Timing.{Problem, row_at};
 ghost use Rattle.s66_model.specs.Leaves.{uses};
 ghost use Rattle.s66_model.specs.Tails.{spare, HasWords, HasWritten};
-ghost use Rattle.s66_bound.specs.Entries.{AreEntries};
+ghost use Rattle.s66_bound.specs.InstructionCosts.{AreEntries};
 ghost use Rattle.s66_bound.specs.declared.entry.Entry.{Entry as EntryOf};
 ghost use Rattle.s66_bound.specs.TableWords.{AreThose, HasKinds, HasUsers, IsTables};
 

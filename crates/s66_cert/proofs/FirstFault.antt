@@ -13,8 +13,8 @@ use Rattle.s66_cert.specs.declared.error.CertError.{CertError}
 use Rattle.s66_cert.specs.declared.error.CertError.TheVariants.{BadLine, Truncated, TooManyNodes, OutOfMemory}
 use Rattle.s66_cert.specs.declared.place.Place.{Place}
 use Rattle.s66_cert.specs.declared.place.Place.TheVariants.{AtHeader, AtProfile, AtBlock, AtInstruction, AtTime, AtBound, AtOrder, AtTree, AtEnd}
-use Rattle.s66_cert.proofs.Cuts.{cut, are-lines, whole-of, whole-all, newlines-append}
-use Rattle.s66_cert.proofs.Fronts.{are-append, steps-append, begins, fronts}
+use Rattle.s66_cert.proofs.TextLines.{cut, are-lines, whole-of, whole-all, newlines-append}
+use Rattle.s66_cert.proofs.ReadFronts.{are-append, steps-append, begins, fronts}
 use Rattle.s66_cert.proofs.RoundTrip.{read-again}
 use Rattle.s66_cert.proofs.Sound.{read-sound, after-ok}
 

@@ -10,7 +10,7 @@ use Rattle.s66_model.proofs.Forests.{read-flat}
 use Rattle.s66_cert.specs.Document.{Document, IsDocumentWithin, AreDocumentsWithin, AreInstructions, KidsFit, TreeFits}
 use Rattle.s66_cert.proofs.DocumentLines.{document_lines, documents_lines, instructions_of, knots_of}
 use Rattle.s66_cert.specs.Lines.{Line, Header, Profile, Block, Instruction, Time, Bound, Order, OfTree, End, bytes_of, IsInRange}
-use Rattle.s66_cert.specs.Parts.{Parts, tree_of}
+use Rattle.s66_cert.specs.DocumentParts.{Parts, tree_of}
 use Rattle.s66_cert.specs.Reading.{nothing, State, place_of_instruction, place_of_tree, step_at, step_if, and_then, steps}
 use Rattle.s66_cert.specs.declared.error.CertError.{CertError}
 use Rattle.s66_cert.specs.declared.place.Place.TheVariants.{AtHeader, AtProfile, AtBlock, AtInstruction, AtTime, AtBound, AtOrder}

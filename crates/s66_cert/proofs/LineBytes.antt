@@ -12,7 +12,7 @@ use Rattle.s66_cert.specs.Document.{Document, IsDocumentWithin, AreDocumentsWith
 use Rattle.s66_cert.specs.Faults.{IsLine, AreLines}
 use Rattle.s66_cert.specs.Lines.{Line, Header, Profile, Block, Instruction, Time, Bound, Order, OfTree, End, bytes_of, IsInRange}
 use Rattle.s66_cert.proofs.DocumentLines.{documents_lines, document_lines, instructions_of, knots_of}
-use Rattle.s66_cert.proofs.Numbers.{decimal-clear}
+use Rattle.s66_cert.proofs.NumberTexts.{decimal-clear}
 
 decimal-line : (n : ℕ) → n < 2 ^ 64 → IsLine (decimal n)
 decimal-line n h = decimal-clear 10 n (λ r. omega (arith, r.0)) h

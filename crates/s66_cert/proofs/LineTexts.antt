@@ -15,7 +15,7 @@ use Rattle.s66_model.specs.Tree.{AtTip, AtSplit}
 use Rattle.s66_cert.specs.Document.{AreIn, AreNumbers, kind_name}
 use Rattle.s66_cert.specs.declared.limits.TheConstants.{PROFILE_LENGTH, PROFILE_LIMIT, TIME_LIMIT}
 use Rattle.s66_cert.specs.Lines.{Line, Header, Profile, Block, Instruction, Time, Bound, Order, OfTree, End, bytes_of, IsInRange, first_word, after_word, words_in, numbers_in, number_in, if_count, block_numbers, one_number, is_instruction, instruction_in, kind_in, alone, header_in, line_with, line_of}
-use Rattle.s66_cert.proofs.Numbers.{number-again, number-is}
+use Rattle.s66_cert.proofs.NumberTexts.{number-again, number-is}
 use Rattle.s66_cert.proofs.Spelled.{instruction-again, instruction-is}
 use Rattle.s66_cert.proofs.Words.{tail_of, joined, words-after_blanks, numbers-again, numbers-are}
 

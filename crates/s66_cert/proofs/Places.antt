@@ -6,7 +6,7 @@ use Rattle.s66_model.specs.Leaves.{Leaf}
 use Rattle.s66_model.specs.Tree.{Knot, AtTip, AtSplit}
 use Rattle.s66_cert.specs.Fine.{Leave, split_count, IsPart, IsFine}
 use Rattle.s66_cert.specs.Lines.{Header, Profile, Block, Instruction, Time, Bound, Order, OfTree, End}
-use Rattle.s66_cert.specs.Parts.{AreWhole}
+use Rattle.s66_cert.specs.DocumentParts.{AreWhole}
 use Rattle.s66_cert.specs.Reading.{State, step_at}
 use Rattle.s66_cert.specs.declared.limits.TheConstants.{SPLIT_LIMIT}
 use Rattle.s66_cert.specs.declared.error.CertError.TheVariants.{BadLine}

@@ -8,7 +8,7 @@ use Rattle.s66_model.specs.Tree.{Tree, Alone, Parted, Kids, NoMore, Unsplit, Spl
 use Rattle.s66_cert.specs.Document.{IsLeafLine, KidsFit, TreeFits, document_text, leaf_line, instruction_lines, tree_lines}
 use Rattle.s66_cert.specs.Pages.{AreShort, IsPrinted, opening, claim_lines}
 use Rattle.s66_cert.proofs.Pages.{IsUnderway, printed-here, underway-more}
-use Rattle.s66_cert.specs.Parts.{Parts, AreWhole, IsShort, document_of, tree_of}
+use Rattle.s66_cert.specs.DocumentParts.{Parts, AreWhole, IsShort, document_of, tree_of}
 
 -- THE LINES OF A TREE HAVE FEW NUMBERS
 

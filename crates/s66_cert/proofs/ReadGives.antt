@@ -6,7 +6,7 @@ use Rattle.s66_cert.specs.declared.limits.TheConstants.{SPLIT_LIMIT}
 use Rattle.s66_cert.specs.Document.{Document, IsText}
 use Rattle.s66_cert.specs.Reading.{read_of}
 use Rattle.s66_cert.specs.Reads.{Refuses}
-use Rattle.s66_cert.specs.ReaderState.{Gives}
+use Rattle.s66_cert.specs.DocumentReader.{Gives}
 use Rattle.s66_cert.specs.declared.error.CertError.{CertError}
 use Rattle.s66_cert.specs.declared.error.CertError.TheVariants.{BadLine, Truncated, TooManyNodes, OutOfMemory}
 use Rattle.s66_cert.proofs.FirstFault.{fault-is}

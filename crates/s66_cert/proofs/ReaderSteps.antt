@@ -7,7 +7,7 @@ use Rattle.s66_line.specs.declared.limits.TheConstants.{BLOCK_LIMIT}
 use Rattle.s66_cert.specs.Fine.{IsFine}
 use Rattle.s66_cert.specs.Lines.{Line, IsInRange}
 use Rattle.s66_cert.specs.Reading.{State, step_at, step, steps, and_then, whole_lines, last_bytes}
-use Rattle.s66_cert.specs.ReaderState.{Steps}
+use Rattle.s66_cert.specs.DocumentReader.{Steps}
 use Rattle.s66_cert.specs.declared.limits.TheConstants.{SPLIT_LIMIT}
 use Rattle.s66_cert.specs.declared.error.CertError.{CertError}
 use Rattle.s66_cert.specs.declared.error.CertError.TheVariants.{BadLine, Truncated, TooManyNodes, OutOfMemory}

@@ -7,7 +7,7 @@ use Rattle.s66_cert.proofs.DocumentLines.{documents_lines}
 use Rattle.s66_cert.specs.Faults.{AreLines, with_newlines}
 use Rattle.s66_cert.specs.Lines.{bytes_of}
 use Rattle.s66_cert.specs.Reading.{start, steps, whole_lines, last_bytes, read_within}
-use Rattle.s66_cert.proofs.Cuts.{documents-text, whole-all, last-all}
+use Rattle.s66_cert.proofs.TextLines.{documents-text, whole-all, last-all}
 use Rattle.s66_cert.proofs.Grammar.{documents-run}
 use Rattle.s66_cert.proofs.LineBytes.{lines-of-documents}
 

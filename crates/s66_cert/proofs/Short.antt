@@ -6,7 +6,7 @@ use Rattle.std.specs.Prelude.{decimal}
 use Rattle.s66_cert.specs.Lines.{if_count, number_in, numbers_in, first_word, after_word, words_of, words_in, put_front, consed, consed_if}
 use Rattle.s66_cert.specs.declared.limits.TheConstants.{TIME_LIMIT}
 use Rattle.std.proofs.lemmas.List.{append-nil}
-use Rattle.s66_cert.proofs.Numbers.{number-is}
+use Rattle.s66_cert.proofs.NumberTexts.{number-is}
 
 pub below-million : (k v : ℕ) → k ≤ 6 → v < 10 ^ k → v < 1000000
 below-million zero v le h = omega arith

@@ -10,7 +10,7 @@ use Rattle.s66_line.specs.InstructionText.{IsInstruction}
 use Rattle.s66_cert.specs.Document.{Document, IsDocumentWithin, AreDocumentsWithin, AreNumbers, AreInstructions, IsLeafLine, KidsFit, TreeFits, IsTextWithin, documents_text}
 use Rattle.s66_cert.specs.Faults.{with_newlines}
 use Rattle.s66_cert.specs.Lines.{Line, Header, Profile, Block, Instruction, Time, Bound, Order, OfTree, End, bytes_of, IsInRange, line_of}
-use Rattle.s66_cert.specs.Parts.{Parts, document_of, tree_of}
+use Rattle.s66_cert.specs.DocumentParts.{Parts, document_of, tree_of}
 use Rattle.s66_model.specs.Preorder.{forest, first_tree, first_kids, later_kids}
 use Rattle.s66_cert.specs.Reading.{nothing, State, start, place_of_instruction, place_of_tree, with_knot, knot_step, step_at, step_if, step, and_then, steps, ended, is_header, read_within, whole_lines, last_bytes}
 use Rattle.s66_cert.specs.Fine.{Leave, split_count, HasTree, IsPart, IsFine}
@@ -21,7 +21,7 @@ use Rattle.s66_cert.specs.declared.place.Place.{Place}
 use Rattle.s66_cert.specs.declared.place.Place.TheVariants.{AtHeader, AtProfile, AtBlock, AtInstruction, AtTime, AtBound, AtOrder, AtTree, AtEnd}
 use Rattle.s66_cert.proofs.LineTexts.{line-is}
 use Rattle.s66_model.proofs.Forests.{flat-forest}
-use Rattle.s66_cert.proofs.Cuts.{cut, documents-text}
+use Rattle.s66_cert.proofs.TextLines.{cut, documents-text}
 use Rattle.s66_cert.proofs.States.{at, place-instruction, place-tree}
 
 -- TREES TO COME

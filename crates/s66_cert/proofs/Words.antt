@@ -7,7 +7,7 @@ use Rattle.std.specs.Prelude.{decimal}
 use Rattle.s66_isa.specs.Lists.{every, after_blanks}
 use Rattle.s66_cert.specs.Document.{AreIn}
 use Rattle.s66_cert.specs.Lines.{first_word, after_word, put_front, words_of, words_in, number_in, numbers_in, consed_if}
-use Rattle.s66_cert.proofs.Numbers.{is_other, number-again, number-is, decimal-clear}
+use Rattle.s66_cert.proofs.NumberTexts.{is_other, number-again, number-is, decimal-clear}
 
 abbrev pub IsWord : List ℕ → Type 0
 IsWord w = every (is_other 32) w ≡ true

@@ -4,7 +4,7 @@ use Rattle.s66_line.specs.declared.limits.TheConstants.{BLOCK_LIMIT}
 use Rattle.s66_model.specs.Leaves.{Leaf}
 use Rattle.s66_model.specs.Tree.{Knot, AtTip, AtSplit}
 use Rattle.s66_cert.specs.Document.{AreDocumentsWithin, AreIn, AreNumbers, AreInstructions, IsLeafLine}
-use Rattle.s66_cert.specs.Parts.{Parts}
+use Rattle.s66_cert.specs.DocumentParts.{Parts}
 use Rattle.s66_cert.specs.Reading.{State}
 use Rattle.s66_cert.specs.declared.limits.TheConstants.{PROFILE_LENGTH, PROFILE_LIMIT, TIME_LIMIT}
 use Rattle.s66_cert.specs.declared.place.Place.{Place}

@@ -6,8 +6,8 @@ pub mod Fine
 pub mod Lines
 pub mod Marks
 pub mod Pages
-pub mod Parts
-pub mod ReaderState
+pub mod DocumentParts
+pub mod DocumentReader
 pub mod Reading
 pub mod Reads
 pub mod Said

@@ -4,7 +4,7 @@ use Rattle.std.specs.Io.KnownBytes.{Appends}
 use Rattle.s66_isa.specs.Lists.{after_blanks}
 use Rattle.s66_model.specs.Leaves.{Leaf}
 use Rattle.s66_model.specs.Tree.{Knot}
-use Rattle.s66_cert.specs.Parts.{Parts, IsShort}
+use Rattle.s66_cert.specs.DocumentParts.{Parts, IsShort}
 
 -- of what stood on the page and of this text behind it a front was written, and the rest stands on the page
 pub record IsPrinted (old new : Option (List ℕ)) (before after text : List ℕ) : Type 0 where

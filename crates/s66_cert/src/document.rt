@@ -25,7 +25,7 @@ impl Model for Claim {
     ghost use Rattle.std.specs.Prelude.{ℕ, map};
     ghost use Rattle.std.specs.declared.vec.Vec.{Vec};
     ghost use Rattle.std.specs.declared.alloc.Global.{Global};
-    ghost use Rattle.s66_cert.specs.Parts.{Parts};
+    ghost use Rattle.s66_cert.specs.DocumentParts.{Parts};
 
     ghost Value = { Parts };
 
@@ -40,7 +40,7 @@ pub struct Document {
 }
 
 impl Model for Document {
-    ghost use Rattle.s66_cert.specs.Parts.{Parts, AreWhole};
+    ghost use Rattle.s66_cert.specs.DocumentParts.{Parts, AreWhole};
 
     ghost Value = { Parts };
 
@@ -53,7 +53,7 @@ impl Document {
     ghost use Rattle.std.specs.Prelude.{◌≡◌, ℕ, map};
     ghost use Rattle.std.specs.declared.vec.Vec.{Vec};
     ghost use Rattle.std.specs.declared.alloc.Global.{Global};
-    ghost use Rattle.s66_cert.specs.Parts.{AreWhole};
+    ghost use Rattle.s66_cert.specs.DocumentParts.{AreWhole};
 
     /// The document that says this. Its numbers have to be in their ranges, its texts those of instructions, and the lines of its
     /// tree those of one whole tree of at most `SPLIT_LIMIT` splits.

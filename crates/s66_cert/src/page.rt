@@ -4,7 +4,7 @@ ghost use Rattle.s66_line.specs.declared.limits.TheConstants.{BLOCK_LIMIT, TEXT_
 ghost use Rattle.s66_model.specs.Tree.{AtTip, Knot};
 ghost use Rattle.s66_cert.specs.Document.{kind_name, instruction_lines, tree_lines};
 ghost use Rattle.s66_cert.specs.Pages.{IsPrinted, IsBegun};
-ghost use Rattle.s66_cert.specs.Parts.{knot_of, IsShort};
+ghost use Rattle.s66_cert.specs.DocumentParts.{knot_of, IsShort};
 
 use crate::tree::TreeLine;
 use arrayvec::ArrayVec;

@@ -4,7 +4,7 @@ ghost use Rattle.std.specs.declared.vec.Vec.{Vec};
 ghost use Rattle.std.specs.declared.alloc.Global.{Global};
 ghost use Rattle.s66_cert.specs.Document.{AreInstructions, document_text, instruction_lines, tree_lines};
 ghost use Rattle.s66_cert.specs.Pages.{IsPrinted, IsBegun, AreShort, opening, claim_lines};
-ghost use Rattle.s66_cert.specs.Parts.{document_of};
+ghost use Rattle.s66_cert.specs.DocumentParts.{document_of};
 
 use crate::document::Document;
 use crate::page::Page;

@@ -2,8 +2,8 @@ ghost use Rattle.std.specs.Prelude.{suc, ◌≡◌, ◌≤◌, ◌<◌, ◌+◌,
 ghost use Rattle.s66_line.specs.declared.limits.TheConstants.{BLOCK_LIMIT};
 ghost use Rattle.s66_cert.specs.Fine.{IsFine};
 ghost use Rattle.s66_cert.specs.Lines.{IsInRange, IsKnot, Header, Profile, Block, Instruction, Time, Bound, Order, OfTree, End};
-ghost use Rattle.s66_cert.specs.Parts.{AreWhole, knot_of};
-ghost use Rattle.s66_cert.specs.ReaderState.{state, Steps, StepsEnd};
+ghost use Rattle.s66_cert.specs.DocumentParts.{AreWhole, knot_of};
+ghost use Rattle.s66_cert.specs.DocumentReader.{state, Steps, StepsEnd};
 ghost use Rattle.s66_cert.specs.Reading.{nothing, start, step_at, step, steps, whole_lines, last_bytes};
 ghost use Rattle.s66_cert.specs.Said.{said};
 ghost use Rattle.s66_cert.specs.declared.error.CertError.TheVariants.{BadLine};

@@ -1,8 +1,8 @@
 ghost use Rattle.std.specs.Prelude.{ℕ, map, IfOk};
 ghost use Rattle.s66_line.specs.declared.limits.TheConstants.{BLOCK_LIMIT};
 ghost use Rattle.s66_cert.specs.Document.{IsText};
-ghost use Rattle.s66_cert.specs.Parts.{document_of};
-ghost use Rattle.s66_cert.specs.ReaderState.{Gives};
+ghost use Rattle.s66_cert.specs.DocumentParts.{document_of};
+ghost use Rattle.s66_cert.specs.DocumentReader.{Gives};
 ghost use Rattle.s66_cert.specs.Reading.{read_of};
 ghost use Rattle.s66_cert.specs.Reads.{Refuses};
 

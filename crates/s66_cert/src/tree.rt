@@ -29,7 +29,7 @@ pub(crate) enum Mark {
 
 impl Mark {
     ghost use Rattle.std.specs.Prelude.{◌≡◌, length};
-    ghost use Rattle.s66_cert.specs.Parts.{knot_of};
+    ghost use Rattle.s66_cert.specs.DocumentParts.{knot_of};
     ghost use Rattle.s66_cert.specs.Marks.{number_count, marked};
 
     /// How many numbers its line has.
@@ -80,7 +80,7 @@ impl Model for Tree {
 impl Tree {
     ghost use Rattle.std.specs.Prelude.{◌≡◌, ◌++◌, [], ◌∷◌, length, OnOk, OnErr};
     ghost use Rattle.s66_cert.specs.Marks.{number_count, marked};
-    ghost use Rattle.s66_cert.specs.Parts.{knot_of, IsShort};
+    ghost use Rattle.s66_cert.specs.DocumentParts.{knot_of, IsShort};
 
     /// No lines.
     pub fn new(alloc: Global) -> Tree
@@ -151,7 +151,7 @@ impl<'a> Model for TreeLines<'a> {
 }
 
 impl<'a> TreeLines<'a> {
-    ghost use Rattle.s66_cert.specs.Parts.{IsNextLine};
+    ghost use Rattle.s66_cert.specs.DocumentParts.{IsNextLine};
 
     /// The next line, where there is one.
     pub fn next(&mut self) -> Option<TreeLine<'a>>

@@ -6,7 +6,7 @@ use Rattle.s66_isa.specs.Table.{Row, Write, standard, copies_of, has_reg, memory
 use Rattle.s66_model.specs.Timing.{Point, ResultAt, done_of, last_done, done_at, busy_at, issue_of, start_of, slot_of, parcel_of, result_at, free_after, point}
 use Rattle.s66_isa.proofs.Lists.{greatest-same}
 use Rattle.s66_model.proofs.Issue.{issue-join}
-use Rattle.s66_checker.specs.Kept.{under_standard, AreTimed}
+use Rattle.s66_checker.specs.KeptPrefix.{under_standard, AreTimed}
 use Rattle.s66_checker.proofs.Reversed.{greatest-reverse, tally-reverse}
 use Rattle.s66_checker.proofs.KeptPoints.{timed-latest}
 

@@ -12,7 +12,7 @@ use Rattle.s66_model.specs.Leaves.{rest_busy}
 use Rattle.s66_model.proofs.Growth.{AreSmall, point-ordered, total-le}
 use Rattle.s66_model.proofs.PointTimes.{good-at, points_after-length, point_of-row, issue-le-start, hold-le-free}
 use Rattle.s66_model.proofs.ChainBound.{last-is_greatest}
-use Rattle.s66_checker.specs.Kept.{TOTAL_LIMIT, under_standard, AreTimed}
+use Rattle.s66_checker.specs.KeptPrefix.{TOTAL_LIMIT, under_standard, AreTimed}
 use Rattle.s66_checker.proofs.Reversed.{greatest-reverse, reverse-last}
 
 -- OF THE NEWEST FIRST

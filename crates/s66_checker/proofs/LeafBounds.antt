@@ -10,7 +10,7 @@ use Rattle.s66_model.specs.Timing.{Problem, Point, IsInRange, row_at, copies, po
 use Rattle.s66_model.specs.LegalOrder.{is_remaining, sum_remaining}
 use Rattle.s66_model.specs.Leaves.{tail, uses, work_of, link, is_linked, head, over, load, rest_busy}
 use Rattle.s66_model.proofs.Issue.{done_of-le-total}
-use Rattle.s66_checker.specs.Kept.{TOTAL_LIMIT, AreTimed}
+use Rattle.s66_checker.specs.KeptPrefix.{TOTAL_LIMIT, AreTimed}
 use Rattle.s66_checker.specs.Verdict.{is_walk}
 use Rattle.s66_checker.proofs.Reversed.{greatest-reverse}
 use Rattle.s66_checker.proofs.KeptPoints.{timed-total}

@@ -1,13 +1,13 @@
 pub mod Faultless
-pub mod TrueClaims
+pub mod GrantedClaims
 pub mod Placed
-pub mod Walks
+pub mod TreeWalk
 pub mod Reversed
 pub mod KeptPoints
 pub mod Issues
 pub mod NumbersInTurn
-pub mod Readiness
-pub mod Prefixes
+pub mod ReadyByNeeds
+pub mod PrefixSteps
 pub mod LeafBounds
 pub mod WordsOfPoints
 pub mod MarkBits

@@ -1,9 +1,9 @@
 pub mod Reasons
 pub mod Verdict
-pub mod Claims
+pub mod TrueClaims
 pub mod Checked
 pub mod Walk
 pub mod Examples
-pub mod Kept
+pub mod KeptPrefix
 pub mod PastWords
 pub mod Marked

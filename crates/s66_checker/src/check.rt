@@ -5,7 +5,7 @@ ghost use Rattle.s66_isa.specs.Table.{standard};
 ghost use Rattle.s66_line.specs.declared.limits.TheConstants.{BLOCK_LIMIT, TEXT_LIMIT};
 ghost use Rattle.s66_model.specs.Timing.{total_of};
 ghost use Rattle.s66_cert.specs.Document.{AreInstructions, profile_numbers};
-ghost use Rattle.s66_cert.specs.Parts.{document_of};
+ghost use Rattle.s66_cert.specs.DocumentParts.{document_of};
 ghost use Rattle.s66_line.specs.InstructionText.{instr_in_text};
 ghost use Rattle.s66_checker.specs.Verdict.{is_legal_order, verdict};
 

@@ -16,7 +16,7 @@ use s66_isa::Kind;
 
 impl Prefix {
     ghost use Rattle.std.specs.Prelude.{◌≡◌};
-    ghost use Rattle.s66_cert.specs.Parts.{knot_of};
+    ghost use Rattle.s66_cert.specs.DocumentParts.{knot_of};
     ghost use Rattle.s66_checker.specs.Verdict.{line_fault};
 
     /// What is wrong with a line of a tree that stands at the prefix, where anything is: a leaf's value is to reach the bound.

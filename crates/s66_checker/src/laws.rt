@@ -5,7 +5,7 @@ ghost use Rattle.s66_model.specs.BestAndBound.{IsBound};
 ghost use Rattle.s66_cert.specs.Document.{Document, IsDocument};
 ghost use Rattle.s66_checker.specs.declared.verdict.Verdict.TheVariants.{Yes};
 ghost use Rattle.s66_checker.specs.Verdict.{verdict, problem_of};
-ghost use Rattle.s66_checker.specs.Claims.{IsTrueClaim};
+ghost use Rattle.s66_checker.specs.TrueClaims.{IsTrueClaim};
 
 /// The verdict on a document is yes, with its time and its bound, exactly where what it claims is true; no legal order then takes
 /// less than the bound.

@@ -6,7 +6,7 @@ ghost use Rattle.std.specs.Option.{is_some};
 ghost use Rattle.s66_model.specs.Timing.{points_of, row_at, next};
 ghost use Rattle.s66_model.specs.LegalOrder.{is_remaining, ready, sum_remaining};
 ghost use Rattle.s66_model.specs.Leaves.{Chain, head, link, is_linked, walk, work_of, over, if_last, parcels, load, chain_value};
-ghost use Rattle.s66_checker.specs.Kept.{TOTAL_LIMIT};
+ghost use Rattle.s66_checker.specs.KeptPrefix.{TOTAL_LIMIT};
 ghost use Rattle.s66_checker.specs.Verdict.{has_links, is_walk};
 
 use crate::links::{link, own_parcels, tail, work};

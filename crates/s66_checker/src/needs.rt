@@ -3,7 +3,7 @@
 ghost use Rattle.std.specs.Prelude.{ℕ, ◌≡◌, ◌+◌, ◌≤◌, ◌<◌, length};
 ghost use Rattle.s66_model.specs.Dependence.{share, depends};
 ghost use Rattle.s66_line.specs.declared.limits.TheConstants.{BLOCK_LIMIT};
-ghost use Rattle.s66_checker.specs.Kept.{AreNeeds};
+ghost use Rattle.s66_checker.specs.KeptPrefix.{AreNeeds};
 ghost use Rattle.s66_checker.specs.Marked.{is_marked};
 
 use crate::marks::Marks;

@@ -25,7 +25,7 @@ pub(crate) struct Prefix {
 
 impl Model for Prefix {
     ghost use Rattle.s66_checker.specs.Checked.{Checked};
-    ghost use Rattle.s66_checker.specs.Kept.{IsPrefix, under_standard};
+    ghost use Rattle.s66_checker.specs.KeptPrefix.{IsPrefix, under_standard};
 
     ghost Value = { Checked };
 
@@ -40,7 +40,7 @@ impl Prefix {
     ghost use Rattle.s66_model.specs.Timing.{points_of, row_at, total_of};
     ghost use Rattle.s66_model.specs.LegalOrder.{IsBeginning, is_remaining, is_ready, needs_met};
     ghost use Rattle.s66_model.specs.Dependence.{depends};
-    ghost use Rattle.s66_checker.specs.Kept.{AreTimed};
+    ghost use Rattle.s66_checker.specs.KeptPrefix.{AreTimed};
     ghost use Rattle.s66_checker.specs.Marked.{is_marked};
 
     /// Before the first instruction of a block. Each pair of its instructions is looked at once.

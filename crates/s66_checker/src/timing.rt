@@ -8,7 +8,7 @@ ghost use Rattle.s66_line.specs.declared.limits.TheConstants.{BLOCK_LIMIT};
 ghost use Rattle.s66_model.specs.Packing.{fits_at};
 ghost use Rattle.s66_model.specs.Timing.{Point, busy_at, done_of, total, next, parcel_of, slot_of, issue_of, start_of, readers_wait, result_at, point};
 ghost use Rattle.s66_model.specs.Leaves.{rest_busy};
-ghost use Rattle.s66_checker.specs.Kept.{TOTAL_LIMIT, under_standard, AreTimed};
+ghost use Rattle.s66_checker.specs.KeptPrefix.{TOTAL_LIMIT, under_standard, AreTimed};
 
 use crate::past::Past;
 use crate::point::KeptPoint;

@@ -5,8 +5,8 @@ use Rattle.s66_model.specs.Timing.{Problem}
 use Rattle.s66_ledger.specs.declared.node.Node.{Node}
 use Rattle.s66_ledger.specs.declared.node.State.TheVariants as state
 use Rattle.s66_ledger.specs.Nodes.{prefixes, HaveFloors, HaveDepths}
-use Rattle.s66_ledger.proofs.Prefixes.{push-last}
-use Rattle.s66_ledger.proofs.Floors.{floors-push}
+use Rattle.s66_ledger.proofs.NodePrefixes.{push-last}
+use Rattle.s66_ledger.proofs.NodeFloors.{floors-push}
 use Rattle.s66_ledger.proofs.Depths.{depths-first, depths-push}
 
 pub record IsChain (b : Problem) (at : List ℕ) (made : List Node) : Type 0 where

@@ -22,12 +22,12 @@ use Rattle.s66_ledger.specs.declared.node.Node.{Node}
 use Rattle.s66_ledger.specs.declared.node.State.{State}
 use Rattle.s66_ledger.specs.declared.node.State.TheVariants as state
 use Rattle.s66_ledger.specs.Cursors.{AreOneTree, StandsAt, lines_from}
-use Rattle.s66_ledger.specs.Kept.{state_of}
+use Rattle.s66_ledger.specs.LedgerMachine.{state_of}
 use Rattle.s66_ledger.specs.Links.{parent_of, IsChild, HasChild}
 use Rattle.s66_ledger.specs.Nodes.{node_at, no_node, nodes_of, prefixes, seen_state}
-use Rattle.s66_ledger.proofs.Prefixes.{prefix-at, prefix-none}
+use Rattle.s66_ledger.proofs.NodePrefixes.{prefix-at, prefix-none}
 use Rattle.s66_ledger.proofs.SeenNodes.{at-nodes, length-nodes}
-use Rattle.s66_ledger.proofs.Walks.{push-same}
+use Rattle.s66_ledger.proofs.ParentPaths.{push-same}
 
 -- PLACES
 

@@ -8,12 +8,12 @@ use Rattle.s66_model.specs.Ledger.{Node, Open, Out, Cut, Closed, State, is_open_
 use Rattle.s66_model.specs.Coverage.{Covers, NodesHold, IsFinished, bound_of}
 use Rattle.s66_model.specs.Reached.{IsReached}
 use Rattle.s66_model.specs.Ended.{IsEnded, ended_answer}
-use Rattle.s66_dep.proofs.Fronts.{beginning-few}
+use Rattle.s66_dep.proofs.LongestBeginning.{beginning-few}
 use Rattle.s66_model.proofs.Histories.{run-join, reached-covers, reached-table}
 use Rattle.s66_model.proofs.EndedLedgers.{ended-finishes}
 use Rattle.s66_time.specs.TimedOrder.{TimedOrder}
 use Rattle.s66_ledger.specs.declared.node.Node as declared
-use Rattle.s66_ledger.specs.Kept.{MachineOf, IsKept, state_of, machine_of}
+use Rattle.s66_ledger.specs.LedgerMachine.{MachineOf, IsKept, state_of, machine_of}
 use Rattle.s66_ledger.specs.Answers.{IsKeptAnswer, ended_of}
 use Rattle.s66_ledger.specs.Finishing.{Leads, IsSearched}
 use Rattle.s66_ledger.proofs.Events.{kept-covers, kept-room}

@@ -20,7 +20,7 @@ use Rattle.s66_model.proofs.Forests.{tree-match}
 use Rattle.s66_ledger.specs.declared.node.Node.{Node}
 use Rattle.s66_ledger.specs.Nodes.{prefixes, nodes_of, HaveFloors}
 use Rattle.s66_ledger.specs.OpenNodes.{IsOut}
-use Rattle.s66_ledger.specs.Kept.{MachineOf, state_of, machine_of, IsKept}
+use Rattle.s66_ledger.specs.LedgerMachine.{MachineOf, state_of, machine_of, IsKept}
 use Rattle.s66_ledger.specs.GraftMoves.{IsGraftMove}
 use Rattle.s66_ledger.proofs.SeenNodes.{at-nodes}
 use Rattle.s66_ledger.proofs.Events.{is-out, not-out, kept-next}

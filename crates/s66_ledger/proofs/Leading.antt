@@ -6,7 +6,7 @@ use Rattle.s66_model.specs.Ledger.{best_time, Event, Reply, Run}
 use Rattle.s66_model.proofs.Histories.{run-join}
 use Rattle.s66_model.proofs.LedgerRuns.{run-falls}
 use Rattle.s66_ledger.specs.Finishing.{Leads}
-use Rattle.s66_ledger.specs.Kept.{MachineOf, IsMove}
+use Rattle.s66_ledger.specs.LedgerMachine.{MachineOf, IsMove}
 
 pub leads-nowhere : (l : MachineOf) → Leads l l
 leads-nowhere l = (refl, refl, refl, ([], refl))

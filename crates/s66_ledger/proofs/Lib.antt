@@ -4,7 +4,7 @@ pub mod Cursors
 pub mod Depths
 pub mod Ends
 pub mod Events
-pub mod Floors
+pub mod NodeFloors
 pub mod GraftSteps
 pub mod Leading
 pub mod LiveCounts
@@ -12,7 +12,7 @@ pub mod LiveFloors
 pub mod OpenHeap
 pub mod Planted
 pub mod PlantedNodes
-pub mod Prefixes
+pub mod NodePrefixes
 pub mod Progress
 pub mod Reading
 pub mod Recording
@@ -21,5 +21,5 @@ pub mod SeenNodes
 pub mod Subtrees
 pub mod TakingBack
 pub mod TimedWholes
-pub mod Walks
+pub mod ParentPaths
 pub mod WholeOffers

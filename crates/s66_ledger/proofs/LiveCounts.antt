@@ -11,7 +11,7 @@ use Rattle.s66_ledger.specs.OpenNodes.{IsOut, is_open_state}
 use Rattle.s66_ledger.specs.Subtrees.{placed, settled, settled_state}
 use Rattle.s66_ledger.specs.LiveNodes.{is_live_state, is_out_state, is_out, AreCounted}
 use Rattle.s66_ledger.proofs.OpenHeap.{set-here, set-other}
-use Rattle.s66_ledger.proofs.Prefixes.{get_or-front, get_or-last, get_or-past}
+use Rattle.s66_ledger.proofs.NodePrefixes.{get_or-front, get_or-last, get_or-past}
 
 pub one : (b c : Bool) → b ≡ c → ◌≡◌ {A = ℕ} (cond b 1 0) (cond c 1 0)
 one b c e = ap (λ t. cond {A = ℕ} t 1 0) e

@@ -12,9 +12,9 @@ use Rattle.s66_model.proofs.Floors.{floor-whole}
 use Rattle.s66_model.proofs.LedgerRuns.{run-falls}
 use Rattle.s66_time.specs.TimedOrder.{TimedOrder}
 use Rattle.s66_node.specs.Pieces.{PieceOf, tree_of, IsBestTimed}
-use Rattle.s66_ledger.specs.Handed.{TicketOf}
-use Rattle.s66_ledger.specs.Claims.{IsLeastOpen}
-use Rattle.s66_ledger.specs.Kept.{MachineOf, IsMove}
+use Rattle.s66_ledger.specs.Tickets.{TicketOf}
+use Rattle.s66_ledger.specs.ClaimedNodes.{IsLeastOpen}
+use Rattle.s66_ledger.specs.LedgerMachine.{MachineOf, IsMove}
 use Rattle.s66_ledger.specs.GraftMoves.{IsGraftMove}
 use Rattle.s66_ledger.specs.Finishing.{IsSearched, IsBetween, IsOffering, still_to_go}
 use Rattle.s66_ledger.proofs.Events.{at-most-all}

@@ -21,8 +21,8 @@ use Rattle.s66_ledger.specs.declared.node.State.TheVariants as state
 use Rattle.s66_ledger.specs.declared.subtree.Place.{Place}
 use Rattle.s66_ledger.specs.Nodes.{prefixes, seen_state, nodes_of, HaveFloors}
 use Rattle.s66_ledger.specs.Planting.{kids_of, knot_state, knot_value, told_state, RestsHold, rest_nodes, place_lefts, PlacesStand, IsReading}
-use Rattle.s66_ledger.proofs.Prefixes.{get_or-front, get_or-last, length-prefixes, prefixes-push}
-use Rattle.s66_ledger.proofs.Floors.{floors-push}
+use Rattle.s66_ledger.proofs.NodePrefixes.{get_or-front, get_or-last, length-prefixes, prefixes-push}
+use Rattle.s66_ledger.proofs.NodeFloors.{floors-push}
 use Rattle.s66_ledger.proofs.SeenNodes.{nodes-push}
 
 -- PLACES

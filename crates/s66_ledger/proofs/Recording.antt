@@ -20,8 +20,8 @@ use Rattle.s66_ledger.specs.declared.entry.Refusal.TheVariants as refusal
 use Rattle.s66_ledger.specs.declared.reply.Offered.{Offered}
 use Rattle.s66_ledger.specs.declared.reply.Offered.TheVariants as offered
 use Rattle.s66_ledger.specs.Replies.{offered_reply}
-use Rattle.s66_ledger.specs.Entries.{byte_count, line_count, entry_of, entries_of, refusal_reply, error_of}
-use Rattle.s66_ledger.specs.Kept.{MachineOf, IsMove}
+use Rattle.s66_ledger.specs.HistoryEntries.{byte_count, line_count, entry_of, entries_of, refusal_reply, error_of}
+use Rattle.s66_ledger.specs.LedgerMachine.{MachineOf, IsMove}
 use Rattle.s66_ledger.specs.declared.node.Node.{Node}
 use Rattle.s66_ledger.specs.Subtrees.{IsSubtreeOf, lines_below, root_bytes}
 use Rattle.s66_ledger.specs.GraftMoves.{IsGraftMove, IsRefusedMove}

@@ -8,7 +8,7 @@ use Rattle.s66_ledger.specs.declared.node.State.{State}
 use Rattle.s66_ledger.specs.declared.node.State.TheVariants as state
 use Rattle.s66_ledger.specs.Nodes.{prefixes, seen_state, nodes_at, nodes_of, no_node, node_at, with_state}
 use Rattle.s66_ledger.specs.OpenNodes.{is_open_state, is_open}
-use Rattle.s66_ledger.proofs.Prefixes.{length-prefixes, prefixes-push, prefixes-set}
+use Rattle.s66_ledger.proofs.NodePrefixes.{length-prefixes, prefixes-push, prefixes-set}
 
 -- ONE MORE
 

@@ -5,7 +5,7 @@ use Rattle.std.proofs.lemmas.List.{length-set, get_or-set_other, get_or-set_same
 use Rattle.s66_isa.specs.Lists.{weigh}
 use Rattle.s66_model.specs.Ledger.{Ledger, Node, State, Open, Out, no_node, node_at, with_state, Back, Retire, Returned, Retired, IsOut}
 use Rattle.s66_ledger.specs.Finishing.{NoneOut, NoneOutBelow, IsIdle, IsReopening}
-use Rattle.s66_ledger.specs.Kept.{MachineOf, IsMove, state_of}
+use Rattle.s66_ledger.specs.LedgerMachine.{MachineOf, IsMove, state_of}
 use Rattle.s66_ledger.specs.Nodes.{nodes_of}
 use Rattle.s66_ledger.specs.OpenNodes as OpenNodes
 use Rattle.s66_ledger.specs.declared.node.Node as kept

@@ -15,7 +15,7 @@ use Rattle.s66_time.specs.TimedOrder.{TimedOrder}
 use Rattle.s66_ledger.specs.declared.reply.Offered.{Offered}
 use Rattle.s66_ledger.specs.declared.reply.Offered.TheVariants as offered
 use Rattle.s66_ledger.specs.Finishing.{WholesAreTimed, IsTimedAt, IsOffering, IsTiming}
-use Rattle.s66_ledger.specs.Kept.{MachineOf, IsMove, IsKept, machine_of, state_of}
+use Rattle.s66_ledger.specs.LedgerMachine.{MachineOf, IsMove, IsKept, machine_of, state_of}
 use Rattle.s66_ledger.specs.LiveNodes.{is_live_state}
 use Rattle.s66_ledger.specs.Nodes.{prefixes, node_at, nodes_of, seen_state}
 use Rattle.s66_ledger.specs.declared.node.Node.{Node}

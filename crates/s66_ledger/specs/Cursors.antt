@@ -17,7 +17,7 @@ use Rattle.s66_bound.specs.LeafValues.{leaf_of}
 use Rattle.s66_ledger.specs.declared.node.Node.{Node}
 use Rattle.s66_ledger.specs.declared.lines.AnswerLine.{AnswerLine}
 use Rattle.s66_ledger.specs.declared.lines.AnswerLine.TheVariants as line
-use Rattle.s66_ledger.specs.Kept.{state_of}
+use Rattle.s66_ledger.specs.LedgerMachine.{state_of}
 use Rattle.s66_ledger.specs.Links.{AreLinks}
 use Rattle.s66_ledger.specs.Nodes.{nodes_of, prefixes, HaveFloors}
 

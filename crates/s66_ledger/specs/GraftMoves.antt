@@ -6,7 +6,7 @@ use Rattle.s66_model.specs.Recorded.{IsGraftOf}
 use Rattle.s66_node.specs.Pieces.{PieceOf, tree_of}
 use Rattle.s66_ledger.specs.declared.reply.GraftError.{GraftError}
 use Rattle.s66_ledger.specs.declared.reply.GraftError.TheVariants as refused
-use Rattle.s66_ledger.specs.Kept.{MachineOf, IsMove}
+use Rattle.s66_ledger.specs.LedgerMachine.{MachineOf, IsMove}
 
 -- the move of worker w's graft of this piece at a node, with this reply
 abbrev pub IsGraftMove : MachineOf → (w node : ℕ) → PieceOf → Reply → MachineOf → Type 0

@@ -1,12 +1,12 @@
 pub mod Answers
-pub mod Claims
+pub mod ClaimedNodes
 pub mod Cursors
-pub mod Entries
+pub mod HistoryEntries
 pub mod Finishing
 pub mod GraftMoves
 pub mod Grafts
-pub mod Handed
-pub mod Kept
+pub mod Tickets
+pub mod LedgerMachine
 pub mod Ledgers
 pub mod Links
 pub mod LiveNodes

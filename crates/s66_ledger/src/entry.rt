@@ -1,5 +1,5 @@
 ghost use Rattle.std.specs.Prelude.{◌≡◌, IfSome, IfNone};
-ghost use Rattle.s66_ledger.specs.Entries.{error_of};
+ghost use Rattle.s66_ledger.specs.HistoryEntries.{error_of};
 ghost use Rattle.s66_ledger.specs.declared.reply.GraftError.TheVariants as error;
 
 use crate::reply::{GraftError, Offered};

@@ -63,7 +63,7 @@ impl<'a> Ledger<'a> {
     ghost use Rattle.s66_ledger.specs.Answers.{answer_of};
     ghost use Rattle.s66_ledger.specs.Grafts.{IsGraft, IsRefusedGraft, IsGraftAt, IsRefusedGraftAt};
     ghost use Rattle.s66_ledger.specs.Subtrees.{IsSubtreeOf};
-    ghost use Rattle.s66_ledger.specs.Claims.{claimed_node, IsTicketOf, IsLeastOpen};
+    ghost use Rattle.s66_ledger.specs.ClaimedNodes.{claimed_node, IsTicketOf, IsLeastOpen};
     ghost use Rattle.s66_ledger.specs.Replies.{offered_reply};
     ghost use Rattle.s66_ledger.specs.declared.limits.TheConstants.{BUDGET_LIMIT};
     ghost use Rattle.s66_ledger.specs.declared.reply.BackError.TheVariants as refused;

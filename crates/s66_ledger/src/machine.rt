@@ -29,7 +29,7 @@ pub(crate) struct Machine<'a> {
 
 impl<'a> Model for Machine<'a> {
     ghost use Rattle.s66_line.specs.Block.{instrs_of};
-    ghost use Rattle.s66_ledger.specs.Kept.{MachineOf, machine_of, IsKept};
+    ghost use Rattle.s66_ledger.specs.LedgerMachine.{MachineOf, machine_of, IsKept};
 
     ghost Value = { MachineOf };
 
@@ -50,12 +50,12 @@ impl<'a> Machine<'a> {
     ghost use Rattle.s66_model.specs.Coverage.{Covers, bound_of, IsFinished};
     ghost use Rattle.s66_model.specs.BestAndBound.{IsBound};
     ghost use Rattle.s66_model.specs.NodeTable.{IsTable};
-    ghost use Rattle.s66_ledger.specs.Kept.{IsMove};
+    ghost use Rattle.s66_ledger.specs.LedgerMachine.{IsMove};
     ghost use Rattle.s66_model.specs.Ended.{IsEnded, ended_answer};
     ghost use Rattle.s66_ledger.specs.Answers.{answer_of};
     ghost use Rattle.s66_ledger.specs.Finishing.{IsReopening, NoneOut, WholesAreTimed};
     ghost use Rattle.s66_ledger.specs.GraftMoves.{IsGraftMove, IsRefusedMove};
-    ghost use Rattle.s66_ledger.specs.Claims.{claimed_node, IsTicketOf, IsLeastOpen};
+    ghost use Rattle.s66_ledger.specs.ClaimedNodes.{claimed_node, IsTicketOf, IsLeastOpen};
     ghost use Rattle.s66_ledger.specs.Replies.{offered_reply};
     ghost use Rattle.s66_ledger.specs.Subtrees.{IsSubtreeOf, lines_below};
     ghost use Rattle.s66_ledger.specs.declared.limits.TheConstants.{BUDGET_LIMIT};

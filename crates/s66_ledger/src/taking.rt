@@ -9,7 +9,7 @@ impl Machine<'_> {
     ghost use Rattle.s66_model.specs.LegalOrder.{IsLegal};
     ghost use Rattle.s66_model.specs.Ledger.{Event};
     ghost use Rattle.s66_model.specs.Recorded.{IsOfferOf};
-    ghost use Rattle.s66_ledger.specs.Kept.{IsMove};
+    ghost use Rattle.s66_ledger.specs.LedgerMachine.{IsMove};
     ghost use Rattle.s66_ledger.specs.Replies.{offered_reply};
     ghost use Rattle.s66_ledger.specs.Finishing.{Leads, IsIdle, WholesAreTimed, IsOffering, IsTiming};
 

@@ -1,5 +1,5 @@
 ghost use Rattle.std.specs.Prelude.{◌≡◌};
-ghost use Rattle.s66_ledger.specs.Claims.{claimed_node};
+ghost use Rattle.s66_ledger.specs.ClaimedNodes.{claimed_node};
 
 use arrayvec::ArrayVec;
 use s66_line::BLOCK_LIMIT;
@@ -14,7 +14,7 @@ pub struct Ticket {
 }
 
 impl Model for Ticket {
-    ghost use Rattle.s66_ledger.specs.Handed.{TicketOf};
+    ghost use Rattle.s66_ledger.specs.Tickets.{TicketOf};
 
     ghost Value = { TicketOf };
 

@@ -1,9 +1,9 @@
 pub mod Bytes
-pub mod Entries
+pub mod BlockEntries
 pub mod LineFields
 pub mod LineCuts
 pub mod Gathered
-pub mod Cuts
+pub mod SignCuts
 pub mod Expression
 pub mod ReaderBlocks
 pub mod PartsLaw

@@ -7,7 +7,7 @@ use Rattle.s66_isa.specs.Lists.{Among, tally, some_of}
 use Rattle.s66_line.specs.Fields.{lines_of}
 use Rattle.s66_line.specs.Source.{Line, Block, class_of, is_instruction, is_code, run_after, place_after, label_after, classes_from, classed_lines, operand_refusal, refusal_at, or_else, refusal, instructions, parts_of, entry_of, block_of, blocks_of, unless_refused, source_of}
 use Rattle.s66_line.specs.Block.{line_of}
-use Rattle.s66_line.specs.Parts.{all_of}
+use Rattle.s66_line.specs.BlockParts.{all_of}
 use Rattle.s66_line.specs.Roles.{is_comment_class, is_pad_class, is_other_class, is_note_of, is_note, has_block, roles}
 use Rattle.s66_line.specs.declared.class.Class.{Class}
 use Rattle.s66_line.specs.declared.class.Class.TheVariants.{Comment, Other, Refused, Pad, Instruction}

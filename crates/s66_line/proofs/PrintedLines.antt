@@ -10,7 +10,7 @@ use Rattle.s66_isa.proofs.Lists.{among-rest}
 use Rattle.s66_line.specs.Fields.{body, lines_of}
 use Rattle.s66_line.specs.Source.{Line, Entry, Block, class_of, is_instruction, is_code, ends_run, run_after, place_after, label_after, classes_from, classed_lines, refusal, refusal_at, operand_refusal, instructions, parts_of, entry_of, block_of, blocks_of, source_of}
 use Rattle.s66_line.specs.Block.{line_of}
-use Rattle.s66_line.specs.Parts.{all_of}
+use Rattle.s66_line.specs.BlockParts.{all_of}
 use Rattle.s66_line.specs.Roles.{is_comment_class, is_pad_class, is_other_class, is_note_of, is_note, has_block, is_dropped, lines_that}
 use Rattle.s66_line.specs.Printed.{Placed, ArePlaced, report, instruction_lines, copied_line, copied_text, notes_text, block_text, text_of_lines, printed}
 use Rattle.s66_line.specs.Printer.{Printer, begins_with, rest, is_skipped, is_passed, is_instruction_next, text_in_place, text_at, is_last, text_of}

@@ -4,7 +4,7 @@ pub mod Choices
 pub mod Spelling
 pub mod Terms
 pub mod Source
-pub mod Parts
+pub mod BlockParts
 pub mod InstructionText
 pub mod Block
 pub mod Roles
@@ -14,4 +14,4 @@ pub mod Gives
 pub mod Pads
 pub mod Printer
 pub mod Reader
-pub mod ReaderState
+pub mod SourceReader

@@ -4,7 +4,7 @@ ghost use Rattle.s66_line.specs.InstructionText.{Spells};
 ghost use Rattle.s66_line.specs.Pads.{settle, pads_by_class, pads_of_lines};
 ghost use Rattle.s66_line.specs.Pads as pads;
 ghost use Rattle.s66_line.specs.Reader.{Steps, IsSpelled, end_block, begin_run, with_entry, by_class, line_step, lines_step};
-ghost use Rattle.s66_line.specs.ReaderState.{state};
+ghost use Rattle.s66_line.specs.SourceReader.{state};
 ghost use Rattle.s66_line.specs.Source.{class_of, is_code};
 ghost use Rattle.s66_line.specs.declared.limits.TheConstants.{BLOCK_LIMIT, SOURCE_LIMIT, TEXT_LIMIT};
 

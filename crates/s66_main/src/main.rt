@@ -1,32 +1,8 @@
-//! The program: what it is asked for, what it reads, and what it writes.
+//! The process: its words, its standard streams, and its status.
 #![tactic(auto)]
 
-mod chart_text;
-mod check_text;
-mod command;
-mod deps_text;
-mod documents;
-mod fields;
-mod laws;
-mod limits;
-#[cfg(test)]
-mod line_tests;
-mod observer;
-mod order_text;
-mod outcome;
-mod output;
-mod program;
-mod progress;
-mod prove_text;
-mod run;
-#[cfg(test)]
-mod tests;
-mod time_text;
-mod usage;
-
-use program::{refuse_words, run_program};
-use progress::Progress;
 use s66_line::{OverRead, OverWrite};
+use s66_program::{Progress, refuse_words, run_program};
 use std::io::IsTerminal;
 use std::process::ExitCode;
 use std::{env, io};

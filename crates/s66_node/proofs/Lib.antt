@@ -5,4 +5,4 @@ pub mod Pieces
 pub mod Schedules
 pub mod Standing
 pub mod Tips
-pub mod Walks
+pub mod WalkTurns

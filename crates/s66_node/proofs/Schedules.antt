@@ -11,7 +11,7 @@ use Rattle.s66_model.proofs.PointTimes.{points_after-append, point_of-row}
 use Rattle.s66_model.proofs.Remaining.{among-ready, ready-among, legal-parts, rest-first, step-begins}
 use Rattle.s66_dep.specs.declared.set.Set.{Set}
 use Rattle.s66_dep.specs.Members.{numbers_in}
-use Rattle.s66_dep.proofs.Fronts.{beginning-few}
+use Rattle.s66_dep.proofs.LongestBeginning.{beginning-few}
 use Rattle.s66_node.specs.Walked.{Walked, BeginsWith}
 
 -- the next slot after a push is its issue and its parcels

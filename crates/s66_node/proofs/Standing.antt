@@ -9,7 +9,7 @@ use Rattle.s66_model.specs.Timing.{Problem}
 use Rattle.s66_model.specs.LegalOrder.{IsBeginning, IsFront, IsIncomplete, is_ready}
 use Rattle.s66_model.proofs.Remaining.{step-begins}
 use Rattle.s66_model.proofs.Beginnings.{front-beginning, beginning-front}
-use Rattle.s66_dep.proofs.Fronts.{beginning-few, front-take, push-ready}
+use Rattle.s66_dep.proofs.LongestBeginning.{beginning-few, front-take, push-ready}
 use Rattle.s66_time.specs.Ticking.{Ticking, problem_of}
 use Rattle.s66_node.specs.Walked.{Walked, IsWalked}
 

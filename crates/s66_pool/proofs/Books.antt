@@ -6,7 +6,7 @@ use Rattle.std.proofs.lemmas.Bool.{eq-eqb, ne_eqb}
 use Rattle.std.proofs.lemmas.List.Elements.{All-nil, All-cons, All-head, All-tail}
 use Rattle.s66_isa.specs.Lists.{rising}
 use Rattle.s66_model.specs.Accounts.{Summary, Passbook, Agrees, opened}
-use Rattle.s66_pool.specs.Views.{books_of, all_opened, first_of, rest_of, Follows}
+use Rattle.s66_pool.specs.SeatViews.{books_of, all_opened, first_of, rest_of, Follows}
 
 counted : (n : ℕ) (p : Passbook) (ps : List Passbook) → p.who ≡ n → books_of n (p ∷ ps) ≡ 1 + books_of n ps
 counted n p ps e = ap (λ b. cond b 1 0 + books_of n ps) (eq-eqb p.who n e)

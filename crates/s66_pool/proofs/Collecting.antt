@@ -5,8 +5,8 @@ use Rattle.std.proofs.lemmas.List.Elements.{All-nil, All-cons, All-head, All-tai
 use Rattle.s66_isa.specs.Lists.{weigh, some_of}
 use Rattle.s66_model.specs.Accounts.{Summary, Passbook, Agrees}
 use Rattle.s66_pool.specs.Hubs.{SeatOf, HaveSeats}
-use Rattle.s66_pool.specs.Views.{books_of}
-use Rattle.s66_pool.specs.Tokens.{HaveEvery}
+use Rattle.s66_pool.specs.SeatViews.{books_of}
+use Rattle.s66_pool.specs.LockTokens.{HaveEvery}
 use Rattle.s66_pool.proofs.Sums.{splits-of-all}
 
 abbrev pub books_in : List SeatOf → List Passbook

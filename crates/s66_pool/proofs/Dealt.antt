@@ -3,8 +3,8 @@ use Rattle.std.proofs.Common.{◌≡◌, ℕ, ◌<◌, List, [], ◌∷◌, leng
 use Rattle.atomic_table.specs.Table.{Me}
 use Rattle.atomic_table.specs.declared.shared.Seat.{Seat}
 use Rattle.s66_model.specs.Accounts.{Passbook}
-use Rattle.s66_pool.specs.Views.{View, idle, first_of, rest_of, first_book}
-use Rattle.s66_pool.specs.Tokens.{book, IsResting}
+use Rattle.s66_pool.specs.SeatViews.{View, idle, first_of, rest_of, first_book}
+use Rattle.s66_pool.specs.LockTokens.{book, IsResting}
 
 first_one : (ps : List Passbook) → 0 < length ps → first_of ps ≡ first_book ps ∷ []
 first_one [] h = absurd (omega arith)

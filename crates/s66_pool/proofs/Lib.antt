@@ -3,9 +3,9 @@ pub mod Dealt
 pub mod Returned
 pub mod Seats
 pub mod Sums
-pub mod Events
+pub mod SeatEvents
 pub mod AfterCalls
-pub mod GoingOn
+pub mod SeatAfterGraft
 pub mod Spending
 pub mod Dealing
 pub mod Present

@@ -10,7 +10,7 @@ use Rattle.s66_model.proofs.AccountLaws.{account-at, accounts-count}
 use Rattle.s66_ledger.specs.declared.entry.Entry.{Entry}
 use Rattle.s66_ledger.specs.declared.entry.Entry.TheVariants as entry
 use Rattle.s66_ledger.specs.declared.entry.Refusal.TheVariants as refusal
-use Rattle.s66_ledger.specs.Entries.{byte_count, line_count, entry_of, entries_of}
+use Rattle.s66_ledger.specs.HistoryEntries.{byte_count, line_count, entry_of, entries_of}
 use Rattle.s66_ledger.specs.Ledgers.{LedgerOf, events_of, account_summary}
 use Rattle.s66_pool.proofs.AfterCalls.{account-within}
 

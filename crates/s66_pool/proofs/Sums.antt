@@ -7,7 +7,7 @@ use Rattle.std.proofs.lemmas.List.Elements.{All-head, All-tail}
 use Rattle.s66_isa.specs.Lists.{weigh, rising}
 use Rattle.s66_isa.proofs.Lists.{weigh-same, among-rising}
 use Rattle.s66_model.specs.Accounts.{Summary, Passbook, Account, Agrees, account_at, no_account}
-use Rattle.s66_pool.specs.Views.{books_of}
+use Rattle.s66_pool.specs.SeatViews.{books_of}
 
 none-of : (f : ℕ → ℕ) (k count low : ℕ) → k < low → weigh (λ w. cond (eqb k w) (f w) 0) (rising count low) ≡ 0
 none-of f k zero low h = refl

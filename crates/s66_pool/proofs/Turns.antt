@@ -11,8 +11,8 @@ use Rattle.atomic_table.specs.Table.{State, Me, keeps, takes, gives, Allows, Spl
 use Rattle.atomic_table.proofs.Lists.{at_set, set_here, set_else, set_again, at_longer}
 use Rattle.s66_isa.proofs.Lists.{weigh-append, tally-append}
 use Rattle.s66_model.specs.Accounts.{Summary, Passbook, Agrees, opened}
-use Rattle.s66_pool.specs.Views.{View, Stage, Idle, Founding, Holding, idle, holding, founding, first_of, rest_of, books_of, found_at, first_book, renewed, IsSameSearch, Follows}
-use Rattle.s66_pool.specs.Tokens.{HaveEvery}
+use Rattle.s66_pool.specs.SeatViews.{View, Stage, Idle, Founding, Holding, idle, holding, founding, first_of, rest_of, books_of, found_at, first_book, renewed, IsSameSearch, Follows}
+use Rattle.s66_pool.specs.LockTokens.{HaveEvery}
 use Rattle.s66_pool.specs.Locked.{AllAgree, IsOnce, Has, IsFree, IsOut, Locked, keep_least, read_best, keep_books, GaveFirst, FoundedAt}
 use Rattle.s66_pool.proofs.Seats.{inside, each-set, each-snoc, each-one, weigh-replaced, le-weigh_at, two-le-weigh, one_item}
 use Rattle.s66_pool.proofs.Books.{own, cut, rest-agree, first-agree, others-agree, opened_once, opened-agrees, opened-agree, some_opened, has_book}

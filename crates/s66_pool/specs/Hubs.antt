@@ -12,7 +12,7 @@ use Rattle.s66_ledger.specs.declared.reply.GraftError.{GraftError}
 use Rattle.s66_ledger.specs.declared.reply.GraftError.TheVariants as refused
 use Rattle.s66_pool.specs.declared.after_graft.Next.{Next}
 use Rattle.s66_pool.specs.declared.after_graft.AfterGraft.{AfterGraft}
-use Rattle.s66_pool.specs.GoingOn.{IsAfter}
+use Rattle.s66_pool.specs.AfterGraft.{IsAfter}
 
 -- which hub, and the summary of the ledger with which it opened
 pub record HubOf : Type 0 where

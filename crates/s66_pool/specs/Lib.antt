@@ -1,6 +1,6 @@
 pub mod Hubs
-pub mod GoingOn
-pub mod Views
+pub mod AfterGraft
+pub mod SeatViews
 pub mod Locked
-pub mod Tokens
+pub mod LockTokens
 pub mod Workers

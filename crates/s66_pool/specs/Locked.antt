@@ -6,7 +6,7 @@ use lib.ListN.{get_elem?}
 use Rattle.atomic_table.specs.Table.{State, Me, Step}
 use Rattle.s66_isa.specs.Lists.{weigh}
 use Rattle.s66_model.specs.Accounts.{Summary, Passbook, Agrees, opened}
-use Rattle.s66_pool.specs.Views.{View, Stage, Idle, Founding, Holding, books_of, idle, holding, renewed, IsSameSearch}
+use Rattle.s66_pool.specs.SeatViews.{View, Stage, Idle, Founding, Holding, books_of, idle, holding, renewed, IsSameSearch}
 
 abbrev pub AllAgree : Summary → List View → Type 0
 AllAgree s views = (seat : ℕ) (v : View) → get_elem? views seat ≡ some v → All (Agrees s) v.books

@@ -1,7 +1,7 @@
 ghost use Rattle.std.specs.Prelude.{◌≤◌, ◌⊎◌, ◌≡◌, IfSome, IfNone};
 ghost use Rattle.s66_model.specs.Ledger.{Grant, Granted};
 ghost use Rattle.s66_ledger.specs.Ledgers.{LedgerOf, IsEvent};
-ghost use Rattle.s66_pool.specs.GoingOn.{IsGranted, GoesOn};
+ghost use Rattle.s66_pool.specs.AfterGraft.{IsGranted, GoesOn};
 
 use s66_ledger::{Ledger, Ticket};
 
@@ -38,7 +38,7 @@ pub enum AfterGraft {
 
 impl AfterGraft {
     ghost use Rattle.std.specs.Prelude.{◌≡◌};
-    ghost use Rattle.s66_pool.specs.GoingOn.{is_claimed};
+    ghost use Rattle.s66_pool.specs.AfterGraft.{is_claimed};
 
     /// Whether it claimed, and read the best time.
     pub(crate) fn is_claimed(&self) -> bool

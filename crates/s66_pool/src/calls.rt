@@ -13,10 +13,10 @@ impl<'a> Hub<'a> {
     ghost use Rattle.std.specs.Prelude.{◌≡◌, ◌≤◌, IfOk, IfErr, OnOk, OnErr};
     ghost use Rattle.s66_model.specs.Ledger.{Grant, Granted, Claim, Claimed, Taken, Back, Returned, NotOut, Retire, Retired};
     ghost use Rattle.s66_model.specs.Accounts.{after_event, after_reading};
-    ghost use Rattle.s66_ledger.specs.Claims.{claimed_node};
+    ghost use Rattle.s66_ledger.specs.ClaimedNodes.{claimed_node};
     ghost use Rattle.s66_ledger.specs.Replies.{offered_reply};
     ghost use Rattle.s66_ledger.specs.declared.reply.BackError.TheVariants as refused;
-    ghost use Rattle.s66_pool.specs.GoingOn.{IsKnownAfter};
+    ghost use Rattle.s66_pool.specs.AfterGraft.{IsKnownAfter};
     ghost use Rattle.s66_pool.specs.Hubs.{HasGrafted, HasGraftedAndGoneOn, HasBeenRefused, HasOffered, IsKnown};
 
     /// Moves splits of the budget to the worker, as `Ledger::grant` does.

@@ -19,7 +19,7 @@ struct Locked;
 
 impl<S: Summed> TableRule<Option<S>, View, S> for Locked {
     ghost use Rattle.s66_pool.specs.Locked.{Locked};
-    ghost use Rattle.s66_pool.specs.Views.{founding};
+    ghost use Rattle.s66_pool.specs.SeatViews.{founding};
 
     ghost holds = { Locked S.summary };
 
@@ -86,7 +86,7 @@ impl<S: Summed> Play<Option<S>, View> for Reads {
 struct Deals;
 
 impl Split<View> for Deals {
-    ghost use Rattle.s66_pool.specs.Views.{idle, first_of, rest_of};
+    ghost use Rattle.s66_pool.specs.SeatViews.{idle, first_of, rest_of};
 
     ghost left = { λ v. idle (rest_of v.books) };
 
@@ -98,7 +98,7 @@ struct Collects;
 
 impl Join<View> for Collects {
     ghost use Rattle.std.specs.Prelude.{[], ◌++◌};
-    ghost use Rattle.s66_pool.specs.Views.{idle};
+    ghost use Rattle.s66_pool.specs.SeatViews.{idle};
 
     ghost both = { λ v u. idle (u.books ++ v.books) };
 
@@ -108,8 +108,8 @@ impl Join<View> for Collects {
 impl<S: Summed + Drop> Lock<S> {
     ghost use Rattle.std.specs.Prelude.{◌≡◌, ℕ, ◌<◌, ◌≤◌, [], ◌∷◌, ◌++◌, length, All, IfOk, None};
     ghost use Rattle.s66_model.specs.Accounts.{Agrees, opened};
-    ghost use Rattle.s66_pool.specs.Views.{IsSameSearch, Follows, all_opened, books_of, renewed, idle, holding, first_of, rest_of, first_book};
-    ghost use Rattle.s66_pool.specs.Tokens.{book, found, IsResting, IsHolding, IsIdle, HaveEvery};
+    ghost use Rattle.s66_pool.specs.SeatViews.{IsSameSearch, Follows, all_opened, books_of, renewed, idle, holding, first_of, rest_of, first_book};
+    ghost use Rattle.s66_pool.specs.LockTokens.{book, found, IsResting, IsHolding, IsIdle, HaveEvery};
 
     /// Waits until the lock is free, and takes the value.
     pub(crate) fn take<R: Wait>(&self, rt: &R, token: &mut Token<S>) -> S

@@ -6,7 +6,7 @@ ghost use Rattle.s66_model.specs.Timing.{Problem};
 ghost use Rattle.s66_model.specs.Ledger.{worker};
 ghost use Rattle.s66_model.specs.Recorded.{spends};
 ghost use Rattle.s66_model.specs.Accounts.{account_at};
-ghost use Rattle.s66_ledger.specs.Entries.{entry_of};
+ghost use Rattle.s66_ledger.specs.HistoryEntries.{entry_of};
 ghost use Rattle.s66_ledger.specs.Ledgers.{account_summary};
 ghost use Rattle.s66_pool.specs.Hubs.{HaveSeats};
 

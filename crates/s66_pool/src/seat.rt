@@ -14,7 +14,7 @@ pub struct Seat<'a> {
 impl<'a> Model for Seat<'a> {
     ghost use Rattle.std.specs.Prelude.{◌≡◌};
     ghost use Rattle.s66_pool.specs.Hubs.{SeatOf};
-    ghost use Rattle.s66_pool.specs.Tokens.{book, IsResting};
+    ghost use Rattle.s66_pool.specs.LockTokens.{book, IsResting};
 
     ghost Value = { SeatOf };
 
@@ -25,8 +25,8 @@ impl<'a> Model for Seat<'a> {
 
 impl<'a> Seat<'a> {
     ghost use Rattle.std.specs.Prelude.{◌≡◌, [], ◌∷◌};
-    ghost use Rattle.s66_pool.specs.Views.{idle};
-    ghost use Rattle.s66_pool.specs.Tokens.{book, IsResting};
+    ghost use Rattle.s66_pool.specs.SeatViews.{idle};
+    ghost use Rattle.s66_pool.specs.LockTokens.{book, IsResting};
 
     pub(crate) fn new(number: u8, splits: u32, token: Token<Box<Ledger<'a>>>) -> Seat<'a>
         requires resting { IsResting token }

@@ -5,7 +5,7 @@ pub(crate) struct View;
 
 impl Model for View {
     ghost use Rattle.std.specs.Prelude.{[]};
-    ghost use Rattle.s66_pool.specs.Views.{View, idle};
+    ghost use Rattle.s66_pool.specs.SeatViews.{View, idle};
 
     ghost Value = { View };
 

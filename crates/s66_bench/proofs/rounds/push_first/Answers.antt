@@ -3,7 +3,7 @@ use Rattle.s66_line.specs.Block.{instrs_of}
 use Rattle.s66_line.specs.Source.{Block}
 use Rattle.s66_model.specs.LegalOrder.{is_ready}
 use Rattle.s66_model.proofs.Beginnings.{length-rising}
-use Rattle.s66_dep.proofs.Numbers.{rising-more}
+use Rattle.s66_dep.proofs.OrderNumbers.{rising-more}
 use Rattle.s66_time.specs.Ticking.{Ticking}
 use Rattle.s66_bench.proofs.SourceOrder.{source-ready}
 use Rattle.s66_bench.proofs.rounds.push_first.Goals as goal

@@ -2,7 +2,7 @@ use Rattle.std.proofs.Common.{ℕ, ◌+◌, ◌<◌, List, length, get_or, sym, 
 use Rattle.s66_isa.specs.Table.{Instr, row}
 use Rattle.s66_model.specs.Timing.{Problem, row_at}
 use Rattle.s66_bound.specs.declared.entry.Entry.{Entry}
-use Rattle.s66_bound.specs.Entries.{IsEntry}
+use Rattle.s66_bound.specs.InstructionCosts.{IsEntry}
 use Rattle.s66_bound.specs.TableWords.{timed_by}
 use Rattle.s66_bound.proofs.EntryTables.{entries-push}
 use Rattle.s66_bound.proofs.entry.entries_of.Goals as goal

@@ -1,7 +1,7 @@
 use Rattle.std.proofs.Common.{ℕ, ◌≡◌, ◌+◌, ◌<◌, length, get_or}
 use Rattle.s66_model.specs.Timing.{row_at}
 use Rattle.s66_bound.specs.declared.entry.Entry.{Entry}
-use Rattle.s66_bound.specs.Entries.{IsEntry}
+use Rattle.s66_bound.specs.InstructionCosts.{IsEntry}
 use Rattle.s66_bound.specs.TableWords.{timed_by}
 use Rattle.s66_bound.proofs.entry.entries_of.Given as goal
 

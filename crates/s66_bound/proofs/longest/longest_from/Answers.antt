@@ -6,7 +6,7 @@ use Rattle.s66_model.specs.Tails.{walk_to}
 use Rattle.s66_model.proofs.TailTable.{table-step}
 use Rattle.s66_bound.specs.declared.entry.Entry.{Entry}
 use Rattle.s66_bound.proofs.EntryTables.{entry-at}
-use Rattle.s66_bound.proofs.Walks.{walks-back, greatest-next}
+use Rattle.s66_bound.proofs.LongestWalks.{walks-back, greatest-next}
 use Rattle.s66_bound.proofs.longest.longest_from.Goals as goal
 
 pub loop-later-init : goal.loop-later-init

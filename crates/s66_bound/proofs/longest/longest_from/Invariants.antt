@@ -3,7 +3,7 @@ use Rattle.s66_isa.specs.Lists.{greatest, rising}
 use Rattle.s66_model.specs.Timing.{Problem, row_at}
 use Rattle.s66_model.specs.Leaves.{tail}
 use Rattle.s66_model.specs.Tails.{walk_to}
-use Rattle.s66_bound.specs.Entries.{AreEntries}
+use Rattle.s66_bound.specs.InstructionCosts.{AreEntries}
 use Rattle.s66_bound.specs.TableWords.{HasLater}
 use Rattle.s66_bound.proofs.longest.longest_from.Given as goal
 

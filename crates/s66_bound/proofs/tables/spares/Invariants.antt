@@ -1,7 +1,7 @@
 use Rattle.std.proofs.Common.{ℕ, ◌≡◌, ◌-◌, ◌≤◌, length, get_or}
 use Rattle.s66_model.specs.Timing.{Problem}
 use Rattle.s66_model.specs.Tails.{spare}
-use Rattle.s66_bound.specs.Entries.{AreEntries}
+use Rattle.s66_bound.specs.InstructionCosts.{AreEntries}
 use Rattle.s66_bound.proofs.tables.spares.Given as goal
 
 abbrev pub invariant-loop-place : goal.invariant-loop-place

@@ -4,7 +4,7 @@ use Rattle.s66_model.specs.Timing.{Problem, row_at}
 use Rattle.s66_model.specs.Leaves.{uses}
 use Rattle.s66_dep.specs.Members.{numbers_in}
 use Rattle.s66_dep.proofs.Sets.{within}
-use Rattle.s66_bound.specs.Entries.{AreEntries}
+use Rattle.s66_bound.specs.InstructionCosts.{AreEntries}
 use Rattle.s66_bound.proofs.tables.users_of.Given as goal
 
 abbrev pub invariant-loop-place : goal.invariant-loop-place

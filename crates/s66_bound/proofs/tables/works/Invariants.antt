@@ -1,6 +1,6 @@
 use Rattle.std.proofs.Common.{ℕ, ◌≡◌, ◌+◌, ◌-◌, ◌≤◌, length, get_or}
 use Rattle.s66_model.specs.Timing.{Problem, row_at}
-use Rattle.s66_bound.specs.Entries.{AreEntries}
+use Rattle.s66_bound.specs.InstructionCosts.{AreEntries}
 use Rattle.s66_bound.proofs.tables.works.Given as goal
 
 abbrev pub invariant-loop-place : goal.invariant-loop-place

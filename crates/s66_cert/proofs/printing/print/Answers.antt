@@ -1,7 +1,7 @@
 use Rattle.std.proofs.Common.{[], codes, rules}
 use Rattle.std.proofs.lemmas.Result.{on_err_weaker, on_ok_weaker}
 use Rattle.s66_cert.specs.Document.{document_text, tree_lines}
-use Rattle.s66_cert.specs.Parts.{document_of}
+use Rattle.s66_cert.specs.DocumentParts.{document_of}
 use Rattle.s66_cert.specs.Pages.{IsBegun, claim_lines}
 use Rattle.s66_cert.proofs.Pages.{underway-begun, underway-end}
 use Rattle.s66_cert.proofs.Printed.{IsLeft, opened, after_block, after_claim, block-left, claim-left, tree-left, lines-short}

@@ -1,7 +1,7 @@
 use Rattle.std.proofs.Common.{◌≡◌, ◌++◌, ◌∷◌, [], rules, ap, subst, ◌∙◌}
 use Rattle.s66_cert.specs.Document.{tree_lines}
 use Rattle.s66_cert.specs.Pages.{AreShort}
-use Rattle.s66_cert.specs.Parts.{knot_of}
+use Rattle.s66_cert.specs.DocumentParts.{knot_of}
 use Rattle.s66_cert.proofs.Pages.{IsUnderway, underway-more, underway-begun, printed-behind, begun-within}
 use Rattle.s66_cert.proofs.Printed.{first-tree-line}
 use Rattle.s66_cert.proofs.printing.print_tree.Goals as goal

@@ -1,5 +1,5 @@
 use Rattle.std.proofs.Common.{rules, arith, ◌∙◌}
-use Rattle.s66_chart.proofs.Fronts.{instruction-written, instruction-begun, filler-written, filler-begun, all-written}
+use Rattle.s66_chart.proofs.WrittenRows.{instruction-written, instruction-begun, filler-written, filler-begun, all-written}
 use Rattle.s66_chart.proofs.picture.chart.Goals as goal
 
 pub returns-in_err-write_instruction-clause-beginning : goal.returns-in_err-write_instruction-clause-beginning

@@ -1,5 +1,5 @@
 use Rattle.std.proofs.Common.{◌≡◌}
-use Rattle.s66_chart.proofs.Fronts.{AreWritten}
+use Rattle.s66_chart.proofs.WrittenRows.{AreWritten}
 use Rattle.s66_chart.proofs.picture.chart.Given as goal
 
 abbrev pub invariant-loop-position : goal.invariant-loop-position

@@ -2,7 +2,7 @@ use Rattle.std.proofs.Common.{[], refl}
 use Rattle.s66_model.proofs.Remaining.{legal-parts}
 use Rattle.s66_model.proofs.Trees.{tree-sound}
 use Rattle.s66_checker.specs.Verdict.{problem_of}
-use Rattle.s66_checker.proofs.TrueClaims.{verdict-yes}
+use Rattle.s66_checker.proofs.GrantedClaims.{verdict-yes}
 use Rattle.s66_checker.proofs.laws.yes_law.Goals as goal
 
 pub returns-clause-told : goal.returns-clause-told

@@ -1,5 +1,5 @@
 use Rattle.std.proofs.Common.{◌+◌, ◌∙◌, sym, subst, arith}
-use Rattle.s66_checker.proofs.Readiness.{Looked, looked-none, looked-next, looked-past, looked-all}
+use Rattle.s66_checker.proofs.ReadyByNeeds.{Looked, looked-none, looked-next, looked-past, looked-all}
 use Rattle.s66_checker.proofs.needs.needs.Goals.{then-depends, else-depends}
 use Rattle.s66_checker.proofs.needs.needs.Goals as goal
 

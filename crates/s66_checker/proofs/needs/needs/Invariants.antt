@@ -1,5 +1,5 @@
 use Rattle.std.proofs.Common.{◌+◌}
-use Rattle.s66_checker.proofs.Readiness.{Looked}
+use Rattle.s66_checker.proofs.ReadyByNeeds.{Looked}
 use Rattle.s66_checker.proofs.needs.needs.Given as goal
 
 abbrev pub invariant-loop-earlier : goal.invariant-loop-earlier

@@ -3,7 +3,7 @@ use Rattle.s66_isa.specs.Lists.{greatest}
 use Rattle.s66_isa.specs.Table.{Row, Write}
 use Rattle.s66_model.specs.Timing.{IsInRange, Point, ResultAt, end_of, start_of, parcel_of, result_at, free_after}
 use Rattle.s66_model.proofs.Growth.{start-le, results-le}
-use Rattle.s66_checker.specs.Kept.{TOTAL_LIMIT, under_standard, AreTimed}
+use Rattle.s66_checker.specs.KeptPrefix.{TOTAL_LIMIT, under_standard, AreTimed}
 use Rattle.s66_checker.proofs.Reversed.{greatest-reverse}
 use Rattle.s66_checker.proofs.KeptPoints.{timed-small, timed-total}
 use Rattle.s66_checker.proofs.LeafBounds.{latencies-le}

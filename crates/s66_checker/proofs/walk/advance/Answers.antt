@@ -1,6 +1,6 @@
 use Rattle.std.proofs.Common.{◌∙◌}
 use Rattle.s66_model.proofs.Later.{next-ready}
-use Rattle.s66_checker.proofs.Walks.{next-taken, none-taken}
+use Rattle.s66_checker.proofs.TreeWalk.{next-taken, none-taken}
 use Rattle.s66_checker.proofs.walk.advance.Goals as goal
 
 pub push-requires : goal.push-requires

@@ -1,7 +1,7 @@
 use Rattle.std.proofs.Common.{ap}
-use Rattle.s66_cert.specs.Parts.{knot_of}
+use Rattle.s66_cert.specs.DocumentParts.{knot_of}
 use Rattle.s66_checker.specs.Checked.{Checked}
-use Rattle.s66_checker.proofs.Walks.{first-ready, first-taken}
+use Rattle.s66_checker.proofs.TreeWalk.{first-ready, first-taken}
 use Rattle.s66_checker.proofs.walk.go_on.Goals as goal
 
 pub push-requires : goal.push-requires

@@ -1,11 +1,11 @@
 use Rattle.std.proofs.Common.{◌∙◌, ◌+◌, [], length, refl, ap, arith, inl, inr, true, false, List}
 use Rattle.s66_model.specs.Leaves.{Leaf}
 use Rattle.s66_model.specs.Tree.{Knot}
-use Rattle.s66_cert.specs.Parts.{document_of, knot_of}
+use Rattle.s66_cert.specs.DocumentParts.{document_of, knot_of}
 use Rattle.s66_checker.specs.Checked.{Checked}
 use Rattle.s66_checker.specs.Verdict.{problem_of}
 use Rattle.s66_checker.specs.Walk.{coming}
-use Rattle.s66_checker.proofs.Walks.{line-refused, split-ready, line-passed, none-left, walk-begins, walk-ends}
+use Rattle.s66_checker.proofs.TreeWalk.{line-refused, split-ready, line-passed, none-left, walk-begins, walk-ends}
 use Rattle.s66_checker.proofs.walk.tree_verdict.Goals as goal
 use Rattle.s66_checker.proofs.walk.tree_verdict.Goals.{in-Some+in_default-fault+then-not-go_on, in_default}
 

@@ -1,5 +1,5 @@
 use Rattle.std.proofs.Common.{◌≡◌, ◌≤◌, ◌+◌, true, [], length}
-use Rattle.s66_cert.specs.Parts.{document_of}
+use Rattle.s66_cert.specs.DocumentParts.{document_of}
 use Rattle.s66_checker.specs.Verdict.{problem_of, lines_verdict, tree_line, tree_placed}
 use Rattle.s66_checker.specs.Walk.{coming}
 use Rattle.s66_checker.proofs.Placed.{placed}

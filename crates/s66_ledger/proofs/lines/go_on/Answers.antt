@@ -6,7 +6,7 @@ use Rattle.s66_node.specs.Walked.{Walked}
 use Rattle.s66_ledger.specs.Cursors.{AreOneTree, StandsAt}
 use Rattle.s66_ledger.specs.Nodes.{no_node, node_at}
 use Rattle.s66_ledger.specs.declared.node.Node.{Node}
-use Rattle.s66_ledger.proofs.Prefixes.{get_or-any}
+use Rattle.s66_ledger.proofs.NodePrefixes.{get_or-any}
 use Rattle.s66_ledger.proofs.Cursors.{parent-split, up-stands, root-stands}
 use Rattle.s66_ledger.proofs.lines.go_on.Goals as goal
 

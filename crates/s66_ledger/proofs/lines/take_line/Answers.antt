@@ -3,7 +3,7 @@ use Rattle.s66_model.specs.Leaves.{floor_value}
 use Rattle.s66_ledger.specs.declared.node.Node.{Node}
 use Rattle.s66_ledger.specs.Nodes.{no_node}
 use Rattle.s66_ledger.proofs.Cursors.{split-here, split-line, leaf-line}
-use Rattle.s66_ledger.proofs.Prefixes.{get_or-any}
+use Rattle.s66_ledger.proofs.NodePrefixes.{get_or-any}
 use Rattle.s66_ledger.proofs.lines.take_line.Goals as goal
 
 pub go_below-requires-clause-split : goal.go_below-requires-clause-split

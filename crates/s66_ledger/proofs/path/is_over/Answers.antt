@@ -1,7 +1,7 @@
 use Rattle.std.proofs.Common.{◌≡◌, ◌-◌, [], arith, get_or}
 use Rattle.s66_ledger.specs.Nodes.{prefixes, no_node}
-use Rattle.s66_ledger.proofs.Prefixes.{prefix-last}
-use Rattle.s66_ledger.proofs.Walks.{turn-none, turn-not, turn-last}
+use Rattle.s66_ledger.proofs.NodePrefixes.{prefix-last}
+use Rattle.s66_ledger.proofs.ParentPaths.{turn-none, turn-not, turn-last}
 use Rattle.s66_ledger.proofs.path.is_over.Goals as goal
 
 pub returns-then-rest-eq0 : goal.returns-then-rest-eq0

@@ -2,7 +2,7 @@ use Rattle.std.proofs.Common.{ℕ, List, ◌≡◌, ◌∷◌, ◌++◌, ◌∙�
 use Rattle.std.proofs.lemmas.List.{length-reverse, take-append-le, take_all}
 use Rattle.std.specs.List.{refill}
 use Rattle.s66_ledger.specs.Nodes.{prefixes, no_node}
-use Rattle.s66_ledger.proofs.Prefixes.{prefix-last, prefix-none}
+use Rattle.s66_ledger.proofs.NodePrefixes.{prefix-last, prefix-none}
 use Rattle.s66_ledger.proofs.path.prefix_of.Goals as goal
 
 pub push-requires : goal.push-requires

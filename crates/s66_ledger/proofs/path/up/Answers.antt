@@ -1,5 +1,5 @@
 use Rattle.s66_ledger.specs.Nodes.{no_node}
-use Rattle.s66_ledger.proofs.Prefixes.{get_or-any, prefix-below, prefix-root}
+use Rattle.s66_ledger.proofs.NodePrefixes.{get_or-any, prefix-below, prefix-root}
 use Rattle.s66_ledger.proofs.path.up.Goals as goal
 
 pub returns-then-parent-i-clause-prefix : goal.returns-then-parent-i-clause-prefix

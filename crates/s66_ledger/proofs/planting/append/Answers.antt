@@ -6,7 +6,7 @@ use Rattle.s66_ledger.specs.Nodes.{no_node, node_at}
 use Rattle.s66_ledger.specs.Subtrees.{placed, settled, planted}
 use Rattle.s66_ledger.proofs.LiveCounts.{counted-push, settled-in, shut-in}
 use Rattle.s66_ledger.proofs.OpenHeap.{more-open, more-shut}
-use Rattle.s66_ledger.proofs.Prefixes.{get_or-any}
+use Rattle.s66_ledger.proofs.NodePrefixes.{get_or-any}
 use Rattle.s66_ledger.proofs.PlantedNodes.{planted-more}
 use Rattle.s66_ledger.proofs.Subtrees.{length-planted}
 use Rattle.s66_ledger.proofs.planting.append.Goals as goal

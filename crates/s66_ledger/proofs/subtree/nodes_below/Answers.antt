@@ -7,7 +7,7 @@ use Rattle.s66_node.specs.declared.knot.Knot.TheVariants as line
 use Rattle.s66_node.specs.SeenKnots.{seen_knot, seen}
 use Rattle.s66_node.specs.Pieces.{told_tree}
 use Rattle.s66_node.specs.Outlines.{line_byte}
-use Rattle.s66_node.proofs.Walks.{none-empty}
+use Rattle.s66_node.proofs.WalkTurns.{none-empty}
 use Rattle.s66_ledger.specs.declared.node.Node.{Node}
 use Rattle.s66_ledger.specs.declared.subtree.Place.{Place}
 use Rattle.s66_ledger.proofs.Reading.{line-at, line-told, lines-below, length-seen}

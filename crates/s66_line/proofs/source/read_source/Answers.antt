@@ -2,7 +2,7 @@ use Rattle.std.proofs.Common.{List, ℕ, false, refl, ap, ◌∙◌}
 use Rattle.std.proofs.lemmas.Result.{err_from_is_err_and}
 use Rattle.s66_line.specs.Fields.{lines_of}
 use Rattle.s66_line.specs.Pads.{Pads, pads_of_lines}
-use Rattle.s66_line.specs.ReaderState.{state}
+use Rattle.s66_line.specs.SourceReader.{state}
 use Rattle.s66_line.specs.Source.{classed_lines, blocks_of}
 use Rattle.s66_line.proofs.ReaderBlocks.{source-blocks, Gives-accepted, Gives-refusal}
 use Rattle.s66_line.proofs.PadsLaw.{dropped-read}

@@ -4,11 +4,11 @@ use Rattle.s66_model.specs.Timing.{Problem}
 use Rattle.s66_model.specs.LegalOrder.{ready}
 use Rattle.s66_model.specs.Tree.{Alone, AtTip, AtSplit}
 use Rattle.s66_dep.specs.Members.{numbers_in}
-use Rattle.s66_dep.proofs.Fronts.{beginning-few}
+use Rattle.s66_dep.proofs.LongestBeginning.{beginning-few}
 use Rattle.s66_node.specs.Walked.{Walked, front}
 use Rattle.s66_node.specs.SeenKnots.{seen}
 use Rattle.s66_node.specs.Walking.{IsLeast, IsDue, whole_told}
-use Rattle.s66_node.proofs.Walks.{seen-push, not-empty, is-empty, none-empty, walk-root, next-few, next-room, walk-tip, walk-split, walk-up, walk-last, walk-done, work-tip, work-split, work-up}
+use Rattle.s66_node.proofs.WalkTurns.{seen-push, not-empty, is-empty, none-empty, walk-root, next-few, next-room, walk-tip, walk-split, walk-up, walk-last, walk-done, work-tip, work-split, work-up}
 use Rattle.s66_node.proofs.grow.grow.Goals as goal
 
 pub prove-unreachable-requires : goal.prove-unreachable-requires

@@ -1,7 +1,7 @@
 use Rattle.std.proofs.Common.{◌+◌, ◌-◌, ◌*◌, ◌≡◌}
 use Rattle.s66_node.specs.SeenKnots.{seen}
 use Rattle.s66_node.specs.Walking.{IsWalk}
-use Rattle.s66_node.proofs.Walks.{work}
+use Rattle.s66_node.proofs.WalkTurns.{work}
 use Rattle.s66_node.proofs.grow.grow.Given as goal
 
 abbrev pub invariant-loop-frame : goal.invariant-loop-frame

@@ -1,5 +1,5 @@
 use Rattle.std.proofs.Common.{◌∙◌, arith, ap, length, sym, subst}
-use Rattle.s66_dep.proofs.Fronts.{beginning-few}
+use Rattle.s66_dep.proofs.LongestBeginning.{beginning-few}
 use Rattle.s66_model.specs.LegalOrder.{IsComplete}
 use Rattle.s66_node.specs.Walked.{Walked}
 use Rattle.s66_node.proofs.Schedules.{next-begins, next-further, none-ready}

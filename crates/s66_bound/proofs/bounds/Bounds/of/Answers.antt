@@ -1,7 +1,7 @@
 use Rattle.std.proofs.Common.{List, sym, subst}
 use Rattle.s66_model.specs.Timing.{Problem}
 use Rattle.s66_bound.specs.declared.entry.Entry.{Entry}
-use Rattle.s66_bound.specs.Entries.{AreEntries}
+use Rattle.s66_bound.specs.InstructionCosts.{AreEntries}
 use Rattle.s66_bound.specs.TableWords.{timed_by}
 use Rattle.s66_bound.proofs.bounds.Bounds.of.Goals as goal
 

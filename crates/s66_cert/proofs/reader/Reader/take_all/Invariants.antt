@@ -3,7 +3,7 @@ use Rattle.s66_cert.specs.Fine.{IsFine}
 use Rattle.s66_line.specs.declared.limits.TheConstants.{BLOCK_LIMIT}
 use Rattle.s66_cert.specs.declared.limits.TheConstants.{SPLIT_LIMIT}
 use Rattle.s66_cert.specs.Reading.{steps, whole_lines, last_bytes}
-use Rattle.s66_cert.specs.ReaderState.{state}
+use Rattle.s66_cert.specs.DocumentReader.{state}
 use Rattle.s66_cert.proofs.reader.Reader.take_all.Given as goal
 
 -- the lines so far, and then those of the rest, are those of all

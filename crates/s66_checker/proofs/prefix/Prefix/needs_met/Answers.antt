@@ -2,7 +2,7 @@ use Rattle.std.proofs.Common.{ℕ, ◌≡◌, ◌≤◌, length, subst}
 use Rattle.s66_isa.specs.Lists.{has}
 use Rattle.s66_checker.specs.Checked.{Checked}
 use Rattle.s66_checker.specs.Marked.{is_marked}
-use Rattle.s66_checker.proofs.Readiness.{met-by}
+use Rattle.s66_checker.proofs.ReadyByNeeds.{met-by}
 use Rattle.s66_checker.proofs.prefix.Prefix.needs_met.Goals as goal
 
 pub returns : goal.returns

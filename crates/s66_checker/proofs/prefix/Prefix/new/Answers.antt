@@ -1,4 +1,4 @@
-use Rattle.s66_checker.proofs.Prefixes.{prefix-start}
+use Rattle.s66_checker.proofs.PrefixSteps.{prefix-start}
 use Rattle.s66_checker.proofs.prefix.Prefix.new.Goals as goal
 
 pub invariant_of-result : goal.invariant_of-result

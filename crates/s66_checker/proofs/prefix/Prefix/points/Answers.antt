@@ -1,4 +1,4 @@
-use Rattle.s66_checker.proofs.Prefixes.{prefix-timed}
+use Rattle.s66_checker.proofs.PrefixSteps.{prefix-timed}
 use Rattle.s66_checker.proofs.prefix.Prefix.points.Goals as goal
 
 pub returns-clause-timed : goal.returns-clause-timed

@@ -3,7 +3,7 @@ use Rattle.s66_model.specs.Timing.{row_at}
 use Rattle.s66_model.specs.LegalOrder.{is_ready}
 use Rattle.s66_model.proofs.LegalOrders.{ready-parts}
 use Rattle.s66_checker.specs.Checked.{Checked}
-use Rattle.s66_checker.proofs.Prefixes.{prefix-timed, room-left, prefix-push}
+use Rattle.s66_checker.proofs.PrefixSteps.{prefix-timed, room-left, prefix-push}
 use Rattle.s66_checker.proofs.prefix.Prefix.push.Goals as goal
 
 pub next_point-point-requires : goal.next_point-point-requires

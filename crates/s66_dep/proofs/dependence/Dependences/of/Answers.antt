@@ -8,7 +8,7 @@ use Rattle.s66_dep.specs.declared.effects.Effects.{Effects}
 use Rattle.s66_dep.specs.Members.{numbers_in}
 use Rattle.s66_dep.specs.Effects.{AreEffects, AreEffectsOf}
 use Rattle.s66_dep.proofs.Conflicts.{effects-push}
-use Rattle.s66_dep.proofs.Numbers.{rising-more}
+use Rattle.s66_dep.proofs.OrderNumbers.{rising-more}
 use Rattle.s66_dep.proofs.dependence.Dependences.of.Goals as goal
 
 pub loop-position-preserved : goal.loop-position-preserved

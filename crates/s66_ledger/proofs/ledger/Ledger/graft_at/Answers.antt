@@ -4,8 +4,8 @@ use Rattle.s66_model.specs.Timing.{Problem}
 use Rattle.s66_model.specs.Ledger.{Taken}
 use Rattle.s66_model.specs.Recorded.{IsOwn}
 use Rattle.s66_ledger.specs.declared.reply.GraftError.{GraftError}
-use Rattle.s66_ledger.specs.Entries.{refusal_reply}
-use Rattle.s66_ledger.specs.Kept.{MachineOf}
+use Rattle.s66_ledger.specs.HistoryEntries.{refusal_reply}
+use Rattle.s66_ledger.specs.LedgerMachine.{MachineOf}
 use Rattle.s66_ledger.specs.GraftMoves.{IsGraftMove, IsRefusedMove}
 use Rattle.s66_ledger.specs.Grafts.{IsGraftAt, IsRefusedGraftAt}
 use Rattle.s66_ledger.specs.Ledgers.{LedgerOf, with_history}

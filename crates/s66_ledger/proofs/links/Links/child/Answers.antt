@@ -1,7 +1,7 @@
 use Rattle.std.proofs.Common.{arith, ◌∙◌}
 use Rattle.s66_ledger.specs.Nodes.{no_node}
 use Rattle.s66_ledger.proofs.Chained.{last-past, next-past, next-below, child-here}
-use Rattle.s66_ledger.proofs.Prefixes.{get_or-any}
+use Rattle.s66_ledger.proofs.NodePrefixes.{get_or-any}
 use Rattle.s66_ledger.proofs.links.Links.child.Goals as goal
 
 pub loop-child-init : goal.loop-child-init

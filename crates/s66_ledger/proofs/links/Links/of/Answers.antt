@@ -1,6 +1,6 @@
 use Rattle.std.proofs.Common.{arith, ◌∙◌, ◌<◌, length}
 use Rattle.s66_ledger.proofs.Chained.{links-next}
-use Rattle.s66_ledger.proofs.Prefixes.{get_or-any}
+use Rattle.s66_ledger.proofs.NodePrefixes.{get_or-any}
 use Rattle.s66_ledger.proofs.links.Links.of.Goals as goal
 
 pub loop-node-preserved : goal.loop-node-preserved

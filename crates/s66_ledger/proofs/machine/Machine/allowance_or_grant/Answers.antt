@@ -2,8 +2,8 @@ use Rattle.std.proofs.Common.{◌≡◌, ◌≤◌, ◌∙◌, length, subst, ap
 use Rattle.s66_model.specs.Coverage.{Covers}
 use Rattle.s66_model.specs.Ledger.{Grant, Granted, allowance}
 use Rattle.s66_model.proofs.Histories.{reached-covers}
-use Rattle.s66_ledger.specs.Kept.{MachineOf}
-use Rattle.s66_ledger.proofs.Prefixes.{get_or-any}
+use Rattle.s66_ledger.specs.LedgerMachine.{MachineOf}
+use Rattle.s66_ledger.proofs.NodePrefixes.{get_or-any}
 use Rattle.s66_ledger.proofs.Leading.{event-leads}
 use Rattle.s66_ledger.proofs.Rounds.{grant-between, grant-spent}
 use Rattle.s66_ledger.proofs.machine.Machine.allowance_or_grant.Goals as goal

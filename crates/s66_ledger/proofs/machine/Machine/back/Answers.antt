@@ -4,8 +4,8 @@ use Rattle.s66_model.specs.Timing.{Problem}
 use Rattle.s66_model.specs.Ledger as model
 use Rattle.s66_ledger.specs.declared.node.State.TheVariants as state
 use Rattle.s66_ledger.specs.Nodes.{lines_of}
-use Rattle.s66_ledger.specs.Kept.{MachineOf, IsMove, IsKept, machine_of}
-use Rattle.s66_ledger.proofs.Prefixes.{lines-state}
+use Rattle.s66_ledger.specs.LedgerMachine.{MachineOf, IsMove, IsKept, machine_of}
+use Rattle.s66_ledger.proofs.NodePrefixes.{lines-state}
 use Rattle.s66_ledger.proofs.Events.{kept-back, event-back, event-not-out}
 use Rattle.s66_ledger.proofs.machine.Machine.back.Goals as goal
 

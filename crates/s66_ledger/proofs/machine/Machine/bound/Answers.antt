@@ -6,7 +6,7 @@ use Rattle.s66_model.specs.BestAndBound.{IsBound}
 use Rattle.s66_model.specs.Coverage.{Covers, bound_of}
 use Rattle.s66_model.proofs.LedgerRuns.{covers-bound}
 use Rattle.s66_ledger.specs.LiveNodes.{live_values}
-use Rattle.s66_ledger.specs.Kept.{MachineOf}
+use Rattle.s66_ledger.specs.LedgerMachine.{MachineOf}
 use Rattle.s66_ledger.proofs.Events.{kept-covers}
 use Rattle.s66_ledger.proofs.LiveFloors.{live-same}
 use Rattle.s66_ledger.proofs.machine.Machine.bound.Goals as goal

@@ -4,7 +4,7 @@ use Rattle.s66_model.specs.Timing.{Problem}
 use Rattle.s66_model.specs.Leaves.{floor_value}
 use Rattle.s66_model.specs.Ledger as model
 use Rattle.s66_ledger.specs.declared.node.State.TheVariants as state
-use Rattle.s66_ledger.specs.Kept.{MachineOf}
+use Rattle.s66_ledger.specs.LedgerMachine.{MachineOf}
 use Rattle.s66_ledger.specs.Nodes.{node_at, prefixes, seen_state}
 use Rattle.s66_ledger.proofs.SeenNodes.{length-nodes, at-nodes, out-seen}
 use Rattle.s66_ledger.proofs.machine.Machine.floor_of.Goals as goal

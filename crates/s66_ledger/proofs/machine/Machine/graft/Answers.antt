@@ -6,9 +6,9 @@ use Rattle.s66_model.specs.Ledger.{Taken, root_state, new_nodes}
 use Rattle.s66_node.specs.Pieces.{tree_of}
 use Rattle.s66_ledger.specs.OpenNodes.{IsOut}
 use Rattle.s66_ledger.specs.Nodes.{prefixes, nodes_of}
-use Rattle.s66_ledger.specs.Kept.{MachineOf, IsKept, machine_of}
+use Rattle.s66_ledger.specs.LedgerMachine.{MachineOf, IsKept, machine_of}
 use Rattle.s66_ledger.specs.GraftMoves.{IsGraftMove}
-use Rattle.s66_ledger.proofs.Prefixes.{get_or-any}
+use Rattle.s66_ledger.proofs.NodePrefixes.{get_or-any}
 use Rattle.s66_ledger.proofs.Events.{kept-room}
 use Rattle.s66_ledger.proofs.GraftSteps.{piece-lines, graft-not-out, graft-other, graft-other-prefix, graft-over, piece-floors, graft-taken, kept-taken}
 use Rattle.s66_ledger.proofs.machine.Machine.graft.Goals as goal

@@ -1,8 +1,8 @@
 use Rattle.std.proofs.Common.{◌≤◌, ◌<◌, ◌+◌, ◌-◌, ◌∙◌, arith, length, ap, sym, subst, set}
 use Rattle.s66_model.specs.Timing.{Problem}
 use Rattle.s66_line.specs.Block.{instrs_of}
-use Rattle.s66_ledger.specs.Kept.{MachineOf, IsKept}
-use Rattle.s66_ledger.proofs.Prefixes.{get_or-any}
+use Rattle.s66_ledger.specs.LedgerMachine.{MachineOf, IsKept}
+use Rattle.s66_ledger.proofs.NodePrefixes.{get_or-any}
 use Rattle.s66_ledger.proofs.Events.{kept-room, kept-grant}
 use Rattle.s66_ledger.proofs.machine.Machine.grant.Goals as goal
 

@@ -3,7 +3,7 @@ use Rattle.std.proofs.lemmas.Bool.{not-true}
 use Rattle.s66_line.specs.Block.{instrs_of}
 use Rattle.s66_model.specs.Timing.{Problem}
 use Rattle.s66_ledger.specs.Finishing.{WholesAreTimed}
-use Rattle.s66_ledger.specs.Kept.{MachineOf}
+use Rattle.s66_ledger.specs.LedgerMachine.{MachineOf}
 use Rattle.s66_ledger.proofs.WholeOffers.{none-whole}
 use Rattle.s66_ledger.proofs.machine.Machine.has_no_whole.Goals as goal
 

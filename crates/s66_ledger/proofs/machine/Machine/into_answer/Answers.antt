@@ -2,7 +2,7 @@ use Rattle.std.proofs.Common.{◌∙◌, [], ap, sym, subst}
 use Rattle.s66_line.specs.Block.{instrs_of}
 use Rattle.s66_model.specs.Timing.{Problem}
 use Rattle.s66_model.specs.Ended.{ended_answer}
-use Rattle.s66_ledger.specs.Kept.{MachineOf, state_of}
+use Rattle.s66_ledger.specs.LedgerMachine.{MachineOf, state_of}
 use Rattle.s66_ledger.specs.Answers.{IsKeptAnswer, ended_of}
 use Rattle.s66_ledger.proofs.Ends.{kept-answer}
 use Rattle.s66_ledger.proofs.machine.Machine.into_answer.Goals as goal

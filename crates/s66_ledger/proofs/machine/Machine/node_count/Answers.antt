@@ -1,7 +1,7 @@
 use Rattle.std.proofs.Common.{◌∙◌, arith, length, ap, sym}
 use Rattle.s66_line.specs.Block.{instrs_of}
 use Rattle.s66_model.specs.Timing.{Problem}
-use Rattle.s66_ledger.specs.Kept.{MachineOf}
+use Rattle.s66_ledger.specs.LedgerMachine.{MachineOf}
 use Rattle.s66_ledger.proofs.Events.{kept-room}
 use Rattle.s66_ledger.proofs.SeenNodes.{length-nodes}
 use Rattle.s66_ledger.proofs.machine.Machine.node_count.Goals as goal

@@ -2,7 +2,7 @@ use Rattle.std.proofs.Common.{◌≡◌, ◌≤◌, ◌∙◌, arith, length, re
 use Rattle.s66_line.specs.Block.{instrs_of}
 use Rattle.s66_model.specs.Timing.{Problem, total_of}
 use Rattle.s66_model.specs.LegalOrder.{IsLegal}
-use Rattle.s66_ledger.specs.Kept.{MachineOf}
+use Rattle.s66_ledger.specs.LedgerMachine.{MachineOf}
 use Rattle.s66_ledger.proofs.Events.{kept-lower, event-lower, event-not-lower, event-other}
 use Rattle.s66_ledger.proofs.machine.Machine.offer.Goals as goal
 

@@ -7,7 +7,7 @@ use Rattle.s66_model.specs.LegalOrder.{IsLegal}
 use Rattle.s66_model.specs.Ledger.{Event}
 use Rattle.s66_model.specs.Recorded.{IsOfferOf}
 use Rattle.s66_time.specs.TimedOrder.{TimedOrder}
-use Rattle.s66_ledger.specs.Kept.{IsMove}
+use Rattle.s66_ledger.specs.LedgerMachine.{IsMove}
 use Rattle.s66_ledger.specs.Replies.{offered_reply}
 use Rattle.s66_ledger.proofs.machine.Machine.offer_numbers.Goals as goal
 

@@ -3,7 +3,7 @@ use Rattle.s66_isa.specs.Lists.{tally}
 use Rattle.s66_line.specs.Block.{instrs_of}
 use Rattle.s66_model.specs.Timing.{Problem}
 use Rattle.s66_model.specs.Ledger.{is_open}
-use Rattle.s66_ledger.specs.Kept.{MachineOf}
+use Rattle.s66_ledger.specs.LedgerMachine.{MachineOf}
 use Rattle.s66_ledger.proofs.SeenNodes.{open-nodes}
 use Rattle.s66_ledger.proofs.machine.Machine.open_nodes.Goals as goal
 

@@ -4,7 +4,7 @@ use Rattle.s66_model.specs.Timing.{Problem}
 use Rattle.s66_model.specs.LegalOrder.{IsBeginning}
 use Rattle.s66_model.specs.Ledger as model
 use Rattle.s66_ledger.specs.Nodes.{prefixes}
-use Rattle.s66_ledger.specs.Kept.{MachineOf}
+use Rattle.s66_ledger.specs.LedgerMachine.{MachineOf}
 use Rattle.s66_ledger.proofs.SeenNodes.{length-nodes, at-nodes}
 use Rattle.s66_ledger.proofs.Events.{kept-short, kept-beginning}
 use Rattle.s66_ledger.proofs.WholeOffers.{not-below}

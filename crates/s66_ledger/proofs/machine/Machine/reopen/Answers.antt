@@ -2,7 +2,7 @@ use Rattle.std.proofs.Common.{◌≤◌, arith, length, true≢false, ap, sym, s
 use Rattle.s66_line.specs.Block.{instrs_of}
 use Rattle.s66_model.specs.Timing.{Problem}
 use Rattle.s66_model.specs.Ledger as model
-use Rattle.s66_ledger.specs.Kept.{MachineOf, IsMove, IsKept, machine_of}
+use Rattle.s66_ledger.specs.LedgerMachine.{MachineOf, IsMove, IsKept, machine_of}
 use Rattle.s66_ledger.proofs.Events.{kept-back, event-back, not-out}
 use Rattle.s66_ledger.proofs.TakingBack.{reopened, stayed-in}
 use Rattle.s66_ledger.proofs.machine.Machine.reopen.Goals as goal

@@ -1,8 +1,8 @@
 use Rattle.std.proofs.Common.{◌<◌, ◌≡◌, ◌+◌, ◌-◌, ◌∙◌, arith, length, ap, sym, subst, get_or, set}
 use Rattle.s66_model.specs.Timing.{Problem}
 use Rattle.s66_line.specs.Block.{instrs_of}
-use Rattle.s66_ledger.specs.Kept.{MachineOf, IsKept}
-use Rattle.s66_ledger.proofs.Prefixes.{get_or-any}
+use Rattle.s66_ledger.specs.LedgerMachine.{MachineOf, IsKept}
+use Rattle.s66_ledger.proofs.NodePrefixes.{get_or-any}
 use Rattle.s66_ledger.proofs.Events.{kept-room, kept-retire}
 use Rattle.s66_ledger.proofs.machine.Machine.retire_at.Goals as goal
 

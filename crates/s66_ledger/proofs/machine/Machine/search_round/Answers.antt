@@ -3,9 +3,9 @@ use Rattle.s66_model.specs.Timing.{Problem}
 use Rattle.s66_model.specs.LegalOrder.{IsBeginning}
 use Rattle.s66_model.specs.Leaves.{floor_value}
 use Rattle.s66_model.specs.Ledger.{Claim, Claimed, Back, Returned, best_time, node_at}
-use Rattle.s66_ledger.specs.Handed.{TicketOf}
-use Rattle.s66_ledger.specs.Kept.{IsMove}
-use Rattle.s66_ledger.specs.Claims.{claimed_node, IsTicketOf, IsLeastOpen}
+use Rattle.s66_ledger.specs.Tickets.{TicketOf}
+use Rattle.s66_ledger.specs.LedgerMachine.{IsMove}
+use Rattle.s66_ledger.specs.ClaimedNodes.{claimed_node, IsTicketOf, IsLeastOpen}
 use Rattle.s66_ledger.proofs.Events.{holds-at}
 use Rattle.s66_ledger.proofs.Leading.{leads-on, event-leads}
 use Rattle.s66_ledger.proofs.Rounds.{claim-within}

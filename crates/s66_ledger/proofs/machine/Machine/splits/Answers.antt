@@ -1,5 +1,5 @@
 use Rattle.std.proofs.Common.{arith, ap}
-use Rattle.s66_ledger.specs.Kept.{MachineOf}
+use Rattle.s66_ledger.specs.LedgerMachine.{MachineOf}
 use Rattle.s66_ledger.proofs.Events.{kept-room}
 use Rattle.s66_ledger.proofs.machine.Machine.splits.Goals as goal
 

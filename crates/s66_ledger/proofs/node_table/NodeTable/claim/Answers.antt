@@ -8,7 +8,7 @@ use Rattle.s66_ledger.specs.OpenNodes.{is_open, ranked}
 use Rattle.s66_ledger.specs.LiveNodes.{is_live_state, is_out_state}
 use Rattle.s66_ledger.proofs.Depths.{depths-set}
 use Rattle.s66_ledger.proofs.LiveCounts.{counted-set, room-out, one}
-use Rattle.s66_ledger.proofs.Prefixes.{get_or-any}
+use Rattle.s66_ledger.proofs.NodePrefixes.{get_or-any}
 use Rattle.s66_ledger.proofs.OpenHeap.{taken, taken-within, taken-open, greatest-least}
 use Rattle.s66_ledger.proofs.node_table.NodeTable.claim.Goals as goal
 

@@ -7,7 +7,7 @@ use Rattle.s66_ledger.specs.OpenNodes.{rank_of}
 use Rattle.s66_ledger.specs.LiveNodes.{is_live_state, is_out_state}
 use Rattle.s66_ledger.proofs.Depths.{depths-set}
 use Rattle.s66_ledger.proofs.LiveCounts.{counted-set, some-out, one}
-use Rattle.s66_ledger.proofs.Prefixes.{get_or-any}
+use Rattle.s66_ledger.proofs.NodePrefixes.{get_or-any}
 use Rattle.s66_ledger.proofs.OpenHeap.{put-in, out-shut}
 use Rattle.s66_ledger.proofs.node_table.NodeTable.give_back.Goals as goal
 

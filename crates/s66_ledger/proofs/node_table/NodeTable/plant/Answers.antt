@@ -17,12 +17,12 @@ use Rattle.s66_ledger.specs.Nodes.{no_node, node_at, with_state, nodes_of, lines
 use Rattle.s66_ledger.specs.Planting.{kids_of, told_state}
 use Rattle.s66_ledger.specs.Subtrees.{placed, settled, planted, lines_below, IsPlanted}
 use Rattle.s66_ledger.proofs.Depths.{depths-state}
-use Rattle.s66_ledger.proofs.Floors.{floors-state}
+use Rattle.s66_ledger.proofs.NodeFloors.{floors-state}
 use Rattle.s66_ledger.proofs.LiveCounts.{counted-set, some-out, one}
 use Rattle.s66_ledger.proofs.OpenHeap.{still-shut, out-shut, is-open}
 use Rattle.s66_ledger.proofs.Planted.{split-root, split-nodes, alone-nodes, tip-root, told-closed}
 use Rattle.s66_ledger.proofs.PlantedNodes.{still-out}
-use Rattle.s66_ledger.proofs.Prefixes.{lines-state}
+use Rattle.s66_ledger.proofs.NodePrefixes.{lines-state}
 use Rattle.s66_ledger.proofs.Reading.{line-told}
 use Rattle.s66_ledger.proofs.Subtrees.{lines-planted, tip-lineless}
 use Rattle.s66_ledger.proofs.node_table.NodeTable.plant.Goals as goal

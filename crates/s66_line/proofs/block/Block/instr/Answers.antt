@@ -1,6 +1,6 @@
 use Rattle.std.proofs.Common.{◌∙◌, ap}
 use Rattle.s66_line.specs.Source.{Entry}
-use Rattle.s66_line.proofs.Entries.{instr_at-entry}
+use Rattle.s66_line.proofs.BlockEntries.{instr_at-entry}
 use Rattle.s66_line.proofs.block.Block.instr.Goals as goal
 
 pub returns : goal.returns

@@ -1,6 +1,6 @@
 use Rattle.std.proofs.Common.{◌∙◌, sym, ap, arith}
 use Rattle.s66_line.specs.Terms.{terms_in}
-use Rattle.s66_line.proofs.Cuts.{cut-none, cut-some, cut-last, terms_from-other}
+use Rattle.s66_line.proofs.SignCuts.{cut-none, cut-some, cut-last, terms_from-other}
 use Rattle.s66_line.proofs.Gathered.{gathered_after}
 use Rattle.s66_line.proofs.operand.terms.terms_after.Goals as goal
 use Rattle.s66_line.proofs.operand.terms.terms_after.Goals.{then-is_sign+in_ok-terms, else-is_sign}

@@ -2,7 +2,7 @@ use Rattle.std.proofs.Common.{subst, sym, ap, ◌∙◌, [], ◌+◌}
 use Rattle.std.proofs.lemmas.Result.{err_from_is_err_and}
 use Rattle.std.proofs.lemmas.List.{take_rest}
 use Rattle.s66_line.specs.Pads.{pads_of_lines}
-use Rattle.s66_line.specs.ReaderState.{state}
+use Rattle.s66_line.specs.SourceReader.{state}
 use Rattle.s66_line.proofs.LineCuts.{IsFirstNewline, lines_from-found, lines_step-found, Steps-found, last-none}
 use Rattle.s66_line.proofs.reader.Reader.take_all.Goals as goal
 

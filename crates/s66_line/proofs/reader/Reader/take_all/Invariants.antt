@@ -3,7 +3,7 @@ use Rattle.s66_line.specs.declared.limits.TheConstants.{BLOCK_LIMIT, SOURCE_LIMI
 use Rattle.s66_line.specs.Fields.{lines_from}
 use Rattle.s66_line.specs.Pads.{pads_of_lines}
 use Rattle.s66_line.specs.Reader.{lines_step}
-use Rattle.s66_line.specs.ReaderState.{state}
+use Rattle.s66_line.specs.SourceReader.{state}
 use Rattle.s66_line.proofs.reader.Reader.take_all.Given as goal
 
 -- the lines so far, and then those of the rest, are those of all

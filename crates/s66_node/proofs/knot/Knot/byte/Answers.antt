@@ -1,5 +1,5 @@
 use Rattle.std.proofs.Common.{arith}
-use Rattle.s66_node.proofs.Walks.{set-few}
+use Rattle.s66_node.proofs.WalkTurns.{set-few}
 use Rattle.s66_node.proofs.knot.Knot.byte.Goals as goal
 
 pub overflow_cast-result : goal.overflow_cast-result

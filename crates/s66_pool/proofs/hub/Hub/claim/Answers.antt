@@ -2,11 +2,11 @@ use Rattle.std.proofs.Common.{◌≡◌, ap, refl, ◌∙◌}
 use Rattle.std.proofs.lemmas.Result.{IfOk-weaker, on_err_weaker}
 use Rattle.s66_model.specs.Ledger.{Claim, Claimed}
 use Rattle.s66_model.specs.Accounts.{Passbook, after_event}
-use Rattle.s66_ledger.specs.Claims.{claimed_node}
+use Rattle.s66_ledger.specs.ClaimedNodes.{claimed_node}
 use Rattle.s66_ledger.specs.Ledgers.{account_summary}
-use Rattle.s66_pool.specs.Tokens.{book}
+use Rattle.s66_pool.specs.LockTokens.{book}
 use Rattle.s66_pool.specs.Hubs.{SeatOf}
-use Rattle.s66_pool.proofs.Events.{number_within, follows-at, gave-book}
+use Rattle.s66_pool.proofs.SeatEvents.{number_within, follows-at, gave-book}
 use Rattle.s66_pool.proofs.AfterCalls.{seat-keeps, seat-same, same-call, quiet-call, plain-call}
 use Rattle.s66_pool.proofs.hub.Hub.claim.Goals as goal
 

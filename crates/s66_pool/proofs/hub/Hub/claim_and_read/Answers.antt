@@ -1,11 +1,11 @@
 use Rattle.std.proofs.Common.{ℕ, ◌≡◌, ap, refl, ◌∙◌, sym}
 use Rattle.s66_model.specs.Ledger.{Claim, Claimed}
 use Rattle.s66_model.specs.Accounts.{Passbook, after_event, after_reading}
-use Rattle.s66_ledger.specs.Claims.{claimed_node}
+use Rattle.s66_ledger.specs.ClaimedNodes.{claimed_node}
 use Rattle.s66_ledger.specs.Ledgers.{LedgerOf, account_summary}
-use Rattle.s66_pool.specs.Tokens.{book}
+use Rattle.s66_pool.specs.LockTokens.{book}
 use Rattle.s66_pool.specs.Hubs.{SeatOf}
-use Rattle.s66_pool.proofs.Events.{number_within, follows-at, gave-book, gave-opened}
+use Rattle.s66_pool.proofs.SeatEvents.{number_within, follows-at, gave-book, gave-opened}
 use Rattle.s66_pool.proofs.AfterCalls.{seat-keeps, seat-reads, seat-same, same-call, reading-call}
 use Rattle.s66_pool.proofs.hub.Hub.claim_and_read.Goals as goal
 

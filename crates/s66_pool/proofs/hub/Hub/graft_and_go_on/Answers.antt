@@ -1,12 +1,12 @@
 use Rattle.std.proofs.Common.{◌≡◌, ◌+◌, ap, ◌∙◌, sym, arith}
 use Rattle.s66_isa.specs.Lists.{weigh}
 use Rattle.s66_ledger.specs.Ledgers.{LedgerOf, account_summary}
-use Rattle.s66_pool.specs.Tokens.{book}
-use Rattle.s66_pool.specs.Views.{renewed}
+use Rattle.s66_pool.specs.LockTokens.{book}
+use Rattle.s66_pool.specs.SeatViews.{renewed}
 use Rattle.s66_pool.specs.Hubs.{SeatOf}
-use Rattle.s66_pool.proofs.Events.{number_within, renewed-agrees, follows-at, gave-book, gave-opened}
+use Rattle.s66_pool.proofs.SeatEvents.{number_within, renewed-agrees, follows-at, gave-book, gave-opened}
 use Rattle.s66_pool.proofs.AfterCalls.{seat-keeps, seat-reads, grafted, graft-refused, keeps-within}
-use Rattle.s66_pool.proofs.GoingOn.{gone-on, gone-claiming}
+use Rattle.s66_pool.proofs.SeatAfterGraft.{gone-on, gone-claiming}
 use Rattle.s66_pool.proofs.hub.Hub.graft_and_go_on.Goals as goal
 
 pub graft_at-requires-clause-worker : goal.graft_at-requires-clause-worker

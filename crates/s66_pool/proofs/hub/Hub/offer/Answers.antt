@@ -1,8 +1,8 @@
 use Rattle.std.proofs.Common.{rules, ◌≡◌, ap, ◌∙◌}
 use Rattle.s66_ledger.specs.Ledgers.{account_summary}
-use Rattle.s66_pool.specs.Tokens.{book}
+use Rattle.s66_pool.specs.LockTokens.{book}
 use Rattle.s66_pool.specs.Hubs.{SeatOf}
-use Rattle.s66_pool.proofs.Events.{number_within, follows-at, gave-book, gave-opened}
+use Rattle.s66_pool.proofs.SeatEvents.{number_within, follows-at, gave-book, gave-opened}
 use Rattle.s66_pool.proofs.AfterCalls.{seat-keeps, seat-reads, seat-same, same-call, other-keeps, other-offered, told-follows, told-splits, told-offered, told-known}
 use Rattle.s66_pool.proofs.hub.Hub.offer.Goals as goal
 

@@ -1,6 +1,6 @@
 use Rattle.std.proofs.Common.{rules, ◌≡◌, length, ◌∷◌, Some, ap, sym, ◌∙◌, arith}
 use Rattle.atomic_table.specs.Table.{rest}
-use Rattle.s66_pool.specs.Views.{Idle}
+use Rattle.s66_pool.specs.SeatViews.{Idle}
 use Rattle.s66_pool.proofs.Turns.{takes_it}
 use Rattle.s66_pool.proofs.lock.Lock.take.Goals as goal
 

@@ -1,0 +1,126 @@
+-- A walk over the lines of a tree, step by step.
+use Rattle.std.proofs.Common.{ℕ, suc, ◌+◌, ◌≤◌, ◌≡◌, ◌⊎◌, Bool, true, List, [], ◌∷◌, ◌++◌, length, Option, None, Some, slice_get, refl, sym, ap, ◌∙◌, subst, inl, inr, arith}
+use Rattle.std.proofs.lemmas.List.{length-map}
+use Rattle.s66_isa.specs.declared.instr.Instr.{Instr}
+use Rattle.s66_isa.specs.Lists.{Among}
+use Rattle.s66_model.specs.Timing.{Problem}
+use Rattle.s66_model.specs.LegalOrder.{is_ready, ready}
+use Rattle.s66_model.specs.Later.{IsNextReady, children, later}
+use Rattle.s66_model.specs.Leaves.{Leaf}
+use Rattle.s66_model.specs.Tree.{Knot, AtTip, AtSplit}
+use Rattle.s66_model.proofs.Later.{replaced, dropped, split-first}
+use Rattle.s66_model.proofs.Remaining.{ready-among}
+use Rattle.s66_cert.specs.Document.{Document}
+use Rattle.s66_cert.specs.DocumentParts.{Parts, AreWhole, document_of}
+use Rattle.s66_line.specs.declared.limits.TheConstants.{BLOCK_LIMIT}
+use Rattle.s66_checker.specs.Checked.{Checked}
+use Rattle.s66_checker.specs.declared.verdict.Verdict.TheVariants.{Yes, No}
+use Rattle.s66_checker.specs.declared.verdict.Reason.{Reason}
+use Rattle.s66_line.specs.InstructionText.{instr_in_text}
+use Rattle.s66_checker.specs.Verdict.{problem_of, line_fault, lines_verdict, tree_line, tree_placed}
+use Rattle.s66_checker.specs.Walk.{coming, after_line, HasReady}
+use Rattle.s66_checker.proofs.Faultless.{split-shows}
+use Rattle.s66_checker.proofs.Placed.{placed, none-placed, tree-placed, few-lines}
+
+-- FROM PREFIX TO PREFIX
+
+module _ (b : Problem) (numbers : List ℕ) (popped : Checked) (last : ℕ) (same : popped.problem ≡ b) (cut : numbers ≡ popped.numbers ++ last ∷ []) where
+  -- the next ready number in the place of the last
+  pub next-taken : (pushed : Checked) (n : ℕ) → pushed ≡ record popped { numbers = popped.numbers ++ n ∷ [] } → IsNextReady popped.problem.block popped.numbers last (Some n) →
+      pushed.numbers ∷ later b.block [] pushed.numbers ≡ later b.block [] numbers
+  next-taken pushed n is next =
+      rw (ap (λ (c : Checked). c.numbers) is, cut) (replaced b.block popped.numbers last n (subst (λ (x : Problem). IsNextReady x.block popped.numbers last (Some n)) same next))
+
+  -- none in its place
+  pub none-taken : IsNextReady popped.problem.block popped.numbers last None → later b.block [] popped.numbers ≡ later b.block [] numbers
+  none-taken next =
+      rw cut (sym (dropped b.block popped.numbers last (subst (λ (x : Problem). IsNextReady x.block popped.numbers last None) same next)))
+
+first-of : (ns : List ℕ) (n : ℕ) → Some n ≡ slice_get ns 0 → (rest : List ℕ) × (ns ≡ n ∷ rest)
+first-of [] n h = absurd (cc)
+first-of (m ∷ ns) n h = (ns, (cc))
+
+module _ (block : List Instr) (prefix : List ℕ) (knot : Knot Leaf) (numbers : List ℕ) (is : knot ≡ AtSplit numbers) (has : HasReady block prefix knot) where
+  ready-numbers : numbers ≡ ready block prefix
+  ready-numbers = subst (λ k. HasReady block prefix k) is has
+
+  -- a split's first number is ready
+  pub first-ready : (n : ℕ) → Some n ≡ slice_get numbers 0 → is_ready block prefix n ≡ true
+  first-ready n first =
+      let (more, cut) = first-of numbers n first in
+      ready-among block prefix n (subst (λ ns. Among n ns) (sym cut ∙ ready-numbers) (inl refl))
+
+  -- and stands in hand
+  pub first-taken : (n : ℕ) → Some n ≡ slice_get numbers 0 → (prefix ++ n ∷ []) ∷ later block [] (prefix ++ n ∷ []) ≡ after_line block prefix knot
+  first-taken n first =
+      let (more, cut) = first-of numbers n first in
+      split-first block prefix n more (sym ready-numbers ∙ cut) ∙ ap (λ ns. children prefix ns ++ later block [] prefix) (sym cut) ∙ sym (ap (after_line block prefix) is)
+
+-- FROM LINE TO LINE
+
+module _ (d : Document) (number : ℕ) (at : Checked) (same : at.problem ≡ problem_of d) (bound : ℕ) (equal : bound ≡ d.bound) (lines knots : List (Knot Leaf)) (knot : Knot Leaf) (first : lines ≡ knot ∷ knots) (found : Option Reason) (told : found ≡ line_fault at.problem bound at.numbers knot) where
+  told-of : (other : Option Reason) → found ≡ other → line_fault (problem_of d) d.bound at.numbers knot ≡ other
+  told-of other is =
+      subst (λ (b : Problem). line_fault b d.bound at.numbers knot ≡ other) same
+      (subst (λ low. line_fault at.problem low at.numbers knot ≡ other) equal (sym told ∙ is))
+
+  -- a fault ends the walk
+  pub line-refused : (reason : Reason) → found ≡ Some reason → No number reason ≡ lines_verdict d number (placed lines (coming (problem_of d).block true at.numbers))
+  line-refused reason some =
+      by knot (told-of (Some reason) some) ∙ ap (λ ks. lines_verdict d number (placed ks (coming (problem_of d).block true at.numbers))) (sym first)
+    where
+      by : (k : Knot Leaf) → line_fault (problem_of d) d.bound at.numbers k ≡ Some reason → No number reason ≡ lines_verdict d number (placed (k ∷ knots) (coming (problem_of d).block true at.numbers))
+      by (AtTip leaf) h = rw h refl
+      by (AtSplit numbers) h = rw h refl
+
+  module _ (none : found ≡ None) where
+    pub split-ready : HasReady at.problem.block at.numbers knot
+    split-ready = by knot (sym told ∙ none)
+      where
+        by : (k : Knot Leaf) → line_fault at.problem bound at.numbers k ≡ None → HasReady at.problem.block at.numbers k
+        by (AtTip leaf) h = tt
+        by (AtSplit numbers) h = (split-shows at.problem bound at.numbers numbers).0 h
+
+    -- without a fault it goes on
+    pub line-passed : (more other : Bool) (next : List ℕ) → coming at.problem.block more next ≡ after_line at.problem.block at.numbers knot → more ≡ other →
+        lines_verdict d (number + 1) (placed knots (coming (problem_of d).block other next)) ≡ lines_verdict d number (placed lines (coming (problem_of d).block true at.numbers))
+    line-passed more other next goes is =
+        by knot (told-of None none)
+        (subst (λ (b : Problem). coming b.block other next ≡ after_line b.block at.numbers knot) same (ap (λ m. coming at.problem.block m next) (sym is) ∙ goes))
+        ∙ ap (λ ks. lines_verdict d number (placed ks (coming (problem_of d).block true at.numbers))) (sym first)
+      where
+        by : (k : Knot Leaf) → line_fault (problem_of d) d.bound at.numbers k ≡ None → coming (problem_of d).block other next ≡ after_line (problem_of d).block at.numbers k →
+            lines_verdict d (number + 1) (placed knots (coming (problem_of d).block other next)) ≡ lines_verdict d number (placed (k ∷ knots) (coming (problem_of d).block true at.numbers))
+        by (AtTip leaf) h e = let one : number + 1 ≡ suc number = omega arith in rw (h, e, one) refl
+        by (AtSplit numbers) h e = let one : number + 1 ≡ suc number = omega arith in rw (h, e, one) refl
+
+-- nothing is left to come
+pub none-left : (d : Document) (number time bound : ℕ) (knots : List (Knot Leaf)) (prefixes : List (List ℕ)) → time ≡ d.time → bound ≡ d.bound → (knots ≡ []) ⊎ (prefixes ≡ []) →
+    Yes time bound ≡ lines_verdict d number (placed knots prefixes)
+none-left d number time bound knots prefixes same equal none =
+    rw (same, equal) (elim none [
+      | inl no_knot ↦ rw no_knot refl
+      | inr no_prefix ↦ rw (no_prefix, none-placed knots) refl
+    ])
+
+-- THE FIRST LINE
+
+module _ (p : Parts) (whole : AreWhole p) (start : Checked) (at : start ≡ record { problem = problem_of (document_of p); numbers = [] }) (count : ℕ) (counted : count ≡ length start.problem.block) (lines : List (Knot Leaf)) (all : lines ≡ p.knots) where
+  d : Document
+  d = document_of p
+
+  at-line : count + 7 ≡ tree_line d
+  unfolding d
+  at-line =
+      omega (arith, counted, ap (λ (c : Checked). length c.problem.block) at, length-map p.block instr_in_text)
+
+  pub walk-begins : lines_verdict (document_of p) (count + 7) (placed lines (coming (problem_of (document_of p)).block true start.numbers)) ≡ lines_verdict (document_of p) (tree_line (document_of p)) (tree_placed [] (document_of p).tree)
+  unfolding d
+  walk-begins =
+      rw (at-line, ap (λ (c : Checked). c.numbers) at, all ∙ sym whole.preorder)
+      (ap (lines_verdict d (tree_line d)) (tree-placed BLOCK_LIMIT d.tree whole.document.tree))
+
+  pub walk-ends : count + 7 + length lines ≤ 64_000_072
+  unfolding d
+  walk-ends =
+      omega (arith, at-line, whole.document.block.1, few-lines BLOCK_LIMIT d.tree whole.document.tree, whole.document.splits, ap (λ (ks : List (Knot Leaf)). length ks) (all ∙ sym whole.preorder))

@@ -1,8 +1,0 @@
-use Rattle.std.proofs.lemmas.Result.{IfOk-weaker}
-use Rattle.s66_main.specs.Usage.{IsCommandOf, order_app, trace_rule}
-use Rattle.s66_main.proofs.CommandLine.{with-arg}
-use Rattle.s66_main.proofs.usage.order_command.Goals as goal
-
-pub returns : goal.returns
-returns c =
-    IfOk-weaker c.arg.result _ (IsCommandOf order_app) (λ r adds. with-arg _ trace_rule c.in_ok-search_command.field-0 r c.trace_flag.result c.in_ok-search_command.ensures c.trace_flag.ensures.0 c.trace_flag.ensures.1 adds) c.arg.ensures

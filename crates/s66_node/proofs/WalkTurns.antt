@@ -1,0 +1,194 @@
+-- Each turn of a walk.
+use Rattle.std.proofs.Common.{ℕ, ◌+◌, ◌-◌, ◌*◌, ◌≤◌, ◌<◌, ◌≡◌, ◌==◌, true, false, not, List, [], ◌∷◌, ◌++◌, length, map, refl, sym, ap, arith, inl, inr, ◌∙◌, length-append, subst, Option, None, eqb-true}
+use Rattle.std.proofs.lemmas.List.{reverse-append, length-take, map-append}
+use Rattle.std.proofs.lemmas.List.Filters.{length-filter_both}
+use Rattle.s66_isa.specs.Lists.{Among, weigh, rising}
+use Rattle.s66_isa.proofs.Lists.{weigh-append}
+use Rattle.s66_model.specs.Timing.{Problem}
+use Rattle.s66_model.specs.LegalOrder.{IsBeginning, is_ready, ready}
+use Rattle.s66_model.specs.Tree.{Tree, Knot, AtTip, AtSplit, TreeHolds, flat, splits, tree_values}
+use Rattle.s66_model.proofs.Remaining.{step-begins, ready-among}
+use Rattle.s66_dep.specs.declared.set.Set.{Set}
+use Rattle.s66_dep.specs.Members.{numbers_in, is_member}
+use Rattle.s66_dep.proofs.LongestBeginning.{beginning-few}
+use Rattle.s66_node.specs.declared.knot.Knot as code
+use Rattle.s66_node.specs.declared.whole_order.WholeOrder.{WholeOrder}
+use Rattle.s66_node.specs.Walked.{front}
+use Rattle.s66_node.specs.Growing.{TreeGrows}
+use Rattle.s66_model.specs.Told.{Told}
+use Rattle.s66_node.specs.SeenKnots.{seen, seen_knot}
+use Rattle.s66_node.specs.Walking.{AreOpen, IsDue, IsTold, IsLeast, IsWalk, GrowsFor, lefts, whole_told}
+use Rattle.s66_node.proofs.Growing.{front-push, grows-root, grows-up, grows-tip, grows-split, grows-done, tree-holds, splits-count}
+
+-- one line more
+pub seen-push : (knots more : List code.Knot) (k : code.Knot) (x : Knot Told) → more ≡ knots ++ k ∷ [] → seen_knot k ≡ x → seen more ≡ seen knots ++ x ∷ []
+seen-push knots more k x pushed is = ap seen pushed ∙ (map-append seen_knot knots (k ∷ []) ∙ ap (λ y. seen knots ++ y ∷ []) is)
+
+pub not-empty : {X : Type 0} (xs : List X) → (length xs == 0) ≡ false → 0 < length xs
+not-empty [] h = absurd cc
+not-empty (x ∷ xs) h = omega arith
+
+pub is-empty : {X : Type 0} (xs : List X) → (length xs == 0) ≡ true → xs ≡ []
+is-empty [] h = refl
+is-empty (x ∷ xs) h = absurd (omega (arith, eqb-true (length (x ∷ xs)) 0 h))
+
+pub none-empty : {X : Type 0} (xs : List X) → ¬ (0 < length xs) → xs ≡ []
+none-empty [] h = refl
+none-empty (x ∷ xs) h = absurd (h (omega arith))
+
+lefts-push : (frames : List Set) (f : Set) → lefts (frames ++ f ∷ []) ≡ numbers_in f ∷ lefts frames
+lefts-push frames f = ap (map numbers_in) (reverse-append frames (f ∷ []))
+
+length-front : (xs : List ℕ) → length xs ≤ length (front xs) + 1
+length-front xs = omega (arith, length-take (length xs - 1) xs)
+
+-- with no frame it stands nowhere
+nowhere : (b : Problem) (best : ℕ) (root at : List ℕ) (knots : List (Knot Told)) (found cuts : List (List ℕ)) → GrowsFor b best root (front at) [] knots found cuts → GrowsFor b best root at [] knots found cuts
+nowhere b best root at knots found cuts g [] h = g [] tt
+nowhere b best root at knots found cuts g (kids ∷ rests) h = absurd h
+
+module _ (b : Problem) (best allowance : ℕ) (root : List ℕ) where
+  pub walk-root : (frame : Set) → 1 ≤ allowance → IsBeginning b.block root → IsDue b best root → numbers_in frame ≡ ready b.block root → IsWalk b best allowance root root (frame ∷ []) (AtSplit (ready b.block root) ∷ []) 1 None
+  walk-root frame le begins due is =
+      let stand : AreOpen b.block root (ready b.block root ∷ []) = (begins, (λ n among. ready-among b.block root n among), tt) in
+      let grown = grows-root b.block (IsDue b best) (IsTold b best) (whole_told b) root due in
+      record {
+        standing = subst (λ ns. AreOpen b.block root (ns ∷ [])) (sym is) stand;
+        depth = omega arith;
+        within = le;
+        some = omega arith;
+        grows = ([], root ∷ [], subst (λ ns. GrowsFor b best root root (ns ∷ []) (AtSplit (ready b.block root) ∷ []) [] (root ∷ [])) (sym is) grown, refl, refl);
+      }
+
+  module _ (at : List ℕ) (old fs : List Set) (f : Set) (knots : List (Knot Told)) (count : ℕ) (least : Option WholeOrder) (walk : IsWalk b best allowance root at old knots count least) (popped : old ≡ fs ++ f ∷ []) where
+    stands : AreOpen b.block at (numbers_in f ∷ lefts fs)
+    stands = subst (AreOpen b.block at) (ap lefts popped ∙ lefts-push fs f) walk.standing
+
+    deep : length root + length fs ≤ length at
+    deep = omega (arith, walk.depth, ap length popped, length-append fs (f ∷ []))
+
+    -- what goes on is ready
+    pub next-ready : (n : ℕ) (ns : List ℕ) → numbers_in f ≡ n ∷ ns → is_ready b.block at n ≡ true
+    next-ready n ns is = stands.1 n (subst (Among n) (sym is) (inl refl))
+
+    next-begins : (n : ℕ) (ns : List ℕ) → numbers_in f ≡ n ∷ ns → IsBeginning b.block (at ++ n ∷ [])
+    next-begins n ns is = step-begins b.block at n stands.0 (next-ready n ns is)
+
+    -- there is room for a frame
+    pub next-few : (n : ℕ) (ns : List ℕ) → numbers_in f ≡ n ∷ ns → length at < length b.block
+    next-few n ns is = omega (arith, beginning-few b.block (at ++ n ∷ []) (next-begins n ns is), length-append at (n ∷ []))
+
+    pub next-room : length fs ≤ length at
+    next-room = omega (arith, deep)
+
+    still : (n : ℕ) (f2 : Set) → numbers_in f ≡ n ∷ numbers_in f2 → AreOpen b.block at (lefts (fs ++ f2 ∷ []))
+    still n f2 is =
+        subst (AreOpen b.block at) (sym (lefts-push fs f2)) (stands.0, (λ m among. stands.1 m (subst (Among m) (sym is) (inr among))), stands.2)
+
+    was : (n : ℕ) (f2 : Set) → numbers_in f ≡ n ∷ numbers_in f2 → (found cuts : List (List ℕ)) → GrowsFor b best root at (lefts old) knots found cuts → GrowsFor b best root at ((n ∷ numbers_in f2) ∷ lefts fs) knots found cuts
+    was n f2 is found cuts g =
+        let e : lefts old ≡ (n ∷ numbers_in f2) ∷ lefts fs = ap lefts popped ∙ (lefts-push fs f ∙ ap (λ ns. ns ∷ lefts fs) is) in
+        subst (λ x. GrowsFor b best root at x knots found cuts) e g
+
+    -- a child that isn't split
+    pub walk-tip : (n : ℕ) (f2 : Set) (new : List Set) (more : List (Knot Told)) (least2 : Option WholeOrder) (told : Told) (p : Problem) (now back : List ℕ) → numbers_in f ≡ n ∷ numbers_in f2 → new ≡ fs ++ f2 ∷ [] → p ≡ b → now ≡ at ++ n ∷ [] → back ≡ front now → IsTold p best now told → more ≡ knots ++ AtTip told ∷ [] → ((found : List (List ℕ)) → IsLeast p found least → IsLeast p (found ++ whole_told p now told) least2) → IsWalk b best allowance root back new more count least2
+    walk-tip n f2 new more least2 told p now back is pushed own next up holds lines lower =
+        let child = at ++ n ∷ [] in
+        let back_is : back ≡ at = up ∙ (ap front next ∙ front-push at n) in
+        let holds2 : IsTold b best child told = subst (λ x. IsTold b best x told) next (subst (λ (q : Problem). IsTold q best now told) own holds) in
+        let (found, cuts, g, count_is, l) = walk.grows in
+        let g2 = grows-tip b.block (IsDue b best) (IsTold b best) (whole_told b) root at n (numbers_in f2) (lefts fs) knots found cuts told holds2 (was n f2 is found cuts g) in
+        let l1 : IsLeast b (found ++ whole_told b now told) least2 = subst (λ (q : Problem). IsLeast q found least → IsLeast q (found ++ whole_told q now told) least2) own (lower found) l in
+        let l2 = subst (λ x. IsLeast b (found ++ whole_told b x told) least2) next l1 in
+        let g3 = subst (λ x. GrowsFor b best root at x (knots ++ AtTip told ∷ []) (found ++ whole_told b child told) cuts) (sym (lefts-push fs f2)) g2 in
+        rw (back_is, pushed, lines)
+        (record {
+          standing = still n f2 is;
+          depth = omega (arith, deep, length-append fs (f2 ∷ []));
+          within = walk.within;
+          some = walk.some;
+          grows = (found ++ whole_told b child told, cuts, g3, count_is, l2);
+        })
+
+    -- a child that is split
+    pub walk-split : (n : ℕ) (f2 f3 : Set) (mid new : List Set) (more : List (Knot Told)) (p : Problem) (now : List ℕ) → numbers_in f ≡ n ∷ numbers_in f2 → mid ≡ fs ++ f2 ∷ [] → new ≡ mid ++ f3 ∷ [] → p ≡ b → now ≡ at ++ n ∷ [] → IsDue p best now → numbers_in f3 ≡ ready p.block now → more ≡ knots ++ AtSplit (numbers_in f3) ∷ [] → count < allowance → IsWalk b best allowance root now new more (count + 1) least
+    walk-split n f2 f3 mid new more p now is put pushed own next due ready_is lines lt =
+        let child = at ++ n ∷ [] in
+        let due2 : IsDue b best child = subst (λ x. IsDue b best x) next (subst (λ (q : Problem). IsDue q best now) own due) in
+        let numbers_are : numbers_in f3 ≡ ready b.block child = subst (λ x. numbers_in f3 ≡ ready b.block x) next (subst (λ (q : Problem). numbers_in f3 ≡ ready q.block now) own ready_is) in
+        let (found, cuts, g, count_is, l) = walk.grows in
+        let g2 = grows-split b.block (IsDue b best) (IsTold b best) (whole_told b) root at n (numbers_in f2) (numbers_in f3) (lefts fs) knots found cuts due2 numbers_are (was n f2 is found cuts g) in
+        let frames : lefts ((fs ++ f2 ∷ []) ++ f3 ∷ []) ≡ numbers_in f3 ∷ (numbers_in f2 ∷ lefts fs) = lefts-push (fs ++ f2 ∷ []) f3 ∙ ap (λ ns. numbers_in f3 ∷ ns) (lefts-push fs f2) in
+        let all : new ≡ (fs ++ f2 ∷ []) ++ f3 ∷ [] = pushed ∙ ap (λ x. x ++ f3 ∷ []) put in
+        let back : AreOpen b.block (front child) (numbers_in f2 ∷ lefts fs) = subst (λ x. AreOpen b.block x (numbers_in f2 ∷ lefts fs)) (sym (front-push at n)) (subst (AreOpen b.block at) (lefts-push fs f2) (still n f2 is)) in
+        let stand : AreOpen b.block child (numbers_in f3 ∷ (numbers_in f2 ∷ lefts fs)) = (next-begins n (numbers_in f2) is, (λ m among. ready-among b.block child m (subst (Among m) numbers_are among)), back) in
+        rw (next, all, lines)
+        (record {
+          standing = subst (AreOpen b.block child) (sym frames) stand;
+          depth = omega (arith, deep, length-append (fs ++ f2 ∷ []) (f3 ∷ []), length-append fs (f2 ∷ []), length-append at (n ∷ []));
+          within = omega (arith, lt);
+          some = omega arith;
+          grows = (found, cuts ++ child ∷ [], subst (λ x. GrowsFor b best root child x (knots ++ AtSplit (numbers_in f3) ∷ []) found (cuts ++ child ∷ [])) (sym frames) g2, omega (arith, count_is, length-append cuts (child ∷ [])), l);
+        })
+
+    -- no child is left, and the walk goes up, or ends
+    ups : numbers_in f ≡ [] → (found cuts : List (List ℕ)) → GrowsFor b best root at (lefts old) knots found cuts → GrowsFor b best root (front at) (lefts fs) knots found cuts
+    ups is found cuts g =
+        let e : lefts old ≡ [] ∷ lefts fs = ap lefts popped ∙ (lefts-push fs f ∙ ap (λ ns. ns ∷ lefts fs) is) in
+        grows-up b.block (IsDue b best) (IsTold b best) (whole_told b) root at (lefts fs) knots found cuts (subst (λ x. GrowsFor b best root at x knots found cuts) e g)
+
+    pub walk-up : (back : List ℕ) → numbers_in f ≡ [] → 0 < length fs → back ≡ front at → IsWalk b best allowance root back fs knots count least
+    walk-up back is some up =
+        let (found, cuts, g, count_is, l) = walk.grows in
+        rw up
+        (record {
+          standing = stands.2;
+          depth = omega (arith, deep, length-front at);
+          within = walk.within;
+          some = walk.some;
+          grows = (found, cuts, ups is found cuts g, count_is, l);
+        })
+
+    pub walk-last : numbers_in f ≡ [] → fs ≡ [] → IsWalk b best allowance root at fs knots count least
+    walk-last is none =
+        let (found, cuts, g, count_is, l) = walk.grows in
+        let g2 : GrowsFor b best root (front at) [] knots found cuts = subst (λ (x : List Set). GrowsFor b best root (front at) (lefts x) knots found cuts) none (ups is found cuts g) in
+        rw none
+        (record {
+          standing = tt;
+          depth = omega (arith, deep);
+          within = walk.within;
+          some = walk.some;
+          grows = (found, cuts, nowhere b best root at knots found cuts g2, count_is, l);
+        })
+
+  pub walk-done : (at : List ℕ) (frames : List Set) (knots : List (Knot Told)) (count : ℕ) (least : Option WholeOrder) → frames ≡ [] → IsWalk b best allowance root at frames knots count least → (tree : Tree Told) × TreeGrows b.block (IsDue b best) (IsTold b best) root tree × (flat tree ≡ knots) × (splits tree ≡ count) × IsLeast b (tree_values (whole_told b) root tree) least
+  walk-done at frames knots count least none walk =
+      let (found, cuts, g, count_is, l) = walk.grows in
+      let g2 : GrowsFor b best root at [] knots found cuts = subst (λ (x : List Set). GrowsFor b best root at (lefts x) knots found cuts) none g in
+      let (tree, grows, knots_are, found_are, cuts_are) = grows-done b.block (IsDue b best) (IsTold b best) (whole_told b) root at knots found cuts g2 in
+      let holds : TreeHolds b.block (IsTold b best) root tree = tree-holds b.block (IsDue b best) (IsTold b best) (λ at due. due.0) root tree grows in
+      (tree, grows, knots_are, sym (splits-count b.block (IsTold b best) root tree holds) ∙ (ap length cuts_are ∙ count_is), subst (λ x. IsLeast b x least) (sym found_are) l)
+
+-- WHAT IS LEFT TO DO falls at each turn: each number of a frame, the frame itself, and splits
+
+pub set-few : (s : Set) → length (numbers_in s) ≤ 64
+unfolding numbers_in
+set-few s = omega (arith, length-filter_both (is_member s.bits) (λ n. not (is_member s.bits n)) (λ n. refl) (rising 64 1))
+
+abbrev pub work : List Set → ℕ
+work frames = weigh (λ (f : Set). 1 + length (numbers_in f)) frames
+
+work-push : (frames : List Set) (f : Set) → work (frames ++ f ∷ []) ≡ work frames + (1 + length (numbers_in f))
+work-push frames f = omega (arith, weigh-append (λ (x : Set). 1 + length (numbers_in x)) frames (f ∷ []))
+
+pub work-tip : (k : ℕ) (old new fs : List Set) (f f2 : Set) (n : ℕ) → old ≡ fs ++ f ∷ [] → new ≡ fs ++ f2 ∷ [] → numbers_in f ≡ n ∷ numbers_in f2 → k + work new < k + work old
+work-tip k old new fs f f2 n popped pushed is =
+    omega (arith, ap work popped, ap work pushed, work-push fs f, work-push fs f2, ap length is)
+
+pub work-split : (allowance count : ℕ) (old mid new fs : List Set) (f f2 f3 : Set) (n : ℕ) → count < allowance → old ≡ fs ++ f ∷ [] → mid ≡ fs ++ f2 ∷ [] → new ≡ mid ++ f3 ∷ [] → numbers_in f ≡ n ∷ numbers_in f2 → (allowance - (count + 1)) * 66 + work new < (allowance - count) * 66 + work old
+work-split allowance count old mid new fs f f2 f3 n lt popped put pushed is =
+    omega (arith, lt, ap work popped, ap work put, ap work pushed, work-push fs f, work-push fs f2, work-push mid f3, ap length is, set-few f3)
+
+pub work-up : (k : ℕ) (old fs : List Set) (f : Set) → old ≡ fs ++ f ∷ [] → k + work fs < k + work old
+work-up k old fs f popped = omega (arith, ap work popped, work-push fs f)

@@ -1,0 +1,226 @@
+-- The document of an answer is a document, whose tree its lines tell.
+use Rattle.std.proofs.Common.{ℕ, zero, suc, ◌+◌, ◌≤◌, ◌≡◌, true, not, List, [], ◌∷◌, ◌++◌, length, refl, sym, ap, arith, inl, inr, subst, ◌∙◌, map}
+use Rattle.std.proofs.lemmas.Bool.{and_parts, ltb-true}
+use Rattle.std.proofs.lemmas.List.{length-map}
+use Rattle.std.proofs.lemmas.List.Filters.{length-filter_both}
+use Rattle.std.specs.Prelude.{nat_lt}
+use Rattle.s66_isa.specs.declared.instr.Instr.{Instr}
+use Rattle.s66_isa.specs.declared.profile.Profile.{Profile}
+use Rattle.s66_isa.specs.Lists.{Among, rising}
+use Rattle.s66_isa.specs.Table.{numbers}
+use Rattle.s66_isa.proofs.Lists.{least-le}
+use Rattle.s66_line.specs.declared.limits.TheConstants.{BLOCK_LIMIT}
+use Rattle.s66_line.specs.Block.{instrs_of, text_of}
+use Rattle.s66_line.specs.Source.{Block}
+use Rattle.s66_model.specs.Answer.{Answer, IsAnswer}
+use Rattle.s66_model.specs.Leaves.{Leaf, Whole, Chain, Load, Parcels, MayStand, IsWalk, leaf_values, link, floor}
+use Rattle.s66_model.specs.LegalOrder.{Completes, GoesOn, IsBeginning, IsIncomplete, IsLegal, is_ready, ready}
+use Rattle.s66_model.specs.Timing.{Problem, row_at}
+use Rattle.s66_model.specs.Tree.{Tree, Alone, Parted, Kids, NoMore, Unsplit, Split, KidsHold, TreeHolds, flat, tree_values}
+use Rattle.s66_model.proofs.Beginnings.{beginning-front, length-rising}
+use Rattle.s66_model.proofs.Floors.{floor-stands}
+use Rattle.s66_model.proofs.Forests.{read-flat, tree-match}
+use Rattle.s66_model.proofs.Growth.{total-le}
+use Rattle.s66_model.proofs.LegalOrders.{legal-order, ready-parts}
+use Rattle.s66_model.proofs.Remaining.{among-ready, legal-parts, ready-among, remaining-parts, rest-first, step-begins}
+use Rattle.s66_cert.specs.declared.limits.TheConstants.{SPLIT_LIMIT, TIME_LIMIT}
+use Rattle.s66_cert.specs.Document.{AreIn, AreInstructions, AreNumbers, IsDocument, IsLeafLine, KidsFit, TreeFits, profile_numbers}
+use Rattle.s66_cert.specs.DocumentParts.{Parts, AreWhole, document_of, tree_of}
+use Rattle.s66_program.specs.ProvedAnswers.{IsSpelled}
+use Rattle.s66_program.specs.ProveText.{document_under, texts_of}
+
+-- RANGES
+
+are-in : (low high : ℕ) (ns : List ℕ) → ((n : ℕ) → Among n ns → (low ≤ n) × (n ≤ high)) → AreIn low high ns
+are-in low high [] within = tt
+are-in low high (n ∷ ns) within =
+    let first = within n (inl refl) in
+    (first.0, first.1, are-in low high ns (λ m among. within m (inr among)))
+
+not-empty : {X : Type 0} (x : X) (xs : List X) → Among x xs → 1 ≤ length xs
+not-empty x [] h = absurd h
+not-empty x (y ∷ xs) h = omega arith
+
+some-ready : (block : List Instr) (prefix : List ℕ) → IsBeginning block prefix → IsIncomplete block prefix → (n : ℕ) × Among n (ready block prefix)
+some-ready block prefix begins short =
+    let (rest, legal) = beginning-front block prefix begins in
+    let parts = legal-parts block prefix rest legal in
+    let (n, more, e) = rest-first block prefix rest short parts.1.1 in
+    let goes : Completes block prefix (n ∷ more) = subst (λ x. Completes block prefix x) e parts.1 in
+    (n, among-ready block prefix n goes.0.0)
+
+module _ (block : List Instr) (few : length block ≤ BLOCK_LIMIT) where
+  ready-numbers : (prefix : List ℕ) → IsBeginning block prefix → IsIncomplete block prefix → AreNumbers BLOCK_LIMIT (ready block prefix)
+  ready-numbers prefix begins short =
+      let (n, among) = some-ready block prefix begins short in
+      let both = length-filter_both (is_ready block prefix) (λ m. not (is_ready block prefix m)) (λ m. refl) (numbers block) in (
+        not-empty n (ready block prefix) among,
+        omega (arith, few, both, length-rising (length block) 1),
+        are-in 1 BLOCK_LIMIT (ready block prefix)
+            (λ m among. let parts = ready-parts block prefix m (ready-among block prefix m among) in (parts.0, omega (arith, parts.1, few))),
+      )
+
+  goes-in : (prefix ns : List ℕ) → GoesOn block prefix ns → AreIn 1 BLOCK_LIMIT ns
+  goes-in prefix [] h = tt
+  goes-in prefix (n ∷ ns) h =
+      let parts = ready-parts block prefix n h.0 in
+      (parts.0, omega (arith, parts.1, few), goes-in (prefix ++ n ∷ []) ns h.1)
+
+  order-numbers : (order : List ℕ) → 1 ≤ length block → IsLegal block order → AreNumbers BLOCK_LIMIT order
+  order-numbers order some legal =
+      let whole = legal-order block order legal in
+      (omega (arith, some, whole.1), omega (arith, few, whole.1), goes-in [] order whole.0)
+
+-- the numbers of a walk rise
+walk-in : (b : Problem) (prefix : List ℕ) (n : ℕ) (ns : List ℕ) → length b.block ≤ BLOCK_LIMIT → IsWalk b prefix n ns →
+    (n + length ns ≤ length b.block) × AreIn 1 BLOCK_LIMIT (n ∷ ns)
+walk-in b prefix n [] few h =
+    let parts = remaining-parts b.block prefix n h in (omega (arith, parts.1), (parts.0, omega (arith, parts.1, few), tt))
+walk-in b prefix n (m ∷ ms) few h =
+    let parts = remaining-parts b.block prefix n h.0 in
+    let above = ltb-true n m (and_parts (nat_lt n m) (nat_lt 0 (link (row_at b n) (row_at b m))) h.1).0 in
+    let rest = walk-in b prefix m ms few h.2 in
+    (omega (arith, above, rest.0), (parts.0, omega (arith, parts.1, few), rest.1))
+
+-- LEAVES AND TREES
+
+leaf-line : (b : Problem) (prefix : List ℕ) (leaf : Leaf) → length b.block ≤ BLOCK_LIMIT → MayStand b prefix leaf → IsLeafLine BLOCK_LIMIT leaf
+leaf-line b prefix Whole few h = tt
+leaf-line b prefix (Chain []) few h = absurd h.1
+leaf-line b prefix (Chain (n ∷ ns)) few h =
+    let walk = walk-in b prefix n ns few h.1 in (omega arith, omega (arith, walk.0, walk.1.0, few), walk.1)
+leaf-line b prefix (Load kind) few h = tt
+leaf-line b prefix Parcels few h = tt
+
+abbrev AreReady : Problem → List ℕ → List ℕ → Type 0
+AreReady b prefix ns = (n : ℕ) → Among n ns → is_ready b.block prefix n ≡ true
+
+split-ready : (b : Problem) (prefix ns : List ℕ) → ns ≡ ready b.block prefix → AreReady b prefix ns
+split-ready b prefix ns e n among = ready-among b.block prefix n (subst (λ ms. Among n ms) e among)
+
+module _ (b : Problem) (few : length b.block ≤ BLOCK_LIMIT) where
+  floor-line : (prefix : List ℕ) (leaf : Leaf) → IsBeginning b.block prefix → leaf ≡ floor b prefix → IsLeafLine BLOCK_LIMIT leaf
+  floor-line prefix leaf begins is = leaf-line b prefix leaf few (subst (λ x. MayStand b prefix x) (sym is) (floor-stands b prefix begins))
+
+  kids-fit : (kids : Kids Leaf) (prefix ns : List ℕ) → KidsHold b.block (λ at leaf. leaf ≡ floor b at) prefix ns kids → IsBeginning b.block prefix → AreReady b prefix ns →
+      KidsFit BLOCK_LIMIT ns kids
+  kids-fit NoMore prefix [] h begins are = tt
+  kids-fit NoMore prefix (n ∷ ns) h begins are = h
+  kids-fit (Unsplit leaf kids) prefix [] h begins are = h
+  kids-fit (Unsplit leaf kids) prefix (n ∷ ns) h begins are =
+      (floor-line (prefix ++ n ∷ []) leaf (step-begins b.block prefix n begins (are n (inl refl))) h.0, kids-fit kids prefix ns h.1 begins (λ m among. are m (inr among)))
+  kids-fit (Split numbers sub kids) prefix [] h begins are = h
+  kids-fit (Split numbers sub kids) prefix (n ∷ ns) h begins are =
+      let longer = prefix ++ n ∷ [] in
+      let begins2 : IsBeginning b.block longer = step-begins b.block prefix n begins (are n (inl refl)) in (
+        subst (λ ms. AreNumbers BLOCK_LIMIT ms) (sym h.1) (ready-numbers b.block few longer begins2 h.0),
+        kids-fit sub longer numbers h.2 begins2 (split-ready b longer numbers h.1),
+        kids-fit kids prefix ns h.3 begins (λ m among. are m (inr among)),
+      )
+
+  tree-fits : (tree : Tree Leaf) → TreeHolds b.block (λ at leaf. leaf ≡ floor b at) [] tree → TreeFits BLOCK_LIMIT tree
+  tree-fits (Alone leaf) h = floor-line [] leaf tt h
+  tree-fits (Parted numbers kids) h =
+      (subst (λ ms. AreNumbers BLOCK_LIMIT ms) (sym h.1) (ready-numbers b.block few [] tt h.0), kids-fit kids [] numbers h.2 tt (split-ready b [] numbers h.1))
+
+-- the tree of an answer is that of its lines
+pub answer-lines : (b : Problem) (budget : ℕ) (a : Answer) → IsAnswer b budget a → tree_of (flat a.tree) ≡ a.tree
+answer-lines b budget a is = read-flat Whole a.tree (tree-match b.block (λ at leaf. leaf ≡ floor b at) a.tree [] is.tree)
+
+-- TEXTS
+
+texts-instructions : (block : Block) (count low : ℕ) → 1 ≤ low → low + count ≤ length (instrs_of block) + 1 → IsSpelled block → AreInstructions (map (text_of block) (rising count low))
+texts-instructions block zero low least most spelled = tt
+texts-instructions block (suc count) low least most spelled =
+    (record { instr = _; is_text = spelled low least (omega (arith, most)) }, texts-instructions block count (suc low) (omega (arith, least)) (omega (arith, most)) spelled)
+
+length-texts : (block : Block) → length (texts_of block) ≡ length (instrs_of block)
+length-texts block = length-map (numbers (instrs_of block)) (text_of block) ∙ length-rising (length (instrs_of block)) 1
+
+-- DOCUMENTS
+
+profile-in : (p : Profile) → AreIn 1 100 (profile_numbers p)
+profile-in p = (
+  p.least.0,
+  p.greatest.0,
+  (
+    p.least.1,
+    p.greatest.1,
+    (
+      p.least.2,
+      p.greatest.2,
+      (
+        p.least.3,
+        p.greatest.3,
+        (
+          p.least.4,
+          p.greatest.4,
+          (
+            p.least.5,
+            p.greatest.5,
+            (
+              p.least.6,
+              p.greatest.6,
+              (
+                p.least.7,
+                p.greatest.7,
+                (
+                  p.least.8,
+                  p.greatest.8,
+                  (
+                    p.least.9,
+                    p.greatest.9,
+                    (p.units.0, p.few.0, (p.units.1, p.few.1, (p.units.2, p.few.2, (p.units.3, p.few.3, (p.units.4, p.few.4, (p.units.5, p.few.5, (p.units.6, p.few.6, tt))))))),
+                  ),
+                ),
+              ),
+            ),
+          ),
+        ),
+      ),
+    ),
+  ),
+)
+
+pub bound-within : (b : Problem) (budget : ℕ) (a : Answer) → IsAnswer b budget a → a.bound ≤ a.time
+bound-within b budget a is = omega (arith, is.bound, least-le (λ v. v) a.time (a.time ∷ tree_values (leaf_values b) [] a.tree) (inl refl))
+
+pub answer-document : (p : Profile) (block : Block) (budget : ℕ) (a : Answer) → IsAnswer (record { block = instrs_of block; profile = p }) budget a → a.splits ≤ SPLIT_LIMIT →
+    1 ≤ length (instrs_of block) → length (instrs_of block) ≤ BLOCK_LIMIT → IsSpelled block → IsDocument BLOCK_LIMIT (document_under p block a)
+answer-document p block budget a is splits some few spelled =
+    let b : Problem = record { block = instrs_of block; profile = p } in
+    let time : a.time ≤ TIME_LIMIT = omega (arith, is.time, total-le b a.order, (legal-order b.block a.order is.legal).1, few) in
+    record {
+      profile = (refl, profile-in p);
+      block = (omega (arith, length-texts block, some), omega (arith, length-texts block, few), texts-instructions block (length (instrs_of block)) 1 (omega arith) (omega arith) spelled);
+      time = time;
+      bound = omega (arith, bound-within b budget a is, time);
+      numbers = order-numbers b.block few a.order some is.legal;
+      tree = tree-fits b few a.tree is.tree;
+      splits = omega (arith, is.splits, splits);
+    }
+
+-- PARTS
+
+abbrev pub parts_under : Profile → Block → Answer → Parts
+parts_under p block a =
+    record { profile = profile_numbers p; block = texts_of block; time = a.time; bound = a.bound; numbers = a.order; knots = flat a.tree }
+
+pub parts-document : (p : Profile) (block : Block) (budget : ℕ) (a : Answer) → IsAnswer (record { block = instrs_of block; profile = p }) budget a →
+    document_of (parts_under p block a) ≡ document_under p block a
+parts-document p block budget a is =
+    ap (λ tree. record (document_under p block a) { tree = tree }) (answer-lines (record { block = instrs_of block; profile = p }) budget a is)
+
+pub parts-whole : (p : Profile) (block : Block) (budget : ℕ) (a : Answer) → IsAnswer (record { block = instrs_of block; profile = p }) budget a → a.splits ≤ SPLIT_LIMIT →
+    1 ≤ length (instrs_of block) → length (instrs_of block) ≤ BLOCK_LIMIT → IsSpelled block → AreWhole (parts_under p block a)
+parts-whole p block budget a is splits some few spelled =
+    record {
+      document = subst (IsDocument BLOCK_LIMIT) (sym (parts-document p block budget a is)) (answer-document p block budget a is splits some few spelled);
+      preorder = ap (λ (tree : Tree Leaf). flat tree) (answer-lines (record { block = instrs_of block; profile = p }) budget a is);
+    }
+
+pub same-parts : (v w : Parts) → v.profile ≡ w.profile → v.block ≡ w.block → v.time ≡ w.time → v.bound ≡ w.bound → v.numbers ≡ w.numbers → v.knots ≡ w.knots → v ≡ w
+same-parts v w profile block time bound numbers knots =
+    ap (λ x. record v { profile = x }) profile ∙ ap (λ x. record w { block = x; time = v.time; bound = v.bound; numbers = v.numbers; knots = v.knots }) block
+    ∙ ap (λ x. record w { time = x; bound = v.bound; numbers = v.numbers; knots = v.knots }) time ∙ ap (λ x. record w { bound = x; numbers = v.numbers; knots = v.knots }) bound
+    ∙ ap (λ x. record w { numbers = x; knots = v.knots }) numbers ∙ ap (λ x. record w { knots = x }) knots

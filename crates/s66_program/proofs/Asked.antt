@@ -1,0 +1,18 @@
+-- The numbers of a command that the words ask for are within their limits.
+use Rattle.clap.specs.Words.{Text}
+use Rattle.std.proofs.Common.{ℕ, List}
+use Rattle.s66_program.specs.declared.command.Command.{Command}
+use Rattle.s66_program.specs.declared.command.Command.TheVariants.{Time, Deps, Chart, Order, Prove, Check}
+use Rattle.s66_program.specs.Output.{IsSearchWithin, IsWithin}
+use Rattle.s66_program.specs.Usage.{Asks, GivesSearch}
+
+search-within : (words : List Text) (workers nodes : ℕ) → GivesSearch words workers nodes → IsSearchWithin workers nodes
+search-within words workers nodes h = (h.1, h.2, h.4)
+
+pub asked-within : (words : List Text) (command : Command) → Asks words command → IsWithin command
+asked-within words (Time trace) h = tt
+asked-within words Deps h = tt
+asked-within words Chart h = tt
+asked-within words (Order workers nodes trace) h = search-within words workers nodes h.1
+asked-within words (Prove workers nodes) h = search-within words workers nodes h.1
+asked-within words Check h = tt

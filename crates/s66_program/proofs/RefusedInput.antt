@@ -1,0 +1,34 @@
+-- What a command leaves where its input is refused: all was read, and nothing is written.
+use Rattle.std.proofs.Common.{◌≡◌, ℕ, List, Option, None, Some, Result, Ok, Err, refl, ap, sym, subst}
+use Rattle.std.specs.Io.KnownBytes.{Keeps}
+use Rattle.std.specs.Result.{IsErr, IsErrAnd}
+use Rattle.s66_program.specs.declared.command.Command.{Command}
+use Rattle.s66_program.specs.declared.outcome.Fault.{Fault}
+use Rattle.s66_program.specs.declared.outcome.Fault.TheVariants as fault
+use Rattle.s66_program.specs.declared.outcome.Status.{Status}
+use Rattle.s66_program.specs.Device.{IsUntouched, Reader, ReadsAll, Writer}
+use Rattle.s66_program.specs.Run.{IsOutcome, IsRefusal}
+
+keeps : (bytes : Option (List ℕ)) → Keeps bytes bytes
+keeps None = tt
+keeps (Some bytes) = refl
+
+untouched : (writer : Writer) → IsUntouched writer writer
+untouched writer = (keeps writer.bytes, refl)
+
+leaves : (command : Command) (reader reader' : Reader) (writer : Writer) (input : List ℕ) (f : Fault) → ReadsAll reader reader' input → IsRefusal command input f → IsOutcome command reader reader' writer writer (Err f)
+leaves command reader reader' writer input (fault.Source e) reads h = ((input, reads, h), untouched writer)
+leaves command reader reader' writer input (fault.Document e) reads h = ((input, reads, h), untouched writer)
+leaves command reader reader' writer input fault.Memory reads h = (reads.2, untouched writer)
+leaves command reader reader' writer input fault.Read reads h = absurd h
+leaves command reader reader' writer input fault.Write reads h = absurd h
+
+given : (result : Result Status Fault) (f : Fault) → IsErr result → IsErrAnd result (λ e. e ≡ f) → result ≡ Err f
+given (Ok status) f is which = absurd which
+given (Err e) f is which = ap (λ (x : Fault). Err x) which
+
+pub refused-input : (command : Command) (reader reader' : Reader) (writer : Writer) (read input : List ℕ) (f : Fault) (result : Result Status Fault) → ReadsAll reader reader' read → input ≡ read → IsRefusal command input f →
+    IsErr result × IsErrAnd result (λ e. e ≡ f) → IsOutcome command reader reader' writer writer result
+refused-input command reader reader' writer read input f result reads same h is =
+    subst (IsOutcome command reader reader' writer writer) (sym (given result f is.0 is.1))
+    (leaves command reader reader' writer input f (subst (ReadsAll reader reader') (sym same) reads) h)

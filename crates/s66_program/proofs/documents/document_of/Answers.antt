@@ -1,0 +1,44 @@
+use Rattle.std.proofs.Common.{ℕ, ◌≡◌, ◌∙◌, ap, sym, subst, arith, map}
+use Rattle.std.specs.declared.alloc.Global.{Global}
+use Rattle.std.specs.declared.vec.Vec.{Vec}
+use Rattle.s66_dep.specs.Ordered.{Ordered}
+use Rattle.s66_line.specs.Block.{instrs_of}
+use Rattle.s66_model.specs.Answer.{IsAnswer}
+use Rattle.s66_model.specs.Timing.{Problem}
+use Rattle.s66_ledger.specs.Answers.{answer_of}
+use Rattle.s66_cert.specs.DocumentParts.{Parts, AreWhole, document_of}
+use Rattle.s66_program.proofs.AnswerDocuments.{parts_under, parts-document, parts-whole, same-parts}
+use Rattle.s66_program.proofs.documents.document_of.Goals as goal
+
+-- what the claim says, and the answer's own parts
+abbrev claimed : goal.In_ok-tree_of → Parts
+claimed c = record {
+  profile = c.profile_numbers.result.items;
+  block = map (λ (text : Vec ℕ Global). text.items) c.in_ok-texts_of.field-0.items;
+  time = c.time.result;
+  bound = c.bound.result;
+  numbers = c.in-Ok.order.items;
+  knots = c.in_ok-tree_of.field-0;
+}
+
+abbrev own : goal.In_ok-tree_of → Parts
+own c = parts_under c.args.profile.now c.args.block.now (answer_of c.args.answer.now)
+
+same : (c : goal.In_ok-tree_of) → claimed c ≡ own c
+same c =
+    same-parts (claimed c) (own c) c.profile_numbers.ensures (c.in_ok-texts_of.ensures.texts) c.time.ensures.value c.bound.ensures.value
+    (c.in-Ok.ensures.0 ∙ c.numbers.ensures.value ∙ ap (λ (o : Ordered). o.numbers) c.order.ensures) c.in_ok-tree_of.ensures
+
+is : (c : goal.In_ok-tree_of) → IsAnswer (record { block = instrs_of c.args.block.now; profile = c.args.profile.now }) c.args.answer.now.budget (answer_of c.args.answer.now)
+is c = subst (λ (b : Problem). IsAnswer b c.args.answer.now.budget (answer_of c.args.answer.now)) c.requires c.time.ensures.answer
+
+pub new-requires : goal.new-requires
+new-requires c =
+    subst AreWhole (sym (same c))
+    (parts-whole c.args.profile.now c.args.block.now c.args.answer.now.budget (answer_of c.args.answer.now) (is c) (omega (arith, c.splits.ensures.value, c.splits.ensures.few))
+    (omega (arith, c.count.ensures.value, c.count.ensures.some)) (omega (arith, c.count.ensures.value, c.count.ensures.few)) c.in_ok-texts_of.ensures.spelled)
+
+pub returns : goal.returns
+returns c =
+    ap document_of (c.new.ensures ∙ same c.before)
+    ∙ parts-document c.args.profile.now c.args.block.now c.args.answer.now.budget (answer_of c.args.answer.now) (is c.before)

@@ -1,0 +1,58 @@
+-- To be believed: the statuses of the program, and the line that standard error gets of a fault.
+use Rattle.std.specs.Prelude.{ℕ, List, ◌++◌, codes, decimal}
+use Rattle.s66_cert.specs.declared.error.CertError.{CertError}
+use Rattle.s66_cert.specs.declared.error.CertError.TheVariants as cert
+use Rattle.s66_line.specs.declared.error.SourceError.{SourceError}
+use Rattle.s66_line.specs.declared.error.SourceError.TheVariants.{BadOperand, LineTooLong, OutOfMemory, TooLarge}
+use Rattle.s66_program.specs.declared.outcome.Fault.{Fault}
+use Rattle.s66_program.specs.declared.outcome.Fault.TheVariants.{Source, Document, Memory, Read, Write}
+use Rattle.s66_program.specs.declared.outcome.Status.{Status}
+use Rattle.s66_program.specs.declared.outcome.Status.TheVariants.{Done, Denied, Bounded}
+
+-- the fault of a refused source
+abbrev pub source_fault : SourceError → Fault
+source_fault (BadOperand line) = Source (BadOperand line)
+source_fault (LineTooLong line) = Source (LineTooLong line)
+source_fault TooLarge = Source TooLarge
+source_fault OutOfMemory = Memory
+
+-- the fault of refused documents
+abbrev pub document_fault : CertError → Fault
+document_fault (cert.BadLine line) = Document (cert.BadLine line)
+document_fault cert.Truncated = Document cert.Truncated
+document_fault cert.TooManyNodes = Document cert.TooManyNodes
+document_fault cert.OutOfMemory = Memory
+
+abbrev pub status_code : Status → ℕ
+status_code Done = 0
+status_code Denied = 5
+status_code Bounded = 7
+
+abbrev pub fault_code : Fault → ℕ
+fault_code (Source e) = 3
+fault_code (Document e) = 3
+fault_code Memory = 4
+fault_code Read = 6
+fault_code Write = 6
+
+-- why a source was refused
+abbrev pub refusal_line : SourceError → List ℕ
+refusal_line (BadOperand line) = codes "LINE " ++ decimal line ++ codes " BAD OPERAND"
+refusal_line (LineTooLong line) = codes "LINE " ++ decimal line ++ codes " TOO LONG"
+refusal_line TooLarge = codes "TOO MANY LINES"
+refusal_line OutOfMemory = codes "OUT OF MEMORY"
+
+-- why documents were refused
+abbrev pub document_refusal_line : CertError → List ℕ
+document_refusal_line (cert.BadLine line) = codes "LINE " ++ decimal line ++ codes " BAD LINE"
+document_refusal_line cert.Truncated = codes "TRUNCATED"
+document_refusal_line cert.TooManyNodes = codes "TOO MANY NODES"
+document_refusal_line cert.OutOfMemory = codes "OUT OF MEMORY"
+
+-- the line of a fault, without its newline
+abbrev pub fault_line : Fault → List ℕ
+fault_line (Source e) = refusal_line e
+fault_line (Document e) = document_refusal_line e
+fault_line Memory = codes "OUT OF MEMORY"
+fault_line Read = codes "READ FAILED"
+fault_line Write = codes "WRITE FAILED"

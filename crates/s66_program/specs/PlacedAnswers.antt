@@ -1,0 +1,19 @@
+-- Used by contracts within the crate alone: answers as they are printed.
+use Rattle.std.specs.Prelude.{ℕ, ◌≡◌, ◌==◌, Bool, List}
+use Rattle.s66_isa.specs.Lists.{every}
+use Rattle.s66_line.specs.Printed.{Placed}
+use Rattle.s66_line.specs.Source.{Block}
+use Rattle.s66_model.specs.Answer.{Answer, IsAnswer}
+use Rattle.s66_program.specs.OrderText.{AreAnswers, all_placed, placed_by, problem_of}
+
+-- an answer to the block
+abbrev pub IsPlaced : ℕ → Bool → Block → Placed → Type 0
+IsPlaced nodes trace block p = (a : Answer) × IsAnswer (problem_of block) nodes a × (p ≡ placed_by trace block a)
+
+-- an answer to each block
+abbrev pub AreAllPlaced : ℕ → Bool → List Block → List Placed → Type 0
+AreAllPlaced nodes trace blocks ps = (answers : List Answer) × AreAnswers nodes blocks answers × (ps ≡ all_placed trace blocks answers)
+
+-- each report tells that its order is best
+abbrev pub tell_best : List Placed → Bool
+tell_best ps = every (λ (p : Placed). p.bound == p.time) ps

@@ -1,0 +1,56 @@
+-- To be believed: what the program does with its words, over a reader, a writer, and a writer for what goes wrong.
+use Rattle.std.specs.Prelude.{◌≡◌, ◌≢◌, ◌⊎◌, ℕ, List, ◌++◌, Result, Ok, Err, codes, string_bytes}
+use Rattle.std.specs.declared.io.ErrorKind.{ErrorKind}
+use Rattle.std.specs.declared.io.ErrorKind.TheVariants as kind
+use Rattle.clap.specs.Words.{Text}
+use Rattle.s66_program.specs.declared.command.Command.{Command}
+use Rattle.s66_program.specs.declared.outcome.Fault.{Fault}
+use Rattle.s66_program.specs.declared.outcome.Fault.TheVariants.{Memory, Write}
+use Rattle.s66_program.specs.declared.outcome.Status.{Status}
+use Rattle.s66_program.specs.declared.usage.Usage.{Usage}
+use Rattle.s66_program.specs.declared.usage.Usage.TheVariants.{Help, Bad, OutOfMemory}
+use Rattle.s66_program.specs.Device.{IsUntouched, Reader, Tells, WriteFails, Writer, Writes}
+use Rattle.s66_program.specs.Outcome.{fault_code, fault_line, status_code}
+use Rattle.s66_program.specs.Run.{IsOutcome}
+use Rattle.s66_program.specs.Usage.{Asks, Refuses, usage_code}
+
+-- the line of a fault was told, and the status is the fault's
+abbrev pub EndsAt : Fault → Writer → Writer → ℕ → Type 0
+EndsAt fault errors errors' status = Tells errors errors' (fault_line fault ++ codes "\n") × (status ≡ fault_code fault)
+
+-- what the result of a command leaves of the writer for what goes wrong, and the status
+abbrev pub EndsBy : Result Status Fault → Writer → Writer → ℕ → Type 0
+EndsBy (Ok s) errors errors' status = IsUntouched errors errors' × (status ≡ status_code s)
+EndsBy (Err fault) errors errors' status = EndsAt fault errors errors' status
+
+-- help goes to the writer, which may fail, a mistake to the writer for what goes wrong
+abbrev pub ShowsUsage : Usage → Writer → Writer → Writer → Writer → ℕ → Type 0
+ShowsUsage (Help text) writer writer' errors errors' status =
+    (Writes writer writer' (string_bytes text) × IsUntouched errors errors' × (status ≡ usage_code (Help text)))
+    ⊎ (WriteFails writer writer' (string_bytes text) × EndsAt Write errors errors' status)
+ShowsUsage (Bad text) writer writer' errors errors' status =
+    IsUntouched writer writer' × Tells errors errors' (string_bytes text) × (status ≡ usage_code (Bad text))
+ShowsUsage OutOfMemory writer writer' errors errors' status = IsUntouched writer writer' × EndsAt Memory errors errors' status
+
+-- the words give a command, which was run
+abbrev pub RunsCommand : List Text → Reader → Reader → Writer → Writer → Writer → Writer → ℕ → Type 0
+RunsCommand words reader reader' writer writer' errors errors' status =
+    (command : Command) × Asks words command
+    × ((result : Result Status Fault) × IsOutcome command reader reader' writer writer' result × EndsBy result errors errors' status)
+
+-- the words give none, which was told, and nothing was read
+abbrev pub RefusesWords : List Text → Reader → Reader → Writer → Writer → Writer → Writer → ℕ → Type 0
+RefusesWords words reader reader' writer writer' errors errors' status =
+    (usage : Usage) × Refuses words usage × (reader' ≡ reader) × ShowsUsage usage writer writer' errors errors' status
+
+-- what the program does with words, the first of which is its name
+abbrev pub IsRun : List Text → Reader → Reader → Writer → Writer → Writer → Writer → ℕ → Type 0
+IsRun words reader reader' writer writer' errors errors' status =
+    RunsCommand words reader reader' writer writer' errors errors' status
+    ⊎ RefusesWords words reader reader' writer writer' errors errors' status
+
+-- what is done where there are no words: want of memory, or words that are no text
+abbrev pub LacksWords : ErrorKind → Writer → Writer → ℕ → Type 0
+LacksWords k errors errors' status =
+    ((k ≡ kind.OutOfMemory) × EndsAt Memory errors errors' status)
+    ⊎ ((k ≢ kind.OutOfMemory) × Tells errors errors' (codes "error: an argument is not UTF-8\n") × (status ≡ 2))

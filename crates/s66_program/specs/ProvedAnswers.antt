@@ -1,0 +1,33 @@
+-- Used by contracts within the crate alone: blocks and the documents of their answers.
+use Rattle.std.specs.Prelude.{ℕ, ◌≡◌, ◌≤◌, ◌==◌, Bool, List, ◌++◌, length}
+use Rattle.s66_isa.specs.Table.{instr_at}
+use Rattle.s66_line.specs.declared.limits.TheConstants.{BLOCK_LIMIT}
+use Rattle.s66_line.specs.Block.{instrs_of, text_of}
+use Rattle.s66_line.specs.InstructionText.{IsTextOf}
+use Rattle.s66_line.specs.Source.{Block}
+use Rattle.s66_model.specs.Answer.{Answer, IsAnswer}
+use Rattle.s66_cert.specs.Document.{document_text, documents_text}
+use Rattle.s66_program.specs.declared.outcome.Status.{Status}
+use Rattle.s66_program.specs.OrderText.{AreAnswers, problem_of, status_of}
+use Rattle.s66_program.specs.ProveText.{all_documents, document_by}
+
+-- the text of each of the first instructions, so many, is one of it
+abbrev pub IsSpelledTo : Block → ℕ → Type 0
+IsSpelledTo block k = (n : ℕ) → 1 ≤ n → n ≤ k → IsTextOf (text_of block n) (instr_at (instrs_of block) n)
+
+abbrev pub IsSpelled : Block → Type 0
+IsSpelled block = IsSpelledTo block (length (instrs_of block))
+
+-- a block as sources have them: its instructions, not too many, are those that its texts spell
+abbrev pub IsSpelledBlock : Block → Type 0
+IsSpelledBlock block = (1 ≤ length (instrs_of block)) × (length (instrs_of block) ≤ BLOCK_LIMIT) × IsSpelled block
+
+-- the document of an answer to the block was appended, which is best or not
+abbrev pub IsProved : ℕ → Block → (old new : List ℕ) → Bool → Type 0
+IsProved nodes block old new best =
+    (a : Answer) × IsAnswer (problem_of block) nodes a × (new ≡ old ++ document_text (document_by block a)) × (best ≡ (a.bound == a.time))
+
+-- the text is the documents of answers to the blocks, and the status is theirs
+abbrev pub AreProved : ℕ → List Block → (text : List ℕ) → Status → Type 0
+AreProved nodes blocks text status =
+    (answers : List Answer) × AreAnswers nodes blocks answers × (text ≡ documents_text (all_documents blocks answers)) × (status ≡ status_of answers)

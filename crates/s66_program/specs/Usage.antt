@@ -1,0 +1,125 @@
+-- To be believed: the command line, by clap's rules: the subcommands `time`, with the flag `--trace`, `deps`, `chart`,
+-- `order` and `prove`, each with the options `--workers` and `--nodes`, and `order` also with the flag `--trace`, and `check`,
+-- and a version.
+use Rattle.std.specs.Prelude.{◌≡◌, ◌≢◌, ◌⊎◌, ◌≤◌, ℕ, Bool, List, [], false, true, Option, Some, codes, option_and_then, pos}
+use Rattle.std.specs.Option.{option_map, option_map_or}
+use Rattle.std.specs.Str.Parse.{digits_value, without_leading_plus}
+use Rattle.clap.specs.Words.{App, IsAmong, Rule, Text, app_of, fault_of, new_app, new_rule, one_of, rule_of, subcommand_of, with_rule, with_subcommand}
+use Rattle.clap.specs.Takes.{is_given}
+use Rattle.clap.specs.declared.builder.action.ArgAction.TheVariants.{SetTrue}
+use Rattle.clap.specs.declared.builder.arg.Arg.{Arg}
+use Rattle.clap.specs.declared.builder.command.Command.{Command as CommandLine}
+use Rattle.clap.specs.declared.builder.command.Command.TheViews.{out-Command}
+use Rattle.clap.specs.declared.builder.value_parser.ValueParser.TheVariants.{Signed}
+use Rattle.clap.specs.declared.error.kind.ErrorKind.{ErrorKind}
+use Rattle.clap.specs.declared.error.kind.ErrorKind.TheVariants as kind
+use Rattle.s66_program.specs.declared.command.Command.{Command}
+use Rattle.s66_program.specs.declared.command.Command.TheVariants.{Time, Deps, Chart, Order, Prove, Check}
+use Rattle.s66_program.specs.declared.usage.Usage.{Usage}
+use Rattle.s66_program.specs.declared.usage.Usage.TheVariants.{Help, Bad, OutOfMemory}
+
+abbrev pub trace_rule : Rule
+trace_rule = record (new_rule (codes "trace")) { long = Some (codes "trace"); action = Some SetTrue }
+
+-- an option whose value is a number from the least to the most
+abbrev pub number_rule : Text → ℕ → ℕ → Rule
+number_rule name least most = record (new_rule name) { long = Some name; value_names = 1; parser = Some (Signed (pos least) (pos most)) }
+
+abbrev pub workers_rule : Rule
+workers_rule = number_rule (codes "workers") 1 16
+
+abbrev pub nodes_rule : Rule
+nodes_rule = number_rule (codes "nodes") 0 1000000
+
+abbrev pub time_app : App
+time_app = with_rule (new_app (codes "time")) trace_rule
+
+abbrev pub deps_app : App
+deps_app = new_app (codes "deps")
+
+abbrev pub chart_app : App
+chart_app = new_app (codes "chart")
+
+-- a subcommand that searches
+abbrev pub search_app : Text → App
+search_app name = with_rule (with_rule (new_app name) workers_rule) nodes_rule
+
+abbrev pub order_app : App
+order_app = with_rule (search_app (codes "order")) trace_rule
+
+abbrev pub prove_app : App
+prove_app = search_app (codes "prove")
+
+abbrev pub check_app : App
+check_app = new_app (codes "check")
+
+abbrev pub s66_app : App
+s66_app =
+    let drawing = with_subcommand (with_subcommand (with_subcommand (new_app (codes "s66")) time_app.top) deps_app.top) chart_app.top in
+    let a = with_subcommand (with_subcommand (with_subcommand drawing order_app.top) prove_app.top) check_app.top in
+    record a { top = record a.top { subcommand_required = true; has_version = true } }
+
+-- the argument is this one, and not for all subcommands
+abbrev pub IsArgumentOf : Rule → Arg → Type 0
+IsArgumentOf r a = (rule_of a ≡ r) × (a.global ≡ false)
+
+-- the command line is this one, and none of its options is for all subcommands
+abbrev pub IsCommandOf : App → CommandLine → Type 0
+IsCommandOf a c = (app_of c ≡ a) × ((out-Command c).has_globals ≡ false)
+
+-- the subcommand that the words name
+abbrev pub subcommand_name : List Text → Option Text
+subcommand_name words = option_map (λ s. s.0) (subcommand_of s66_app words)
+
+-- the words give the subcommand this option
+abbrev pub has_option : Text → List Text → Bool
+has_option id words = option_map_or (λ s. is_given id s.1) (subcommand_of s66_app words) false
+
+-- the text that the words give the subcommand for this option
+abbrev pub option_text : Text → List Text → Option Text
+option_text id words = option_and_then (λ s. one_of id s.1) (subcommand_of s66_app words)
+
+-- the number that the words give the subcommand for this option, or else the default
+abbrev pub option_number : Text → ℕ → List Text → ℕ
+option_number id default words = option_map_or (λ text. digits_value 10 (without_leading_plus text)) (option_text id words) default
+
+-- the words, of which the first is the program's name, have no fault and name the subcommand
+abbrev pub AsksFor : List Text → Text → Type 0
+AsksFor words name = (fault_of s66_app words ≡ []) × (subcommand_name words ≡ Some name)
+
+-- they give a search these numbers
+abbrev pub GivesSearch : List Text → (workers nodes : ℕ) → Type 0
+GivesSearch words workers nodes =
+    (workers ≡ option_number (codes "workers") 4 words) × (1 ≤ workers) × (workers ≤ 16)
+    × (nodes ≡ option_number (codes "nodes") 100000 words) × (nodes ≤ 1000000)
+
+-- they ask for the command
+abbrev pub Asks : List Text → Command → Type 0
+Asks words (Time trace) = AsksFor words (codes "time") × (trace ≡ has_option (codes "trace") words)
+Asks words Deps = AsksFor words (codes "deps")
+Asks words Chart = AsksFor words (codes "chart")
+Asks words (Order workers nodes trace) =
+    AsksFor words (codes "order") × GivesSearch words workers nodes × (trace ≡ has_option (codes "trace") words)
+Asks words (Prove workers nodes) = AsksFor words (codes "prove") × GivesSearch words workers nodes
+Asks words Check = AsksFor words (codes "check")
+
+-- a kind of error that is no mistake
+abbrev pub IsHelp : ErrorKind → Type 0
+IsHelp k = (k ≡ kind.DisplayHelp) ⊎ (k ≡ kind.DisplayVersion)
+
+-- what an error of this kind is told as; want of memory may stand in the place of any other
+abbrev pub IsUsageOf : ErrorKind → Usage → Type 0
+IsUsageOf k (Help text) = IsHelp k
+IsUsageOf k (Bad text) = (IsHelp k → ⊥) × (k ≢ kind.OutOfMemory)
+IsUsageOf k OutOfMemory = Unit {0}
+
+-- the words are no command: they ask for help, or they have a fault that is no help
+abbrev pub Refuses : List Text → Usage → Type 0
+Refuses words (Help text) = (k : ErrorKind) × IsAmong k (fault_of s66_app words) × IsHelp k
+Refuses words (Bad text) = (k : ErrorKind) × IsAmong k (fault_of s66_app words) × (IsHelp k → ⊥)
+Refuses words OutOfMemory = Unit {0}
+
+abbrev pub usage_code : Usage → ℕ
+usage_code (Help text) = 0
+usage_code (Bad text) = 2
+usage_code OutOfMemory = 4

@@ -1,0 +1,36 @@
+//! The program but for its process: what words ask for, what is read, and what is written.
+#![tactic(auto)]
+
+mod chart_text;
+mod check_text;
+mod command;
+mod deps_text;
+mod documents;
+mod fields;
+mod laws;
+mod limits;
+#[cfg(test)]
+mod line_tests;
+mod observer;
+mod order_text;
+mod outcome;
+mod output;
+mod program;
+mod progress;
+mod prove_text;
+mod run;
+#[cfg(test)]
+mod tests;
+mod time_text;
+mod usage;
+
+pub use command::Command;
+pub use documents::document_of;
+pub use laws::proved_law;
+pub use limits::{FEED_CALLS, FEED_ROOM, NODES_DEFAULT, WORKERS_DEFAULT};
+pub use observer::{Observer, Silent};
+pub use outcome::{Fault, Status};
+pub use program::{refuse_words, run_program};
+pub use progress::Progress;
+pub use run::{run_command, run_observed};
+pub use usage::{Usage, VERSION, command_of};

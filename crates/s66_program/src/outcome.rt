@@ -1,0 +1,176 @@
+ghost use Rattle.std.specs.Prelude.{◌≡◌, ◌++◌, ◌<◌, ◌≤◌, codes, decimal, length};
+ghost use Rattle.s66_program.specs.declared.outcome.Fault.TheVariants.{Memory};
+ghost use Rattle.s66_program.specs.Outcome.{document_fault, source_fault};
+
+use crate::limits::FAULT_ROOM;
+use arrayvec::ArrayString;
+use itoa::Buffer;
+use s66_cert::CertError;
+use s66_line::SourceError;
+use std::alloc::{AllocError, AllocFailed};
+use std::{error, fmt};
+
+/// How a command that wrote all its text ended.
+#[derive(Clone, Copy, Debug, PartialEq, Eq)]
+pub enum Status {
+    Done,
+    /// What the input claims was found wrong.
+    Denied,
+    /// A bound on the work was met before the end.
+    Bounded,
+}
+
+/// What a command writes, and how it ends.
+#[derive(Debug, Drop)]
+pub struct Output {
+    pub text: Vec<u8>,
+    pub status: Status,
+}
+
+impl Status {
+    ghost use Rattle.std.specs.Prelude.{◌≡◌};
+    ghost use Rattle.s66_program.specs.Outcome.{status_code};
+
+    /// The status of the process.
+    pub fn code(&self) -> u8
+        ensures { result ≡ status_code self.now }
+    {
+        match self {
+            Status::Done => 0,
+            Status::Denied => 5,
+            Status::Bounded => 7,
+        }
+    }
+}
+
+/// Why a command failed; each shows itself as the line that standard error gets.
+#[derive(Clone, Copy, Debug, Drop, PartialEq, Eq)]
+pub enum Fault {
+    /// The source was refused; never for `OutOfMemory`, which is `Memory`.
+    Source(SourceError),
+    /// The documents were refused; never for `OutOfMemory`, which is `Memory`.
+    Document(CertError),
+    /// A growth was refused.
+    Memory,
+    /// The reader failed, or none of 16,777,216 calls with room for 65,536 bytes each gave the end.
+    Read,
+    /// The writer failed.
+    Write,
+}
+
+impl From<AllocError> for Fault {
+    ghost from_gives = { λ _ e. e ≡ Memory };
+
+    fn from(_e: AllocError) -> Fault {
+        Fault::Memory
+    }
+}
+
+impl<T: Drop> From<AllocFailed<T>> for Fault {
+    ghost from_gives = { λ _ e. e ≡ Memory };
+
+    fn from(_e: AllocFailed<T>) -> Fault {
+        Fault::Memory
+    }
+}
+
+impl From<SourceError> for Fault {
+    ghost from_gives = { λ e fault. fault ≡ source_fault e };
+
+    fn from(e: SourceError) -> Fault {
+        match e {
+            SourceError::OutOfMemory => Fault::Memory,
+            refusal => Fault::Source(refusal),
+        }
+    }
+}
+
+impl From<CertError> for Fault {
+    ghost from_gives = { λ e fault. fault ≡ document_fault e };
+
+    fn from(e: CertError) -> Fault {
+        match e {
+            CertError::OutOfMemory => Fault::Memory,
+            refusal => Fault::Document(refusal),
+        }
+    }
+}
+
+/// A text of a few bytes.
+fn short_text(text: &str) -> ArrayString<FAULT_ROOM>
+    requires { length text.now < FAULT_ROOM }
+    ensures { result.bytes ≡ text.now }
+{
+    let mut line = ArrayString::new();
+    line.push_str(text);
+    line
+}
+
+/// A line of the input, and what is wrong with it.
+fn line_refusal(line: u64, what: &str) -> ArrayString<FAULT_ROOM>
+    requires { length what.now ≤ 12 }
+    ensures text { result.bytes ≡ codes "LINE " ++ decimal line ++ what.now }
+    ensures short { length result.bytes < FAULT_ROOM }
+{
+    let mut digits = Buffer::new();
+    let mut text = ArrayString::new();
+    text.push_str("LINE ");
+    text.push_str(digits.format(line));
+    text.push_str(what);
+    text
+}
+
+impl Fault {
+    ghost use Rattle.std.specs.Prelude.{◌≡◌, ◌<◌, length};
+    ghost use Rattle.s66_program.specs.Outcome.{fault_code, fault_line};
+
+    /// The status of the process.
+    pub fn code(&self) -> u8
+        ensures { result ≡ fault_code self.now }
+    {
+        match self {
+            Fault::Source(_) | Fault::Document(_) => 3,
+            Fault::Memory => 4,
+            Fault::Read | Fault::Write => 6,
+        }
+    }
+
+    /// The line that standard error gets, without its newline.
+    pub fn line(&self) -> ArrayString<FAULT_ROOM>
+        ensures text { result.bytes ≡ fault_line self.now }
+        ensures short { length result.bytes < FAULT_ROOM }
+    {
+        match self {
+            Fault::Source(SourceError::BadOperand { line }) => line_refusal(
+                u64::from(*line),
+                " BAD OPERAND",
+            ),
+            Fault::Source(SourceError::LineTooLong { line }) => line_refusal(
+                u64::from(*line),
+                " TOO LONG",
+            ),
+            Fault::Source(SourceError::TooLarge) => short_text("TOO MANY LINES"),
+            Fault::Document(CertError::BadLine { line }) => line_refusal(*line, " BAD LINE"),
+            Fault::Document(CertError::Truncated) => short_text("TRUNCATED"),
+            Fault::Document(CertError::TooManyNodes) => short_text("TOO MANY NODES"),
+            Fault::Source(SourceError::OutOfMemory)
+            | Fault::Document(CertError::OutOfMemory)
+            | Fault::Memory => short_text("OUT OF MEMORY"),
+            Fault::Read => short_text("READ FAILED"),
+            Fault::Write => short_text("WRITE FAILED"),
+        }
+    }
+}
+
+impl fmt::Display for Fault {
+    ghost use Rattle.std.specs.Prelude.{Some};
+    ghost use Rattle.s66_program.specs.Outcome.{fault_line};
+
+    ghost output = { λ fault. Some (fault_line fault) };
+
+    fn fmt<W: fmt::Write>(&self, f: &mut fmt::Formatter<W>) -> fmt::Result {
+        f.write_str(self.line().as_str())
+    }
+}
+
+impl error::Error for Fault {}

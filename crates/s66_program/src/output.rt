@@ -1,0 +1,106 @@
+ghost use Rattle.std.specs.Prelude.{◌≡◌, ◌++◌, OnOk, IfOk, IfErr};
+ghost use Rattle.s66_program.specs.declared.outcome.Status.TheVariants.{Done};
+ghost use Rattle.s66_program.specs.Output.{IsListing, IsOutput, IsWithin, block_lines, lines_of_blocks};
+ghost use Rattle.s66_program.specs.Run.{IsRefusal};
+
+use crate::chart_text::push_chart_lines;
+use crate::check_text::check_output;
+use crate::command::Command;
+use crate::deps_text::push_deps_lines;
+use crate::observer::Observer;
+use crate::order_text::order_output;
+use crate::outcome::{Fault, Output, Status};
+use crate::prove_text::prove_output;
+use crate::time_text::push_time_lines;
+use s66_line::{Block, Source, read_source};
+use s66_pool::Options;
+use std::alloc::{AllocError, Global};
+use std::sync::Wait;
+use std::thread::Threads;
+
+/// What is told of each block as it was written.
+#[derive(Clone, Copy, Debug, PartialEq, Eq)]
+pub enum Listing {
+    Times {
+        /// Whether each instruction is told.
+        trace: bool,
+    },
+    Dependences,
+    Chart,
+}
+
+/// The lines of a block, whose number is from 1.
+fn push_block(
+    alloc: Global,
+    out: &mut Vec<u8>,
+    listing: Listing,
+    number: usize,
+    block: &Block,
+) -> Result<(), AllocError>
+    ensures { OnOk result (out.new.items ≡ out.old.items ++ block_lines listing number block.now) }
+{
+    match listing {
+        Listing::Times { trace } => push_time_lines(out, trace, number, block),
+        Listing::Dependences => push_deps_lines(out, number, block),
+        Listing::Chart => push_chart_lines(alloc, out, number, block),
+    }
+}
+
+/// The listing of these blocks.
+fn text_of_blocks(alloc: Global, listing: Listing, blocks: &[Block]) -> Result<Vec<u8>, AllocError>
+    ensures { IfOk result (λ text. text.items ≡ lines_of_blocks listing 0 blocks.now) }
+{
+    let mut out = Vec::new(alloc);
+    for (i, block) in blocks.iter().enumerate() {
+        push_block(alloc, &mut out, listing, i + 1, block)?;
+    }
+    Ok(out)
+}
+
+/// The listing of a source's blocks.
+fn listing_output(alloc: Global, listing: Listing, source: &Source) -> Result<Output, AllocError>
+    ensures { IfOk result (λ output. IsListing listing source.now output.text.items × (output.status ≡ Done)) }
+{
+    Ok(Output {
+        text: text_of_blocks(alloc, listing, source.blocks())?,
+        status: Status::Done,
+    })
+}
+
+/// What a command writes for an input, or why the input was refused; no other fault than `Source`, `Document` and `Memory`. The
+/// observer is told how far it is, and not of the end.
+pub fn output_for<R: AllocGlobal + Threads + Wait + Sync, O: Observer>(
+    rt: &R,
+    command: Command,
+    input: &[u8],
+    observer: &mut O,
+) -> Result<Output, Fault>
+    requires { IsWithin command }
+    ensures ok { IfOk result (λ output. IsOutput command input.now output.text.items output.status) }
+    ensures err { IfErr result (IsRefusal command input.now) }
+{
+    let alloc = rt.alloc();
+    let output = match command {
+        Command::Time { trace } => {
+            listing_output(alloc, Listing::Times { trace }, &read_source(alloc, input)?)?
+        }
+        Command::Deps => {
+            listing_output(alloc, Listing::Dependences, &read_source(alloc, input)?)?
+        }
+        Command::Chart => listing_output(alloc, Listing::Chart, &read_source(alloc, input)?)?,
+        Command::Order {
+            workers,
+            nodes,
+            trace,
+        } => {
+            let options = Options { workers, nodes };
+            order_output(rt, &read_source(alloc, input)?, options, trace, observer)?
+        }
+        Command::Prove { workers, nodes } => {
+            let options = Options { workers, nodes };
+            prove_output(rt, &read_source(alloc, input)?, options, observer)?
+        }
+        Command::Check => check_output(alloc, input, observer)?,
+    };
+    Ok(output)
+}

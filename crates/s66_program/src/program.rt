@@ -1,0 +1,108 @@
+ghost use Rattle.std.specs.Prelude.{◌≡◌, ◌-◌, ◌^◌, ◌<◌, map};
+ghost use Rattle.std.specs.IoError.{error_kind};
+ghost use Rattle.s66_program.specs.Device.{Tells};
+ghost use Rattle.s66_program.specs.Program.{EndsAt, IsRun, LacksWords, ShowsUsage};
+
+use crate::observer::Observer;
+use crate::outcome::Fault;
+use crate::run::run_observed;
+use crate::usage::{Usage, command_of};
+use s66_line::{Feed, Sink, write_all};
+use std::convert::AsStr;
+use std::io;
+use std::sync::Wait;
+use std::thread::Threads;
+
+/// Tells a text, as far as the writer takes it.
+fn tell<S: Sink>(errors: &mut S, text: &[u8])
+    requires { S.failures errors.old < 2 ^ 64 - 1 }
+    ensures { Tells
+        (record { bytes = S.bytes errors.old; failures = S.failures errors.old })
+        (record { bytes = S.bytes errors.new; failures = S.failures errors.new }) text.now }
+{
+    let _ = write_all(errors, text);
+}
+
+/// Tells the line of a fault, and answers the status.
+fn tell_fault<S: Sink>(errors: &mut S, fault: Fault) -> u8
+    requires { S.failures errors.old < 2 ^ 64 - 1 }
+    ensures { EndsAt fault
+        (record { bytes = S.bytes errors.old; failures = S.failures errors.old })
+        (record { bytes = S.bytes errors.new; failures = S.failures errors.new }) result }
+{
+    let mut line = fault.line();
+    line.push('\n');
+    tell(errors, line.as_bytes());
+    fault.code()
+}
+
+/// Shows why words are no command, and answers the status.
+fn show_usage<S: Sink, E: Sink>(usage: &Usage, writer: &mut S, errors: &mut E) -> u8
+    requires writes { S.failures writer.old < 2 ^ 64 - 1 }
+    requires tells { E.failures errors.old < 2 ^ 64 - 1 }
+    ensures { ShowsUsage usage.now
+        (record { bytes = S.bytes writer.old; failures = S.failures writer.old })
+        (record { bytes = S.bytes writer.new; failures = S.failures writer.new })
+        (record { bytes = E.bytes errors.old; failures = E.failures errors.old })
+        (record { bytes = E.bytes errors.new; failures = E.failures errors.new }) result }
+{
+    match usage {
+        Usage::Help(text) => {
+            if write_all(writer, text.as_bytes()).is_err() {
+                return tell_fault(errors, Fault::Write);
+            }
+        }
+        Usage::Bad(text) => tell(errors, text.as_bytes()),
+        Usage::OutOfMemory => return tell_fault(errors, Fault::Memory),
+    }
+    usage.code()
+}
+
+/// Runs the command that the words give, of which the first is the program's name, or tells why they give none, and
+/// answers the status of the process. What can't be told changes neither the status nor what is written; nor does what the
+/// observer does, which is told how far the command is.
+pub fn run_program<
+    'a,
+    R: AllocGlobal + Threads + Wait + Sync,
+    W: AsStr,
+    F: Feed,
+    S: Sink,
+    E: Sink,
+    O: Observer,
+>(rt: &R, words: &'a [W], reader: &mut F, writer: &mut S, errors: &mut E, observer: &mut O) -> u8
+    requires reads { F.failures reader.old < 2 ^ 64 - 1 }
+    requires writes { S.failures writer.old < 2 ^ 64 - 1 }
+    requires tells { E.failures errors.old < 2 ^ 64 - 1 }
+    ensures { IsRun (map W.text words.entry.now)
+        (record { bytes = F.bytes reader.old; failures = F.failures reader.old; room = F.room reader.old })
+        (record { bytes = F.bytes reader.new; failures = F.failures reader.new; room = F.room reader.new })
+        (record { bytes = S.bytes writer.old; failures = S.failures writer.old })
+        (record { bytes = S.bytes writer.new; failures = S.failures writer.new })
+        (record { bytes = E.bytes errors.old; failures = E.failures errors.old })
+        (record { bytes = E.bytes errors.new; failures = E.failures errors.new }) result }
+{
+    let command = match command_of(rt.alloc(), words) {
+        Ok(command) => command,
+        Err(usage) => return show_usage(&usage, writer, errors),
+    };
+    match run_observed(rt, command, reader, writer, observer) {
+        Ok(status) => status.code(),
+        Err(fault) => tell_fault(errors, fault),
+    }
+}
+
+/// Tells why the process has no words, and answers its status.
+pub fn refuse_words<E: Sink>(error: &io::Error, errors: &mut E) -> u8
+    requires { E.failures errors.old < 2 ^ 64 - 1 }
+    ensures { LacksWords (error_kind error.now)
+        (record { bytes = E.bytes errors.old; failures = E.failures errors.old })
+        (record { bytes = E.bytes errors.new; failures = E.failures errors.new }) result }
+{
+    match error.kind() {
+        io::ErrorKind::OutOfMemory => tell_fault(errors, Fault::Memory),
+        _ => {
+            tell(errors, b"error: an argument is not UTF-8\n");
+            2
+        }
+    }
+}

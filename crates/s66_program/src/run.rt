@@ -1,0 +1,114 @@
+ghost use Rattle.std.specs.Prelude.{◌≡◌, ◌-◌, ◌^◌, ◌<◌, length, vec_len, IfOk, IfErr};
+ghost use Rattle.s66_program.specs.Device.{ReadsAll};
+ghost use Rattle.s66_program.specs.Output.{IsWithin};
+ghost use Rattle.s66_program.specs.Run.{IsReadFault, IsOutcome};
+
+use crate::command::Command;
+use crate::limits::{FEED_CALLS, FEED_ROOM};
+use crate::observer::{Observer, Silent};
+use crate::outcome::{Fault, Status};
+use crate::output::output_for;
+use s66_line::{Feed, Sink, write_all};
+use std::alloc::{AllocError, Global};
+use std::sync::Wait;
+use std::thread::Threads;
+
+/// Room for what a call reads.
+fn room(alloc: Global) -> Result<Vec<u8>, AllocError>
+    ensures { IfOk result (λ buffer. vec_len buffer ≡ FEED_ROOM) }
+{
+    vec![in alloc; 0u8; FEED_ROOM]
+}
+
+/// Reads to the end by way of the buffer.
+fn read_through<F: Feed>(alloc: Global, reader: &mut F, buffer: &mut [u8]) -> Result<Vec<u8>, Fault>
+    requires calls { F.failures reader.old < 2 ^ 64 - 1 }
+    requires room { length buffer.old ≡ FEED_ROOM }
+    ensures ok { IfOk result (λ input. ReadsAll
+        (record { bytes = F.bytes reader.old; failures = F.failures reader.old; room = F.room reader.old })
+        (record { bytes = F.bytes reader.new; failures = F.failures reader.new; room = F.room reader.new }) input.items) }
+    ensures err { IfErr result (IsReadFault
+        (record { bytes = F.bytes reader.old; failures = F.failures reader.old; room = F.room reader.old })
+        (record { bytes = F.bytes reader.new; failures = F.failures reader.new; room = F.room reader.new })) }
+{
+    let mut input = Vec::new(alloc);
+    'calls: for _ in 0..FEED_CALLS {
+        match reader.feed(buffer) {
+            Ok(count) => {
+                if count == 0 {
+                    return Ok(input);
+                }
+                input.extend_from_slice(&buffer[..count])?;
+            }
+            Err(_) => return Err(Fault::Read),
+        }
+    }
+    Err(Fault::Read)
+}
+
+/// Reads to the end.
+fn read_all<F: Feed>(alloc: Global, reader: &mut F) -> Result<Vec<u8>, Fault>
+    requires { F.failures reader.old < 2 ^ 64 - 1 }
+    ensures ok { IfOk result (λ input. ReadsAll
+        (record { bytes = F.bytes reader.old; failures = F.failures reader.old; room = F.room reader.old })
+        (record { bytes = F.bytes reader.new; failures = F.failures reader.new; room = F.room reader.new }) input.items) }
+    ensures err { IfErr result (IsReadFault
+        (record { bytes = F.bytes reader.old; failures = F.failures reader.old; room = F.room reader.old })
+        (record { bytes = F.bytes reader.new; failures = F.failures reader.new; room = F.room reader.new })) }
+{
+    let mut buffer = room(alloc)?;
+    read_through(alloc, reader, &mut buffer)
+}
+
+/// Runs a command whose numbers are within their limits: reads to the end, builds all text, and only then writes. The answer is
+/// `Bounded` where `order` or `prove` left a block only bounded, `Denied` where `check` has a verdict that isn't yes, and else
+/// `Done`.
+///
+/// Errors: `Source` tells why the source was refused, `Document` why the documents were, `Memory` that memory was wanting, `Read` that the reader failed or none
+/// of `FEED_CALLS` calls gave the end, `Write` that the writer failed; nothing is written but at `Write`, which leaves a
+/// beginning of the text.
+pub fn run_command<R: AllocGlobal + Threads + Wait + Sync, F: Feed, S: Sink>(
+    rt: &R,
+    command: Command,
+    reader: &mut F,
+    writer: &mut S,
+) -> Result<Status, Fault>
+    requires within { IsWithin command }
+    requires reads { F.failures reader.old < 2 ^ 64 - 1 }
+    requires writes { S.failures writer.old < 2 ^ 64 - 1 }
+    ensures { IsOutcome command
+        (record { bytes = F.bytes reader.old; failures = F.failures reader.old; room = F.room reader.old })
+        (record { bytes = F.bytes reader.new; failures = F.failures reader.new; room = F.room reader.new })
+        (record { bytes = S.bytes writer.old; failures = S.failures writer.old })
+        (record { bytes = S.bytes writer.new; failures = S.failures writer.new }) result }
+{
+    run_observed(rt, command, reader, writer, &mut Silent)
+}
+
+/// `run_command`, of which an observer is told how far it is, and that it has ended before anything is written; what it does with
+/// that changes nothing of what is written and answered. Errors are those of `run_command`.
+pub fn run_observed<R: AllocGlobal + Threads + Wait + Sync, F: Feed, S: Sink, O: Observer>(
+    rt: &R,
+    command: Command,
+    reader: &mut F,
+    writer: &mut S,
+    observer: &mut O,
+) -> Result<Status, Fault>
+    requires within { IsWithin command }
+    requires reads { F.failures reader.old < 2 ^ 64 - 1 }
+    requires writes { S.failures writer.old < 2 ^ 64 - 1 }
+    ensures { IsOutcome command
+        (record { bytes = F.bytes reader.old; failures = F.failures reader.old; room = F.room reader.old })
+        (record { bytes = F.bytes reader.new; failures = F.failures reader.new; room = F.room reader.new })
+        (record { bytes = S.bytes writer.old; failures = S.failures writer.old })
+        (record { bytes = S.bytes writer.new; failures = S.failures writer.new }) result }
+{
+    let input = read_all(rt.alloc(), reader)?;
+    let output = output_for(rt, command, input.as_slice(), observer);
+    observer.ended();
+    let output = output?;
+    match write_all(writer, output.text.as_slice()) {
+        Ok(()) => Ok(output.status),
+        Err(_) => Err(Fault::Write),
+    }
+}

@@ -1,0 +1,278 @@
+ghost use Rattle.std.specs.Prelude.{◌≡◌, IfOk, IfErr, List, codes, map};
+ghost use Rattle.clap.specs.Words.{Text, app_of, found_of, kind_of, one_text};
+ghost use Rattle.s66_program.specs.Usage.{Asks, IsArgumentOf, IsCommandOf, IsUsageOf, Refuses, chart_app, check_app, deps_app, nodes_rule, order_app, prove_app, s66_app, search_app, time_app, trace_rule, workers_rule};
+ghost use Rattle.s66_program.specs.OptionNumbers.{IsNumber, IsReadAs};
+ghost use Rattle.s66_program.specs.declared.usage.Usage.TheVariants.{OutOfMemory};
+
+use crate::command::Command as Asked;
+use crate::limits::{NODES_DEFAULT, WORKERS_DEFAULT};
+use clap::error::ErrorKind;
+use clap::{Arg, ArgAction, ArgMatches, Command, Error, value_parser};
+use s66_ledger::BUDGET_LIMIT;
+use s66_pool::WORKERS_LIMIT;
+use std::alloc::{AllocError, Global};
+use std::convert::AsStr;
+
+/// The version of the program.
+pub const VERSION: &str = "0.1.0";
+
+/// Why words are no command.
+#[derive(Debug, Drop)]
+pub enum Usage {
+    /// They ask for help or for the version, which is the text.
+    Help(String),
+    /// They are a mistake, which the text tells.
+    Bad(String),
+    OutOfMemory,
+}
+
+impl From<AllocError> for Usage {
+    ghost from_gives = { λ _ usage. usage ≡ OutOfMemory };
+
+    fn from(_e: AllocError) -> Usage {
+        Usage::OutOfMemory
+    }
+}
+
+impl Usage {
+    ghost use Rattle.std.specs.Prelude.{◌≡◌};
+    ghost use Rattle.s66_program.specs.Usage.{usage_code};
+
+    /// The status of the process.
+    pub fn code(&self) -> u8
+        ensures { result ≡ usage_code self.now }
+    {
+        match self {
+            Usage::Help(_) => 0,
+            Usage::Bad(_) => 2,
+            Usage::OutOfMemory => 4,
+        }
+    }
+}
+
+/// What an error of clap's is, with its text.
+fn usage_of(alloc: Global, error: &Error) -> Usage
+    ensures { IsUsageOf (kind_of error.now) result }
+{
+    let Ok(text) = error.to_string(alloc) else {
+        return Usage::OutOfMemory;
+    };
+    match error.kind() {
+        ErrorKind::DisplayHelp | ErrorKind::DisplayVersion => Usage::Help(text),
+        ErrorKind::OutOfMemory => Usage::OutOfMemory,
+        _ => Usage::Bad(text),
+    }
+}
+
+/// What the help of a subcommand ends with: an example, the statuses, and those that it has alone.
+macro_rules! help_ending {
+    ($example:literal) => {
+        help_ending!($example, "the source was refused", "")
+    };
+    ($example:literal, $refusal:literal, $own_statuses:literal) => {
+        concat!(
+            "Example: ",
+            $example,
+            "\n\nStatus: 0 done, 2 usage, 3 ",
+            $refusal,
+            ", 4 out of memory, 6 a read or write failed",
+            $own_statuses
+        )
+    };
+}
+
+const TIME_ENDING: &str = help_ending!("s66 time --trace < SOURCE");
+
+const DEPS_ENDING: &str = help_ending!("s66 deps < SOURCE");
+
+const CHART_ENDING: &str = help_ending!("s66 chart < SOURCE");
+
+const ORDER_ENDING: &str = help_ending!(
+    "s66 order --nodes 1000 < SOURCE",
+    "the source was refused",
+    ", 7 some block is only bounded"
+);
+
+const PROVE_ENDING: &str = help_ending!(
+    "s66 prove --nodes 1000 < SOURCE",
+    "the source was refused",
+    ", 7 some block is only bounded"
+);
+
+const CHECK_ENDING: &str = help_ending!(
+    "s66 check < DOCUMENTS",
+    "the documents were refused",
+    ", 5 some verdict is NO"
+);
+
+/// The flag `--trace`.
+fn trace_flag<'a>(alloc: Global, help: &'a str) -> Arg<'a>
+    ensures { IsArgumentOf trace_rule result }
+{
+    Arg::new(alloc, "trace")
+        .long("trace")
+        .help(help)
+        .action(ArgAction::SetTrue)
+}
+
+/// The option `--workers`.
+fn workers_option<'a>(alloc: Global) -> Arg<'a>
+    ensures { IsArgumentOf workers_rule result }
+{
+    Arg::new(alloc, "workers")
+        .long("workers")
+        .value_name("N")
+        .help("How many workers search, 1 to 16 [default: 4]")
+        .value_parser(value_parser!(u8).range(1..=i64::from(WORKERS_LIMIT)))
+}
+
+/// The option `--nodes`.
+fn nodes_option<'a>(alloc: Global) -> Arg<'a>
+    ensures { IsArgumentOf nodes_rule result }
+{
+    Arg::new(alloc, "nodes")
+        .long("nodes")
+        .value_name("N")
+        .help("The most splits of a block's search, 0 to 1000000 [default: 100000]")
+        .value_parser(value_parser!(u32).range(..=i64::from(BUDGET_LIMIT)))
+}
+
+/// The subcommand `time`.
+fn time_command<'a>(alloc: Global) -> Result<Command<'a>, AllocError>
+    ensures { IfOk result (IsCommandOf time_app) }
+{
+    Command::new(alloc, "time")
+        .about("Times each block of a source as it was written")
+        .after_help(TIME_ENDING)
+        .arg(trace_flag(alloc, "Tells each instruction"))
+}
+
+/// The subcommand `deps`.
+fn deps_command<'a>(alloc: Global) -> Command<'a>
+    ensures { IsCommandOf deps_app result }
+{
+    Command::new(alloc, "deps")
+        .about("Tells on what each instruction of a block depends")
+        .after_help(DEPS_ENDING)
+}
+
+/// The subcommand `chart`.
+fn chart_command<'a>(alloc: Global) -> Command<'a>
+    ensures { IsCommandOf chart_app result }
+{
+    Command::new(alloc, "chart")
+        .about("Draws each block of a source as it was written")
+        .after_help(CHART_ENDING)
+}
+
+/// A subcommand that searches.
+fn search_command<'a>(
+    alloc: Global,
+    name: &'a str,
+    about: &'a str,
+    ending: &'a str,
+) -> Result<Command<'a>, AllocError>
+    ensures { IfOk result (IsCommandOf (search_app name.entry.now)) }
+{
+    Command::new(alloc, name)
+        .about(about)
+        .after_help(ending)
+        .arg(workers_option(alloc))?
+        .arg(nodes_option(alloc))
+}
+
+/// The subcommand `order`.
+fn order_command<'a>(alloc: Global) -> Result<Command<'a>, AllocError>
+    ensures { IfOk result (IsCommandOf order_app) }
+{
+    search_command(
+        alloc,
+        "order",
+        "Writes each block of a source in the best order that was found",
+        ORDER_ENDING,
+    )?
+    .arg(trace_flag(alloc, "Tells the number of splits of each block"))
+}
+
+/// The subcommand `prove`.
+fn prove_command<'a>(alloc: Global) -> Result<Command<'a>, AllocError>
+    ensures { IfOk result (IsCommandOf prove_app) }
+{
+    search_command(
+        alloc,
+        "prove",
+        "Writes a certificate for each block of a source: the best order that was found, and a bound with its proof",
+        PROVE_ENDING,
+    )
+}
+
+/// The subcommand `check`.
+fn check_command<'a>(alloc: Global) -> Command<'a>
+    ensures { IsCommandOf check_app result }
+{
+    Command::new(alloc, "check")
+        .about("Checks each certificate by itself")
+        .after_help(CHECK_ENDING)
+}
+
+/// The command line of the program, which usage and help call s66 whatever the program's file is named.
+fn program<'a>(alloc: Global) -> Result<Command<'a>, AllocError>
+    ensures { IfOk result (λ c. app_of c ≡ s66_app) }
+{
+    Command::new(alloc, "s66")
+        .bin_name("s66")?
+        .version(VERSION)
+        .about(
+            "Times, draws, orders and proves straight-line blocks of COMPASS code for the CDC 6600",
+        )
+        .subcommand_required(true)
+        .subcommand(time_command(alloc)?)?
+        .subcommand(deps_command(alloc))?
+        .subcommand(chart_command(alloc))?
+        .subcommand(order_command(alloc)?)?
+        .subcommand(prove_command(alloc)?)?
+        .subcommand(check_command(alloc))
+}
+
+/// How many workers search, as a subcommand that searches was told.
+fn workers_in(matches: &ArgMatches) -> u8
+    ensures { IsNumber 1 16 (one_text (found_of matches.now) (codes "workers")) → IsReadAs 1 16 4 (one_text (found_of matches.now) (codes "workers")) result }
+{
+    matches.get_one("workers").unwrap_or(WORKERS_DEFAULT)
+}
+
+/// The most splits of a search, as a subcommand that searches was told.
+fn nodes_in(matches: &ArgMatches) -> u32
+    ensures { IsNumber 0 1000000 (one_text (found_of matches.now) (codes "nodes")) → IsReadAs 0 1000000 100000 (one_text (found_of matches.now) (codes "nodes")) result }
+{
+    matches.get_one("nodes").unwrap_or(NODES_DEFAULT)
+}
+
+/// The command that the words give, of which the first is the program's name.
+pub fn command_of<'a, S: AsStr>(alloc: Global, words: &'a [S]) -> Result<Asked, Usage>
+    ensures ok { IfOk result (λ command. Asks (map S.text words.entry.now) command) }
+    ensures err { IfErr result (λ usage. Refuses (map S.text words.entry.now) usage) }
+{
+    let matches = match program(alloc)?.try_get_matches_from(words) {
+        Ok(matches) => matches,
+        Err(error) => return Err(usage_of(alloc, &error)),
+    };
+    match matches.subcommand() {
+        Some(("time", time)) => Ok(Asked::Time {
+            trace: time.get_flag("trace"),
+        }),
+        Some(("deps", _)) => Ok(Asked::Deps),
+        Some(("chart", _)) => Ok(Asked::Chart),
+        Some(("order", order)) => Ok(Asked::Order {
+            workers: workers_in(order),
+            nodes: nodes_in(order),
+            trace: order.get_flag("trace"),
+        }),
+        Some(("prove", prove)) => Ok(Asked::Prove {
+            workers: workers_in(prove),
+            nodes: nodes_in(prove),
+        }),
+        Some(("check", _)) => Ok(Asked::Check),
+        _ => unreachable!(),
+    }
+}
