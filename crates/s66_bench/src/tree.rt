@@ -6,8 +6,8 @@ ghost use Rattle.s66_time.specs.Ticking.{problem_of};
 
 use s66_bound::Bounds;
 use s66_dep::{Dependences, Set};
-use s66_isa::Profile;
-use s66_line::{BLOCK_LIMIT, Block};
+use s66_isa::{BLOCK_LIMIT, Profile};
+use s66_line::Block;
 use s66_time::Clock;
 
 /// How many beginnings a tree splits, how many pushes that takes, and the least total that it comes to.

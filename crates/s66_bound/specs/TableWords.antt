@@ -5,7 +5,7 @@ use Rattle.s66_isa.specs.declared.profile.Profile.{Profile}
 use Rattle.s66_isa.specs.declared.instr.Kind.{Kind}
 use Rattle.s66_isa.specs.Table.{Reg, kind_number, same_kind, numbers}
 use Rattle.s66_isa.specs.Registers.{index_of}
-use Rattle.s66_line.specs.declared.limits.TheConstants.{BLOCK_LIMIT}
+use Rattle.s66_isa.specs.declared.limits.TheConstants.{BLOCK_LIMIT}
 use Rattle.s66_line.specs.Source.{Block}
 use Rattle.s66_line.specs.Block.{instrs_of}
 use Rattle.s66_model.specs.Timing.{Problem, row_at}

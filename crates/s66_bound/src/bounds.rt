@@ -5,8 +5,8 @@ use crate::printed::chain_numbers;
 use crate::tables::Tables;
 use crate::values::{chain_of, floor_value_of, load_of, parcels_of, remaining_numbers};
 use arrayvec::ArrayVec;
-use s66_isa::{Kind, Profile};
-use s66_line::{BLOCK_LIMIT, Block};
+use s66_isa::{BLOCK_LIMIT, Kind, Profile};
+use s66_line::Block;
 use s66_time::Clock;
 use std::marker::Model;
 

@@ -1,6 +1,5 @@
 use arrayvec::ArrayVec;
-use s66_isa::Kind;
-use s66_line::BLOCK_LIMIT;
+use s66_isa::{BLOCK_LIMIT, Kind};
 
 /// A lower bound of the total of every legal order that begins with a prefix. Values are in minor cycles.
 #[derive(Debug, Drop)]

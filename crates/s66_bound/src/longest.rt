@@ -1,12 +1,12 @@
 ghost use Rattle.std.specs.Prelude.{ℕ, ◌≡◌, ◌+◌, ◌-◌, ◌<◌, ◌≤◌, length, get_or};
 ghost use Rattle.s66_model.specs.Timing.{Problem};
 ghost use Rattle.s66_model.specs.Tails.{longest_tail, walk_to, HasWords};
-ghost use Rattle.s66_line.specs.declared.limits.TheConstants.{BLOCK_LIMIT};
+ghost use Rattle.s66_isa.specs.declared.limits.TheConstants.{BLOCK_LIMIT};
 ghost use Rattle.s66_bound.specs.InstructionCosts.{AreEntries};
 ghost use Rattle.s66_bound.specs.TableWords.{HasLater};
 
 use crate::entry::{Entry, link};
-use s66_line::BLOCK_LIMIT;
+use s66_isa::BLOCK_LIMIT;
 
 /// The longest walk from the instruction at a place that goes on with the one at a later place, 0 where they have no link.
 fn walk_to(entries: &[Entry], longest: &[u32; BLOCK_LIMIT], place: usize, later: usize) -> u32

@@ -5,7 +5,7 @@ ghost use Rattle.s66_isa.specs.Lists.{greatest, least, weigh};
 ghost use Rattle.s66_dep.specs.Members.{numbers_in};
 
 use s66_dep::Set;
-use s66_line::BLOCK_LIMIT;
+use s66_isa::BLOCK_LIMIT;
 
 /// The greatest word of these numbers, 0 of none.
 pub fn greatest_of(words: &[u32; BLOCK_LIMIT], numbers: &Set) -> u32

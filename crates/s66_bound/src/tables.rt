@@ -3,7 +3,7 @@ ghost use Rattle.s66_isa.specs.declared.reg.TheConstants.{REGISTER_COUNT};
 ghost use Rattle.s66_isa.specs.Lists.{some_of};
 ghost use Rattle.s66_isa.specs.Registers.{index_of};
 ghost use Rattle.s66_isa.specs.Table.{same_kind, same_reg, Write as WriteOf};
-ghost use Rattle.s66_line.specs.declared.limits.TheConstants.{BLOCK_LIMIT};
+ghost use Rattle.s66_isa.specs.declared.limits.TheConstants.{BLOCK_LIMIT};
 ghost use Rattle.s66_model.specs.Timing.{Problem, row_at};
 ghost use Rattle.s66_model.specs.Leaves.{uses};
 ghost use Rattle.s66_model.specs.Tails.{spare, HasWords, HasWritten};
@@ -15,8 +15,7 @@ use crate::entry::Entry;
 use crate::longest::longest_tails;
 use arrayvec::ArrayVec;
 use s66_dep::Set;
-use s66_isa::{Bank, KIND_COUNT, Kind, REGISTER_COUNT, Reg, Write, is_same_kind, is_same_register};
-use s66_line::BLOCK_LIMIT;
+use s66_isa::{BLOCK_LIMIT, Bank, KIND_COUNT, Kind, REGISTER_COUNT, Reg, Write, is_same_kind, is_same_register};
 
 /// What bounds look up of the numbers of a block; the word of n stands at n - 1. Times are in minor cycles.
 #[derive(Debug, Drop)]

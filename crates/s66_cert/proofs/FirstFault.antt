@@ -2,7 +2,7 @@
 use Rattle.std.proofs.Common.{◌≡◌, ◌≤◌, ◌<◌, ◌+◌, ◌-◌, ◌&&◌, ℕ, suc, Bool, true, false, List, [], ◌∷◌, ◌++◌, length, Option, None, Some, refl, sym, ap, ◌∙◌, arith, cond, leb, eqb, append_assoc, subst}
 use Rattle.std.proofs.lemmas.Bool.{cond-false, leb-false, leb-true, lt-leb}
 use Rattle.std.specs.Prelude.{Result, Ok, Err}
-use Rattle.s66_line.specs.declared.limits.TheConstants.{BLOCK_LIMIT}
+use Rattle.s66_isa.specs.declared.limits.TheConstants.{BLOCK_LIMIT}
 use Rattle.s66_model.specs.Tree.{AtTip, AtSplit}
 use Rattle.s66_cert.specs.Document.{Document, IsTextWithin}
 use Rattle.s66_cert.specs.Faults.{IsLine, AreLines, with_newlines, BeginsWithin, Begins, HasLine, IsBadLine, IsSplitTooMany, IsCut, IsFault}

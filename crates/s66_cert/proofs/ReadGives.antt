@@ -1,7 +1,7 @@
 -- What reading gives, in the words of documents and faults.
 use Rattle.std.proofs.Common.{ℕ, List, refl}
 use Rattle.std.specs.Prelude.{Result, Ok, Err, IfOk}
-use Rattle.s66_line.specs.declared.limits.TheConstants.{BLOCK_LIMIT}
+use Rattle.s66_isa.specs.declared.limits.TheConstants.{BLOCK_LIMIT}
 use Rattle.s66_cert.specs.declared.limits.TheConstants.{SPLIT_LIMIT}
 use Rattle.s66_cert.specs.Document.{Document, IsText}
 use Rattle.s66_cert.specs.Reading.{read_of}

@@ -3,7 +3,7 @@ use Rattle.std.proofs.Common.{◌≡◌, ◌≤◌, ◌<◌, ◌+◌, ◌-◌, �
 use Rattle.std.proofs.lemmas.Bool.{ne_eqb}
 use Rattle.std.proofs.lemmas.List.Edits.{between_more}
 use Rattle.std.specs.Prelude.{Result, Ok, Err, OnOk}
-use Rattle.s66_line.specs.declared.limits.TheConstants.{BLOCK_LIMIT}
+use Rattle.s66_isa.specs.declared.limits.TheConstants.{BLOCK_LIMIT}
 use Rattle.s66_cert.specs.Fine.{IsFine}
 use Rattle.s66_cert.specs.Lines.{Line, IsInRange}
 use Rattle.s66_cert.specs.Reading.{State, step_at, step, steps, and_then, whole_lines, last_bytes}

@@ -1,6 +1,6 @@
 -- Used by contracts: a document as code keeps it, its tree by its lines in preorder.
 use Rattle.std.specs.Prelude.{◌≡◌, ◌≤◌, ℕ, List, [], ◌∷◌, length, Option, None, Some}
-use Rattle.s66_line.specs.declared.limits.TheConstants.{BLOCK_LIMIT}
+use Rattle.s66_isa.specs.declared.limits.TheConstants.{BLOCK_LIMIT}
 use Rattle.s66_model.specs.Leaves.{Leaf, Whole, Chain, Load, Parcels}
 use Rattle.s66_model.specs.Tree.{Tree, Knot, AtTip, AtSplit, flat}
 use Rattle.s66_model.specs.Preorder.{read_tree}

@@ -1,6 +1,6 @@
 -- Used by contracts: what was read of documents is in range.
 use Rattle.std.specs.Prelude.{◌≡◌, ◌≤◌, ◌+◌, ℕ, zero, suc, List, [], ◌∷◌, length}
-use Rattle.s66_line.specs.declared.limits.TheConstants.{BLOCK_LIMIT}
+use Rattle.s66_isa.specs.declared.limits.TheConstants.{BLOCK_LIMIT}
 use Rattle.s66_model.specs.Leaves.{Leaf}
 use Rattle.s66_model.specs.Tree.{Knot, AtTip, AtSplit}
 use Rattle.s66_cert.specs.Document.{AreDocumentsWithin, AreIn, AreNumbers, AreInstructions, IsLeafLine}

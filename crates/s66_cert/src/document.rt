@@ -1,7 +1,7 @@
 use crate::limits::PROFILE_LENGTH;
 use crate::tree::{Tree, TreeLines};
 use arrayvec::ArrayVec;
-use s66_line::BLOCK_LIMIT;
+use s66_isa::BLOCK_LIMIT;
 use std::marker::Model;
 
 /// What a document says.

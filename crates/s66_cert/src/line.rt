@@ -1,7 +1,6 @@
 use crate::limits::PROFILE_LENGTH;
 use arrayvec::ArrayVec;
-use s66_isa::Kind;
-use s66_line::BLOCK_LIMIT;
+use s66_isa::{BLOCK_LIMIT, Kind};
 
 /// What a line of a document says.
 #[derive(Debug, Drop)]

@@ -1,6 +1,7 @@
 ghost use Rattle.std.specs.Prelude.{◌≡◌, ◌+◌, ◌-◌, ◌^◌, ◌<◌, ◌≤◌, ◌++◌, length, decimal, OnOk, OnErr};
 ghost use Rattle.s66_isa.specs.Lists.{after_blanks};
-ghost use Rattle.s66_line.specs.declared.limits.TheConstants.{BLOCK_LIMIT, TEXT_LIMIT};
+ghost use Rattle.s66_isa.specs.declared.limits.TheConstants.{BLOCK_LIMIT};
+ghost use Rattle.s66_line.specs.declared.limits.TheConstants.{TEXT_LIMIT};
 ghost use Rattle.s66_model.specs.Tree.{AtTip, Knot};
 ghost use Rattle.s66_cert.specs.Document.{kind_name, instruction_lines, tree_lines};
 ghost use Rattle.s66_cert.specs.Pages.{IsPrinted, IsBegun};
@@ -9,8 +10,8 @@ ghost use Rattle.s66_cert.specs.DocumentParts.{knot_of, IsShort};
 use crate::tree::TreeLine;
 use arrayvec::ArrayVec;
 use itoa::Buffer;
-use s66_isa::Kind;
-use s66_line::{BLOCK_LIMIT, Sink, WriteError, write_all};
+use s66_isa::{BLOCK_LIMIT, Kind};
+use s66_line::{Sink, WriteError, write_all};
 use std::marker::Model;
 
 /// The bytes of a page.

@@ -1,7 +1,7 @@
 ghost use Rattle.std.specs.Prelude.{◌≡◌, ◌≤◌};
 ghost use Rattle.std.specs.Str.{bytes_eq};
 ghost use Rattle.std.specs.Option.{option_map};
-ghost use Rattle.s66_line.specs.declared.limits.TheConstants.{BLOCK_LIMIT};
+ghost use Rattle.s66_isa.specs.declared.limits.TheConstants.{BLOCK_LIMIT};
 ghost use Rattle.s66_model.specs.Leaves.{Chain, Load};
 ghost use Rattle.s66_model.specs.Tree.{AtTip, AtSplit};
 ghost use Rattle.s66_cert.specs.Lines.{line_of, block_numbers, profile_in, one_number, instruction_in, kind_in, header_in, alone, OfTree};
@@ -13,8 +13,8 @@ use crate::limits::{PROFILE_LENGTH, PROFILE_LIMIT, TIME_LIMIT};
 use crate::line::LineOf;
 use crate::scan::{number_in, numbers_in, split_word};
 use arrayvec::ArrayVec;
-use s66_isa::Kind;
-use s66_line::{BLOCK_LIMIT, is_instruction};
+use s66_isa::{BLOCK_LIMIT, Kind};
+use s66_line::is_instruction;
 
 fn is_name(bytes: &[u8], name: &[u8]) -> bool
     ensures { result ≡ bytes_eq bytes.now name.now }

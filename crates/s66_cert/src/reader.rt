@@ -1,5 +1,5 @@
 ghost use Rattle.std.specs.Prelude.{suc, ◌≡◌, ◌≤◌, ◌<◌, ◌+◌, ◌-◌, ◌^◌, [], OnOk};
-ghost use Rattle.s66_line.specs.declared.limits.TheConstants.{BLOCK_LIMIT};
+ghost use Rattle.s66_isa.specs.declared.limits.TheConstants.{BLOCK_LIMIT};
 ghost use Rattle.s66_cert.specs.Fine.{IsFine};
 ghost use Rattle.s66_cert.specs.Lines.{IsInRange, IsKnot, Header, Profile, Block, Instruction, Time, Bound, Order, OfTree, End};
 ghost use Rattle.s66_cert.specs.DocumentParts.{AreWhole, knot_of};
@@ -18,7 +18,7 @@ use crate::parse::line_of;
 use crate::place::Place;
 use crate::tree::{Tree, TreeLine};
 use arrayvec::ArrayVec;
-use s66_line::BLOCK_LIMIT;
+use s66_isa::BLOCK_LIMIT;
 use std::alloc::Global;
 use std::mem;
 

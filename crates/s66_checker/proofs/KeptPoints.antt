@@ -6,7 +6,7 @@ use Rattle.s66_isa.specs.declared.instr.Kind.{Kind}
 use Rattle.s66_isa.specs.declared.reg.Reg.{Reg}
 use Rattle.s66_isa.specs.Lists.{greatest, weigh}
 use Rattle.s66_isa.specs.Table.{Row, same_kind}
-use Rattle.s66_line.specs.declared.limits.TheConstants.{BLOCK_LIMIT}
+use Rattle.s66_isa.specs.declared.limits.TheConstants.{BLOCK_LIMIT}
 use Rattle.s66_model.specs.Timing.{Problem, Point, end_of, total, done_of, last_done, row_at, point_of, points_after}
 use Rattle.s66_model.specs.Leaves.{rest_busy}
 use Rattle.s66_model.proofs.Growth.{AreSmall, point-ordered, total-le}

@@ -6,7 +6,7 @@ use Rattle.s66_isa.specs.Table.{Row, row, standard}
 use Rattle.s66_model.specs.Timing.{Problem, Point, points_of}
 use Rattle.s66_model.specs.Dependence.{depends}
 use Rattle.s66_model.specs.LegalOrder.{IsBeginning}
-use Rattle.s66_line.specs.declared.limits.TheConstants.{BLOCK_LIMIT}
+use Rattle.s66_isa.specs.declared.limits.TheConstants.{BLOCK_LIMIT}
 use Rattle.s66_checker.specs.Marked.{is_marked}
 use Rattle.s66_checker.specs.declared.marks.Marks.{Marks}
 

@@ -2,7 +2,8 @@ ghost use Rattle.std.specs.Prelude.{◌≡◌, ◌≤◌, ℕ, List, Some, None,
 ghost use Rattle.std.specs.declared.alloc.Global.{Global};
 ghost use Rattle.std.specs.declared.vec.Vec.{Vec};
 ghost use Rattle.s66_isa.specs.Table.{standard};
-ghost use Rattle.s66_line.specs.declared.limits.TheConstants.{BLOCK_LIMIT, TEXT_LIMIT};
+ghost use Rattle.s66_isa.specs.declared.limits.TheConstants.{BLOCK_LIMIT};
+ghost use Rattle.s66_line.specs.declared.limits.TheConstants.{TEXT_LIMIT};
 ghost use Rattle.s66_model.specs.Timing.{total_of};
 ghost use Rattle.s66_cert.specs.Document.{AreInstructions, profile_numbers};
 ghost use Rattle.s66_cert.specs.DocumentParts.{document_of};
@@ -14,8 +15,8 @@ use crate::verdict::{Reason, Verdict};
 use crate::walk::tree_verdict;
 use arrayvec::ArrayVec;
 use s66_cert::{Document, PROFILE_LENGTH};
-use s66_isa::Instr;
-use s66_line::{BLOCK_LIMIT, instruction_in};
+use s66_isa::{BLOCK_LIMIT, Instr};
+use s66_line::instruction_in;
 
 /// The numbers of the standard profile.
 const STANDARD: [u8; PROFILE_LENGTH] = [3, 3, 4, 4, 3, 10, 29, 8, 3, 8, 1, 1, 1, 1, 2, 1, 2];

@@ -2,7 +2,7 @@
 
 ghost use Rattle.std.specs.Prelude.{◌≡◌, ◌≤◌, if◌then◌else◌, nat_lt, None, Some, length};
 ghost use Rattle.std.specs.Str.{bytes_eq};
-ghost use Rattle.s66_line.specs.declared.limits.TheConstants.{BLOCK_LIMIT};
+ghost use Rattle.s66_isa.specs.declared.limits.TheConstants.{BLOCK_LIMIT};
 ghost use Rattle.s66_model.specs.LegalOrder.{ready};
 ghost use Rattle.s66_model.specs.Leaves.{Whole, Chain, Load, Parcels};
 ghost use Rattle.s66_checker.specs.declared.verdict.Reason.TheVariants as fault;

@@ -1,7 +1,7 @@
 //! Values of leaves, in minor cycles, and the numbers that are ready.
 
 ghost use Rattle.std.specs.Prelude.{ℕ, ◌≡◌, ◌+◌, ◌-◌, ◌*◌, ◌≤◌, ◌<◌, ◌^◌, ◌&&◌, nat_lt, true, length, IfSome};
-ghost use Rattle.s66_line.specs.declared.limits.TheConstants.{BLOCK_LIMIT};
+ghost use Rattle.s66_isa.specs.declared.limits.TheConstants.{BLOCK_LIMIT};
 ghost use Rattle.std.specs.Option.{is_some};
 ghost use Rattle.s66_model.specs.Timing.{points_of, row_at, next};
 ghost use Rattle.s66_model.specs.LegalOrder.{is_remaining, ready, sum_remaining};

@@ -2,14 +2,13 @@
 
 ghost use Rattle.std.specs.Prelude.{ℕ, ◌≡◌, ◌+◌, ◌≤◌, ◌<◌, length};
 ghost use Rattle.s66_model.specs.Dependence.{share, depends};
-ghost use Rattle.s66_line.specs.declared.limits.TheConstants.{BLOCK_LIMIT};
+ghost use Rattle.s66_isa.specs.declared.limits.TheConstants.{BLOCK_LIMIT};
 ghost use Rattle.s66_checker.specs.KeptPrefix.{AreNeeds};
 ghost use Rattle.s66_checker.specs.Marked.{is_marked};
 
 use crate::marks::Marks;
 use arrayvec::ArrayVec;
-use s66_isa::{Instr, Memory, Reg, has_register, is_memory_conflict};
-use s66_line::BLOCK_LIMIT;
+use s66_isa::{BLOCK_LIMIT, Instr, Memory, Reg, has_register, is_memory_conflict};
 use std::marker::Model;
 
 /// Numbers of instructions of a block, each once.

@@ -3,8 +3,7 @@ ghost use Rattle.std.specs.Prelude.{◌≡◌, ◌≤◌, ◌<◌, length};
 use crate::point::KeptPoint;
 use crate::words::Words;
 use arrayvec::ArrayVec;
-use s66_isa::{Kind, Memory, Profile, Reg, kind_number};
-use s66_line::BLOCK_LIMIT;
+use s66_isa::{BLOCK_LIMIT, Kind, Memory, Profile, Reg, kind_number};
 use std::marker::Model;
 
 /// What is placed under the standard profile, with what it leaves for the next instruction. All times are in minor cycles.
@@ -36,7 +35,7 @@ impl Past {
     ghost use Rattle.std.specs.Prelude.{ℕ, ◌+◌, ◌-◌, ◌++◌, [], ◌∷◌, if◌then◌else◌, take};
     ghost use Rattle.s66_isa.specs.Lists.{greatest, tally, weigh};
     ghost use Rattle.s66_isa.specs.Table.{copies_of, memory_pair, standard};
-    ghost use Rattle.s66_line.specs.declared.limits.TheConstants.{BLOCK_LIMIT};
+    ghost use Rattle.s66_isa.specs.declared.limits.TheConstants.{BLOCK_LIMIT};
     ghost use Rattle.s66_model.specs.Timing.{Point, busy_at, done_of, readers_wait, total};
 
     /// Before the first instruction.

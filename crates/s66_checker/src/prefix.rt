@@ -1,5 +1,5 @@
 ghost use Rattle.std.specs.Prelude.{◌≡◌, ◌≤◌, length};
-ghost use Rattle.s66_line.specs.declared.limits.TheConstants.{BLOCK_LIMIT};
+ghost use Rattle.s66_isa.specs.declared.limits.TheConstants.{BLOCK_LIMIT};
 
 use crate::marks::Marks;
 use crate::needs::{Numbers, needs_of_all};
@@ -8,8 +8,7 @@ use crate::point::KeptPoint;
 use crate::row::{Row, copy_of, rows_of};
 use crate::timing::next_point;
 use arrayvec::ArrayVec;
-use s66_isa::Instr;
-use s66_line::BLOCK_LIMIT;
+use s66_isa::{BLOCK_LIMIT, Instr};
 use std::marker::Model;
 
 /// The beginning of an order of a block that a checker has come to, with the times of its instructions under the standard profile.

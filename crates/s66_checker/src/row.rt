@@ -1,10 +1,9 @@
 ghost use Rattle.std.specs.Prelude.{◌≡◌, ◌≤◌, length, map};
 ghost use Rattle.s66_isa.specs.Table.{row, standard};
-ghost use Rattle.s66_line.specs.declared.limits.TheConstants.{BLOCK_LIMIT};
+ghost use Rattle.s66_isa.specs.declared.limits.TheConstants.{BLOCK_LIMIT};
 
 use arrayvec::ArrayVec;
-use s66_isa::{Instr, Kind, Memory, Profile, Reg, Write, writes_of};
-use s66_line::BLOCK_LIMIT;
+use s66_isa::{BLOCK_LIMIT, Instr, Kind, Memory, Profile, Reg, Write, writes_of};
 use std::marker::Model;
 
 /// All that timing knows of an instruction under the standard profile.

@@ -4,7 +4,7 @@
 ghost use Rattle.std.specs.Prelude.{ℕ, ◌≡◌, ◌+◌, ◌<◌, ◌≤◌, ◌^◌, [], if◌then◌else◌, length, map, reverse};
 ghost use Rattle.s66_isa.specs.Lists.{greatest, tally, weigh};
 ghost use Rattle.s66_isa.specs.Table.{Write as WriteOf, copies_of, memory_pair, standard};
-ghost use Rattle.s66_line.specs.declared.limits.TheConstants.{BLOCK_LIMIT};
+ghost use Rattle.s66_isa.specs.declared.limits.TheConstants.{BLOCK_LIMIT};
 ghost use Rattle.s66_model.specs.Packing.{fits_at};
 ghost use Rattle.s66_model.specs.Timing.{Point, busy_at, done_of, total, next, parcel_of, slot_of, issue_of, start_of, readers_wait, result_at, point};
 ghost use Rattle.s66_model.specs.Leaves.{rest_busy};

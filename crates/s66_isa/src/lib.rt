@@ -2,6 +2,7 @@
 #![tactic(auto)]
 
 mod instr;
+mod limits;
 mod op;
 mod profile;
 mod reg;
@@ -11,6 +12,7 @@ mod write;
 pub use instr::{
     Instr, KIND_COUNT, KINDS, Kind, Memory, Operands, is_memory_conflict, is_same_kind, kind_number,
 };
+pub use limits::BLOCK_LIMIT;
 pub use op::Op;
 pub use profile::{Profile, is_same_profile};
 pub use reg::{Bank, REGISTER_COUNT, Reg, has_register, is_same_register, is_zero_register};

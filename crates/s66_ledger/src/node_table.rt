@@ -4,7 +4,7 @@ use crate::rank::rank_of;
 use crate::subtree::Subtree;
 use crate::{live, path};
 use arrayvec::ArrayVec;
-use s66_line::BLOCK_LIMIT;
+use s66_isa::BLOCK_LIMIT;
 use s66_node::{Knot, Piece};
 use std::alloc::{AllocError, Global};
 use std::collections::BinaryHeap;
@@ -41,7 +41,7 @@ impl NodeTable {
     ghost use Rattle.std.specs.Prelude.{ℕ, [], ◌∷◌, ◌++◌, ◌+◌, ◌^◌, ◌≡◌, ◌<◌, ◌≤◌, ◌↔◌, true, false, IsTrue, IfOk, OnOk, OnErr, IfSome, IfNone, length, get_or, slice_get};
     ghost use Rattle.s66_isa.specs.Lists.{tally, least};
     ghost use Rattle.s66_ledger.specs.LiveNodes.{is_live_state, live_values};
-    ghost use Rattle.s66_line.specs.declared.limits.TheConstants.{BLOCK_LIMIT};
+    ghost use Rattle.s66_isa.specs.declared.limits.TheConstants.{BLOCK_LIMIT};
     ghost use Rattle.s66_ledger.specs.declared.node.State.{State};
     ghost use Rattle.s66_model.specs.Ledger as model;
     ghost use Rattle.s66_model.specs.Ledger.{root_state, new_nodes};

@@ -10,7 +10,7 @@ use crate::limits::LINES_LIMIT;
 use crate::node::{Node, State};
 use arrayvec::ArrayVec;
 use s66_dep::Set;
-use s66_line::BLOCK_LIMIT;
+use s66_isa::BLOCK_LIMIT;
 use s66_node::{Knot, Piece};
 use std::alloc::{AllocError, Global};
 use std::marker::Model;

@@ -2,7 +2,7 @@ ghost use Rattle.std.specs.Prelude.{◌≡◌};
 ghost use Rattle.s66_ledger.specs.ClaimedNodes.{claimed_node};
 
 use arrayvec::ArrayVec;
-use s66_line::BLOCK_LIMIT;
+use s66_isa::BLOCK_LIMIT;
 use std::marker::Model;
 
 /// A node that a ledger handed out, with its prefix. Only a claim makes one, and it can't be copied; dropped, it leaves its

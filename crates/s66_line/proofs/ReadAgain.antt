@@ -16,7 +16,7 @@ use Rattle.s66_line.specs.ReadAgain.{AreComplete, ArePlacedAgain}
 use Rattle.s66_line.specs.Reader.{State, start, with_open, end_block, begin_run, count_line, by_class, and_then, read_from}
 use Rattle.s66_line.specs.declared.class.Class.{Class}
 use Rattle.s66_line.specs.declared.class.Class.TheVariants.{Comment, Other, Refused, Pad, Instruction}
-use Rattle.s66_line.specs.declared.limits.TheConstants.{BLOCK_LIMIT}
+use Rattle.s66_isa.specs.declared.limits.TheConstants.{BLOCK_LIMIT}
 use Rattle.s66_line.specs.declared.error.SourceError.{SourceError}
 use Rattle.s66_line.proofs.LineLaw.{no_refusal, neither, operand-none}
 use Rattle.s66_line.proofs.PrintedLines.{text-first, instruction-not_copied, same-blocks, accepted-is}

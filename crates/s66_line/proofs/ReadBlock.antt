@@ -14,7 +14,7 @@ use Rattle.s66_line.specs.Printed.{Placed, is_trailing, label_field, instruction
 use Rattle.s66_line.specs.ReadAgain.{IsPlacedAgain}
 use Rattle.s66_line.specs.Reader.{State, with_open, end_block, begin_run_if, with_entry, count_line, read_from}
 use Rattle.s66_line.specs.declared.class.Class.TheVariants.{Instruction}
-use Rattle.s66_line.specs.declared.limits.TheConstants.{BLOCK_LIMIT}
+use Rattle.s66_isa.specs.declared.limits.TheConstants.{BLOCK_LIMIT}
 use Rattle.s66_line.proofs.BlockEntries.{instr_at-entry}
 use Rattle.s66_line.proofs.ReadLine.{IsLabel, read-line, inside-line}
 use Rattle.s66_line.proofs.ReadComments.{read-as, read-class, Passed, passes-append, passes-report, AreLinesOfSource, passes-notes}

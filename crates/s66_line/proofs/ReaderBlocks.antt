@@ -8,7 +8,8 @@ use Rattle.std.proofs.Math.Dec.{leb-suc-suc, eqb-suc-suc, eqb-suc-zero}
 use Rattle.std.proofs.Math.Nat.{suc-mod, mod-eq_of_lt}
 use Rattle.s66_isa.specs.declared.instr.Instr.{Instr}
 use Rattle.s66_line.specs.Fields.{lines_of, body, from_operation, label_bytes}
-use Rattle.s66_line.specs.declared.limits.TheConstants.{BLOCK_LIMIT, LINE_LIMIT, SOURCE_LIMIT}
+use Rattle.s66_isa.specs.declared.limits.TheConstants.{BLOCK_LIMIT}
+use Rattle.s66_line.specs.declared.limits.TheConstants.{LINE_LIMIT, SOURCE_LIMIT}
 use Rattle.s66_line.specs.Source.{Line, Entry, Block, class_of, is_code, run_at, run_after, place_at, place_after, label_at, label_after, classes_from, classed_lines, operand_refusal, or_else, refusal, instructions, begins_block, put_before, parts_of, entry_of, label_in, block_of, blocks_of, unless_refused, source_of}
 use Rattle.s66_line.specs.Gives.{Gives}
 use Rattle.s66_line.specs.Reader.{State, Steps, start, end_block, with_open, count_line, by_class, line_step, lines_step, and_then, read_from}

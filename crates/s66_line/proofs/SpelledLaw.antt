@@ -11,7 +11,8 @@ use Rattle.s66_line.specs.InstructionText.{IsTextOf}
 use Rattle.s66_line.specs.Source.{Line, Entry, Block, classed_lines, operand_refusal, refusal, instructions, parts_of, entry_of, block_of, blocks_of, source_of}
 use Rattle.s66_line.specs.Block.{instrs_of, text_of}
 use Rattle.s66_line.specs.BlockParts.{all_of}
-use Rattle.s66_line.specs.declared.limits.TheConstants.{BLOCK_LIMIT, LINE_LIMIT, SOURCE_LIMIT, TEXT_LIMIT}
+use Rattle.s66_isa.specs.declared.limits.TheConstants.{BLOCK_LIMIT}
+use Rattle.s66_line.specs.declared.limits.TheConstants.{LINE_LIMIT, SOURCE_LIMIT, TEXT_LIMIT}
 use Rattle.s66_line.specs.declared.error.SourceError.{SourceError}
 use Rattle.s66_line.specs.declared.error.SourceError.TheVariants.{LineTooLong, TooLarge}
 use Rattle.s66_line.proofs.BlockEntries.{instr_at-entry}

@@ -2,7 +2,7 @@
 use Rattle.std.specs.Prelude.{◌≡◌, ◌≤◌, List, [], ◌∷◌, ◌++◌, length}
 use Rattle.s66_isa.specs.Lists.{Among}
 use Rattle.s66_line.specs.Source.{Line, instructions}
-use Rattle.s66_line.specs.declared.limits.TheConstants.{BLOCK_LIMIT}
+use Rattle.s66_isa.specs.declared.limits.TheConstants.{BLOCK_LIMIT}
 
 abbrev pub all_of : List (List Line) → List Line
 all_of [] = []

@@ -6,7 +6,8 @@ use Rattle.s66_line.specs.InstructionText.{Spells}
 use Rattle.s66_line.specs.Source.{Block, Entry, class_of}
 use Rattle.s66_line.specs.declared.class.Class.{Class}
 use Rattle.s66_line.specs.declared.class.Class.TheVariants.{Comment, Other, Refused, Pad, Instruction}
-use Rattle.s66_line.specs.declared.limits.TheConstants.{BLOCK_LIMIT, LINE_LIMIT, SOURCE_LIMIT}
+use Rattle.s66_isa.specs.declared.limits.TheConstants.{BLOCK_LIMIT}
+use Rattle.s66_line.specs.declared.limits.TheConstants.{LINE_LIMIT, SOURCE_LIMIT}
 use Rattle.s66_line.specs.declared.error.SourceError.{SourceError}
 use Rattle.s66_line.specs.declared.error.SourceError.TheVariants.{BadOperand, LineTooLong, TooLarge, OutOfMemory}
 

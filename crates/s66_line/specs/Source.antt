@@ -7,7 +7,8 @@ use Rattle.s66_line.specs.Fields.{lines_of, upper, body, is_comment, location, o
 use Rattle.s66_line.specs.Operand.{operation_of, instr_of}
 use Rattle.s66_line.specs.declared.class.Class.{Class}
 use Rattle.s66_line.specs.declared.class.Class.TheVariants.{Comment, Other, Refused, Pad, Instruction}
-use Rattle.s66_line.specs.declared.limits.TheConstants.{BLOCK_LIMIT, LINE_LIMIT, SOURCE_LIMIT}
+use Rattle.s66_isa.specs.declared.limits.TheConstants.{BLOCK_LIMIT}
+use Rattle.s66_line.specs.declared.limits.TheConstants.{LINE_LIMIT, SOURCE_LIMIT}
 use Rattle.s66_line.specs.declared.error.SourceError.{SourceError}
 use Rattle.s66_line.specs.declared.error.SourceError.TheVariants.{BadOperand, LineTooLong, TooLarge}
 

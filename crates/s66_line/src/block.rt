@@ -19,7 +19,7 @@ pub struct Block<'a> {
 impl<'a> Model for Block<'a> {
     ghost use Rattle.std.specs.Prelude.{◌≤◌, ◌<◌, length};
     ghost use Rattle.s66_line.specs.Source.{Block};
-    ghost use Rattle.s66_line.specs.declared.limits.TheConstants.{BLOCK_LIMIT};
+    ghost use Rattle.s66_isa.specs.declared.limits.TheConstants.{BLOCK_LIMIT};
 
     ghost Value = { Block };
 
@@ -54,7 +54,8 @@ impl<'a> Block<'a> {
     ghost use Rattle.s66_isa.specs.declared.instr.Instr.{Instr};
     ghost use Rattle.s66_line.specs.InstructionText.{Spells, IsTextOf, IsInstruction};
     ghost use Rattle.s66_line.specs.Block.{instrs_of, entry_at, line_of, bytes_of, text_of, block_of_texts};
-    ghost use Rattle.s66_line.specs.declared.limits.TheConstants.{BLOCK_LIMIT, TEXT_LIMIT};
+    ghost use Rattle.s66_isa.specs.declared.limits.TheConstants.{BLOCK_LIMIT};
+    ghost use Rattle.s66_line.specs.declared.limits.TheConstants.{TEXT_LIMIT};
 
     pub(crate) fn new(label: &'a [u8], entries: Vec<Entry<'a>>) -> Block<'a>
         requires some { 0 < length entries.items }

@@ -2,7 +2,7 @@ ghost use Rattle.std.specs.Prelude.{ℕ, ◌≡◌, ◌≤◌, ◌++◌, codes, 
 ghost use Rattle.s66_isa.specs.Lists.{Among};
 ghost use Rattle.s66_line.specs.Fields.{body, trim};
 ghost use Rattle.s66_line.specs.Printed.{is_trailing, bound_text, splits_line, times_text, report, label_field, instruction_line, instruction_lines};
-ghost use Rattle.s66_line.specs.declared.limits.TheConstants.{BLOCK_LIMIT};
+ghost use Rattle.s66_isa.specs.declared.limits.TheConstants.{BLOCK_LIMIT};
 
 use crate::block::Block;
 use crate::fields::body_of;

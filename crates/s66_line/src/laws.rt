@@ -10,7 +10,7 @@ ghost use Rattle.s66_line.specs.Operand.{register_of, is_constant, constant_of, 
 ghost use Rattle.s66_line.specs.Spelling.{CanMean, spellings, all_codes, upper_read};
 ghost use Rattle.s66_line.specs.Source.{Line, Block, class_of, classed_lines, instructions, is_instruction, parts_of, blocks_of, source_of};
 ghost use Rattle.s66_line.specs.Block.{instrs_of, text_of, constants_in};
-ghost use Rattle.s66_line.specs.declared.limits.TheConstants.{BLOCK_LIMIT};
+ghost use Rattle.s66_isa.specs.declared.limits.TheConstants.{BLOCK_LIMIT};
 ghost use Rattle.s66_line.specs.BlockParts.{AreParts};
 ghost use Rattle.s66_line.specs.Printed.{Placed, ArePlaced, label_field, printed};
 ghost use Rattle.s66_line.specs.ReadAgain.{AreComplete, ArePlacedAgain};

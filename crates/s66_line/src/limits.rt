@@ -1,6 +1,3 @@
-/// The most instructions of a block.
-pub const BLOCK_LIMIT: usize = 64;
-
 /// The most bytes of a line, its newline not counted.
 pub const LINE_LIMIT: usize = 200;
 

@@ -6,16 +6,17 @@ ghost use Rattle.s66_line.specs.Pads as pads;
 ghost use Rattle.s66_line.specs.Reader.{Steps, IsSpelled, end_block, begin_run, with_entry, by_class, line_step, lines_step};
 ghost use Rattle.s66_line.specs.SourceReader.{state};
 ghost use Rattle.s66_line.specs.Source.{class_of, is_code};
-ghost use Rattle.s66_line.specs.declared.limits.TheConstants.{BLOCK_LIMIT, SOURCE_LIMIT, TEXT_LIMIT};
+ghost use Rattle.s66_isa.specs.declared.limits.TheConstants.{BLOCK_LIMIT};
+ghost use Rattle.s66_line.specs.declared.limits.TheConstants.{SOURCE_LIMIT, TEXT_LIMIT};
 
 use crate::block::Block;
 use crate::class::{Class, Classified, classify};
 use crate::entry::Entry;
 use crate::error::SourceError;
-use crate::limits::{BLOCK_LIMIT, LINE_LIMIT, SOURCE_LIMIT};
+use crate::limits::{LINE_LIMIT, SOURCE_LIMIT};
 use crate::pads::Pads;
 use memchr::memchr;
-use s66_isa::Instr;
+use s66_isa::{BLOCK_LIMIT, Instr};
 use std::alloc::{AllocError, Global};
 use std::mem;
 

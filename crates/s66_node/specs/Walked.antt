@@ -1,7 +1,7 @@
 -- Used by contracts: what they see of a walk: what is timed, and the prefix at which it stands.
 use Rattle.std.specs.Prelude.{ℕ, ◌-◌, ◌++◌, ◌≡◌, ◌≤◌, List, length, take}
 use Rattle.s66_line.specs.Block.{instrs_of}
-use Rattle.s66_line.specs.declared.limits.TheConstants.{BLOCK_LIMIT}
+use Rattle.s66_isa.specs.declared.limits.TheConstants.{BLOCK_LIMIT}
 use Rattle.s66_model.specs.Dependence.{all_needs}
 use Rattle.s66_model.specs.LegalOrder.{IsBeginning}
 use Rattle.s66_model.specs.Timing.{Problem}

@@ -9,7 +9,7 @@ use crate::walk::Walk;
 use crate::whole_order::{WholeOrder, keep_lesser};
 use arrayvec::ArrayVec;
 use s66_dep::Set;
-use s66_line::BLOCK_LIMIT;
+use s66_isa::BLOCK_LIMIT;
 use std::alloc::{AllocError, Global};
 
 /// For how many lines of a tree that is split there is room from the first: a small tree needs no more.

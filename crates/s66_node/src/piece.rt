@@ -1,8 +1,8 @@
 use crate::knot::Knot;
 use arrayvec::ArrayVec;
 use s66_dep::Order;
-use s66_isa::{Profile, is_same_profile};
-use s66_line::{BLOCK_LIMIT, Block};
+use s66_isa::{BLOCK_LIMIT, Profile, is_same_profile};
+use s66_line::Block;
 use s66_time::Timed;
 use std::boxed::Box;
 use std::marker::Model;
@@ -33,7 +33,7 @@ impl Model for Piece {
 
 impl Piece {
     ghost use Rattle.std.specs.Prelude.{◌≡◌, ◌≤◌, ◌↔◌, IsTrue, length};
-    ghost use Rattle.s66_line.specs.declared.limits.TheConstants.{BLOCK_LIMIT};
+    ghost use Rattle.s66_isa.specs.declared.limits.TheConstants.{BLOCK_LIMIT};
     ghost use Rattle.std.specs.Option.{option_copied};
     ghost use Rattle.s66_line.specs.Block.{instrs_of};
     ghost use Rattle.s66_model.specs.Tree.{TreeHolds, flat, splits};

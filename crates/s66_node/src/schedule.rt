@@ -6,8 +6,7 @@ ghost use Rattle.s66_model.specs.Timing.{points_of, point_of, done_of, total_of}
 
 use crate::walk::Walk;
 use s66_dep::Order;
-use s66_isa::Reg;
-use s66_line::BLOCK_LIMIT;
+use s66_isa::{BLOCK_LIMIT, Reg};
 use s66_time::{Timed, time_of};
 
 /// What comes first in a list schedule.

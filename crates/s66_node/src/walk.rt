@@ -3,8 +3,8 @@ ghost use Rattle.std.specs.Prelude.{ℕ, ◌≡◌, ◌≢◌, ◌≤◌, ◌<�
 use arrayvec::ArrayVec;
 use s66_bound::{Bounds, Leaf};
 use s66_dep::{Dependences, Set};
-use s66_isa::{Profile, Reg};
-use s66_line::{BLOCK_LIMIT, Block};
+use s66_isa::{BLOCK_LIMIT, Profile, Reg};
+use s66_line::Block;
 use s66_time::Clock;
 use std::marker::Model;
 
@@ -47,7 +47,7 @@ impl<'a> Model for Walk<'a> {
 impl<'a> Walk<'a> {
     ghost use Rattle.std.specs.Prelude.{◌≡◌, ◌<◌, ◌≤◌, ◌↔◌, ◌⊎◌, ◌++◌, [], ◌∷◌, true, IsTrue, length, take};
     ghost use Rattle.s66_line.specs.Block.{instrs_of};
-    ghost use Rattle.s66_line.specs.declared.limits.TheConstants.{BLOCK_LIMIT};
+    ghost use Rattle.s66_isa.specs.declared.limits.TheConstants.{BLOCK_LIMIT};
     ghost use Rattle.s66_model.specs.LegalOrder.{is_ready, ready, IsBeginning, IsComplete, IsIncomplete};
     ghost use Rattle.s66_model.specs.Leaves.{floor, floor_value};
     ghost use Rattle.s66_model.specs.Later.{IsNextReady};

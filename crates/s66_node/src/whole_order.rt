@@ -1,11 +1,11 @@
 ghost use Rattle.std.specs.Prelude.{◌≡◌, ◌≤◌, ◌++◌, [], ◌∷◌, List, ℕ, length};
-ghost use Rattle.s66_line.specs.declared.limits.TheConstants.{BLOCK_LIMIT};
+ghost use Rattle.s66_isa.specs.declared.limits.TheConstants.{BLOCK_LIMIT};
 ghost use Rattle.s66_model.specs.Timing.{Problem, total_of};
 ghost use Rattle.s66_model.specs.LegalOrder.{IsLegal};
 ghost use Rattle.s66_node.specs.Walking.{IsLeast};
 
 use arrayvec::ArrayVec;
-use s66_line::BLOCK_LIMIT;
+use s66_isa::BLOCK_LIMIT;
 
 /// A whole order and its total in minor cycles.
 #[derive(Debug, Drop)]

@@ -9,7 +9,7 @@ use Rattle.s66_isa.specs.declared.profile.Profile.{Profile}
 use Rattle.s66_isa.specs.Lists.{Among, rising}
 use Rattle.s66_isa.specs.Table.{numbers}
 use Rattle.s66_isa.proofs.Lists.{least-le}
-use Rattle.s66_line.specs.declared.limits.TheConstants.{BLOCK_LIMIT}
+use Rattle.s66_isa.specs.declared.limits.TheConstants.{BLOCK_LIMIT}
 use Rattle.s66_line.specs.Block.{instrs_of, text_of}
 use Rattle.s66_line.specs.Source.{Block}
 use Rattle.s66_model.specs.Answer.{Answer, IsAnswer}

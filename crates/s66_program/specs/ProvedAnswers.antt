@@ -1,7 +1,7 @@
 -- Used by contracts within the crate alone: blocks and the documents of their answers.
 use Rattle.std.specs.Prelude.{ℕ, ◌≡◌, ◌≤◌, ◌==◌, Bool, List, ◌++◌, length}
 use Rattle.s66_isa.specs.Table.{instr_at}
-use Rattle.s66_line.specs.declared.limits.TheConstants.{BLOCK_LIMIT}
+use Rattle.s66_isa.specs.declared.limits.TheConstants.{BLOCK_LIMIT}
 use Rattle.s66_line.specs.Block.{instrs_of, text_of}
 use Rattle.s66_line.specs.InstructionText.{IsTextOf}
 use Rattle.s66_line.specs.Source.{Block}

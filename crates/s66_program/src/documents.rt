@@ -15,9 +15,9 @@ use arrayvec::ArrayVec;
 use s66_bound::Leaf;
 use s66_cert::{Claim, Document, PROFILE_LENGTH, Tree, TreeLine};
 use s66_dep::Set;
-use s66_isa::Profile;
+use s66_isa::{BLOCK_LIMIT, Profile};
 use s66_ledger::{Answer, AnswerLine, BUDGET_LIMIT};
-use s66_line::{BLOCK_LIMIT, Block};
+use s66_line::Block;
 use std::alloc::{AllocError, Global};
 
 /// The times of a profile, then its copies of units.

@@ -3,7 +3,7 @@
 ghost use Rattle.std.specs.Prelude.{ℕ, List, Ok, ◌≡◌, ◌≤◌};
 ghost use Rattle.s66_isa.specs.Lists.{Among};
 ghost use Rattle.s66_line.specs.Source.{Block, source_of};
-ghost use Rattle.s66_line.specs.declared.limits.TheConstants.{BLOCK_LIMIT};
+ghost use Rattle.s66_isa.specs.declared.limits.TheConstants.{BLOCK_LIMIT};
 ghost use Rattle.s66_model.specs.Answer.{Answer, IsAnswer};
 ghost use Rattle.s66_ledger.specs.declared.limits.TheConstants.{BUDGET_LIMIT};
 ghost use Rattle.s66_cert.specs.Document.{IsDocument};

@@ -14,7 +14,7 @@ use Rattle.s66_model.proofs.ChainBound.{last-is_greatest}
 use Rattle.s66_model.proofs.PointTimes.{good-at, point_of-row, point_of-number, issue-le-start, hold-le-free}
 use Rattle.s66_model.proofs.Issue.{issue-late}
 use Rattle.s66_dep.proofs.LongestBeginning.{beginning-few}
-use Rattle.s66_line.specs.declared.limits.TheConstants.{BLOCK_LIMIT}
+use Rattle.s66_isa.specs.declared.limits.TheConstants.{BLOCK_LIMIT}
 use Rattle.s66_time.specs.ClockWords.{under, IsWords, InTurn, points_of_steps, AreKept, after_undo}
 use Rattle.s66_time.specs.Ticking.{numbers_of, IsClock}
 use Rattle.s66_time.specs.declared.words.Words.{Words}

@@ -2,7 +2,7 @@
 use Rattle.std.proofs.Common.{ℕ, ◌+◌, ◌≤◌, ◌<◌, ◌≡◌, List, [], ◌∷◌, ◌++◌, refl, sym, ap, arith, length, length-take, take, drop, get_or, map, reverse, ◌∙◌}
 use Rattle.std.proofs.lemmas.List.{get_or-map, get_or_append_left, length-map, length-reverse, map_push, reverse-append, take_more, take-append-drop}
 use Rattle.std.proofs.Math.Seq.{get_or-append_seam}
-use Rattle.s66_line.specs.declared.limits.TheConstants.{BLOCK_LIMIT}
+use Rattle.s66_isa.specs.declared.limits.TheConstants.{BLOCK_LIMIT}
 use Rattle.s66_model.specs.Timing.{Problem, Point, row_at, point_of, points_after, points_of, total}
 use Rattle.s66_model.proofs.Growth.{total-le}
 use Rattle.s66_model.proofs.PointTimes.{point_of-number, point_of-row, points_after-append, points_after-length, hold-le-free}

@@ -4,8 +4,8 @@ use crate::steps::Steps;
 use crate::words::Words;
 use arrayvec::ArrayVec;
 use s66_dep::Set;
-use s66_isa::{Kind, Profile, Reg};
-use s66_line::{BLOCK_LIMIT, Block};
+use s66_isa::{BLOCK_LIMIT, Kind, Profile, Reg};
+use s66_line::Block;
 use std::marker::Model;
 
 /// The times of a beginning of a block's legal orders under a profile, in minor cycles from the issue of the first instruction:
@@ -43,7 +43,7 @@ impl<'a> Clock<'a> {
     ghost use Rattle.s66_isa.specs.Table.{copies_of, kind_of, instr_at};
     ghost use Rattle.s66_dep.specs.Members.{numbers_in};
     ghost use Rattle.s66_line.specs.Block.{instrs_of};
-    ghost use Rattle.s66_line.specs.declared.limits.TheConstants.{BLOCK_LIMIT};
+    ghost use Rattle.s66_isa.specs.declared.limits.TheConstants.{BLOCK_LIMIT};
     ghost use Rattle.s66_model.specs.LegalOrder.{is_ready, IsBeginning};
     ghost use Rattle.s66_model.specs.Timing.{next, total, done_of};
     ghost use Rattle.s66_model.specs.Leaves.{rest_busy};

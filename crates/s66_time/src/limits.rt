@@ -1,5 +1,4 @@
-use s66_isa::KIND_COUNT;
-use s66_line::BLOCK_LIMIT;
+use s66_isa::{BLOCK_LIMIT, KIND_COUNT};
 
 /// The most minor cycles by which one more instruction lengthens an order.
 const STEP_LIMIT: u32 = 104;

@@ -3,8 +3,8 @@ ghost use Rattle.s66_line.specs.Block.{instrs_of};
 ghost use Rattle.s66_isa.specs.Table.{row};
 
 use arrayvec::ArrayVec;
-use s66_isa::{Instr, Kind, Memory, Profile, Reg, Write, writes_of};
-use s66_line::{BLOCK_LIMIT, Block};
+use s66_isa::{BLOCK_LIMIT, Instr, Kind, Memory, Profile, Reg, Write, writes_of};
+use s66_line::Block;
 use std::marker::Model;
 
 /// All that timing under a profile knows of an instruction, worked out once.

@@ -1,9 +1,9 @@
 ghost use Rattle.std.specs.Prelude.{◌≡◌, ◌-◌, ◌<◌, ◌≤◌, ◌++◌, [], ◌∷◌, length, take, get_or};
-ghost use Rattle.s66_line.specs.declared.limits.TheConstants.{BLOCK_LIMIT};
+ghost use Rattle.s66_isa.specs.declared.limits.TheConstants.{BLOCK_LIMIT};
 
 use crate::step::Step;
 use arrayvec::ArrayVec;
-use s66_line::BLOCK_LIMIT;
+use s66_isa::BLOCK_LIMIT;
 use std::marker::Model;
 
 /// What the pushes of a clock wrote over, the oldest first. A step that is taken back stays in its place until another is written

@@ -6,8 +6,8 @@ ghost use Rattle.s66_line.specs.InstructionText.{IsInstruction};
 
 use super::clock::MULTIPLIES;
 use s66_dep::Order;
-use s66_isa::Profile;
-use s66_line::{BLOCK_LIMIT, Block, is_instruction};
+use s66_isa::{BLOCK_LIMIT, Profile};
+use s66_line::{Block, is_instruction};
 use s66_time::time_of;
 use std::alloc::AllocError;
 use std::test::Fail;

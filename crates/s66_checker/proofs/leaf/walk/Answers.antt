@@ -3,7 +3,7 @@ use Rattle.std.proofs.lemmas.Bool.{and_parts, lt-ltb, le-ltb, ltb-true}
 use Rattle.std.proofs.lemmas.List.{at_drop_more, drop_all}
 use Rattle.s66_isa.specs.Table.{Row}
 use Rattle.s66_model.specs.Timing.{Problem, row_at}
-use Rattle.s66_line.specs.declared.limits.TheConstants.{BLOCK_LIMIT}
+use Rattle.s66_isa.specs.declared.limits.TheConstants.{BLOCK_LIMIT}
 use Rattle.s66_model.specs.LegalOrder.{is_remaining}
 use Rattle.s66_model.specs.Leaves.{walk, is_linked, tail}
 use Rattle.s66_model.proofs.PointTimes.{good-at}

@@ -1,5 +1,5 @@
 use Rattle.std.proofs.Common.{arith, take, drop, ◌-◌, ◌∙◌, ap, sym}
-use Rattle.s66_line.specs.declared.limits.TheConstants.{BLOCK_LIMIT}
+use Rattle.s66_isa.specs.declared.limits.TheConstants.{BLOCK_LIMIT}
 use Rattle.s66_cert.specs.declared.limits.TheConstants.{SPLIT_LIMIT}
 use Rattle.s66_cert.specs.Reading.{steps}
 use Rattle.s66_cert.specs.DocumentReader.{state}

@@ -1,5 +1,6 @@
 use Rattle.std.proofs.Common.{◌≡◌, ◌≤◌, ◌<◌, [], length}
-use Rattle.s66_line.specs.declared.limits.TheConstants.{BLOCK_LIMIT, SOURCE_LIMIT}
+use Rattle.s66_isa.specs.declared.limits.TheConstants.{BLOCK_LIMIT}
+use Rattle.s66_line.specs.declared.limits.TheConstants.{SOURCE_LIMIT}
 use Rattle.s66_line.specs.Fields.{lines_from}
 use Rattle.s66_line.specs.Pads.{pads_of_lines}
 use Rattle.s66_line.specs.Reader.{lines_step}
