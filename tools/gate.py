@@ -1,0 +1,142 @@
+#!/usr/bin/env python3
+"""Runs the gate and tells what each crate cost.
+
+    tools/gate.py LOG [ARGUMENT..]   runs `rt ci ARGUMENT..` here, writes what it says to LOG, and then prints the table
+    tools/gate.py --table LOG        prints the table of a log that was written so
+
+The table has the processor minutes of each crate: its check, the proof of its tests, and its must-fail edits, for which the
+crate is checked once more. They are sampled from the processes of the run, twice a second. The status is that of `rt ci`, and
+1 if an edit was refused only because a proof file names what the edit took away: such an edit shows nothing of a contract.
+"""
+import os
+import re
+import subprocess
+import sys
+import threading
+import time
+
+SHOWS_NOTHING = "only because a proof file names"
+KINDS = ("check", "tests", "edits")
+TICKS = os.sysconf("SC_CLK_TCK")
+
+
+def read(path):
+    try:
+        with open(path, "rb") as file:
+            return file.read()
+    except OSError:
+        return b""
+
+
+def kind_of(words, folder):
+    """Which part of the gate a check of the toolchain is, by its arguments and by the folder that it runs in."""
+    if "/rt-edit-" in folder:
+        return "edits"
+    return "tests" if "--test" in words else "check"
+
+
+class Sampler(threading.Thread):
+    """Samples the processor time of every check below this process until it is stopped."""
+
+    def __init__(self):
+        super().__init__(daemon=True)
+        self.labels = {}  # of a process, by its number and the time when it began: its crate and kind
+        self.seconds = {}  # of a process: what it has used when it was last seen
+        self.ended = threading.Event()
+
+    def look(self, pid):
+        stat = read(f"/proc/{pid}/stat").rpartition(b")")[2].split()
+        if len(stat) < 20:
+            return
+        process = pid, stat[19]
+        if process not in self.labels:
+            words = read(f"/proc/{pid}/cmdline").decode(errors="replace").split("\0")
+            if "--crate-name" not in words:
+                return
+            try:
+                folder = os.readlink(f"/proc/{pid}/cwd")
+            except OSError:
+                return
+            self.labels[process] = words[words.index("--crate-name") + 1], kind_of(words, folder)
+        self.seconds[process] = (int(stat[11]) + int(stat[12])) / TICKS
+
+    def run(self):
+        while not self.ended.wait(0.5):
+            for pid in filter(str.isdigit, os.listdir("/proc")):
+                self.look(pid)
+
+    def sums(self):
+        sums = {}
+        for process, seconds in self.seconds.items():
+            label = self.labels[process]
+            sums[label] = sums.get(label, 0) + seconds
+        return sums
+
+
+def run(log, arguments):
+    """Runs the gate, and appends to its log what each part of it cost."""
+    sampler, begun = Sampler(), time.time()
+    sampler.start()
+    with open(log, "w", encoding="utf-8") as file:
+        gate = subprocess.Popen(["rt", "ci", *arguments], stdout=subprocess.PIPE, stderr=subprocess.STDOUT, text=True, errors="replace")
+        for line in gate.stdout:
+            file.write(line)
+            file.flush()
+            print(line, end="", flush=True)
+        status = gate.wait()
+        sampler.ended.set()
+        sampler.join()
+        for (crate, kind), seconds in sorted(sampler.sums().items()):
+            file.write(f"gate: {crate} {kind} {seconds:.1f}\n")
+        file.write(f"gate: clock {time.time() - begun:.1f}\n")
+    return status
+
+
+def minutes(seconds):
+    return f"{seconds / 60:.1f}" if seconds else ""
+
+
+def table(log):
+    """The table of a log, and the lines that tell of edits that show nothing."""
+    with open(log, encoding="utf-8") as file:
+        text = file.read()
+    costs = {}
+    for crate, kind, seconds in re.findall(r"^gate: (\w+) (\w+) ([\d.]+)$", text, re.M):
+        costs.setdefault(crate, {})[kind] = float(seconds)
+    functions = dict(re.findall(r"^== (\w+)\n(?:(?!== ).*\n)*?.*logic=proved functions=(\d+)", text, re.M))
+    edits = {}
+    for crate in re.findall(r"must-fail (\w+)/\S+\.edit: ", text):
+        edits[crate] = edits.get(crate, 0) + 1
+    rows = ["| Crate | Functions | Check | Tests | Edits | Their minutes | In all |", "|---|---|---|---|---|---|---|"]
+    for crate, cost in costs.items():
+        cells = [functions.get(crate, ""), minutes(cost.get("check")), minutes(cost.get("tests")), str(edits.get(crate, ""))]
+        rows.append(f"| `{crate}` | {' | '.join(cells)} | {minutes(cost.get('edits'))} | {minutes(sum(cost.values()))} |")
+    sums = [sum(cost.get(kind, 0) for cost in costs.values()) for kind in KINDS]
+    count = sum(map(int, functions.values()))
+    rows.append(f"| all | {count} | {minutes(sums[0])} | {minutes(sums[1])} | {sum(edits.values())} | {minutes(sums[2])} | {minutes(sum(sums))} |")
+    clock = re.search(r"^gate: clock ([\d.]+)$", text, re.M)
+    if clock:
+        rows.append(f"\nBy the clock: {minutes(float(clock[1]))} minutes on {os.cpu_count()} processors.")
+    return "\n".join(rows), [line for line in text.splitlines() if SHOWS_NOTHING in line]
+
+
+def main():
+    arguments = sys.argv[1:]
+    if not arguments or arguments == ["--table"] or arguments[0] in ("-h", "--help"):
+        print(__doc__.strip())
+        return 2
+    status = 0
+    if arguments[0] == "--table":
+        log = arguments[1]
+    else:
+        log = arguments[0]
+        status = run(log, arguments[1:])
+    rows, empty = table(log)
+    print(rows)
+    for line in empty:
+        print(f"shows nothing: {line}")
+    return status or bool(empty)
+
+
+if __name__ == "__main__":
+    sys.exit(main())
