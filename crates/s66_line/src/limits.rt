@@ -6,3 +6,6 @@ pub const TEXT_LIMIT: usize = LINE_LIMIT - 1;
 
 /// The most lines of a source.
 pub const SOURCE_LIMIT: u32 = 20_000;
+
+/// How many bytes there is room for of the line of a fault, with its newline.
+pub const FAULT_ROOM: usize = 64;
