@@ -17,9 +17,9 @@ pub enum SourceError {
     /// An operation of the table with an operand that it does not take, or a line with a comma in column 1 directly after
     /// an instruction or a `NO`.
     BadOperand { line: u32 },
-    /// A line of more than `LINE_LIMIT` bytes, its newline not counted.
+    /// A line of more than `LINE_BYTES_LIMIT` bytes, its newline not counted.
     LineTooLong { line: u32 },
-    /// A line past the `SOURCE_LIMIT`th.
+    /// A line past the `SOURCE_LINES_LIMIT`th.
     TooLarge,
     OutOfMemory,
 }

@@ -28,7 +28,7 @@ pub use laws::{
     line_examples, line_law, operation_law, parts_law, printed_examples, read_again_examples,
     read_again_law, set_form_law, spelled_law, term_law, whole_law,
 };
-pub use limits::{FAULT_ROOM, LINE_LIMIT, SOURCE_LIMIT, TEXT_LIMIT};
+pub use limits::{FAULT_ROOM, LINE_BYTES_LIMIT, SOURCE_LINES_LIMIT, TEXT_LIMIT};
 pub use placed::Placed;
 pub use printer::print_source;
 pub use source::{Source, read_source};
