@@ -1,12 +1,11 @@
 -- In source order each number is ready when it comes.
-use Rattle.std.proofs.Common.{ℕ, zero, suc, ◌+◌, ◌<◌, ◌≡◌, true, List, [], ◌∷◌, ◌++◌, length, subst, sym, arith, append_assoc, ◌∙◌}
-use Rattle.std.proofs.lemmas.List.{append-nil, length-map}
+use Rattle.std.proofs.Common.{ℕ, zero, suc, ◌+◌, ◌<◌, ◌≡◌, true, List, [], ◌∷◌, ◌++◌, length, subst, sym, arith, append_assoc}
+use Rattle.std.proofs.lemmas.List.{append-nil}
 use Rattle.s66_isa.specs.declared.instr.Instr.{Instr}
 use Rattle.s66_isa.specs.Lists.{rising}
 use Rattle.s66_isa.specs.Table.{numbers}
 use Rattle.s66_model.specs.LegalOrder.{is_ready, GoesOn, IsBeginning, IsLegal}
-use Rattle.s66_model.proofs.Beginnings.{source-legal, front-beginning, length-rising}
-use Rattle.s66_model.specs.Dependence.{needs, all_needs}
+use Rattle.s66_model.proofs.Beginnings.{source-legal, front-beginning}
 
 goes-rising : (block : List Instr) (prefix : List ℕ) (k low i : ℕ) → GoesOn block prefix (rising k low) → i < k → is_ready block (prefix ++ rising i low) (low + i) ≡ true
 goes-rising block prefix zero low i goes lt = absurd (omega arith)
@@ -26,6 +25,3 @@ pub source-ready : (block : List Instr) (i n : ℕ) → i < length block → n �
 source-ready block i n lt is =
     let here : 1 + i ≡ n = omega (arith, is) in
     subst (λ m. is_ready block (rising i 1) m ≡ true) here (goes-rising block [] (length block) 1 i (source-beginning block) lt)
-
-pub length-needs : (block : List Instr) → length (all_needs block) ≡ length block
-length-needs block = length-map (numbers block) (needs block) ∙ length-rising (length block) 1

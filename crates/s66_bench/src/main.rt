@@ -18,7 +18,7 @@ use std::process::ExitCode;
 use std::sync::Wait;
 use std::thread::Threads;
 use std::{env, io};
-use tree::{Counts, walk};
+use tree::{Counts, grow};
 
 /// What is run, and how often.
 #[derive(Clone, Copy, Debug)]
@@ -82,7 +82,7 @@ fn run_block<R: AllocGlobal + Threads + Wait + Sync>(
         }
         Mode::Both(rounds) => (sum_of_rounds(block, &profile, rounds), none),
         Mode::Tree(budget) => {
-            let counts = walk(block, &profile, budget);
+            let counts = grow(rt.alloc(), block, &profile, budget)?;
             (counts.best as u64, counts)
         }
         Mode::Finish(budget) => {

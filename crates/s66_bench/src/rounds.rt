@@ -1,7 +1,7 @@
 ghost use Rattle.std.specs.Prelude.{◌≡◌, ◌≤◌, [], length};
 ghost use Rattle.s66_line.specs.Block.{instrs_of};
 
-use s66_isa::Profile;
+use s66_isa::{BLOCK_LIMIT, Profile};
 use s66_line::Block;
 use s66_time::Clock;
 
@@ -13,7 +13,7 @@ fn push_first(clock: &mut Clock<'_>, count: usize)
     ensures count { length clock.new.numbers ≡ count }
 {
     for position in 0..count {
-        prove!(clock.block().count() <= 64);
+        prove!(clock.block().count() <= BLOCK_LIMIT);
         clock.push((position + 1) as u8);
     }
 }

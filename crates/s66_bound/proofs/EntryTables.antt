@@ -3,6 +3,7 @@ use Rattle.std.proofs.Common.{ℕ, ◌+◌, ◌≤◌, ◌<◌, ◌≡◌, Bool,
 use Rattle.std.proofs.lemmas.Bool.{cases_lt}
 use Rattle.std.proofs.lemmas.List.{get_or_append_left}
 use Rattle.std.proofs.Math.Seq.{get_or-append_seam}
+use Rattle.s66_isa.specs.declared.limits.TheConstants.{BLOCK_LIMIT}
 use Rattle.s66_isa.specs.Lists.{has}
 use Rattle.s66_model.specs.Timing.{Problem, row_at}
 use Rattle.s66_dep.specs.declared.set.Set.{Set}
@@ -28,7 +29,7 @@ pub entry-at : (b : Problem) (es : List Entry) (place : ℕ) (e : Entry) → Are
 entry-at b es place e are lt is = subst (IsEntry (row_at b (place + 1))) (sym is) (are.each place e lt)
 
 -- once all were looked at
-pub set-filled : (b : Problem) (es : List Entry) (test : ℕ → Bool) (set : Set) (k : ℕ) → AreEntries b es → length es ≤ 64 → k ≡ length es →
+pub set-filled : (b : Problem) (es : List Entry) (test : ℕ → Bool) (set : Set) (k : ℕ) → AreEntries b es → length es ≤ BLOCK_LIMIT → k ≡ length es →
     ((m : ℕ) → has m (numbers_in set) ≡ within test (k + 1) m) → AreThose b test set
 set-filled b es test set k are few all known =
     numbers_in-filter set test (length b.block) (omega (arith, are.count, few)) (λ m. known m ∙ ap (λ j. within test (j + 1) m) (all ∙ are.count))

@@ -1,6 +1,7 @@
 -- A set for each kind.
 use Rattle.std.proofs.Common.{ℕ, ◌≡◌, ◌≤◌, ◌&&◌, List, [], ◌∷◌, length, get_or, sym, subst}
 use Rattle.std.specs.List.{filter}
+use Rattle.s66_isa.specs.declared.limits.TheConstants.{BLOCK_LIMIT}
 use Rattle.s66_isa.specs.declared.instr.Kind.{Kind}
 use Rattle.s66_isa.specs.declared.instr.Kind.TheVariants.{Boolean, Shift, Add, LongAdd, Multiply, Divide, Increment}
 use Rattle.s66_isa.specs.Table.{kind_number, same_kind}
@@ -26,7 +27,7 @@ has-kinds b s0 s1 s2 s3 s4 s5 s6 h0 h1 h2 h3 h4 h5 h6 Divide = h5
 has-kinds b s0 s1 s2 s3 s4 s5 s6 h0 h1 h2 h3 h4 h5 h6 Increment = h6
 
 -- what remains of a kind
-pub kind-remaining : (b : Problem) (prefix : List ℕ) (kinds : List Set) (kind : Kind) (place : ℕ) (rest both : Set) → length b.block ≤ 64 → numbers_in rest ≡ remaining b.block prefix → HasKinds b kinds → place ≡ kind_number kind →
+pub kind-remaining : (b : Problem) (prefix : List ℕ) (kinds : List Set) (kind : Kind) (place : ℕ) (rest both : Set) → length b.block ≤ BLOCK_LIMIT → numbers_in rest ≡ remaining b.block prefix → HasKinds b kinds → place ≡ kind_number kind →
     ((m : ℕ) → has m (numbers_in both) ≡ (has m (numbers_in rest) && has m (numbers_in (get_or kinds place no_set)))) → numbers_in both ≡ filter (λ n. same_kind (row_at b n).kind kind) (remaining b.block prefix)
 kind-remaining b prefix kinds kind place rest both few is_rest has_kinds here is_both =
     both-are b prefix (λ n. same_kind (row_at b n).kind kind) rest (get_or kinds place no_set) both few is_rest (subst (λ i. AreKind b kind (get_or kinds i no_set)) (sym here) (has_kinds kind)) is_both

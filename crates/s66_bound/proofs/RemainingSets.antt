@@ -3,6 +3,7 @@ use Rattle.std.proofs.Common.{ℕ, ◌+◌, ◌≤◌, ◌≡◌, Bool, true, fa
 use Rattle.std.proofs.lemmas.Bool.{and_parts, and_from, le-leb, leb-true}
 use Rattle.std.specs.Cmp.{both_ways}
 use Rattle.std.specs.List.{filter}
+use Rattle.s66_isa.specs.declared.limits.TheConstants.{BLOCK_LIMIT}
 use Rattle.s66_isa.specs.Lists.{has, rising}
 use Rattle.s66_isa.specs.Table.{Instr, numbers}
 use Rattle.s66_isa.proofs.Lists.{filter-filter, has-among, among-has, among-rising, rising-among}
@@ -24,7 +25,7 @@ has-rising k m =
     let (low, high) = and_parts (leb 1 m) (leb m k) is in
     among-has m (rising k 1) (rising-among k 1 m (leb-true 1 m low) (omega (arith, leb-true m k high))))
 
-pub rest-is : (block : List Instr) (prefix : List ℕ) (all pushed rest : Set) → length block ≤ 64 → numbers_in all ≡ numbers block → ((m : ℕ) → has m (numbers_in pushed) ≡ has m prefix) →
+pub rest-is : (block : List Instr) (prefix : List ℕ) (all pushed rest : Set) → length block ≤ BLOCK_LIMIT → numbers_in all ≡ numbers block → ((m : ℕ) → has m (numbers_in pushed) ≡ has m prefix) →
     ((m : ℕ) → has m (numbers_in rest) ≡ (has m (numbers_in all) && not (has m (numbers_in pushed)))) → numbers_in rest ≡ remaining block prefix
 rest-is block prefix all pushed rest few is_all is_pushed is_rest =
     numbers_in-filter rest (is_remaining block prefix) (length block) few (λ m.
@@ -49,7 +50,7 @@ within-both first second k m = each (leb 1 m) (ltb m k) (first m) (second m)
     each true false x y = refl
     each false b x y = refl
 
-pub both-are : (b : Problem) (prefix : List ℕ) (test : ℕ → Bool) (rest those both : Set) → length b.block ≤ 64 → numbers_in rest ≡ remaining b.block prefix → AreThose b test those →
+pub both-are : (b : Problem) (prefix : List ℕ) (test : ℕ → Bool) (rest those both : Set) → length b.block ≤ BLOCK_LIMIT → numbers_in rest ≡ remaining b.block prefix → AreThose b test those →
     ((m : ℕ) → has m (numbers_in both) ≡ (has m (numbers_in rest) && has m (numbers_in those))) → numbers_in both ≡ filter test (remaining b.block prefix)
 both-are b prefix test rest those both few is_rest are is_both =
     let stays : ℕ → Bool = is_remaining b.block prefix in

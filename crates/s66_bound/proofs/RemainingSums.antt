@@ -3,6 +3,7 @@ use Rattle.std.proofs.Common.{ℕ, ◌+◌, ◌-◌, ◌*◌, ◌≤◌, ◌<◌
 use Rattle.std.proofs.Math.Nat.{div-le_self}
 use Rattle.std.proofs.lemmas.Bool.{cases_Bool, cond-true, cond-false, cond_both, eqb-true, eqb-false}
 use Rattle.std.specs.List.{filter}
+use Rattle.s66_isa.specs.declared.limits.TheConstants.{BLOCK_LIMIT}
 use Rattle.s66_isa.specs.declared.instr.Kind.{Kind}
 use Rattle.s66_isa.specs.Lists.{greatest, least, weigh, Among}
 use Rattle.s66_isa.specs.Table.{Reg, same_kind}
@@ -48,8 +49,8 @@ weigh-most : (f : ℕ → ℕ) (most : ℕ) (ns : List ℕ) → ((n : ℕ) → A
 weigh-most f most [] h = omega arith
 weigh-most f most (n ∷ ns) h = omega (arith, h n (inl refl), weigh-most f most ns (λ m among. h m (inr among)))
 
-pub work-small : (b : Problem) (prefix words ns : List ℕ) (test : ℕ → Bool) → HasWords b (λ n. (row_at b n).hold + 1) words → ns ≡ filter test (remaining b.block prefix) → length ns ≤ 64 →
-    weigh (λ n. get_or words (n - 1) 0) ns ≤ 6464
+pub work-small : (b : Problem) (prefix words ns : List ℕ) (test : ℕ → Bool) → HasWords b (λ n. (row_at b n).hold + 1) words → ns ≡ filter test (remaining b.block prefix) → length ns ≤ BLOCK_LIMIT →
+    weigh (λ n. get_or words (n - 1) 0) ns ≤ 101 * BLOCK_LIMIT
 work-small b prefix words ns test known is few =
     omega (arith, weigh-most (λ n. get_or words (n - 1) 0) 101 ns (λ n among. omega (arith, words-those b prefix (λ n. (row_at b n).hold + 1) words ns test known is n among, (good-at b n).hold.1)), few)
 

@@ -1,6 +1,7 @@
 -- What a walk over the numbers of a set has found so far, and what is left.
 use Rattle.std.proofs.Common.{ℕ, ◌≤◌, ◌<◌, ◌≡◌, min, not, List, [], ◌∷◌, length, refl, sym, ap, arith, ◌∙◌}
 use Rattle.std.proofs.lemmas.List.Filters.{length-filter_both}
+use Rattle.s66_isa.specs.declared.limits.TheConstants.{BLOCK_LIMIT}
 use Rattle.s66_isa.specs.Lists.{least, rising}
 use Rattle.s66_model.proofs.Beginnings.{length-rising}
 use Rattle.s66_dep.specs.declared.set.Set.{Set}
@@ -26,7 +27,7 @@ least-from f top (n ∷ ns) below some =
     let first : f n ≡ min top (f n) = omega (arith, below n) in
     least-with f n ns ∙ ap (λ k. least_with k f ns) first
 
--- a set has at most 64 numbers
-pub numbers-few : (s : Set) → length (numbers_in s) ≤ 64
+-- a set has at most as many numbers as a block
+pub numbers-few : (s : Set) → length (numbers_in s) ≤ BLOCK_LIMIT
 unfolding numbers_in
-numbers-few s = let both = length-filter_both (is_member s.bits) (λ n. not (is_member s.bits n)) (λ n. refl) (rising 64 1) in omega (arith, both, length-rising 64 1)
+numbers-few s = let both = length-filter_both (is_member s.bits) (λ n. not (is_member s.bits n)) (λ n. refl) (rising BLOCK_LIMIT 1) in omega (arith, both, length-rising BLOCK_LIMIT 1)

@@ -1,5 +1,5 @@
 use crate::entry::{Entry, entries_of};
-use crate::floors::{floor_of, floor_of_value, floor_until_of};
+use crate::floors::{floor_of, floor_of_value};
 use crate::leaf::{ChainLeaf, Leaf};
 use crate::printed::chain_numbers;
 use crate::tables::Tables;
@@ -32,7 +32,7 @@ impl<'a> Model for Bounds<'a> {
 }
 
 impl<'a> Bounds<'a> {
-    ghost use Rattle.std.specs.Prelude.{ℕ, List, ◌≡◌, ◌<◌, ◌≤◌, ◌↔◌, ◌++◌, length};
+    ghost use Rattle.std.specs.Prelude.{ℕ, List, ◌≡◌, ◌<◌, ◌≤◌, ◌++◌, length};
     ghost use Rattle.s66_line.specs.Block.{instrs_of};
     ghost use Rattle.s66_model.specs.Timing.{total_of};
     ghost use Rattle.s66_model.specs.LegalOrder.{IsLegal};
@@ -126,22 +126,6 @@ impl<'a> Bounds<'a> {
             numbers: chain_numbers(entries, &self.tables, clock, &rest, value),
             value,
         }
-    }
-
-    /// The floor's value, or where that is at least the time some number from the time to it, in minor cycles: it stops as soon as
-    /// one bound meets the time.
-    pub fn floor_until(&self, clock: &Clock<'_>, time: u32) -> u32
-        requires same { self.now ≡ problem_of clock.now }
-        ensures met { time ≤ result ↔ time ≤ floor_value self.now clock.now.numbers }
-        ensures below { result < time → result ≡ floor_value self.now clock.now.numbers }
-        ensures at_most { result ≤ floor_value self.now clock.now.numbers }
-        ensures bound { (rest : List ℕ) → IsLegal self.now.block (clock.now.numbers ++ rest) → result ≤ total_of self.now (clock.now.numbers ++ rest) }
-    {
-        let rest = remaining_numbers(&self.tables, clock);
-        if rest.count() == 0 {
-            return clock.total();
-        }
-        floor_until_of(&self.tables, clock, &rest, time)
     }
 
     /// The greatest of all bounds, of equal ones the first; the total where nothing remains.

@@ -8,7 +8,9 @@ ghost use Rattle.s66_bound.specs.InstructionCosts.{IsEntry, AreEntries};
 ghost use Rattle.s66_bound.specs.TableWords.{timed_by};
 
 use arrayvec::ArrayVec;
-use s66_isa::{BLOCK_LIMIT, Instr, Kind, Memory, Profile, Reg, Registers, Write, is_memory_conflict, writes_of};
+use s66_isa::{
+    BLOCK_LIMIT, Instr, Kind, Memory, Profile, Reg, Registers, Write, is_memory_conflict, writes_of,
+};
 use s66_line::Block;
 
 /// What the bounds know of an instruction under a profile, worked out once. Times are in minor cycles.

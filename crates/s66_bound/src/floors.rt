@@ -1,6 +1,6 @@
 //! The floor: of the greatest bounds the first, the chain before the loads, and the parcels behind them. Values are in minor cycles.
 
-ghost use Rattle.std.specs.Prelude.{◌≡◌, ◌<◌, ◌≤◌, IfSome, IfNone, length};
+ghost use Rattle.std.specs.Prelude.{◌≡◌, ◌<◌, IfSome, IfNone, length};
 ghost use Rattle.s66_line.specs.Block.{instrs_of};
 ghost use Rattle.s66_model.specs.Leaves.{Chain, chain, longest_chain, floor, floor_value};
 ghost use Rattle.s66_time.specs.Ticking.{problem_of};
@@ -12,7 +12,7 @@ use crate::entry::Entry;
 use crate::leaf::Leaf;
 use crate::printed::chain_numbers;
 use crate::tables::Tables;
-use crate::values::{chain_of, greatest_load, load_of, parcels_of};
+use crate::values::{chain_of, load_of, parcels_of};
 use s66_dep::Set;
 use s66_isa::KINDS;
 use s66_time::Clock;
@@ -90,24 +90,4 @@ pub fn floor_of_value(
         }
     }
     Leaf::Parcels { value }
-}
-
-/// The greatest of the bounds so far, as soon as that is at least the time, else the value of the floor: first the chain, which
-/// most often meets it, and last the loads, which take longest.
-pub fn floor_until_of(tables: &Tables, clock: &Clock<'_>, rest: &Set, time: u32) -> u32
-    requires tables { IsTables (problem_of clock.now) tables.now }
-    requires rest { AreRemaining clock.now rest.now }
-    requires some { length clock.now.numbers < length (instrs_of clock.now.block) }
-    ensures below { result < time → result ≡ floor_value (problem_of clock.now) clock.now.numbers }
-    ensures at_most { result ≤ floor_value (problem_of clock.now) clock.now.numbers }
-{
-    let chain = chain_of(tables, clock, rest);
-    if time <= chain {
-        return chain;
-    }
-    let most = chain.max(parcels_of(tables, clock, rest));
-    if time <= most {
-        return most;
-    }
-    most.max(greatest_load(tables, clock, rest))
 }

@@ -15,7 +15,9 @@ use crate::entry::Entry;
 use crate::longest::longest_tails;
 use arrayvec::ArrayVec;
 use s66_dep::Set;
-use s66_isa::{BLOCK_LIMIT, Bank, KIND_COUNT, Kind, REGISTER_COUNT, Reg, Write, is_same_kind, is_same_register};
+use s66_isa::{
+    BLOCK_LIMIT, Bank, KIND_COUNT, Kind, REGISTER_COUNT, Reg, Write, is_same_kind, is_same_register,
+};
 
 /// What bounds look up of the numbers of a block; the word of n stands at n - 1. Times are in minor cycles.
 #[derive(Debug, Drop)]

@@ -11,3 +11,4 @@ pub mod DocumentReader
 pub mod Reading
 pub mod Reads
 pub mod Said
+pub mod Refusals

@@ -1,24 +1,22 @@
 ghost use Rattle.std.specs.Prelude.{◌≡◌};
 ghost use Rattle.s66_cert.specs.declared.error.CertError.TheVariants.{OutOfMemory};
 
+use arrayvec::ArrayString;
+use s66_line::{FAULT_ROOM, line_refusal, short_text};
 use std::alloc::{AllocError, AllocFailed};
-use thiserror::Error;
+use std::{error, fmt};
 
-/// Why a text is no text of documents: its first fault in reading order.
+/// Why a text is no text of documents: its first fault in reading order. Each shows itself as the line that tells it.
 ///
 /// `OutOfMemory` is answered only where a growth was refused in the call, and may stand in the place of any other answer.
-#[derive(Clone, Copy, Debug, Drop, Error, PartialEq, Eq)]
+#[derive(Clone, Copy, Debug, Drop, PartialEq, Eq)]
 pub enum CertError {
     /// A line of the whole input, from 1, is not what a document has in its place.
-    #[error("LINE {line} BAD LINE")]
     BadLine { line: u64 },
     /// The input ends inside a document, or in a line without its newline.
-    #[error("TRUNCATED")]
     Truncated,
     /// A split is one more than `SPLIT_LIMIT` of one document.
-    #[error("TOO MANY NODES")]
     TooManyNodes,
-    #[error("OUT OF MEMORY")]
     OutOfMemory,
 }
 
@@ -37,3 +35,35 @@ impl<T: Drop> From<AllocFailed<T>> for CertError {
         CertError::OutOfMemory
     }
 }
+
+impl CertError {
+    ghost use Rattle.std.specs.Prelude.{◌≡◌, ◌<◌, length};
+    ghost use Rattle.s66_line.specs.declared.limits.TheConstants.{FAULT_ROOM};
+    ghost use Rattle.s66_cert.specs.Refusals.{document_refusal_line};
+
+    /// The line that tells it, without a newline.
+    pub fn line(&self) -> ArrayString<FAULT_ROOM>
+        ensures text { result.bytes ≡ document_refusal_line self.now }
+        ensures short { length result.bytes < FAULT_ROOM }
+    {
+        match self {
+            CertError::BadLine { line } => line_refusal(*line, " BAD LINE"),
+            CertError::Truncated => short_text("TRUNCATED"),
+            CertError::TooManyNodes => short_text("TOO MANY NODES"),
+            CertError::OutOfMemory => short_text("OUT OF MEMORY"),
+        }
+    }
+}
+
+impl fmt::Display for CertError {
+    ghost use Rattle.std.specs.Prelude.{Some};
+    ghost use Rattle.s66_cert.specs.Refusals.{document_refusal_line};
+
+    ghost output = { λ e. Some (document_refusal_line e) };
+
+    fn fmt<W: fmt::Write>(&self, f: &mut fmt::Formatter<W>) -> fmt::Result {
+        f.write_str(self.line().as_str())
+    }
+}
+
+impl error::Error for CertError {}

@@ -5,6 +5,7 @@ use Rattle.std.specs.Int.Count.{ones_step}
 use Rattle.std.proofs.lemmas.Bool.{cases_eq, cases_lt, cond_both, or_from, eqb-false}
 use Rattle.std.proofs.lemmas.Nat.{ones_le_self}
 use Rattle.std.proofs.lemmas.Nat.Bits.{shr_and_one, bit_at-lt, bit_at_and, bit_at_not, bit_at_above, bit_at_set_same, bit_at_set_other, same_from_bits}
+use Rattle.s66_isa.specs.declared.limits.TheConstants.{BLOCK_LIMIT}
 use Rattle.s66_isa.specs.Lists.{has, rising}
 use Rattle.s66_dep.specs.declared.set.Set.{Set}
 use Rattle.s66_dep.specs.Members.{is_member, numbers_in}
@@ -37,13 +38,13 @@ has-inside_rising test (suc count) low m le lt =
 
 -- WHICH NUMBERS ARE THERE
 
-pub has-inside : (set : Set) (m : ℕ) → 1 ≤ m → m ≤ 64 → has m (numbers_in set) ≡ is_member set.bits m
+pub has-inside : (set : Set) (m : ℕ) → 1 ≤ m → m ≤ BLOCK_LIMIT → has m (numbers_in set) ≡ is_member set.bits m
 unfolding numbers_in
-has-inside set m low high = has-inside_rising (is_member set.bits) 64 1 m low (omega arith)
+has-inside set m low high = has-inside_rising (is_member set.bits) BLOCK_LIMIT 1 m low (omega arith)
 
-pub has-outside : (set : Set) (m : ℕ) → (m < 1) ⊎ (64 < m) → has m (numbers_in set) ≡ false
+pub has-outside : (set : Set) (m : ℕ) → (m < 1) ⊎ (BLOCK_LIMIT < m) → has m (numbers_in set) ≡ false
 unfolding numbers_in
-has-outside set m out = has-outside_rising (is_member set.bits) 64 1 m (grind arith)
+has-outside set m out = has-outside_rising (is_member set.bits) BLOCK_LIMIT 1 m (grind arith)
 
 member-bit : (bits i : ℕ) → is_member bits (suc i) ≡ (bit_at bits i == 1)
 member-bit bits i = ap (λ x. x == 1) (shr_and_one bits (suc i - 1) ∙ ap (bit_at bits) (omega arith))
@@ -53,7 +54,7 @@ has-bit set i lt = has-inside set (suc i) (omega arith) (omega arith) ∙ member
 
 -- ONE NUMBER MORE
 
-pub with-number : (set : Set) (n : ℕ) → 1 ≤ n → n ≤ 64 → (m : ℕ) → has m (numbers_in (record { bits = bit_or set.bits (1 * 2 ^ (n - 1) % 2 ^ 64) })) ≡ (m == n || has m (numbers_in set))
+pub with-number : (set : Set) (n : ℕ) → 1 ≤ n → n ≤ BLOCK_LIMIT → (m : ℕ) → has m (numbers_in (record { bits = bit_or set.bits (1 * 2 ^ (n - 1) % 2 ^ 64) })) ≡ (m == n || has m (numbers_in set))
 with-number set zero low high m = absurd (omega arith)
 with-number set (suc k) low high zero =
     has-outside (record { bits = bit_or set.bits (1 * 2 ^ (suc k - 1) % 2 ^ 64) }) 0 (inl (omega arith))

@@ -1,9 +1,14 @@
 ghost use Rattle.std.specs.Prelude.{ℕ, ◌≡◌, ◌≤◌, ◌==◌, ◌||◌, ◌&&◌, not, ◌↔◌, IsTrue, true, [], ◌∷◌, IfSome, IfNone, length};
+ghost use Rattle.s66_isa.specs.declared.limits.TheConstants.{BLOCK_LIMIT};
 ghost use Rattle.s66_isa.specs.Lists.{has, rising};
 ghost use Rattle.s66_dep.specs.Members.{numbers_in};
 
-/// A set of instruction numbers of a block, in one word. A word has 64 bits, so the numbers are 1 to 64, and a block's limit is at
-/// most that.
+use s66_isa::BLOCK_LIMIT;
+
+// one word has a bit for each number of a block
+const _: () = prove!(BLOCK_LIMIT == u64::BITS as usize);
+
+/// A set of instruction numbers of a block, in one word.
 #[derive(Clone, Copy, Debug, Default, PartialEq, Eq)]
 pub struct Set {
     /// Bit n - 1 tells whether n is there.
@@ -20,7 +25,7 @@ impl Set {
 
     /// The numbers from 1 to a count; the time is linear in the count.
     pub fn up_to(count: usize) -> Set
-        requires { count ≤ 64 }
+        requires { count ≤ BLOCK_LIMIT }
         ensures { numbers_in result ≡ rising count 1 }
     {
         let mut set = Set::empty();
@@ -32,7 +37,7 @@ impl Set {
 
     /// The numbers of this set, and n.
     pub fn with(self, n: u8) -> Set
-        requires { (1 ≤ n) × (n ≤ 64) }
+        requires { (1 ≤ n) × (n ≤ BLOCK_LIMIT) }
         ensures { (m : ℕ) → has m (numbers_in result) ≡ (m == n || has m (numbers_in self)) }
     {
         Set {
@@ -44,7 +49,7 @@ impl Set {
     pub fn has(&self, n: u8) -> bool
         ensures { result ≡ has n (numbers_in self.now) }
     {
-        1 <= n && n <= 64 && (self.bits >> (n - 1)) & 1 == 1
+        1 <= n && n as usize <= BLOCK_LIMIT && (self.bits >> (n - 1)) & 1 == 1
     }
 
     /// Whether each number of this set is in the other.
@@ -76,7 +81,7 @@ impl Set {
     pub fn pop_first(&mut self) -> Option<u8>
         ensures some { IfSome result (λ n. numbers_in self.old ≡ n ∷ numbers_in self.new) }
         ensures none { IfNone result (numbers_in self.old ≡ []) }
-        ensures range { IfSome result (λ n. (1 ≤ n) × (n ≤ 64)) }
+        ensures range { IfSome result (λ n. (1 ≤ n) × (n ≤ BLOCK_LIMIT)) }
         ensures same { IfNone result (self.new ≡ self.old) }
     {
         if self.bits == 0 {

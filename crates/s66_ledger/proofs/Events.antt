@@ -120,13 +120,13 @@ module _ (b : Problem) (budget : ℕ) (nodes : List Node) (best : TimedOrder) (l
       subst (λ (l : MachineOf). IsMove l (Claim w) (Claimed None) l) is (refl, refl, refl, ((one, le), (open-nodes b nodes ∙ none, refl)))
 
   -- floors are far below the limit up to which they are ranked
-  ranked-floor : length b.block ≤ 64 → (i : ℕ) → i < length nodes → (node_at nodes i).state ≢ state.Split → ranked (node_at nodes i).value ≡ floor_value b (get_or (prefixes nodes) i [])
+  ranked-floor : length b.block ≤ BLOCK_LIMIT → (i : ℕ) → i < length nodes → (node_at nodes i).state ≢ state.Split → ranked (node_at nodes i).value ≡ floor_value b (get_or (prefixes nodes) i [])
   ranked-floor few i lt live =
       let at = get_or (prefixes nodes) i [] in
-      let fits : floor_value b at ≤ 6656 = leaf-fits b at (Rattle.s66_model.specs.Leaves.floor b at) (kept-beginning i lt) few (floor-stands b at (kept-beginning i lt)) in
+      let fits : floor_value b at ≤ 104 * BLOCK_LIMIT = leaf-fits b at (Rattle.s66_model.specs.Leaves.floor b at) (kept-beginning i lt) few (floor-stands b at (kept-beginning i lt)) in
       omega (arith, h.floors i lt live, fits)
 
-  pub claimed-least : length b.block ≤ 64 → (i : ℕ) → i < length nodes → (node_at nodes i).state ≡ state.Open → ((j : ℕ) → is_open (node_at nodes j) ≡ true → ranked (node_at nodes i).value ≤ ranked (node_at nodes j).value) → (j : ℕ) → model.is_open (model.node_at (nodes_of b nodes) j) ≡ true → floor_value b (get_or (prefixes nodes) i []) ≤ floor_value b (model.node_at (nodes_of b nodes) j).prefix
+  pub claimed-least : length b.block ≤ BLOCK_LIMIT → (i : ℕ) → i < length nodes → (node_at nodes i).state ≡ state.Open → ((j : ℕ) → is_open (node_at nodes j) ≡ true → ranked (node_at nodes i).value ≤ ranked (node_at nodes j).value) → (j : ℕ) → model.is_open (model.node_at (nodes_of b nodes) j) ≡ true → floor_value b (get_or (prefixes nodes) i []) ≤ floor_value b (model.node_at (nodes_of b nodes) j).prefix
   claimed-least few i lt was least j opens =
       let within : j < length nodes = omega (arith, open-within (nodes_of b nodes) j opens, length-nodes b nodes) in
       let there = at-nodes b nodes j within in

@@ -1,6 +1,7 @@
 -- Each reply to a piece.
 use Rattle.std.proofs.Common.{ℕ, ◌+◌, ◌-◌, ◌*◌, ◌≤◌, ◌<◌, ◌≡◌, ◌↔◌, IsTrue, Bool, true, false, true≢false, cond, List, [], ◌∷◌, ◌++◌, length, get_or, set, refl, sym, ap, arith, subst, ◌∙◌, Some, None, length-append}
 use Rattle.std.proofs.lemmas.List.{length-set}
+use Rattle.s66_isa.specs.declared.limits.TheConstants.{BLOCK_LIMIT}
 use Rattle.s66_isa.specs.Lists.{weigh}
 use Rattle.s66_isa.proofs.Lists.{ones, weigh-filter}
 use Rattle.s66_isa.specs.declared.instr.Instr.{Instr}
@@ -39,8 +40,8 @@ ready-few block prefix =
     passing-few test [] = omega arith
     passing-few test (n ∷ ns) = omega (arith, at-most (test n), passing-few test ns)
 
-module _ (block : List Instr) (Q : List ℕ → Told → Type 0) (few : length block ≤ 64) where
-  kids-lines : (prefix ns : List ℕ) (kids : Kids Told) → KidsHold block Q prefix ns kids → length (flat_kids kids) ≤ length ns + 64 * kid_splits kids
+module _ (block : List Instr) (Q : List ℕ → Told → Type 0) (few : length block ≤ BLOCK_LIMIT) where
+  kids-lines : (prefix ns : List ℕ) (kids : Kids Told) → KidsHold block Q prefix ns kids → length (flat_kids kids) ≤ length ns + BLOCK_LIMIT * kid_splits kids
   kids-lines prefix [] NoMore h = omega arith
   kids-lines prefix (n ∷ ns) NoMore h = absurd h
   kids-lines prefix [] (Unsplit t kids) h = absurd h
@@ -49,12 +50,12 @@ module _ (block : List Instr) (Q : List ℕ → Told → Type 0) (few : length b
   kids-lines prefix (n ∷ ns) (Split numbers sub kids) h =
       omega (arith, kids-lines (prefix ++ n ∷ []) numbers sub h.2, kids-lines prefix ns kids h.3, length-append (flat_kids sub) (flat_kids kids), ap length h.1, ready-few block (prefix ++ n ∷ []), few)
 
-  tree-lines : (prefix : List ℕ) (tree : Tree Told) → TreeHolds block Q prefix tree → length (flat tree) ≤ 1 + 64 * splits tree
+  tree-lines : (prefix : List ℕ) (tree : Tree Told) → TreeHolds block Q prefix tree → length (flat tree) ≤ 1 + BLOCK_LIMIT * splits tree
   tree-lines prefix (Alone t) h = omega arith
   tree-lines prefix (Parted numbers kids) h = omega (arith, kids-lines prefix numbers kids h.2, ap length h.1, ready-few block prefix, few)
 
 -- a piece has at most a line for its root and one for each child of a split
-pub piece-lines : (p : PieceOf) → TreeHolds p.problem.block (ToldHolds p.problem) p.prefix (told_tree p) → flat (told_tree p) ≡ p.knots → length p.problem.block ≤ 64 → length p.knots ≤ 1 + 64 * splits (tree_of p)
+pub piece-lines : (p : PieceOf) → TreeHolds p.problem.block (ToldHolds p.problem) p.prefix (told_tree p) → flat (told_tree p) ≡ p.knots → length p.problem.block ≤ BLOCK_LIMIT → length p.knots ≤ 1 + BLOCK_LIMIT * splits (tree_of p)
 piece-lines p told lines few =
     omega (arith, ap length lines, tree-lines p.problem.block (ToldHolds p.problem) few p.prefix (told_tree p) told, seen-splits (tip_of p.problem) (told_tree p) p.prefix (tree-match p.problem.block (ToldHolds p.problem) (told_tree p) p.prefix told))
 
@@ -113,7 +114,7 @@ module _ (b : Problem) (budget : ℕ) (nodes : List Node) (best : TimedOrder) (l
           subst (λ (l : MachineOf). IsGraftMove l w i p Taken after) is
           (Graft w i true p.prefix (splits (tree_of p)) (Some (tree_of p)), (true, ((λ e. same), (λ e. refl)), refl), (refl, refl, length-set allowances (w - 1) (get_or allowances (w - 1) 0 - count), ((one, le), taken-moves)))
 
-      pub kept-taken : HaveFloors p.problem new → length new + 1 ≡ length nodes + length p.knots → length p.knots ≤ 1 + 64 * splits (tree_of p) → IsKept b budget new best left (set allowances (w - 1) (get_or allowances (w - 1) 0 - count)) (spent + count)
+      pub kept-taken : HaveFloors p.problem new → length new + 1 ≡ length nodes + length p.knots → length p.knots ≤ 1 + BLOCK_LIMIT * splits (tree_of p) → IsKept b budget new best left (set allowances (w - 1) (get_or allowances (w - 1) 0 - count)) (spent + count)
       kept-taken floors made lines =
           kept-next b budget nodes best left allowances spent h new best left (set allowances (w - 1) (get_or allowances (w - 1) 0 - count)) (spent + count) (Graft w i true p.prefix (splits (tree_of p)) (Some (tree_of p))) Taken h.own
           (subst (λ (q : Problem). HaveFloors q new) same floors) (omega (arith, made, lines, counts, h.room)) (length-set allowances (w - 1) (get_or allowances (w - 1) 0 - count)) ((one, le), taken-moves)

@@ -1,6 +1,7 @@
 -- How many nodes are out, and how deep those are that are open or out: of one node more, and of a node in another state.
 use Rattle.std.proofs.Common.{ℕ, zero, suc, ◌+◌, ◌≤◌, ◌<◌, ◌≡◌, Bool, true, false, cond, List, [], ◌∷◌, ◌++◌, length, get_or, set, refl, sym, ap, arith, inl, inr, nat_le, ◌∙◌, length-append}
 use Rattle.std.proofs.lemmas.Bool.{cases_eq, cases_Bool}
+use Rattle.s66_isa.specs.declared.limits.TheConstants.{BLOCK_LIMIT}
 use Rattle.s66_isa.specs.Lists.{tally}
 use Rattle.s66_isa.proofs.Lists.{tally-set, tally-append, cases_le}
 use Rattle.s66_ledger.specs.declared.node.Node.{Node}
@@ -95,7 +96,7 @@ room-out (x ∷ nodes) (suc i) lt is = elim (cases_Bool (is_out x)) [
 ]
 
 -- a prefix that is open or out has fewer numbers than none reaches
-pub short-live : (nodes : List Node) (out deepest count : ℕ) → AreCounted nodes out deepest → HaveDepths nodes → deepest < count → count ≤ 64 → (i : ℕ) → i < length nodes → is_live_state (node_at nodes i).state ≡ true → length (get_or (prefixes nodes) i []) < count
+pub short-live : (nodes : List Node) (out deepest count : ℕ) → AreCounted nodes out deepest → HaveDepths nodes → deepest < count → count ≤ BLOCK_LIMIT → (i : ℕ) → i < length nodes → is_live_state (node_at nodes i).state ≡ true → length (get_or (prefixes nodes) i []) < count
 short-live nodes out deepest count are depths less few i lt live = omega (arith, less, few, are.within i live, depths i lt)
 
 -- a subtree's node isn't out, and one that isn't open then is neither

@@ -14,4 +14,4 @@ pub const DEPTH_RANKS: u32 = 256;
 pub const SCHEDULE_ROUNDS: u32 = 16;
 
 /// No piece of so many lines is grafted: no worker may spend its splits, nor is there memory for its nodes.
-pub const LINES_LIMIT: usize = 0x8000_0000;
+pub const PIECE_LINES_LIMIT: usize = 0x8000_0000;

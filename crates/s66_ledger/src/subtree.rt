@@ -4,9 +4,9 @@ ghost use Rattle.s66_model.specs.Tree.{Parted};
 ghost use Rattle.s66_node.specs.Pieces.{told_tree};
 ghost use Rattle.s66_ledger.specs.Planting.{kids_of, knot_value, made_state};
 ghost use Rattle.s66_ledger.specs.Subtrees.{IsSubtreeOf};
-ghost use Rattle.s66_ledger.specs.declared.limits.TheConstants.{LINES_LIMIT};
+ghost use Rattle.s66_ledger.specs.declared.limits.TheConstants.{PIECE_LINES_LIMIT};
 
-use crate::limits::LINES_LIMIT;
+use crate::limits::PIECE_LINES_LIMIT;
 use crate::node::{Node, State};
 use arrayvec::ArrayVec;
 use s66_dep::Set;
@@ -25,13 +25,13 @@ pub struct Subtree {
 impl Model for Subtree {
     ghost use Rattle.std.specs.Prelude.{List, ◌<◌, length};
     ghost use Rattle.s66_ledger.specs.declared.node.Node.{Node};
-    ghost use Rattle.s66_ledger.specs.declared.limits.TheConstants.{LINES_LIMIT};
+    ghost use Rattle.s66_ledger.specs.declared.limits.TheConstants.{PIECE_LINES_LIMIT};
 
     ghost Value = { List Node };
 
     ghost view = { λ s. s.nodes.items };
 
-    ghost invariant = { λ s. length s.nodes.items < LINES_LIMIT };
+    ghost invariant = { λ s. length s.nodes.items < PIECE_LINES_LIMIT };
 }
 
 /// A split node by its place, and the last numbers of its children that are still to come.
@@ -66,7 +66,7 @@ fn value_of(knot: &Knot) -> u32
 /// The nodes below a root that is split into these numbers, in time linear in the piece's lines.
 fn nodes_below(alloc: Global, numbers: Set, piece: &Piece) -> Result<Vec<Node>, AllocError>
     requires split { told_tree piece.now ≡ Parted (numbers_in numbers) (kids_of (told_tree piece.now)) }
-    requires few { length piece.now.knots < LINES_LIMIT }
+    requires few { length piece.now.knots < PIECE_LINES_LIMIT }
     ensures { IfOk result (λ nodes. IsSubtreeOf piece.now nodes.items) }
 {
     let knots = piece.knots();
@@ -101,12 +101,13 @@ fn nodes_below(alloc: Global, numbers: Set, piece: &Piece) -> Result<Vec<Node>, 
 }
 
 impl Subtree {
-    /// Of this piece, in time linear in its lines. `Err` is want of memory; a piece of `LINES_LIMIT` lines or more gets it in any case.
+    /// Of this piece, in time linear in its lines. `Err` is want of memory; a piece of `PIECE_LINES_LIMIT` lines or more gets it in
+    /// any case.
     pub fn of(alloc: Global, piece: &Piece) -> Result<Subtree, AllocError>
         ensures { IfOk result (IsSubtreeOf piece.now) }
     {
         let knots = piece.knots();
-        if LINES_LIMIT <= knots.len() {
+        if PIECE_LINES_LIMIT <= knots.len() {
             return Err(AllocError);
         }
         let nodes = match &knots[0] {

@@ -11,7 +11,7 @@ use Rattle.s66_line.specs.BlockParts.{all_of}
 use Rattle.s66_line.specs.Roles.{is_comment_class, is_pad_class, is_other_class, is_note_of, is_note, has_block, roles}
 use Rattle.s66_line.specs.declared.class.Class.{Class}
 use Rattle.s66_line.specs.declared.class.Class.TheVariants.{Comment, Other, Refused, Pad, Instruction}
-use Rattle.s66_line.specs.declared.limits.TheConstants.{LINE_LIMIT, SOURCE_LIMIT}
+use Rattle.s66_line.specs.declared.limits.TheConstants.{LINE_BYTES_LIMIT, SOURCE_LINES_LIMIT}
 use Rattle.s66_line.specs.declared.error.SourceError.{SourceError}
 use Rattle.s66_line.specs.declared.error.SourceError.TheVariants.{LineTooLong, TooLarge}
 use Rattle.s66_line.proofs.PartsLaw.{parts}
@@ -38,7 +38,7 @@ last_none false false e f o h = h
 
 pub operand-none : (lines : List Line) (l : Line) → refusal lines ≡ None → Among l lines → operand_refusal l.number l.class ≡ None
 operand-none lines l h among =
-    last_none (nat_lt LINE_LIMIT (length l.bytes)) (nat_lt SOURCE_LIMIT l.number) (LineTooLong l.number) TooLarge (operand_refusal l.number l.class) (none-at lines l h among)
+    last_none (nat_lt LINE_BYTES_LIMIT (length l.bytes)) (nat_lt SOURCE_LINES_LIMIT l.number) (LineTooLong l.number) TooLarge (operand_refusal l.number l.class) (none-at lines l h among)
 
 -- ONE ROLE, by the class
 

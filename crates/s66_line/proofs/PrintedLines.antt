@@ -16,7 +16,7 @@ use Rattle.s66_line.specs.Printed.{Placed, ArePlaced, report, instruction_lines,
 use Rattle.s66_line.specs.Printer.{Printer, begins_with, rest, is_skipped, is_passed, is_instruction_next, text_in_place, text_at, is_last, text_of}
 use Rattle.s66_line.specs.declared.class.Class.{Class}
 use Rattle.s66_line.specs.declared.class.Class.TheVariants.{Comment, Other, Refused, Pad, Instruction}
-use Rattle.s66_line.specs.declared.limits.TheConstants.{LINE_LIMIT, SOURCE_LIMIT}
+use Rattle.s66_line.specs.declared.limits.TheConstants.{LINE_BYTES_LIMIT, SOURCE_LINES_LIMIT}
 use Rattle.s66_line.proofs.PadsLaw.{run_at-le}
 use Rattle.s66_line.specs.declared.error.SourceError.{SourceError}
 use Rattle.s66_line.specs.declared.error.SourceError.TheVariants.{LineTooLong, TooLarge}
@@ -748,16 +748,16 @@ not-many true many e f o h = cc
 not-many false true e f o h = cc
 not-many false false e f o h = refl
 
-few-from : (lines : List (List ℕ)) (count run index : ℕ) (label : List ℕ) (after : Bool) → count ≤ SOURCE_LIMIT → refusal (classes_from (suc count) run index label after lines) ≡ None → count + length lines ≤ SOURCE_LIMIT
+few-from : (lines : List (List ℕ)) (count run index : ℕ) (label : List ℕ) (after : Bool) → count ≤ SOURCE_LINES_LIMIT → refusal (classes_from (suc count) run index label after lines) ≡ None → count + length lines ≤ SOURCE_LINES_LIMIT
 few-from [] count run index label after few taken = omega (arith, few)
 few-from (line ∷ lines) count run index label after few taken =
     let c : Class = class_of after line in
     let both = neither _ _ taken in
-    let one = not-many (nat_lt LINE_LIMIT (length line)) (nat_lt SOURCE_LIMIT (suc count)) (LineTooLong (suc count)) TooLarge (operand_refusal (suc count) c) both.0 in
-    omega (arith, few-from lines (suc count) (run_after run c) (place_after index c) (label_after label c line) (is_code c) (ltb-false SOURCE_LIMIT (suc count) one) both.1)
+    let one = not-many (nat_lt LINE_BYTES_LIMIT (length line)) (nat_lt SOURCE_LINES_LIMIT (suc count)) (LineTooLong (suc count)) TooLarge (operand_refusal (suc count) c) both.0 in
+    omega (arith, few-from lines (suc count) (run_after run c) (place_after index c) (label_after label c line) (is_code c) (ltb-false SOURCE_LINES_LIMIT (suc count) one) both.1)
 
 -- an accepted source has no more lines than are allowed
-pub few-lines : (text : List ℕ) (blocks : List Block) → source_of text ≡ Ok blocks → length (lines_of text) ≤ SOURCE_LIMIT
+pub few-lines : (text : List ℕ) (blocks : List Block) → source_of text ≡ Ok blocks → length (lines_of text) ≤ SOURCE_LINES_LIMIT
 few-lines text blocks accepted =
     let few = few-from (lines_of text) 0 0 0 [] false (omega arith) (no_refusal (refusal (classed_lines text)) (blocks_of (classed_lines text)) blocks accepted) in
     omega (arith, few)

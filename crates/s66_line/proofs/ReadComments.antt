@@ -14,7 +14,7 @@ use Rattle.s66_line.specs.Printed.{Placed, splits_line, bound_text, times_text, 
 use Rattle.s66_line.specs.Reader.{State, with_open, by_class, line_step, lines_step, and_then, read_from}
 use Rattle.s66_line.specs.declared.class.Class.{Class}
 use Rattle.s66_line.specs.declared.class.Class.TheVariants.{Comment, Other, Refused, Pad}
-use Rattle.s66_line.specs.declared.limits.TheConstants.{LINE_LIMIT, SOURCE_LIMIT}
+use Rattle.s66_line.specs.declared.limits.TheConstants.{LINE_BYTES_LIMIT, SOURCE_LINES_LIMIT}
 use Rattle.s66_line.specs.declared.error.SourceError.{SourceError}
 use Rattle.s66_line.specs.declared.error.SourceError.TheVariants.{LineTooLong, TooLarge}
 use Rattle.s66_line.proofs.ReadBack.{trim-twice, class_of-body, lines_of-line}
@@ -37,7 +37,7 @@ taken false false e f made next again h = h
 read-step : (t : State) (line : List ℕ) (lines : List (List ℕ)) (again : List Block) → read_from t (line ∷ lines) ≡ Ok again →
     and_then (by_class t (class_of t.after line) (label_bytes (body line)) (from_operation (body line))) (λ u. read_from u lines) ≡ Ok again
 read-step t line lines again h =
-    taken (nat_lt LINE_LIMIT (length line)) (nat_le SOURCE_LIMIT t.count) (LineTooLong (suc t.count)) TooLarge (by_class t (class_of t.after line) (label_bytes (body line)) (from_operation (body line))) (λ u. read_from u lines) again
+    taken (nat_lt LINE_BYTES_LIMIT (length line)) (nat_le SOURCE_LINES_LIMIT t.count) (LineTooLong (suc t.count)) TooLarge (by_class t (class_of t.after line) (label_bytes (body line)) (from_operation (body line))) (λ u. read_from u lines) again
     (sym (then-then (line_step t line) (λ u. lines_step u lines) (λ u. Ok (with_open u.blocks u.label u.entries))) ∙ h)
 
 -- a line of this class, and then the rest

@@ -9,7 +9,7 @@ use Rattle.std.proofs.Math.Nat.{suc-mod, mod-eq_of_lt}
 use Rattle.s66_isa.specs.declared.instr.Instr.{Instr}
 use Rattle.s66_line.specs.Fields.{lines_of, body, from_operation, label_bytes}
 use Rattle.s66_isa.specs.declared.limits.TheConstants.{BLOCK_LIMIT}
-use Rattle.s66_line.specs.declared.limits.TheConstants.{LINE_LIMIT, SOURCE_LIMIT}
+use Rattle.s66_line.specs.declared.limits.TheConstants.{LINE_BYTES_LIMIT, SOURCE_LINES_LIMIT}
 use Rattle.s66_line.specs.Source.{Line, Entry, Block, class_of, is_code, run_at, run_after, place_at, place_after, label_at, label_after, classes_from, classed_lines, operand_refusal, or_else, refusal, instructions, begins_block, put_before, parts_of, entry_of, label_in, block_of, blocks_of, unless_refused, source_of}
 use Rattle.s66_line.specs.Gives.{Gives}
 use Rattle.s66_line.specs.Reader.{State, Steps, start, end_block, with_open, count_line, by_class, line_step, lines_step, and_then, read_from}
@@ -251,14 +251,14 @@ last-open : (blocks : List Block) (label : List ℕ) (entries : List Entry) → 
 last-open blocks label [] = sym (append-nil blocks)
 last-open blocks label (e ∷ es) = refl
 
-too-many : (count : ℕ) → nat_lt SOURCE_LIMIT (suc count) ≡ nat_le SOURCE_LIMIT count
-too-many count = leb-suc-suc SOURCE_LIMIT count
+too-many : (count : ℕ) → nat_lt SOURCE_LINES_LIMIT (suc count) ≡ nat_le SOURCE_LINES_LIMIT count
+too-many count = leb-suc-suc SOURCE_LINES_LIMIT count
 
 read-all : (lines : List (List ℕ)) → Read lines
 read-all [] blocks label entries count run index run_label after h left = ap Ok (last-open blocks label entries)
 read-all (line ∷ lines) blocks label entries count run index run_label after h left =
     then-then (line_step (record { blocks = blocks; label = label; entries = entries; count = count; after = after }) line) (λ t. lines_step t lines) (λ t. Ok (with_open t.blocks t.label t.entries))
-    ∙ rw (too-many count) (read-line (nat_lt LINE_LIMIT (length line)) (nat_le SOURCE_LIMIT count) (class_of after line) line lines (read-all lines) blocks label entries count run index run_label after h left)
+    ∙ rw (too-many count) (read-line (nat_lt LINE_BYTES_LIMIT (length line)) (nat_le SOURCE_LINES_LIMIT count) (class_of after line) line lines (read-all lines) blocks label entries count run index run_label after h left)
 
 -- reading from the start is the definition
 pub read_from-start : (text : List ℕ) → read_from start (lines_of text) ≡ source_of text

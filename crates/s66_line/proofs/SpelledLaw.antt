@@ -12,7 +12,7 @@ use Rattle.s66_line.specs.Source.{Line, Entry, Block, classed_lines, operand_ref
 use Rattle.s66_line.specs.Block.{instrs_of, text_of}
 use Rattle.s66_line.specs.BlockParts.{all_of}
 use Rattle.s66_isa.specs.declared.limits.TheConstants.{BLOCK_LIMIT}
-use Rattle.s66_line.specs.declared.limits.TheConstants.{LINE_LIMIT, SOURCE_LIMIT, TEXT_LIMIT}
+use Rattle.s66_line.specs.declared.limits.TheConstants.{LINE_BYTES_LIMIT, SOURCE_LINES_LIMIT, TEXT_LIMIT}
 use Rattle.s66_line.specs.declared.error.SourceError.{SourceError}
 use Rattle.s66_line.specs.declared.error.SourceError.TheVariants.{LineTooLong, TooLarge}
 use Rattle.s66_line.proofs.BlockEntries.{instr_at-entry}
@@ -54,10 +54,10 @@ not-long : (long many : Bool) (e f : SourceError) (o : Option SourceError) → (
 not-long true many e f o h = cc
 not-long false many e f o h = refl
 
-few-bytes : (lines : List Line) (l : Line) → refusal lines ≡ None → Among l lines → length l.bytes ≤ LINE_LIMIT
+few-bytes : (lines : List Line) (l : Line) → refusal lines ≡ None → Among l lines → length l.bytes ≤ LINE_BYTES_LIMIT
 few-bytes lines l taken among =
-    ltb-false LINE_LIMIT (length l.bytes)
-    (not-long (nat_lt LINE_LIMIT (length l.bytes)) (nat_lt SOURCE_LIMIT l.number) (LineTooLong l.number) TooLarge (operand_refusal l.number l.class) (none-at lines l taken among))
+    ltb-false LINE_BYTES_LIMIT (length l.bytes)
+    (not-long (nat_lt LINE_BYTES_LIMIT (length l.bytes)) (nat_lt SOURCE_LINES_LIMIT l.number) (LineTooLong l.number) TooLarge (operand_refusal l.number l.class) (none-at lines l taken among))
 
 trim-length : (test : ℕ → Bool) (bytes : List ℕ) → length (trim test bytes) ≤ length bytes
 trim-length test [] = omega arith
@@ -66,7 +66,7 @@ trim-length test (b ∷ bytes) =
     [ true ↦ omega arith | false ↦ (let h = trim-length test bytes in omega (arith, h)) ]
 
 -- the operation begins behind column 1
-few-entry : (l : Line) → length l.bytes ≤ LINE_LIMIT → length (entry_of l).bytes ≤ TEXT_LIMIT
+few-entry : (l : Line) → length l.bytes ≤ LINE_BYTES_LIMIT → length (entry_of l).bytes ≤ TEXT_LIMIT
 few-entry l few =
     let trimmed = trim-length is_return l.bytes in
     let within = from_operation_within (body l.bytes) in
@@ -74,7 +74,7 @@ few-entry l few =
 
 -- AN INSTRUCTION OF A BLOCK
 
-spelled-by : (block : Block) (n : ℕ) (l : Line) → slice_get block.entries n ≡ Some (entry_of l) → IsSound (entry_of l) → length l.bytes ≤ LINE_LIMIT → IsTextOf (text_of block (suc n)) (instr_at (instrs_of block) (suc n))
+spelled-by : (block : Block) (n : ℕ) (l : Line) → slice_get block.entries n ≡ Some (entry_of l) → IsSound (entry_of l) → length l.bytes ≤ LINE_BYTES_LIMIT → IsTextOf (text_of block (suc n)) (instr_at (instrs_of block) (suc n))
 spelled-by block n l here sound few =
     let e : Entry = entry_of l in
     rw (bytes_of-entry block (suc n) e here, ← instr_at-entry block (suc n) e here) (text-of_bytes e.bytes e.instr sound.0 (few-entry l few))

@@ -15,3 +15,4 @@ pub mod Pads
 pub mod Printer
 pub mod Reader
 pub mod SourceReader
+pub mod Refusals

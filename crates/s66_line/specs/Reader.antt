@@ -7,7 +7,7 @@ use Rattle.s66_line.specs.Source.{Block, Entry, class_of}
 use Rattle.s66_line.specs.declared.class.Class.{Class}
 use Rattle.s66_line.specs.declared.class.Class.TheVariants.{Comment, Other, Refused, Pad, Instruction}
 use Rattle.s66_isa.specs.declared.limits.TheConstants.{BLOCK_LIMIT}
-use Rattle.s66_line.specs.declared.limits.TheConstants.{LINE_LIMIT, SOURCE_LIMIT}
+use Rattle.s66_line.specs.declared.limits.TheConstants.{LINE_BYTES_LIMIT, SOURCE_LINES_LIMIT}
 use Rattle.s66_line.specs.declared.error.SourceError.{SourceError}
 use Rattle.s66_line.specs.declared.error.SourceError.TheVariants.{BadOperand, LineTooLong, TooLarge, OutOfMemory}
 
@@ -66,8 +66,8 @@ IsSpelled class bytes = Unit {0}
 
 abbrev pub line_step : State → List ℕ → Result State SourceError
 line_step s line =
-    if nat_lt LINE_LIMIT (length line) then Err (LineTooLong (suc s.count))
-    else (if nat_le SOURCE_LIMIT s.count then Err TooLarge else by_class s (class_of s.after line) (label_bytes (body line)) (from_operation (body line)))
+    if nat_lt LINE_BYTES_LIMIT (length line) then Err (LineTooLong (suc s.count))
+    else (if nat_le SOURCE_LINES_LIMIT s.count then Err TooLarge else by_class s (class_of s.after line) (label_bytes (body line)) (from_operation (body line)))
 
 abbrev pub and_then : {A B : Type 0} → Result A SourceError → (A → Result B SourceError) → Result B SourceError
 and_then (Ok x) next = next x

@@ -8,7 +8,7 @@ use Rattle.s66_line.specs.Operand.{operation_of, instr_of}
 use Rattle.s66_line.specs.declared.class.Class.{Class}
 use Rattle.s66_line.specs.declared.class.Class.TheVariants.{Comment, Other, Refused, Pad, Instruction}
 use Rattle.s66_isa.specs.declared.limits.TheConstants.{BLOCK_LIMIT}
-use Rattle.s66_line.specs.declared.limits.TheConstants.{LINE_LIMIT, SOURCE_LIMIT}
+use Rattle.s66_line.specs.declared.limits.TheConstants.{LINE_BYTES_LIMIT, SOURCE_LINES_LIMIT}
 use Rattle.s66_line.specs.declared.error.SourceError.{SourceError}
 use Rattle.s66_line.specs.declared.error.SourceError.TheVariants.{BadOperand, LineTooLong, TooLarge}
 
@@ -116,8 +116,8 @@ operand_refusal number class = None
 
 abbrev pub refusal_at : Line → Option SourceError
 refusal_at line =
-    if nat_lt LINE_LIMIT (length line.bytes) then Some (LineTooLong line.number)
-    else (if nat_lt SOURCE_LIMIT line.number then Some TooLarge else operand_refusal line.number line.class)
+    if nat_lt LINE_BYTES_LIMIT (length line.bytes) then Some (LineTooLong line.number)
+    else (if nat_lt SOURCE_LINES_LIMIT line.number then Some TooLarge else operand_refusal line.number line.class)
 
 abbrev pub or_else : Option SourceError → Option SourceError → Option SourceError
 or_else (Some e) f = Some e

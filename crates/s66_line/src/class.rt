@@ -3,7 +3,7 @@ ghost use Rattle.s66_line.specs.Fields.{upper, body, operation, operand, from_op
 ghost use Rattle.s66_line.specs.InstructionText.{operation_in, operand_in};
 ghost use Rattle.s66_line.specs.Reader.{IsSpelled};
 ghost use Rattle.s66_line.specs.Source.{class_of, by_operation, is_code, is_located, is_pad};
-ghost use Rattle.s66_line.specs.declared.limits.TheConstants.{LINE_LIMIT, TEXT_LIMIT};
+ghost use Rattle.s66_line.specs.declared.limits.TheConstants.{LINE_BYTES_LIMIT, TEXT_LIMIT};
 
 use crate::fields::{
     body_of, fields_of, is_comment_line, is_continuation, next_word, split_word, upper_case_byte,
@@ -66,7 +66,7 @@ pub(crate) struct Classified<'a> {
 
 /// A body that is neither a comment nor a continuation, with its class.
 fn class_by_fields(line: &[u8]) -> Classified<'_>
-    requires { length line.now ≤ LINE_LIMIT }
+    requires { length line.now ≤ LINE_BYTES_LIMIT }
     ensures class { result.class ≡ by_operation (is_located line.now) (upper (operation line.now)) (upper (operand line.now)) }
     ensures label { result.label.now ≡ label_bytes line.now }
     ensures bytes { result.bytes.now ≡ from_operation line.now }
@@ -83,7 +83,7 @@ fn class_by_fields(line: &[u8]) -> Classified<'_>
 
 /// A line with its class, where the line directly before it is code or not.
 pub(crate) fn classify(after_code: bool, line: &[u8]) -> Classified<'_>
-    requires { length line.now ≤ LINE_LIMIT }
+    requires { length line.now ≤ LINE_BYTES_LIMIT }
     ensures class { result.class ≡ class_of after_code line.now }
     ensures label { is_code result.class ≡ true → result.label.now ≡ label_bytes (body line.now) }
     ensures bytes { is_code result.class ≡ true → result.bytes.now ≡ from_operation (body line.now) }

@@ -1,26 +1,26 @@
-ghost use Rattle.std.specs.Prelude.{◌≡◌};
+ghost use Rattle.std.specs.Prelude.{◌≡◌, ◌++◌, ◌<◌, ◌≤◌, codes, decimal, length};
 ghost use Rattle.s66_line.specs.declared.error.SourceError.TheVariants.{OutOfMemory};
+ghost use Rattle.s66_line.specs.declared.limits.TheConstants.{FAULT_ROOM};
 
+use crate::limits::FAULT_ROOM;
+use arrayvec::ArrayString;
+use itoa::Buffer;
 use std::alloc::{AllocError, AllocFailed};
-use thiserror::Error;
+use std::{error, fmt};
 
-/// Why a source was refused; lines count from 1, and the least refused line is told.
+/// Why a source was refused; lines count from 1, and the least refused line is told. Each shows itself as the line that tells it.
 ///
 /// On one line `LineTooLong` goes before `TooLarge`, and that before `BadOperand`. `OutOfMemory` is for a growth that was
 /// refused, and may stand in the place of any other answer.
-#[derive(Clone, Copy, Debug, Drop, Error, PartialEq, Eq)]
+#[derive(Clone, Copy, Debug, Drop, PartialEq, Eq)]
 pub enum SourceError {
     /// An operation of the table with an operand that it does not take, or a line with a comma in column 1 directly after
     /// an instruction or a `NO`.
-    #[error("LINE {line} BAD OPERAND")]
     BadOperand { line: u32 },
-    /// A line of more than `LINE_LIMIT` bytes, its newline not counted.
-    #[error("LINE {line} TOO LONG")]
+    /// A line of more than `LINE_BYTES_LIMIT` bytes, its newline not counted.
     LineTooLong { line: u32 },
-    /// A line past the `SOURCE_LIMIT`th.
-    #[error("TOO MANY LINES")]
+    /// A line past the `SOURCE_LINES_LIMIT`th.
     TooLarge,
-    #[error("OUT OF MEMORY")]
     OutOfMemory,
 }
 
@@ -39,3 +39,58 @@ impl<T: Drop> From<AllocFailed<T>> for SourceError {
         SourceError::OutOfMemory
     }
 }
+
+/// A text of a few bytes.
+pub fn short_text(text: &str) -> ArrayString<FAULT_ROOM>
+    requires { length text.now < FAULT_ROOM }
+    ensures { result.bytes ≡ text.now }
+{
+    let mut line = ArrayString::new();
+    line.push_str(text);
+    line
+}
+
+/// A line of the input, and what is wrong with it.
+pub fn line_refusal(line: u64, what: &str) -> ArrayString<FAULT_ROOM>
+    requires { length what.now ≤ 12 }
+    ensures text { result.bytes ≡ codes "LINE " ++ decimal line ++ what.now }
+    ensures short { length result.bytes < FAULT_ROOM }
+{
+    let mut digits = Buffer::new();
+    let mut text = ArrayString::new();
+    text.push_str("LINE ");
+    text.push_str(digits.format(line));
+    text.push_str(what);
+    text
+}
+
+impl SourceError {
+    ghost use Rattle.std.specs.Prelude.{◌≡◌, ◌<◌, length};
+    ghost use Rattle.s66_line.specs.Refusals.{refusal_line};
+
+    /// The line that tells it, without a newline.
+    pub fn line(&self) -> ArrayString<FAULT_ROOM>
+        ensures text { result.bytes ≡ refusal_line self.now }
+        ensures short { length result.bytes < FAULT_ROOM }
+    {
+        match self {
+            SourceError::BadOperand { line } => line_refusal(u64::from(*line), " BAD OPERAND"),
+            SourceError::LineTooLong { line } => line_refusal(u64::from(*line), " TOO LONG"),
+            SourceError::TooLarge => short_text("TOO MANY LINES"),
+            SourceError::OutOfMemory => short_text("OUT OF MEMORY"),
+        }
+    }
+}
+
+impl fmt::Display for SourceError {
+    ghost use Rattle.std.specs.Prelude.{Some};
+    ghost use Rattle.s66_line.specs.Refusals.{refusal_line};
+
+    ghost output = { λ e. Some (refusal_line e) };
+
+    fn fmt<W: fmt::Write>(&self, f: &mut fmt::Formatter<W>) -> fmt::Result {
+        f.write_str(self.line().as_str())
+    }
+}
+
+impl error::Error for SourceError {}

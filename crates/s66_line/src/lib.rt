@@ -21,14 +21,14 @@ mod text;
 
 pub use block::Block;
 pub use device::{Failed, Feed, OverRead, OverWrite, Sink, WriteError, write_all};
-pub use error::SourceError;
+pub use error::{SourceError, line_refusal, short_text};
 pub use instruction_text::{instruction_in, is_instruction};
 pub use laws::{
     byte_examples, case_law, code_law, constant_examples, copied_law, instruction_examples,
     line_examples, line_law, operation_law, parts_law, printed_examples, read_again_examples,
     read_again_law, set_form_law, spelled_law, term_law, whole_law,
 };
-pub use limits::{LINE_LIMIT, SOURCE_LIMIT, TEXT_LIMIT};
+pub use limits::{FAULT_ROOM, LINE_BYTES_LIMIT, SOURCE_LINES_LIMIT, TEXT_LIMIT};
 pub use placed::Placed;
 pub use printer::print_source;
 pub use source::{Source, read_source};

@@ -65,11 +65,11 @@ impl<'s, 'a> Printer<'s, 'a> {
     ghost use Rattle.std.specs.Prelude.{◌≡◌, ◌≤◌, ◌<◌, ◌+◌, ◌++◌, true, suc, [], length, OnOk};
     ghost use Rattle.s66_line.specs.Fields.{lines_from};
     ghost use Rattle.s66_line.specs.Printer.{IsPrinter, is_skipped, is_instruction_next, text_at, pass_instruction, line_text, after_line, text_of};
-    ghost use Rattle.s66_line.specs.declared.limits.TheConstants.{SOURCE_LIMIT};
+    ghost use Rattle.s66_line.specs.declared.limits.TheConstants.{SOURCE_LINES_LIMIT};
 
     /// Whether the next line is left out.
     fn skips(&self) -> bool
-        requires { self.now.lines < SOURCE_LIMIT }
+        requires { self.now.lines < SOURCE_LINES_LIMIT }
         ensures { result ≡ is_skipped self.now }
     {
         match self.dropped {
@@ -80,7 +80,7 @@ impl<'s, 'a> Printer<'s, 'a> {
 
     /// Whether the next line is an instruction.
     fn is_at_instruction(&self) -> bool
-        requires lines { self.now.lines < SOURCE_LIMIT }
+        requires lines { self.now.lines < SOURCE_LINES_LIMIT }
         requires printer { IsPrinter self.now }
         ensures { result ≡ is_instruction_next self.now }
     {
@@ -95,7 +95,7 @@ impl<'s, 'a> Printer<'s, 'a> {
 
     /// Passes an instruction.
     fn print_instruction(&mut self, out: &mut Vec<u8>) -> Result<(), AllocError>
-        requires lines { self.old.lines < SOURCE_LIMIT }
+        requires lines { self.old.lines < SOURCE_LINES_LIMIT }
         requires printer { IsPrinter self.old }
         requires here { is_instruction_next self.old ≡ true }
         ensures text { OnOk result (out.new.items ≡ out.old.items ++ text_at self.old.number self.old.passed self.old.blocks self.old.placed) }
@@ -119,7 +119,7 @@ impl<'s, 'a> Printer<'s, 'a> {
 
     /// Passes a line.
     fn print_line(&mut self, out: &mut Vec<u8>, line: &[u8]) -> Result<(), AllocError>
-        requires lines { self.old.lines < SOURCE_LIMIT }
+        requires lines { self.old.lines < SOURCE_LINES_LIMIT }
         requires printer { IsPrinter self.old }
         ensures text { OnOk result (out.new.items ≡ out.old.items ++ line_text self.old line.now) }
         ensures rest { OnOk result (self.new ≡ after_line self.old) }
@@ -139,7 +139,7 @@ impl<'s, 'a> Printer<'s, 'a> {
 
     /// Passes a last line that lacks its newline, where there is one.
     fn print_last(&mut self, out: &mut Vec<u8>, line: &[u8]) -> Result<(), AllocError>
-        requires lines { self.old.lines + length (lines_from line.now []) ≤ SOURCE_LIMIT }
+        requires lines { self.old.lines + length (lines_from line.now []) ≤ SOURCE_LINES_LIMIT }
         requires printer { IsPrinter self.old }
         ensures text { OnOk result (out.new.items ≡ out.old.items ++ text_of self.old (lines_from line.now [])) }
     {
@@ -151,7 +151,7 @@ impl<'s, 'a> Printer<'s, 'a> {
 
     /// Passes the lines of a text.
     fn print_all(&mut self, out: &mut Vec<u8>, text: &[u8]) -> Result<(), AllocError>
-        requires lines { self.old.lines + length (lines_from [] text.now) ≤ SOURCE_LIMIT }
+        requires lines { self.old.lines + length (lines_from [] text.now) ≤ SOURCE_LINES_LIMIT }
         requires printer { IsPrinter self.old }
         ensures text { OnOk result (out.new.items ≡ out.old.items ++ text_of self.old (lines_from [] text.now)) }
     {

@@ -7,13 +7,13 @@ ghost use Rattle.s66_line.specs.Reader.{Steps, IsSpelled, end_block, begin_run, 
 ghost use Rattle.s66_line.specs.SourceReader.{state};
 ghost use Rattle.s66_line.specs.Source.{class_of, is_code};
 ghost use Rattle.s66_isa.specs.declared.limits.TheConstants.{BLOCK_LIMIT};
-ghost use Rattle.s66_line.specs.declared.limits.TheConstants.{SOURCE_LIMIT, TEXT_LIMIT};
+ghost use Rattle.s66_line.specs.declared.limits.TheConstants.{SOURCE_LINES_LIMIT, TEXT_LIMIT};
 
 use crate::block::Block;
 use crate::class::{Class, Classified, classify};
 use crate::entry::Entry;
 use crate::error::SourceError;
-use crate::limits::{LINE_LIMIT, SOURCE_LIMIT};
+use crate::limits::{LINE_BYTES_LIMIT, SOURCE_LINES_LIMIT};
 use crate::pads::Pads;
 use memchr::memchr;
 use s66_isa::{BLOCK_LIMIT, Instr};
@@ -74,7 +74,7 @@ impl<'a> Reader<'a> {
     /// Puts the instruction of the next line into the open block, which ends where it is full.
     fn put(&mut self, alloc: Global, instr: Instr, bytes: &'a [u8]) -> Result<(), AllocError>
         requires few { length self.old.entries.items < BLOCK_LIMIT }
-        requires lines { self.old.lines < SOURCE_LIMIT }
+        requires lines { self.old.lines < SOURCE_LINES_LIMIT }
         requires bytes { length bytes.now ≤ TEXT_LIMIT }
         requires spelled { Spells bytes.now instr }
         ensures step { OnOk result (state self.new ≡ with_entry instr bytes.now (state self.old)) }
@@ -93,7 +93,7 @@ impl<'a> Reader<'a> {
     /// Reads the next line, which was classified.
     fn take_classified(&mut self, alloc: Global, line: Classified<'a>) -> Result<(), SourceError>
         requires few { length self.old.entries.items < BLOCK_LIMIT }
-        requires lines { self.old.lines < SOURCE_LIMIT }
+        requires lines { self.old.lines < SOURCE_LINES_LIMIT }
         requires bytes { length line.bytes.now ≤ TEXT_LIMIT }
         requires spelled { IsSpelled line.class line.bytes.now }
         ensures step { Steps (state self.new) result (by_class (state self.old) line.entry.class line.entry.label.now line.entry.bytes.now) }
@@ -101,7 +101,7 @@ impl<'a> Reader<'a> {
         ensures count { OnOk result (self.new.lines ≡ suc self.old.lines) }
         ensures after_code { OnOk result (self.new.after_code ≡ is_code line.entry.class) }
         ensures few { OnOk result (length self.new.entries.items < BLOCK_LIMIT) }
-        ensures lines { OnOk result (self.new.lines ≤ SOURCE_LIMIT) }
+        ensures lines { OnOk result (self.new.lines ≤ SOURCE_LINES_LIMIT) }
     {
         let mut after_code = false;
         let class = line.class;
@@ -136,20 +136,20 @@ impl<'a> Reader<'a> {
     /// Reads the next line.
     fn take_line(&mut self, alloc: Global, line: &'a [u8]) -> Result<(), SourceError>
         requires few { length self.old.entries.items < BLOCK_LIMIT }
-        requires lines { self.old.lines ≤ SOURCE_LIMIT }
+        requires lines { self.old.lines ≤ SOURCE_LINES_LIMIT }
         ensures step { Steps (state self.new) result (line_step (state self.old) line.now) }
         ensures pads { OnOk result (self.new.pads ≡ pads_by_class (class_of self.old.after_code line.now) (suc self.old.lines) self.old.pads) }
         ensures count { OnOk result (self.new.lines ≡ suc self.old.lines) }
         ensures after_code { OnOk result (self.new.after_code ≡ is_code (class_of self.old.after_code line.now)) }
         ensures few { OnOk result (length self.new.entries.items < BLOCK_LIMIT) }
-        ensures lines { OnOk result (self.new.lines ≤ SOURCE_LIMIT) }
+        ensures lines { OnOk result (self.new.lines ≤ SOURCE_LINES_LIMIT) }
     {
-        if line.len() > LINE_LIMIT {
+        if line.len() > LINE_BYTES_LIMIT {
             return Err(SourceError::LineTooLong {
                 line: self.lines + 1,
             });
         }
-        if self.lines >= SOURCE_LIMIT {
+        if self.lines >= SOURCE_LINES_LIMIT {
             return Err(SourceError::TooLarge);
         }
         self.take_classified(alloc, classify(self.after_code, line))
@@ -158,7 +158,7 @@ impl<'a> Reader<'a> {
     /// Reads a last line that lacks its newline, where there is one.
     fn take_last(&mut self, alloc: Global, line: &'a [u8]) -> Result<(), SourceError>
         requires few { length self.old.entries.items < BLOCK_LIMIT }
-        requires lines { self.old.lines ≤ SOURCE_LIMIT }
+        requires lines { self.old.lines ≤ SOURCE_LINES_LIMIT }
         ensures step { Steps (state self.new) result (lines_step (state self.old) (lines_from line.now [])) }
         ensures pads { OnOk result (self.new.pads ≡ pads_of_lines self.old.lines self.old.after_code self.old.pads (lines_from line.now [])) }
         ensures few { OnOk result (length self.new.entries.items < BLOCK_LIMIT) }
@@ -172,7 +172,7 @@ impl<'a> Reader<'a> {
     /// Reads all lines of a text.
     pub(crate) fn take_all(&mut self, alloc: Global, text: &'a [u8]) -> Result<(), SourceError>
         requires few { length self.old.entries.items < BLOCK_LIMIT }
-        requires lines { self.old.lines ≤ SOURCE_LIMIT }
+        requires lines { self.old.lines ≤ SOURCE_LINES_LIMIT }
         ensures step { Steps (state self.new) result (lines_step (state self.old) (lines_from [] text.now)) }
         ensures pads { OnOk result (self.new.pads ≡ pads_of_lines self.old.lines self.old.after_code self.old.pads (lines_from [] text.now)) }
         ensures few { OnOk result (length self.new.entries.items < BLOCK_LIMIT) }

@@ -1,6 +1,7 @@
 -- A floor by its parts, each by words that are known before anything is placed, and how great they are at most.
-use Rattle.std.proofs.Common.{ℕ, ◌+◌, ◌-◌, ◌≤◌, ◌<◌, ◌≡◌, ◌≢◌, Bool, true, false, not, cond, max, List, [], ◌∷◌, ◌++◌, length, get_or, refl, sym, ap, arith, inl, inr, ltb, ◌∙◌}
+use Rattle.std.proofs.Common.{ℕ, ◌+◌, ◌-◌, ◌*◌, ◌≤◌, ◌<◌, ◌≡◌, ◌≢◌, Bool, true, false, not, cond, max, List, [], ◌∷◌, ◌++◌, length, get_or, refl, sym, ap, arith, inl, inr, ltb, ◌∙◌}
 use Rattle.std.proofs.lemmas.Bool.{cond-true, cond-false, cases_Bool, le-leb, ltb-true, ltb-false}
+use Rattle.s66_isa.specs.declared.limits.TheConstants.{BLOCK_LIMIT}
 use Rattle.s66_isa.specs.declared.reg.Reg.{Reg}
 use Rattle.s66_isa.specs.Lists.{greatest, least, weigh, has, Among}
 use Rattle.s66_isa.specs.Table.{numbers}
@@ -41,25 +42,25 @@ floor-parts b prefix begins short =
 
 -- HOW GREAT THEY ARE: some order completes a beginning, and each leaf is a lower bound of it
 
-pub leaf-fits : (b : Problem) (prefix : List ℕ) (leaf : Leaf) → IsBeginning b.block prefix → length b.block ≤ 64 → MayStand b prefix leaf → value b prefix leaf ≤ 6656
+pub leaf-fits : (b : Problem) (prefix : List ℕ) (leaf : Leaf) → IsBeginning b.block prefix → length b.block ≤ BLOCK_LIMIT → MayStand b prefix leaf → value b prefix leaf ≤ 104 * BLOCK_LIMIT
 leaf-fits b prefix leaf begins few may =
     let (rest, legal) = beginning-front b.block prefix begins in
     let (begins2, completes) = legal-parts b.block prefix rest legal in
     omega (arith, leaf-sound b prefix rest leaf begins2 completes may, total-le b (prefix ++ rest), completes.1, few)
 
-pub chain-fits : (b : Problem) (prefix : List ℕ) → IsBeginning b.block prefix → length b.block ≤ 64 → IsIncomplete b.block prefix → chain b prefix ≤ 6656
+pub chain-fits : (b : Problem) (prefix : List ℕ) → IsBeginning b.block prefix → length b.block ≤ BLOCK_LIMIT → IsIncomplete b.block prefix → chain b prefix ≤ 104 * BLOCK_LIMIT
 chain-fits b prefix begins few short =
     let (n, stays) = some-remains b.block prefix begins short in
     let is = longest-is_chain b prefix n stays in
     omega (arith, leaf-fits b prefix (Chain (longest_chain b prefix)) begins few (short, is.0), is.1)
 
-pub head-fits : (b : Problem) (prefix : List ℕ) (n : ℕ) → IsBeginning b.block prefix → length b.block ≤ 64 → IsIncomplete b.block prefix → is_remaining b.block prefix n ≡ true → head (points_of b prefix) (row_at b n) + longest_tail b n ≤ 6656
+pub head-fits : (b : Problem) (prefix : List ℕ) (n : ℕ) → IsBeginning b.block prefix → length b.block ≤ BLOCK_LIMIT → IsIncomplete b.block prefix → is_remaining b.block prefix n ≡ true → head (points_of b prefix) (row_at b n) + longest_tail b n ≤ 104 * BLOCK_LIMIT
 head-fits b prefix n begins few short stays =
     omega (arith, chain-fits b prefix begins few short, chain-static b prefix begins, le-greatest (λ m. head (points_of b prefix) (row_at b m) + longest_tail b m) n (remaining b.block prefix) (among-remaining b.block prefix n stays))
 
-pub by-fits : (b : Problem) (prefix : List ℕ) (x : Reg) → IsBeginning b.block prefix → length b.block ≤ 64 → IsIncomplete b.block prefix → chain_by b prefix x ≤ 6656
+pub by-fits : (b : Problem) (prefix : List ℕ) (x : Reg) → IsBeginning b.block prefix → length b.block ≤ BLOCK_LIMIT → IsIncomplete b.block prefix → chain_by b prefix x ≤ 104 * BLOCK_LIMIT
 by-fits b prefix x begins few short =
-    greatest-le (λ n. cond (uses (row_at b n) x) (done_of (points_of b prefix) x + longest_tail b n) 0) 6656 (remaining b.block prefix)
+    greatest-le (λ n. cond (uses (row_at b n) x) (done_of (points_of b prefix) x + longest_tail b n) 0) (104 * BLOCK_LIMIT) (remaining b.block prefix)
     (λ n among. omega (arith, by-le b prefix x n among, chain-static b prefix begins, chain-fits b prefix begins few short))
 
 -- SUMS OVER WHAT REMAINS

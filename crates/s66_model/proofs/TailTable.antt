@@ -2,6 +2,7 @@
 use Rattle.std.proofs.Common.{ℕ, zero, suc, ◌+◌, ◌*◌, ◌≤◌, ◌<◌, ◌≡◌, cond, max, List, [], length, ap, arith, ltb, ◌∙◌}
 use Rattle.std.proofs.lemmas.Bool.{and_parts, and_from, and_right, ltb-true, lt-ltb, le-ltb, cond-true, cond-false, cond_both}
 use Rattle.std.specs.List.{filter}
+use Rattle.s66_isa.specs.declared.limits.TheConstants.{BLOCK_LIMIT}
 use Rattle.s66_isa.specs.Lists.{greatest, Among}
 use Rattle.s66_isa.specs.Table.{Row, Write, numbers, memory_pair}
 use Rattle.s66_model.specs.Timing.{Problem, row_at}
@@ -69,5 +70,5 @@ longest-small b (suc links) n =
     let f : ℕ → ℕ = λ m. link (row_at b n) (row_at b m) + longest b [] links m in
     omega (arith, tail-small b n, greatest-le f (101 * (links + 2)) (links_from b [] n) (λ m among. omega (arith, link-small b n m, longest-small b links m)))
 
-pub tail-fits : (b : Problem) (n : ℕ) → length b.block ≤ 64 → longest_tail b n ≤ 6565
+pub tail-fits : (b : Problem) (n : ℕ) → length b.block ≤ BLOCK_LIMIT → longest_tail b n ≤ 101 * (BLOCK_LIMIT + 1)
 tail-fits b n few = omega (arith, longest-small b (length b.block) n)

@@ -2,6 +2,7 @@
 use Rattle.std.proofs.Common.{ℕ, ◌+◌, ◌-◌, ◌*◌, ◌≤◌, ◌<◌, ◌≡◌, ◌==◌, true, false, not, List, [], ◌∷◌, ◌++◌, length, map, refl, sym, ap, arith, inl, inr, ◌∙◌, length-append, subst, Option, None, eqb-true}
 use Rattle.std.proofs.lemmas.List.{reverse-append, length-take, map-append}
 use Rattle.std.proofs.lemmas.List.Filters.{length-filter_both}
+use Rattle.s66_isa.specs.declared.limits.TheConstants.{BLOCK_LIMIT}
 use Rattle.s66_isa.specs.Lists.{Among, weigh, rising}
 use Rattle.s66_isa.proofs.Lists.{weigh-append}
 use Rattle.s66_model.specs.Timing.{Problem}
@@ -172,9 +173,9 @@ module _ (b : Problem) (best allowance : ℕ) (root : List ℕ) where
 
 -- WHAT IS LEFT TO DO falls at each turn: each number of a frame, the frame itself, and splits
 
-pub set-few : (s : Set) → length (numbers_in s) ≤ 64
+pub set-few : (s : Set) → length (numbers_in s) ≤ BLOCK_LIMIT
 unfolding numbers_in
-set-few s = omega (arith, length-filter_both (is_member s.bits) (λ n. not (is_member s.bits n)) (λ n. refl) (rising 64 1))
+set-few s = omega (arith, length-filter_both (is_member s.bits) (λ n. not (is_member s.bits n)) (λ n. refl) (rising BLOCK_LIMIT 1))
 
 abbrev pub work : List Set → ℕ
 work frames = weigh (λ (f : Set). 1 + length (numbers_in f)) frames

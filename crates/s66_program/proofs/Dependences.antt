@@ -2,6 +2,7 @@
 use Rattle.std.proofs.Common.{ℕ, suc, ◌+◌, ◌-◌, ◌≤◌, ◌<◌, ◌≡◌, not, List, ◌∷◌, length, drop, get_or, refl, ap, arith, ◌∙◌}
 use Rattle.std.proofs.lemmas.List.{drop_more, length-map}
 use Rattle.std.proofs.lemmas.List.Filters.{length-filter_both}
+use Rattle.s66_isa.specs.declared.limits.TheConstants.{BLOCK_LIMIT}
 use Rattle.s66_isa.specs.declared.instr.Instr.{Instr}
 use Rattle.s66_isa.specs.Lists.{rising, weigh}
 use Rattle.s66_isa.specs.Table.{numbers}
@@ -20,9 +21,9 @@ rising-next n i lt =
 
 -- HOW MANY A SET HAS
 
-pub numbers_in-few : (set : Set) → length (numbers_in set) ≤ 64
+pub numbers_in-few : (set : Set) → length (numbers_in set) ≤ BLOCK_LIMIT
 unfolding numbers_in
-numbers_in-few set = omega (arith, length-filter_both (is_member set.bits) (λ n. not (is_member set.bits n)) (λ n. refl) (rising 64 1))
+numbers_in-few set = omega (arith, length-filter_both (is_member set.bits) (λ n. not (is_member set.bits n)) (λ n. refl) (rising BLOCK_LIMIT 1))
 
 -- THE SUM OF WHAT IS LEFT
 

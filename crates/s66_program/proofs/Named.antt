@@ -16,6 +16,9 @@ use Rattle.clap.specs.Simple.{entered, label_of, names_of}
 use Rattle.clap.specs.Faults.{check_fault, defaults_fault, entered_fault, fault_of, level_fault, settle_fault, other_fault, turn_fault, walk_fault, word_fault}
 use Rattle.clap.proofs.SimpleLemmas.{is_nil}
 use Rattle.clap.proofs.WalkLemmas.{both, one_text-rows}
+use Rattle.s66_ledger.specs.declared.limits.TheConstants.{BUDGET_LIMIT}
+use Rattle.s66_pool.specs.declared.limits.TheConstants.{WORKERS_LIMIT}
+use Rattle.s66_program.specs.declared.limits.TheConstants.{NODES_DEFAULT, WORKERS_DEFAULT}
 use Rattle.s66_program.specs.OptionNumbers.{IsNumber, IsReadAs}
 use Rattle.s66_program.specs.Usage.{AsksFor, GivesSearch, has_option, option_text, s66_app, subcommand_name}
 use Rattle.s66_program.proofs.Faults.{first-none, full, second-none}
@@ -285,10 +288,10 @@ number-given words found s id least most default n is options read =
 
 -- the numbers of a search, as they were read of what was found for its subcommand
 pub search-of : (words : List Text) (found : Found) (s : Shape) (workers nodes : ℕ) → IsMatched found words s →
-    HasNumber (codes "workers") 1 16 s.rules → HasNumber (codes "nodes") 0 1000000 s.rules →
-    (IsNumber 1 16 (one_text found (codes "workers")) → IsReadAs 1 16 4 (one_text found (codes "workers")) workers) →
-    (IsNumber 0 1000000 (one_text found (codes "nodes")) → IsReadAs 0 1000000 100000 (one_text found (codes "nodes")) nodes) → GivesSearch words workers nodes
+    HasNumber (codes "workers") 1 WORKERS_LIMIT s.rules → HasNumber (codes "nodes") 0 BUDGET_LIMIT s.rules →
+    (IsNumber 1 WORKERS_LIMIT (one_text found (codes "workers")) → IsReadAs 1 WORKERS_LIMIT WORKERS_DEFAULT (one_text found (codes "workers")) workers) →
+    (IsNumber 0 BUDGET_LIMIT (one_text found (codes "nodes")) → IsReadAs 0 BUDGET_LIMIT NODES_DEFAULT (one_text found (codes "nodes")) nodes) → GivesSearch words workers nodes
 search-of words found s workers nodes is has-workers has-nodes read-workers read-nodes =
-    let by = number-given words found s (codes "workers") 1 16 4 workers is has-workers read-workers in
-    let up-to = number-given words found s (codes "nodes") 0 1000000 100000 nodes is has-nodes read-nodes in
+    let by = number-given words found s (codes "workers") 1 WORKERS_LIMIT WORKERS_DEFAULT workers is has-workers read-workers in
+    let up-to = number-given words found s (codes "nodes") 0 BUDGET_LIMIT NODES_DEFAULT nodes is has-nodes read-nodes in
     (by.0, by.1, by.2, up-to.0, up-to.2)

@@ -1,9 +1,11 @@
 -- To be believed: the statuses of the program, and the line that standard error gets of a fault.
-use Rattle.std.specs.Prelude.{ℕ, List, ◌++◌, codes, decimal}
+use Rattle.std.specs.Prelude.{ℕ, List, codes}
 use Rattle.s66_cert.specs.declared.error.CertError.{CertError}
 use Rattle.s66_cert.specs.declared.error.CertError.TheVariants as cert
 use Rattle.s66_line.specs.declared.error.SourceError.{SourceError}
 use Rattle.s66_line.specs.declared.error.SourceError.TheVariants.{BadOperand, LineTooLong, OutOfMemory, TooLarge}
+use Rattle.s66_line.specs.Refusals.{refusal_line}
+use Rattle.s66_cert.specs.Refusals.{document_refusal_line}
 use Rattle.s66_program.specs.declared.outcome.Fault.{Fault}
 use Rattle.s66_program.specs.declared.outcome.Fault.TheVariants.{Source, Document, Memory, Read, Write}
 use Rattle.s66_program.specs.declared.outcome.Status.{Status}
@@ -34,20 +36,6 @@ fault_code (Document e) = 3
 fault_code Memory = 4
 fault_code Read = 6
 fault_code Write = 6
-
--- why a source was refused
-abbrev pub refusal_line : SourceError → List ℕ
-refusal_line (BadOperand line) = codes "LINE " ++ decimal line ++ codes " BAD OPERAND"
-refusal_line (LineTooLong line) = codes "LINE " ++ decimal line ++ codes " TOO LONG"
-refusal_line TooLarge = codes "TOO MANY LINES"
-refusal_line OutOfMemory = codes "OUT OF MEMORY"
-
--- why documents were refused
-abbrev pub document_refusal_line : CertError → List ℕ
-document_refusal_line (cert.BadLine line) = codes "LINE " ++ decimal line ++ codes " BAD LINE"
-document_refusal_line cert.Truncated = codes "TRUNCATED"
-document_refusal_line cert.TooManyNodes = codes "TOO MANY NODES"
-document_refusal_line cert.OutOfMemory = codes "OUT OF MEMORY"
 
 -- the line of a fault, without its newline
 abbrev pub fault_line : Fault → List ℕ

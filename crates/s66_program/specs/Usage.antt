@@ -13,6 +13,9 @@ use Rattle.clap.specs.declared.builder.command.Command.TheViews.{out-Command}
 use Rattle.clap.specs.declared.builder.value_parser.ValueParser.TheVariants.{Signed}
 use Rattle.clap.specs.declared.error.kind.ErrorKind.{ErrorKind}
 use Rattle.clap.specs.declared.error.kind.ErrorKind.TheVariants as kind
+use Rattle.s66_ledger.specs.declared.limits.TheConstants.{BUDGET_LIMIT}
+use Rattle.s66_pool.specs.declared.limits.TheConstants.{WORKERS_LIMIT}
+use Rattle.s66_program.specs.declared.limits.TheConstants.{NODES_DEFAULT, WORKERS_DEFAULT}
 use Rattle.s66_program.specs.declared.command.Command.{Command}
 use Rattle.s66_program.specs.declared.command.Command.TheVariants.{Time, Deps, Chart, Order, Prove, Check}
 use Rattle.s66_program.specs.declared.usage.Usage.{Usage}
@@ -26,10 +29,10 @@ abbrev pub number_rule : Text → ℕ → ℕ → Rule
 number_rule name least most = record (new_rule name) { long = Some name; value_names = 1; parser = Some (Signed (pos least) (pos most)) }
 
 abbrev pub workers_rule : Rule
-workers_rule = number_rule (codes "workers") 1 16
+workers_rule = number_rule (codes "workers") 1 WORKERS_LIMIT
 
 abbrev pub nodes_rule : Rule
-nodes_rule = number_rule (codes "nodes") 0 1000000
+nodes_rule = number_rule (codes "nodes") 0 BUDGET_LIMIT
 
 abbrev pub time_app : App
 time_app = with_rule (new_app (codes "time")) trace_rule
@@ -90,8 +93,8 @@ AsksFor words name = (fault_of s66_app words ≡ []) × (subcommand_name words �
 -- they give a search these numbers
 abbrev pub GivesSearch : List Text → (workers nodes : ℕ) → Type 0
 GivesSearch words workers nodes =
-    (workers ≡ option_number (codes "workers") 4 words) × (1 ≤ workers) × (workers ≤ 16)
-    × (nodes ≡ option_number (codes "nodes") 100000 words) × (nodes ≤ 1000000)
+    (workers ≡ option_number (codes "workers") WORKERS_DEFAULT words) × (1 ≤ workers) × (workers ≤ WORKERS_LIMIT)
+    × (nodes ≡ option_number (codes "nodes") NODES_DEFAULT words) × (nodes ≤ BUDGET_LIMIT)
 
 -- they ask for the command
 abbrev pub Asks : List Text → Command → Type 0

@@ -1,4 +1,5 @@
 ghost use Rattle.std.specs.Prelude.{ℕ, List, ◌≡◌, ◌≤◌, ◌++◌, length, OnOk};
+ghost use Rattle.s66_isa.specs.declared.limits.TheConstants.{BLOCK_LIMIT};
 ghost use Rattle.s66_isa.specs.Lists.{after_blanks, weigh};
 ghost use Rattle.s66_isa.specs.Table.{numbers};
 ghost use Rattle.s66_line.specs.Block.{instrs_of};
@@ -14,7 +15,7 @@ use std::alloc::AllocError;
 /// How many pairs depend in a block of so many instructions.
 fn pairs(dependences: &Dependences, count: usize) -> u32
     requires count { count ≡ length dependences.now }
-    requires few { count ≤ 64 }
+    requires few { count ≤ BLOCK_LIMIT }
     ensures { result ≡ weigh (λ (ns : List ℕ). length ns) dependences.now }
 {
     let mut sum = 0;

@@ -4,9 +4,6 @@ pub const FEED_CALLS: u32 = 16_777_216;
 /// How many bytes each of these calls has room for.
 pub const FEED_ROOM: usize = 65_536;
 
-/// How many bytes there is room for of the line of a fault, with its newline.
-pub const FAULT_ROOM: usize = 64;
-
 /// How many workers search where the words give no number.
 pub const WORKERS_DEFAULT: u8 = 4;
 

@@ -1,12 +1,10 @@
-ghost use Rattle.std.specs.Prelude.{◌≡◌, ◌++◌, ◌<◌, ◌≤◌, codes, decimal, length};
+ghost use Rattle.std.specs.Prelude.{◌≡◌};
 ghost use Rattle.s66_program.specs.declared.outcome.Fault.TheVariants.{Memory};
 ghost use Rattle.s66_program.specs.Outcome.{document_fault, source_fault};
 
-use crate::limits::FAULT_ROOM;
 use arrayvec::ArrayString;
-use itoa::Buffer;
 use s66_cert::CertError;
-use s66_line::SourceError;
+use s66_line::{FAULT_ROOM, SourceError, short_text};
 use std::alloc::{AllocError, AllocFailed};
 use std::{error, fmt};
 
@@ -96,32 +94,9 @@ impl From<CertError> for Fault {
     }
 }
 
-/// A text of a few bytes.
-fn short_text(text: &str) -> ArrayString<FAULT_ROOM>
-    requires { length text.now < FAULT_ROOM }
-    ensures { result.bytes ≡ text.now }
-{
-    let mut line = ArrayString::new();
-    line.push_str(text);
-    line
-}
-
-/// A line of the input, and what is wrong with it.
-fn line_refusal(line: u64, what: &str) -> ArrayString<FAULT_ROOM>
-    requires { length what.now ≤ 12 }
-    ensures text { result.bytes ≡ codes "LINE " ++ decimal line ++ what.now }
-    ensures short { length result.bytes < FAULT_ROOM }
-{
-    let mut digits = Buffer::new();
-    let mut text = ArrayString::new();
-    text.push_str("LINE ");
-    text.push_str(digits.format(line));
-    text.push_str(what);
-    text
-}
-
 impl Fault {
     ghost use Rattle.std.specs.Prelude.{◌≡◌, ◌<◌, length};
+    ghost use Rattle.s66_line.specs.declared.limits.TheConstants.{FAULT_ROOM};
     ghost use Rattle.s66_program.specs.Outcome.{fault_code, fault_line};
 
     /// The status of the process.
@@ -141,21 +116,9 @@ impl Fault {
         ensures short { length result.bytes < FAULT_ROOM }
     {
         match self {
-            Fault::Source(SourceError::BadOperand { line }) => line_refusal(
-                u64::from(*line),
-                " BAD OPERAND",
-            ),
-            Fault::Source(SourceError::LineTooLong { line }) => line_refusal(
-                u64::from(*line),
-                " TOO LONG",
-            ),
-            Fault::Source(SourceError::TooLarge) => short_text("TOO MANY LINES"),
-            Fault::Document(CertError::BadLine { line }) => line_refusal(*line, " BAD LINE"),
-            Fault::Document(CertError::Truncated) => short_text("TRUNCATED"),
-            Fault::Document(CertError::TooManyNodes) => short_text("TOO MANY NODES"),
-            Fault::Source(SourceError::OutOfMemory)
-            | Fault::Document(CertError::OutOfMemory)
-            | Fault::Memory => short_text("OUT OF MEMORY"),
+            Fault::Source(e) => e.line(),
+            Fault::Document(e) => e.line(),
+            Fault::Memory => SourceError::OutOfMemory.line(),
             Fault::Read => short_text("READ FAILED"),
             Fault::Write => short_text("WRITE FAILED"),
         }

@@ -1,5 +1,8 @@
 ghost use Rattle.std.specs.Prelude.{◌≡◌, IfOk, IfErr, List, codes, map};
 ghost use Rattle.clap.specs.Words.{Text, app_of, found_of, kind_of, one_text};
+ghost use Rattle.s66_ledger.specs.declared.limits.TheConstants.{BUDGET_LIMIT};
+ghost use Rattle.s66_pool.specs.declared.limits.TheConstants.{WORKERS_LIMIT};
+ghost use Rattle.s66_program.specs.declared.limits.TheConstants.{NODES_DEFAULT, WORKERS_DEFAULT};
 ghost use Rattle.s66_program.specs.Usage.{Asks, IsArgumentOf, IsCommandOf, IsUsageOf, Refuses, chart_app, check_app, deps_app, nodes_rule, order_app, prove_app, s66_app, search_app, time_app, trace_rule, workers_rule};
 ghost use Rattle.s66_program.specs.OptionNumbers.{IsNumber, IsReadAs};
 ghost use Rattle.s66_program.specs.declared.usage.Usage.TheVariants.{OutOfMemory};
@@ -114,6 +117,15 @@ fn trace_flag<'a>(alloc: Global, help: &'a str) -> Arg<'a>
         .help(help)
         .action(ArgAction::SetTrue)
 }
+
+// the help of the two options says these as numbers
+const _: () = prove!(WORKERS_LIMIT == 16);
+
+const _: () = prove!(WORKERS_DEFAULT == 4);
+
+const _: () = prove!(BUDGET_LIMIT == 1_000_000);
+
+const _: () = prove!(NODES_DEFAULT == 100_000);
 
 /// The option `--workers`.
 fn workers_option<'a>(alloc: Global) -> Arg<'a>
@@ -236,14 +248,14 @@ fn program<'a>(alloc: Global) -> Result<Command<'a>, AllocError>
 
 /// How many workers search, as a subcommand that searches was told.
 fn workers_in(matches: &ArgMatches) -> u8
-    ensures { IsNumber 1 16 (one_text (found_of matches.now) (codes "workers")) → IsReadAs 1 16 4 (one_text (found_of matches.now) (codes "workers")) result }
+    ensures { IsNumber 1 WORKERS_LIMIT (one_text (found_of matches.now) (codes "workers")) → IsReadAs 1 WORKERS_LIMIT WORKERS_DEFAULT (one_text (found_of matches.now) (codes "workers")) result }
 {
     matches.get_one("workers").unwrap_or(WORKERS_DEFAULT)
 }
 
 /// The most splits of a search, as a subcommand that searches was told.
 fn nodes_in(matches: &ArgMatches) -> u32
-    ensures { IsNumber 0 1000000 (one_text (found_of matches.now) (codes "nodes")) → IsReadAs 0 1000000 100000 (one_text (found_of matches.now) (codes "nodes")) result }
+    ensures { IsNumber 0 BUDGET_LIMIT (one_text (found_of matches.now) (codes "nodes")) → IsReadAs 0 BUDGET_LIMIT NODES_DEFAULT (one_text (found_of matches.now) (codes "nodes")) result }
 {
     matches.get_one("nodes").unwrap_or(NODES_DEFAULT)
 }

@@ -1,6 +1,6 @@
 use super::clock::{MULTIPLIES, ONE_LOAD, push_ready};
 use super::source_of;
-use s66_bound::{Bounds, ChainLeaf, Leaf, chain, floor, load, parcels};
+use s66_bound::{ChainLeaf, Leaf, chain, floor, load, parcels};
 use s66_isa::{KINDS, Kind, Profile};
 use s66_line::{Block, read_source};
 use s66_time::Clock;
@@ -38,12 +38,6 @@ fn clock_after<'a, R: Abort>(rt: &R, block: &'a Block<'a>, beginning: &[u8]) -> 
 /// The floor of a beginning.
 fn floor_after<R: Abort>(rt: &R, block: &Block, beginning: &[u8]) -> Leaf {
     floor(&clock_after(rt, block, beginning))
-}
-
-/// The same until a bound meets a time.
-fn floor_until<R: Abort>(rt: &R, block: &Block, beginning: &[u8], time: u32) -> u32 {
-    let clock = clock_after(rt, block, beginning);
-    Bounds::of(clock.block(), clock.profile()).floor_until(&clock, time)
 }
 
 /// The greatest chain, the loads and the parcels of a block of which nothing is pushed.
@@ -128,21 +122,6 @@ fn bounds_of_whole_blocks(rt: HostRuntime) -> Result<(), Fail> {
             assert_eq!(rt; told_loads, loads, "{code}");
             assert_eq!(rt; told_parcels, least_parcels, "{code}");
         }
-    }
-    Ok(())
-}
-
-/// A floor of 17 is told whole for a time above it, and for any other a bound that meets the time.
-#[test]
-fn floors_until_a_time(rt: HostRuntime) -> Result<(), Fail> {
-    let text = source_of(&rt, MULTIPLIES)?;
-    let source = read_source(rt.alloc(), text.as_bytes())?;
-    for block in source.blocks() {
-        for time in 0..=17u32 {
-            let told = floor_until(&rt, block, &[1, 2], time);
-            assert!(rt; time <= told && told <= 17, "{time} {told}");
-        }
-        assert_eq!(rt; floor_until(&rt, block, &[1, 2], 18), 17);
     }
     Ok(())
 }

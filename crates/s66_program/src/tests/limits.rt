@@ -3,7 +3,7 @@ ghost use Rattle.std.specs.Prelude.{None};
 use super::{TIME, check_read_fault, check_refused, check_sum};
 use crate::command::Command;
 use crate::limits::{FEED_CALLS, FEED_ROOM};
-use s66_line::{Failed, Feed, LINE_LIMIT, SOURCE_LIMIT, SourceError};
+use s66_line::{Failed, Feed, LINE_BYTES_LIMIT, SOURCE_LINES_LIMIT, SourceError};
 use std::alloc::AllocError;
 use std::test::Fail;
 
@@ -23,7 +23,7 @@ const TRACE: Command = Command::Time { trace: true };
 /// The most lines, each of the most bytes; each 64th has a label.
 fn longest_source<R: AllocGlobal>(rt: &R) -> Result<String, AllocError> {
     let mut source = String::new(rt.alloc());
-    for i in 0..SOURCE_LIMIT as usize {
+    for i in 0..SOURCE_LINES_LIMIT as usize {
         let code = CODE[i % 8];
         let line = if i % 64 == 0 {
             format!(in rt.alloc(); "LABEL{i:05} {code} ")?
@@ -31,7 +31,7 @@ fn longest_source<R: AllocGlobal>(rt: &R) -> Result<String, AllocError> {
             format!(in rt.alloc(); "           {code} ")?
         };
         source.push_str(line.as_str())?;
-        let remark = "R".repeat(rt.alloc(), LINE_LIMIT.saturating_sub(line.len()))?;
+        let remark = "R".repeat(rt.alloc(), LINE_BYTES_LIMIT.saturating_sub(line.len()))?;
         source.push_str(remark.as_str())?;
         source.push('\n')?;
     }
@@ -41,7 +41,7 @@ fn longest_source<R: AllocGlobal>(rt: &R) -> Result<String, AllocError> {
 /// The most lines, each with a label.
 fn labelled_source<R: AllocGlobal>(rt: &R) -> Result<String, AllocError> {
     let mut source = String::new(rt.alloc());
-    for i in 0..SOURCE_LIMIT as usize {
+    for i in 0..SOURCE_LINES_LIMIT as usize {
         let code = CODE[i % 8];
         let line = format!(in rt.alloc(); "LABEL{i:05} {code}\n")?;
         source.push_str(line.as_str())?;

@@ -1,4 +1,5 @@
 use Rattle.std.proofs.Common.{ℕ, ◌≡◌, ◌-◌, ◌<◌, ◌≤◌, length, get_or}
+use Rattle.s66_isa.specs.declared.limits.TheConstants.{BLOCK_LIMIT}
 use Rattle.s66_model.specs.Timing.{Problem}
 use Rattle.s66_model.specs.Tails.{longest_tail}
 use Rattle.s66_bound.specs.InstructionCosts.{AreEntries}
@@ -9,7 +10,7 @@ decreases-loop-place l = l.place
 
 abbrev pub invariant-loop-place : goal.invariant-loop-place
 invariant-loop-place l = record {
-  size : length l.longest ≡ 64;
+  size : length l.longest ≡ BLOCK_LIMIT;
   within : l.place ≤ length l.entries;
   known : (b : Problem) → AreEntries b l.entries → (n : ℕ) → l.place < n → n ≤ length b.block → get_or l.longest (n - 1) 0 ≡ longest_tail b n;
 }

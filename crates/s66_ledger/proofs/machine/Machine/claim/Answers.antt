@@ -1,4 +1,5 @@
 use Rattle.std.proofs.Common.{ℕ, true, List, Some, None, ◌≡◌, ◌≤◌, ◌∙◌, [], arith, length, ap, sym, subst, get_or, refl}
+use Rattle.s66_isa.specs.declared.limits.TheConstants.{BLOCK_LIMIT}
 use Rattle.s66_line.specs.Block.{instrs_of}
 use Rattle.s66_model.specs.Timing.{Problem}
 use Rattle.s66_model.specs.Leaves.{floor_value}
@@ -66,7 +67,7 @@ returns-clause-least c =
     let i = c.in-Some.node in
     let same = ap prefixes c.in-Some.ensures.moved ∙ prefixes-set s.table i (record (node_at s.table i) { state = state.Out }) no_node refl refl in
     let prefix : c.new.result.prefix ≡ get_or (prefixes s.table) i [] = ap (λ (t : TicketOf). t.prefix) c.new.ensures ∙ (c.prefix_of-prefix.ensures ∙ ap (λ ats. get_or ats i []) same) in
-    let few : length b.block ≤ 64 = omega (arith, c.count.ensures.value, c.count.ensures.few) in
+    let few : length b.block ≤ BLOCK_LIMIT = omega (arith, c.count.ensures.value, c.count.ensures.few) in
     subst (λ at. (j : ℕ) → model.is_open (model.node_at c.args.self.now.state.nodes j) ≡ true → floor_value c.args.self.now.problem at ≤ floor_value c.args.self.now.problem (model.node_at c.args.self.now.state.nodes j).prefix) (sym prefix)
     (subst (λ (l : MachineOf). (j : ℕ) → model.is_open (model.node_at l.state.nodes j) ≡ true → floor_value l.problem (get_or (prefixes s.table) i []) ≤ floor_value l.problem (model.node_at l.state.nodes j).prefix) c.self.view_is
     (claimed-least b s.budget s.table s.best s.left s.allowances.items s.spent c.self.invariant few i c.in-Some.ensures.within c.in-Some.ensures.was c.in-Some.ensures.least))

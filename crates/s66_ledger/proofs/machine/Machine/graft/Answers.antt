@@ -1,4 +1,5 @@
 use Rattle.std.proofs.Common.{◌≡◌, ◌++◌, ◌≤◌, ◌-◌, ◌+◌, ◌∙◌, arith, [], length, get_or, set, true≢false, ap, sym, subst}
+use Rattle.s66_isa.specs.declared.limits.TheConstants.{BLOCK_LIMIT}
 use Rattle.s66_line.specs.Block.{instrs_of}
 use Rattle.s66_model.specs.Timing.{Problem, total_of}
 use Rattle.s66_model.specs.Ledger as model
@@ -70,7 +71,7 @@ plant-requires-clause-room c =
     let p = c.args.piece.now in
     let i = c.args.node in
     let le : c.args.w ≤ length s.allowances.items = omega (arith, c.requires.worker.1, ap (λ (l : MachineOf). l.workers) c.self.view_is) in
-    let few : length p.problem.block ≤ 64 = omega (arith, c.count.ensures.value, c.count.ensures.few, ap (λ (q : Problem). length q.block) (c.is_of-own.ensures.0 c.if-not-own.false)) in
+    let few : length p.problem.block ≤ BLOCK_LIMIT = omega (arith, c.count.ensures.value, c.count.ensures.few, ap (λ (q : Problem). length q.block) (c.is_of-own.ensures.0 c.if-not-own.false)) in
     let lines = piece-lines p c.knots-lines.ensures.told c.knots-lines.ensures.preorder few in
     let was = c.index.ensures ∙ get_or-any s.allowances.items (c.args.w - 1) c.index.result.now 0 (λ n. n) (omega (arith, c.requires.worker.0, le)) in
     let room = kept-room b s.budget s.table s.best s.left s.allowances.items s.spent c.self.invariant (c.args.w - 1) in
@@ -83,7 +84,7 @@ overflow_add-self c =
     let p = c.args.piece.now in
     let i = c.args.node in
     let le : c.args.w ≤ length s.allowances.items = omega (arith, c.requires.worker.1, ap (λ (l : MachineOf). l.workers) c.self.view_is) in
-    let few : length p.problem.block ≤ 64 = omega (arith, c.count.ensures.value, c.count.ensures.few, ap (λ (q : Problem). length q.block) (c.is_of-own.ensures.0 c.if-not-own.false)) in
+    let few : length p.problem.block ≤ BLOCK_LIMIT = omega (arith, c.count.ensures.value, c.count.ensures.few, ap (λ (q : Problem). length q.block) (c.is_of-own.ensures.0 c.if-not-own.false)) in
     let lines = piece-lines p c.knots-lines.ensures.told c.knots-lines.ensures.preorder few in
     let was = c.index.ensures ∙ get_or-any s.allowances.items (c.args.w - 1) c.index.result.now 0 (λ n. n) (omega (arith, c.requires.worker.0, le)) in
     let room = kept-room b s.budget s.table s.best s.left s.allowances.items s.spent c.self.invariant (c.args.w - 1) in
@@ -98,7 +99,7 @@ invariant_of-self-2 c =
     let le : c.args.w ≤ length s.allowances.items = omega (arith, c.requires.worker.1, ap (λ (l : MachineOf). l.workers) c.self.view_is) in
     let out : IsOut s.table i = c.is_out.ensures.0 c.if-not-is_out.false in
     let over : get_or (prefixes s.table) i [] ≡ p.prefix = c.is_over.ensures.0 c.if-not-is_over.false ∙ c.prefix.ensures.value in
-    let few : length p.problem.block ≤ 64 = omega (arith, c.count.ensures.value, c.count.ensures.few, ap (λ (q : Problem). length q.block) (c.is_of-own.ensures.0 c.if-not-own.false)) in
+    let few : length p.problem.block ≤ BLOCK_LIMIT = omega (arith, c.count.ensures.value, c.count.ensures.few, ap (λ (q : Problem). length q.block) (c.is_of-own.ensures.0 c.if-not-own.false)) in
     let lines = piece-lines p c.knots-lines.ensures.told c.knots-lines.ensures.preorder few in
     let was = c.index.ensures ∙ get_or-any s.allowances.items (c.args.w - 1) c.index.result.now 0 (λ n. n) (omega (arith, c.requires.worker.0, le)) in
     let room = kept-room b s.budget s.table s.best s.left s.allowances.items s.spent c.self.invariant (c.args.w - 1) in
@@ -119,7 +120,7 @@ returns-clause-ok c =
     let le : c.args.w ≤ length s.allowances.items = omega (arith, c.requires.worker.1, ap (λ (l : MachineOf). l.workers) c.self.view_is) in
     let out : IsOut s.table i = c.is_out.ensures.0 c.if-not-is_out.false in
     let over : get_or (prefixes s.table) i [] ≡ p.prefix = c.is_over.ensures.0 c.if-not-is_over.false ∙ c.prefix.ensures.value in
-    let few : length p.problem.block ≤ 64 = omega (arith, c.count.ensures.value, c.count.ensures.few, ap (λ (q : Problem). length q.block) (c.is_of-own.ensures.0 c.if-not-own.false)) in
+    let few : length p.problem.block ≤ BLOCK_LIMIT = omega (arith, c.count.ensures.value, c.count.ensures.few, ap (λ (q : Problem). length q.block) (c.is_of-own.ensures.0 c.if-not-own.false)) in
     let lines = piece-lines p c.knots-lines.ensures.told c.knots-lines.ensures.preorder few in
     let was = c.index.ensures ∙ get_or-any s.allowances.items (c.args.w - 1) c.index.result.now 0 (λ n. n) (omega (arith, c.requires.worker.0, le)) in
     let room = kept-room b s.budget s.table s.best s.left s.allowances.items s.spent c.self.invariant (c.args.w - 1) in

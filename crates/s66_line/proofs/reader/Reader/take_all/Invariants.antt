@@ -1,6 +1,6 @@
 use Rattle.std.proofs.Common.{◌≡◌, ◌≤◌, ◌<◌, [], length}
 use Rattle.s66_isa.specs.declared.limits.TheConstants.{BLOCK_LIMIT}
-use Rattle.s66_line.specs.declared.limits.TheConstants.{SOURCE_LIMIT}
+use Rattle.s66_line.specs.declared.limits.TheConstants.{SOURCE_LINES_LIMIT}
 use Rattle.s66_line.specs.Fields.{lines_from}
 use Rattle.s66_line.specs.Pads.{pads_of_lines}
 use Rattle.s66_line.specs.Reader.{lines_step}
@@ -13,7 +13,7 @@ invariant-loop-end l = record {
   rest : lines_step (state l.self) (lines_from [] l.rest) ≡ lines_step (state l.fn.self) (lines_from [] l.text);
   pads : pads_of_lines l.self.lines l.self.after_code l.self.pads (lines_from [] l.rest) ≡ pads_of_lines l.fn.self.lines l.fn.self.after_code l.fn.self.pads (lines_from [] l.text);
   few : length l.self.entries.items < BLOCK_LIMIT;
-  lines : l.self.lines ≤ SOURCE_LIMIT;
+  lines : l.self.lines ≤ SOURCE_LINES_LIMIT;
 }
 
 abbrev pub decreases-loop-end : goal.decreases-loop-end
