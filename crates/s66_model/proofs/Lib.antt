@@ -41,3 +41,4 @@ pub mod GrownTrees
 pub mod NodeTrees
 pub mod EndedLedgers
 pub mod TreeLines
+pub mod WrittenOrders

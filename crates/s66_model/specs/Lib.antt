@@ -1,5 +1,6 @@
 pub mod Packing
 pub mod Timing
+pub mod WrittenOrder
 pub mod Dependence
 pub mod LegalOrder
 pub mod Meaning

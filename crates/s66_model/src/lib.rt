@@ -44,6 +44,6 @@ pub use piece::piece_examples;
 pub use preorder::{preorder_examples, preorder_law};
 pub use table::{profile_examples, row_law, table_examples};
 pub use tails::{floor_parts_law, printed_chain_law, tail_examples, tail_law};
-pub use timing::{issue_law, timing_examples, total_law};
+pub use timing::{issue_law, timing_examples, total_law, written_order_law};
 pub use told::{told_examples, told_law};
 pub use tree::{tree_examples, tree_law};

@@ -1,8 +1,10 @@
 //! When each instruction of an order issues, starts and is done.
 
 ghost use Rattle.std.specs.Prelude.{ℕ, List, length, ◌*◌, ◌≡◌, ◌≤◌, ◌↔◌, [], ◌∷◌};
-ghost use Rattle.s66_isa.specs.Table.{Row};
+ghost use Rattle.s66_isa.specs.Table.{Row, instr};
 ghost use Rattle.s66_model.specs.Timing.{Problem, Point, IsIssue, issue_of, points_of, total_of, next};
+ghost use Rattle.s66_model.specs.Answer.{source_time};
+ghost use Rattle.s66_model.specs.WrittenOrder.{written_in};
 ghost use Rattle.s66_model.specs.Examples.{standard_problem, times_of};
 ghost use Rattle.s66_model.specs.Examples as examples;
 
@@ -16,6 +18,11 @@ pub fn total_law()
     ensures { (b : Problem) (order : List ℕ) → total_of b order ≤ 104 * length order }
 {}
 
+/// A block that stands written in an order, whatever the numbers of this are, takes as written what the order takes.
+pub fn written_order_law()
+    ensures { (b : Problem) (order : List ℕ) → source_time (written_in order b) ≡ total_of b order }
+{}
+
 /// When the instructions of an order issue, start and are done, and their units are free.
 pub fn timing_examples()
     ensures one_boolean_total { total_of (standard_problem examples.one_boolean) (1 ∷ []) ≡ 4 }
@@ -24,6 +31,8 @@ pub fn timing_examples()
     ensures two_booleans_times { times_of examples.two_booleans (1 ∷ 2 ∷ []) ≡ (0, 0, 3, 4) ∷ (4, 4, 7, 8) ∷ [] }
     ensures one_load_total_1_2_3 { total_of (standard_problem examples.one_load) (1 ∷ 2 ∷ 3 ∷ []) ≡ 16 }
     ensures one_load_total_1_3_2 { total_of (standard_problem examples.one_load) (1 ∷ 3 ∷ 2 ∷ []) ≡ 12 }
+    ensures one_load_written_1_3_2 { (written_in (1 ∷ 3 ∷ 2 ∷ []) (standard_problem examples.one_load)).block ≡ instr 0o54 1 1 1 ∷ instr 0o10 7 2 0 ∷ instr 0o10 6 1 0 ∷ [] }
+    ensures one_load_source_1_3_2 { source_time (written_in (1 ∷ 3 ∷ 2 ∷ []) (standard_problem examples.one_load)) ≡ 12 }
     ensures one_load_total_3_1_2 { total_of (standard_problem examples.one_load) (3 ∷ 1 ∷ 2 ∷ []) ≡ 13 }
     ensures one_load_times { times_of examples.one_load (1 ∷ 2 ∷ 3 ∷ []) ≡ (0, 0, 8, 4) ∷ (1, 8, 11, 12) ∷ (12, 12, 15, 16) ∷ [] }
     ensures one_load_next { next (points_of (standard_problem examples.one_load) (1 ∷ 2 ∷ [])) ≡ 2 }

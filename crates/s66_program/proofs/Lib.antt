@@ -2,12 +2,14 @@ pub mod AnswerDocuments
 pub mod AnswerVerdicts
 pub mod Asked
 pub mod BlockTexts
+pub mod CheckedAnswers
 pub mod CommandLine
 pub mod Dependences
 pub mod Faults
 pub mod Flags
 pub mod Named
 pub mod OptionRanges
+pub mod OrderedAgain
 pub mod PlacedAnswers
 pub mod ProvedAnswers
 pub mod Refused

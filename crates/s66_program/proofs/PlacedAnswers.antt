@@ -52,7 +52,7 @@ legal-within : (block : Block) (order : List ℕ) → IsLegal (instrs_of block) 
 legal-within block order legal n among =
     subst (λ k. (1 ≤ n) × (n ≤ k)) (length-map block.entries (λ (e : Entry). e.instr)) (number-within (instrs_of block) [] order (legal-order (instrs_of block) order legal).0 n among)
 
-all-within : (nodes : ℕ) (trace : Bool) (blocks : List Block) (answers : List Answer) → AreAnswers nodes blocks answers → ArePlaced blocks (all_placed trace blocks answers)
+pub all-within : (nodes : ℕ) (trace : Bool) (blocks : List Block) (answers : List Answer) → AreAnswers nodes blocks answers → ArePlaced blocks (all_placed trace blocks answers)
 all-within nodes trace [] [] are = tt
 all-within nodes trace [] (a ∷ answers) are = absurd are
 all-within nodes trace (block ∷ blocks) [] are = absurd are

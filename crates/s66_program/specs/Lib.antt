@@ -6,6 +6,8 @@ pub mod ChartText
 pub mod OrderText
 pub mod ProveText
 pub mod CheckText
+pub mod OrderedAgain
+pub mod CheckedAnswers
 pub mod PlacedAnswers
 pub mod ProvedAnswers
 pub mod Output
@@ -15,3 +17,4 @@ pub mod Run
 pub mod Usage
 pub mod OptionNumbers
 pub mod Program
+pub mod Examples

@@ -1,0 +1,20 @@
+-- To be believed: what `check` writes for what `prove` wrote.
+use Rattle.std.specs.Prelude.{ℕ, ◌+◌, ◌≡◌, List, [], ◌∷◌, ◌++◌, Ok}
+use Rattle.s66_line.specs.Source.{Block, source_of}
+use Rattle.s66_model.specs.Answer.{Answer}
+use Rattle.s66_cert.specs.Document.{documents_text}
+use Rattle.s66_checker.specs.declared.verdict.Verdict.TheVariants.{Yes}
+use Rattle.s66_program.specs.CheckText.{verdict_line}
+use Rattle.s66_program.specs.OrderText.{AreAnswers}
+use Rattle.s66_program.specs.ProveText.{all_documents}
+
+-- YES for each answer, with its time and its bound; before these answers n stand
+abbrev pub yes_lines : ℕ → List Answer → List ℕ
+yes_lines n [] = []
+yes_lines n (a ∷ answers) = verdict_line (n + 1) (Yes a.time a.bound) ++ yes_lines (n + 1) answers
+
+-- for some answers, of whose documents it is the text, these lines are YES for each
+abbrev pub AreYesLines : (nodes : ℕ) (input text lines : List ℕ) → Type 0
+AreYesLines nodes input text lines =
+    (blocks : List Block) × (source_of input ≡ Ok blocks)
+    × ((answers : List Answer) × AreAnswers nodes blocks answers × (text ≡ documents_text (all_documents blocks answers)) × (lines ≡ yes_lines 0 answers))
