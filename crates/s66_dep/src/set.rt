@@ -2,6 +2,9 @@ ghost use Rattle.std.specs.Prelude.{ℕ, ◌≡◌, ◌≤◌, ◌==◌, ◌||�
 ghost use Rattle.s66_isa.specs.Lists.{has, rising};
 ghost use Rattle.s66_dep.specs.Members.{numbers_in};
 
+use arrayvec::ArrayVec;
+use s66_isa::BLOCK_LIMIT;
+
 /// A set of instruction numbers of a block, in one word. A word has 64 bits, so the numbers are 1 to 64, and a block's limit is at
 /// most that.
 #[derive(Clone, Copy, Debug, Default, PartialEq, Eq)]
@@ -86,6 +89,18 @@ impl Set {
         // takes out the lowest bit that is set
         self.bits &= self.bits - 1;
         Some(lowest as u8 + 1)
+    }
+
+    /// The numbers, rising.
+    pub fn numbers(&self) -> ArrayVec<u8, BLOCK_LIMIT>
+        ensures { result.items ≡ numbers_in self.now }
+    {
+        let mut rest = *self;
+        let mut numbers = ArrayVec::new();
+        while let Some(number) = rest.pop_first() {
+            numbers.push(number);
+        }
+        numbers
     }
 
     /// How many numbers are there.
