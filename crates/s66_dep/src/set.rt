@@ -3,6 +3,7 @@ ghost use Rattle.s66_isa.specs.declared.limits.TheConstants.{BLOCK_LIMIT};
 ghost use Rattle.s66_isa.specs.Lists.{has, rising};
 ghost use Rattle.s66_dep.specs.Members.{numbers_in};
 
+use arrayvec::ArrayVec;
 use s66_isa::BLOCK_LIMIT;
 
 // one word has a bit for each number of a block
@@ -91,6 +92,18 @@ impl Set {
         // takes out the lowest bit that is set
         self.bits &= self.bits - 1;
         Some(lowest as u8 + 1)
+    }
+
+    /// The numbers, rising.
+    pub fn numbers(&self) -> ArrayVec<u8, BLOCK_LIMIT>
+        ensures { result.items ≡ numbers_in self.now }
+    {
+        let mut rest = *self;
+        let mut numbers = ArrayVec::new();
+        while let Some(number) = rest.pop_first() {
+            numbers.push(number);
+        }
+        numbers
     }
 
     /// How many numbers are there.

@@ -21,8 +21,8 @@ use Rattle.s66_ledger.specs.declared.node.Node.{Node}
 use Rattle.s66_ledger.specs.declared.node.State.{State}
 use Rattle.s66_ledger.specs.declared.node.State.TheVariants as state
 use Rattle.s66_ledger.specs.declared.limits.TheConstants.{BUDGET_LIMIT}
-use Rattle.s66_ledger.specs.Nodes.{prefixes, seen_state, nodes_of, node_at, with_state, HaveFloors}
-use Rattle.s66_ledger.specs.OpenNodes.{is_open_state, is_open, IsOut, ranked}
+use Rattle.s66_ledger.specs.Nodes.{prefixes, seen_state, nodes_of, node_at, with_state, HaveFloors, is_open_state, is_open}
+use Rattle.s66_ledger.specs.OpenNodes.{IsOut, ranked}
 use Rattle.s66_ledger.specs.LedgerMachine.{MachineOf, IsMove, state_of, machine_of, IsKept}
 use Rattle.s66_ledger.proofs.SeenNodes.{length-nodes, at-nodes, open-seen, open-nodes, out-seen, nodes-state}
 use Rattle.s66_ledger.proofs.NodeFloors.{floors-state}

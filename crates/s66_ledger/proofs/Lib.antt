@@ -1,6 +1,6 @@
 pub mod Chained
 pub mod Chains
-pub mod Cursors
+pub mod AnswerLines
 pub mod Depths
 pub mod Ends
 pub mod Events

@@ -7,10 +7,10 @@ use Rattle.s66_isa.proofs.Lists.{tally-set, tally-append, cases_le}
 use Rattle.s66_ledger.specs.declared.node.Node.{Node}
 use Rattle.s66_ledger.specs.declared.node.State.{State}
 use Rattle.s66_ledger.specs.declared.node.State.TheVariants as state
-use Rattle.s66_ledger.specs.Nodes.{prefixes, node_at, no_node, HaveDepths}
-use Rattle.s66_ledger.specs.OpenNodes.{IsOut, is_open_state}
+use Rattle.s66_ledger.specs.Nodes.{prefixes, node_at, no_node, HaveDepths, is_open_state, is_live_state, is_out_state, is_out}
+use Rattle.s66_ledger.specs.OpenNodes.{IsOut}
 use Rattle.s66_ledger.specs.Subtrees.{placed, settled, settled_state}
-use Rattle.s66_ledger.specs.LiveNodes.{is_live_state, is_out_state, is_out, AreCounted}
+use Rattle.s66_ledger.specs.LiveNodes.{AreCounted}
 use Rattle.s66_ledger.proofs.OpenHeap.{set-here, set-other}
 use Rattle.s66_ledger.proofs.NodePrefixes.{get_or-front, get_or-last, get_or-past}
 

@@ -9,8 +9,8 @@ use Rattle.s66_model.specs.Coverage.{live_floors}
 use Rattle.s66_ledger.specs.declared.node.Node.{Node}
 use Rattle.s66_ledger.specs.declared.node.State.{State}
 use Rattle.s66_ledger.specs.declared.node.State.TheVariants as state
-use Rattle.s66_ledger.specs.Nodes.{prefixes, nodes_at, nodes_of, node_at, HaveFloors}
-use Rattle.s66_ledger.specs.LiveNodes.{is_live_state, live_values}
+use Rattle.s66_ledger.specs.Nodes.{prefixes, nodes_at, nodes_of, node_at, HaveFloors, is_live_state}
+use Rattle.s66_ledger.specs.LiveNodes.{live_values}
 use Rattle.s66_ledger.proofs.NodePrefixes.{length-prefixes}
 
 -- AS THE DEFINITION HAS THEM

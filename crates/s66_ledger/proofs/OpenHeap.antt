@@ -13,9 +13,9 @@ use Rattle.s66_ledger.specs.declared.node.Node.{Node}
 use Rattle.s66_ledger.specs.declared.node.State.{State}
 use Rattle.s66_ledger.specs.declared.node.State.TheVariants as state
 use Rattle.s66_ledger.specs.declared.limits.TheConstants.{DEPTH_RANKS}
-use Rattle.s66_ledger.specs.Nodes.{no_node, node_at}
+use Rattle.s66_ledger.specs.Nodes.{no_node, node_at, is_open_state, is_open}
 use Rattle.s66_ledger.proofs.NodePrefixes.{get_or-front, get_or-last, get_or-past}
-use Rattle.s66_ledger.specs.OpenNodes.{is_open_state, is_open, ranked, rank_of, IsRanked, AreOpenNodes}
+use Rattle.s66_ledger.specs.OpenNodes.{ranked, rank_of, IsRanked, AreOpenNodes}
 
 abbrev pub Entry : Type 0
 Entry = ℕ × ℕ

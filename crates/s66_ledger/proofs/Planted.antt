@@ -11,8 +11,7 @@ use Rattle.s66_node.specs.SeenKnots.{seen_knot, seen}
 use Rattle.s66_ledger.specs.declared.node.Node.{Node}
 use Rattle.s66_ledger.specs.declared.node.State.{State}
 use Rattle.s66_ledger.specs.declared.node.State.TheVariants as state
-use Rattle.s66_ledger.specs.Nodes.{prefixes, seen_state, nodes_of, node_at, no_node, with_state}
-use Rattle.s66_ledger.specs.OpenNodes.{is_open_state}
+use Rattle.s66_ledger.specs.Nodes.{prefixes, seen_state, nodes_of, node_at, no_node, with_state, is_open_state}
 use Rattle.s66_ledger.specs.Planting.{kids_of, told_state}
 use Rattle.s66_ledger.proofs.SeenNodes.{nodes-set, nodes-state, length-nodes, at-nodes}
 use Rattle.s66_ledger.proofs.Reading.{told-seen, line-at, length-seen}

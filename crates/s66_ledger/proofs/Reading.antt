@@ -17,10 +17,12 @@ use Rattle.s66_node.specs.Walked.{front}
 use Rattle.s66_node.specs.Growing.{flat_rests}
 use Rattle.s66_node.proofs.Growing.{front-push}
 use Rattle.s66_ledger.specs.declared.node.Node.{Node}
+use Rattle.s66_ledger.specs.declared.node.State.{State}
 use Rattle.s66_ledger.specs.declared.node.State.TheVariants as state
 use Rattle.s66_ledger.specs.declared.subtree.Place.{Place}
 use Rattle.s66_ledger.specs.Nodes.{prefixes, seen_state, nodes_of, HaveFloors}
-use Rattle.s66_ledger.specs.Planting.{kids_of, knot_state, knot_value, told_state, RestsHold, rest_nodes, place_lefts, PlacesStand, IsReading}
+use Rattle.s66_ledger.specs.Planting.{kids_of, knot_value, made_state, told_state, RestsHold, rest_nodes, place_lefts, PlacesStand, IsReading}
+use Rattle.s66_ledger.specs.Subtrees.{settled_state}
 use Rattle.s66_ledger.proofs.NodePrefixes.{get_or-front, get_or-last, length-prefixes, prefixes-push}
 use Rattle.s66_ledger.proofs.NodeFloors.{floors-push}
 use Rattle.s66_ledger.proofs.SeenNodes.{nodes-push}
@@ -256,10 +258,20 @@ line-at (x ∷ knots) (suc i) k d lt is =
     let e : suc i + 1 ≡ suc (i + 1) = omega arith in
     line-at knots i k d (omega (arith, lt)) is ∙ ap (λ j. seen_knot k ∷ drop j (seen (x ∷ knots))) (sym e)
 
+-- the state of its node for this best time
+abbrev pub knot_state : ℕ → code.Knot → State
+knot_state best k = settled_state best (knot_value k) (made_state k)
+
 pub line-told : (best : ℕ) (k : code.Knot) → ((numbers : Set) → k ≢ line.Split numbers) → (t : Told) × (seen_knot k ≡ AtTip t) × (knot_state best k ≡ told_state best t) × (knot_value k ≡ told_value t)
 line-told best (line.Split numbers) h = absurd (h numbers refl)
 line-told best (line.Leaf v) h = (ToldLeaf v, refl, refl, refl)
 line-told best (line.Frontier v) h = (ToldFrontier v, refl, refl, refl)
+
+pub settled-told : (best value : ℕ) (s r : State) (k : code.Knot) → ((numbers : Set) → k ≢ line.Split numbers) → r ≡ settled_state best value s → s ≡ made_state k → value ≡ knot_value k →
+    (t : Told) × (seen_knot k ≡ AtTip t) × (r ≡ told_state best t) × (knot_value k ≡ told_value t)
+settled-told best value s r k h is made same =
+    let (t, seen_is, state_is, value_is) = line-told best k h in
+    (t, seen_is, is ∙ (ap (λ v. settled_state best v s) same ∙ (ap (settled_state best (knot_value k)) made ∙ state_is)), value_is)
 
 -- the lines behind the root's are those of its children
 pub lines-below : (tree : Tree Told) (numbers : List ℕ) (knots : List code.Knot) (lines : List (Knot Told)) → tree ≡ Parted numbers (kids_of tree) → flat tree ≡ lines → seen knots ≡ lines → drop 1 (seen knots) ≡ flat_kids (kids_of tree)

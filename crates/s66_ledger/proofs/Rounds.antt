@@ -14,13 +14,13 @@ use Rattle.s66_model.specs.Leaves.{value}
 use Rattle.s66_model.specs.Tree.{Tree, Alone, Parted, Kids, NoMore, Unsplit, Split, splits}
 use Rattle.s66_model.specs.Piece.{Tip, Carries, Frontier, IsPiece}
 use Rattle.s66_model.specs.Expansion.{whole_orders}
-use Rattle.s66_model.specs.Ledger.{Ledger, Node, State, Open, Out, Cut, Closed, Grant, Claim, Graft, Back, Granted, Claimed, Taken, Returned, no_node, node_at, with_state, is_live_state, best_time, allowance, share_of, state_of, root_state, kid_nodes, new_nodes, after_offer, after_graft, Offer, Moves, Event}
+use Rattle.s66_model.specs.Ledger.{Ledger, Node, State, Open, Out, Cut, Closed, Grant, Claim, Graft, Back, Granted, Claimed, Taken, Returned, no_node, node_at, with_state, is_out_state, is_out, is_live_state, best_time, allowance, share_of, state_of, root_state, kid_nodes, new_nodes, after_offer, after_graft, Offer, Moves, Event}
 use Rattle.s66_model.specs.Coverage.{Covers}
 use Rattle.s66_node.specs.Pieces.{PieceOf, tree_of}
 use Rattle.s66_ledger.specs.Tickets.{TicketOf}
 use Rattle.s66_ledger.specs.LedgerMachine.{MachineOf, IsMove}
 use Rattle.s66_ledger.specs.GraftMoves.{IsGraftMove}
-use Rattle.s66_ledger.specs.Finishing.{Leads, NoneOut, IsIdle, is_out_state, is_out, IsBetween, IsWithin, IsOffering, still_to_go}
+use Rattle.s66_ledger.specs.Finishing.{Leads, NoneOut, IsIdle, IsBetween, IsWithin, IsOffering, still_to_go}
 use Rattle.s66_ledger.proofs.Leading.{event-leads, leads-on, leads-nowhere, leads-fall}
 use Rattle.s66_ledger.proofs.TimedWholes.{wholes-offered, wholes-moved, wholes-grafted}
 

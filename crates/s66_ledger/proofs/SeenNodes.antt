@@ -6,8 +6,7 @@ use Rattle.s66_model.specs.Ledger as model
 use Rattle.s66_ledger.specs.declared.node.Node.{Node}
 use Rattle.s66_ledger.specs.declared.node.State.{State}
 use Rattle.s66_ledger.specs.declared.node.State.TheVariants as state
-use Rattle.s66_ledger.specs.Nodes.{prefixes, seen_state, nodes_at, nodes_of, no_node, node_at, with_state}
-use Rattle.s66_ledger.specs.OpenNodes.{is_open_state, is_open}
+use Rattle.s66_ledger.specs.Nodes.{prefixes, seen_state, nodes_at, nodes_of, no_node, node_at, with_state, is_open_state, is_open}
 use Rattle.s66_ledger.proofs.NodePrefixes.{length-prefixes, prefixes-push, prefixes-set}
 
 -- ONE MORE

@@ -16,11 +16,11 @@ use Rattle.s66_node.specs.Walked.{front}
 use Rattle.s66_ledger.specs.declared.node.Node.{Node}
 use Rattle.s66_ledger.specs.declared.subtree.Place.{Place}
 use Rattle.s66_ledger.specs.Nodes.{prefixes, nodes_of, node_at, lines_of, HaveDepths}
-use Rattle.s66_ledger.specs.Planting.{kids_of, knot_state, knot_value, made_state, told_state, IsReading}
+use Rattle.s66_ledger.specs.Planting.{kids_of, knot_value, made_state, told_state, IsReading}
 use Rattle.s66_ledger.specs.Subtrees.{placed_parent, placed, settled_state, settled, planted, lines_below, CanBeOver, IsPlanted, IsSubtreeOf}
 use Rattle.s66_ledger.proofs.Chains.{chain-of}
 use Rattle.s66_ledger.proofs.Depths.{depths-push}
-use Rattle.s66_ledger.proofs.Reading.{reading-start, reading-within, reading-over, reading-room, reading-up, reading-next, reading-tip, reading-deeper, reading-split, reading-done, reading-none}
+use Rattle.s66_ledger.proofs.Reading.{knot_state, reading-start, reading-within, reading-over, reading-room, reading-up, reading-next, reading-tip, reading-deeper, reading-split, reading-done, reading-none}
 
 -- PLANTED
 
@@ -51,12 +51,6 @@ lines-planted best root made nodes =
     lines-placed : (root first best : ℕ) (nodes : List Node) → lines_of (map (placed root first) (map (settled best) nodes)) ≡ lines_of nodes
     lines-placed root first best [] = refl
     lines-placed root first best (x ∷ xs) = ap (λ lines. x.line ∷ lines) (lines-placed root first best xs)
-
--- a leaf that was closed at first has in the end the state of its line
-settled-line : (best : ℕ) (k : code.Knot) → settled_state best (knot_value k) (made_state k) ≡ knot_state best k
-settled-line best (line.Split numbers) = refl
-settled-line best (line.Leaf value) = refl
-settled-line best (line.Frontier value) = refl
 
 tip-told : (best : ℕ) (k : code.Knot) (t : Told) → seen_knot k ≡ AtTip t → (knot_state best k ≡ told_state best t) × (knot_value k ≡ told_value t)
 tip-told best (line.Split numbers) t e = absurd cc
@@ -122,7 +116,7 @@ module _ (p : PieceOf) (numbers : List ℕ) (places ps : List Place) (q : Place)
   -- a node more under the popped place
   module _ (n : ℕ) (k : code.Knot) (x : Node) (parent : x.parent ≡ q.node) (number : x.number ≡ n) (tagged : x.state ≡ made_state k) (told : x.value ≡ knot_value k) (deep : x.depth ≡ length p.prefix + (length ps + 1)) (few : length p.prefix + (length ps + 1) ≤ 255) where
     state-is : (best root first : ℕ) → (placed root first (settled best x)).state ≡ knot_state best k
-    state-is best root first = ap (λ v. settled_state best v x.state) told ∙ (ap (settled_state best (knot_value k)) tagged ∙ settled-line best k)
+    state-is best root first = ap (λ v. settled_state best v x.state) told ∙ ap (settled_state best (knot_value k)) tagged
 
     depths-more : (best root : ℕ) (made more : List Node) → CanBeOver p root made → more ≡ nodes ++ x ∷ [] → HaveDepths (planted best root made more)
     depths-more best root made more over put =

@@ -16,8 +16,7 @@ use Rattle.s66_ledger.specs.declared.reply.Offered.{Offered}
 use Rattle.s66_ledger.specs.declared.reply.Offered.TheVariants as offered
 use Rattle.s66_ledger.specs.Finishing.{WholesAreTimed, IsTimedAt, IsOffering, IsTiming}
 use Rattle.s66_ledger.specs.LedgerMachine.{MachineOf, IsMove, IsKept, machine_of, state_of}
-use Rattle.s66_ledger.specs.LiveNodes.{is_live_state}
-use Rattle.s66_ledger.specs.Nodes.{prefixes, node_at, nodes_of, seen_state}
+use Rattle.s66_ledger.specs.Nodes.{prefixes, node_at, nodes_of, seen_state, is_live_state}
 use Rattle.s66_ledger.specs.declared.node.Node.{Node}
 use Rattle.s66_ledger.specs.declared.node.State.{State}
 use Rattle.s66_ledger.specs.declared.node.State.TheVariants as state

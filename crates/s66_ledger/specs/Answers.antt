@@ -1,4 +1,4 @@
--- To be believed: what contracts see of an answer: of which problem it is one, for which budget, and how its ledger ended. Used by an invariant: what is true of every answer.
+-- Used by contracts: what they see of an answer: of which problem it is one, for which budget, and how its ledger ended. Used by an invariant: what is true of every answer.
 use Rattle.std.specs.Prelude.{ℕ, ◌≡◌, ◌≤◌, ◌<◌, ◌^◌, List, [], length}
 use Rattle.s66_isa.specs.Lists.{Among}
 use Rattle.s66_model.specs.Timing.{Problem}

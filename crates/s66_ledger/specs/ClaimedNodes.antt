@@ -1,4 +1,4 @@
--- To be believed: what a claim's ticket is, and which open node is claimed.
+-- Used by contracts: what a claim's ticket is, and which open node is claimed.
 use Rattle.std.specs.Prelude.{ℕ, ◌≡◌, ◌≤◌, true, Option, Some, None}
 use Rattle.s66_model.specs.Timing.{Problem}
 use Rattle.s66_model.specs.Leaves.{floor_value}

@@ -1,10 +1,10 @@
 -- Used by contracts within the crate alone: the steps by which a ledger is brought to its end.
-use Rattle.std.specs.Prelude.{ℕ, ◌+◌, ◌-◌, ◌≡◌, ◌<◌, ◌≤◌, ◌⊎◌, ◌≢◌, Bool, true, false, List, length}
+use Rattle.std.specs.Prelude.{ℕ, ◌+◌, ◌-◌, ◌≡◌, ◌<◌, ◌≤◌, ◌⊎◌, ◌≢◌, true, List, length}
 use Rattle.s66_isa.specs.Lists.{Among, weigh, tally}
 use Rattle.s66_model.specs.Timing.{Problem}
 use Rattle.s66_model.specs.LegalOrder.{IsComplete}
 use Rattle.s66_model.specs.Leaves.{floor_value}
-use Rattle.s66_model.specs.Ledger.{Ledger, Node, State, Open, Out, Cut, Closed, Event, Reply, Run, IsOut, is_open, is_live, best_time, allowance, node_at, after_offer}
+use Rattle.s66_model.specs.Ledger.{Ledger, Node, Out, Event, Reply, Run, IsOut, is_open, is_out, is_live, best_time, allowance, node_at, after_offer}
 use Rattle.s66_ledger.specs.Tickets.{TicketOf}
 use Rattle.s66_ledger.specs.LedgerMachine.{MachineOf}
 
@@ -62,15 +62,6 @@ pub record IsTiming (old : MachineOf) (node : ℕ) (new : MachineOf) : Type 0 wh
   pub timed : IsTimedAt new.problem new.state node
 
 -- ROUNDS of worker 1
-
-abbrev pub is_out_state : State → Bool
-is_out_state Open = false
-is_out_state Out = true
-is_out_state Cut = false
-is_out_state (Closed leaf) = false
-
-abbrev pub is_out : Node → Bool
-is_out node = is_out_state node.state
 
 -- between two rounds: no node is out, no other worker has an allowance, and no whole order is below the best time
 pub record IsBetween (b : Problem) (l : Ledger) : Type 0 where

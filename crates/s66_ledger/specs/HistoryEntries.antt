@@ -1,4 +1,4 @@
--- To be believed: which event of the machine an entry of a ledger's history is, and with which reply.
+-- Used by contracts: which event of the machine an entry of a ledger's history is, and with which reply.
 use Rattle.std.specs.Prelude.{ℕ, true, Some, None, if◌then◌else◌, ◌+◌, List, [], ◌∷◌, ◌++◌, take, drop}
 use Rattle.s66_model.specs.Timing.{Problem}
 use Rattle.s66_model.specs.Ledger as model

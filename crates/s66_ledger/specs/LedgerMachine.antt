@@ -1,4 +1,4 @@
--- To be believed: what contracts see of a ledger's machine, and what one move of it is. Used by an invariant: what is true of every machine that is kept.
+-- Used by contracts: what they see of a ledger's machine, and what one move of it is. Used by an invariant: what is true of every machine that is kept.
 use Rattle.std.specs.Prelude.{ℕ, ◌+◌, ◌*◌, ◌≡◌, ◌≤◌, List, length}
 use Rattle.s66_isa.specs.declared.limits.TheConstants.{BLOCK_LIMIT}
 use Rattle.s66_model.specs.Timing.{Problem}

@@ -1,4 +1,4 @@
--- To be believed: what contracts see of a ledger with its history, and what one call of it is. Used by an invariant: what is true of every ledger.
+-- Used by contracts: what they see of a ledger with its history, and what one call of it is. Used by an invariant: what is true of every ledger.
 use Rattle.std.specs.Prelude.{ℕ, ◌≡◌, List, [], ◌∷◌, ◌++◌, ◌+◌, length, drop}
 use Rattle.s66_isa.specs.Lists.{weigh}
 use Rattle.s66_model.specs.Timing.{Problem}

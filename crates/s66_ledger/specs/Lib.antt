@@ -1,6 +1,6 @@
 pub mod Answers
 pub mod ClaimedNodes
-pub mod Cursors
+pub mod AnswerLines
 pub mod HistoryEntries
 pub mod Finishing
 pub mod GraftMoves

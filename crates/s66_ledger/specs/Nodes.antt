@@ -1,5 +1,5 @@
 -- Used by contracts: the nodes that a ledger keeps, each by its parent and its last number, as the definition's nodes with whole prefixes.
-use Rattle.std.specs.Prelude.{ℕ, ◌≡◌, ◌≢◌, ◌<◌, min, List, [], ◌∷◌, ◌++◌, length, get_or, set, map}
+use Rattle.std.specs.Prelude.{ℕ, ◌≡◌, ◌≢◌, ◌<◌, min, Bool, true, false, List, [], ◌∷◌, ◌++◌, length, get_or, set, map}
 use Rattle.s66_model.specs.Timing.{Problem}
 use Rattle.s66_model.specs.Leaves.{floor, floor_value}
 use Rattle.s66_model.specs.Ledger as model
@@ -36,6 +36,33 @@ abbrev pub lines_of : List Node → List ℕ
 lines_of nodes = map (λ (n : Node). n.line) nodes
 
 -- STATES
+
+abbrev pub is_open_state : State → Bool
+is_open_state state.Open = true
+is_open_state state.Out = false
+is_open_state state.Closed = false
+is_open_state state.Split = false
+
+abbrev pub is_out_state : State → Bool
+is_out_state state.Open = false
+is_out_state state.Out = true
+is_out_state state.Closed = false
+is_out_state state.Split = false
+
+-- open or out
+abbrev pub is_live_state : State → Bool
+is_live_state state.Open = true
+is_live_state state.Out = true
+is_live_state state.Closed = false
+is_live_state state.Split = false
+
+abbrev pub is_open : Node → Bool
+is_open node = is_open_state node.state
+
+abbrev pub is_out : Node → Bool
+is_out node = is_out_state node.state
+
+-- AS THE DEFINITION HAS THEM
 
 abbrev pub seen_state : Problem → List ℕ → State → model.State
 seen_state b prefix state.Open = model.Open

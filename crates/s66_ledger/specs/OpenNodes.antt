@@ -1,23 +1,13 @@
 -- Used by contracts within the crate alone: the open nodes in a heap, each with its rank: the least floor first, of equal ones the deepest, of these the newest.
-use Rattle.std.specs.Prelude.{ℕ, ◌+◌, ◌-◌, ◌*◌, ◌≡◌, ◌<◌, ◌==◌, min, length, Bool, true, false, if◌then◌else◌, List}
+use Rattle.std.specs.Prelude.{ℕ, ◌+◌, ◌-◌, ◌*◌, ◌≡◌, ◌<◌, ◌==◌, min, length, if◌then◌else◌, List}
 use Rattle.std.specs.List.{All}
 use Rattle.std.specs.Ordering.{nat_cmp, ordering_then}
 use Rattle.std.specs.declared.cmp.Ordering.{Ordering}
 use Rattle.s66_isa.specs.Lists.{tally}
 use Rattle.s66_ledger.specs.declared.node.Node.{Node}
-use Rattle.s66_ledger.specs.declared.node.State.{State}
 use Rattle.s66_ledger.specs.declared.node.State.TheVariants as state
 use Rattle.s66_ledger.specs.declared.limits.TheConstants.{RANKED_LIMIT, DEPTH_RANKS}
-use Rattle.s66_ledger.specs.Nodes.{node_at}
-
-abbrev pub is_open_state : State → Bool
-is_open_state state.Open = true
-is_open_state state.Out = false
-is_open_state state.Closed = false
-is_open_state state.Split = false
-
-abbrev pub is_open : Node → Bool
-is_open node = is_open_state node.state
+use Rattle.s66_ledger.specs.Nodes.{node_at, is_open}
 
 -- the node is handed out
 abbrev pub IsOut : List Node → ℕ → Type 0

@@ -23,11 +23,6 @@ kids_of (Parted numbers kids) = kids
 
 -- A LINE as a node
 
-abbrev pub knot_state : ℕ → code.Knot → State
-knot_state best (line.Split numbers) = state.Split
-knot_state best (line.Leaf value) = if nat_le best value then state.Closed else state.Open
-knot_state best (line.Frontier value) = state.Open
-
 -- where it isn't known which leaves are below the best time
 abbrev pub made_state : code.Knot → State
 made_state (line.Split numbers) = state.Split

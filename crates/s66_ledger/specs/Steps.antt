@@ -1,4 +1,4 @@
--- To be believed: which event of the machine an event is that is handed to a ledger, and which reply of it a reply is.
+-- Used by contracts: which event of the machine an event is that is handed to a ledger, and which reply of it a reply is.
 use Rattle.std.specs.Prelude.{ℕ, ◌≡◌}
 use Rattle.s66_model.specs.Timing.{Problem}
 use Rattle.s66_model.specs.Ledger as model

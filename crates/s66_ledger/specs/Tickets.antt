@@ -1,4 +1,4 @@
--- To be believed: what contracts see of a ticket: a node's number, and its prefix.
+-- Used by contracts: what they see of a ticket: a node's number, and its prefix.
 use Rattle.std.specs.Prelude.{ℕ, List}
 
 pub record TicketOf : Type 0 where

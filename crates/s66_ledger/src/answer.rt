@@ -1,6 +1,7 @@
-use crate::lines::AnswerLines;
+use crate::lines::push_line;
 use crate::links::Links;
 use crate::node::Node;
+use s66_cert::Tree;
 use s66_dep::Order;
 use s66_line::Block;
 use s66_node::Walk;
@@ -69,33 +70,30 @@ impl Answer {
         self.splits
     }
 
-    /// Whether the time is the bound, so that no legal order takes less; where it isn't, the tree has as many splits as the
+    /// Whether the time is the bound, so that no legal order takes less; if it isn't, the tree has as many splits as the
     /// budget allows.
     pub fn is_best(&self) -> bool
-        ensures { IsTrue result ↔ IsBestAnswer (answer_of self.now) }
+        ensures value { IsTrue result ↔ IsBestAnswer (answer_of self.now) }
+        ensures answer { IsAnswer self.now.problem self.now.budget (answer_of self.now) }
     {
         self.bound == self.best.total()
     }
 
-    /// The lines of the tree in preorder, which are read one by one; the block is that of the answer. It takes time linear in the
-    /// number of nodes and 8 bytes a node. `Err` is want of memory.
-    pub fn lines<'a>(
-        &'a self,
-        alloc: Global,
-        block: &'a Block<'a>,
-    ) -> Result<AnswerLines<'a>, AllocError>
+    /// The tree, as a document keeps it; the block is that of the answer. It takes time linear in the number of nodes, and 8 bytes a
+    /// node beside the tree. `Err` is out of memory.
+    pub fn tree(&self, alloc: Global, block: &Block) -> Result<Tree, AllocError>
         requires { instrs_of block.now ≡ self.now.problem.block }
-        ensures problem { IfOk result (λ lines. lines.problem ≡ self.now.problem) }
-        ensures lines { IfOk result (λ lines. lines.rest ≡ flat (answer_of self.now).tree) }
+        ensures { IfOk result (λ tree. tree ≡ flat (answer_of self.now).tree) }
     {
         let nodes = self.nodes.as_slice();
         let links = Links::of(alloc, nodes)?;
-        Ok(AnswerLines {
-            nodes,
-            links,
-            walk: Walk::new(block, self.best.profile()),
-            node: 0,
-            more: true,
-        })
+        let mut walk = Walk::new(block, self.best.profile());
+        let mut tree = Tree::new(alloc);
+        let mut node = 0;
+        let mut more = true;
+        while more {
+            more = push_line(nodes, &links, &mut walk, &mut node, &mut tree)?;
+        }
+        Ok(tree)
     }
 }

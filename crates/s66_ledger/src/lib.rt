@@ -28,7 +28,6 @@ pub use entry::{Entry, Refusal};
 pub use history::History;
 pub use ledger::Ledger;
 pub use limits::{BUDGET_LIMIT, GRANT_LIMIT, SCHEDULE_ROUNDS};
-pub use lines::{AnswerLine, AnswerLines};
 pub use reply::{BackError, GraftError, Offered};
 pub use s66_model::coverage_law;
 pub use step::{Event, Reply};

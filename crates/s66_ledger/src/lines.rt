@@ -1,9 +1,11 @@
-ghost use Rattle.std.specs.Prelude.{◌≡◌, ◌<◌, ◌++◌, [], ◌∷◌, true, length};
+ghost use Rattle.std.specs.Prelude.{◌≡◌, ◌<◌, ◌+◌, ◌++◌, [], ◌∷◌, true, length, IfOk, OnOk};
+ghost use Rattle.s66_bound.specs.LeafValues.{leaf_of};
 ghost use Rattle.s66_dep.specs.Members.{numbers_in};
 ghost use Rattle.s66_model.specs.Later.{children, later};
 ghost use Rattle.s66_model.specs.LegalOrder.{is_ready, ready};
 ghost use Rattle.s66_model.specs.NodeTree.{is_split_at};
-ghost use Rattle.s66_ledger.specs.Cursors.{AreOneTree, StandsAt, knot_of, lines_from, to_come};
+ghost use Rattle.s66_model.specs.Tree.{AtTip};
+ghost use Rattle.s66_ledger.specs.AnswerLines.{AreOneTree, StandsAt, lines_left, to_come};
 ghost use Rattle.s66_ledger.specs.Links.{AreLinks};
 ghost use Rattle.s66_ledger.specs.Nodes.{nodes_of, HaveFloors};
 
@@ -11,87 +13,48 @@ use crate::links::Links;
 use crate::node::{Node, State};
 use crate::path::up;
 use s66_bound::Leaf;
+use s66_cert::{Tree, TreeLine};
 use s66_dep::Set;
 use s66_node::Walk;
-use std::marker::Model;
+use std::alloc::AllocError;
 
-/// A line of an answer's tree.
-#[derive(Debug, Drop)]
-pub enum AnswerLine {
-    /// The prefix is split, and goes on with each of these numbers.
-    Split(Set),
-    /// The prefix isn't split, and has this floor.
-    Leaf(Leaf),
-}
-
-/// The lines of an answer's tree that are still to come, in preorder.
-#[derive(Drop)]
-pub struct AnswerLines<'a> {
-    pub(crate) nodes: &'a [Node],
-    pub(crate) links: Links,
-    /// At the prefix of the next line.
-    pub(crate) walk: Walk<'a>,
-    /// The node of this prefix.
-    pub(crate) node: usize,
-    /// Whether there is a next line.
-    pub(crate) more: bool,
-}
-
-impl<'a> Model for AnswerLines<'a> {
-    ghost use Rattle.s66_ledger.specs.Cursors.{LinesOf, IsCursor, lines_from, to_come};
-
-    ghost Value = { LinesOf };
-
-    ghost view = { λ l. record { problem = l.walk.problem; rest = lines_from l.walk.problem l.nodes.now (to_come l.walk.problem.block l.more l.walk.numbers) } };
-
-    ghost invariant = { λ l. IsCursor l.walk.problem l.nodes.now l.links.last.items l.links.before.items l.node l.walk.numbers l.more };
-}
-
-impl AnswerLines<'_> {
-    ghost use Rattle.s66_ledger.specs.Cursors.{IsNextLine};
-
-    /// The next line, where there is one. The time is that of a floor, and that of a look at each earlier sibling of the next prefix.
-    pub fn next(&mut self) -> Option<AnswerLine>
-        ensures { IsNextLine self.old result self.new }
-    {
-        if !self.more {
-            return None;
-        }
-        let line = take_line(
-            self.nodes,
-            &self.links,
-            &mut self.walk,
-            &mut self.node,
-            &mut self.more,
-        );
-        Some(line)
+/// Appends the line of a leaf, which doesn't tell its value.
+fn push_leaf(tree: &mut Tree, leaf: &Leaf) -> Result<(), AllocError>
+    ensures { OnOk result (tree.new ≡ tree.old ++ AtTip (leaf_of leaf.now) ∷ []) }
+{
+    match leaf {
+        Leaf::Whole { .. } => tree.push(TreeLine::Whole),
+        Leaf::Chain { numbers, .. } => tree.push(TreeLine::Chain(numbers.as_slice())),
+        Leaf::Load { kind, .. } => tree.push(TreeLine::Load(*kind)),
+        Leaf::Parcels { .. } => tree.push(TreeLine::Parcels),
     }
 }
 
-/// The line of the prefix at which the walk stands; then the walk goes on to the next prefix, where there is more.
-fn take_line(
+/// Appends the line of the prefix at which the walk stands, and goes on to the next prefix; tells whether there is one. The time is
+/// that of a floor, and that of a look at each earlier sibling of the next prefix.
+pub fn push_line(
     nodes: &[Node],
     links: &Links,
     walk: &mut Walk<'_>,
     node: &mut usize,
-    more: &mut bool,
-) -> AnswerLine
+    tree: &mut Tree,
+) -> Result<bool, AllocError>
     requires tree { AreOneTree walk.old.problem nodes.now }
     requires floors { HaveFloors walk.old.problem nodes.now }
     requires links { AreLinks nodes.now links.now.last.items links.now.before.items (length nodes.now) }
     requires stands { StandsAt nodes.now node.old walk.old.numbers }
     ensures problem { walk.new.problem ≡ walk.old.problem }
-    ensures line { lines_from walk.old.problem nodes.now (to_come walk.old.problem.block true walk.old.numbers) ≡ knot_of result ∷ lines_from walk.old.problem nodes.now (to_come walk.old.problem.block more.new walk.new.numbers) }
-    ensures stands { more.new ≡ true → StandsAt nodes.now node.new walk.new.numbers }
+    ensures one { OnOk result (length tree.new ≡ length tree.old + 1) }
+    ensures rest { IfOk result (λ more. tree.new ++ lines_left walk.old.problem nodes.now more walk.new.numbers ≡ tree.old ++ lines_left walk.old.problem nodes.now true walk.old.numbers) }
+    ensures stands { IfOk result (λ more. more ≡ true → StandsAt nodes.now node.new walk.new.numbers) }
 {
     if let State::Split = nodes[*node].state {
         let numbers = walk.ready();
-        *more = go_below(nodes, links, numbers, walk, node);
-        return AnswerLine::Split(numbers);
+        tree.push(TreeLine::Split(numbers.numbers().as_slice()))?;
+        return Ok(go_below(nodes, links, numbers, walk, node));
     }
-    let leaf = walk.floor_of_value(nodes[*node].value);
-    *more = go_on(nodes, links, walk, node);
-    AnswerLine::Leaf(leaf)
+    push_leaf(tree, &walk.floor_of_value(nodes[*node].value))?;
+    Ok(go_on(nodes, links, walk, node))
 }
 
 /// Goes down to a child.
@@ -108,7 +71,7 @@ fn go_down(nodes: &[Node], links: &Links, number: u8, walk: &mut Walk<'_>, node:
     walk.push(number);
 }
 
-/// Goes on from a prefix, all of whose lines were read, to the next one; tells whether there is one.
+/// Goes on from a prefix, all of whose lines are appended, to the next one; tells whether there is one.
 fn go_on(nodes: &[Node], links: &Links, walk: &mut Walk<'_>, node: &mut usize) -> bool
     requires tree { AreOneTree walk.old.problem nodes.now }
     requires links { AreLinks nodes.now links.now.last.items links.now.before.items (length nodes.now) }

@@ -294,6 +294,7 @@ impl<'a> Machine<'a> {
         if !timed.is_of(self.block, &self.profile) {
             return Offered::OtherBlock;
         }
+        // proof only: its order is legal
         let _legal = timed.order();
         let least = self.best.total();
         if timed.total() < least {
@@ -326,6 +327,7 @@ impl<'a> Machine<'a> {
         // so the numbers of its nodes fit
         prove!(self.block.count() <= BLOCK_LIMIT);
         let own = piece.is_of(self.block, &self.profile);
+        // proof only: its lines are those of a piece's tree
         let _lines = piece.knots();
         if !self.table.is_out(node) {
             return Err(GraftError::NotOut);

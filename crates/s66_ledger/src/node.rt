@@ -11,8 +11,7 @@ pub enum State {
 
 impl State {
     ghost use Rattle.std.specs.Prelude.{◌≡◌};
-    ghost use Rattle.s66_ledger.specs.OpenNodes.{is_open_state};
-    ghost use Rattle.s66_ledger.specs.LiveNodes.{is_live_state};
+    ghost use Rattle.s66_ledger.specs.Nodes.{is_open_state, is_live_state};
 
     /// Whether it can be claimed.
     pub fn is_open(self) -> bool

@@ -1,7 +1,7 @@
 use crate::node::{Node, State};
-use crate::planting::{append, set_state, state_of};
+use crate::planting::{append, set_state, settled_state};
 use crate::rank::rank_of;
-use crate::subtree::Subtree;
+use crate::subtree::{Subtree, state_of, value_of};
 use crate::{live, path};
 use arrayvec::ArrayVec;
 use s66_isa::BLOCK_LIMIT;
@@ -40,7 +40,7 @@ impl Model for NodeTable {
 impl NodeTable {
     ghost use Rattle.std.specs.Prelude.{ℕ, [], ◌∷◌, ◌++◌, ◌+◌, ◌^◌, ◌≡◌, ◌<◌, ◌≤◌, ◌↔◌, true, false, IsTrue, IfOk, OnOk, OnErr, IfSome, IfNone, length, get_or, slice_get};
     ghost use Rattle.s66_isa.specs.Lists.{tally, least};
-    ghost use Rattle.s66_ledger.specs.LiveNodes.{is_live_state, live_values};
+    ghost use Rattle.s66_ledger.specs.LiveNodes.{live_values};
     ghost use Rattle.s66_isa.specs.declared.limits.TheConstants.{BLOCK_LIMIT};
     ghost use Rattle.s66_ledger.specs.declared.node.State.{State};
     ghost use Rattle.s66_model.specs.Ledger as model;
@@ -48,8 +48,8 @@ impl NodeTable {
     ghost use Rattle.s66_node.specs.Pieces.{tree_of};
     ghost use Rattle.s66_node.specs.declared.knot.TheConstants.{FRONTIER};
     ghost use Rattle.s66_ledger.specs.Subtrees.{IsSubtreeOf, planted, lines_below};
-    ghost use Rattle.s66_ledger.specs.Nodes.{node_at, with_state, prefixes, nodes_of, lines_of, HaveFloors, HaveDepths};
-    ghost use Rattle.s66_ledger.specs.OpenNodes.{is_open, IsOut, ranked};
+    ghost use Rattle.s66_ledger.specs.Nodes.{is_open, is_live_state, node_at, with_state, prefixes, nodes_of, lines_of, HaveFloors, HaveDepths};
+    ghost use Rattle.s66_ledger.specs.OpenNodes.{IsOut, ranked};
 
     /// One node, the empty prefix with its floor, open.
     pub fn new(alloc: Global, floor: u32) -> Result<NodeTable, AllocError>
@@ -221,13 +221,13 @@ impl NodeTable {
         ensures lines { OnOk result (lines_of self.new ≡ lines_of self.old ++ lines_below piece.now) }
         ensures ok { OnOk result (nodes_of piece.now.problem self.new ≡ model.with_state (nodes_of piece.now.problem self.old) root (root_state piece.now.problem best piece.now.prefix (tree_of piece.now)) ++ new_nodes piece.now.problem best piece.now.prefix (tree_of piece.now)) }
     {
-        // the nodes have depths
+        // proof only: the nodes have depths
         let _ = &self.nodes;
         let knot = &piece.knots()[0];
         if let Knot::Split(_) = knot {
             return self.plant_split(root, best, subtree);
         }
-        if state_of(knot, best).is_open() {
+        if settled_state(state_of(knot), value_of(knot), best).is_open() {
             self.give_back(root)?;
             return Ok(());
         }

@@ -3,31 +3,12 @@ ghost use Rattle.std.specs.BinaryHeap.{IsHeap, heap_items};
 ghost use Rattle.s66_ledger.specs.LiveNodes.{AreCounted};
 ghost use Rattle.s66_ledger.specs.Nodes.{with_state};
 ghost use Rattle.s66_ledger.specs.OpenNodes.{AreOpenNodes, compare_ranked};
-ghost use Rattle.s66_ledger.specs.Planting.{knot_state};
 ghost use Rattle.s66_ledger.specs.Subtrees.{placed, settled, settled_state, planted};
 
 use crate::node::{Node, State};
 use crate::rank::rank_of;
-use s66_node::Knot;
 use std::alloc::AllocError;
 use std::collections::BinaryHeap;
-
-/// What a node of a piece's line is: a leaf is closed where its value is at least the best time.
-pub fn state_of(knot: &Knot, best: u32) -> State
-    ensures { result ≡ knot_state best knot.now }
-{
-    match knot {
-        Knot::Split(_) => State::Split,
-        Knot::Leaf { value } => {
-            if best <= *value {
-                State::Closed
-            } else {
-                State::Open
-            }
-        }
-        Knot::Frontier { .. } => State::Open,
-    }
-}
 
 /// Gives the node of this number another state.
 pub fn set_state(nodes: &mut Vec<Node>, i: usize, state: State)
@@ -37,13 +18,13 @@ pub fn set_state(nodes: &mut Vec<Node>, i: usize, state: State)
     nodes[i].state = state;
 }
 
-/// The state of a subtree's node for this best time: a leaf below it is open, and none is handed out.
-fn settled_state(node: &Node, best: u32) -> State
-    ensures { result ≡ settled_state best node.now.value node.now.state }
+/// What a node of a piece is for this best time: a leaf below it is open, and none is handed out.
+pub fn settled_state(state: State, value: u32, best: u32) -> State
+    ensures { result ≡ settled_state best value state }
 {
-    match node.state {
+    match state {
         State::Closed => {
-            if best <= node.value {
+            if best <= value {
                 State::Closed
             } else {
                 State::Open
@@ -68,7 +49,7 @@ fn placed(node: &Node, root: u32, first: u32, best: u32) -> Node
         number: node.number,
         depth: node.depth,
         line: node.line,
-        state: settled_state(node, best),
+        state: settled_state(node.state, node.value, best),
     }
 }
 

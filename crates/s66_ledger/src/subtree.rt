@@ -42,7 +42,7 @@ pub(crate) struct Place {
 }
 
 /// What the node of a piece's line is, where it isn't known whether its value is below the best time.
-fn state_of(knot: &Knot) -> State
+pub fn state_of(knot: &Knot) -> State
     ensures { result ≡ made_state knot.now }
 {
     match knot {
@@ -53,7 +53,7 @@ fn state_of(knot: &Knot) -> State
 }
 
 /// The floor's value that a piece's line tells, 0 of a split.
-fn value_of(knot: &Knot) -> u32
+pub fn value_of(knot: &Knot) -> u32
     ensures { result ≡ knot_value knot.now }
 {
     match knot {

@@ -39,11 +39,20 @@ is_live_state Out = true
 is_live_state Cut = false
 is_live_state (Closed leaf) = false
 
+abbrev pub is_out_state : State → Bool
+is_out_state Open = false
+is_out_state Out = true
+is_out_state Cut = false
+is_out_state (Closed leaf) = false
+
 abbrev pub is_cut : Node → Bool
 is_cut node = is_cut_state node.state
 
 abbrev pub is_open : Node → Bool
 is_open node = is_open_state node.state
+
+abbrev pub is_out : Node → Bool
+is_out node = is_out_state node.state
 
 -- open or out
 abbrev pub is_live : Node → Bool

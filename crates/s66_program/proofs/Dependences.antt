@@ -1,15 +1,11 @@
--- The numbers of a block from a place on, and how many a set has.
-use Rattle.std.proofs.Common.{ℕ, suc, ◌+◌, ◌-◌, ◌≤◌, ◌<◌, ◌≡◌, not, List, ◌∷◌, length, drop, get_or, refl, ap, arith, ◌∙◌}
+-- The numbers of a block from a place on.
+use Rattle.std.proofs.Common.{ℕ, suc, ◌+◌, ◌-◌, ◌<◌, ◌≡◌, List, ◌∷◌, length, drop, get_or, refl, ap, arith, ◌∙◌}
 use Rattle.std.proofs.lemmas.List.{drop_more, length-map}
-use Rattle.std.proofs.lemmas.List.Filters.{length-filter_both}
-use Rattle.s66_isa.specs.declared.limits.TheConstants.{BLOCK_LIMIT}
 use Rattle.s66_isa.specs.declared.instr.Instr.{Instr}
 use Rattle.s66_isa.specs.Lists.{rising, weigh}
 use Rattle.s66_isa.specs.Table.{numbers}
 use Rattle.s66_model.specs.Dependence.{needs, all_needs}
 use Rattle.s66_model.proofs.Beginnings.{length-rising}
-use Rattle.s66_dep.specs.declared.set.Set.{Set}
-use Rattle.s66_dep.specs.Members.{is_member, numbers_in}
 
 -- THE NUMBERS THAT ARE LEFT
 
@@ -18,12 +14,6 @@ rising-next n i lt =
     let more : n - i ≡ suc (n - (i + 1)) = omega arith in
     let next : suc (i + 1) ≡ i + 1 + 1 = omega arith in
     ap (λ k. rising k (i + 1)) more ∙ ap (λ m. (i + 1) ∷ rising (n - (i + 1)) m) next
-
--- HOW MANY A SET HAS
-
-pub numbers_in-few : (set : Set) → length (numbers_in set) ≤ BLOCK_LIMIT
-unfolding numbers_in
-numbers_in-few set = omega (arith, length-filter_both (is_member set.bits) (λ n. not (is_member set.bits n)) (λ n. refl) (rising BLOCK_LIMIT 1))
 
 -- THE SUM OF WHAT IS LEFT
 

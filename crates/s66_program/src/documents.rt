@@ -1,22 +1,17 @@
-ghost use Rattle.std.specs.Prelude.{◌≡◌, ◌++◌, [], ◌∷◌, ℕ, map, IfOk, OnOk};
+ghost use Rattle.std.specs.Prelude.{◌≡◌, ℕ, map, IfOk};
 ghost use Rattle.std.specs.declared.alloc.Global.{Global};
 ghost use Rattle.std.specs.declared.vec.Vec.{Vec};
 ghost use Rattle.s66_line.specs.Block.{instrs_of};
-ghost use Rattle.s66_model.specs.Tree.{flat};
-ghost use Rattle.s66_dep.specs.Members.{numbers_in};
 ghost use Rattle.s66_ledger.specs.Answers.{answer_of};
-ghost use Rattle.s66_ledger.specs.Cursors.{knot_of};
 ghost use Rattle.s66_cert.specs.Document.{profile_numbers};
 ghost use Rattle.s66_cert.specs.DocumentParts.{document_of};
 ghost use Rattle.s66_program.specs.ProveText.{document_under, texts_of};
 ghost use Rattle.s66_program.specs.ProvedAnswers.{IsSpelled};
 
 use arrayvec::ArrayVec;
-use s66_bound::Leaf;
-use s66_cert::{Claim, Document, PROFILE_LENGTH, Tree, TreeLine};
-use s66_dep::Set;
+use s66_cert::{Claim, Document, PROFILE_LENGTH};
 use s66_isa::{BLOCK_LIMIT, Profile};
-use s66_ledger::{Answer, AnswerLine, BUDGET_LIMIT};
+use s66_ledger::{Answer, BUDGET_LIMIT};
 use s66_line::Block;
 use std::alloc::{AllocError, Global};
 
@@ -59,46 +54,6 @@ fn texts_of(alloc: Global, block: &Block) -> Result<Vec<Vec<u8>>, AllocError>
     Ok(texts)
 }
 
-/// The numbers of a set, rising.
-fn numbers_of(set: &Set) -> ArrayVec<u8, BLOCK_LIMIT>
-    ensures { result.items ≡ numbers_in set.now }
-{
-    let mut rest = *set;
-    let mut numbers = ArrayVec::new();
-    while let Some(number) = rest.pop_first() {
-        numbers.push(number);
-    }
-    numbers
-}
-
-/// Appends a line of an answer's tree.
-fn push_line(tree: &mut Tree, line: &AnswerLine) -> Result<(), AllocError>
-    ensures { OnOk result (tree.new ≡ tree.old ++ knot_of line.now ∷ []) }
-{
-    match line {
-        AnswerLine::Split(set) => tree.push(TreeLine::Split(numbers_of(set).as_slice())),
-        AnswerLine::Leaf(Leaf::Whole { .. }) => tree.push(TreeLine::Whole),
-        AnswerLine::Leaf(Leaf::Chain { numbers, .. }) => {
-            tree.push(TreeLine::Chain(numbers.as_slice()))
-        }
-        AnswerLine::Leaf(Leaf::Load { kind, .. }) => tree.push(TreeLine::Load(*kind)),
-        AnswerLine::Leaf(Leaf::Parcels { .. }) => tree.push(TreeLine::Parcels),
-    }
-}
-
-/// The tree of an answer to the block.
-fn tree_of(alloc: Global, block: &Block, answer: &Answer) -> Result<Tree, AllocError>
-    requires { instrs_of block.now ≡ answer.now.problem.block }
-    ensures { IfOk result (λ tree. tree ≡ flat (answer_of answer.now).tree) }
-{
-    let mut lines = answer.lines(alloc, block)?;
-    let mut tree = Tree::new(alloc);
-    while let Some(line) = lines.next() {
-        push_line(&mut tree, &line)?;
-    }
-    Ok(tree)
-}
-
 /// The document of an answer to this block under this profile: what it claims, and the tree that shows its bound. `Err` is want of
 /// memory.
 pub fn document_of(
@@ -122,6 +77,6 @@ pub fn document_of(
         time: answer.time(),
         bound: answer.bound(),
         order,
-        tree: tree_of(alloc, block, answer)?,
+        tree: answer.tree(alloc, block)?,
     }))
 }

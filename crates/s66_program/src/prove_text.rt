@@ -45,7 +45,7 @@ fn push_proof<R: AllocGlobal + Threads + Wait + Sync>(
     let answer = run(rt, block, &profile, options, &Free)?;
     let document = document_of(alloc, block, &profile, &answer)?;
     push_document(alloc, out, &document)?;
-    Ok(answer.bound() == answer.time())
+    Ok(answer.is_best())
 }
 
 /// A document for each block, and how the searches ended.

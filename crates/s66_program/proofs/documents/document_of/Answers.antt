@@ -11,25 +11,25 @@ use Rattle.s66_program.proofs.AnswerDocuments.{parts_under, parts-document, part
 use Rattle.s66_program.proofs.documents.document_of.Goals as goal
 
 -- what the claim says, and the answer's own parts
-abbrev claimed : goal.In_ok-tree_of → Parts
+abbrev claimed : goal.In_ok-tree → Parts
 claimed c = record {
   profile = c.profile_numbers.result.items;
   block = map (λ (text : Vec ℕ Global). text.items) c.in_ok-texts_of.field-0.items;
   time = c.time.result;
   bound = c.bound.result;
   numbers = c.in-Ok.order.items;
-  knots = c.in_ok-tree_of.field-0;
+  knots = c.in_ok-tree.field-0;
 }
 
-abbrev own : goal.In_ok-tree_of → Parts
+abbrev own : goal.In_ok-tree → Parts
 own c = parts_under c.args.profile.now c.args.block.now (answer_of c.args.answer.now)
 
-same : (c : goal.In_ok-tree_of) → claimed c ≡ own c
+same : (c : goal.In_ok-tree) → claimed c ≡ own c
 same c =
     same-parts (claimed c) (own c) c.profile_numbers.ensures (c.in_ok-texts_of.ensures.texts) c.time.ensures.value c.bound.ensures.value
-    (c.in-Ok.ensures.0 ∙ c.numbers.ensures.value ∙ ap (λ (o : Ordered). o.numbers) c.order.ensures) c.in_ok-tree_of.ensures
+    (c.in-Ok.ensures.0 ∙ c.numbers.ensures.value ∙ ap (λ (o : Ordered). o.numbers) c.order.ensures) c.in_ok-tree.ensures
 
-is : (c : goal.In_ok-tree_of) → IsAnswer (record { block = instrs_of c.args.block.now; profile = c.args.profile.now }) c.args.answer.now.budget (answer_of c.args.answer.now)
+is : (c : goal.In_ok-tree) → IsAnswer (record { block = instrs_of c.args.block.now; profile = c.args.profile.now }) c.args.answer.now.budget (answer_of c.args.answer.now)
 is c = subst (λ (b : Problem). IsAnswer b c.args.answer.now.budget (answer_of c.args.answer.now)) c.requires c.time.ensures.answer
 
 pub new-requires : goal.new-requires

@@ -3,9 +3,8 @@ use Rattle.std.proofs.lemmas.List.Sorted.{first_le_from_greatest}
 use Rattle.std.specs.Ordering.{nat_cmp}
 use Rattle.s66_ledger.specs.declared.node.Node.{Node}
 use Rattle.s66_ledger.specs.declared.node.State.TheVariants as state
-use Rattle.s66_ledger.specs.Nodes.{no_node, node_at}
-use Rattle.s66_ledger.specs.OpenNodes.{is_open, ranked}
-use Rattle.s66_ledger.specs.LiveNodes.{is_live_state, is_out_state}
+use Rattle.s66_ledger.specs.Nodes.{no_node, node_at, is_open, is_live_state, is_out_state}
+use Rattle.s66_ledger.specs.OpenNodes.{ranked}
 use Rattle.s66_ledger.proofs.Depths.{depths-set}
 use Rattle.s66_ledger.proofs.LiveCounts.{counted-set, room-out, one}
 use Rattle.s66_ledger.proofs.NodePrefixes.{get_or-any}

@@ -2,9 +2,8 @@ use Rattle.std.proofs.Common.{◌≡◌, ◌<◌, true, arith, length, ◌∙◌
 use Rattle.std.specs.List.Sorted.{IsPermutation}
 use Rattle.s66_ledger.specs.declared.node.Node.{Node}
 use Rattle.s66_ledger.specs.declared.node.State.TheVariants as state
-use Rattle.s66_ledger.specs.Nodes.{no_node, node_at}
+use Rattle.s66_ledger.specs.Nodes.{no_node, node_at, is_live_state, is_out_state}
 use Rattle.s66_ledger.specs.OpenNodes.{rank_of}
-use Rattle.s66_ledger.specs.LiveNodes.{is_live_state, is_out_state}
 use Rattle.s66_ledger.proofs.Depths.{depths-set}
 use Rattle.s66_ledger.proofs.LiveCounts.{counted-set, some-out, one}
 use Rattle.s66_ledger.proofs.NodePrefixes.{get_or-any}

@@ -11,9 +11,9 @@ use Rattle.s66_node.specs.SeenKnots.{seen_knot}
 use Rattle.s66_ledger.specs.declared.node.Node.{Node}
 use Rattle.s66_ledger.specs.declared.node.State.{State}
 use Rattle.s66_ledger.specs.declared.node.State.TheVariants as state
-use Rattle.s66_ledger.specs.OpenNodes.{IsOut, is_open_state, AreOpenNodes}
-use Rattle.s66_ledger.specs.LiveNodes.{is_out_state, AreCounted}
-use Rattle.s66_ledger.specs.Nodes.{no_node, node_at, with_state, nodes_of, lines_of, prefixes, HaveFloors, HaveDepths}
+use Rattle.s66_ledger.specs.OpenNodes.{IsOut, AreOpenNodes}
+use Rattle.s66_ledger.specs.LiveNodes.{AreCounted}
+use Rattle.s66_ledger.specs.Nodes.{no_node, node_at, with_state, nodes_of, lines_of, prefixes, HaveFloors, HaveDepths, is_open_state, is_out_state}
 use Rattle.s66_ledger.specs.Planting.{kids_of, told_state}
 use Rattle.s66_ledger.specs.Subtrees.{placed, settled, planted, lines_below, IsPlanted}
 use Rattle.s66_ledger.proofs.Depths.{depths-state}
@@ -23,7 +23,7 @@ use Rattle.s66_ledger.proofs.OpenHeap.{still-shut, out-shut, is-open}
 use Rattle.s66_ledger.proofs.Planted.{split-root, split-nodes, alone-nodes, tip-root, told-closed}
 use Rattle.s66_ledger.proofs.PlantedNodes.{still-out}
 use Rattle.s66_ledger.proofs.NodePrefixes.{lines-state}
-use Rattle.s66_ledger.proofs.Reading.{line-told}
+use Rattle.s66_ledger.proofs.Reading.{settled-told}
 use Rattle.s66_ledger.proofs.Subtrees.{lines-planted, tip-lineless}
 use Rattle.s66_ledger.proofs.node_table.NodeTable.plant.Goals as goal
 
@@ -113,9 +113,9 @@ returns-then-is_open c =
     let old = c.args.self.now in
     let i = c.args.root in
     let knots = c.knots.result.now in
-    let (told, seen_is, state_is, value_is) = line-told c.args.best _ c.in_default.not-Split in
+    let (told, seen_is, told_is, value_is) = settled-told c.args.best _ _ _ _ c.in_default.not-Split c.settled_state.ensures c.state_of.ensures c.value_of.ensures in
     let alone = tip-root (told_tree p) knots p.knots c.knots.ensures.preorder c.knots.ensures.value _ _ told refl seen_is in
-    let now : state.Open ≡ told_state c.args.best told = sym (is-open c.state_of.result (sym c.is_open.ensures ∙ c.if-is_open.true)) ∙ (c.state_of.ensures ∙ state_is) in
+    let now : state.Open ≡ told_state c.args.best told = sym (is-open c.settled_state.result (sym c.is_open.ensures ∙ c.if-is_open.true)) ∙ told_is in
     let moved = c.in_ok-give_back.ensures.ok in
     record {
       err = tt;
@@ -147,9 +147,8 @@ returns c =
     let old = c.args.self.now in
     let i = c.args.root in
     let knots = c.knots.result.now in
-    let (told, seen_is, state_is, value_is) = line-told c.args.best _ c.in_default.not-Split in
+    let (told, seen_is, told_is, value_is) = settled-told c.args.best _ _ _ _ c.in_default.not-Split c.settled_state.ensures c.state_of.ensures c.value_of.ensures in
     let alone = tip-root (told_tree p) knots p.knots c.knots.ensures.preorder c.knots.ensures.value _ _ told refl seen_is in
-    let told_is = c.state_of.ensures ∙ state_is in
     let now : state.Closed ≡ told_state c.args.best told = sym (told-closed c.args.best told (ap is_open_state (sym told_is) ∙ (sym c.is_open.ensures ∙ c.if-is_open.false))) in
     let moved = c.set_state.ensures ∙ ap (λ (ns : List Node). with_state ns i state.Closed) c.self.view_is in
     record {

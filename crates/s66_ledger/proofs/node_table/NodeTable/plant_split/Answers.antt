@@ -1,10 +1,10 @@
 use Rattle.std.proofs.Common.{List, ◌-◌, true, arith, ◌≡◌, ◌∙◌, ap, length, map, refl, sym, subst, heap_items}
 use Rattle.s66_ledger.specs.declared.node.Node.{Node}
 use Rattle.s66_ledger.specs.declared.node.State.TheVariants as state
-use Rattle.s66_ledger.specs.Nodes.{no_node, node_at, with_state, HaveDepths}
+use Rattle.s66_ledger.specs.Nodes.{no_node, node_at, with_state, HaveDepths, is_out_state}
 use Rattle.s66_ledger.specs.OpenNodes.{AreOpenNodes, IsOut}
 use Rattle.s66_ledger.specs.Subtrees.{placed, settled, planted}
-use Rattle.s66_ledger.specs.LiveNodes.{is_out_state, AreCounted}
+use Rattle.s66_ledger.specs.LiveNodes.{AreCounted}
 use Rattle.s66_ledger.proofs.Depths.{depths-state}
 use Rattle.s66_ledger.proofs.LiveCounts.{counted-set, some-out, one}
 use Rattle.s66_ledger.proofs.OpenHeap.{still-shut, out-shut}

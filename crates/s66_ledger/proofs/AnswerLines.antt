@@ -1,5 +1,5 @@
--- What the nodes of one tree tell at a prefix that has a node.
-use Rattle.std.proofs.Common.{ℕ, zero, suc, ◌≤◌, ◌<◌, ◌≡◌, ◌≢◌, Bool, true, false, cond, List, [], ◌∷◌, ◌++◌, length, get_or, refl, sym, ap, arith, inl, inr, subst, length-append, ◌∙◌}
+-- What the nodes of one tree tell at a prefix that has a node, and the lines that are appended there.
+use Rattle.std.proofs.Common.{ℕ, zero, suc, ◌+◌, ◌≤◌, ◌<◌, ◌≡◌, ◌≢◌, Bool, true, false, cond, List, [], ◌∷◌, ◌++◌, length, get_or, refl, sym, ap, arith, inl, inr, subst, length-append, append_assoc, ◌∙◌}
 use Rattle.std.proofs.lemmas.Bool.{lt-ltb, ltb-true, le-ltb}
 use Rattle.s66_isa.specs.Lists.{tally, Among}
 use Rattle.s66_isa.proofs.Lists.{cases_le}
@@ -21,7 +21,7 @@ use Rattle.s66_node.proofs.Growing.{front-push}
 use Rattle.s66_ledger.specs.declared.node.Node.{Node}
 use Rattle.s66_ledger.specs.declared.node.State.{State}
 use Rattle.s66_ledger.specs.declared.node.State.TheVariants as state
-use Rattle.s66_ledger.specs.Cursors.{AreOneTree, StandsAt, lines_from}
+use Rattle.s66_ledger.specs.AnswerLines.{AreOneTree, StandsAt, lines_from}
 use Rattle.s66_ledger.specs.LedgerMachine.{state_of}
 use Rattle.s66_ledger.specs.Links.{parent_of, IsChild, HasChild}
 use Rattle.s66_ledger.specs.Nodes.{node_at, no_node, nodes_of, prefixes, seen_state}
@@ -196,6 +196,17 @@ module _ (b : Problem) (xs : List Node) (tree : AreOneTree b xs) (i : ℕ) (at :
   leaf-line leaf other is next =
       ap (λ knots. knots ++ lines_from b xs (later b.block [] at)) (lines-unsplit b.block cut_there (floor b) at (unsplit-here b xs tree i at stands other))
       ∙ (ap (λ l. AtTip l ∷ lines_from b xs (later b.block [] at)) (sym is) ∙ ap (λ ats. AtTip leaf ∷ lines_from b xs ats) (sym next))
+
+-- where it is appended, these follow
+pub line-appended : {K : Type 0} (old new : List K) (k : K) (all rest : List K) → new ≡ old ++ k ∷ [] → all ≡ k ∷ rest → new ++ rest ≡ old ++ all
+line-appended old new k all rest pushed is = ap (λ xs. xs ++ rest) pushed ∙ (append_assoc old (k ∷ []) rest ∙ ap (λ xs. old ++ xs) (sym is))
+
+pub one-longer : {K : Type 0} (old new : List K) (k : K) → new ≡ old ++ k ∷ [] → length new ≡ length old + 1
+one-longer {K = K} old new k pushed = omega (arith, ap (λ (xs : List K). length xs) pushed, length-append old (k ∷ []))
+
+pub fewer-left : {K : Type 0} (old new all rest : List K) → length new ≡ length old + 1 → new ++ rest ≡ old ++ all → length rest < length all
+fewer-left {K = K} old new all rest one same =
+    omega (arith, one, ap (λ (xs : List K). length xs) same, length-append new rest, length-append old all)
 
 -- THE FIRST LINE
 

@@ -1,0 +1,47 @@
+use Rattle.std.proofs.Common.{◌≡◌, ◌++◌, ◌∷◌, [], ℕ, List, ap, ◌∙◌}
+use Rattle.s66_model.specs.Leaves.{Leaf, floor_value}
+use Rattle.s66_model.specs.Tree.{Knot, AtSplit}
+use Rattle.s66_ledger.specs.declared.node.Node.{Node}
+use Rattle.s66_ledger.specs.Nodes.{no_node}
+use Rattle.s66_ledger.proofs.AnswerLines.{split-here, split-line, leaf-line, line-appended, one-longer}
+use Rattle.s66_ledger.proofs.NodePrefixes.{get_or-any}
+use Rattle.s66_ledger.proofs.lines.push_line.Goals as goal
+
+pub go_below-requires-clause-split : goal.go_below-requires-clause-split
+go_below-requires-clause-split c =
+    let w = c.args.walk.now in
+    let stands = c.requires.stands in
+    split-here w.problem c.args.nodes.now c.requires.tree c.args.node.now w.numbers stands (get_or-any c.args.nodes.now c.args.node.now no_node _ (λ (x : Node). x.state) stands.within ∙ c.in-Split.is)
+
+split-pushed : (old new : List (Knot Leaf)) (said ns : List ℕ) → new ≡ old ++ AtSplit said ∷ [] → said ≡ ns → new ≡ old ++ AtSplit ns ∷ []
+split-pushed old new said ns pushed is = pushed ∙ ap (λ (numbers : List ℕ). old ++ AtSplit numbers ∷ []) is
+
+pub returns-in-Split-clause-one : goal.returns-in-Split-clause-one
+returns-in-Split-clause-one c = one-longer _ _ _ (split-pushed _ _ _ _ c.in_ok-push.ensures.pushed (c.as_slice.ensures.value ∙ c.numbers.ensures))
+
+pub returns-in-Split-clause-rest : goal.returns-in-Split-clause-rest
+returns-in-Split-clause-rest c =
+    let w = c.args.walk.now in
+    let stands = c.requires.stands in
+    line-appended _ _ _ _ _ (split-pushed _ _ _ _ c.in_ok-push.ensures.pushed (c.as_slice.ensures.value ∙ c.numbers.ensures))
+    (split-line w.problem c.args.nodes.now c.requires.tree c.args.node.now w.numbers stands _ _ (get_or-any c.args.nodes.now c.args.node.now no_node _ (λ (x : Node). x.state) stands.within ∙ c.in-Split.is) c.ready-numbers.ensures c.go_below.ensures.next)
+
+pub floor_of_value-requires : goal.floor_of_value-requires
+floor_of_value-requires c =
+    let w = c.args.walk.now in
+    let xs = c.args.nodes.now in
+    let stands = c.requires.stands in
+    get_or-any xs c.args.node.now _ no_node (λ (x : Node). x.value) stands.within
+    ∙ (c.requires.floors c.args.node.now stands.within (λ split. c.in_default.not-Split (get_or-any xs c.args.node.now _ no_node (λ (x : Node). x.state) stands.within ∙ split))
+    ∙ ap (floor_value w.problem) stands.over)
+
+pub returns-clause-one : goal.returns-clause-one
+returns-clause-one c = one-longer _ _ _ c.in_ok-push_leaf.ensures
+
+pub returns-clause-rest : goal.returns-clause-rest
+returns-clause-rest c =
+    let w = c.args.walk.now in
+    let stands = c.requires.stands in
+    line-appended _ _ _ _ _ c.in_ok-push_leaf.ensures
+    (leaf-line w.problem c.args.nodes.now c.requires.tree c.args.node.now w.numbers stands _ _
+    (λ split. c.in_default.not-Split (get_or-any c.args.nodes.now c.args.node.now _ no_node (λ (x : Node). x.state) stands.within ∙ split)) c.floor_of_value.ensures.leaf c.go_on.ensures.next)

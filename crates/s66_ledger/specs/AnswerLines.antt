@@ -1,0 +1,42 @@
+-- Used by contracts within the crate alone: the lines of an answer's tree that are still to come, by the prefix of the next one and by its node.
+use Rattle.std.specs.Prelude.{ℕ, ◌≡◌, ◌<◌, Bool, true, false, List, [], ◌∷◌, length, get_or}
+use Rattle.s66_isa.specs.declared.instr.Instr.{Instr}
+use Rattle.s66_isa.specs.Lists.{Among}
+use Rattle.s66_model.specs.Timing.{Problem}
+use Rattle.s66_model.specs.LegalOrder.{IsBeginning}
+use Rattle.s66_model.specs.Leaves.{Leaf, floor}
+use Rattle.s66_model.specs.Tree.{Knot}
+use Rattle.s66_model.specs.Ledger as model
+use Rattle.s66_model.specs.Later.{later}
+use Rattle.s66_model.specs.NodeTable.{IsTable}
+use Rattle.s66_model.specs.NodeTree.{is_split_at}
+use Rattle.s66_model.specs.TreeLines.{lines_of}
+use Rattle.s66_ledger.specs.declared.node.Node.{Node}
+use Rattle.s66_ledger.specs.LedgerMachine.{state_of}
+use Rattle.s66_ledger.specs.Nodes.{nodes_of, prefixes}
+
+-- of the trees that the nodes have at these prefixes
+abbrev pub lines_from : Problem → List Node → List (List ℕ) → List (Knot Leaf)
+lines_from b nodes ats = lines_of b.block (is_split_at (nodes_of b nodes)) (floor b) ats
+
+-- the prefix and those after it, if there is more; else none
+abbrev pub to_come : List Instr → Bool → List ℕ → List (List ℕ)
+to_come block true prefix = prefix ∷ later block [] prefix
+to_come block false prefix = []
+
+-- their lines
+abbrev pub lines_left : Problem → List Node → Bool → List ℕ → List (Knot Leaf)
+lines_left b nodes more prefix = lines_from b nodes (to_come b.block more prefix)
+
+-- THE NODES
+
+-- they are those of one tree
+pub record AreOneTree (b : Problem) (nodes : List Node) : Type 0 where
+  pub best : List ℕ
+  pub table : IsTable b (state_of b nodes best 0 [] 0)
+  pub begins : (node : model.Node) → Among node (nodes_of b nodes) → IsBeginning b.block node.prefix
+
+-- the prefix has this node
+pub record StandsAt (nodes : List Node) (node : ℕ) (prefix : List ℕ) : Type 0 where
+  pub within : node < length nodes
+  pub over : get_or (prefixes nodes) node [] ≡ prefix
