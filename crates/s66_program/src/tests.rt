@@ -19,16 +19,12 @@ mod codes;
 mod deps;
 mod devices;
 mod examples;
-mod expansion;
-mod ledger;
 mod limits;
 mod lines;
 mod order;
-mod pool;
 mod printing;
 mod program;
 mod progress;
-mod schedule;
 mod trace;
 
 const TIME: Command = Command::Time { trace: false };
