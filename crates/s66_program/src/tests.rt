@@ -13,7 +13,6 @@ use std::sync::Wait;
 use std::test::Fail;
 use std::thread::Threads;
 
-mod certificates;
 mod chart;
 mod codes;
 mod deps;
