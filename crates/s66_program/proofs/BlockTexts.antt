@@ -1,13 +1,11 @@
 -- The texts of a block's instructions, one after the other.
-use Rattle.std.proofs.Common.{ℕ, ◌+◌, ◌-◌, ◌≡◌, ◌≤◌, ◌<◌, ◌∙◌, List, [], ◌∷◌, ◌++◌, inl, inr, length, map, drop, ap, sym, subst, arith, append_assoc, slice_index_or}
+use Rattle.std.proofs.Common.{ℕ, ◌+◌, ◌-◌, ◌≡◌, ◌≤◌, ◌<◌, ◌∙◌, List, [], ◌∷◌, ◌++◌, inl, inr, length, map, ap, sym, subst, arith, append_assoc}
 use Rattle.std.proofs.lemmas.Bool.{cases_lt}
-use Rattle.std.proofs.lemmas.List.{at_drop_all, drop_more, map-append}
-use Rattle.std.specs.declared.alloc.Global.{Global}
-use Rattle.std.specs.declared.vec.Vec.{Vec}
-use Rattle.s66_isa.specs.Lists.{Among, rising}
+use Rattle.std.proofs.lemmas.List.{map-append}
+use Rattle.s66_isa.specs.Lists.{rising}
 use Rattle.s66_isa.specs.Table.{instr_at}
 use Rattle.s66_line.specs.Block.{instrs_of, text_of}
-use Rattle.s66_line.specs.InstructionText.{IsInstruction, IsTextOf}
+use Rattle.s66_line.specs.InstructionText.{IsTextOf}
 use Rattle.s66_line.specs.Source.{Block}
 use Rattle.s66_program.specs.ProvedAnswers.{IsSpelledTo}
 use Rattle.s66_program.specs.ProveText.{texts_of}
@@ -30,20 +28,3 @@ texts-more items block i texts new text within so_far pushed is =
     let left : map (text_of block) (rising (n - i) (i + 1)) ≡ text_of block (i + 1) ∷ rest = ap (map (text_of block)) (rising-next n i within) in
     let made : map items new ≡ map items texts ++ text_of block (i + 1) ∷ [] = ap (map items) pushed ∙ (map-append items texts (text ∷ []) ∙ ap (λ t. map items texts ++ t ∷ []) is) in
     ap (λ xs. xs ++ rest) made ∙ append_assoc (map items texts) (text_of block (i + 1) ∷ []) rest ∙ ap (λ xs. map items texts ++ xs) (sym left) ∙ so_far
-
--- EACH TEXT IS ONE OF AN INSTRUCTION
-
-abbrev pub AreInstructions : List (Vec ℕ Global) → Type 0
-AreInstructions texts = (text : List ℕ) → Among text (map (λ (t : Vec ℕ Global). t.items) texts) → IsInstruction text
-
-pub instructions-here : (texts : List (Vec ℕ Global)) (i : ℕ) (t : Vec ℕ Global) → i < length texts → t ≡ slice_index_or texts i t → IsInstruction t.items → AreInstructions (drop (i + 1) texts) →
-    AreInstructions (drop i texts)
-instructions-here texts i t within at is rest =
-    subst AreInstructions (ap (λ x. x ∷ drop (i + 1) texts) at ∙ sym (drop_more texts i t within))
-    (λ text among. elim among [
-      | inl here ↦ subst IsInstruction (sym here) is
-      | inr past ↦ rest text past
-    ])
-
-pub instructions-past : (texts : List (Vec ℕ Global)) (i : ℕ) → length texts ≤ i → AreInstructions (drop i texts)
-instructions-past texts i past = subst AreInstructions (sym (at_drop_all (λ ts. ts) texts i past)) (λ text among. absurd among)

@@ -13,27 +13,17 @@ use std::sync::Wait;
 use std::test::Fail;
 use std::thread::Threads;
 
-mod blocks;
-mod certificates;
 mod chart;
-mod clock;
 mod codes;
 mod deps;
 mod devices;
 mod examples;
-mod expansion;
-mod floors;
-mod ledger;
 mod limits;
 mod lines;
 mod order;
-mod orders;
-mod plain_clock;
-mod pool;
 mod printing;
 mod program;
 mod progress;
-mod schedule;
 mod trace;
 
 const TIME: Command = Command::Time { trace: false };

@@ -1,7 +1,7 @@
 use Rattle.std.proofs.Common.{rules}
 use Rattle.s66_line.specs.InstructionText.{IsInstruction}
-use Rattle.s66_program.proofs.BlockTexts.{instructions-here, instructions-past}
-use Rattle.s66_program.proofs.tests.blocks.are_instructions.Goals as goal
+use Rattle.s66_test_timing.proofs.InstructionTexts.{instructions-here, instructions-past}
+use Rattle.s66_test_timing.proofs.blocks.are_instructions.Goals as goal
 
 pub loop-text-preserved : goal.loop-text-preserved
 loop-text-preserved c = λ rest.

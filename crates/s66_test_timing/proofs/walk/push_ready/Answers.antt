@@ -4,7 +4,7 @@ use Rattle.s66_line.specs.Block.{instrs_of}
 use Rattle.s66_model.specs.LegalOrder.{is_ready}
 use Rattle.s66_dep.specs.Members.{numbers_in}
 use Rattle.s66_dep.proofs.Readiness.{has-ready_same}
-use Rattle.s66_program.proofs.tests.clock.push_ready.Goals as goal
+use Rattle.s66_test_timing.proofs.walk.push_ready.Goals as goal
 
 pub push-requires : goal.push-requires
 push-requires c =

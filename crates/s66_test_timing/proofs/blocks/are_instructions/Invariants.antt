@@ -1,6 +1,6 @@
 use Rattle.std.proofs.Common.{drop}
-use Rattle.s66_program.proofs.BlockTexts.{AreInstructions}
-use Rattle.s66_program.proofs.tests.blocks.are_instructions.Given as goal
+use Rattle.s66_test_timing.proofs.InstructionTexts.{AreInstructions}
+use Rattle.s66_test_timing.proofs.blocks.are_instructions.Given as goal
 
 abbrev pub invariant-loop-text : goal.invariant-loop-text
 invariant-loop-text l = AreInstructions (drop l.text-index l.texts) → AreInstructions l.texts

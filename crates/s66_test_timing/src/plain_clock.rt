@@ -65,7 +65,7 @@ impl PlainPoint {
         true
     }
 
-    /// When its result in a register is done, where it has one.
+    /// When its result in a register is done, if it has one.
     fn done_at(&self, register: Reg) -> Option<u32> {
         for result in &self.results {
             if is_same_register(result.register, register) {
@@ -93,7 +93,7 @@ fn keeps_memory_order(a: Memory, b: Memory) -> bool {
     )
 }
 
-/// When a unit is free that starts then: one minor cycle after the last result that it holds, or after its work where nothing is
+/// When a unit is free that starts then: one minor cycle after the last result that it holds, or after its work if nothing is
 /// written.
 fn free_after(start: u32, hold: u32, results: &[PlainResult]) -> u32 {
     if results.is_empty() {
@@ -192,7 +192,7 @@ impl PlainClock {
         wait
     }
 
-    /// Second order: the unit waits for its operands, and a reference to memory for the earlier ones that it must stay behind.
+    /// Second order: the unit waits for its operands, and a reference to memory for the earlier ones that it must come after.
     fn start(&self, instr: &Instr, issue: u32) -> u32 {
         let mut start = issue.max(self.memory_wait(instr.memory()));
         for register in instr.reads().as_slice() {
@@ -255,7 +255,7 @@ impl PlainClock {
         Ok(())
     }
 
-    /// Takes back the last push, and gives its number where there was one.
+    /// Takes back the last push, and gives its number if there was one.
     pub fn undo(&mut self) -> Option<u8> {
         let point = self.points.pop()?;
         Some(point.number)

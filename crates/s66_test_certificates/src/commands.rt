@@ -1,0 +1,36 @@
+ghost use Rattle.s66_program.specs.Output.{IsWithin};
+
+use s66_line::{OverRead, OverWrite};
+use s66_program::{Command, Fault, Status, run_command};
+use std::process::Abort;
+use std::sync::Wait;
+use std::thread::Threads;
+
+/// The result of a command at a text, and what it wrote.
+pub fn run<R: AllocGlobal + Threads + Wait + Sync>(
+    rt: &R,
+    command: Command,
+    text: &[u8],
+) -> (Result<Status, Fault>, Vec<u8>)
+    requires { IsWithin command }
+{
+    let mut reader = OverRead::new(text);
+    let mut writer = OverWrite::new(Vec::new(rt.alloc()));
+    let result = run_command(rt, command, &mut reader, &mut writer);
+    (result, writer.into_inner())
+}
+
+/// Checks how a command ends at a text, and what it writes.
+pub fn check_output<R: AllocGlobal + Abort + Threads + Wait + Sync>(
+    rt: &R,
+    command: Command,
+    text: &str,
+    status: Status,
+    output: &str,
+)
+    requires { IsWithin command }
+{
+    let (result, written) = run(rt, command, text.as_bytes());
+    assert_eq!(rt; result, Ok(status), "{text}");
+    assert_eq!(rt; written.as_slice(), output.as_bytes(), "{text}");
+}

@@ -1,0 +1,147 @@
+use crate::commands::{check_output, run};
+use crate::documents::{ONE_LOAD, THREE_MULTIPLIES};
+use s66_cert::CertError;
+use s66_program::{Command, Fault, Status};
+use std::alloc::AllocError;
+use std::process::Abort;
+use std::sync::Wait;
+use std::test::Fail;
+use std::thread::Threads;
+
+/// The text with what stands in the place of its first part of this kind.
+fn altered<R: AllocGlobal>(rt: &R, text: &str, old: &str, new: &str) -> Result<String, AllocError> {
+    let mut altered = String::new(rt.alloc());
+    match text.split_once(old) {
+        Some((front, back)) => {
+            altered.push_str(front)?;
+            altered.push_str(new)?;
+            altered.push_str(back)?;
+        }
+        None => altered.push_str(text)?,
+    }
+    Ok(altered)
+}
+
+/// What of one load's document is altered, and the verdict.
+const ALTERED_LOADS: &[(&str, &str, &str)] = &[
+    ("BOUND 12", "BOUND 13", "DOCUMENT 1 NO LINE 8 REASON 8\n"),
+    (
+        "ORDER 1 3 2",
+        "ORDER 1 2 3",
+        "DOCUMENT 1 NO LINE 7 REASON 2\n",
+    ),
+    (
+        "ORDER 1 3 2",
+        "ORDER 2 1 3",
+        "DOCUMENT 1 NO LINE 9 REASON 1\n",
+    ),
+    ("C 1 2", "C 1 3", "DOCUMENT 1 NO LINE 10 REASON 4\n"),
+    ("C 1 2", "C 2", "DOCUMENT 1 NO LINE 10 REASON 5\n"),
+    ("C 1 2", "T", "DOCUMENT 1 NO LINE 10 REASON 6\n"),
+];
+
+/// The same of three multiplies.
+const ALTERED_MULTIPLIES: &[(&str, &str, &str)] = &[
+    ("PROFILE 3", "PROFILE 4", "DOCUMENT 1 NO LINE 2 REASON 7\n"),
+    (
+        "ORDER 1 2 3",
+        "ORDER 1 2",
+        "DOCUMENT 1 NO LINE 9 REASON 1\n",
+    ),
+    ("S 1 2 3", "S 1 3 2", "DOCUMENT 1 NO LINE 10 REASON 3\n"),
+    ("S 3\nT\n", "T\n", "DOCUMENT 1 NO LINE 12 REASON 6\n"),
+    (
+        "S 3\nT\n",
+        "U MULTIPLY\n",
+        "DOCUMENT 1 NO LINE 12 REASON 5\n",
+    ),
+    ("S 3\nT\n", "C 3\n", "DOCUMENT 1 NO LINE 12 REASON 5\n"),
+    ("S 3\nT\n", "C 1\n", "DOCUMENT 1 NO LINE 12 REASON 4\n"),
+    ("S 3\nT\n", "S 3\nP\n", "DOCUMENT 1 NO LINE 13 REASON 6\n"),
+    // the third child is left out, with all below it
+    (
+        "S 1 2 3\nS 2 3\nS 3\nT\nS 2\nT\nS 1 3\nS 3\nT\nS 1\nT\nS 1 2\nS 2\nT\nS 1\nT\n",
+        "S 1 2\nS 2 3\nS 3\nT\nS 2\nT\nS 1 3\nS 3\nT\nS 1\nT\n",
+        "DOCUMENT 1 NO LINE 10 REASON 3\n",
+    ),
+];
+
+/// Checks that altered documents are denied.
+fn check_denied<R: AllocGlobal + Abort + Threads + Wait + Sync>(
+    rt: &R,
+    document: &str,
+    rows: &[(&str, &str, &str)],
+) -> Result<(), Fail> {
+    for &(old, new, verdict) in rows {
+        let text = altered(rt, document, old, new)?;
+        check_output(rt, Command::Check, text.as_str(), Status::Denied, verdict);
+    }
+    Ok(())
+}
+
+#[test]
+fn denies_altered_documents(rt: HostRuntime) -> Result<(), Fail> {
+    check_denied(&rt, ONE_LOAD, ALTERED_LOADS)?;
+    check_denied(&rt, THREE_MULTIPLIES, ALTERED_MULTIPLIES)
+}
+
+/// What `check` says of three multiplies and one load.
+const BOTH: &str = "DOCUMENT 1 YES TIME 22 BOUND 22\nDOCUMENT 2 YES TIME 12 BOUND 12\n";
+
+/// What it says if the second's bound is above its time.
+const FIRST: &str = "DOCUMENT 1 YES TIME 22 BOUND 22\nDOCUMENT 2 NO LINE 8 REASON 8\n";
+
+#[test]
+fn tells_each_document(rt: HostRuntime) -> Result<(), Fail> {
+    check_output(&rt, Command::Check, "", Status::Done, "");
+    let both = altered(&rt, ONE_LOAD, "", THREE_MULTIPLIES)?;
+    check_output(&rt, Command::Check, both.as_str(), Status::Done, BOTH);
+    let above = altered(&rt, both.as_str(), "BOUND 12\n", "BOUND 13\n")?;
+    check_output(&rt, Command::Check, above.as_str(), Status::Denied, FIRST);
+    let lower = altered(&rt, ONE_LOAD, "BOUND 12", "BOUND 11")?;
+    let verdict = "DOCUMENT 1 YES TIME 12 BOUND 11\n";
+    check_output(&rt, Command::Check, lower.as_str(), Status::Done, verdict);
+    Ok(())
+}
+
+/// What of three multiplies' document is altered, and why it is no document.
+const REFUSED: &[(&str, &str, CertError)] = &[
+    (" 1 2\nBLOCK", " 1\nBLOCK", CertError::BadLine { line: 2 }),
+    (" 1 2\nBLOCK", " 1 0\nBLOCK", CertError::BadLine { line: 2 }),
+    ("PROFILE 3", "PROFILE 101", CertError::BadLine { line: 2 }),
+    ("I FX1 X2*X3", "I fx1 X2*X3", CertError::BadLine { line: 4 }),
+    ("I FX1 X2*X3", "I ZR X1,L", CertError::BadLine { line: 4 }),
+    ("TIME 22", "TIME 022", CertError::BadLine { line: 7 }),
+    ("TIME 22", "TIME 100001", CertError::BadLine { line: 7 }),
+    (
+        "TIME 22",
+        "TIME 222222222222222222222222222222",
+        CertError::BadLine { line: 7 },
+    ),
+    ("T\nEND", "T\nT\nEND", CertError::BadLine { line: 26 }),
+    ("END\n", "", CertError::Truncated),
+    ("END\n", "END", CertError::Truncated),
+];
+
+/// Checks that a text is refused, and nothing is written.
+fn check_refused<R: AllocGlobal + Abort + Threads + Wait + Sync>(
+    rt: &R,
+    text: &str,
+    refusal: CertError,
+) {
+    let (result, written) = run(rt, Command::Check, text.as_bytes());
+    assert_eq!(rt; result, Err(Fault::Document(refusal)), "{text}");
+    assert!(rt; written.is_empty(), "{text}");
+}
+
+#[test]
+fn refuses_altered_documents(rt: HostRuntime) -> Result<(), Fail> {
+    for &(old, new, refusal) in REFUSED {
+        let text = altered(&rt, THREE_MULTIPLIES, old, new)?;
+        check_refused(&rt, text.as_str(), refusal);
+    }
+    let both = altered(&rt, ONE_LOAD, "", THREE_MULTIPLIES)?;
+    let zero = altered(&rt, both.as_str(), "BOUND 12\n", "BOUND 012\n")?;
+    check_refused(&rt, zero.as_str(), CertError::BadLine { line: 34 });
+    Ok(())
+}

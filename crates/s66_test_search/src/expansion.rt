@@ -1,0 +1,80 @@
+use s66_dep::{Set, is_beginning};
+use s66_isa::Profile;
+use s66_line::read_source;
+use s66_node::{Knot, Piece, expand};
+use s66_test_blocks::{MULTIPLIES, ONE_LOAD, SEVEN_MULTIPLIES, only_block};
+use std::process::Abort;
+use std::test::Fail;
+
+/// What a prefix of a source's only block gives, for a best time and a number of splits that are allowed.
+fn piece_of<R: AllocGlobal + Abort>(
+    rt: &R,
+    code: &str,
+    prefix: &[u8],
+    best: u32,
+    allowance: u32,
+) -> Result<Piece, Fail> {
+    let source = read_source(rt.alloc(), code.as_bytes())?;
+    let block = only_block(&source).expect(rt, "one block");
+    assert!(rt; is_beginning(block, prefix));
+    let profile = Profile::standard();
+    let piece = expand(rt.alloc(), block, &profile, prefix, best, allowance)?;
+    Ok(piece)
+}
+
+/// Checks the order of a piece that is timed, and its total.
+fn check_timed<R: Abort>(rt: &R, piece: &Piece, numbers: &[u8], total: u32) {
+    let timed = piece.timed().expect(rt, "a whole order");
+    assert_eq!(rt; timed.order().numbers(), numbers);
+    assert_eq!(rt; timed.total(), total);
+}
+
+/// Three multiplies take 22 in any order, and at least 17 while fewer than three are placed.
+#[test]
+fn expands_prefixes(rt: HostRuntime) -> Result<(), Fail> {
+    let open = Knot::Frontier { value: 17 };
+    let split = piece_of(&rt, MULTIPLIES, &[], 22, 1)?;
+    assert_eq!(rt; split.splits(), 1);
+    let knots = [Knot::Split(Set::up_to(3)), open, open, open];
+    assert_eq!(rt; split.knots(), knots.as_slice());
+    assert!(rt; split.timed().is_none());
+    let leaf = piece_of(&rt, MULTIPLIES, &[], 17, 1)?;
+    assert_eq!(rt; leaf.knots(), [Knot::Leaf { value: 17 }].as_slice());
+    let whole = piece_of(&rt, MULTIPLIES, &[1, 2, 3], 22, 0)?;
+    assert_eq!(rt; whole.knots(), [Knot::Leaf { value: 22 }].as_slice());
+    check_timed(&rt, &whole, &[1, 2, 3], 22);
+    Ok(())
+}
+
+/// All orders take less than 17, so each incomplete prefix is split.
+#[test]
+fn expands_to_whole_orders(rt: HostRuntime) -> Result<(), Fail> {
+    let one = Set::empty().with(1);
+    let two = Set::empty().with(2);
+    let three = Set::empty().with(3);
+    let knots = [
+        Knot::Split(one.with(3)),
+        Knot::Split(two.with(3)),
+        Knot::Split(three),
+        Knot::Leaf { value: 16 },
+        Knot::Split(two),
+        Knot::Leaf { value: 12 },
+        Knot::Split(one),
+        Knot::Split(two),
+        Knot::Leaf { value: 13 },
+    ];
+    let piece = piece_of(&rt, ONE_LOAD, &[], 17, 100)?;
+    assert_eq!(rt; piece.splits(), 6);
+    assert_eq!(rt; piece.knots(), knots.as_slice());
+    check_timed(&rt, &piece, &[1, 3, 2], 12);
+    Ok(())
+}
+
+/// A piece may be as large as its tree.
+#[test]
+fn expands_to_many_orders(rt: HostRuntime) -> Result<(), Fail> {
+    let piece = piece_of(&rt, SEVEN_MULTIPLIES, &[], 44, 10_000)?;
+    assert_eq!(rt; piece.splits(), 8660);
+    assert_eq!(rt; piece.knots().len(), 8660 + 5040);
+    Ok(())
+}

@@ -1,0 +1,385 @@
+ghost use Rattle.std.specs.Prelude.{◌≡◌, ◌≤◌, All};
+ghost use Rattle.s66_ledger.specs.declared.limits.TheConstants.{BUDGET_LIMIT};
+
+use s66_dep::{Order, is_beginning};
+use s66_isa::Profile;
+use s66_ledger::{GraftError, Ledger, Offered, Ticket};
+use s66_line::{Block, read_source};
+use s66_node::{Piece, expand};
+use s66_pool::{AfterGraft, Hub, Next, Seat, SeatsMissing};
+use s66_test_blocks::{MULTIPLIES, ONE_LOAD, only_block};
+use s66_time::{Timed, time_of};
+use std::process::Abort;
+use std::sync::Wait;
+use std::test::Fail;
+
+/// A hub on a ledger of a block, and a seat for each worker.
+pub fn open_hub<'a, R: AllocGlobal + Abort>(
+    rt: &R,
+    block: &'a Block<'a>,
+    budget: u32,
+    workers: u8,
+) -> (Hub<'a>, Vec<Seat<'a>>)
+    requires budget { budget ≤ BUDGET_LIMIT }
+    requires workers { 1 ≤ workers }
+    ensures { All (λ s. s.hub ≡ result.0.id) result.1.items }
+{
+    let alloc = rt.alloc();
+    let ledger = Ledger::new(alloc, block, &Profile::standard(), budget, workers).expect(
+        rt, "memory",
+    );
+    Hub::new(alloc, ledger).expect(rt, "memory")
+}
+
+/// Takes the last seat out, and checks its number.
+fn take_seat<'a, R: Abort>(rt: &R, hub: &Hub<'a>, seats: &mut Vec<Seat<'a>>, number: u8) -> Seat<'a>
+    requires { All (λ s. s.hub ≡ hub.now.id) seats.old.items }
+    ensures here { result.hub ≡ hub.now.id }
+    ensures rest { All (λ s. s.hub ≡ hub.now.id) seats.new.items }
+{
+    let seat = seats.pop().expect(rt, "a seat");
+    assert_eq!(rt; seat.number(), number);
+    seat
+}
+
+/// Puts a seat after the others.
+fn put_seat<'a, R: Abort>(rt: &R, _hub: &Hub<'a>, seats: &mut Vec<Seat<'a>>, seat: Seat<'a>)
+    requires here { seat.hub ≡ _hub.now.id }
+    requires rest { All (λ s. s.hub ≡ _hub.now.id) seats.old.items }
+    ensures { All (λ s. s.hub ≡ _hub.now.id) seats.new.items }
+{
+    assert!(rt; seats.push(seat).is_ok());
+}
+
+/// Moves splits of the budget to a seat, and tells how many.
+fn grant<'a, R: Abort + Wait>(rt: &R, hub: &Hub<'a>, seat: &mut Seat<'a>) -> u32
+    requires { seat.old.hub ≡ hub.now.id }
+    ensures { seat.new.hub ≡ seat.old.hub }
+{
+    hub.grant(rt, seat).expect(rt, "memory")
+}
+
+/// Claims the root of a hub's tree.
+fn claim_root<'a, R: Abort + Wait>(rt: &R, hub: &Hub<'a>, seat: &mut Seat<'a>) -> Ticket
+    requires { seat.old.hub ≡ hub.now.id }
+    ensures { seat.new.hub ≡ seat.old.hub }
+{
+    let claimed = hub.claim(rt, seat).expect(rt, "memory");
+    let ticket = claimed.expect(rt, "an open node");
+    assert_eq!(rt; ticket.node(), 0);
+    assert!(rt; ticket.prefix().is_empty());
+    ticket
+}
+
+/// Claims a node, and checks the best time that is read in the same turn.
+fn claim_reading<'a, R: Abort + Wait>(
+    rt: &R,
+    hub: &Hub<'a>,
+    seat: &mut Seat<'a>,
+    expected: u32,
+) -> Option<Ticket>
+    requires { seat.old.hub ≡ hub.now.id }
+    ensures { seat.new.hub ≡ seat.old.hub }
+{
+    let (ticket, best) = hub.claim_and_read(rt, seat).expect(rt, "memory");
+    assert_eq!(rt; best, expected);
+    ticket
+}
+
+/// Gives a node back.
+fn give_back<'a, R: Abort + Wait>(rt: &R, hub: &Hub<'a>, seat: &mut Seat<'a>, ticket: Ticket)
+    requires { seat.old.hub ≡ hub.now.id }
+    ensures { seat.new.hub ≡ seat.old.hub }
+{
+    assert!(rt; hub.back(rt, seat, ticket).is_ok());
+}
+
+/// Gives a seat's splits back to the budget.
+fn retire<'a, R: Abort + Wait>(rt: &R, hub: &Hub<'a>, seat: &mut Seat<'a>)
+    requires { seat.old.hub ≡ hub.now.id }
+    ensures { seat.new.hub ≡ seat.old.hub }
+{
+    assert!(rt; hub.retire(rt, seat).is_ok());
+}
+
+/// Makes each call of a seat that has the whole budget.
+fn check_calls<'a, R: Abort + Wait>(rt: &R, hub: &Hub<'a>, seat: &mut Seat<'a>)
+    requires { seat.old.hub ≡ hub.now.id }
+{
+    let root = claim_root(rt, hub, seat);
+    assert_eq!(rt; grant(rt, hub, seat), 10);
+    give_back(rt, hub, seat, root);
+    claim_root(rt, hub, seat);
+    retire(rt, hub, seat);
+    assert_eq!(rt; grant(rt, hub, seat), 10);
+}
+
+/// Checks each call of a hub with one seat.
+fn check_new_hub<R: AllocGlobal + Abort + Wait>(rt: &R, block: &Block) {
+    let (hub, mut seats) = open_hub(rt, block, 10, 1);
+    let mut seat = take_seat(rt, &hub, &mut seats, 1);
+    assert!(rt; seats.is_empty());
+    check_calls(rt, &hub, &mut seat);
+}
+
+#[test]
+fn new_hub(rt: HostRuntime) -> Result<(), Fail> {
+    let source = read_source(rt.alloc(), MULTIPLIES.as_bytes())?;
+    check_new_hub(&rt, only_block(&source).expect(&rt, "one block"));
+    Ok(())
+}
+
+/// Closes a hub that lacks its second seat, which it hands back with the first.
+fn close_early<'a, R: Abort>(rt: &R, hub: Hub<'a>, seats: Vec<Seat<'a>>) -> (Hub<'a>, Vec<Seat<'a>>)
+    requires { All (λ s. s.hub ≡ hub.id) seats.items }
+    ensures same { result.0.id ≡ hub.entry.id }
+    ensures here { All (λ s. s.hub ≡ result.0.id) result.1.items }
+{
+    match hub.close(seats) {
+        Ok(_) => panic!(rt; "closed without a seat"),
+        Err((SeatsMissing, hub, seats)) => (hub, seats),
+    }
+}
+
+/// Closes a hub that has all its seats.
+fn close<'a, R: Abort>(rt: &R, hub: Hub<'a>, seats: Vec<Seat<'a>>)
+    requires { All (λ s. s.hub ≡ hub.id) seats.items }
+{
+    assert!(rt; hub.close(seats).is_ok());
+}
+
+/// Checks that a hub closes only with all its seats, in any order.
+fn check_missing_seat<R: AllocGlobal + Abort + Wait>(rt: &R, block: &Block) {
+    let (hub, mut seats) = open_hub(rt, block, 10, 2);
+    let second = take_seat(rt, &hub, &mut seats, 2);
+    let (hub, mut seats) = close_early(rt, hub, seats);
+    let first = take_seat(rt, &hub, &mut seats, 1);
+    put_seat(rt, &hub, &mut seats, second);
+    put_seat(rt, &hub, &mut seats, first);
+    close(rt, hub, seats);
+}
+
+#[test]
+fn seat_is_missing(rt: HostRuntime) -> Result<(), Fail> {
+    let source = read_source(rt.alloc(), MULTIPLIES.as_bytes())?;
+    check_missing_seat(&rt, only_block(&source).expect(&rt, "one block"));
+    Ok(())
+}
+
+/// A piece of a claimed node, of at most this number of splits.
+fn piece_of<R: AllocGlobal + Abort>(
+    rt: &R,
+    block: &Block,
+    ticket: &Ticket,
+    best: u32,
+    allowance: u32,
+) -> Piece {
+    let prefix = ticket.prefix();
+    assert!(rt; is_beginning(block, prefix));
+    expand(
+        rt.alloc(),
+        block,
+        &Profile::standard(),
+        prefix,
+        best,
+        allowance,
+    )
+    .expect(rt, "memory")
+}
+
+/// Grafts a piece at a node that is out, and then one at the same node.
+fn graft_twice<'a, R: AllocGlobal + Abort + Wait>(
+    rt: &R,
+    hub: &Hub<'a>,
+    seat: &mut Seat<'a>,
+    block: &Block,
+)
+    requires { seat.old.hub ≡ hub.now.id }
+{
+    assert_eq!(rt; grant(rt, hub, seat), 10);
+    let root = claim_root(rt, hub, seat);
+    let piece = piece_of(rt, block, &root, 22, 1);
+    let again = piece_of(rt, block, &root, 22, 1);
+    assert!(rt; hub.graft(rt, seat, root, piece).is_ok());
+    let refused = hub.graft_and_go_on(rt, seat, 0, &again, Next::Claim);
+    assert!(rt; matches!(refused, Err(GraftError::NotOut)));
+    assert_eq!(rt; seat.splits(), 1);
+}
+
+/// Checks that a piece is grafted at a node that is out, and at no other.
+fn check_graft<R: AllocGlobal + Abort + Wait>(rt: &R, block: &Block) {
+    let (hub, mut seats) = open_hub(rt, block, 10, 1);
+    let mut seat = take_seat(rt, &hub, &mut seats, 1);
+    graft_twice(rt, &hub, &mut seat, block);
+}
+
+#[test]
+fn grafts_at_nodes_that_are_out(rt: HostRuntime) -> Result<(), Fail> {
+    let source = read_source(rt.alloc(), MULTIPLIES.as_bytes())?;
+    check_graft(&rt, only_block(&source).expect(&rt, "one block"));
+    Ok(())
+}
+
+/// Grafts a piece of a claimed node, and claims a node in the same turn; checks what is granted there, and the best time that is
+/// read.
+fn graft_claiming<'a, R: Abort + Wait>(
+    rt: &R,
+    hub: &Hub<'a>,
+    seat: &mut Seat<'a>,
+    node: u32,
+    piece: &Piece,
+    next: Next,
+    expected: (u32, u32),
+) -> Ticket
+    requires { seat.old.hub ≡ hub.now.id }
+    ensures { seat.new.hub ≡ seat.old.hub }
+{
+    match hub.graft_and_go_on(rt, seat, node, piece, next) {
+        Ok(
+            AfterGraft::Claimed {
+                granted,
+                ticket,
+                best,
+            },
+        ) => {
+            assert_eq!(rt; (granted, best), expected);
+            ticket.expect(rt, "an open node")
+        }
+        _ => panic!(rt; "the piece wasn't taken, or nothing was claimed"),
+    }
+}
+
+/// The turns of a worker that has the whole budget of 10 splits: it splits the root and a child, and retires.
+fn spend_two<'a, R: AllocGlobal + Abort + Wait>(
+    rt: &R,
+    hub: &Hub<'a>,
+    seat: &mut Seat<'a>,
+    block: &Block,
+)
+    requires { seat.old.hub ≡ hub.now.id }
+{
+    assert_eq!(rt; grant(rt, hub, seat), 10);
+    let root = claim_root(rt, hub, seat);
+    let piece = piece_of(rt, block, &root, 22, 1);
+    let child = graft_claiming(rt, hub, seat, 0, &piece, Next::Claim, (0, 22));
+    assert_eq!(rt; child.prefix().len(), 1);
+    let piece = piece_of(rt, block, &child, 22, 1);
+    let after = hub.graft_and_go_on(rt, seat, child.node(), &piece, Next::GrantAndClaim);
+    assert!(rt; matches!(after, Ok(AfterGraft::NotGranted)));
+    retire(rt, hub, seat);
+    assert_eq!(rt; seat.splits(), 2);
+}
+
+/// A worker's turn after that: it leaves a node open, and is granted the rest of the budget in the turn of its graft.
+fn ask_for_splits<'a, R: AllocGlobal + Abort + Wait>(
+    rt: &R,
+    hub: &Hub<'a>,
+    seat: &mut Seat<'a>,
+    block: &Block,
+)
+    requires { seat.old.hub ≡ hub.now.id }
+{
+    let node = claim_reading(rt, hub, seat, 22).expect(rt, "an open node");
+    let piece = piece_of(rt, block, &node, 22, 0);
+    graft_claiming(
+        rt,
+        hub,
+        seat,
+        node.node(),
+        &piece,
+        Next::GrantAndClaim,
+        (8, 22),
+    );
+    assert_eq!(rt; seat.splits(), 0);
+}
+
+/// Checks what two workers get in the turns of their grafts. Each prefix but a whole order has a floor of 17, below every total, so that
+/// some node is open all the time.
+fn check_turns<R: AllocGlobal + Abort + Wait>(rt: &R, block: &Block) {
+    let (hub, mut seats) = open_hub(rt, block, 10, 2);
+    let mut second = take_seat(rt, &hub, &mut seats, 2);
+    let mut first = take_seat(rt, &hub, &mut seats, 1);
+    spend_two(rt, &hub, &mut first, block);
+    ask_for_splits(rt, &hub, &mut second, block);
+}
+
+#[test]
+fn pieces_are_grafted(rt: HostRuntime) -> Result<(), Fail> {
+    let source = read_source(rt.alloc(), MULTIPLIES.as_bytes())?;
+    check_turns(&rt, only_block(&source).expect(&rt, "one block"));
+    Ok(())
+}
+
+/// An order of the block with its times.
+fn timed_of<R: Abort>(rt: &R, block: &Block, numbers: &[u8]) -> Timed {
+    let order = Order::new(block, numbers).expect(rt, "a legal order");
+    time_of(block, &Profile::standard(), &order)
+}
+
+/// Offers an order, and checks the answer.
+fn offer<'a, R: Abort + Wait>(
+    rt: &R,
+    hub: &Hub<'a>,
+    seat: &mut Seat<'a>,
+    timed: Timed,
+    answer: Offered,
+)
+    requires { seat.old.hub ≡ hub.now.id }
+    ensures { seat.new.hub ≡ seat.old.hub }
+{
+    assert_eq!(rt; hub.offer(rt, seat, timed), Ok(answer));
+}
+
+/// Offers the best order at one seat while another has the root out, and reads it there after the graft.
+fn offer_while_out<'a, R: AllocGlobal + Abort + Wait>(
+    rt: &R,
+    hub: &Hub<'a>,
+    seat: &mut Seat<'a>,
+    other: &mut Seat<'a>,
+    block: &Block,
+)
+    requires seat { seat.old.hub ≡ hub.now.id }
+    requires other { other.old.hub ≡ hub.now.id }
+{
+    let root = claim_reading(rt, hub, other, 16).expect(rt, "an open node");
+    let piece = piece_of(rt, block, &root, 16, 0);
+    let best = timed_of(rt, block, &[1, 3, 2]);
+    offer(rt, hub, seat, best, Offered::Lower);
+    graft_claiming(rt, hub, other, root.node(), &piece, Next::Claim, (0, 12));
+}
+
+/// Reads the best time at one seat by itself, and at another with a claim; the root is out.
+fn read_offer<'a, R: AllocGlobal + Abort + Wait>(
+    rt: &R,
+    hub: &Hub<'a>,
+    seat: &mut Seat<'a>,
+    other: &mut Seat<'a>,
+    block: &Block,
+)
+    requires seat { seat.old.hub ≡ hub.now.id }
+    requires other { other.old.hub ≡ hub.now.id }
+{
+    assert_eq!(rt; hub.best(rt, seat), 12);
+    let slower = timed_of(rt, block, &[1, 2, 3]);
+    offer(rt, hub, seat, slower, Offered::NotLower { least: 12 });
+    assert!(rt; claim_reading(rt, hub, other, 12).is_none());
+}
+
+/// Checks that seats read what another has offered.
+fn check_offers<R: AllocGlobal + Abort + Wait>(rt: &R, block: &Block) {
+    let (hub, mut seats) = open_hub(rt, block, 10, 4);
+    let mut fourth = take_seat(rt, &hub, &mut seats, 4);
+    let mut third = take_seat(rt, &hub, &mut seats, 3);
+    let mut second = take_seat(rt, &hub, &mut seats, 2);
+    let mut first = take_seat(rt, &hub, &mut seats, 1);
+    assert_eq!(rt; hub.best(rt, &mut second), 16);
+    offer_while_out(rt, &hub, &mut first, &mut third, block);
+    read_offer(rt, &hub, &mut second, &mut fourth, block);
+}
+
+#[test]
+fn offers_are_read(rt: HostRuntime) -> Result<(), Fail> {
+    let source = read_source(rt.alloc(), ONE_LOAD.as_bytes())?;
+    check_offers(&rt, only_block(&source).expect(&rt, "one block"));
+    Ok(())
+}

@@ -1,0 +1,134 @@
+ghost use Rattle.std.specs.Prelude.{◌≤◌};
+ghost use Rattle.s66_ledger.specs.declared.limits.TheConstants.{BUDGET_LIMIT};
+ghost use Rattle.s66_pool.specs.declared.limits.TheConstants.{WORKERS_LIMIT};
+
+use crate::gates::{Claimants, Held, Meeting};
+use crate::hub::open_hub;
+use s66_isa::Profile;
+use s66_ledger::BUDGET_LIMIT;
+use s66_line::{Block, read_source};
+use s66_pool::{Free, Gate, Options, Seat, run, work};
+use s66_test_blocks::{MULTIPLIES, only_block};
+use std::process::Abort;
+use std::sync::Wait;
+use std::test::Fail;
+use std::thread::Threads;
+use std::time::Clock;
+
+/// Every order takes 33, and every beginning that lacks some has a floor of 28, so that the whole tree is searched.
+const FIVE_MULTIPLIES: &str = "  FX0 X7*X7\n  FX1 X7*X7\n  FX2 X7*X7\n  FX3 X7*X7\n  FX4 X7*X7\n";
+
+/// How many splits its whole tree has.
+const ALL_SPLITS: u32 = 206;
+
+/// Lets workers search three multiplies, each order of which takes 22, and whose whole tree has 10 splits.
+fn check_run<R: AllocGlobal + Abort + Threads + Wait + Sync, G: Gate + Sync>(
+    rt: &R,
+    workers: u8,
+    nodes: u32,
+    gate: &G,
+) -> Result<(), Fail>
+    requires workers { (1 ≤ workers) × (workers ≤ WORKERS_LIMIT) }
+    requires nodes { nodes ≤ BUDGET_LIMIT }
+{
+    let source = read_source(rt.alloc(), MULTIPLIES.as_bytes())?;
+    let block = only_block(&source).expect(rt, "one block");
+    let options = Options { workers, nodes };
+    let answer = run(rt, block, &Profile::standard(), options, gate)?;
+    let told = (answer.time(), answer.bound(), answer.splits());
+    assert_eq!(rt; told, (22, 22, 10));
+    Ok(())
+}
+
+/// Checks that two workers come to a meeting.
+fn check_meeting<R: AllocGlobal + Abort + Clock + Threads + Wait + Sync>(
+    rt: &R,
+    meeting: Meeting,
+) -> Result<(), Fail> {
+    let gate = Held::new(rt, meeting);
+    check_run(rt, 2, BUDGET_LIMIT, &gate)?;
+    gate.check(rt);
+    Ok(())
+}
+
+#[test]
+fn one_graft_waits(rt: HostRuntime) -> Result<(), Fail> {
+    check_meeting(&rt, Meeting::OneGraft { held: 1 })?;
+    check_meeting(&rt, Meeting::OneGraft { held: 2 })
+}
+
+#[test]
+fn two_claims_meet(rt: HostRuntime) -> Result<(), Fail> {
+    check_meeting(&rt, Meeting::Claims)
+}
+
+/// Each worker claims at least once, even if another has spent all splits, and tells the gate its own number.
+#[test]
+fn each_worker_claims(rt: HostRuntime) -> Result<(), Fail> {
+    let two = Claimants::none();
+    check_run(&rt, 2, 10, &two)?;
+    assert_eq!(rt; two.workers(), 0b110);
+    let three = Claimants::none();
+    check_run(&rt, 3, 10, &three)?;
+    assert_eq!(rt; three.workers(), 0b1110);
+    Ok(())
+}
+
+/// How many splits all seats have spent, and how many the one that has spent the fewest.
+fn splits_of(seats: &[Seat]) -> (u32, u32) {
+    let mut sum = 0u32;
+    let mut fewest = u32::MAX;
+    for seat in seats {
+        sum = sum.saturating_add(seat.splits());
+        fewest = fewest.min(seat.splits());
+    }
+    (sum, fewest)
+}
+
+/// Lets workers search five multiplies, and checks that they leave nothing to be done. How many splits the one has spent that spent
+/// the fewest is answered.
+fn search_all<R: AllocGlobal + Abort + Threads + Wait + Sync, G: Gate + Sync>(
+    rt: &R,
+    block: &Block,
+    workers: u8,
+    gate: &G,
+) -> u32
+    requires { 1 ≤ workers }
+{
+    let profile = Profile::standard();
+    let options = Options {
+        workers,
+        nodes: BUDGET_LIMIT,
+    };
+    let (hub, seats) = open_hub(rt, block, BUDGET_LIMIT, workers);
+    let Ok(seats) = work(rt, &hub, seats, block, &profile, options, gate) else {
+        panic!(rt; "no memory")
+    };
+    let (sum, fewest) = splits_of(seats.as_slice());
+    let Ok(ledger) = hub.close(seats) else {
+        panic!(rt; "all seats are there")
+    };
+    let told = (sum, ledger.splits(), ledger.bound());
+    assert_eq!(rt; told, (ALL_SPLITS, ALL_SPLITS, 33));
+    fewest
+}
+
+#[test]
+fn both_graft(rt: HostRuntime) -> Result<(), Fail> {
+    let source = read_source(rt.alloc(), FIVE_MULTIPLIES.as_bytes())?;
+    let block = only_block(&source).expect(&rt, "one block");
+    let gate = Held::new(&rt, Meeting::Grafts);
+    assert!(rt; 0 < search_all(&rt, block, 2, &gate));
+    gate.check(&rt);
+    Ok(())
+}
+
+#[test]
+fn work_is_done(rt: HostRuntime) -> Result<(), Fail> {
+    let source = read_source(rt.alloc(), FIVE_MULTIPLIES.as_bytes())?;
+    let block = only_block(&source).expect(&rt, "one block");
+    search_all(&rt, block, 1, &Free);
+    search_all(&rt, block, 2, &Free);
+    search_all(&rt, block, 16, &Free);
+    Ok(())
+}
