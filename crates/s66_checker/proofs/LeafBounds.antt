@@ -6,7 +6,8 @@ use Rattle.s66_isa.specs.declared.reg.Reg.{Reg}
 use Rattle.s66_isa.specs.Lists.{greatest, weigh}
 use Rattle.s66_isa.specs.Table.{Row, Write, same_kind, memory_pair}
 use Rattle.s66_isa.proofs.Lists.{greatest-le, greatest-same, greatest-le-greatest}
-use Rattle.s66_model.specs.Timing.{Problem, Point, IsInRange, row_at, copies, points_of, total, next, done_of, done_at, end_of}
+use Rattle.s66_isa.specs.Rows.{IsInRange}
+use Rattle.s66_model.specs.Timing.{Problem, Point, row_at, copies, points_of, total, next, done_of, done_at, end_of}
 use Rattle.s66_model.specs.LegalOrder.{is_remaining, sum_remaining}
 use Rattle.s66_model.specs.Leaves.{tail, uses, work_of, link, is_linked, head, over, load, rest_busy}
 use Rattle.s66_model.proofs.Issue.{done_of-le-total}

@@ -3,10 +3,11 @@ use Rattle.std.proofs.Common.{ℕ, ◌+◌, ◌-◌, ◌*◌, ◌%◌, ◌^◌, 
 use Rattle.std.specs.Int.{bit_at, bit_not}
 use Rattle.std.proofs.lemmas.Bool.{cases_eq, cases_lt}
 use Rattle.std.proofs.lemmas.Nat.Bits.{bit_at-lt, bit_at_and, bit_at_above, bit_at_set_same, bit_at_set_other, bit_at_clear_same, bit_at_clear_other, same_from_bits}
+use Rattle.s66_isa.specs.declared.limits.TheConstants.{BLOCK_LIMIT}
 use Rattle.s66_checker.specs.Marked.{is_marked}
 use Rattle.s66_checker.specs.declared.marks.Marks.{Marks}
 
-pub marked-with : (old new : Marks) (n m : ℕ) → 1 ≤ n → n ≤ 64 → 1 ≤ m → new.bits ≡ bit_or old.bits (1 * 2 ^ (n - 1) % 2 ^ 64) → is_marked new m ≡ (m == n || is_marked old m)
+pub marked-with : (old new : Marks) (n m : ℕ) → 1 ≤ n → n ≤ BLOCK_LIMIT → 1 ≤ m → new.bits ≡ bit_or old.bits (1 * 2 ^ (n - 1) % 2 ^ 64) → is_marked new m ≡ (m == n || is_marked old m)
 marked-with old new n m low high first is =
     elim (cases_eq m n) [
       | inl here ↦
@@ -17,7 +18,7 @@ marked-with old new n m low high first is =
           ∙ sym (rw (ne_eqb m n apart) refl)
     ]
 
-pub marked-without : (old new : Marks) (n m : ℕ) → old.bits < 2 ^ 64 → 1 ≤ n → n ≤ 64 → 1 ≤ m → m ≤ 64 → new.bits ≡ bit_and old.bits (bit_not w64 (1 * 2 ^ (n - 1) % 2 ^ 64)) → is_marked new m ≡ (not (m == n) && is_marked old m)
+pub marked-without : (old new : Marks) (n m : ℕ) → old.bits < 2 ^ 64 → 1 ≤ n → n ≤ BLOCK_LIMIT → 1 ≤ m → m ≤ BLOCK_LIMIT → new.bits ≡ bit_and old.bits (bit_not w64 (1 * 2 ^ (n - 1) % 2 ^ 64)) → is_marked new m ≡ (not (m == n) && is_marked old m)
 marked-without old new n m fits low high first last is =
     elim (cases_eq m n) [
       | inl here ↦
@@ -28,7 +29,7 @@ marked-without old new n m fits low high first last is =
           ∙ sym (rw (ne_eqb m n apart) refl)
     ]
 
-pub marks-within : (own other : Marks) → own.bits < 2 ^ 64 → IsTrue (bit_and own.bits other.bits == own.bits) ↔ ((m : ℕ) → 1 ≤ m → m ≤ 64 → is_marked own m ≡ true → is_marked other m ≡ true)
+pub marks-within : (own other : Marks) → own.bits < 2 ^ 64 → IsTrue (bit_and own.bits other.bits == own.bits) ↔ ((m : ℕ) → 1 ≤ m → m ≤ BLOCK_LIMIT → is_marked own m ≡ true → is_marked other m ≡ true)
 marks-within own other fits =
     let both = bit_and own.bits other.bits in (
       (λ same m low high is.
@@ -38,16 +39,16 @@ marks-within own other fits =
       λ each. eq-eqb both own.bits (same_from_bits both own.bits (bits each)),
     )
   where
-    bits : ((m : ℕ) → 1 ≤ m → m ≤ 64 → is_marked own m ≡ true → is_marked other m ≡ true) → (i : ℕ) → bit_at (bit_and own.bits other.bits) i ≡ bit_at own.bits i
+    bits : ((m : ℕ) → 1 ≤ m → m ≤ BLOCK_LIMIT → is_marked own m ≡ true → is_marked other m ≡ true) → (i : ℕ) → bit_at (bit_and own.bits other.bits) i ≡ bit_at own.bits i
     bits each i =
         elim (cases_eq (bit_at own.bits i) 1) [
           | inl one ↦
-              elim (cases_lt i 64) [
+              elim (cases_lt i BLOCK_LIMIT) [
                 | inl lt ↦
                     let e : i + 1 - 1 ≡ i = omega arith in
                     let there : bit_at other.bits (i + 1 - 1) ≡ 1 = eqb-true (bit_at other.bits (i + 1 - 1)) 1 (each (i + 1) (omega arith) (omega (arith, lt)) (eq-eqb (bit_at own.bits (i + 1 - 1)) 1 (ap (bit_at own.bits) e ∙ one))) in
                     omega (arith, one, bit_at_and own.bits other.bits i, there, ap (bit_at other.bits) e)
-                | inr ge ↦ absurd (omega (arith, one, bit_at_above own.bits 64 i fits ge))
+                | inr ge ↦ absurd (omega (arith, one, bit_at_above own.bits BLOCK_LIMIT i fits ge))
               ]
           | inr clear ↦ grind (arith, clear, bit_at_and own.bits other.bits i, bit_at-lt own.bits i)
         ]

@@ -55,8 +55,8 @@ point-under : (block : List Instr) (s : List Point) (n : ℕ) (r : Row) → poin
 unfolding point Rattle.s66_model.specs.Timing.start_of Rattle.s66_model.specs.Timing.issue_of
 point-under block s n r = refl
 
-marked-push : (placed more : Marks) (ns : List ℕ) (n : ℕ) → ((m : ℕ) → 1 ≤ m → is_marked more m ≡ (m == n || is_marked placed m)) → ((m : ℕ) → 1 ≤ m → m ≤ 64 → is_marked placed m ≡ has m ns) →
-    (m : ℕ) → 1 ≤ m → m ≤ 64 → is_marked more m ≡ has m (ns ++ n ∷ [])
+marked-push : (placed more : Marks) (ns : List ℕ) (n : ℕ) → ((m : ℕ) → 1 ≤ m → is_marked more m ≡ (m == n || is_marked placed m)) → ((m : ℕ) → 1 ≤ m → m ≤ BLOCK_LIMIT → is_marked placed m ≡ has m ns) →
+    (m : ℕ) → 1 ≤ m → m ≤ BLOCK_LIMIT → is_marked more m ≡ has m (ns ++ n ∷ [])
 marked-push placed more ns n with marked m low high =
     elim (cases_eq m n) [
       | inl here ↦ with m low ∙ or_left (m == n) (is_marked placed m) (eq-eqb m n here) ∙ sym (ap (λ k. has k (ns ++ n ∷ [])) here ∙ has_push-same n ns)
@@ -95,8 +95,8 @@ last-ready block ns ms n begins e =
     let both = GoesOn-append block [] ms (n ∷ []) (subst (IsBeginning block) e begins) in
     (both.0, both.1.0)
 
-marked-pop : (placed less : Marks) (ns : List ℕ) (n : ℕ) → has n ns ≡ false → ((m : ℕ) → 1 ≤ m → m ≤ 64 → is_marked less m ≡ (not (m == n) && is_marked placed m)) → ((m : ℕ) → 1 ≤ m → m ≤ 64 → is_marked placed m ≡ has m (ns ++ n ∷ [])) →
-    (m : ℕ) → 1 ≤ m → m ≤ 64 → is_marked less m ≡ has m ns
+marked-pop : (placed less : Marks) (ns : List ℕ) (n : ℕ) → has n ns ≡ false → ((m : ℕ) → 1 ≤ m → m ≤ BLOCK_LIMIT → is_marked less m ≡ (not (m == n) && is_marked placed m)) → ((m : ℕ) → 1 ≤ m → m ≤ BLOCK_LIMIT → is_marked placed m ≡ has m (ns ++ n ∷ [])) →
+    (m : ℕ) → 1 ≤ m → m ≤ BLOCK_LIMIT → is_marked less m ≡ has m ns
 marked-pop placed less ns n new without marked m low high =
     elim (cases_eq m n) [
       | inl here ↦ without m low high ∙ rw (eq-eqb m n here) (sym (ap (λ k. has k ns) here ∙ new))
@@ -104,7 +104,7 @@ marked-pop placed less ns n new without marked m low high =
     ]
 
 pub prefix-pop : (block : List Instr) (rows : List Row) (all : List Marks) (placed : Marks) (ns : List ℕ) (xs : List Point) (n : ℕ) (less : Marks) (ms : List ℕ) (ys : List Point) →
-    IsPrefix block rows all placed ns xs → ((m : ℕ) → 1 ≤ m → m ≤ 64 → is_marked less m ≡ (not (m == n) && is_marked placed m)) → ns ≡ ms ++ n ∷ [] → ys ≡ take (length xs - 1) xs → IsPrefix block rows all less ms ys
+    IsPrefix block rows all placed ns xs → ((m : ℕ) → 1 ≤ m → m ≤ BLOCK_LIMIT → is_marked less m ≡ (not (m == n) && is_marked placed m)) → ns ≡ ms ++ n ∷ [] → ys ≡ take (length xs - 1) xs → IsPrefix block rows all less ms ys
 prefix-pop block rows all placed ns xs n less ms ys is without e1 e2 =
     let (begins, ready) = last-ready block ns ms n is.begins e1 in
     let (low, high, new, met) = ready-parts block ms n ready in

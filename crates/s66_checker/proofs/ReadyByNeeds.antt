@@ -5,6 +5,7 @@ use Rattle.std.proofs.lemmas.Bool.{and_from, and_left, and_right, or_left, cases
 use Rattle.std.proofs.lemmas.List.{length-append}
 use Rattle.s66_isa.specs.declared.instr.Instr.{Instr}
 use Rattle.s66_isa.specs.Lists.{has}
+use Rattle.s66_isa.specs.declared.limits.TheConstants.{BLOCK_LIMIT}
 use Rattle.s66_model.specs.Dependence.{depends}
 use Rattle.s66_model.specs.LegalOrder.{IsBeginning, needs_met}
 use Rattle.s66_model.proofs.LegalOrders.{needs-each, each-needs, depends-from, depends-lt}
@@ -24,15 +25,15 @@ leb-next m k apart =
     ]
 
 -- the marks of what n depends on tell whether it is met
-pub met-by : (block : List Instr) (prefix : List ℕ) (n : ℕ) (placed own : Marks) (met : Bool) → ((m : ℕ) → 1 ≤ m → m ≤ 64 → is_marked own m ≡ depends block m n) → ((m : ℕ) → 1 ≤ m → m ≤ 64 → is_marked placed m ≡ has m prefix) →
-    length block ≤ 64 → n ≤ length block → IsTrue met ↔ ((m : ℕ) → 1 ≤ m → m ≤ 64 → is_marked own m ≡ true → is_marked placed m ≡ true) → met ≡ needs_met block prefix n n
+pub met-by : (block : List Instr) (prefix : List ℕ) (n : ℕ) (placed own : Marks) (met : Bool) → ((m : ℕ) → 1 ≤ m → m ≤ BLOCK_LIMIT → is_marked own m ≡ depends block m n) → ((m : ℕ) → 1 ≤ m → m ≤ BLOCK_LIMIT → is_marked placed m ≡ has m prefix) →
+    length block ≤ BLOCK_LIMIT → n ≤ length block → IsTrue met ↔ ((m : ℕ) → 1 ≤ m → m ≤ BLOCK_LIMIT → is_marked own m ≡ true → is_marked placed m ≡ true) → met ≡ needs_met block prefix n n
 met-by block prefix n placed own met needed marked few high within =
     both_ways met (needs_met block prefix n n)
     (λ h.
     each-needs block prefix n
     (λ a depended.
     let first = depends-from block a n depended in
-    let last : a ≤ 64 = omega (arith, depends-lt block a n depended, high, few) in
+    let last : a ≤ BLOCK_LIMIT = omega (arith, depends-lt block a n depended, high, few) in
     sym (marked a first last) ∙ within.0 h a first last (needed a first last ∙ depended))
     n)
     (λ h.
@@ -43,7 +44,7 @@ met-by block prefix n placed own met needed marked few high within =
 
 -- the numbers looked at so far are marked where it depends on them
 abbrev pub Looked : List Instr → ℕ → ℕ → Marks → Type 0
-Looked block k n marks = (m : ℕ) → 1 ≤ m → m ≤ 64 → is_marked marks m ≡ (leb m k && depends block m n)
+Looked block k n marks = (m : ℕ) → 1 ≤ m → m ≤ BLOCK_LIMIT → is_marked marks m ≡ (leb m k && depends block m n)
 
 pub looked-none : (block : List Instr) (n : ℕ) (marks : Marks) → ((m : ℕ) → is_marked marks m ≡ false) → Looked block 0 n marks
 looked-none block n marks none m first last = none m ∙ sym (and_left (leb m 0) (depends block m n) (lt-leb m 0 (omega (arith, first))))
@@ -67,7 +68,7 @@ looked-past block k n marks so_far off m first last =
       | inr apart ↦ so_far m first last ∙ ap (λ b. b && depends block m n) (leb-next m k apart)
     ]
 
-pub looked-all : (block : List Instr) (k n : ℕ) (marks : Marks) → Looked block k n marks → n ≤ k + 1 → (m : ℕ) → 1 ≤ m → m ≤ 64 → is_marked marks m ≡ depends block m n
+pub looked-all : (block : List Instr) (k n : ℕ) (marks : Marks) → Looked block k n marks → n ≤ k + 1 → (m : ℕ) → 1 ≤ m → m ≤ BLOCK_LIMIT → is_marked marks m ≡ depends block m n
 looked-all block k n marks so_far enough m first last =
     elim (cases_Bool (depends block m n)) [
       | inl is ↦ so_far m first last ∙ rw is (and_from (leb m k) true (le-leb m k (omega (arith, depends-lt block m n is, enough))) refl)

@@ -1,5 +1,5 @@
 -- A walk over the lines of a tree, step by step.
-use Rattle.std.proofs.Common.{ℕ, suc, ◌+◌, ◌≤◌, ◌≡◌, ◌⊎◌, Bool, true, List, [], ◌∷◌, ◌++◌, length, Option, None, Some, slice_get, refl, sym, ap, ◌∙◌, subst, inl, inr, arith}
+use Rattle.std.proofs.Common.{ℕ, suc, ◌+◌, ◌*◌, ◌≤◌, ◌≡◌, ◌⊎◌, Bool, true, List, [], ◌∷◌, ◌++◌, length, Option, None, Some, slice_get, refl, sym, ap, ◌∙◌, subst, inl, inr, arith}
 use Rattle.std.proofs.lemmas.List.{length-map}
 use Rattle.s66_isa.specs.declared.instr.Instr.{Instr}
 use Rattle.s66_isa.specs.Lists.{Among}
@@ -12,6 +12,7 @@ use Rattle.s66_model.proofs.Later.{replaced, dropped, split-first}
 use Rattle.s66_model.proofs.Remaining.{ready-among}
 use Rattle.s66_cert.specs.Document.{Document}
 use Rattle.s66_cert.specs.DocumentParts.{Parts, AreWhole, document_of}
+use Rattle.s66_cert.specs.declared.limits.TheConstants.{SPLIT_LIMIT}
 use Rattle.s66_isa.specs.declared.limits.TheConstants.{BLOCK_LIMIT}
 use Rattle.s66_checker.specs.Checked.{Checked}
 use Rattle.s66_checker.specs.declared.verdict.Verdict.TheVariants.{Yes, No}
@@ -120,7 +121,7 @@ module _ (p : Parts) (whole : AreWhole p) (start : Checked) (at : start ≡ reco
       rw (at-line, ap (λ (c : Checked). c.numbers) at, all ∙ sym whole.preorder)
       (ap (lines_verdict d (tree_line d)) (tree-placed BLOCK_LIMIT d.tree whole.document.tree))
 
-  pub walk-ends : count + 7 + length lines ≤ 64_000_072
+  pub walk-ends : count + 7 + length lines ≤ BLOCK_LIMIT + 8 + SPLIT_LIMIT * BLOCK_LIMIT
   unfolding d
   walk-ends =
       omega (arith, at-line, whole.document.block.1, few-lines BLOCK_LIMIT d.tree whole.document.tree, whole.document.splits, ap (λ (ks : List (Knot Leaf)). length ks) (all ∙ sym whole.preorder))

@@ -3,41 +3,24 @@ use Rattle.std.proofs.Common.{ℕ, ◌+◌, ◌-◌, ◌≤◌, ◌<◌, ◌≡�
 use Rattle.std.proofs.lemmas.Bool.{cases_Bool, cases_lt, lt-ltb, le-ltb, eqb-true, eq-eqb}
 use Rattle.std.proofs.lemmas.List.{get_or-set_same, get_or-set_other, get_or-replicate, get_or_append_left, get_or-append_right, at_drop_more, length-append, length-take-le, take-append-le, take-take, take_all}
 use Rattle.s66_isa.specs.Lists.{greatest, tally}
+use Rattle.s66_isa.specs.declared.instr.TheConstants.{KIND_COUNT}
 use Rattle.s66_isa.specs.declared.instr.Kind.{Kind}
 use Rattle.s66_isa.specs.declared.instr.Kind.TheVariants.{Boolean, Shift, Add, LongAdd, Multiply, Divide, Increment}
 use Rattle.s66_isa.specs.declared.instr.Memory.{Memory}
 use Rattle.s66_isa.specs.declared.instr.Memory.TheVariants as memory
 use Rattle.s66_isa.specs.declared.reg.Reg.{Reg}
-use Rattle.s66_isa.specs.Registers.{index_of}
+use Rattle.s66_isa.specs.declared.reg.TheConstants.{REGISTER_COUNT}
+use Rattle.s66_isa.specs.Registers.{index_of, word_of}
 use Rattle.s66_isa.specs.Table.{same_reg, has_reg, same_kind, kind_number, memory_pair, copies_of, standard}
 use Rattle.s66_isa.proofs.Lists.{greatest-append, tally-append}
-use Rattle.s66_isa.proofs.RegisterBits.{index-apart, index-few}
-use Rattle.s66_isa.proofs.SameRegister.{same_reg-true, same_reg-sym}
+use Rattle.s66_isa.proofs.RegisterBits.{index-few, raised-twice}
+use Rattle.s66_isa.proofs.SameRegister.{same_reg-sym}
 use Rattle.s66_model.specs.Timing.{Point, ResultAt, busy_at, done_at, end_of}
-use Rattle.s66_checker.specs.PastWords.{word_of, AreFree, idle, AreWords, ArePast}
+use Rattle.s66_checker.specs.PastWords.{AreFree, idle, AreWords, ArePast}
 use Rattle.s66_checker.specs.declared.words.Words.{Words}
 use Rattle.s66_checker.specs.declared.words.FreeTimes.{FreeTimes}
 
 -- REGISTERS
-
--- a register's word after one of them was raised
-pub raised-word : (words : List ℕ) (x r : Reg) (t : ℕ) → x.digit ≤ 7 → r.digit ≤ 7 → index_of x < length words →
-    word_of (set words (index_of x) (max (word_of words x) t)) r ≡ max (word_of words r) (cond (same_reg x r) t 0)
-raised-word words x r t few low within =
-    elim (cases_Bool (same_reg x r)) [
-      | inl same ↦
-          let e : x ≡ r = same_reg-true x r same in
-          rw (same, sym e) (get_or-set_same words (index_of x) (max (word_of words x) t) 0 within)
-      | inr other ↦
-          let apart : index_of x ≢ index_of r = λ e. true≢false (sym (index-apart x r few low e) ∙ other) in
-          rw other (omega (arith, get_or-set_other words (index_of x) (index_of r) (max (word_of words x) t) 0 (λ e. apart (sym e))))
-    ]
-
-either : (x y : Bool) (w t : ℕ) → max (max w (cond x t 0)) (cond y t 0) ≡ max w (cond (x || y) t 0)
-either true true w t = omega arith
-either true false w t = omega arith
-either false true w t = omega arith
-either false false w t = omega arith
 
 -- one more register is raised, of those that are left
 pub raised-next : (r x : Reg) (xs : List Reg) (i t w new all : ℕ) → i < length xs → x ≡ get_or xs i x → max w (cond (has_reg r (drop i xs)) t 0) ≡ all → new ≡ max w (cond (same_reg x r) t 0) →
@@ -46,7 +29,7 @@ raised-next r x xs i t w new all lt is e1 e2 =
     let here : has_reg r (drop i xs) ≡ (same_reg x r || has_reg r (drop (i + 1) xs)) =
     at_drop_more (has_reg r) xs i x lt ∙ ap (λ y. same_reg r y || has_reg r (drop (i + 1) xs)) (sym is) ∙ ap (λ b. b || has_reg r (drop (i + 1) xs)) (same_reg-sym r x)
     in
-    ap (λ k. max k (cond (has_reg r (drop (i + 1) xs)) t 0)) e2 ∙ either (same_reg x r) (has_reg r (drop (i + 1) xs)) w t ∙ ap (λ b. max w (cond b t 0)) (sym here) ∙ e1
+    ap (λ k. max k (cond (has_reg r (drop (i + 1) xs)) t 0)) e2 ∙ raised-twice (same_reg x r) (has_reg r (drop (i + 1) xs)) w t ∙ ap (λ b. max w (cond b t 0)) (sym here) ∙ e1
 
 -- UNITS
 
@@ -121,7 +104,7 @@ none-waits (p ∷ xs) = omega (arith, none-waits xs, ap (λ b. cond {A = ℕ} b 
 
 -- ALL WORDS
 
-kind-few : (kind : Kind) → kind_number kind < 7
+kind-few : (kind : Kind) → kind_number kind < KIND_COUNT
 kind-few Boolean = omega arith
 kind-few Shift = omega arith
 kind-few Add = omega arith
@@ -140,12 +123,12 @@ idle-free =
     }
 
 -- before the first point
-pub words-start : (w : Words) → w.done.words ≡ replicate 24 0 → w.read.words ≡ replicate 24 0 → w.free ≡ replicate 7 idle → w.load ≡ 0 → w.store ≡ 0 → w.total ≡ 0 → AreWords [] w
+pub words-start : (w : Words) → w.done.words ≡ replicate REGISTER_COUNT 0 → w.read.words ≡ replicate REGISTER_COUNT 0 → w.free ≡ replicate KIND_COUNT idle → w.load ≡ 0 → w.store ≡ 0 → w.total ≡ 0 → AreWords [] w
 words-start w done read free load store total =
     record {
-      done = λ r low. ap (λ ws. word_of ws r) done ∙ get_or-replicate 24 (index_of r) 0 0 (index-few r low);
-      read = λ r low. ap (λ ws. word_of ws r) read ∙ get_or-replicate 24 (index_of r) 0 0 (index-few r low);
-      free = λ kind. subst (λ f. AreFree (λ t. 0) f) (sym (ap (λ fs. get_or fs (kind_number kind) idle) free ∙ get_or-replicate 7 (kind_number kind) idle idle (kind-few kind))) idle-free;
+      done = λ r low. ap (λ ws. word_of ws r) done ∙ get_or-replicate REGISTER_COUNT (index_of r) 0 0 (index-few r low);
+      read = λ r low. ap (λ ws. word_of ws r) read ∙ get_or-replicate REGISTER_COUNT (index_of r) 0 0 (index-few r low);
+      free = λ kind. subst (λ f. AreFree (λ t. 0) f) (sym (ap (λ fs. get_or fs (kind_number kind) idle) free ∙ get_or-replicate KIND_COUNT (kind_number kind) idle idle (kind-few kind))) idle-free;
       load = load;
       store = store;
       total = total;

@@ -27,7 +27,7 @@ pub record AreTimed (points : List Point) : Type 0 where
 -- the numbers that each instruction of the block depends on are marked
 pub record AreNeeds (block : List Instr) (all : List Marks) : Type 0 where
   pub count : length all ≡ length block
-  pub each : (i : ℕ) (d : Marks) → i < length block → (m : ℕ) → 1 ≤ m → m ≤ 64 → is_marked (get_or all i d) m ≡ depends block m (i + 1)
+  pub each : (i : ℕ) (d : Marks) → i < length block → (m : ℕ) → 1 ≤ m → m ≤ BLOCK_LIMIT → is_marked (get_or all i d) m ≡ depends block m (i + 1)
 
 -- what a prefix keeps: its block with its rows and needs, which numbers are placed, the numbers, and their points with the oldest first
 pub record IsPrefix (block : List Instr) (rows : List Row) (all : List Marks) (placed : Marks) (numbers : List ℕ) (points : List Point) : Type 0 where
@@ -36,5 +36,5 @@ pub record IsPrefix (block : List Instr) (rows : List Row) (all : List Marks) (p
   pub begins : IsBeginning block numbers
   pub known : rows ≡ map (row standard) block
   pub needed : AreNeeds block all
-  pub marked : (m : ℕ) → 1 ≤ m → m ≤ 64 → is_marked placed m ≡ has m numbers
+  pub marked : (m : ℕ) → 1 ≤ m → m ≤ BLOCK_LIMIT → is_marked placed m ≡ has m numbers
   pub timed : reverse points ≡ points_of (under_standard block) numbers

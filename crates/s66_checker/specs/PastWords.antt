@@ -3,14 +3,11 @@ use Rattle.std.specs.Prelude.{ℕ, ◌+◌, ◌≡◌, ◌≤◌, ◌<◌, if◌
 use Rattle.s66_isa.specs.declared.instr.Kind.{Kind}
 use Rattle.s66_isa.specs.declared.instr.Memory.TheVariants as memory
 use Rattle.s66_isa.specs.Lists.{greatest, tally}
-use Rattle.s66_isa.specs.Registers.{index_of}
+use Rattle.s66_isa.specs.Registers.{word_of}
 use Rattle.s66_isa.specs.Table.{Reg, kind_number, memory_pair}
 use Rattle.s66_model.specs.Timing.{Point, busy_at, done_of, readers_wait, total}
 use Rattle.s66_checker.specs.declared.words.FreeTimes.{FreeTimes}
 use Rattle.s66_checker.specs.declared.words.Words.{Words}
-
-abbrev pub word_of : List ℕ → Reg → ℕ
-word_of words r = get_or words (index_of r) 0
 
 -- of the units that are busy at t, none is left, and one at most, from these times on and no sooner
 pub record AreFree (busy : ℕ → ℕ) (f : FreeTimes) : Type 0 where

@@ -1,4 +1,4 @@
-ghost use Rattle.std.specs.Prelude.{◌≡◌, ◌≤◌, ℕ, List, Some, None, if◌then◌else◌, bytes_eq, length, map};
+ghost use Rattle.std.specs.Prelude.{◌≡◌, ◌≤◌, ℕ, [], Some, None, if◌then◌else◌, bytes_eq, length, map};
 ghost use Rattle.std.specs.declared.alloc.Global.{Global};
 ghost use Rattle.std.specs.declared.vec.Vec.{Vec};
 ghost use Rattle.s66_isa.specs.Table.{standard};
@@ -52,20 +52,19 @@ fn instructions_of(texts: &[Vec<u8>]) -> ArrayVec<Instr, BLOCK_LIMIT>
     instrs
 }
 
-/// What an order of the block takes, in minor cycles; none where it isn't legal.
-fn legal_total(block: &[Instr], order: &[u8]) -> Option<u32>
-    requires some { 1 ≤ length block.now }
-    requires few { length block.now ≤ BLOCK_LIMIT }
-    ensures { result ≡ (if is_legal_order block.now order.now then Some (total_of (record { block = block.now; profile = standard }) order.now) else None) }
+/// Goes through an order from the empty prefix of its block on: what it takes, in minor cycles, or none where it isn't legal.
+fn legal_total(prefix: &mut Prefix, order: &[u8]) -> Option<u32>
+    requires { prefix.old.numbers ≡ [] }
+    ensures value { result ≡ (if is_legal_order prefix.old.problem.block order.now then Some (total_of prefix.old.problem order.now) else None) }
+    ensures problem { prefix.new.problem ≡ prefix.old.problem }
 {
-    let mut prefix = Prefix::new(block);
     for number in order {
         if !prefix.is_ready(*number) {
             return None;
         }
         prefix.push(*number);
     }
-    if order.len() == block.len() {
+    if order.len() == prefix.count() as usize {
         Some(prefix.total())
     } else {
         None
@@ -89,7 +88,8 @@ pub fn verify(document: &Document) -> Verdict
             reason: Reason::Profile,
         };
     }
-    let Some(total) = legal_total(block.as_slice(), document.order()) else {
+    let mut prefix = Prefix::new(block.as_slice());
+    let Some(total) = legal_total(&mut prefix, document.order()) else {
         return Verdict::No {
             line: count + 6,
             reason: Reason::Order,
@@ -107,5 +107,6 @@ pub fn verify(document: &Document) -> Verdict
             reason: Reason::Bound,
         };
     }
-    tree_verdict(document, Prefix::new(block.as_slice()))
+    prefix.clear();
+    tree_verdict(document, prefix)
 }

@@ -5,8 +5,9 @@ ghost use Rattle.s66_isa.specs.Lists.{greatest, some_of};
 ghost use Rattle.s66_isa.specs.Table.{Write as WriteOf, same_reg};
 ghost use Rattle.s66_model.specs.Leaves.{tail, uses, work_of, link};
 
-use crate::row::Row;
-use s66_isa::{Kind, Reg, Write, has_register, is_memory_conflict, is_same_kind, is_same_register};
+use s66_isa::{
+    Kind, Reg, Row, Write, has_register, is_memory_conflict, is_same_kind, is_same_register,
+};
 
 /// The greatest latency of these results.
 fn greatest_latency(writes: &[Write]) -> u32

@@ -1,7 +1,13 @@
 ghost use Rattle.std.specs.Prelude.{ℕ, ◌≡◌, ◌≤◌, ◌==◌, ◌||◌, ◌&&◌, not, ◌↔◌, IsTrue, true, false};
+ghost use Rattle.s66_isa.specs.declared.limits.TheConstants.{BLOCK_LIMIT};
 ghost use Rattle.s66_checker.specs.Marked.{is_marked};
 
-/// Which numbers of a block are marked, in one word; the numbers are 1 to 64.
+use s66_isa::BLOCK_LIMIT;
+
+// one word has a bit for each number of a block
+const _: () = prove!(BLOCK_LIMIT == u64::BITS as usize);
+
+/// Which numbers of a block are marked, in one word.
 #[derive(Clone, Copy, Debug, Default, Drop)]
 pub struct Marks {
     /// Bit n - 1 tells whether n is marked.
@@ -18,7 +24,7 @@ impl Marks {
 
     /// The same, and n is marked.
     pub fn with(self, n: u8) -> Marks
-        requires { (1 ≤ n) × (n ≤ 64) }
+        requires { (1 ≤ n) × (n ≤ BLOCK_LIMIT) }
         ensures { (m : ℕ) → 1 ≤ m → is_marked result m ≡ (m == n || is_marked self m) }
     {
         Marks {
@@ -28,8 +34,8 @@ impl Marks {
 
     /// The same, and n isn't marked.
     pub fn without(self, n: u8) -> Marks
-        requires { (1 ≤ n) × (n ≤ 64) }
-        ensures { (m : ℕ) → 1 ≤ m → m ≤ 64 → is_marked result m ≡ (not (m == n) && is_marked self m) }
+        requires { (1 ≤ n) × (n ≤ BLOCK_LIMIT) }
+        ensures { (m : ℕ) → 1 ≤ m → m ≤ BLOCK_LIMIT → is_marked result m ≡ (not (m == n) && is_marked self m) }
     {
         Marks {
             bits: self.bits & !(1 << (n - 1)),
@@ -38,7 +44,7 @@ impl Marks {
 
     /// Whether n is marked.
     pub fn has(&self, n: u8) -> bool
-        requires { (1 ≤ n) × (n ≤ 64) }
+        requires { (1 ≤ n) × (n ≤ BLOCK_LIMIT) }
         ensures { result ≡ is_marked self.now n }
     {
         (self.bits >> (n - 1)) & 1 == 1
@@ -46,7 +52,7 @@ impl Marks {
 
     /// Whether each number that is marked here is marked there.
     pub fn are_within(&self, other: &Marks) -> bool
-        ensures { IsTrue result ↔ ((m : ℕ) → 1 ≤ m → m ≤ 64 → is_marked self.now m ≡ true → is_marked other.now m ≡ true) }
+        ensures { IsTrue result ↔ ((m : ℕ) → 1 ≤ m → m ≤ BLOCK_LIMIT → is_marked self.now m ≡ true → is_marked other.now m ≡ true) }
     {
         self.bits & other.bits == self.bits
     }

@@ -104,7 +104,7 @@ fn depends(block: &[Effects], earlier: usize, position: usize) -> bool
 fn needs(block: &[Effects], position: usize) -> Marks
     requires few { length block.now ≤ BLOCK_LIMIT }
     requires within { position < length block.now }
-    ensures { (m : ℕ) → 1 ≤ m → m ≤ 64 → is_marked result m ≡ depends block.now m (position + 1) }
+    ensures { (m : ℕ) → 1 ≤ m → m ≤ BLOCK_LIMIT → is_marked result m ≡ depends block.now m (position + 1) }
 {
     let mut needs = Marks::none();
     for earlier in 0..block.len() {

@@ -4,9 +4,8 @@ ghost use Rattle.s66_model.specs.Timing.{end_of};
 ghost use Rattle.s66_model.specs.Leaves.{rest_busy};
 
 use crate::result::{ResultAt, last_time};
-use crate::row::Row;
 use arrayvec::ArrayVec;
-use s66_isa::{Kind, Memory, Reg, is_memory_conflict, is_same_kind};
+use s66_isa::{Kind, Memory, Reg, Row, is_memory_conflict, is_same_kind};
 use std::marker::Model;
 
 /// An instruction at its place in an order: its number, its row, its parcel from 0, and its times in minor cycles.

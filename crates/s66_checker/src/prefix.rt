@@ -1,14 +1,14 @@
-ghost use Rattle.std.specs.Prelude.{◌≡◌, ◌≤◌, length};
+ghost use Rattle.std.specs.Prelude.{◌≡◌, ◌≤◌, length, map};
+ghost use Rattle.s66_isa.specs.Table.{row, standard};
 ghost use Rattle.s66_isa.specs.declared.limits.TheConstants.{BLOCK_LIMIT};
 
 use crate::marks::Marks;
 use crate::needs::{Numbers, needs_of_all};
 use crate::past::Past;
 use crate::point::KeptPoint;
-use crate::row::{Row, copy_of, rows_of};
 use crate::timing::next_point;
 use arrayvec::ArrayVec;
-use s66_isa::{BLOCK_LIMIT, Instr};
+use s66_isa::{BLOCK_LIMIT, Instr, Profile, Row};
 use std::marker::Model;
 
 /// The beginning of an order of a block that a checker has come to, with the times of its instructions under the standard profile.
@@ -31,6 +31,19 @@ impl Model for Prefix {
     ghost view = { λ p. record { problem = under_standard p.block.items; numbers = p.numbers.items } };
 
     ghost invariant = { λ p. IsPrefix p.block.items p.rows.items p.needs.items p.placed p.numbers.items p.past };
+}
+
+/// The rows of a block's instructions.
+fn rows_of(block: &[Instr]) -> ArrayVec<Row, BLOCK_LIMIT>
+    requires { length block.now ≤ BLOCK_LIMIT }
+    ensures { result.items ≡ map (row standard) block.now }
+{
+    let profile = Profile::standard();
+    let mut rows = ArrayVec::new();
+    for instr in block {
+        rows.push(Row::of(instr, &profile));
+    }
+    rows
 }
 
 impl Prefix {
@@ -114,7 +127,7 @@ impl Prefix {
     /// The numbers that the instruction of a number depends on.
     fn needs(&self, n: u8) -> Marks
         requires { (1 ≤ n) × (n ≤ length self.now.problem.block) }
-        ensures { (m : ℕ) → 1 ≤ m → m ≤ 64 → is_marked result m ≡ depends self.now.problem.block m n }
+        ensures { (m : ℕ) → 1 ≤ m → m ≤ BLOCK_LIMIT → is_marked result m ≡ depends self.now.problem.block m n }
     {
         self.needs[n as usize - 1]
     }
@@ -139,7 +152,7 @@ impl Prefix {
         requires { is_ready self.old.problem.block self.old.numbers n ≡ true }
         ensures { self.new ≡ record self.old { numbers = self.old.numbers ++ n ∷ [] } }
     {
-        let row = copy_of(self.row(n));
+        let row = self.row(n).duplicate();
         let point = next_point(&self.past, n, row);
         self.past.push(point);
         self.numbers.push(n);
@@ -157,6 +170,15 @@ impl Prefix {
         self.past.pop();
         self.placed = self.placed.without(n);
         Some(n)
+    }
+
+    /// Takes all numbers off.
+    pub(crate) fn clear(&mut self)
+        ensures { self.new ≡ record self.old { numbers = [] } }
+    {
+        self.placed = Marks::none();
+        self.numbers = ArrayVec::new();
+        self.past = Past::new();
     }
 
     /// When all units are free and all results are done, in minor cycles from the issue of the first instruction.

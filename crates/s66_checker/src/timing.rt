@@ -13,9 +13,8 @@ ghost use Rattle.s66_checker.specs.KeptPrefix.{TOTAL_LIMIT, under_standard, AreT
 use crate::past::Past;
 use crate::point::KeptPoint;
 use crate::result::{ResultAt, free_after};
-use crate::row::Row;
 use arrayvec::ArrayVec;
-use s66_isa::{Kind, Reg, Write};
+use s66_isa::{Kind, Reg, Row, Write};
 
 /// For how long the units of a kind work after a time, all together.
 pub fn rest_busy(points: &[KeptPoint], kind: Kind, time: u32) -> u32

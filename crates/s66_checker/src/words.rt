@@ -4,7 +4,8 @@ ghost use Rattle.std.specs.Prelude.{ℕ, ◌≡◌, ◌+◌, ◌≤◌, ◌++◌
 ghost use Rattle.s66_isa.specs.Lists.{greatest};
 ghost use Rattle.s66_isa.specs.Table.{Reg as RegOf, same_reg, has_reg};
 ghost use Rattle.s66_model.specs.Timing.{Point, ResultAt as ResultOf};
-ghost use Rattle.s66_checker.specs.PastWords.{word_of, AreFree, AreWords};
+ghost use Rattle.s66_isa.specs.Registers.{word_of};
+ghost use Rattle.s66_checker.specs.PastWords.{AreFree, AreWords};
 
 use crate::point::KeptPoint;
 use crate::result::ResultAt;

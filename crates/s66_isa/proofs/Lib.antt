@@ -2,3 +2,4 @@ pub mod Lists
 pub mod SameRegister
 pub mod RegisterBits
 pub mod Writes
+pub mod GoodRows

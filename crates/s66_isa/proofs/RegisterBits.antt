@@ -1,15 +1,16 @@
--- The registers in a set, and the bits of its word.
-use Rattle.std.proofs.Common.{ℕ, zero, suc, ◌*◌, ◌/◌, ◌%◌, ◌^◌, ◌≤◌, ◌<◌, ◌≡◌, ◌≢◌, Bool, true, false, not, ◌&&◌, ◌||◌, ◌==◌, List, [], ◌∷◌, filter, bit_and, bit_or, w32, eqb-true, eq-eqb, ne_eqb, true≢false, leb, refl, sym, ap, ◌∙◌, inl, inr, arith}
+-- The registers in a set, the bits of its word, and a word for each register.
+use Rattle.std.proofs.Common.{ℕ, zero, suc, ◌*◌, ◌/◌, ◌%◌, ◌^◌, ◌≤◌, ◌<◌, ◌≡◌, ◌≢◌, Bool, true, false, not, ◌&&◌, ◌||◌, ◌==◌, List, [], ◌∷◌, filter, bit_and, bit_or, w32, eqb-true, eq-eqb, ne_eqb, true≢false, leb, cond, max, length, set, refl, sym, ap, ◌∙◌, inl, inr, arith}
 use Rattle.std.specs.Int.{bit_at, trailing_zeros}
 use Rattle.std.proofs.lemmas.Nat.{or_lt, pow_below, and_le_l}
 use Rattle.std.proofs.lemmas.Bool.{cases_eq, cases_lt, cases_Bool, false_from_ne_true, or_from, or_cases, or_left, or_right, and_from, and_left, and_right, le-leb, lt-leb}
 use Rattle.std.proofs.lemmas.Nat.Bits.{shr_and_one, bit_at-lt, bit_at_and, bit_at_above, bit_at_set_same, bit_at_set_other, bit_at-zero, bit_at-trailing_zeros}
+use Rattle.std.proofs.lemmas.List.{get_or-set_same, get_or-set_other}
 use Rattle.s66_isa.specs.declared.reg.Bank.{Bank}
 use Rattle.s66_isa.specs.declared.reg.Bank.TheVariants.{A, B, X}
 use Rattle.s66_isa.specs.declared.registers.Registers.{Registers}
 use Rattle.s66_isa.specs.Lists.{some_of}
 use Rattle.s66_isa.specs.Table.{Reg, bank_number, same_reg, has_reg}
-use Rattle.s66_isa.specs.Registers.{index_of, all_registers, is_there, registers_in}
+use Rattle.s66_isa.specs.Registers.{index_of, word_of, all_registers, is_there, registers_in}
 use Rattle.s66_isa.proofs.SameRegister.{same_reg-true, same_reg-self}
 
 -- THE REGISTERS BY THEIR INDICES
@@ -186,3 +187,25 @@ meets-is a b =
           ∙ sym (false_from_ne_true (some_of (λ r. has_reg r (registers_in b)) (registers_in a)) (λ some. some-meets a b some none))
       | inr some ↦ ap not (ne_eqb both 0 some) ∙ sym (meets-some a b some)
     ]
+
+-- A WORD FOR EACH REGISTER
+
+-- a register's word after one of them was raised
+pub raised-word : (words : List ℕ) (x r : Reg) (t : ℕ) → x.digit ≤ 7 → r.digit ≤ 7 → index_of x < length words →
+    word_of (set words (index_of x) (max (word_of words x) t)) r ≡ max (word_of words r) (cond (same_reg x r) t 0)
+raised-word words x r t few low within =
+    elim (cases_Bool (same_reg x r)) [
+      | inl same ↦
+          let e : x ≡ r = same_reg-true x r same in
+          rw (same, sym e) (get_or-set_same words (index_of x) (max (word_of words x) t) 0 within)
+      | inr other ↦
+          let apart : index_of x ≢ index_of r = λ e. true≢false (sym (index-apart x r few low e) ∙ other) in
+          rw other (omega (arith, get_or-set_other words (index_of x) (index_of r) (max (word_of words x) t) 0 (λ e. apart (sym e))))
+    ]
+
+-- a word that is raised to a time for one reason and then for another
+pub raised-twice : (x y : Bool) (w t : ℕ) → max (max w (cond x t 0)) (cond y t 0) ≡ max w (cond (x || y) t 0)
+raised-twice true true w t = omega arith
+raised-twice true false w t = omega arith
+raised-twice false true w t = omega arith
+raised-twice false false w t = omega arith

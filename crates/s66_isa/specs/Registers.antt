@@ -1,5 +1,5 @@
--- Used by contracts: a set of registers in one word: a register is there where the bit of its index is set.
-use Rattle.std.specs.Prelude.{ℕ, ◌+◌, ◌*◌, ◌/◌, ◌^◌, ◌==◌, Bool, List, ◌++◌, map}
+-- Used by contracts: registers by their indices, and a set of them in one word: a register is there where the bit of its index is set.
+use Rattle.std.specs.Prelude.{ℕ, ◌+◌, ◌*◌, ◌/◌, ◌^◌, ◌==◌, Bool, List, ◌++◌, map, get_or}
 use Rattle.std.specs.List.{filter}
 use Rattle.std.specs.Int.Bits.{bit_and}
 use Rattle.s66_isa.specs.Lists.{rising}
@@ -9,6 +9,10 @@ use Rattle.s66_isa.specs.declared.registers.Registers.{Registers}
 -- 0 to 23: A0 to A7, then B0 to B7, then X0 to X7
 abbrev pub index_of : Reg → ℕ
 index_of r = 8 * bank_number r.bank + r.digit
+
+-- of a word for each register, by its index, that of this one
+abbrev pub word_of : List ℕ → Reg → ℕ
+word_of words r = get_or words (index_of r) 0
 
 abbrev pub all_registers : List Reg
 all_registers = map a_reg (rising 8 0) ++ map b_reg (rising 8 0) ++ map x_reg (rising 8 0)

@@ -7,6 +7,7 @@ mod op;
 mod profile;
 mod reg;
 mod registers;
+mod row;
 mod write;
 
 pub use instr::{
@@ -17,4 +18,5 @@ pub use op::Op;
 pub use profile::{Profile, is_same_profile};
 pub use reg::{Bank, REGISTER_COUNT, Reg, has_register, is_same_register, is_zero_register};
 pub use registers::Registers;
+pub use row::Row;
 pub use write::{Write, longest_latency, writes_of};

@@ -1,7 +1,6 @@
 pub mod AccountLaws
 pub mod Issue
 pub mod Packed
-pub mod GoodRows
 pub mod LegalOrders
 pub mod Beginnings
 pub mod Growth

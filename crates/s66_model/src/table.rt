@@ -6,8 +6,8 @@ ghost use Rattle.s66_isa.specs.declared.instr.Kind.{Kind};
 ghost use Rattle.s66_isa.specs.declared.instr.Memory.{Memory};
 ghost use Rattle.s66_isa.specs.declared.profile.Profile.{Profile};
 ghost use Rattle.s66_isa.specs.Lists.{rising};
+ghost use Rattle.s66_isa.specs.Rows.{IsInRange};
 ghost use Rattle.s66_isa.specs.Table.{instr, row, register_latency, writes_of, hold_of, standard, copies_of, all_kinds, a_reg, b_reg, x_reg};
-ghost use Rattle.s66_model.specs.Timing.{IsInRange};
 ghost use Rattle.s66_model.specs.Examples.{uneven_profile, held_write, loaded_write, table_row};
 
 /// Of every instruction under every profile: 1 or 2 parcels, times of 1 to 100, and a unit that holds a result for its

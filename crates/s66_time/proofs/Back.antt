@@ -1,15 +1,13 @@
 -- What was saved of words comes back.
-use Rattle.std.proofs.Common.{max, cond, ◌≤◌, ◌≢◌, true≢false, ◌||◌, Bool, true, false, ℕ, ◌+◌, ◌≡◌, ◌<◌, List, [], ◌∷◌, ◌++◌, refl, sym, ap, ◌∙◌, set, get_or, length, take, replicate, arith, inl, inr}
-use Rattle.std.proofs.lemmas.List.{get_or-set_same, get_or-set_other, set-set, set-get_or, take_more, get_or-replicate, get_or_past, length-replicate}
+use Rattle.std.proofs.Common.{max, cond, ◌≤◌, ◌||◌, ℕ, ◌+◌, ◌≡◌, ◌<◌, List, [], ◌∷◌, ◌++◌, refl, sym, ap, ◌∙◌, set, get_or, length, take, replicate, arith, inl, inr}
+use Rattle.std.proofs.lemmas.List.{set-set, set-get_or, take_more, get_or-replicate, get_or_past, length-replicate}
 use Rattle.std.proofs.Math.Bool.{or-false}
-use Rattle.std.proofs.lemmas.Bool.{cases_Bool}
 use Rattle.s66_isa.specs.Table.{Reg, same_reg, has_reg}
-use Rattle.s66_isa.specs.Registers.{index_of}
-use Rattle.s66_isa.proofs.SameRegister.{same_reg-sym, same_reg-true, has_reg-append}
-use Rattle.s66_isa.proofs.RegisterBits.{index-apart}
+use Rattle.s66_isa.proofs.SameRegister.{same_reg-sym, has_reg-append}
+use Rattle.s66_isa.proofs.RegisterBits.{raised-twice}
 use Rattle.s66_isa.proofs.Lists.{cases_le}
 use Rattle.s66_time.specs.declared.step.Saved.{Saved}
-use Rattle.s66_time.specs.Places.{put_back, word_of}
+use Rattle.s66_time.specs.Places.{put_back}
 
 pub put_back-push : (ws : List Saved) (w : Saved) (words : List ℕ) → put_back (ws ++ w ∷ []) words ≡ put_back ws (set words w.place w.word)
 put_back-push [] w words = refl
@@ -40,28 +38,9 @@ has_more r rs i d lt =
     let x : Reg = get_or rs i d in
     ap (has_reg r) (take_more rs i d lt) ∙ has_reg-append r (take i rs) (x ∷ []) ∙ ap (λ t. has_reg r (take i rs) || t) (or-false (same_reg r x))
 
-either : (x y : Bool) (t w : ℕ) → max (max w (cond x t 0)) (cond y t 0) ≡ max w (cond (x || y) t 0)
-either true true t w = omega arith
-either true false t w = omega arith
-either false true t w = omega arith
-either false false t w = omega arith
-
 pub raised-more : (r : Reg) (rs : List Reg) (i : ℕ) (d : Reg) (t w now new : ℕ) → i < length rs → d ≡ get_or rs i d → now ≡ max w (cond (has_reg r (take i rs)) t 0) → new ≡ max now (cond (same_reg d r) t 0) →
     new ≡ max w (cond (has_reg r (take (i + 1) rs)) t 0)
 raised-more r rs i d t w now new lt is e1 e2 =
     e2 ∙ ap (λ k. max k (cond (same_reg d r) t 0)) e1 ∙ ap (λ k. max (max w (cond (has_reg r (take i rs)) t 0)) (cond k t 0)) (same_reg-sym d r)
-    ∙ either (has_reg r (take i rs)) (same_reg r d) t w ∙ ap (λ x. max w (cond (has_reg r (take i rs) || same_reg r x) t 0)) is
+    ∙ raised-twice (has_reg r (take i rs)) (same_reg r d) w t ∙ ap (λ x. max w (cond (has_reg r (take i rs) || same_reg r x) t 0)) is
     ∙ ap (λ k. max w (cond k t 0)) (sym (has_more r rs i d lt))
-
--- a register's word after one of them was raised
-pub raised-word : (words : List ℕ) (x r : Reg) (t : ℕ) → x.digit ≤ 7 → r.digit ≤ 7 → index_of x < length words →
-    word_of (set words (index_of x) (max (word_of words x) t)) r ≡ max (word_of words r) (cond (same_reg x r) t 0)
-raised-word words x r t few low within =
-    elim (cases_Bool (same_reg x r)) [
-      | inl same ↦
-          let e : x ≡ r = same_reg-true x r same in
-          rw (same, sym e) (get_or-set_same words (index_of x) (max (word_of words x) t) 0 within)
-      | inr other ↦
-          let apart : index_of x ≢ index_of r = λ e. true≢false (sym (index-apart x r few low e) ∙ other) in
-          rw other (omega (arith, get_or-set_other words (index_of x) (index_of r) (max (word_of words x) t) 0 (λ e. apart (sym e))))
-    ]

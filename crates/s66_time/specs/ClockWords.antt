@@ -9,7 +9,8 @@ use Rattle.s66_isa.specs.Lists.{greatest, tally, has}
 use Rattle.s66_model.specs.Timing.{Problem, Point, ResultAt, end_of, done_of, last_done, readers_wait, busy_at, next, next_parcel, total, point_of}
 use Rattle.s66_dep.specs.Members.{numbers_in}
 use Rattle.s66_time.specs.declared.limits.TheConstants.{TOTAL_LIMIT, UNIT_LIMIT}
-use Rattle.s66_time.specs.Places.{word_of, first_unit, units_of, put_back}
+use Rattle.s66_isa.specs.Registers.{word_of}
+use Rattle.s66_time.specs.Places.{first_unit, units_of, put_back}
 use Rattle.s66_time.specs.declared.copies.Copies.{Copies}
 use Rattle.s66_time.specs.declared.words.Words.{Words}
 use Rattle.s66_time.specs.declared.tick.Tick.{Tick}

@@ -1,14 +1,10 @@
 -- Used by contracts within the crate alone: where the words of a clock stand.
-use Rattle.std.specs.Prelude.{ℕ, ◌*◌, List, [], ◌∷◌, get_or, set, take, drop}
-use Rattle.s66_isa.specs.Table.{Reg, kind_number, copies_of}
+use Rattle.std.specs.Prelude.{ℕ, ◌*◌, List, [], ◌∷◌, set, take, drop}
+use Rattle.s66_isa.specs.Table.{kind_number, copies_of}
 use Rattle.s66_isa.specs.declared.instr.Kind.{Kind}
 use Rattle.s66_isa.specs.declared.profile.Profile.{Profile}
-use Rattle.s66_isa.specs.Registers.{index_of}
 use Rattle.s66_time.specs.declared.limits.TheConstants.{COPIES_LIMIT}
 use Rattle.s66_time.specs.declared.step.Saved.{Saved}
-
-abbrev pub word_of : List ℕ → Reg → ℕ
-word_of words r = get_or words (index_of r) 0
 
 -- what was saved is put back, the last first
 abbrev pub put_back : List Saved → List ℕ → List ℕ

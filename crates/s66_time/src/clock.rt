@@ -1,10 +1,13 @@
+ghost use Rattle.std.specs.Prelude.{◌≡◌, map};
+ghost use Rattle.s66_isa.specs.Table.{row};
+ghost use Rattle.s66_line.specs.Block.{instrs_of};
+
 use crate::copies::Copies;
-use crate::row::{Row, rows_of};
 use crate::steps::Steps;
 use crate::words::Words;
 use arrayvec::ArrayVec;
 use s66_dep::Set;
-use s66_isa::{BLOCK_LIMIT, Kind, Profile, Reg};
+use s66_isa::{BLOCK_LIMIT, Kind, Profile, Reg, Row};
 use s66_line::Block;
 use std::marker::Model;
 
@@ -35,6 +38,17 @@ impl<'a> Model for Clock<'a> {
     ghost view = { λ c. record { block = c.block.now; profile = c.profile; numbers = numbers_of c.steps; looks = c.looks } };
 
     ghost invariant = { λ c. IsTicking (record { block = instrs_of c.block.now; profile = c.profile }) c.words c.steps c.copies c.rows.items };
+}
+
+/// The rows of a block's instructions.
+fn rows_of(block: &Block<'_>, profile: &Profile) -> ArrayVec<Row, BLOCK_LIMIT>
+    ensures { result.items ≡ map (row profile.now) (instrs_of block.now) }
+{
+    let mut rows = ArrayVec::new();
+    for position in 0..block.count() {
+        rows.push(Row::of(&block.instr(position + 1), profile));
+    }
+    rows
 }
 
 impl<'a> Clock<'a> {

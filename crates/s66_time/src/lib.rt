@@ -8,7 +8,6 @@ mod packing;
 mod progress;
 mod registers;
 mod result;
-mod row;
 mod step;
 mod steps;
 mod tick;

@@ -6,10 +6,9 @@ ghost use Rattle.s66_isa.specs.declared.limits.TheConstants.{BLOCK_LIMIT};
 ghost use Rattle.s66_model.specs.Timing.{ResultAt as ResultOf};
 ghost use Rattle.s66_time.specs.declared.limits.TheConstants.{TOTAL_LIMIT};
 
-use crate::row::Row;
 use crate::tick::Tick;
 use s66_dep::Set;
-use s66_isa::Memory;
+use s66_isa::{Memory, Row};
 
 /// What a clock keeps in one word each.
 #[derive(Clone, Copy, Debug, Default, Drop)]

@@ -4,7 +4,8 @@ ghost use Rattle.s66_isa.specs.Table.{Reg as RegOf, Write as WriteOf, same_reg, 
 ghost use Rattle.s66_model.specs.Timing.{ResultAt as ResultOf};
 ghost use Rattle.s66_time.specs.declared.limits.TheConstants.{TOTAL_LIMIT};
 ghost use Rattle.s66_time.specs.ClockWords.{Tells};
-ghost use Rattle.s66_time.specs.Places.{word_of, put_back};
+ghost use Rattle.s66_isa.specs.Registers.{word_of};
+ghost use Rattle.s66_time.specs.Places.{put_back};
 
 use crate::result::ResultAt;
 use crate::step::Saved;

@@ -3,19 +3,19 @@ ghost use Rattle.s66_isa.specs.Table.{copies_of};
 ghost use Rattle.s66_isa.specs.declared.profile.Profile.{Profile as ProfileOf};
 ghost use Rattle.s66_isa.specs.declared.limits.TheConstants.{BLOCK_LIMIT};
 ghost use Rattle.s66_model.specs.Packing.{fits_at};
-ghost use Rattle.s66_model.specs.Timing.{IsInRange, Point, issue_of, start_of, point};
+ghost use Rattle.s66_isa.specs.Rows.{IsInRange};
+ghost use Rattle.s66_model.specs.Timing.{Point, issue_of, start_of, point};
 ghost use Rattle.s66_time.specs.declared.limits.TheConstants.{COPIES_LIMIT, TOTAL_LIMIT, UNIT_LIMIT};
 ghost use Rattle.s66_time.specs.ClockWords.{under, IsWords, InTurn, IsSoonest, Follows, wait_of, point_of_tick, after_undo, Takes};
 
 use crate::packing::fits_at;
 use crate::progress::Progress;
 use crate::registers::RegisterWords;
-use crate::row::Row;
 use crate::step::Step;
 use crate::tick::{Tick, free_after};
 use crate::units::UnitWords;
 use s66_dep::Set;
-use s66_isa::{Memory, Profile};
+use s66_isa::{Memory, Profile, Row};
 
 /// The words of a clock.
 #[derive(Debug, Drop)]

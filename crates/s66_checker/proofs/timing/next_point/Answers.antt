@@ -1,7 +1,8 @@
 use Rattle.std.proofs.Common.{arith, ap, sym, subst, ◌∙◌, ◌+◌, ◌≤◌, ◌≡◌, ℕ, List, [], map, reverse}
 use Rattle.s66_isa.specs.Lists.{greatest}
 use Rattle.s66_isa.specs.Table.{Row, Write}
-use Rattle.s66_model.specs.Timing.{IsInRange, Point, ResultAt, end_of, start_of, parcel_of, result_at, free_after}
+use Rattle.s66_isa.specs.Rows.{IsInRange}
+use Rattle.s66_model.specs.Timing.{Point, ResultAt, end_of, start_of, parcel_of, result_at, free_after}
 use Rattle.s66_model.proofs.Growth.{start-le, results-le}
 use Rattle.s66_checker.specs.KeptPrefix.{TOTAL_LIMIT, under_standard, AreTimed}
 use Rattle.s66_checker.proofs.Reversed.{greatest-reverse}

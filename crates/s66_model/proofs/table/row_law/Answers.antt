@@ -1,5 +1,5 @@
 use Rattle.s66_isa.proofs.Writes.{row-writes}
-use Rattle.s66_model.proofs.GoodRows.{row-good}
+use Rattle.s66_isa.proofs.GoodRows.{row-good}
 use Rattle.s66_model.proofs.table.row_law.Goals as goal
 
 pub returns-clause-good : goal.returns-clause-good

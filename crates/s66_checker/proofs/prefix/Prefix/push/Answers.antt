@@ -25,7 +25,7 @@ push-requires-2 c =
 pub invariant_of-self : goal.invariant_of-self
 invariant_of-self c =
     let n = c.args.n in
-    let row = c.copy_of-row.ensures ∙ c.row.ensures ∙ ap (λ (q : Checked). row_at q.problem n) (sym c.self.view_is) in
-    prefix-push _ _ _ _ _ c.self.inside.past n _ c.copy_of-row.result c.next_point-point.result _ _ c.self.invariant c.with-self-inside.ensures
+    let row = c.duplicate-row.ensures ∙ c.row.ensures ∙ ap (λ (q : Checked). row_at q.problem n) (sym c.self.view_is) in
+    prefix-push _ _ _ _ _ c.self.inside.past n _ c.duplicate-row.result c.next_point-point.result _ _ c.self.invariant c.with-self-inside.ensures
     (subst (λ (q : Checked). is_ready q.problem.block q.numbers n ≡ true) (sym c.self.view_is) c.requires)
     row c.next_point-point.ensures c.push-2.ensures.items c.push.ensures

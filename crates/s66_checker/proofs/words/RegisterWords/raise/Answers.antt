@@ -1,7 +1,6 @@
 use Rattle.std.proofs.Common.{ap, ◌∙◌, ◌≡◌, max, set, get_or, length, ◌<◌, subst, rules}
-use Rattle.s66_isa.specs.Registers.{index_of}
-use Rattle.s66_checker.specs.PastWords.{word_of}
-use Rattle.s66_checker.proofs.WordsOfPoints.{raised-word}
+use Rattle.s66_isa.specs.Registers.{index_of, word_of}
+use Rattle.s66_isa.proofs.RegisterBits.{raised-word}
 use Rattle.s66_checker.proofs.words.RegisterWords.raise.Goals as goal
 
 pub returns : goal.returns

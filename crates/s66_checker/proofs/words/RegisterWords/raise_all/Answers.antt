@@ -1,4 +1,4 @@
-use Rattle.s66_checker.specs.PastWords.{word_of}
+use Rattle.s66_isa.specs.Registers.{word_of}
 use Rattle.s66_checker.proofs.WordsOfPoints.{raised-next}
 use Rattle.s66_checker.proofs.words.RegisterWords.raise_all.Goals as goal
 

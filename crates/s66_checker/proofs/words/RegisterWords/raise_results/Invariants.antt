@@ -2,7 +2,7 @@ use Rattle.std.proofs.Common.{◌≡◌, ◌≤◌, if◌then◌else◌, max, dr
 use Rattle.s66_isa.specs.Lists.{greatest}
 use Rattle.s66_isa.specs.Table.{Reg, same_reg}
 use Rattle.s66_model.specs.Timing.{ResultAt}
-use Rattle.s66_checker.specs.PastWords.{word_of}
+use Rattle.s66_isa.specs.Registers.{word_of}
 use Rattle.s66_checker.proofs.words.RegisterWords.raise_results.Given as goal
 
 abbrev pub invariant-loop-done : goal.invariant-loop-done

@@ -3,7 +3,8 @@ use Rattle.s66_isa.specs.declared.reg.Reg.{Reg}
 use Rattle.s66_isa.specs.Lists.{greatest}
 use Rattle.s66_isa.specs.Table.{same_reg, has_reg, kind_number}
 use Rattle.s66_model.specs.Timing.{ResultAt}
-use Rattle.s66_checker.specs.PastWords.{word_of, idle, AreFree}
+use Rattle.s66_isa.specs.Registers.{word_of}
+use Rattle.s66_checker.specs.PastWords.{idle, AreFree}
 use Rattle.s66_checker.proofs.WordsOfPoints.{words-push}
 use Rattle.s66_checker.proofs.words.Words.push.Goals as goal
 

@@ -1,6 +1,7 @@
 use Rattle.std.proofs.Common.{◌≡◌, ◌≤◌, max, take, length, if◌then◌else◌}
 use Rattle.s66_isa.specs.Table.{Reg, has_reg}
-use Rattle.s66_time.specs.Places.{word_of, put_back}
+use Rattle.s66_isa.specs.Registers.{word_of}
+use Rattle.s66_time.specs.Places.{put_back}
 use Rattle.s66_time.proofs.registers.RegisterWords.raise_all.Given as goal
 
 abbrev pub invariant-loop-register : goal.invariant-loop-register

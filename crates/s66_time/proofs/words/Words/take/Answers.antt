@@ -2,7 +2,7 @@ use Rattle.std.proofs.Common.{ap, ◌∙◌, ◌+◌, max, cond, ℕ, List, refl
 use Rattle.s66_isa.specs.Table.{Reg, same_reg, has_reg, Row}
 use Rattle.s66_isa.specs.Lists.{greatest}
 use Rattle.s66_model.specs.Timing.{ResultAt}
-use Rattle.s66_time.specs.Places.{word_of}
+use Rattle.s66_isa.specs.Registers.{word_of}
 use Rattle.s66_time.proofs.ClockPoints.{words-back}
 use Rattle.s66_time.proofs.words.Words.take.Goals as goal
 

@@ -1,6 +1,6 @@
 use Rattle.std.proofs.Common.{◌≡◌, map, take, length}
 use Rattle.s66_isa.specs.Table.{row, standard}
-use Rattle.s66_checker.proofs.row.rows_of.Given as goal
+use Rattle.s66_checker.proofs.prefix.rows_of.Given as goal
 
 abbrev pub invariant-loop-instr : goal.invariant-loop-instr
 invariant-loop-instr l = record {

@@ -1,7 +1,7 @@
 use Rattle.std.proofs.Common.{◌≡◌, map, take, length}
 use Rattle.s66_isa.specs.Table.{row}
 use Rattle.s66_line.specs.Block.{instrs_of}
-use Rattle.s66_time.proofs.row.rows_of.Given as goal
+use Rattle.s66_time.proofs.clock.rows_of.Given as goal
 
 abbrev pub invariant-loop-position : goal.invariant-loop-position
 invariant-loop-position l = record {
