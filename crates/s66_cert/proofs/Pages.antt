@@ -3,7 +3,11 @@ use Rattle.std.proofs.Common.{◌≡◌, ℕ, ◌+◌, min, List, [], ◌++◌, 
 use Rattle.std.proofs.Math.Seq.{take-append-add}
 use Rattle.std.proofs.lemmas.List.{append-nil, take-append-le, take_min}
 use Rattle.std.specs.Io.KnownBytes.{Appends}
-use Rattle.s66_cert.specs.Pages.{IsPrinted, IsBegun}
+use Rattle.s66_cert.specs.Pages.{IsPrinted}
+
+-- a beginning of the text was written
+abbrev pub IsBegun : Option (List ℕ) → Option (List ℕ) → List ℕ → Type 0
+IsBegun old new text = (k : ℕ) × Appends old new (take k text)
 
 appends-nothing : (old : Option (List ℕ)) → Appends old old []
 appends-nothing None = tt
