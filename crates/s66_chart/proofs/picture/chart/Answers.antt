@@ -7,7 +7,7 @@ pub returns-in_err-write_instruction : goal.returns-in_err-write_instruction
 returns-in_err-write_instruction g c =
     let begun = instruction-begun _ _ _ c.args.timed.now c.loop-position.position (omega (arith, c.count-position-end.ensures)) c.loop-position.invariant.written c.in_err-write_instruction.ensures.0 in
     let same = c.loop-position.invariant.same in
-    MatchResult-from_err _ _ _ (search rules) (λ _. (begun, c.in_err-write_instruction.ensures.1 ∙ ap (λ n. n + 1) same))
+    MatchResult-from_err c.from_residual.result _ _ (search rules) (λ _. (begun, c.in_err-write_instruction.ensures.1 ∙ ap (λ n. n + 1) same))
 
 pub returns-in_err-write_filler : goal.returns-in_err-write_filler
 returns-in_err-write_filler g c =
@@ -15,7 +15,7 @@ returns-in_err-write_filler g c =
     let written = instruction-written _ _ _ t c.loop-position.position (omega (arith, c.count-position-end.ensures)) c.loop-position.invariant.written c.in_ok-write_instruction.ensures.0 in
     let begun = filler-begun _ _ _ t c.loop-position.position written c.in_err-write_filler.ensures.0 in
     let same = c.in_ok-write_instruction.ensures.1 ∙ c.loop-position.invariant.same in
-    MatchResult-from_err _ _ _ (search rules) (λ _. (begun, c.in_err-write_filler.ensures.1 ∙ ap (λ n. n + 1) same))
+    MatchResult-from_err c.from_residual-in_err-write_filler.result _ _ (search rules) (λ _. (begun, c.in_err-write_filler.ensures.1 ∙ ap (λ n. n + 1) same))
 
 pub loop-position-preserved : goal.loop-position-preserved
 loop-position-preserved g c =
