@@ -1,10 +1,10 @@
-ghost use Rattle.std.specs.Prelude.{◌≡◌, ◌+◌, ◌-◌, ◌^◌, ◌<◌, ◌≤◌, ◌++◌, length, decimal, OnOk, OnErr};
+ghost use Rattle.std.specs.Prelude.{◌≡◌, ◌+◌, ◌-◌, ◌^◌, ◌<◌, ◌≤◌, ◌++◌, length, decimal, OnOk};
 ghost use Rattle.s66_isa.specs.Lists.{after_blanks};
 ghost use Rattle.s66_isa.specs.declared.limits.TheConstants.{BLOCK_LIMIT};
 ghost use Rattle.s66_line.specs.declared.limits.TheConstants.{TEXT_LIMIT};
 ghost use Rattle.s66_model.specs.Tree.{AtTip, Knot};
 ghost use Rattle.s66_cert.specs.Document.{kind_name, instruction_lines, tree_lines};
-ghost use Rattle.s66_cert.specs.Pages.{IsPrinted, IsBegun};
+ghost use Rattle.s66_cert.specs.Pages.{Printed};
 ghost use Rattle.s66_cert.specs.DocumentParts.{knot_of, IsShort};
 
 use crate::tree::TreeLine;

@@ -1,9 +1,9 @@
-ghost use Rattle.std.specs.Prelude.{◌≡◌, ◌+◌, ◌-◌, ◌^◌, ◌<◌, ◌≤◌, ◌++◌, ℕ, List, [], codes, take, length, map, OnOk, OnErr};
-ghost use Rattle.std.specs.Io.KnownBytes.{Appends};
+ghost use Rattle.std.specs.Prelude.{◌≡◌, ◌-◌, ◌^◌, ◌<◌, ◌++◌, ℕ, [], codes, map};
 ghost use Rattle.std.specs.declared.vec.Vec.{Vec};
 ghost use Rattle.std.specs.declared.alloc.Global.{Global};
+ghost use Rattle.s66_line.specs.Devices.{Written};
 ghost use Rattle.s66_cert.specs.Document.{AreInstructions, document_text, instruction_lines, tree_lines};
-ghost use Rattle.s66_cert.specs.Pages.{IsPrinted, IsBegun, AreShort, opening, claim_lines};
+ghost use Rattle.s66_cert.specs.Pages.{Printed, AreShort, opening, claim_lines};
 ghost use Rattle.s66_cert.specs.DocumentParts.{document_of};
 
 use crate::document::Document;
