@@ -1,9 +1,14 @@
 -- What is printed part by part, and what of it was written.
-use Rattle.std.proofs.Common.{◌≡◌, ℕ, ◌+◌, min, List, [], ◌++◌, Option, None, Some, length, take, refl, sym, ap, subst, ◌∙◌, arith, append_assoc}
+use Rattle.std.proofs.Common.{◌≡◌, ℕ, ◌+◌, min, List, [], ◌++◌, Option, None, Some, Result, Ok, Err, OnOk, length, take, refl, sym, ap, subst, ◌∙◌, arith, append_assoc}
 use Rattle.std.proofs.Math.Seq.{take-append-add}
 use Rattle.std.proofs.lemmas.List.{append-nil, take-append-le, take_min}
 use Rattle.std.specs.Io.KnownBytes.{Appends}
-use Rattle.s66_cert.specs.Pages.{IsPrinted, IsBegun}
+use Rattle.s66_line.specs.Devices.{Writer, Written}
+use Rattle.s66_cert.specs.Pages.{IsPrinted, Printed}
+
+-- a beginning of the text was written
+abbrev pub IsBegun : Option (List ℕ) → Option (List ℕ) → List ℕ → Type 0
+IsBegun old new text = (k : ℕ) × Appends old new (take k text)
 
 appends-nothing : (old : Option (List ℕ)) → Appends old old []
 appends-nothing None = tt
@@ -45,6 +50,22 @@ pub begun-within : (old new : Option (List ℕ)) (text more : List ℕ) → IsBe
 begun-within old new text more (k, begun) =
     let within : take k text ≡ take (min k (length text)) (text ++ more) = sym (take_min k text) ∙ sym (take-append-le (min k (length text)) text more (omega arith)) in
     (min k (length text), subst (Appends old new) within begun)
+
+-- what stood on the page was begun, so that and more text was
+pub begun-before : (old new : Option (List ℕ)) (before text : List ℕ) → IsBegun old new (before ++ []) → IsBegun old new (before ++ text)
+begun-before old new before text begun = begun-within old new before text (subst (IsBegun old new) (append-nil before) begun)
+
+-- a text was put on the page, and all that stood there was written
+pub written-whole : {A E : Type 0} (result : Result A E) (old mid new : Writer) (before between page after text : List ℕ) → IsPrinted old.bytes mid.bytes before between [] → mid.failures ≡ old.failures →
+    page ≡ between ++ text → Printed mid new page after [] result → OnOk result (after ≡ []) → Written old new (before ++ text) result
+written-whole (Ok x) old mid new before between page after text first same is (printed, none) empty =
+    let all : IsPrinted old.bytes new.bytes before after (text ++ []) =
+    printed-more old.bytes mid.bytes new.bytes before page after text [] (printed-behind old.bytes mid.bytes before between page text first is) printed in
+    let whole : before ++ text ≡ all.written = ap (λ t. before ++ t) (sym (append-nil text)) ∙ all.left ∙ ap (λ t. all.written ++ t) empty ∙ append-nil all.written in
+    (subst (Appends old.bytes new.bytes) (sym whole) all.appended, none ∙ same)
+written-whole (Err e) old mid new before between page after text first same is (begun, more) empty =
+    let all : IsBegun mid.bytes new.bytes (between ++ text) = subst (IsBegun mid.bytes new.bytes) (append-nil page ∙ is) begun in
+    (begun-more old.bytes mid.bytes new.bytes before between [] text first all, more ∙ ap (λ n. n + 1) same)
 
 -- PART BY PART: of a text some was printed, and the rest is to come
 

@@ -1,7 +1,8 @@
 -- Used by contracts: text that is printed on a page, of which now and then what stands on it is written.
-use Rattle.std.specs.Prelude.{◌≡◌, ℕ, List, [], ◌∷◌, ◌++◌, Option, codes, decimal, length, take}
+use Rattle.std.specs.Prelude.{◌≡◌, ℕ, List, [], ◌∷◌, ◌++◌, Option, codes, decimal, length, Result, MatchResult}
 use Rattle.std.specs.Io.KnownBytes.{Appends}
 use Rattle.s66_isa.specs.Lists.{after_blanks}
+use Rattle.s66_line.specs.Devices.{Writer, WriteFails}
 use Rattle.s66_model.specs.Leaves.{Leaf}
 use Rattle.s66_model.specs.Tree.{Knot}
 use Rattle.s66_cert.specs.DocumentParts.{Parts, IsShort}
@@ -12,9 +13,12 @@ pub record IsPrinted (old new : Option (List ℕ)) (before after text : List ℕ
   pub appended : Appends old new written
   pub left : before ++ text ≡ written ++ after
 
--- a beginning of the text was written
-abbrev pub IsBegun : Option (List ℕ) → Option (List ℕ) → List ℕ → Type 0
-IsBegun old new text = (k : ℕ) × Appends old new (take k text)
+-- text was printed, on a page on which before stood and after stands; or a beginning of both was written, and that failed
+abbrev pub Printed : {A E : Type 0} → Writer → Writer → (before after text : List ℕ) → Result A E → Type 0
+Printed old new before after text result =
+    MatchResult result
+    (λ _. IsPrinted old.bytes new.bytes before after text × (new.failures ≡ old.failures))
+    (λ _. WriteFails old new (before ++ text))
 
 -- what a document has before its instructions
 abbrev pub opening : Parts → List ℕ

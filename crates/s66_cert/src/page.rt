@@ -1,10 +1,10 @@
-ghost use Rattle.std.specs.Prelude.{◌≡◌, ◌+◌, ◌-◌, ◌^◌, ◌<◌, ◌≤◌, ◌++◌, length, decimal, OnOk, OnErr};
+ghost use Rattle.std.specs.Prelude.{◌≡◌, ◌+◌, ◌-◌, ◌^◌, ◌<◌, ◌≤◌, ◌++◌, length, decimal, OnOk};
 ghost use Rattle.s66_isa.specs.Lists.{after_blanks};
 ghost use Rattle.s66_isa.specs.declared.limits.TheConstants.{BLOCK_LIMIT};
 ghost use Rattle.s66_line.specs.declared.limits.TheConstants.{TEXT_LIMIT};
 ghost use Rattle.s66_model.specs.Tree.{AtTip, Knot};
 ghost use Rattle.s66_cert.specs.Document.{kind_name, instruction_lines, tree_lines};
-ghost use Rattle.s66_cert.specs.Pages.{IsPrinted, IsBegun};
+ghost use Rattle.s66_cert.specs.Pages.{Printed};
 ghost use Rattle.s66_cert.specs.DocumentParts.{knot_of, IsShort};
 
 use crate::tree::TreeLine;
@@ -144,12 +144,9 @@ impl Page {
 
     /// Writes what was printed, and is empty then.
     pub(crate) fn write<S: Sink>(&mut self, writer: &mut S) -> Result<(), WriteError>
-        requires { S.failures writer.old < 2 ^ 64 - 1 }
-        ensures ok { OnOk result (IsPrinted (S.bytes writer.old) (S.bytes writer.new) self.old self.new []) }
+        requires { (S.seen writer.old).failures < 2 ^ 64 - 1 }
+        ensures printed { Printed (S.seen writer.old) (S.seen writer.new) self.old self.new [] result }
         ensures empty { OnOk result (self.new ≡ []) }
-        ensures same { OnOk result (S.failures writer.new ≡ S.failures writer.old) }
-        ensures err { OnErr result (S.failures writer.new ≡ S.failures writer.old + 1) }
-        ensures beginning { OnErr result (IsBegun (S.bytes writer.old) (S.bytes writer.new) self.old) }
     {
         write_all(writer, self.bytes.as_slice())?;
         self.bytes.clear();
@@ -158,12 +155,9 @@ impl Page {
 
     /// Writes what was printed where there is no room for a line.
     pub(crate) fn make_room<S: Sink>(&mut self, writer: &mut S) -> Result<(), WriteError>
-        requires { S.failures writer.old < 2 ^ 64 - 1 }
-        ensures ok { OnOk result (IsPrinted (S.bytes writer.old) (S.bytes writer.new) self.old self.new []) }
+        requires { (S.seen writer.old).failures < 2 ^ 64 - 1 }
+        ensures printed { Printed (S.seen writer.old) (S.seen writer.new) self.old self.new [] result }
         ensures room { OnOk result (length self.new + LINE_ROOM ≤ PAGE_SIZE) }
-        ensures same { OnOk result (S.failures writer.new ≡ S.failures writer.old) }
-        ensures err { OnErr result (S.failures writer.new ≡ S.failures writer.old + 1) }
-        ensures beginning { OnErr result (IsBegun (S.bytes writer.old) (S.bytes writer.new) self.old) }
     {
         if self.bytes.len() + LINE_ROOM <= PAGE_SIZE {
             return Ok(());

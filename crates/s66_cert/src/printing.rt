@@ -1,9 +1,9 @@
-ghost use Rattle.std.specs.Prelude.{◌≡◌, ◌+◌, ◌-◌, ◌^◌, ◌<◌, ◌≤◌, ◌++◌, ℕ, List, [], codes, take, length, map, OnOk, OnErr};
-ghost use Rattle.std.specs.Io.KnownBytes.{Appends};
+ghost use Rattle.std.specs.Prelude.{◌≡◌, ◌-◌, ◌^◌, ◌<◌, ◌++◌, ℕ, [], codes, map};
 ghost use Rattle.std.specs.declared.vec.Vec.{Vec};
 ghost use Rattle.std.specs.declared.alloc.Global.{Global};
+ghost use Rattle.s66_line.specs.Devices.{Written};
 ghost use Rattle.s66_cert.specs.Document.{AreInstructions, document_text, instruction_lines, tree_lines};
-ghost use Rattle.s66_cert.specs.Pages.{IsPrinted, IsBegun, AreShort, opening, claim_lines};
+ghost use Rattle.s66_cert.specs.Pages.{Printed, AreShort, opening, claim_lines};
 ghost use Rattle.s66_cert.specs.DocumentParts.{document_of};
 
 use crate::document::Document;
@@ -29,12 +29,9 @@ fn print_block<S: Sink>(
     page: &mut Page,
     writer: &mut S,
 ) -> Result<(), WriteError>
-    requires failures { S.failures writer.old < 2 ^ 64 - 1 }
+    requires failures { (S.seen writer.old).failures < 2 ^ 64 - 1 }
     requires instructions { AreInstructions (map (λ (text : Vec ℕ Global). text.items) block.now) }
-    ensures ok { OnOk result (IsPrinted (S.bytes writer.old) (S.bytes writer.new) page.old page.new (instruction_lines (map (λ (text : Vec ℕ Global). text.items) block.now))) }
-    ensures same { OnOk result (S.failures writer.new ≡ S.failures writer.old) }
-    ensures err { OnErr result (S.failures writer.new ≡ S.failures writer.old + 1) }
-    ensures beginning { OnErr result (IsBegun (S.bytes writer.old) (S.bytes writer.new) (page.old ++ instruction_lines (map (λ (text : Vec ℕ Global). text.items) block.now))) }
+    ensures { Printed (S.seen writer.old) (S.seen writer.new) page.old page.new (instruction_lines (map (λ (text : Vec ℕ Global). text.items) block.now)) result }
 {
     for text in block {
         page.make_room(writer)?;
@@ -49,11 +46,8 @@ fn print_claim<S: Sink>(
     page: &mut Page,
     writer: &mut S,
 ) -> Result<(), WriteError>
-    requires { S.failures writer.old < 2 ^ 64 - 1 }
-    ensures ok { OnOk result (IsPrinted (S.bytes writer.old) (S.bytes writer.new) page.old page.new (claim_lines document.now)) }
-    ensures same { OnOk result (S.failures writer.new ≡ S.failures writer.old) }
-    ensures err { OnErr result (S.failures writer.new ≡ S.failures writer.old + 1) }
-    ensures beginning { OnErr result (IsBegun (S.bytes writer.old) (S.bytes writer.new) (page.old ++ claim_lines document.now)) }
+    requires { (S.seen writer.old).failures < 2 ^ 64 - 1 }
+    ensures { Printed (S.seen writer.old) (S.seen writer.new) page.old page.new (claim_lines document.now) result }
 {
     page.make_room(writer)?;
     page.text(b"TIME ");
@@ -72,12 +66,9 @@ fn print_tree<S: Sink>(
     page: &mut Page,
     writer: &mut S,
 ) -> Result<(), WriteError>
-    requires failures { S.failures writer.old < 2 ^ 64 - 1 }
+    requires failures { (S.seen writer.old).failures < 2 ^ 64 - 1 }
     requires short { AreShort lines }
-    ensures ok { OnOk result (IsPrinted (S.bytes writer.old) (S.bytes writer.new) page.old page.new (tree_lines lines.entry)) }
-    ensures same { OnOk result (S.failures writer.new ≡ S.failures writer.old) }
-    ensures err { OnErr result (S.failures writer.new ≡ S.failures writer.old + 1) }
-    ensures beginning { OnErr result (IsBegun (S.bytes writer.old) (S.bytes writer.new) (page.old ++ tree_lines lines.entry)) }
+    ensures { Printed (S.seen writer.old) (S.seen writer.new) page.old page.new (tree_lines lines.entry) result }
 {
     while let Some(line) = lines.next() {
         page.make_room(writer)?;
@@ -88,11 +79,8 @@ fn print_tree<S: Sink>(
 
 /// Prints the last line, and writes what is still to be written.
 fn print_end<S: Sink>(page: &mut Page, writer: &mut S) -> Result<(), WriteError>
-    requires { S.failures writer.old < 2 ^ 64 - 1 }
-    ensures ok { OnOk result (Appends (S.bytes writer.old) (S.bytes writer.new) (page.old ++ codes "END\n")) }
-    ensures same { OnOk result (S.failures writer.new ≡ S.failures writer.old) }
-    ensures err { OnErr result (S.failures writer.new ≡ S.failures writer.old + 1) }
-    ensures beginning { OnErr result (IsBegun (S.bytes writer.old) (S.bytes writer.new) (page.old ++ codes "END\n")) }
+    requires { (S.seen writer.old).failures < 2 ^ 64 - 1 }
+    ensures { Written (S.seen writer.old) (S.seen writer.new) (page.old ++ codes "END\n") result }
 {
     page.make_room(writer)?;
     page.text(b"END\n");
@@ -102,11 +90,8 @@ fn print_end<S: Sink>(page: &mut Page, writer: &mut S) -> Result<(), WriteError>
 /// Writes a document, in time linear in its text, some thousand bytes a call of the sink; nothing is allocated. Where the sink fails, a
 /// beginning of the text was written.
 pub fn print<S: Sink>(document: &Document, writer: &mut S) -> Result<(), WriteError>
-    requires { S.failures writer.old < 2 ^ 64 - 1 }
-    ensures ok { OnOk result (Appends (S.bytes writer.old) (S.bytes writer.new) (document_text (document_of document.now))) }
-    ensures same { OnOk result (S.failures writer.new ≡ S.failures writer.old) }
-    ensures err { OnErr result (S.failures writer.new ≡ S.failures writer.old + 1) }
-    ensures beginning { OnErr result ((k : ℕ) × Appends (S.bytes writer.old) (S.bytes writer.new) (take k (document_text (document_of document.now)))) }
+    requires { (S.seen writer.old).failures < 2 ^ 64 - 1 }
+    ensures { Written (S.seen writer.old) (S.seen writer.new) (document_text (document_of document.now)) result }
 {
     let mut page = Page::new();
     print_opening(document, &mut page);

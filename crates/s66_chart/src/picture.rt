@@ -1,5 +1,5 @@
-ghost use Rattle.std.specs.Prelude.{◌≡◌, ◌+◌, ◌-◌, ◌^◌, ◌<◌, ◌≤◌, ℕ, length, take, OnOk, OnErr};
-ghost use Rattle.std.specs.Io.KnownBytes.{Appends};
+ghost use Rattle.std.specs.Prelude.{◌≡◌, ◌+◌, ◌-◌, ◌^◌, ◌<◌, ◌≤◌, length};
+ghost use Rattle.s66_line.specs.Devices.{Written};
 ghost use Rattle.s66_time.specs.declared.limits.TheConstants.{TOTAL_LIMIT};
 ghost use Rattle.s66_chart.specs.declared.row.TheConstants.{NAME_ROOM};
 ghost use Rattle.s66_chart.specs.Runs.{IsInOrder};
@@ -19,14 +19,11 @@ fn write_row<S: Sink>(
     page: &mut [u8; ROW_LIMIT],
     writer: &mut S,
 ) -> Result<(), WriteError>
-    requires failures { S.failures writer.old < 2 ^ 64 - 1 }
+    requires failures { (S.seen writer.old).failures < 2 ^ 64 - 1 }
     requires name { length name.now ≤ NAME_ROOM }
     requires in_order { IsInOrder activity.now }
     requires cycles { cycles ≤ TOTAL_LIMIT }
-    ensures ok { OnOk result (Appends (S.bytes writer.old) (S.bytes writer.new) (row_text name.now activity.now cycles)) }
-    ensures same { OnOk result (S.failures writer.new ≡ S.failures writer.old) }
-    ensures err { OnErr result (S.failures writer.new ≡ S.failures writer.old + 1) }
-    ensures beginning { OnErr result ((k : ℕ) × Appends (S.bytes writer.old) (S.bytes writer.new) (take k (row_text name.now activity.now cycles))) }
+    ensures { Written (S.seen writer.old) (S.seen writer.new) (row_text name.now activity.now cycles) result }
 {
     draw_row(page, name, activity, cycles);
     write_all(writer, &page[..cycles + ROW_FRAME])
@@ -39,12 +36,9 @@ fn write_instruction<S: Sink>(
     page: &mut [u8; ROW_LIMIT],
     writer: &mut S,
 ) -> Result<(), WriteError>
-    requires failures { S.failures writer.old < 2 ^ 64 - 1 }
+    requires failures { (S.seen writer.old).failures < 2 ^ 64 - 1 }
     requires position { position < length timed.now.numbers }
-    ensures ok { OnOk result (Appends (S.bytes writer.old) (S.bytes writer.new) (instruction_row timed.now position)) }
-    ensures same { OnOk result (S.failures writer.new ≡ S.failures writer.old) }
-    ensures err { OnErr result (S.failures writer.new ≡ S.failures writer.old + 1) }
-    ensures beginning { OnErr result ((k : ℕ) × Appends (S.bytes writer.old) (S.bytes writer.new) (take k (instruction_row timed.now position))) }
+    ensures { Written (S.seen writer.old) (S.seen writer.new) (instruction_row timed.now position) result }
 {
     let activity = Activity::of_instruction(timed, position);
     let mut buffer = Buffer::new();
@@ -84,12 +78,9 @@ fn write_filler<S: Sink>(
     page: &mut [u8; ROW_LIMIT],
     writer: &mut S,
 ) -> Result<(), WriteError>
-    requires failures { S.failures writer.old < 2 ^ 64 - 1 }
+    requires failures { (S.seen writer.old).failures < 2 ^ 64 - 1 }
     requires position { position < length timed.now.numbers }
-    ensures ok { OnOk result (Appends (S.bytes writer.old) (S.bytes writer.new) (filler_row timed.now position)) }
-    ensures same { OnOk result (S.failures writer.new ≡ S.failures writer.old) }
-    ensures err { OnErr result (S.failures writer.new ≡ S.failures writer.old + 1) }
-    ensures beginning { OnErr result ((k : ℕ) × Appends (S.bytes writer.old) (S.bytes writer.new) (take k (filler_row timed.now position))) }
+    ensures { Written (S.seen writer.old) (S.seen writer.new) (filler_row timed.now position) result }
 {
     if !has_filler(timed, position) {
         return Ok(());
@@ -106,11 +97,8 @@ fn write_filler<S: Sink>(
 /// has at most 6,661 bytes and is written by as few calls as the sink allows, in time linear in its length; nothing is allocated.
 /// Where the sink fails, a beginning of the text was written.
 pub fn chart<S: Sink>(timed: &Timed, writer: &mut S) -> Result<(), WriteError>
-    requires { S.failures writer.old < 2 ^ 64 - 1 }
-    ensures ok { OnOk result (Appends (S.bytes writer.old) (S.bytes writer.new) (chart_text timed.now)) }
-    ensures same { OnOk result (S.failures writer.new ≡ S.failures writer.old) }
-    ensures err { OnErr result (S.failures writer.new ≡ S.failures writer.old + 1) }
-    ensures beginning { OnErr result ((k : ℕ) × Appends (S.bytes writer.old) (S.bytes writer.new) (take k (chart_text timed.now))) }
+    requires { (S.seen writer.old).failures < 2 ^ 64 - 1 }
+    ensures { Written (S.seen writer.old) (S.seen writer.new) (chart_text timed.now) result }
 {
     let mut page = [0; ROW_LIMIT];
     for position in 0..count(timed) {

@@ -1,3 +1,4 @@
+pub mod Devices
 pub mod Fields
 pub mod Operand
 pub mod Choices

@@ -7,7 +7,7 @@ use Rattle.s66_cert.proofs.printing.print_block.Given as goal
 
 abbrev pub invariant-loop-text : goal.invariant-loop-text
 invariant-loop-text g l = record {
-  way : IsUnderway (g.S.Sink.bytes l.fn.writer) (g.S.Sink.bytes l.writer) l.fn.page l.page (instruction_lines (map (λ (text : Vec ℕ Global). text.items) l.block)) (instruction_lines (map (λ (text : Vec ℕ Global). text.items) (drop l.text-index l.block)));
+  way : IsUnderway (g.S.Sink.seen l.fn.writer).bytes (g.S.Sink.seen l.writer).bytes l.fn.page l.page (instruction_lines (map (λ (text : Vec ℕ Global). text.items) l.block)) (instruction_lines (map (λ (text : Vec ℕ Global). text.items) (drop l.text-index l.block)));
   rest : AreInstructions (map (λ (text : Vec ℕ Global). text.items) (drop l.text-index l.block));
-  same : g.S.Sink.failures l.writer ≡ g.S.Sink.failures l.fn.writer;
+  same : (g.S.Sink.seen l.writer).failures ≡ (g.S.Sink.seen l.fn.writer).failures;
 }

@@ -1,27 +1,31 @@
-use Rattle.std.proofs.Common.{rules, arith, ◌∙◌}
+use Rattle.std.proofs.Common.{rules, arith, ap, ◌+◌, ◌∙◌}
+use Rattle.std.proofs.lemmas.Result.{MatchResult-from_err}
 use Rattle.s66_chart.proofs.WrittenRows.{instruction-written, instruction-begun, filler-written, filler-begun, all-written}
 use Rattle.s66_chart.proofs.picture.chart.Goals as goal
 
-pub returns-in_err-write_instruction-clause-beginning : goal.returns-in_err-write_instruction-clause-beginning
-returns-in_err-write_instruction-clause-beginning g c =
-    let begun = instruction-begun _ _ _ c.args.timed.now c.loop-position.position (omega (arith, c.count-position-end.ensures)) c.loop-position.invariant.written c.in_err-write_instruction.ensures.beginning in
-    search rules
+pub returns-in_err-write_instruction : goal.returns-in_err-write_instruction
+returns-in_err-write_instruction g c =
+    let begun = instruction-begun _ _ _ c.args.timed.now c.loop-position.position (omega (arith, c.count-position-end.ensures)) c.loop-position.invariant.written c.in_err-write_instruction.ensures.0 in
+    let same = c.loop-position.invariant.same in
+    MatchResult-from_err c.from_residual.result _ _ (search rules) (λ _. (begun, c.in_err-write_instruction.ensures.1 ∙ ap (λ n. n + 1) same))
 
-pub returns-in_err-write_filler-clause-beginning : goal.returns-in_err-write_filler-clause-beginning
-returns-in_err-write_filler-clause-beginning g c =
+pub returns-in_err-write_filler : goal.returns-in_err-write_filler
+returns-in_err-write_filler g c =
     let t = c.args.timed.now in
-    let written = instruction-written _ _ _ t c.loop-position.position (omega (arith, c.count-position-end.ensures)) c.loop-position.invariant.written c.in_ok-write_instruction.ensures.ok in
-    let begun = filler-begun _ _ _ t c.loop-position.position written c.in_err-write_filler.ensures.beginning in
-    search rules
+    let written = instruction-written _ _ _ t c.loop-position.position (omega (arith, c.count-position-end.ensures)) c.loop-position.invariant.written c.in_ok-write_instruction.ensures.0 in
+    let begun = filler-begun _ _ _ t c.loop-position.position written c.in_err-write_filler.ensures.0 in
+    let same = c.in_ok-write_instruction.ensures.1 ∙ c.loop-position.invariant.same in
+    MatchResult-from_err c.from_residual-in_err-write_filler.result _ _ (search rules) (λ _. (begun, c.in_err-write_filler.ensures.1 ∙ ap (λ n. n + 1) same))
 
 pub loop-position-preserved : goal.loop-position-preserved
 loop-position-preserved g c =
     let t = c.args.timed.now in
-    let written = instruction-written _ _ _ t c.loop-position.position (omega (arith, c.count-position-end.ensures)) c.loop-position.invariant.written c.in_ok-write_instruction.ensures.ok in
+    let written = instruction-written _ _ _ t c.loop-position.position (omega (arith, c.count-position-end.ensures)) c.loop-position.invariant.written c.in_ok-write_instruction.ensures.0 in
     record {
-      written = filler-written _ _ _ t c.loop-position.position written c.in_ok-write_filler.ensures.ok;
-      same = c.in_ok-write_filler.ensures.same ∙ c.in_ok-write_instruction.ensures.same ∙ c.loop-position.invariant.same;
+      written = filler-written _ _ _ t c.loop-position.position written c.in_ok-write_filler.ensures.0;
+      same = c.in_ok-write_filler.ensures.1 ∙ c.in_ok-write_instruction.ensures.1 ∙ c.loop-position.invariant.same;
     }
 
-pub returns-clause-ok : goal.returns-clause-ok
-returns-clause-ok g c = all-written _ _ c.args.timed.now c.loop-position.position (omega (arith, c.count-position-end.ensures)) c.loop-position.invariant.written
+pub returns : goal.returns
+returns g c =
+    (all-written _ _ c.args.timed.now c.loop-position.position (omega (arith, c.count-position-end.ensures)) c.loop-position.invariant.written, c.loop-position.invariant.same)

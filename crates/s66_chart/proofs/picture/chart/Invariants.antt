@@ -4,6 +4,6 @@ use Rattle.s66_chart.proofs.picture.chart.Given as goal
 
 abbrev pub invariant-loop-position : goal.invariant-loop-position
 invariant-loop-position g l = record {
-  written : AreWritten (g.S.Sink.bytes l.fn.writer) (g.S.Sink.bytes l.writer) l.timed l.position;
-  same : g.S.Sink.failures l.writer ≡ g.S.Sink.failures l.fn.writer;
+  written : AreWritten (g.S.Sink.seen l.fn.writer).bytes (g.S.Sink.seen l.writer).bytes l.timed l.position;
+  same : (g.S.Sink.seen l.writer).failures ≡ (g.S.Sink.seen l.fn.writer).failures;
 }
