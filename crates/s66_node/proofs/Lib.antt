@@ -2,6 +2,7 @@ pub mod Growing
 pub mod Leasts
 pub mod Outlines
 pub mod Pieces
+pub mod Firsts
 pub mod Schedules
 pub mod Standing
 pub mod Tips

@@ -1,5 +1,5 @@
--- A schedule goes on until it is a whole order, and each push tells an issue.
-use Rattle.std.proofs.Common.{ℕ, ◌+◌, ◌-◌, ◌<◌, ◌≡◌, true, List, [], ◌∷◌, ◌++◌, length, refl, sym, ap, subst, arith, length-append, append_assoc, inl, inr, ◌∙◌}
+-- A schedule goes on with what comes first until it is a whole order, and each push tells an issue.
+use Rattle.std.proofs.Common.{ℕ, ◌+◌, ◌-◌, ◌<◌, ◌≡◌, true, List, [], ◌∷◌, ◌++◌, length, refl, sym, ap, subst, arith, length-append, append-nil, append_assoc, inl, inr, ◌∙◌}
 use Rattle.std.proofs.lemmas.Bool.{cases_eq}
 use Rattle.s66_isa.specs.declared.instr.Instr.{Instr}
 use Rattle.s66_isa.specs.Lists.{Among}
@@ -12,7 +12,9 @@ use Rattle.s66_model.proofs.Remaining.{among-ready, ready-among, legal-parts, re
 use Rattle.s66_dep.specs.declared.set.Set.{Set}
 use Rattle.s66_dep.specs.Members.{numbers_in}
 use Rattle.s66_dep.proofs.LongestBeginning.{beginning-few}
-use Rattle.s66_node.specs.Walked.{Walked, BeginsWith}
+use Rattle.s66_node.specs.Walked.{Walked}
+use Rattle.s66_node.specs.declared.schedule.Priority.{Priority}
+use Rattle.s66_node.specs.Schedules.{IsFirst, GoesOnByFirst, IsListScheduled}
 
 -- the next slot after a push is its issue and its parcels
 pub next-push : (b : Problem) (prefix : List ℕ) (n : ℕ) → next (points_of b (prefix ++ n ∷ [])) ≡ (point_of b (points_of b prefix) n).issue + (row_at b n).parcels
@@ -52,16 +54,17 @@ next-begins w same next n begins now is pushed =
     subst (λ (x : Walked). (x.problem ≡ w.problem) × IsBeginning x.problem.block x.numbers × (length x.problem.block - length x.numbers < length w.problem.block - length w.numbers)) (sym all)
     (refl, step-begins w.problem.block w.numbers n begins now, omega (arith, ready-short w.problem.block w.numbers n begins now, length-append w.numbers (n ∷ [])))
 
-pub next-further : (prefix : List ℕ) (w same next : Walked) (n : ℕ) → BeginsWith prefix w.numbers → same ≡ w → next ≡ record same { numbers = same.numbers ++ n ∷ [] } → BeginsWith prefix next.numbers
-next-further prefix w same next n further is pushed =
-    let (more, begins) = further in (
-      more ++ n ∷ [],
-      ap (λ (x : Walked). x.numbers) pushed ∙ ap (λ (x : Walked). x.numbers ++ n ∷ []) is ∙ ap (λ numbers. numbers ++ n ∷ []) begins ∙ append_assoc prefix more (n ∷ []),
-    )
 
--- what is taken from a set of numbers that are ready
-pub taken-ready : (block : List Instr) (prefix : List ℕ) (set rest : Set) (n : ℕ) → numbers_in set ≡ ready block prefix → numbers_in set ≡ n ∷ numbers_in rest →
-    (is_ready block prefix n ≡ true) × ((m : ℕ) → Among m (numbers_in rest) → is_ready block prefix m ≡ true)
-taken-ready block prefix set rest n all is =
-    let each : (m : ℕ) → Among m (n ∷ numbers_in rest) → is_ready block prefix m ≡ true = λ m among. ready-among block prefix m (subst (Among m) (sym is ∙ all) among) in
-    (each n (inl refl), λ m among. each m (inr among))
+by-first-more : (p : Priority) (b : Problem) (prefix more : List ℕ) (n : ℕ) → GoesOnByFirst p b prefix more → IsFirst p b (prefix ++ more) n → GoesOnByFirst p b prefix (more ++ n ∷ [])
+by-first-more p b prefix [] n h first = (subst (λ ns. IsFirst p b ns n) (append-nil prefix) first, tt)
+by-first-more p b prefix (m ∷ more) n h first =
+    (h.0, by-first-more p b (prefix ++ m ∷ []) more n h.1 (subst (λ ns. IsFirst p b ns n) (sym (append_assoc prefix (m ∷ []) more)) first))
+
+pub next-scheduled : (p : Priority) (old w same next : Walked) (n : ℕ) → w.problem ≡ old.problem → IsListScheduled p old.problem old.numbers w.numbers → IsFirst p w.problem w.numbers n → same ≡ w → next ≡ record same { numbers = same.numbers ++ n ∷ [] } → IsListScheduled p old.problem old.numbers next.numbers
+next-scheduled p old w same next n own scheduled first is pushed =
+    let (more, numbers, goes) = scheduled in
+    let here : IsFirst p old.problem (old.numbers ++ more) n = subst (λ ns. IsFirst p old.problem ns n) numbers (subst (λ (b : Problem). IsFirst p b w.numbers n) own first) in (
+      more ++ n ∷ [],
+      ap (λ (x : Walked). x.numbers) pushed ∙ ap (λ (x : Walked). x.numbers ++ n ∷ []) is ∙ ap (λ ns. ns ++ n ∷ []) numbers ∙ append_assoc old.numbers more (n ∷ []),
+      by-first-more p old.problem old.numbers more n goes here,
+    )

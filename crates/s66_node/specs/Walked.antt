@@ -1,5 +1,5 @@
 -- Used by contracts: what they see of a walk: what is timed, and the prefix at which it stands.
-use Rattle.std.specs.Prelude.{ℕ, ◌-◌, ◌++◌, ◌≡◌, ◌≤◌, List, length, take}
+use Rattle.std.specs.Prelude.{ℕ, ◌-◌, ◌≡◌, ◌≤◌, List, length, take}
 use Rattle.s66_line.specs.Block.{instrs_of}
 use Rattle.s66_isa.specs.declared.limits.TheConstants.{BLOCK_LIMIT}
 use Rattle.s66_model.specs.Dependence.{all_needs}
@@ -14,10 +14,6 @@ pub record Walked : Type 0 where
 -- the prefix without its last number
 abbrev pub front : List ℕ → List ℕ
 front prefix = take (length prefix - 1) prefix
-
--- a list begins with these numbers
-abbrev pub BeginsWith : List ℕ → List ℕ → Type 0
-BeginsWith prefix numbers = (more : List ℕ) × (numbers ≡ prefix ++ more)
 
 -- what is true of every walk: its clock, its bounds, its dependences and its numbers go together
 pub record IsWalked (c : Ticking) (b : Problem) (d : List (List ℕ)) (ns : List ℕ) : Type 0 where

@@ -1,8 +1,9 @@
-ghost use Rattle.std.specs.Prelude.{◌≡◌, ◌≤◌, ◌<◌, ◌||◌, ◌&&◌, ◌==◌, nat_lt, true, [], IfSome, IfNone};
+ghost use Rattle.std.specs.Prelude.{◌≡◌, ◌≤◌, ◌<◌, ◌||◌, ◌&&◌, ◌==◌, nat_lt, max, true, [], IfSome, IfNone};
 ghost use Rattle.s66_isa.specs.Lists.{greatest};
 ghost use Rattle.s66_model.specs.LegalOrder.{is_ready, ready, IsComplete};
-ghost use Rattle.s66_node.specs.Walked.{BeginsWith};
-ghost use Rattle.s66_model.specs.Timing.{points_of, point_of, done_of, total_of};
+ghost use Rattle.s66_model.specs.Tails.{longest_tail};
+ghost use Rattle.s66_model.specs.Timing.{points_of, done_of, total_of};
+ghost use Rattle.s66_node.specs.Schedules.{issue_after, operands_after, time_by, IsFirst, IsListScheduled};
 
 use crate::walk::Walk;
 use s66_dep::Order;
@@ -31,6 +32,8 @@ impl Candidate {
     fn of(walk: &mut Walk<'_>, priority: Priority, number: u8) -> Candidate
         requires { is_ready walk.old.problem.block walk.old.numbers number ≡ true }
         ensures number { result.number ≡ number }
+        ensures time { result.time ≡ time_by priority walk.old.problem walk.old.numbers number }
+        ensures tail { result.tail ≡ longest_tail walk.old.problem number }
         ensures same { walk.new ≡ walk.old }
     {
         Candidate {
@@ -54,7 +57,7 @@ impl Candidate {
 /// When a ready number would issue: its push tells it, and is undone.
 fn issue_of(walk: &mut Walk<'_>, n: u8) -> u32
     requires { is_ready walk.old.problem.block walk.old.numbers n ≡ true }
-    ensures issue { result ≡ (point_of walk.old.problem (points_of walk.old.problem walk.old.numbers) n).issue }
+    ensures issue { result ≡ issue_after walk.old.problem walk.old.numbers n }
     ensures same { walk.new ≡ walk.old }
 {
     let parcels = walk.parcels(n);
@@ -78,6 +81,7 @@ fn last_done(walk: &Walk<'_>, registers: &[Reg]) -> u32
 /// When a ready number would start if it waited for no memory: it has issued, and its operands are done.
 fn start_of(walk: &mut Walk<'_>, n: u8) -> u32
     requires { is_ready walk.old.problem.block walk.old.numbers n ≡ true }
+    ensures start { result ≡ max (operands_after walk.old.problem walk.old.numbers n) (issue_after walk.old.problem walk.old.numbers n) }
     ensures same { walk.new ≡ walk.old }
 {
     let operands = last_done(walk, walk.reads(n).as_slice());
@@ -86,7 +90,7 @@ fn start_of(walk: &mut Walk<'_>, n: u8) -> u32
 
 /// The ready number that comes first; of equal ones that with the longest tail, and of these the lowest.
 fn first_ready(walk: &mut Walk<'_>, priority: Priority) -> Option<u8>
-    ensures ready { IfSome result (λ n. is_ready walk.old.problem.block walk.old.numbers n ≡ true) }
+    ensures first { IfSome result (λ n. IsFirst priority walk.old.problem walk.old.numbers n) }
     ensures none { IfNone result (ready walk.old.problem.block walk.old.numbers ≡ []) }
     ensures same { walk.new ≡ walk.old }
 {
@@ -126,7 +130,7 @@ impl Walk<'_> {
 pub fn schedule_rest(walk: &mut Walk<'_>, priority: Priority)
     ensures same { walk.new.problem ≡ walk.old.problem }
     ensures complete { IsComplete walk.new.problem.block walk.new.numbers }
-    ensures begins { BeginsWith walk.old.numbers walk.new.numbers }
+    ensures scheduled { IsListScheduled priority walk.old.problem walk.old.numbers walk.new.numbers }
 {
     // so it is a beginning
     prove!(walk.numbers().len() <= BLOCK_LIMIT);
@@ -140,7 +144,7 @@ pub fn schedule_rest(walk: &mut Walk<'_>, priority: Priority)
 pub fn schedule_below(walk: &mut Walk<'_>, priority: Priority, best: u32) -> Option<Timed>
     ensures same { walk.new.problem ≡ walk.old.problem }
     ensures complete { IsComplete walk.new.problem.block walk.new.numbers }
-    ensures begins { BeginsWith walk.old.numbers walk.new.numbers }
+    ensures scheduled { IsListScheduled priority walk.old.problem walk.old.numbers walk.new.numbers }
     ensures order { IfSome result (λ timed. timed ≡ record { problem = walk.new.problem; numbers = walk.new.numbers }) }
     ensures below { IfSome result (λ timed. total_of walk.new.problem walk.new.numbers < best) }
     ensures none { IfNone result (best ≤ total_of walk.new.problem walk.new.numbers) }

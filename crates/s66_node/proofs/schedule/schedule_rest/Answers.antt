@@ -2,20 +2,20 @@ use Rattle.std.proofs.Common.{◌∙◌, arith, ap, length, sym, subst}
 use Rattle.s66_dep.proofs.LongestBeginning.{beginning-few}
 use Rattle.s66_model.specs.LegalOrder.{IsComplete}
 use Rattle.s66_node.specs.Walked.{Walked}
-use Rattle.s66_node.proofs.Schedules.{next-begins, next-further, none-ready}
+use Rattle.s66_node.proofs.Schedules.{next-begins, next-scheduled, none-ready}
 use Rattle.s66_node.proofs.schedule.schedule_rest.Goals as goal
 
 pub loop-n-smaller : goal.loop-n-smaller
 loop-n-smaller c =
-    (next-begins c.loop-n.walk c.first_ready.new.walk c.push.new.self c.in-Some.n c.loop-n.invariant.begins c.in-Some.ensures.ready c.in-Some.ensures.same c.push.ensures).2
+    (next-begins c.loop-n.walk c.first_ready.new.walk c.push.new.self c.in-Some.n c.loop-n.invariant.begins c.in-Some.ensures.first.ready c.in-Some.ensures.same c.push.ensures).2
 
 pub loop-n-preserved : goal.loop-n-preserved
 loop-n-preserved c =
-    let (same, begins, less) = next-begins c.loop-n.walk c.first_ready.new.walk c.push.new.self c.in-Some.n c.loop-n.invariant.begins c.in-Some.ensures.ready c.in-Some.ensures.same c.push.ensures in
+    let (same, begins, less) = next-begins c.loop-n.walk c.first_ready.new.walk c.push.new.self c.in-Some.n c.loop-n.invariant.begins c.in-Some.ensures.first.ready c.in-Some.ensures.same c.push.ensures in
     record {
       same = same ∙ c.loop-n.invariant.same;
       begins = begins;
-      further = next-further c.args.walk.now.numbers c.loop-n.walk c.first_ready.new.walk c.push.new.self c.in-Some.n c.loop-n.invariant.further c.in-Some.ensures.same c.push.ensures;
+      scheduled = next-scheduled c.args.priority c.args.walk.now c.loop-n.walk c.first_ready.new.walk c.push.new.self c.in-Some.n c.loop-n.invariant.same c.loop-n.invariant.scheduled c.in-Some.ensures.first c.in-Some.ensures.same c.push.ensures;
     }
 
 pub returns-clause-complete : goal.returns-clause-complete

@@ -1,13 +1,13 @@
 use Rattle.std.proofs.Common.{◌-◌, ◌≡◌, length}
 use Rattle.s66_model.specs.LegalOrder.{IsBeginning}
-use Rattle.s66_node.specs.Walked.{BeginsWith}
+use Rattle.s66_node.specs.Schedules.{IsListScheduled}
 use Rattle.s66_node.proofs.schedule.schedule_rest.Given as goal
 
 abbrev pub invariant-loop-n : goal.invariant-loop-n
 invariant-loop-n l = record {
   same : l.walk.problem ≡ l.fn.walk.problem;
   begins : IsBeginning l.walk.problem.block l.walk.numbers;
-  further : BeginsWith l.fn.walk.numbers l.walk.numbers;
+  scheduled : IsListScheduled l.priority l.fn.walk.problem l.fn.walk.numbers l.walk.numbers;
 }
 
 abbrev pub decreases-loop-n : goal.decreases-loop-n
