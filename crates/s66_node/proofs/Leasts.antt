@@ -1,7 +1,7 @@
--- A least one of some legal orders, and one more.
-use Rattle.std.proofs.Common.{ℕ, ◌≤◌, ◌≡◌, List, [], ◌∷◌, ◌++◌, Option, None, Some, refl, sym, ap, arith, inl, inr, ◌∙◌, subst}
+-- The first of the least of some legal orders, and one more.
+use Rattle.std.proofs.Common.{ℕ, ◌≤◌, ◌<◌, ◌≡◌, List, [], ◌∷◌, ◌++◌, Option, None, Some, refl, sym, ap, arith, inl, inr, ◌∙◌, subst, append_assoc}
 use Rattle.s66_isa.specs.Lists.{Among}
-use Rattle.s66_isa.proofs.Lists.{among-front, among-rest}
+use Rattle.s66_isa.proofs.Lists.{among-rest}
 use Rattle.s66_model.specs.LegalOrder.{IsLegal}
 use Rattle.s66_model.specs.Timing.{Problem, total_of}
 use Rattle.s66_node.specs.declared.whole_order.WholeOrder.{WholeOrder}
@@ -12,27 +12,48 @@ among-either x [] ys R f g h = g h
 among-either x (y ∷ xs) ys R f g (inl e) = f (inl e)
 among-either x (y ∷ xs) ys R f g (inr h) = among-either x xs ys R (λ k. f (inr k)) g h
 
+-- it is one of them, and none is lower
+least-among : (b : Problem) (orders : List (List ℕ)) (least : WholeOrder) → IsLeast b orders (Some least) → Among least.numbers.items orders
+least-among b orders least (legal, total, before, after, is, lower, not_lower) =
+    subst (Among least.numbers.items) (sym is) (among-rest least.numbers.items before (least.numbers.items ∷ after) (inl refl))
+
+least-all : (b : Problem) (orders : List (List ℕ)) (least : WholeOrder) → IsLeast b orders (Some least) → (other : List ℕ) → Among other orders → least.total ≤ total_of b other
+least-all b orders least (legal, total, before, after, is, lower, not_lower) other among =
+    among-either other before (least.numbers.items ∷ after) (least.total ≤ total_of b other)
+    (λ one. omega (arith, lower other one))
+    (λ rest. elim rest [ inl e ↦ omega (arith, total, ap (total_of b) e) | inr one ↦ not_lower other one ])
+    (subst (Among other) is among)
+
+pub least-best : (b : Problem) (orders : List (List ℕ)) (least : WholeOrder) → IsLeast b orders (Some least) → Among least.numbers.items orders × ((other : List ℕ) → Among other orders → total_of b least.numbers.items ≤ total_of b other)
+least-best b orders least h = (least-among b orders least h, λ other among. omega (arith, h.1, least-all b orders least h other among))
+
 -- an order that isn't lower
 pub least-kept : (b : Problem) (orders : List (List ℕ)) (least : WholeOrder) (order : List ℕ) → least.total ≤ total_of b order → IsLeast b orders (Some least) → IsLeast b (orders ++ order ∷ []) (Some least)
-least-kept b orders least order le h = (
-  h.0,
-  among-front least.numbers.items orders (order ∷ []) h.1,
-  h.2,
-  λ x among. among-either x orders (order ∷ []) (least.total ≤ total_of b x) (h.3 x) (λ one. elim one [ inl e ↦ omega (arith, le, ap (total_of b) e) | inr none ↦ absurd none ]) among,
+least-kept b orders least order le (legal, total, before, after, is, lower, not_lower) = (
+  legal,
+  total,
+  before,
+  after ++ order ∷ [],
+  ap (λ xs. xs ++ order ∷ []) is ∙ append_assoc before (least.numbers.items ∷ after) (order ∷ []),
+  lower,
+  λ x among. among-either x after (order ∷ []) (least.total ≤ total_of b x) (not_lower x) (λ one. elim one [ inl e ↦ omega (arith, le, ap (total_of b) e) | inr none ↦ absurd none ]) among,
 )
 
 -- a lower one, or the first
-pub least-new : (b : Problem) (orders : List (List ℕ)) (old : Option WholeOrder) (least : WholeOrder) (order : List ℕ) → IsLegal b.block order → least.numbers.items ≡ order → least.total ≡ total_of b order → ((found : WholeOrder) → old ≡ Some found → least.total ≤ found.total) → IsLeast b orders old → IsLeast b (orders ++ order ∷ []) (Some least)
-least-new b orders None least order legal is total lower h =
-    subst (λ xs. IsLeast b (xs ++ order ∷ []) (Some least)) (sym h)
-    (subst (IsLegal b.block) (sym is) legal, inl is, total ∙ ap (total_of b) (sym is), λ x among. elim among [ inl e ↦ omega (arith, total, ap (total_of b) e) | inr none ↦ absurd none ])
-least-new b orders (Some found) least order legal is total lower h =
-    let le : least.total ≤ found.total = lower found refl in (
-      subst (IsLegal b.block) (sym is) legal,
-      among-rest least.numbers.items orders (order ∷ []) (inl is),
-      total ∙ ap (total_of b) (sym is),
-      λ x among. among-either x orders (order ∷ []) (least.total ≤ total_of b x) (λ old. omega (arith, le, h.3 x old)) (λ one. elim one [ inl e ↦ omega (arith, total, ap (total_of b) e) | inr none ↦ absurd none ]) among,
-    )
+pub least-new : (b : Problem) (orders : List (List ℕ)) (old : Option WholeOrder) (least : WholeOrder) (order : List ℕ) → IsLegal b.block order → least.numbers.items ≡ order → least.total ≡ total_of b order → ((found : WholeOrder) → old ≡ Some found → least.total < found.total) → IsLeast b orders old → IsLeast b (orders ++ order ∷ []) (Some least)
+least-new b orders old least order legal is total lower h = (
+  subst (IsLegal b.block) (sym is) legal,
+  total ∙ ap (total_of b) (sym is),
+  orders,
+  [],
+  ap (λ x. orders ++ x ∷ []) (sym is),
+  below old refl h,
+  λ x none. absurd none,
+)
+  where
+    below : (o : Option WholeOrder) → old ≡ o → IsLeast b orders o → (x : List ℕ) → Among x orders → least.total < total_of b x
+    below None e none x among = absurd (subst (Among x) none among)
+    below (Some found) e some x among = omega (arith, lower found e, least-all b orders found some x among)
 
 pub some-same : {X : Type 0} (x y : X) → Some x ≡ Some y → x ≡ y
 some-same x y e = cc

@@ -1,5 +1,5 @@
 -- Used by contracts within the crate alone: what holds while a tree is made, and of it when it is made.
-use Rattle.std.specs.Prelude.{ℕ, ◌+◌, ◌≡◌, ◌<◌, ◌≤◌, ◌⊎◌, true, List, [], ◌∷◌, length, map, reverse, Option, None, Some}
+use Rattle.std.specs.Prelude.{ℕ, ◌+◌, ◌≡◌, ◌<◌, ◌≤◌, ◌⊎◌, ◌++◌, true, List, [], ◌∷◌, length, map, reverse, Option, None, Some}
 use Rattle.s66_isa.specs.declared.instr.Instr.{Instr}
 use Rattle.s66_isa.specs.Lists.{Among}
 use Rattle.s66_model.specs.Timing.{Problem, total_of}
@@ -29,14 +29,16 @@ IsTold b best at (ToldFrontier value) = (value ≡ floor_value b at) × IsDue b 
 abbrev pub whole_told : Problem → List ℕ → Told → List (List ℕ)
 whole_told b at told = whole_at at (tip_of b at told)
 
--- a least one of these legal orders, and none where there are none
+-- the first of the least of these legal orders, and none where there are none
 abbrev pub IsLeast : Problem → List (List ℕ) → Option WholeOrder → Type 0
 IsLeast b orders None = orders ≡ []
 IsLeast b orders (Some least) =
-    IsLegal b.block least.numbers.items × Among least.numbers.items orders × (least.total ≡ total_of b least.numbers.items)
-    × ((other : List ℕ) → Among other orders → least.total ≤ total_of b other)
+    IsLegal b.block least.numbers.items × (least.total ≡ total_of b least.numbers.items)
+    × (before : List (List ℕ)) × (after : List (List ℕ)) × (orders ≡ before ++ least.numbers.items ∷ after)
+    × ((other : List ℕ) → Among other before → least.total < total_of b other)
+    × ((other : List ℕ) → Among other after → least.total ≤ total_of b other)
 
--- a tree was made over the root: by its lines, with its splits and a least one of its whole orders
+-- a tree was made over the root: by its lines, with its splits and the first of the least of its whole orders
 pub record IsGrown (b : Problem) (best allowance : ℕ) (root : List ℕ) (grown : Grown) (tree : Tree Told) : Type 0 where
   pub grows : TreeGrows b.block (IsDue b best) (IsTold b best) root tree
   pub knots : flat tree ≡ seen grown.knots.items

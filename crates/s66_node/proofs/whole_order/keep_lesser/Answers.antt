@@ -1,4 +1,4 @@
-use Rattle.std.proofs.Common.{◌≡◌, ◌≤◌, Some, arith, sym, ap, subst, ◌∙◌}
+use Rattle.std.proofs.Common.{◌≡◌, ◌<◌, Some, arith, sym, ap, subst, ◌∙◌}
 use Rattle.s66_node.specs.declared.whole_order.WholeOrder.{WholeOrder}
 use Rattle.s66_node.specs.Walking.{IsLeast}
 use Rattle.s66_node.proofs.Leasts.{least-kept, least-new, some-same}
@@ -13,7 +13,7 @@ returns-then-found-total c =
 pub returns : goal.returns
 returns c =
     λ b orders legal total h.
-    let lower : (found : WholeOrder) → c.args.least.now ≡ Some found → c.args.total ≤ found.total =
+    let lower : (found : WholeOrder) → c.args.least.now ≡ Some found → c.args.total < found.total =
     λ found is.
     elim c.match-least.branch [
       | in-Some+else-found-total w ↦
