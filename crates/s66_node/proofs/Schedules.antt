@@ -8,9 +8,7 @@ use Rattle.s66_model.specs.Timing.{Problem, row_at, point_of, points_of, next}
 use Rattle.s66_model.specs.LegalOrder.{is_ready, ready, GoesOn, IsBeginning, IsComplete, IsIncomplete}
 use Rattle.s66_model.proofs.Beginnings.{beginning-front}
 use Rattle.s66_model.proofs.PointTimes.{points_after-append, point_of-row}
-use Rattle.s66_model.proofs.Remaining.{among-ready, ready-among, legal-parts, rest-first, step-begins}
-use Rattle.s66_dep.specs.declared.set.Set.{Set}
-use Rattle.s66_dep.specs.Members.{numbers_in}
+use Rattle.s66_model.proofs.Remaining.{among-ready, legal-parts, rest-first, step-begins}
 use Rattle.s66_dep.proofs.LongestBeginning.{beginning-few}
 use Rattle.s66_node.specs.Walked.{Walked}
 use Rattle.s66_node.specs.declared.schedule.Priority.{Priority}
@@ -53,7 +51,6 @@ next-begins w same next n begins now is pushed =
     let all : next ≡ record w { numbers = w.numbers ++ n ∷ [] } = pushed ∙ ap (λ (x : Walked). record x { numbers = x.numbers ++ n ∷ [] }) is in
     subst (λ (x : Walked). (x.problem ≡ w.problem) × IsBeginning x.problem.block x.numbers × (length x.problem.block - length x.numbers < length w.problem.block - length w.numbers)) (sym all)
     (refl, step-begins w.problem.block w.numbers n begins now, omega (arith, ready-short w.problem.block w.numbers n begins now, length-append w.numbers (n ∷ [])))
-
 
 by-first-more : (p : Priority) (b : Problem) (prefix more : List ℕ) (n : ℕ) → GoesOnByFirst p b prefix more → IsFirst p b (prefix ++ more) n → GoesOnByFirst p b prefix (more ++ n ∷ [])
 by-first-more p b prefix [] n h first = (subst (λ ns. IsFirst p b ns n) (append-nil prefix) first, tt)

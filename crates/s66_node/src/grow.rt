@@ -15,7 +15,7 @@ use std::alloc::{AllocError, Global};
 /// For how many lines of a tree that is split there is room from the first: a small tree needs no more.
 const FIRST_LINES: usize = 64;
 
-/// A tree by its lines in preorder, how many of them are splits, and a least one of its whole orders.
+/// A tree by its lines in preorder, how many of them are splits, and the first of the least of its whole orders.
 #[derive(Debug, Drop)]
 pub(crate) struct Grown {
     pub knots: Vec<Knot>,
