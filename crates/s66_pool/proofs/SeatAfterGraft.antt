@@ -1,5 +1,5 @@
 -- A seat after the turn of its graft, in which its worker went on.
-use Rattle.std.proofs.Common.{◌≡◌, ℕ, true, false, true≢false, ◌+◌, inl, inr, refl, sym, ap, ◌∙◌, subst, arith}
+use Rattle.std.proofs.Common.{◌≡◌, ℕ, true, false, true≢false, ◌+◌, refl, sym, ap, ◌∙◌, subst, arith}
 use Rattle.s66_model.specs.Ledger as model
 use Rattle.s66_model.specs.Accounts.{Passbook, Agrees, opened, after_event, after_reading}
 use Rattle.s66_model.specs.Tree.{splits}
@@ -46,8 +46,8 @@ module _ (l between : LedgerOf) (p : Passbook) (count : ℕ) (agrees : Agrees (a
   went-on : (asked : Next) (a : AfterGraft) (new : LedgerOf) → is_claimed a ≡ false → GoesOn number asked now a new
       → Keeps l new p count × IsAfter asked middle a (renewed (account_summary new) p p.least)
   went-on asked after.Rested new quiet (rest, is) = let s = still new is in (s.0, (rest, s.1))
-  went-on asked after.NotGranted new quiet (grants, inl is) = let g = grant 0 new is in (g.0, (grants, inl g.1))
-  went-on asked after.NotGranted new quiet (grants, inr is) = let g = still new is in (g.0, (grants, inr g.1))
+  went-on asked after.NotGranted new quiet (grants, is) = let g = grant 0 new is in (g.0, (grants, g.1))
+  went-on asked after.GrantRefused new quiet (grants, is) = let g = still new is in (g.0, (grants, g.1))
   went-on asked (after.NotClaimed n) new quiet is = granted asked n new is
   went-on asked (after.Claimed n ticket best) new quiet is = absurd (true≢false quiet)
 
@@ -56,6 +56,7 @@ module _ (l between : LedgerOf) (p : Passbook) (count : ℕ) (agrees : Agrees (a
       × IsAfter asked middle a (opened (account_summary new) p.who) × IsKnownAfter a p
   went-claiming asked after.Rested new told is = absurd (true≢false (sym told))
   went-claiming asked after.NotGranted new told is = absurd (true≢false (sym told))
+  went-claiming asked after.GrantRefused new told is = absurd (true≢false (sym told))
   went-claiming asked (after.NotClaimed n) new told is = absurd (true≢false (sym told))
   went-claiming asked (after.Claimed n ticket best) new told (mid, first, claim, read) =
       let g = granted asked n mid first in
@@ -107,5 +108,6 @@ module _ (l old between : LedgerOf) (e : old ≡ l) (p : Passbook) (number : ℕ
 pub rested : (old new : SeatOf) (i : ℕ) (piece : PieceOf) (a : AfterGraft) → HasGraftedAndGoneOn old i piece next.Rest a new → HasGrafted old i piece model.Taken new
 rested old new i piece after.Rested (between, (event, of, is), (rest, same)) = (event, of, same ∙ is)
 rested old new i piece after.NotGranted (between, taken, (grants, is)) = absurd (let never : next.Rest ≡ next.GrantAndClaim = grants in cc)
+rested old new i piece after.GrantRefused (between, taken, (grants, is)) = absurd (let never : next.Rest ≡ next.GrantAndClaim = grants in cc)
 rested old new i piece (after.NotClaimed n) (between, taken, never) = absurd never
 rested old new i piece (after.Claimed n ticket best) (between, taken, (mid, never, is)) = absurd never

@@ -1,5 +1,5 @@
 -- Used by contracts: what a worker does in the turn of its graft after that: of the ledger, and of its passbook.
-use Rattle.std.specs.Prelude.{ℕ, ⊤, Bool, true, false, ◌≡◌, ◌≤◌, ◌⊎◌}
+use Rattle.std.specs.Prelude.{ℕ, ⊤, Bool, true, false, ◌≡◌, ◌≤◌}
 use Rattle.s66_model.specs.Ledger.{Grant, Granted, Claim, Claimed}
 use Rattle.s66_model.specs.Accounts.{Passbook, after_event, after_reading}
 use Rattle.s66_ledger.specs.ClaimedNodes.{claimed_node}
@@ -12,6 +12,7 @@ use Rattle.s66_pool.specs.declared.after_graft.AfterGraft.TheVariants as after
 abbrev pub is_claimed : AfterGraft → Bool
 is_claimed after.Rested = false
 is_claimed after.NotGranted = false
+is_claimed after.GrantRefused = false
 is_claimed (after.NotClaimed granted) = false
 is_claimed (after.Claimed granted ticket best) = true
 
@@ -25,7 +26,8 @@ IsGranted w next.GrantAndClaim n old new = IsEvent old (Grant w) (Granted n) new
 
 abbrev pub GoesOn : (w : ℕ) → Next → LedgerOf → AfterGraft → LedgerOf → Type 0
 GoesOn w asked old after.Rested new = (asked ≡ next.Rest) × (new ≡ old)
-GoesOn w asked old after.NotGranted new = (asked ≡ next.GrantAndClaim) × (IsEvent old (Grant w) (Granted 0) new ⊎ (new ≡ old))
+GoesOn w asked old after.NotGranted new = (asked ≡ next.GrantAndClaim) × IsEvent old (Grant w) (Granted 0) new
+GoesOn w asked old after.GrantRefused new = (asked ≡ next.GrantAndClaim) × (new ≡ old)
 GoesOn w asked old (after.NotClaimed granted) new = IsGranted w asked granted old new
 GoesOn w asked old (after.Claimed granted ticket best) new =
     (between : LedgerOf) × IsGranted w asked granted old between × IsEvent between (Claim w) (Claimed (claimed_node ticket)) new
@@ -42,7 +44,8 @@ IsAfterGrant next.GrantAndClaim n old new = new ≡ after_event old (Grant old.w
 -- and then after a claim, and a look at the best time
 abbrev pub IsAfter : Next → Passbook → AfterGraft → Passbook → Type 0
 IsAfter asked old after.Rested new = (asked ≡ next.Rest) × (new ≡ old)
-IsAfter asked old after.NotGranted new = (asked ≡ next.GrantAndClaim) × ((new ≡ after_event old (Grant old.who) (Granted 0)) ⊎ (new ≡ old))
+IsAfter asked old after.NotGranted new = (asked ≡ next.GrantAndClaim) × (new ≡ after_event old (Grant old.who) (Granted 0))
+IsAfter asked old after.GrantRefused new = (asked ≡ next.GrantAndClaim) × (new ≡ old)
 IsAfter asked old (after.NotClaimed granted) new = IsAfterGrant asked granted old new
 IsAfter asked old (after.Claimed granted ticket best) new =
     (between : Passbook) × IsAfterGrant asked granted old between
@@ -52,5 +55,6 @@ IsAfter asked old (after.Claimed granted ticket best) new =
 abbrev pub IsKnownAfter : AfterGraft → Passbook → Type 0
 IsKnownAfter after.Rested book = ⊤
 IsKnownAfter after.NotGranted book = ⊤
+IsKnownAfter after.GrantRefused book = ⊤
 IsKnownAfter (after.NotClaimed granted) book = ⊤
 IsKnownAfter (after.Claimed granted ticket best) book = best ≤ book.least

@@ -1,9 +1,9 @@
-ghost use Rattle.std.specs.Prelude.{◌≤◌, ◌⊎◌, ◌≡◌, IfSome, IfNone};
-ghost use Rattle.s66_model.specs.Ledger.{Grant, Granted};
-ghost use Rattle.s66_ledger.specs.Ledgers.{LedgerOf, IsEvent};
+ghost use Rattle.std.specs.Prelude.{◌≤◌};
+ghost use Rattle.s66_ledger.specs.Ledgers.{LedgerOf};
 ghost use Rattle.s66_pool.specs.AfterGraft.{IsGranted, GoesOn};
 
 use s66_ledger::{Ledger, Ticket};
+use std::alloc::AllocError;
 
 /// What a worker asks for in the turn of its graft, once its piece is taken.
 #[derive(Clone, Copy, Debug, PartialEq, Eq)]
@@ -21,8 +21,10 @@ pub enum Next {
 pub enum AfterGraft {
     /// It asked for nothing more.
     Rested,
-    /// It asked for a grant and was granted nothing, since the budget is spent or memory was refused. It claimed nothing.
+    /// It asked for a grant and was granted nothing, since nothing is left of the budget. It claimed nothing.
     NotGranted,
+    /// It asked for a grant, for which memory was refused. It claimed nothing.
+    GrantRefused,
     /// It was granted so many splits, or 0 where it asked for no grant; then memory was refused for the claim.
     NotClaimed {
         granted: u32,
@@ -46,20 +48,6 @@ impl AfterGraft {
     {
         matches!(self, AfterGraft::Claimed { .. })
     }
-}
-
-/// Grants the worker splits; None where it got none.
-fn grant_some(ledger: &mut Ledger<'_>, w: u8) -> Option<u32>
-    requires { (1 ≤ w) × (w ≤ ledger.old.workers) }
-    ensures granted { IfSome result (λ n. IsEvent ledger.old (Grant w) (Granted n) ledger.new) }
-    ensures not_granted { IfNone result (IsEvent ledger.old (Grant w) (Granted 0) ledger.new ⊎ (ledger.new ≡ ledger.old)) }
-    ensures workers { ledger.new.workers ≡ ledger.old.workers }
-{
-    let granted = ledger.grant(w).ok()?;
-    if granted == 0 {
-        return None;
-    }
-    Some(granted)
 }
 
 /// Claims a node and reads the best time, after so many splits were granted.
@@ -86,11 +74,10 @@ pub(crate) fn go_on(ledger: &mut Ledger<'_>, w: u8, next: Next) -> AfterGraft
     match next {
         Next::Rest => AfterGraft::Rested,
         Next::Claim => claim_after(ledger, w, 0),
-        Next::GrantAndClaim => {
-            let Some(granted) = grant_some(ledger, w) else {
-                return AfterGraft::NotGranted;
-            };
-            claim_after(ledger, w, granted)
-        }
+        Next::GrantAndClaim => match ledger.grant(w) {
+            Ok(0) => AfterGraft::NotGranted,
+            Ok(granted) => claim_after(ledger, w, granted),
+            Err(AllocError) => AfterGraft::GrantRefused,
+        },
     }
 }

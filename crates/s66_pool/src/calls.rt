@@ -107,7 +107,7 @@ impl<'a> Hub<'a> {
             self.lock.give(&mut seat.token, ledger);
             return Err(why);
         }
-        // no worker has spent more than all have
+        // proof only: no worker has spent more than all have
         let _spent = ledger.splits();
         seat.splits += added;
         let after = go_on(&mut *ledger, seat.number, next);

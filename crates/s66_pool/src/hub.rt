@@ -115,7 +115,7 @@ impl<'a> Hub<'a> {
             lock.join(&mut all, seat.into_token());
         }
         let ledger = Box::into_inner(lock.close(all));
-        // which is what the accounts of the workers add up to
+        // proof only: all have spent what the accounts of the workers add up to
         let _spent = ledger.splits();
         Ok(ledger)
     }

@@ -29,7 +29,7 @@ fn splits_by(ledger: &Ledger<'_>, w: u8) -> u32
     requires { (1 ≤ w) × (w ≤ ledger.now.workers) }
     ensures { result ≡ (account_at (account_summary ledger.now) w).splits }
 {
-    // no worker has spent more than all have
+    // proof only: no worker has spent more than all have
     let _spent = ledger.splits();
     let mut splits = 0;
     for entry in &ledger.history().entries {

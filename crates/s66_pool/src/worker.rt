@@ -243,7 +243,7 @@ impl<'b> Worker<'b> {
     ) -> Step {
         match after {
             AfterGraft::Rested => Step::Claim,
-            AfterGraft::NotGranted => Step::End,
+            AfterGraft::NotGranted | AfterGraft::GrantRefused => Step::End,
             AfterGraft::NotClaimed { .. } => end_unclaimed(site, w),
             AfterGraft::Claimed {
                 granted,
