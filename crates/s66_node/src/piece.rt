@@ -75,7 +75,7 @@ impl Piece {
         ensures outline { IsOutlineOf self.now (outline_of self.now) }
         ensures few { length self.now.problem.block ≤ BLOCK_LIMIT }
     {
-        // proof only: an order has a number for each instruction
+        // proof only: a number for each instruction
         let _few = self.source.numbers();
         self.knots.as_slice()
     }
