@@ -8,7 +8,7 @@ use Rattle.s66_isa.specs.Lists.{greatest, tally, every, least_from, rising}
 use Rattle.s66_isa.specs.Table.{Row, Write, row, idle_instr, instr_at, numbers, has_reg, memory_pair}
 use Rattle.s66_isa.proofs.Lists.{greatest-same}
 use Rattle.s66_model.specs.Packing.{fits_at}
-use Rattle.s66_model.specs.Timing.{Problem, Point, ResultAt, row_at, copies, done_at, done_of, writes_reg, last_done, end_of, total, next_parcel, parcel_of, slot_of, busy_at, can_issue, issue_of, memory_wait, start_of, readers_wait, result_at, free_after, point, point_of, points_after, points_of, total_of}
+use Rattle.s66_model.specs.Timing.{Problem, Point, row_at, copies, done_at, done_of, writes_reg, last_done, end_of, total, next_parcel, parcel_of, slot_of, busy_at, can_issue, issue_of, memory_wait, start_of, readers_wait, result_at, point, point_of, points_after, points_of, total_of}
 use Rattle.s66_model.specs.Answer.{source_time}
 use Rattle.s66_model.specs.WrittenOrder.{written_in}
 

@@ -1,12 +1,12 @@
 -- The documents of answers to the blocks of a source are a text, in one way, and the verdict on each is yes.
-use Rattle.std.proofs.Common.{ℕ, ◌+◌, ◌≡◌, ◌≤◌, ◌&&◌, ◌∙◌, true, if◌then◌else◌, List, [], ◌∷◌, ◌++◌, Ok, refl, sym, ap, ap₂, arith, inl, inr}
+use Rattle.std.proofs.Common.{ℕ, ◌+◌, ◌≡◌, ◌≤◌, ◌&&◌, ◌∙◌, true, if◌then◌else◌, List, [], ◌∷◌, ◌++◌, refl, sym, ap, ap₂, arith, inl, inr}
 use Rattle.s66_isa.specs.Lists.{Among, every}
 use Rattle.s66_isa.specs.Table.{standard}
 use Rattle.s66_isa.specs.declared.limits.TheConstants.{BLOCK_LIMIT}
-use Rattle.s66_line.specs.Source.{Block, source_of}
+use Rattle.s66_line.specs.Source.{Block}
 use Rattle.s66_model.specs.Answer.{Answer}
 use Rattle.s66_cert.specs.declared.limits.TheConstants.{SPLIT_LIMIT}
-use Rattle.s66_cert.specs.Document.{Document, AreDocumentsWithin, IsText, documents_text}
+use Rattle.s66_cert.specs.Document.{Document, AreDocumentsWithin, IsText}
 use Rattle.s66_cert.proofs.OneReading.{one-list}
 use Rattle.s66_checker.specs.Verdict.{verdict}
 use Rattle.s66_program.specs.declared.outcome.Status.{Status}
