@@ -1,3 +1,4 @@
+pub mod Calls
 pub mod AnswerDocuments
 pub mod AnswerVerdicts
 pub mod Asked

@@ -1,12 +1,14 @@
 -- What a command leaves where its input is refused: all was read, and nothing is written.
-use Rattle.std.proofs.Common.{◌≡◌, ℕ, List, Option, None, Some, Result, Ok, Err, refl, ap, sym, subst}
+use Rattle.std.proofs.Common.{◌≡◌, ◌+◌, ◌≤◌, ℕ, List, Option, None, Some, Result, Ok, Err, refl, ap, sym, subst, arith}
 use Rattle.std.specs.Io.KnownBytes.{Keeps}
 use Rattle.std.specs.Result.{IsErr, IsErrAnd}
+use Rattle.s66_line.specs.Devices.{IsUntouched, Reader, Writer}
 use Rattle.s66_program.specs.declared.command.Command.{Command}
 use Rattle.s66_program.specs.declared.outcome.Fault.{Fault}
 use Rattle.s66_program.specs.declared.outcome.Fault.TheVariants as fault
 use Rattle.s66_program.specs.declared.outcome.Status.{Status}
-use Rattle.s66_program.specs.Device.{IsUntouched, Reader, ReadsAll, Writer}
+use Rattle.s66_program.specs.declared.limits.TheConstants.{FEED_CALLS}
+use Rattle.s66_program.specs.Device.{ReadsAll, ReadsSome}
 use Rattle.s66_program.specs.Run.{IsOutcome, IsRefusal}
 
 keeps : (bytes : Option (List ℕ)) → Keeps bytes bytes
@@ -16,10 +18,17 @@ keeps (Some bytes) = refl
 untouched : (writer : Writer) → IsUntouched writer writer
 untouched writer = (keeps writer.bytes, refl)
 
+-- also where the want of memory comes later
+reads-some : (reader reader' : Reader) (input : List ℕ) → ReadsAll reader reader' input → ReadsSome reader reader'
+reads-some reader reader' input (taken, all, same, (reads, few, calls)) =
+    let most : reads + 1 ≤ FEED_CALLS = omega arith in
+    let one : 1 ≤ 1 = omega arith in
+    (same, (reads, 1, most, one, calls))
+
 leaves : (command : Command) (reader reader' : Reader) (writer : Writer) (input : List ℕ) (f : Fault) → ReadsAll reader reader' input → IsRefusal command input f → IsOutcome command reader reader' writer writer (Err f)
 leaves command reader reader' writer input (fault.Source e) reads h = ((input, reads, h), untouched writer)
 leaves command reader reader' writer input (fault.Document e) reads h = ((input, reads, h), untouched writer)
-leaves command reader reader' writer input fault.Memory reads h = (reads.2, untouched writer)
+leaves command reader reader' writer input fault.Memory reads h = (reads-some reader reader' input reads, untouched writer)
 leaves command reader reader' writer input fault.Read reads h = absurd h
 leaves command reader reader' writer input fault.Write reads h = absurd h
 

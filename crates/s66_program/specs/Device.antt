@@ -1,44 +1,41 @@
--- To be believed: what is seen of a reader and of a writer, and what calls of theirs leave.
-use Rattle.std.specs.Prelude.{◌≡◌, ◌⊎◌, ◌+◌, ◌*◌, ◌^◌, ◌<◌, ◌≤◌, ℕ, List, length, take, Option}
-use Rattle.std.specs.Io.KnownBytes.{Appends, Consumes, IsAtEnd, Keeps}
+-- To be believed: what reading an input to its end leaves of a reader, and telling a text of a writer.
+use Rattle.std.specs.Prelude.{◌≡◌, ◌⊎◌, ◌+◌, ◌<◌, ◌≤◌, ℕ, List, length}
+use Rattle.std.specs.Io.KnownBytes.{Consumes, IsAtEnd}
+use Rattle.s66_line.specs.Devices.{Grows, Reader, WriteFails, Writer, Writes}
 use Rattle.s66_program.specs.declared.limits.TheConstants.{FEED_CALLS, FEED_ROOM}
 
--- a reader: its bytes that are left, where they are known, how many of its calls have failed, and how much room the others had
-pub record Reader : Type 0 where
-  pub bytes : Option (List ℕ)
-  pub failures : ℕ
-  pub room : ℕ
+-- each call that didn't fail had room for 65,536 bytes
+abbrev pub HasRoom : Reader → Type 0
+HasRoom reader = (FEED_ROOM ≤ reader.least_room) × (reader.most_room ≤ FEED_ROOM)
 
--- a writer: its bytes that were taken, where they are known, and how many of its calls have failed
-pub record Writer : Type 0 where
-  pub bytes : Option (List ℕ)
-  pub failures : ℕ
+-- so many calls gave bytes and so many gave none, with room for 65,536 bytes each, if those before them had it
+abbrev pub Calls : (reads ends : ℕ) → Reader → Reader → Type 0
+Calls reads ends old new = Grows reads old.reads new.reads × Grows ends old.ends new.ends × (HasRoom old → HasRoom new)
 
--- input was read, and it was all
+-- input was read by 16,777,216 calls at most, one of which gave none, and it was all
 abbrev pub ReadsAll : Reader → Reader → List ℕ → Type 0
-ReadsAll old new input = Consumes old.bytes new.bytes input × IsAtEnd new.bytes × (new.failures ≡ old.failures)
+ReadsAll old new input =
+    Consumes old.bytes new.bytes input × IsAtEnd new.bytes × (new.failures ≡ old.failures)
+    × ((reads : ℕ) × (reads < FEED_CALLS) × Calls reads 1 old new)
 
--- 16,777,216 calls with room for 65,536 bytes each gave a byte at least, and none the end
+-- 16,777,216 calls gave a byte at least, and none gave none
 abbrev pub IsEndless : Reader → Reader → Type 0
 IsEndless old new =
     ((input : List ℕ) × Consumes old.bytes new.bytes input × (FEED_CALLS ≤ length input))
-    × (old.room + FEED_CALLS * FEED_ROOM < 2 ^ 64 → new.room ≡ old.room + FEED_CALLS * FEED_ROOM)
+    × Calls FEED_CALLS 0 old new
     × (new.failures ≡ old.failures)
 
--- a call failed, or no call gave the end
+-- a call failed, the 16,777,216th at the latest, or none gave the end
 abbrev pub ReadFails : Reader → Reader → Type 0
-ReadFails old new = (new.failures ≡ old.failures + 1) ⊎ IsEndless old new
+ReadFails old new =
+    ((new.failures ≡ old.failures + 1) × ((reads : ℕ) × (reads < FEED_CALLS) × Calls reads 0 old new))
+    ⊎ IsEndless old new
 
--- text was written
-abbrev pub Writes : Writer → Writer → List ℕ → Type 0
-Writes old new text = Appends old.bytes new.bytes text × (new.failures ≡ old.failures)
-
--- a call failed after a beginning of text was written
-abbrev pub WriteFails : Writer → Writer → List ℕ → Type 0
-WriteFails old new text = ((k : ℕ) × Appends old.bytes new.bytes (take k text)) × (new.failures ≡ old.failures + 1)
-
-abbrev pub IsUntouched : Writer → Writer → Type 0
-IsUntouched old new = Keeps old.bytes new.bytes × (new.failures ≡ old.failures)
+-- memory was wanted after 16,777,216 calls at most, of which none failed and one at most gave none
+abbrev pub ReadsSome : Reader → Reader → Type 0
+ReadsSome old new =
+    (new.failures ≡ old.failures)
+    × ((reads : ℕ) × (ends : ℕ) × (reads + ends ≤ FEED_CALLS) × (ends ≤ 1) × Calls reads ends old new)
 
 -- a text was told: it was written, or writing it failed
 abbrev pub Tells : Writer → Writer → List ℕ → Type 0

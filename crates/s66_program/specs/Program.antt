@@ -3,13 +3,14 @@ use Rattle.std.specs.Prelude.{◌≡◌, ◌≢◌, ◌⊎◌, ℕ, List, ◌++�
 use Rattle.std.specs.declared.io.ErrorKind.{ErrorKind}
 use Rattle.std.specs.declared.io.ErrorKind.TheVariants as kind
 use Rattle.clap.specs.Words.{Text}
+use Rattle.s66_line.specs.Devices.{IsUntouched, Reader, WriteFails, Writer, Writes}
 use Rattle.s66_program.specs.declared.command.Command.{Command}
 use Rattle.s66_program.specs.declared.outcome.Fault.{Fault}
 use Rattle.s66_program.specs.declared.outcome.Fault.TheVariants.{Memory, Write}
 use Rattle.s66_program.specs.declared.outcome.Status.{Status}
 use Rattle.s66_program.specs.declared.usage.Usage.{Usage}
 use Rattle.s66_program.specs.declared.usage.Usage.TheVariants.{Help, Bad, OutOfMemory}
-use Rattle.s66_program.specs.Device.{IsUntouched, Reader, Tells, WriteFails, Writer, Writes}
+use Rattle.s66_program.specs.Device.{Tells}
 use Rattle.s66_program.specs.Outcome.{fault_code, fault_line, status_code}
 use Rattle.s66_program.specs.Run.{IsOutcome}
 use Rattle.s66_program.specs.Usage.{Asks, Refuses, usage_code}

@@ -1,13 +1,14 @@
 -- To be believed: what a command leaves of its reader and its writer.
 use Rattle.std.specs.Prelude.{◌≡◌, ◌≢◌, ℕ, true, false, List, Result, Ok, Err}
 use Rattle.s66_line.specs.declared.error.SourceError.TheVariants.{OutOfMemory}
+use Rattle.s66_line.specs.Devices.{IsUntouched, Reader, WriteFails, Writer, Writes}
 use Rattle.s66_line.specs.Source.{source_of}
 use Rattle.s66_cert.specs.Faults.{IsFault}
 use Rattle.s66_program.specs.declared.command.Command.{Command}
 use Rattle.s66_program.specs.declared.outcome.Fault.{Fault}
 use Rattle.s66_program.specs.declared.outcome.Fault.TheVariants as fault
 use Rattle.s66_program.specs.declared.outcome.Status.{Status}
-use Rattle.s66_program.specs.Device.{IsUntouched, ReadFails, Reader, ReadsAll, WriteFails, Writer, Writes}
+use Rattle.s66_program.specs.Device.{ReadFails, ReadsAll, ReadsSome}
 use Rattle.s66_program.specs.Output.{IsOutput, reads_source}
 
 -- why a command writes nothing for an input
@@ -27,7 +28,7 @@ IsOutcome command reader reader' writer writer' (Err (fault.Source e)) =
     ((input : List ℕ) × ReadsAll reader reader' input × IsRefusal command input (fault.Source e)) × IsUntouched writer writer'
 IsOutcome command reader reader' writer writer' (Err (fault.Document e)) =
     ((input : List ℕ) × ReadsAll reader reader' input × IsRefusal command input (fault.Document e)) × IsUntouched writer writer'
-IsOutcome command reader reader' writer writer' (Err fault.Memory) = (reader'.failures ≡ reader.failures) × IsUntouched writer writer'
+IsOutcome command reader reader' writer writer' (Err fault.Memory) = ReadsSome reader reader' × IsUntouched writer writer'
 IsOutcome command reader reader' writer writer' (Err fault.Read) = ReadFails reader reader' × IsUntouched writer writer'
 IsOutcome command reader reader' writer writer' (Err fault.Write) =
     (input : List ℕ) × ReadsAll reader reader' input
@@ -36,7 +37,7 @@ IsOutcome command reader reader' writer writer' (Err fault.Write) =
 -- why reading to the end fails
 abbrev pub IsReadFault : Reader → Reader → Fault → Type 0
 IsReadFault old new fault.Read = ReadFails old new
-IsReadFault old new fault.Memory = new.failures ≡ old.failures
+IsReadFault old new fault.Memory = ReadsSome old new
 IsReadFault old new (fault.Source e) = ⊥
 IsReadFault old new (fault.Document e) = ⊥
 IsReadFault old new fault.Write = ⊥

@@ -15,20 +15,16 @@ use std::thread::Threads;
 
 /// Tells a text, as far as the writer takes it.
 fn tell<S: Sink>(errors: &mut S, text: &[u8])
-    requires { S.failures errors.old < 2 ^ 64 - 1 }
-    ensures { Tells
-        (record { bytes = S.bytes errors.old; failures = S.failures errors.old })
-        (record { bytes = S.bytes errors.new; failures = S.failures errors.new }) text.now }
+    requires { (S.seen errors.old).failures < 2 ^ 64 - 1 }
+    ensures { Tells (S.seen errors.old) (S.seen errors.new) text.now }
 {
     let _ = write_all(errors, text);
 }
 
 /// Tells the line of a fault, and answers the status.
 fn tell_fault<S: Sink>(errors: &mut S, fault: Fault) -> u8
-    requires { S.failures errors.old < 2 ^ 64 - 1 }
-    ensures { EndsAt fault
-        (record { bytes = S.bytes errors.old; failures = S.failures errors.old })
-        (record { bytes = S.bytes errors.new; failures = S.failures errors.new }) result }
+    requires { (S.seen errors.old).failures < 2 ^ 64 - 1 }
+    ensures { EndsAt fault (S.seen errors.old) (S.seen errors.new) result }
 {
     let mut line = fault.line();
     line.push('\n');
@@ -38,13 +34,9 @@ fn tell_fault<S: Sink>(errors: &mut S, fault: Fault) -> u8
 
 /// Shows why words are no command, and answers the status.
 fn show_usage<S: Sink, E: Sink>(usage: &Usage, writer: &mut S, errors: &mut E) -> u8
-    requires writes { S.failures writer.old < 2 ^ 64 - 1 }
-    requires tells { E.failures errors.old < 2 ^ 64 - 1 }
-    ensures { ShowsUsage usage.now
-        (record { bytes = S.bytes writer.old; failures = S.failures writer.old })
-        (record { bytes = S.bytes writer.new; failures = S.failures writer.new })
-        (record { bytes = E.bytes errors.old; failures = E.failures errors.old })
-        (record { bytes = E.bytes errors.new; failures = E.failures errors.new }) result }
+    requires writes { (S.seen writer.old).failures < 2 ^ 64 - 1 }
+    requires tells { (E.seen errors.old).failures < 2 ^ 64 - 1 }
+    ensures { ShowsUsage usage.now (S.seen writer.old) (S.seen writer.new) (E.seen errors.old) (E.seen errors.new) result }
 {
     match usage {
         Usage::Help(text) => {
@@ -70,16 +62,10 @@ pub fn run_program<
     E: Sink,
     O: Observer,
 >(rt: &R, words: &'a [W], reader: &mut F, writer: &mut S, errors: &mut E, observer: &mut O) -> u8
-    requires reads { F.failures reader.old < 2 ^ 64 - 1 }
-    requires writes { S.failures writer.old < 2 ^ 64 - 1 }
-    requires tells { E.failures errors.old < 2 ^ 64 - 1 }
-    ensures { IsRun (map W.text words.entry.now)
-        (record { bytes = F.bytes reader.old; failures = F.failures reader.old; room = F.room reader.old })
-        (record { bytes = F.bytes reader.new; failures = F.failures reader.new; room = F.room reader.new })
-        (record { bytes = S.bytes writer.old; failures = S.failures writer.old })
-        (record { bytes = S.bytes writer.new; failures = S.failures writer.new })
-        (record { bytes = E.bytes errors.old; failures = E.failures errors.old })
-        (record { bytes = E.bytes errors.new; failures = E.failures errors.new }) result }
+    requires reads { (F.seen reader.old).failures < 2 ^ 64 - 1 }
+    requires writes { (S.seen writer.old).failures < 2 ^ 64 - 1 }
+    requires tells { (E.seen errors.old).failures < 2 ^ 64 - 1 }
+    ensures { IsRun (map W.text words.entry.now) (F.seen reader.old) (F.seen reader.new) (S.seen writer.old) (S.seen writer.new) (E.seen errors.old) (E.seen errors.new) result }
 {
     let command = match command_of(rt.alloc(), words) {
         Ok(command) => command,
@@ -93,10 +79,8 @@ pub fn run_program<
 
 /// Tells why the process has no words, and answers its status.
 pub fn refuse_words<E: Sink>(error: &io::Error, errors: &mut E) -> u8
-    requires { E.failures errors.old < 2 ^ 64 - 1 }
-    ensures { LacksWords (error_kind error.now)
-        (record { bytes = E.bytes errors.old; failures = E.failures errors.old })
-        (record { bytes = E.bytes errors.new; failures = E.failures errors.new }) result }
+    requires { (E.seen errors.old).failures < 2 ^ 64 - 1 }
+    ensures { LacksWords (error_kind error.now) (E.seen errors.old) (E.seen errors.new) result }
 {
     match error.kind() {
         io::ErrorKind::OutOfMemory => tell_fault(errors, Fault::Memory),

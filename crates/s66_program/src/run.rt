@@ -20,16 +20,12 @@ fn room(alloc: Global) -> Result<Vec<u8>, AllocError>
     vec![in alloc; 0u8; FEED_ROOM]
 }
 
-/// Reads to the end by way of the buffer.
+/// Reads to the end, by `FEED_CALLS` calls at most, each with the whole buffer for room.
 fn read_through<F: Feed>(alloc: Global, reader: &mut F, buffer: &mut [u8]) -> Result<Vec<u8>, Fault>
-    requires calls { F.failures reader.old < 2 ^ 64 - 1 }
+    requires calls { (F.seen reader.old).failures < 2 ^ 64 - 1 }
     requires room { length buffer.old ≡ FEED_ROOM }
-    ensures ok { IfOk result (λ input. ReadsAll
-        (record { bytes = F.bytes reader.old; failures = F.failures reader.old; room = F.room reader.old })
-        (record { bytes = F.bytes reader.new; failures = F.failures reader.new; room = F.room reader.new }) input.items) }
-    ensures err { IfErr result (IsReadFault
-        (record { bytes = F.bytes reader.old; failures = F.failures reader.old; room = F.room reader.old })
-        (record { bytes = F.bytes reader.new; failures = F.failures reader.new; room = F.room reader.new })) }
+    ensures ok { IfOk result (λ input. ReadsAll (F.seen reader.old) (F.seen reader.new) input.items) }
+    ensures err { IfErr result (IsReadFault (F.seen reader.old) (F.seen reader.new)) }
 {
     let mut input = Vec::new(alloc);
     'calls: for _ in 0..FEED_CALLS {
@@ -48,13 +44,9 @@ fn read_through<F: Feed>(alloc: Global, reader: &mut F, buffer: &mut [u8]) -> Re
 
 /// Reads to the end.
 fn read_all<F: Feed>(alloc: Global, reader: &mut F) -> Result<Vec<u8>, Fault>
-    requires { F.failures reader.old < 2 ^ 64 - 1 }
-    ensures ok { IfOk result (λ input. ReadsAll
-        (record { bytes = F.bytes reader.old; failures = F.failures reader.old; room = F.room reader.old })
-        (record { bytes = F.bytes reader.new; failures = F.failures reader.new; room = F.room reader.new }) input.items) }
-    ensures err { IfErr result (IsReadFault
-        (record { bytes = F.bytes reader.old; failures = F.failures reader.old; room = F.room reader.old })
-        (record { bytes = F.bytes reader.new; failures = F.failures reader.new; room = F.room reader.new })) }
+    requires { (F.seen reader.old).failures < 2 ^ 64 - 1 }
+    ensures ok { IfOk result (λ input. ReadsAll (F.seen reader.old) (F.seen reader.new) input.items) }
+    ensures err { IfErr result (IsReadFault (F.seen reader.old) (F.seen reader.new)) }
 {
     let mut buffer = room(alloc)?;
     read_through(alloc, reader, &mut buffer)
@@ -74,13 +66,9 @@ pub fn run_command<R: AllocGlobal + Threads + Wait + Sync, F: Feed, S: Sink>(
     writer: &mut S,
 ) -> Result<Status, Fault>
     requires within { IsWithin command }
-    requires reads { F.failures reader.old < 2 ^ 64 - 1 }
-    requires writes { S.failures writer.old < 2 ^ 64 - 1 }
-    ensures { IsOutcome command
-        (record { bytes = F.bytes reader.old; failures = F.failures reader.old; room = F.room reader.old })
-        (record { bytes = F.bytes reader.new; failures = F.failures reader.new; room = F.room reader.new })
-        (record { bytes = S.bytes writer.old; failures = S.failures writer.old })
-        (record { bytes = S.bytes writer.new; failures = S.failures writer.new }) result }
+    requires reads { (F.seen reader.old).failures < 2 ^ 64 - 1 }
+    requires writes { (S.seen writer.old).failures < 2 ^ 64 - 1 }
+    ensures { IsOutcome command (F.seen reader.old) (F.seen reader.new) (S.seen writer.old) (S.seen writer.new) result }
 {
     run_observed(rt, command, reader, writer, &mut Silent)
 }
@@ -95,13 +83,9 @@ pub fn run_observed<R: AllocGlobal + Threads + Wait + Sync, F: Feed, S: Sink, O:
     observer: &mut O,
 ) -> Result<Status, Fault>
     requires within { IsWithin command }
-    requires reads { F.failures reader.old < 2 ^ 64 - 1 }
-    requires writes { S.failures writer.old < 2 ^ 64 - 1 }
-    ensures { IsOutcome command
-        (record { bytes = F.bytes reader.old; failures = F.failures reader.old; room = F.room reader.old })
-        (record { bytes = F.bytes reader.new; failures = F.failures reader.new; room = F.room reader.new })
-        (record { bytes = S.bytes writer.old; failures = S.failures writer.old })
-        (record { bytes = S.bytes writer.new; failures = S.failures writer.new }) result }
+    requires reads { (F.seen reader.old).failures < 2 ^ 64 - 1 }
+    requires writes { (S.seen writer.old).failures < 2 ^ 64 - 1 }
+    ensures { IsOutcome command (F.seen reader.old) (F.seen reader.new) (S.seen writer.old) (S.seen writer.new) result }
 {
     let input = read_all(rt.alloc(), reader)?;
     let output = output_for(rt, command, input.as_slice(), observer);

@@ -276,15 +276,20 @@ fn keeps_limits(rt: HostRuntime) -> Result<(), Fail> {
 struct FailsSecond {
     called: bool,
     failed: u64,
-    offered: u64,
+    reads: u64,
+    least_room: usize,
+    most_room: usize,
 }
 
 impl Feed for FailsSecond {
-    ghost bytes = { λ _. None };
-
-    ghost failures = { λ s. s.failed };
-
-    ghost room = { λ s. s.offered };
+    ghost seen = { λ s. record {
+      bytes = None;
+      reads = s.reads;
+      ends = 0;
+      failures = s.failed;
+      least_room = s.least_room;
+      most_room = s.most_room;
+    } };
 
     fn feed(&mut self, buffer: &mut [u8]) -> Result<usize, Failed> {
         if self.called || buffer.is_empty() {
@@ -292,7 +297,9 @@ impl Feed for FailsSecond {
             return Err(Failed);
         }
         self.called = true;
-        self.offered = self.offered.saturating_add(buffer.len() as u64);
+        self.reads = self.reads.saturating_add(1);
+        self.least_room = self.least_room.min(buffer.len());
+        self.most_room = self.most_room.max(buffer.len());
         buffer[0] = b'*';
         Ok(1)
     }
@@ -307,9 +314,7 @@ struct TakesFew {
 }
 
 impl Sink for TakesFew {
-    ghost bytes = { λ s. Some s.taken.items };
-
-    ghost failures = { λ s. s.failed };
+    ghost seen = { λ s. record { bytes = Some s.taken.items; failures = s.failed } };
 
     fn sink(&mut self, text: &[u8]) -> Result<usize, Failed> {
         if text.is_empty() {
@@ -326,7 +331,7 @@ impl Sink for TakesFew {
 
 /// Checks that `time` fails to read a device to its end, and writes nothing.
 fn check_read_fault<R: AllocGlobal + Abort + Threads + Wait + Sync, F: Feed>(rt: &R, reader: &mut F)
-    requires { F.failures reader.old < 2 ^ 64 - 1 }
+    requires { (F.seen reader.old).failures < 2 ^ 64 - 1 }
 {
     let mut writer = OverWrite::new(Vec::new(rt.alloc()));
     let result = run_command(rt, TIME, reader, &mut writer);
@@ -339,7 +344,9 @@ fn tells_read_fault(rt: HostRuntime) {
     let mut reader = FailsSecond {
         called: false,
         failed: 0,
-        offered: 0,
+        reads: 0,
+        least_room: usize::MAX,
+        most_room: 0,
     };
     check_read_fault(&rt, &mut reader);
 }

@@ -93,23 +93,31 @@ fn reads_many_bytes(rt: HostRuntime) -> Result<(), Fail> {
 #[derive(Drop)]
 struct GivesOne {
     left: u32,
-    failed: u64,
-    offered: u64,
+    reads: u64,
+    ends: u64,
+    least_room: usize,
+    most_room: usize,
 }
 
 impl Feed for GivesOne {
-    ghost bytes = { λ _. None };
-
-    ghost failures = { λ s. s.failed };
-
-    ghost room = { λ s. s.offered };
+    ghost seen = { λ s. record {
+      bytes = None;
+      reads = s.reads;
+      ends = s.ends;
+      failures = 0;
+      least_room = s.least_room;
+      most_room = s.most_room;
+    } };
 
     fn feed(&mut self, buffer: &mut [u8]) -> Result<usize, Failed> {
-        self.offered = self.offered.saturating_add(buffer.len() as u64);
+        self.least_room = self.least_room.min(buffer.len());
+        self.most_room = self.most_room.max(buffer.len());
         if self.left == 0 || buffer.is_empty() {
+            self.ends = self.ends.saturating_add(1);
             return Ok(0);
         }
         self.left -= 1;
+        self.reads = self.reads.saturating_add(1);
         buffer[0] = b'\n';
         Ok(1)
     }
@@ -119,8 +127,10 @@ impl Feed for GivesOne {
 fn reads_no_more_than_its_calls(rt: HostRuntime) {
     let mut reader = GivesOne {
         left: FEED_CALLS,
-        failed: 0,
-        offered: 0,
+        reads: 0,
+        ends: 0,
+        least_room: usize::MAX,
+        most_room: 0,
     };
     check_read_fault(&rt, &mut reader);
     assert_eq!(rt; reader.left, 0);

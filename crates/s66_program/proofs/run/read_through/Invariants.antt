@@ -1,12 +1,12 @@
-use Rattle.std.proofs.Common.{◌≡◌, ◌≤◌, ◌<◌, ◌+◌, ◌*◌, ◌^◌, length}
+use Rattle.std.proofs.Common.{◌≡◌, ◌≤◌, length}
 use Rattle.std.specs.Io.KnownBytes.{Consumes}
-use Rattle.s66_program.specs.declared.limits.TheConstants.{FEED_ROOM}
+use Rattle.s66_program.specs.Device.{Calls}
 use Rattle.s66_program.proofs.run.read_through.Given as goal
 
 abbrev pub invariant-calls : goal.invariant-calls
 invariant-calls g l = record {
-  taken : Consumes (g.F.Feed.bytes l.fn.reader) (g.F.Feed.bytes l.reader) l.input.items;
-  same : g.F.Feed.failures l.reader ≡ g.F.Feed.failures l.fn.reader;
+  taken : Consumes (g.F.Feed.seen l.fn.reader).bytes (g.F.Feed.seen l.reader).bytes l.input.items;
+  same : (g.F.Feed.seen l.reader).failures ≡ (g.F.Feed.seen l.fn.reader).failures;
   some : l.counter ≤ length l.input.items;
-  offered : g.F.Feed.room l.fn.reader + l.counter * FEED_ROOM < 2 ^ 64 → g.F.Feed.room l.reader ≡ g.F.Feed.room l.fn.reader + l.counter * FEED_ROOM;
+  made : Calls l.counter 0 (g.F.Feed.seen l.fn.reader) (g.F.Feed.seen l.reader);
 }
