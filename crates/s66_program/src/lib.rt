@@ -9,8 +9,6 @@ mod documents;
 mod fields;
 mod laws;
 mod limits;
-#[cfg(test)]
-mod line_tests;
 mod observer;
 mod order_text;
 mod outcome;
