@@ -4,9 +4,14 @@ use std::alloc::{AllocError, Global};
 use std::process::Abort;
 
 /// An instruction as octal digits: code, i, j, k.
-fn parcel_of(instr: Instr) -> u32 {
-    let digits = u32::from(instr.i()) * 64 + u32::from(instr.j()) * 8 + u32::from(instr.k());
-    u32::from(instr.op().code()) * 512 + digits
+fn parcel_of(alloc: Global, instr: Instr) -> Result<String, AllocError> {
+    format!(in alloc;
+        "{:02o}{}{}{}",
+        instr.op().code(),
+        instr.i(),
+        instr.j(),
+        instr.k()
+    )
 }
 
 /// A line of a block: `[label] count: ` and of its first instruction `line parcel text <bytes>`, and of its last
@@ -16,9 +21,10 @@ fn push_block(reading: &mut Vec<u8>, alloc: Global, block: &Block) -> Result<(),
     if count == 0 {
         return Ok(());
     }
-    let (first, last) = (parcel_of(block.instr(1)), parcel_of(block.instr(count)));
-    let begins = format!(in alloc; "] {count}: {} {first:05o} ", block.line(1))?;
-    let ends = format!(in alloc; "> to {} {last:05o}\n", block.line(count))?;
+    let first = parcel_of(alloc, block.instr(1))?;
+    let last = parcel_of(alloc, block.instr(count))?;
+    let begins = format!(in alloc; "] {count}: {} {first} ", block.line(1))?;
+    let ends = format!(in alloc; "> to {} {last}\n", block.line(count))?;
     reading.push(b'[')?;
     reading.extend_from_slice(block.label())?;
     reading.extend_from_slice(begins.as_bytes())?;

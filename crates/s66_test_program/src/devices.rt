@@ -1,6 +1,6 @@
 ghost use Rattle.std.specs.Prelude.{◌≡◌, ◌≤◌, ◌-◌, ◌^◌, ◌<◌, None, Some, IfOk};
 
-use crate::running::{TIME, run_observed};
+use crate::running::{ORDER, TIME, run_observed};
 use arrayvec::ArrayVec;
 use s66_line::{Failed, Feed, OverRead, OverWrite, Sink};
 use s66_program::{FEED_CALLS, Silent, run_program};
@@ -92,7 +92,7 @@ fn writer_of(room: usize) -> TakesFew
 
 /// Words and an input, room in the output and in that of errors, the status, what is written and what is told of errors.
 const BROKEN: &[(&[&str], &str, usize, usize, u8, &str, &str)] = &[
-    (TIME, "  BX1 X2+X3\n", 0, 16, 6, "", "WRITE FAILED\n"),
+    (ORDER, "  BX1 X2+X3\n", 0, 16, 6, "", "WRITE FAILED\n"),
     (TIME, "  BX1 X2+X3\n", 5, 16, 6, "BLOCK", "WRITE FAILED\n"),
     (TIME, "  SA1 *+2\n", 16, 0, 3, "", ""),
     (&["s66", "time", "more"], "  SA1 *+2\n", 16, 0, 2, "", ""),

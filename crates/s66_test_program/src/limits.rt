@@ -1,33 +1,31 @@
 use crate::running::{CHART, DEPS, TIME, TRACE, check_sum};
-use s66_line::{LINE_LIMIT, SOURCE_LIMIT};
+use s66_line::SOURCE_LIMIT;
 use std::alloc::AllocError;
 use std::test::Fail;
 
 const CODE: [&str; 8] = [
-    "SA1 A1+B1",
-    "BX6 X1*X2",
-    "FX3 X1+X6",
-    "SA6 A6+B1",
-    "LX1 12",
-    "SB2 100",
-    "IX7 X7+X3",
-    "NX0 B2,X0",
+    "SA1 A1+B1 ",
+    "BX6 X1*X2 ",
+    "FX3 X1+X6 ",
+    "SA6 A6+B1 ",
+    "LX1 12 ",
+    "SB2 100 ",
+    "IX7 X7+X3 ",
+    "NX0 B2,X0 ",
 ];
 
 /// The most lines, each of the most bytes; each 64th has a label.
 fn longest_source<R: AllocGlobal>(rt: &R) -> Result<String, AllocError> {
     let mut source = String::new(rt.alloc());
     for i in 0..SOURCE_LIMIT as usize {
-        let code = CODE[i % 8];
-        let line = if i % 64 == 0 {
-            format!(in rt.alloc(); "LABEL{i:05} {code} ")?
+        let label = if i % 64 == 0 {
+            format!(in rt.alloc(); "LABEL{i:05}")?
         } else {
-            format!(in rt.alloc(); "           {code} ")?
+            String::new(rt.alloc())
         };
+        let code = CODE[i % 8];
+        let line = format!(in rt.alloc(); "{label:10} {code:R<189}\n")?;
         source.push_str(line.as_str())?;
-        let remark = "R".repeat(rt.alloc(), LINE_LIMIT.saturating_sub(line.len()))?;
-        source.push_str(remark.as_str())?;
-        source.push('\n')?;
     }
     Ok(source)
 }

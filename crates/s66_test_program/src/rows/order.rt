@@ -1,11 +1,13 @@
 use crate::rows::{MIXED_SOURCE, ONE_LOAD, Row, STORE_THEN_LOAD, THIRD_ORDER, THREE_MULTIPLIES};
-use crate::running::{ORDER, ORDER_TRACE};
+use crate::running::{CHECK, ORDER, ORDER_TRACE};
 
 const COMMENT: &str =
     "*A COMMENT OF TWO HUNDRED BYTES A COMMENT OF TWO HUNDRED BYTES A COMMENT OF TWO HUNDRED BYTES A COMMENT OF TWO HUNDRED BYTES A COMMENT OF TWO HUNDRED BYTES A COMMENT OF TWO HUNDRED BYTES A COMMENT OF \n";
 
 pub(crate) const ROWS: &[Row] = &[
     ("empty input", ORDER, "", 0, ""),
+    ("empty input", &["s66", "prove"], "", 0, ""),
+    ("empty input", CHECK, "", 0, ""),
     (
         "one Boolean",
         ORDER_TRACE,
