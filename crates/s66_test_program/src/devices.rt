@@ -90,7 +90,7 @@ fn writer_of(room: usize) -> TakesFew
     }
 }
 
-/// Words and an input, room in the output and in that of errors, the status, what is written and what is told of errors.
+/// Words, input, room in the output and in standard error, status, what is written, and what goes to standard error.
 const BROKEN: &[(&[&str], &str, usize, usize, u8, &str, &str)] = &[
     (ORDER, "  BX1 X2+X3\n", 0, 16, 6, "", "WRITE FAILED\n"),
     (TIME, "  BX1 X2+X3\n", 5, 16, 6, "BLOCK", "WRITE FAILED\n"),

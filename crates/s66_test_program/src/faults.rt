@@ -38,7 +38,7 @@ const CERT_ERRORS: &[(CertError, &str)] = &[
     (CertError::OutOfMemory, "OUT OF MEMORY"),
 ];
 
-/// Why the program fails for another reason, and what that shows.
+/// The other reasons why the program fails, and what they show.
 const FAULTS: &[(Fault, &str)] = &[
     (Fault::Memory, "OUT OF MEMORY"),
     (Fault::Read, "READ FAILED"),

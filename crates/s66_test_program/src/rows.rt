@@ -10,7 +10,7 @@ mod order;
 mod time;
 mod words;
 
-/// A run: its name, words, input, and status, and what is written where that is 0 or 7, and else what is told of errors.
+/// A run: name, words, input, status, and the text that is written if the status is 0 or 7, and else goes to standard error.
 pub(crate) type Row = (
     &'static str,
     &'static [&'static str],
@@ -36,7 +36,7 @@ pub(crate) const UNPACK_THEN_SHIFT: &str = "  UX1 B1,X1\n  LX1 B1\n";
 pub(crate) const MIXED_SOURCE: &str =
     "* TEST\nLOOP      SA1 A1+1     LOAD\n          NO\n* NOTE\n          BX6 X1\n+         SA6 A6+B1    STORE\n          ZR X1,LOOP\n          BX1 X2\n          VFD 60/0\n";
 
-/// Sources by name whose best order isn't the only one: how what `order` writes begins and ends, and what `time` writes of that.
+/// Sources with several best orders: name, source, how the output of `order` begins and ends, and what `time` writes of it.
 const ORDERED: &[(&str, &str, &str, &str, &str)] = &[
     (
         "packing gap",
@@ -54,7 +54,7 @@ const ORDERED: &[(&str, &str, &str, &str, &str)] = &[
     ),
 ];
 
-/// Runs as `Row`, of a piece of input that is repeated so often.
+/// Runs as `Row`, whose input is a piece and how many times it is repeated.
 const REPEATED: &[(&str, &[&str], &str, usize, u8, &str)] = &[
     (
         "sixty-four",

@@ -21,7 +21,7 @@ pub(crate) const ORDER: &[&str] = &["s66", "order", "--workers", "1"];
 
 pub(crate) const ORDER_TRACE: &[&str] = &["s66", "order", "--workers", "1", "--trace"];
 
-/// The status of a run, what it wrote, and what it told of errors.
+/// The status of a run, its output, and what went to standard error.
 #[derive(Drop)]
 pub(crate) struct Ran {
     pub(crate) status: u8,
@@ -57,7 +57,7 @@ pub(crate) fn run<R: AllocGlobal + Threads + Wait + Sync>(
     run_observed(rt, words, &mut OverRead::new(input), &mut Silent)
 }
 
-/// Checks the status, and the text: what is written where the status is 0 or 7, and else what is told of errors.
+/// Checks the status, and the text that is written if it is 0 or 7, and else goes to standard error.
 pub(crate) fn check<R: AllocGlobal + Abort + Threads + Wait + Sync>(
     rt: &R,
     name: &str,
