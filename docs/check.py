@@ -3,9 +3,11 @@
 
     docs/check.py PROGRAM [DOCUMENT..]
 
-PROGRAM is the built program. Without a DOCUMENT all are checked: README.md, examples/README.md, docs/*.md, and the manual
-page docs/s66.1: that its literal displays are what a terminal shows, and that it has each sentence of the program's
-help. The status is 1 where something is wrong, and each wrong place is told, wrong output as a diff.
+PROGRAM is the built program. Without a DOCUMENT all are checked: README.md, examples/README.md, docs/*.md, the manual page docs/s66.1: that its
+literal displays are what a terminal shows, and that it has each sentence of the program's help; and the files of
+examples/: that each NAME.time, NAME.chart and NAME.order is to the byte what the program writes of NAME.compass, and that
+check says yes to each document that prove writes of it, at the times of NAME.order. The status is 1 where something is
+wrong, and each wrong place is told, wrong output as a diff.
 
 Two kinds of fences hold commands. In
 
@@ -47,6 +49,8 @@ DISPLAY = re.compile(r"^\.Bd -literal.*\n((?:.*\n)*?)^\.Ed$", re.MULTILINE)
 HELP = re.compile(r"^ +(?:--)?(?!help)\w+(?: <N>)?  +(\S.*)$", re.MULTILINE)
 STATUSES = re.compile(r"^Status: (.*)$", re.MULTILINE)
 COMMENT = re.compile(r"^\s*(//|--).*$", re.MULTILINE)
+BEST = re.compile(r"^\* BLOCK (\d+) COUNT \d+ SOURCE \d+ TIME (\d+) BEST$", re.MULTILINE)
+EXAMPLES = {"time": ["time"], "chart": ["chart"], "order": ["order", "--workers", "1", "--trace"]}
 STATUS_END = "\x1e"  # behind the output of a command: its status, and this
 
 
@@ -113,6 +117,40 @@ def wrong_commands(name, text, program):
         for command, after, (_, status) in zip(commands, commands[1:] + [""], ran):
             if status != 0 and after != "echo $?\n":
                 yield f"{name}:{fence.line}: status {status} that isn't shown, of: {command.rstrip()}"
+
+
+def wrong_output(name, words, program, given, wanted):
+    """The output, and what of it is otherwise than wanted; the status has to be 0, and nothing is told of errors."""
+    done = subprocess.run([program, *words], input=given, stdout=subprocess.PIPE, stderr=subprocess.STDOUT)
+    if done.returncode == 0 and done.stdout == wanted:
+        return
+    lines = [text.decode("utf-8", "backslashreplace").splitlines() for text in (wanted, done.stdout)]
+    yield f"{name}: s66 {' '.join(words)} has status {done.returncode}, and writes:"
+    yield from difflib.unified_diff(*lines, name, "what came", lineterm="")
+
+
+def wrong_examples(program):
+    """What the files of examples/ hold otherwise than the program writes it."""
+
+    def read(name):
+        with open(os.path.join(ROOT, name), "rb") as opened:
+            return opened.read()
+
+    program = os.path.abspath(program)
+    files = {f"examples/{name}" for name in os.listdir(os.path.join(ROOT, "examples"))} - {"examples/README.md"}
+    routines = sorted(name[: -len(".compass")] for name in files if name.endswith(".compass"))
+    known = {f"{routine}.{suffix}" for routine in routines for suffix in ["compass", *EXAMPLES]}
+    for name in sorted(files ^ known):
+        yield f"{name}: {'nothing writes it' if name in files else 'no such file'}"
+    for routine in routines:
+        source = read(f"{routine}.compass")
+        for suffix, words in EXAMPLES.items():
+            if f"{routine}.{suffix}" in files:
+                yield from wrong_output(f"{routine}.{suffix}", words, program, source, read(f"{routine}.{suffix}"))
+        proved = subprocess.run([program, "prove", "--workers", "1"], input=source, stdout=subprocess.PIPE)
+        best = BEST.findall(read(f"{routine}.order").decode()) if f"{routine}.order" in files else []
+        verdicts = "".join(f"DOCUMENT {block} YES TIME {time} BOUND {time}\n" for block, time in best)
+        yield from wrong_output(f"{routine}.compass", ["check"], program, proved.stdout, verdicts.encode())
 
 
 class Repository:
@@ -199,6 +237,7 @@ def main(arguments):
     wrong, commands = [], 0
     if not arguments[1:]:
         wrong += wrong_manual("docs/s66.1", program)
+        wrong += wrong_examples(program)
     repository = Repository()
     for document in documents:
         name = os.path.relpath(document, ROOT)

@@ -9,8 +9,6 @@ mod documents;
 mod fields;
 mod laws;
 mod limits;
-#[cfg(test)]
-mod line_tests;
 mod observer;
 mod order_text;
 mod outcome;
@@ -19,8 +17,6 @@ mod program;
 mod progress;
 mod prove_text;
 mod run;
-#[cfg(test)]
-mod tests;
 mod time_text;
 mod usage;
 

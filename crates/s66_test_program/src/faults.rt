@@ -1,0 +1,62 @@
+use s66_cert::CertError;
+use s66_line::SourceError;
+use s66_program::Fault;
+use std::alloc::AllocError;
+use std::fmt::Display;
+use std::process::Abort;
+use std::test::Fail;
+
+/// Checks the text that a value shows.
+fn check_shown<R: AllocGlobal + Abort, T: Display>(
+    rt: &R,
+    value: &T,
+    text: &str,
+) -> Result<(), AllocError> {
+    let shown = format!(in rt.alloc(); "{value}")?;
+    assert!(rt; shown.as_str() == text, "{shown} for {text}");
+    Ok(())
+}
+
+/// Why a source is refused, and what that shows.
+const SOURCE_ERRORS: &[(SourceError, &str)] = &[
+    (SourceError::BadOperand { line: 2 }, "LINE 2 BAD OPERAND"),
+    (SourceError::LineTooLong { line: 1 }, "LINE 1 TOO LONG"),
+    (SourceError::TooLarge, "TOO MANY LINES"),
+    (SourceError::OutOfMemory, "OUT OF MEMORY"),
+];
+
+/// Why documents are refused, and what that shows.
+const CERT_ERRORS: &[(CertError, &str)] = &[
+    (
+        CertError::BadLine {
+            line: 20_000_000_000,
+        },
+        "LINE 20000000000 BAD LINE",
+    ),
+    (CertError::Truncated, "TRUNCATED"),
+    (CertError::TooManyNodes, "TOO MANY NODES"),
+    (CertError::OutOfMemory, "OUT OF MEMORY"),
+];
+
+/// The other reasons why the program fails, and what they show.
+const FAULTS: &[(Fault, &str)] = &[
+    (Fault::Memory, "OUT OF MEMORY"),
+    (Fault::Read, "READ FAILED"),
+    (Fault::Write, "WRITE FAILED"),
+];
+
+#[test]
+fn shows_faults(rt: HostRuntime) -> Result<(), Fail> {
+    for &(error, text) in SOURCE_ERRORS {
+        check_shown(&rt, &error, text)?;
+        check_shown(&rt, &Fault::Source(error), text)?;
+    }
+    for &(error, text) in CERT_ERRORS {
+        check_shown(&rt, &error, text)?;
+        check_shown(&rt, &Fault::Document(error), text)?;
+    }
+    for &(fault, text) in FAULTS {
+        check_shown(&rt, &fault, text)?;
+    }
+    Ok(())
+}

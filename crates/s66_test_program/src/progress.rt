@@ -1,0 +1,97 @@
+use crate::running::{CHECK, ORDER, run_observed};
+use arrayvec::ArrayVec;
+use s66_line::OverRead;
+use s66_program::{Observer, Progress};
+use std::io;
+use std::process::Abort;
+use std::sync::Wait;
+use std::sync::atomic::{AtomicU64, Ordering};
+use std::thread::Threads;
+use std::time::{Clock, Duration};
+
+/// A clock that has gone on by 600 milliseconds whenever it is read.
+#[derive(Drop)]
+struct Ticks {
+    reads: AtomicU64,
+}
+
+impl Clock for Ticks {
+    fn monotonic(&self) -> io::Result<Duration> {
+        let reads = self.reads.fetch_add(1, Ordering::SeqCst);
+        Ok(Duration::from_millis(reads.wrapping_mul(600)))
+    }
+
+    fn since_1970(&self) -> io::Result<Duration> {
+        self.monotonic()
+    }
+}
+
+/// What a terminal gets of work on four blocks that ends when so many are done.
+fn shown_until<R: AllocGlobal>(rt: &R, count: usize) -> Vec<u8> {
+    let clock = Ticks {
+        reads: AtomicU64::new(0),
+    };
+    let mut shown = Vec::new(rt.alloc());
+    let mut progress = Progress::new(&clock, Some(&mut shown));
+    for done in 0..=count {
+        progress.done(done, 4);
+    }
+    progress.ended();
+    shown
+}
+
+#[test]
+fn shows_long_work(rt: HostRuntime) {
+    let shown = shown_until(&rt, 3);
+    assert!(rt; shown.as_slice() == b"\r2 of 4 blocks\r3 of 4 blocks\r\x1b[K".as_slice());
+    assert!(rt; shown_until(&rt, 1).is_empty());
+}
+
+/// What an observer is told, as far as there is room.
+#[derive(Drop)]
+struct Told {
+    steps: ArrayVec<(usize, usize), 8>,
+    ends: u32,
+}
+
+impl Observer for Told {
+    fn done(&mut self, count: usize, of: usize) {
+        let _ = self.steps.try_push((count, of));
+    }
+
+    fn ended(&mut self) {
+        self.ends = self.ends.saturating_add(1);
+    }
+}
+
+/// Checks the status and what an observer is told: of each block or document, one after the other, and of the end. The answer
+/// is what was written.
+fn check_told<R: AllocGlobal + Abort + Threads + Wait + Sync>(
+    rt: &R,
+    words: &[&str],
+    input: &[u8],
+    status: u8,
+    steps: &[(usize, usize)],
+) -> Vec<u8> {
+    let mut told = Told {
+        steps: ArrayVec::new(),
+        ends: 0,
+    };
+    let ran = run_observed(rt, words, &mut OverRead::new(input), &mut told);
+    assert!(rt; ran.status == status, "{words:?}");
+    assert!(rt;
+        told.steps.as_slice() == steps && told.ends == 1,
+        "{words:?}"
+    );
+    ran.written
+}
+
+#[test]
+fn tells_of_blocks_and_documents(rt: HostRuntime) {
+    let source = b"  BX1 X2+X3\nL BX1 X2\n";
+    let two = [(0, 2), (1, 2)];
+    check_told(&rt, ORDER, source, 0, &two);
+    let documents = check_told(&rt, &["s66", "prove"], source, 0, &two);
+    check_told(&rt, CHECK, documents.as_slice(), 0, &two);
+    check_told(&rt, ORDER, b"  SA1 *+2\n", 3, &[]);
+}

@@ -1,0 +1,142 @@
+use crate::running::{ORDER, ORDER_TRACE, TIME, check, run};
+use std::process::Abort;
+use std::sync::Wait;
+use std::test::Fail;
+use std::thread::Threads;
+
+mod chart;
+mod deps;
+mod order;
+mod time;
+mod words;
+
+/// A run: name, words, input, status, and the text that is written if the status is 0 or 7, and else goes to standard error.
+pub(crate) type Row = (
+    &'static str,
+    &'static [&'static str],
+    &'static str,
+    u8,
+    &'static str,
+);
+
+pub(crate) const ONE_LOAD: &str = "  SA1 A1+B1\n  BX6 X1\n  BX7 X2\n";
+
+pub(crate) const PACKING_GAP: &str = "  BX7 X2\n  LX3 1\n  IX4 X5+X6\n  SA1 A1+100\n";
+
+pub(crate) const B0: &str = "  NX1 B0,X2\n  SB0 5\n  SX3 B0\n";
+
+pub(crate) const THREE_MULTIPLIES: &str = "  FX1 X2*X3\n  FX4 X5*X6\n  FX0 X7*X7\n";
+
+pub(crate) const THIRD_ORDER: &str = "  FX1 X2/X3\n  BX4 X1*X5\n  SX5 B1\n";
+
+pub(crate) const STORE_THEN_LOAD: &str = "  SA6 A6+B1\n  SA1 A2+B2\n";
+
+pub(crate) const UNPACK_THEN_SHIFT: &str = "  UX1 B1,X1\n  LX1 B1\n";
+
+pub(crate) const MIXED_SOURCE: &str =
+    "* TEST\nLOOP      SA1 A1+1     LOAD\n          NO\n* NOTE\n          BX6 X1\n+         SA6 A6+B1    STORE\n          ZR X1,LOOP\n          BX1 X2\n          VFD 60/0\n";
+
+/// Sources with several best orders: name, source, how the output of `order` begins and ends, and what `time` writes of it.
+const ORDERED: &[(&str, &str, &str, &str, &str)] = &[
+    (
+        "packing gap",
+        PACKING_GAP,
+        "* BLOCK 1 COUNT 4 SOURCE 12 TIME 8 BEST\n          SA1 A1+100\n",
+        "\n",
+        "BLOCK 1 LINE 2 COUNT 4 PARCELS 5 NO 0 TIME 8\n",
+    ),
+    (
+        "B0",
+        B0,
+        "* BLOCK 1 COUNT 3 SOURCE 7 TIME 6 BEST\n",
+        "\n          SB0 5\n",
+        "BLOCK 1 LINE 2 COUNT 3 PARCELS 4 NO 0 TIME 6\n",
+    ),
+];
+
+/// Runs as `Row`, whose input is a piece and how many times it is repeated.
+const REPEATED: &[(&str, &[&str], &str, usize, u8, &str)] = &[
+    (
+        "sixty-four",
+        TIME,
+        "  BX0 X0\n",
+        64,
+        0,
+        "BLOCK 1 LINE 1 COUNT 64 PARCELS 64 NO 0 TIME 256\n",
+    ),
+    (
+        "sixty-five",
+        TIME,
+        "  BX0 X0\n",
+        65,
+        0,
+        "BLOCK 1 LINE 1 COUNT 64 PARCELS 64 NO 0 TIME 256\nBLOCK 2 LINE 65 COUNT 1 PARCELS 1 NO 0 TIME 4\n",
+    ),
+    ("201 bytes", TIME, "*", 201, 3, "LINE 1 TOO LONG\n"),
+    ("20,000 lines", TIME, "*\n", 20_000, 0, ""),
+    ("20,001 lines", TIME, "*\n", 20_001, 3, "TOO MANY LINES\n"),
+    (
+        "17,039,360 lines",
+        TIME,
+        "\n",
+        17_039_360,
+        3,
+        "TOO MANY LINES\n",
+    ),
+];
+
+fn check_rows<R: AllocGlobal + Abort + Threads + Wait + Sync>(rt: &R, rows: &[Row]) {
+    for &(name, words, input, status, text) in rows {
+        check(rt, name, words, input.as_bytes(), status, text);
+    }
+}
+
+#[test]
+fn runs_rows(rt: HostRuntime) {
+    check_rows(&rt, time::ROWS);
+    check_rows(&rt, deps::ROWS);
+    check_rows(&rt, chart::ROWS);
+    check_rows(&rt, order::ROWS);
+    check_rows(&rt, words::ROWS);
+}
+
+#[test]
+fn orders_rows(rt: HostRuntime) {
+    for &(name, input, begins, ends, time) in ORDERED {
+        let ran = run(&rt, ORDER, input.as_bytes());
+        let written = ran.written.as_slice();
+        assert!(rt; ran.status == 0 && ran.told.is_empty(), "{name}");
+        assert!(rt;
+            written.starts_with(begins.as_bytes()) && written.ends_with(ends.as_bytes()),
+            "{name}: {written:?}"
+        );
+        check(&rt, name, TIME, written, 0, time);
+    }
+}
+
+#[test]
+fn runs_repeated_rows(rt: HostRuntime) -> Result<(), Fail> {
+    for &(name, words, piece, times, status, text) in REPEATED {
+        let input = piece.repeat(rt.alloc(), times)?;
+        check(&rt, name, words, input.as_bytes(), status, text);
+    }
+    Ok(())
+}
+
+/// Each instruction waits for the one before it, so the source order is the only one.
+#[test]
+fn orders_sixty_four(rt: HostRuntime) -> Result<(), Fail> {
+    let lines = "          BX0 X0\n".repeat(rt.alloc(), 64)?;
+    let text = format!(in rt.alloc();
+        "* BLOCK 1 COUNT 64 SOURCE 256 TIME 256 BEST\n* SPLITS 0\n{lines}"
+    )?;
+    check(
+        &rt,
+        "sixty-four",
+        ORDER_TRACE,
+        lines.as_bytes(),
+        0,
+        text.as_str(),
+    );
+    Ok(())
+}

@@ -1,0 +1,41 @@
+use crate::rows::{ONE_LOAD, PACKING_GAP, Row, THIRD_ORDER};
+use crate::running::CHART;
+
+pub(crate) const ROWS: &[Row] = &[
+    ("empty input", CHART, "", 0, ""),
+    (
+        "one load",
+        CHART,
+        ONE_LOAD,
+        0,
+        "BLOCK 1 LINE 1 TIME 16\n  1 I=======........\n  2 .IWWWWWW===.....\n  3 ............I==.\n",
+    ),
+    (
+        "packing gap",
+        CHART,
+        PACKING_GAP,
+        0,
+        "BLOCK 1 LINE 1 TIME 12\n  1 I==.........\n  2 .I==........\n  3 ..I==.......\n NO ...I........\n  4 ....I=======\n",
+    ),
+    (
+        "third order",
+        CHART,
+        THIRD_ORDER,
+        0,
+        "BLOCK 1 LINE 1 TIME 33\n  1 I============================....\n  2 .IWWWWWWWWWWWWWWWWWWWWWWWWWWW===.\n  3 ..I==HHHHHHHHHHHHHHHHHHHHHHHHH...\n",
+    ),
+    (
+        "B0 alone is written",
+        CHART,
+        "  SB0 5\n",
+        0,
+        "BLOCK 1 LINE 1 TIME 4\n  1 I==.\n",
+    ),
+    (
+        "two blocks",
+        CHART,
+        "  BX1 X2\n  EQ B1,B2,L\n  FX1 X2+X3\n",
+        0,
+        "BLOCK 1 LINE 1 TIME 4\n  1 I==.\nBLOCK 2 LINE 3 TIME 5\n  1 I===.\n",
+    ),
+];

@@ -1,0 +1,104 @@
+use crate::running::run;
+use s66_line::{OverRead, OverWrite};
+use s66_program::{Command, Status, command_of, run_command};
+use std::test::Fail;
+
+/// Words, and the status: 0 of help, 2 of words that are no command.
+const NO_COMMANDS: &[(&[&str], u8)] = &[
+    (&["s66"], 2),
+    (&["s66", "nonsense"], 2),
+    (&["s66", "proves"], 2),
+    (&["s66", "--trace", "time"], 2),
+    (&["s66", "time", "--nodes", "5"], 2),
+    (&["s66", "time", "--trace=1"], 2),
+    (&["s66", "time", "--trace", "--trace"], 2),
+    (&["s66", "deps", "--trace"], 2),
+    (&["s66", "deps", "extra"], 2),
+    (&["s66", "deps", "chart"], 2),
+    (&["s66", "chart", "--trace"], 2),
+    (&["s66", "order", "--workers", "0"], 2),
+    (&["s66", "order", "--workers", "17"], 2),
+    (&["s66", "order", "--nodes"], 2),
+    (&["s66", "order", "--nodes", "x"], 2),
+    (&["s66", "order", "--nodes", "1000001"], 2),
+    (&["s66", "order", "--nodes", "1", "--nodes", "1"], 2),
+    (&["s66", "prove", "--workers", "17"], 2),
+    (&["s66", "prove", "--trace"], 2),
+    (&["s66", "check", "--nodes", "5"], 2),
+    (&["s66", "help"], 0),
+    (&["s66", "--help"], 0),
+    (&["s66", "time", "--help"], 0),
+    (&["s66", "deps", "--help"], 0),
+    (&["s66", "chart", "--help"], 0),
+    (&["s66", "order", "--help"], 0),
+    (&["s66", "prove", "--help"], 0),
+    (&["s66", "check", "--help"], 0),
+];
+
+/// Words, and the command that they give.
+const COMMANDS: &[(&[&str], Command)] = &[
+    (&["s66", "time"], Command::Time { trace: false }),
+    (&["s66", "time", "--trace"], Command::Time { trace: true }),
+    (&["s66", "deps"], Command::Deps),
+    (&["s66", "chart"], Command::Chart),
+    (
+        &["s66", "order"],
+        Command::Order {
+            workers: 4,
+            nodes: 100_000,
+            trace: false,
+        },
+    ),
+    (
+        &["s66", "order", "--trace"],
+        Command::Order {
+            workers: 4,
+            nodes: 100_000,
+            trace: true,
+        },
+    ),
+    (
+        &["s66", "order", "--workers", "1", "--nodes", "0"],
+        Command::Order {
+            workers: 1,
+            nodes: 0,
+            trace: false,
+        },
+    ),
+    (
+        &["s66", "order", "--nodes=1000000", "--workers=16", "--trace"],
+        Command::Order {
+            workers: 16,
+            nodes: 1_000_000,
+            trace: true,
+        },
+    ),
+];
+
+#[test]
+fn runs_no_commands(rt: HostRuntime) {
+    for &(words, status) in NO_COMMANDS {
+        let ran = run(&rt, words, b"  SA1 *+2\n");
+        assert!(rt; ran.status == status, "{words:?}");
+        assert!(rt; ran.written.is_empty() == (status != 0), "{words:?}");
+        assert!(rt; ran.told.is_empty() == (status == 0), "{words:?}");
+    }
+}
+
+#[test]
+fn reads_words(rt: HostRuntime) -> Result<(), Fail> {
+    for &(words, command) in COMMANDS {
+        assert!(rt; command_of(rt.alloc(), words)? == command, "{words:?}");
+    }
+    Ok(())
+}
+
+#[test]
+fn runs_a_command(rt: HostRuntime) {
+    let mut reader = OverRead::new(b"  BX1 X2+X3\n".as_slice());
+    let mut writer = OverWrite::new(Vec::new(rt.alloc()));
+    let result = run_command(&rt, Command::Deps, &mut reader, &mut writer);
+    assert!(rt; result == Ok(Status::Done));
+    let written = writer.into_inner();
+    assert!(rt; written.as_slice() == b"BLOCK 1 LINE 1 COUNT 1 DEPENDENCES 0\n".as_slice());
+}
