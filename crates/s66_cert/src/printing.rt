@@ -1,12 +1,11 @@
-ghost use Rattle.std.specs.Prelude.{◌≡◌, ◌+◌, ◌-◌, ◌^◌, ◌<◌, ◌≤◌, ◌++◌, ℕ, List, [], codes, take, length, map, OnOk, OnErr};
+ghost use Rattle.std.specs.Prelude.{◌≡◌, ◌+◌, ◌-◌, ◌^◌, ◌<◌, ◌≤◌, ◌++◌, ℕ, List, [], codes, take, length, OnOk, OnErr};
 ghost use Rattle.std.specs.Io.KnownBytes.{Appends};
-ghost use Rattle.std.specs.declared.vec.Vec.{Vec};
-ghost use Rattle.std.specs.declared.alloc.Global.{Global};
-ghost use Rattle.s66_cert.specs.Document.{AreInstructions, document_text, instruction_lines, tree_lines};
+ghost use Rattle.s66_cert.specs.Document.{document_text, instruction_lines, tree_lines};
 ghost use Rattle.s66_cert.specs.Pages.{IsPrinted, IsBegun, AreShort, opening, claim_lines};
 ghost use Rattle.s66_cert.specs.DocumentParts.{document_of};
 
 use crate::document::Document;
+use crate::instruction::InstructionText;
 use crate::page::Page;
 use crate::tree::TreeLines;
 use s66_line::{Sink, WriteError};
@@ -25,20 +24,19 @@ fn print_opening(document: &Document, page: &mut Page)
 
 /// Prints the instructions of these texts.
 fn print_block<S: Sink>(
-    block: &[Vec<u8>],
+    block: &[InstructionText],
     page: &mut Page,
     writer: &mut S,
 ) -> Result<(), WriteError>
-    requires failures { S.failures writer.old < 2 ^ 64 - 1 }
-    requires instructions { AreInstructions (map (λ (text : Vec ℕ Global). text.items) block.now) }
-    ensures ok { OnOk result (IsPrinted (S.bytes writer.old) (S.bytes writer.new) page.old page.new (instruction_lines (map (λ (text : Vec ℕ Global). text.items) block.now))) }
+    requires { S.failures writer.old < 2 ^ 64 - 1 }
+    ensures ok { OnOk result (IsPrinted (S.bytes writer.old) (S.bytes writer.new) page.old page.new (instruction_lines block.now)) }
     ensures same { OnOk result (S.failures writer.new ≡ S.failures writer.old) }
     ensures err { OnErr result (S.failures writer.new ≡ S.failures writer.old + 1) }
-    ensures beginning { OnErr result (IsBegun (S.bytes writer.old) (S.bytes writer.new) (page.old ++ instruction_lines (map (λ (text : Vec ℕ Global). text.items) block.now))) }
+    ensures beginning { OnErr result (IsBegun (S.bytes writer.old) (S.bytes writer.new) (page.old ++ instruction_lines block.now)) }
 {
     for text in block {
         page.make_room(writer)?;
-        page.instruction(text.as_slice());
+        page.instruction(text.bytes());
     }
     Ok(())
 }

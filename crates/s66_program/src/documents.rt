@@ -1,6 +1,4 @@
-ghost use Rattle.std.specs.Prelude.{◌≡◌, ◌++◌, [], ◌∷◌, ℕ, map, IfOk, OnOk};
-ghost use Rattle.std.specs.declared.alloc.Global.{Global};
-ghost use Rattle.std.specs.declared.vec.Vec.{Vec};
+ghost use Rattle.std.specs.Prelude.{◌≡◌, ◌++◌, [], ◌∷◌, IfOk, OnOk};
 ghost use Rattle.s66_line.specs.Block.{instrs_of};
 ghost use Rattle.s66_model.specs.Tree.{flat};
 ghost use Rattle.s66_dep.specs.Members.{numbers_in};
@@ -13,7 +11,7 @@ ghost use Rattle.s66_program.specs.ProvedAnswers.{IsSpelled};
 
 use arrayvec::ArrayVec;
 use s66_bound::Leaf;
-use s66_cert::{Claim, Document, PROFILE_LENGTH, Tree, TreeLine};
+use s66_cert::{Claim, Document, InstructionText, PROFILE_LENGTH, Tree, TreeLine};
 use s66_dep::Set;
 use s66_isa::{BLOCK_LIMIT, Profile};
 use s66_ledger::{Answer, AnswerLine, BUDGET_LIMIT};
@@ -45,16 +43,16 @@ fn profile_numbers(profile: &Profile) -> ArrayVec<u8, PROFILE_LENGTH>
     ])
 }
 
-/// The texts of a block's instructions.
-fn texts_of(alloc: Global, block: &Block) -> Result<Vec<Vec<u8>>, AllocError>
-    ensures texts { IfOk result (λ texts. map (λ (text : Vec ℕ Global). text.items) texts.items ≡ texts_of block.now) }
+/// The instructions of a block with their texts.
+fn texts_of(alloc: Global, block: &Block) -> Result<Vec<InstructionText>, AllocError>
+    ensures texts { IfOk result (λ texts. texts.items ≡ texts_of block.now) }
     ensures spelled { IfOk result (λ texts. IsSpelled block.now) }
 {
     let mut texts = Vec::new(alloc);
     for position in 0..block.count() {
-        let mut text = Vec::new(alloc);
-        text.extend_from_slice(block.text(position + 1).as_slice())?;
-        texts.push(text)?;
+        let bytes = block.text(position + 1);
+        let instr = block.instr(position + 1);
+        texts.push(InstructionText::new(alloc, bytes.as_slice(), instr)?)?;
     }
     Ok(texts)
 }
