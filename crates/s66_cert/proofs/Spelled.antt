@@ -1,5 +1,5 @@
 -- The test of an instruction's text.
-use Rattle.std.proofs.Common.{◌≡◌, ◌&&◌, ℕ, Bool, true, false, List, length, Option, None, Some, is_some, refl, sym, ap, ◌∙◌, nat_le, le-leb, leb-true}
+use Rattle.std.proofs.Common.{◌≡◌, ◌&&◌, ℕ, Bool, true, false, List, length, Option, None, Some, is_some, refl, ap, nat_le, le-leb, leb-true}
 use Rattle.std.proofs.lemmas.Bool.{and_parts}
 use Rattle.std.proofs.lemmas.Slice.Eq.{bytes_eq-Decides}
 use Rattle.std.specs.Str.{bytes_eq}
@@ -22,17 +22,13 @@ instruction-is text h =
     let two = and_parts (nat_le (length text) TEXT_LIMIT) (is_some (instr_of (operation_in text) (operand_in text))) all.0 in
     instruction text two.1 ((bytes_eq-Decides text (spelling (operation_in text) (operand_in text))).0 all.1) (leb-true (length text) TEXT_LIMIT two.0)
 
--- what decides whether it is one is the test
-pub tested : (text : List ℕ) (found : Bool) → (found ≡ true → IsInstruction text) × (IsInstruction text → found ≡ true) → found ≡ is_instruction text
-tested text true h = sym (instruction-again text (h.0 refl))
-tested text false h = by_test (is_instruction text) refl
+pub instruction-not : (text : List ℕ) → ¬ IsInstruction text → is_instruction text ≡ false
+instruction-not text is_none = by_test (is_instruction text) refl
   where
-    by_test : (t : Bool) → is_instruction text ≡ t → false ≡ t
-    by_test true told = h.1 (instruction-is text told)
+    by_test : (t : Bool) → is_instruction text ≡ t → t ≡ false
+    by_test true told = absurd (is_none (instruction-is text told))
     by_test false told = refl
 
 -- what is none is no line of a document
-pub refused : (rest : Option (List ℕ)) (text : List ℕ) (found : Bool) → rest ≡ Some text → (found ≡ true → IsInstruction text) × (IsInstruction text → found ≡ true) → found ≡ false → None ≡ instruction_in rest
-refused rest text found is told fails =
-    let none : is_instruction text ≡ false = sym (tested text found told) ∙ fails in
-    rw (is, none) refl
+pub refused : (rest : Option (List ℕ)) (text : List ℕ) → rest ≡ Some text → ¬ IsInstruction text → None ≡ instruction_in rest
+refused rest text is is_none = rw (is, instruction-not text is_none) refl

@@ -10,7 +10,7 @@ abbrev pub said : LineOf → Line
 said code.Header = line.Header
 said (code.Profile numbers) = line.Profile numbers.items
 said (code.Block count) = line.Block count
-said (code.Instruction text) = line.Instruction text.now
+said (code.Instruction text) = line.Instruction text.bytes.now
 said (code.Time time) = line.Time time
 said (code.Bound bound) = line.Bound bound
 said (code.Order numbers) = line.Order numbers.items

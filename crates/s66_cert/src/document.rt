@@ -1,3 +1,4 @@
+use crate::instruction::InstructionText;
 use crate::limits::PROFILE_LENGTH;
 use crate::tree::{Tree, TreeLines};
 use arrayvec::ArrayVec;
@@ -9,8 +10,8 @@ use std::marker::Model;
 pub struct Claim {
     /// The ten times of a profile, then its seven copies of units.
     pub profile: ArrayVec<u8, PROFILE_LENGTH>,
-    /// The texts of the instructions.
-    pub block: Vec<Vec<u8>>,
+    /// The instructions with their texts.
+    pub block: Vec<InstructionText>,
     /// What the order takes, in minor cycles.
     pub time: u32,
     /// What every order takes at least, in minor cycles.
@@ -22,14 +23,11 @@ pub struct Claim {
 }
 
 impl Model for Claim {
-    ghost use Rattle.std.specs.Prelude.{ℕ, map};
-    ghost use Rattle.std.specs.declared.vec.Vec.{Vec};
-    ghost use Rattle.std.specs.declared.alloc.Global.{Global};
     ghost use Rattle.s66_cert.specs.DocumentParts.{Parts};
 
     ghost Value = { Parts };
 
-    ghost view = { λ c. record { profile = c.profile.items; block = map (λ (text : Vec ℕ Global). text.items) c.block.items; time = c.time; bound = c.bound; numbers = c.order.items; knots = c.tree } };
+    ghost view = { λ c. record { profile = c.profile.items; block = c.block.items; time = c.time; bound = c.bound; numbers = c.order.items; knots = c.tree } };
 }
 
 /// A certificate: what it claims of a block under a profile, and a tree that shows it. It is one whole tree of at most
@@ -50,9 +48,7 @@ impl Model for Document {
 }
 
 impl Document {
-    ghost use Rattle.std.specs.Prelude.{◌≡◌, ℕ, map};
-    ghost use Rattle.std.specs.declared.vec.Vec.{Vec};
-    ghost use Rattle.std.specs.declared.alloc.Global.{Global};
+    ghost use Rattle.std.specs.Prelude.{◌≡◌};
     ghost use Rattle.s66_cert.specs.DocumentParts.{AreWhole};
 
     /// The document that says this. Its numbers have to be in their ranges, its texts those of instructions, and the lines of its
@@ -72,9 +68,9 @@ impl Document {
         self.claim.profile.as_slice()
     }
 
-    /// The texts of the instructions, 1 to `BLOCK_LIMIT`.
-    pub fn block(&self) -> &[Vec<u8>]
-        ensures value { map (λ (text : Vec ℕ Global). text.items) result.now ≡ self.now.block }
+    /// The instructions with their texts, 1 to `BLOCK_LIMIT`.
+    pub fn block(&self) -> &[InstructionText]
+        ensures value { result.now ≡ self.now.block }
         ensures whole { AreWhole self.now }
     {
         self.claim.block.as_slice()

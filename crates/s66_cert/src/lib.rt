@@ -4,6 +4,7 @@
 mod document;
 mod error;
 mod examples;
+mod instruction;
 mod laws;
 mod limits;
 mod line;
@@ -21,6 +22,7 @@ mod tree;
 pub use document::{Claim, Document};
 pub use error::CertError;
 pub use examples::document_examples;
+pub use instruction::InstructionText;
 pub use laws::{one_reading_law, reading_law};
 pub use limits::{PROFILE_LENGTH, PROFILE_LIMIT, SPLIT_LIMIT, TIME_LIMIT};
 pub use printing::print;

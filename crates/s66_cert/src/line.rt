@@ -1,3 +1,4 @@
+use crate::instruction::ReadText;
 use crate::limits::PROFILE_LENGTH;
 use arrayvec::ArrayVec;
 use s66_isa::{BLOCK_LIMIT, Kind};
@@ -10,7 +11,7 @@ pub(crate) enum LineOf<'a> {
     /// How many instructions the block has.
     Block(u32),
     /// The text of one.
-    Instruction(&'a [u8]),
+    Instruction(ReadText<'a>),
     Time(u32),
     Bound(u32),
     Order(ArrayVec<u8, BLOCK_LIMIT>),

@@ -9,12 +9,13 @@ ghost use Rattle.s66_cert.specs.Lines as line;
 ghost use Rattle.s66_cert.specs.Said.{said};
 ghost use Rattle.s66_cert.specs.declared.limits.TheConstants.{TIME_LIMIT};
 
+use crate::instruction::ReadText;
 use crate::limits::{PROFILE_LENGTH, PROFILE_LIMIT, TIME_LIMIT};
 use crate::line::LineOf;
 use crate::scan::{number_in, numbers_in, split_word};
 use arrayvec::ArrayVec;
 use s66_isa::{BLOCK_LIMIT, Kind};
-use s66_line::is_instruction;
+use s66_line::instruction_of_text;
 
 fn is_name(bytes: &[u8], name: &[u8]) -> bool
     ensures { result ≡ bytes_eq bytes.now name.now }
@@ -77,15 +78,14 @@ fn kind_in(rest: Option<&[u8]>) -> Option<Kind>
 }
 
 /// The text of an instruction.
-#[tactic(auto, using(crate::proofs::Spelled::tested))]
 fn instruction_line(rest: Option<&[u8]>) -> Option<LineOf<'_>>
     ensures { option_map said result ≡ instruction_in (option_map (λ r. r.now) rest.entry) }
 {
-    let text = rest?;
-    if !is_instruction(text) {
+    let bytes = rest?;
+    let Some(instr) = instruction_of_text(bytes) else {
         return None;
-    }
-    Some(LineOf::Instruction(text))
+    };
+    Some(LineOf::Instruction(ReadText { bytes, instr }))
 }
 
 fn header_line(rest: Option<&[u8]>) -> Option<LineOf<'_>>

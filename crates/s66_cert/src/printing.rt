@@ -1,12 +1,11 @@
-ghost use Rattle.std.specs.Prelude.{◌≡◌, ◌-◌, ◌^◌, ◌<◌, ◌++◌, ℕ, [], codes, map};
-ghost use Rattle.std.specs.declared.vec.Vec.{Vec};
-ghost use Rattle.std.specs.declared.alloc.Global.{Global};
+ghost use Rattle.std.specs.Prelude.{◌≡◌, ◌-◌, ◌^◌, ◌<◌, ◌++◌, ℕ, [], codes};
 ghost use Rattle.s66_line.specs.Devices.{Written};
-ghost use Rattle.s66_cert.specs.Document.{AreInstructions, document_text, instruction_lines, tree_lines};
+ghost use Rattle.s66_cert.specs.Document.{document_text, instruction_lines, tree_lines};
 ghost use Rattle.s66_cert.specs.Pages.{Printed, AreShort, opening, claim_lines};
 ghost use Rattle.s66_cert.specs.DocumentParts.{document_of};
 
 use crate::document::Document;
+use crate::instruction::InstructionText;
 use crate::page::Page;
 use crate::tree::TreeLines;
 use s66_line::{Sink, WriteError};
@@ -25,17 +24,16 @@ fn print_opening(document: &Document, page: &mut Page)
 
 /// Prints the instructions of these texts.
 fn print_block<S: Sink>(
-    block: &[Vec<u8>],
+    block: &[InstructionText],
     page: &mut Page,
     writer: &mut S,
 ) -> Result<(), WriteError>
-    requires failures { (S.seen writer.old).failures < 2 ^ 64 - 1 }
-    requires instructions { AreInstructions (map (λ (text : Vec ℕ Global). text.items) block.now) }
-    ensures { Printed (S.seen writer.old) (S.seen writer.new) page.old page.new (instruction_lines (map (λ (text : Vec ℕ Global). text.items) block.now)) result }
+    requires { (S.seen writer.old).failures < 2 ^ 64 - 1 }
+    ensures { Printed (S.seen writer.old) (S.seen writer.new) page.old page.new (instruction_lines block.now) result }
 {
     for text in block {
         page.make_room(writer)?;
-        page.instruction(text.as_slice());
+        page.instruction(text.bytes());
     }
     Ok(())
 }

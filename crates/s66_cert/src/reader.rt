@@ -12,6 +12,7 @@ ghost use Rattle.s66_cert.specs.declared.place.Place.TheVariants.{AtInstruction,
 
 use crate::document::{Claim, Document};
 use crate::error::CertError;
+use crate::instruction::{InstructionText, ReadText};
 use crate::limits::{PROFILE_LENGTH, SPLIT_LIMIT};
 use crate::line::LineOf;
 use crate::parse::line_of;
@@ -90,13 +91,12 @@ impl Reader {
     }
 
     /// Reads the text of an instruction where one comes.
-    fn take_instruction(&mut self, alloc: Global, text: &[u8]) -> Result<(), CertError>
+    fn take_instruction(&mut self, alloc: Global, text: &ReadText<'_>) -> Result<(), CertError>
         requires lines { self.old.lines < 2 ^ 64 - 1 }
         requires some { 1 ≤ self.old.left }
-        ensures { Steps (state self.new) result (step_at SPLIT_LIMIT (state self.old) AtInstruction (Instruction text.now)) }
+        ensures { Steps (state self.new) result (step_at SPLIT_LIMIT (state self.old) AtInstruction (Instruction text.now.bytes.now)) }
     {
-        let mut copy = Vec::new(alloc);
-        copy.extend_from_slice(text)?;
+        let copy = InstructionText::new(alloc, text.bytes, text.instr)?;
         self.claim.block.push(copy)?;
         let left = self.left - 1;
         let place = if left == 0 {
@@ -193,10 +193,10 @@ impl Reader {
     }
 
     #[tactic(auto, using(crate::proofs::Places::other_instruction, crate::proofs::Places::some_instruction))]
-    fn instruction(&mut self, alloc: Global, text: &[u8]) -> Result<(), CertError>
+    fn instruction(&mut self, alloc: Global, text: &ReadText<'_>) -> Result<(), CertError>
         requires lines { self.old.lines < 2 ^ 64 - 1 }
         requires fine { IsFine SPLIT_LIMIT (state self.old) }
-        ensures { Steps (state self.new) result (step_at SPLIT_LIMIT (state self.old) self.old.place (Instruction text.now)) }
+        ensures { Steps (state self.new) result (step_at SPLIT_LIMIT (state self.old) self.old.place (Instruction text.now.bytes.now)) }
     {
         match self.place {
             Place::AtInstruction => self.take_instruction(alloc, text),
@@ -286,7 +286,7 @@ impl Reader {
             LineOf::Header => self.header(alloc),
             LineOf::Profile(numbers) => self.profile(numbers),
             LineOf::Block(count) => self.block(alloc, count),
-            LineOf::Instruction(text) => self.instruction(alloc, text),
+            LineOf::Instruction(text) => self.instruction(alloc, &text),
             LineOf::Time(time) => self.time(time),
             LineOf::Bound(bound) => self.bound(bound),
             LineOf::Order(numbers) => self.order(alloc, numbers),

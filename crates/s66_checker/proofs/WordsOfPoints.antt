@@ -1,5 +1,5 @@
 -- What the words of a past are, point by point.
-use Rattle.std.proofs.Common.{ℕ, ◌+◌, ◌-◌, ◌≤◌, ◌<◌, ◌≡◌, ◌≢◌, Bool, true, false, true≢false, ◌||◌, ◌&&◌, cond, max, min, List, [], ◌∷◌, ◌++◌, length, drop, take, replicate, get_or, set, refl, sym, ap, subst, arith, inl, inr, ltb, ◌∙◌}
+use Rattle.std.proofs.Common.{ℕ, ◌+◌, ◌-◌, ◌≤◌, ◌<◌, ◌≡◌, ◌≢◌, false, true≢false, ◌||◌, ◌&&◌, cond, max, min, List, [], ◌∷◌, ◌++◌, length, drop, take, replicate, get_or, set, refl, sym, ap, subst, arith, inl, inr, ltb, ◌∙◌}
 use Rattle.std.proofs.lemmas.Bool.{cases_Bool, cases_lt, lt-ltb, le-ltb, eqb-true, eq-eqb}
 use Rattle.std.proofs.lemmas.List.{get_or-set_same, get_or-set_other, get_or-replicate, get_or_append_left, get_or-append_right, at_drop_more, length-append, length-take-le, take-append-le, take-take, take_all}
 use Rattle.s66_isa.specs.Lists.{greatest, tally}

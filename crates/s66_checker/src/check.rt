@@ -1,11 +1,8 @@
-ghost use Rattle.std.specs.Prelude.{◌≡◌, ◌≤◌, ℕ, [], Some, None, if◌then◌else◌, bytes_eq, length, map};
-ghost use Rattle.std.specs.declared.alloc.Global.{Global};
-ghost use Rattle.std.specs.declared.vec.Vec.{Vec};
+ghost use Rattle.std.specs.Prelude.{◌≡◌, ◌≤◌, [], Some, None, if◌then◌else◌, bytes_eq, length, map};
 ghost use Rattle.s66_isa.specs.Table.{standard};
 ghost use Rattle.s66_isa.specs.declared.limits.TheConstants.{BLOCK_LIMIT};
-ghost use Rattle.s66_line.specs.declared.limits.TheConstants.{TEXT_LIMIT};
 ghost use Rattle.s66_model.specs.Timing.{total_of};
-ghost use Rattle.s66_cert.specs.Document.{AreInstructions, profile_numbers};
+ghost use Rattle.s66_cert.specs.Document.{profile_numbers};
 ghost use Rattle.s66_cert.specs.DocumentParts.{document_of};
 ghost use Rattle.s66_line.specs.InstructionText.{instr_in_text};
 ghost use Rattle.s66_checker.specs.Verdict.{is_legal_order, verdict};
@@ -14,9 +11,8 @@ use crate::prefix::Prefix;
 use crate::verdict::{Reason, Verdict};
 use crate::walk::tree_verdict;
 use arrayvec::ArrayVec;
-use s66_cert::{Document, PROFILE_LENGTH};
+use s66_cert::{Document, InstructionText, PROFILE_LENGTH};
 use s66_isa::{BLOCK_LIMIT, Instr};
-use s66_line::instruction_in;
 
 /// The numbers of the standard profile.
 const STANDARD: [u8; PROFILE_LENGTH] = [3, 3, 4, 4, 3, 10, 29, 8, 3, 8, 1, 1, 1, 1, 2, 1, 2];
@@ -28,26 +24,14 @@ fn is_standard(profile: &[u8]) -> bool
     profile == STANDARD.as_slice()
 }
 
-/// The instruction that a text spells.
-fn instruction_of(text: &[u8]) -> Instr
-    requires { length text.now ≤ TEXT_LIMIT }
-    ensures { result ≡ instr_in_text text.now }
-{
-    match instruction_in(text) {
-        Some(instr) => instr,
-        None => Instr::default(),
-    }
-}
-
-/// The instructions that the texts spell.
-fn instructions_of(texts: &[Vec<u8>]) -> ArrayVec<Instr, BLOCK_LIMIT>
-    requires few { length texts.now ≤ BLOCK_LIMIT }
-    requires texts { AreInstructions (map (λ (text : Vec ℕ Global). text.items) texts.now) }
-    ensures { result.items ≡ map instr_in_text (map (λ (text : Vec ℕ Global). text.items) texts.now) }
+/// The instructions of a document's block.
+fn instructions_of(texts: &[InstructionText]) -> ArrayVec<Instr, BLOCK_LIMIT>
+    requires { length texts.now ≤ BLOCK_LIMIT }
+    ensures { result.items ≡ map instr_in_text texts.now }
 {
     let mut instrs = ArrayVec::new();
     for text in texts {
-        instrs.push(instruction_of(text.as_slice()));
+        instrs.push(text.instr());
     }
     instrs
 }

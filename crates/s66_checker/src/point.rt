@@ -3,7 +3,7 @@ ghost use Rattle.s66_isa.specs.Table.{memory_pair};
 ghost use Rattle.s66_model.specs.Timing.{end_of};
 ghost use Rattle.s66_model.specs.Leaves.{rest_busy};
 
-use crate::result::{ResultAt, last_time};
+use crate::result::{KeptResult, last_time};
 use arrayvec::ArrayVec;
 use s66_isa::{Kind, Memory, Reg, Row, is_memory_conflict, is_same_kind};
 use std::marker::Model;
@@ -17,7 +17,7 @@ pub struct KeptPoint {
     pub issue: u32,
     pub start: u32,
     pub free: u32,
-    pub results: ArrayVec<ResultAt, 2>,
+    pub results: ArrayVec<KeptResult, 2>,
 }
 
 impl Model for KeptPoint {
@@ -68,7 +68,7 @@ impl KeptPoint {
     }
 
     /// Its results.
-    pub fn results(&self) -> &[ResultAt]
+    pub fn results(&self) -> &[KeptResult]
         ensures { result.now ≡ self.now.results }
     {
         self.results.as_slice()

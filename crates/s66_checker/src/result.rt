@@ -1,19 +1,19 @@
 ghost use Rattle.std.specs.Prelude.{◌≡◌, ◌+◌, ◌<◌, ◌^◌, if◌then◌else◌};
 ghost use Rattle.s66_isa.specs.Lists.{greatest};
-ghost use Rattle.s66_model.specs.Timing.{ResultAt as ResultOf, free_after};
+ghost use Rattle.s66_model.specs.Timing.{ResultAt, free_after};
 
 use s66_isa::Reg;
 use std::marker::Model;
 
 /// A result: its register, the minor cycle in which it is done, and whether the unit holds it.
 #[derive(Clone, Copy, Debug, Default, Drop)]
-pub struct ResultAt {
+pub struct KeptResult {
     pub reg: Reg,
     pub time: u32,
     pub held: bool,
 }
 
-impl Model for ResultAt {
+impl Model for KeptResult {
     ghost use Rattle.s66_model.specs.Timing.{ResultAt};
 
     ghost Value = { ResultAt };
@@ -23,7 +23,7 @@ impl Model for ResultAt {
     ghost inverse = { λ d. record { reg = d.reg; time = d.time; held = d.held } };
 }
 
-impl ResultAt {
+impl KeptResult {
     /// When it is done, 0 where the unit doesn't hold it.
     fn held_time(&self) -> u32
         ensures { result ≡ if self.now.held then self.now.time else 0 }
@@ -33,8 +33,8 @@ impl ResultAt {
 }
 
 /// When the last of these results is done, 0 where there is none.
-pub fn last_time(results: &[ResultAt]) -> u32
-    ensures { result ≡ greatest (λ (d : ResultOf). d.time) results.now }
+pub fn last_time(results: &[KeptResult]) -> u32
+    ensures { result ≡ greatest (λ (d : ResultAt). d.time) results.now }
 {
     let mut last = 0u32;
     for done in results {
@@ -44,8 +44,8 @@ pub fn last_time(results: &[ResultAt]) -> u32
 }
 
 /// When the last of these results that the unit holds is done, 0 where there is none.
-fn last_held_time(results: &[ResultAt]) -> u32
-    ensures { result ≡ greatest (λ (d : ResultOf). if d.held then d.time else 0) results.now }
+fn last_held_time(results: &[KeptResult]) -> u32
+    ensures { result ≡ greatest (λ (d : ResultAt). if d.held then d.time else 0) results.now }
 {
     let mut last = 0u32;
     for done in results {
@@ -56,9 +56,9 @@ fn last_held_time(results: &[ResultAt]) -> u32
 
 /// When the unit of an instruction is free: one minor cycle after the last result that it holds, or after its hold where
 /// nothing is written.
-pub fn free_after(start: u32, hold: u32, results: &[ResultAt]) -> u32
+pub fn free_after(start: u32, hold: u32, results: &[KeptResult]) -> u32
     requires start { start + hold + 1 < 2 ^ 32 }
-    requires results { greatest (λ (d : ResultOf). d.time) results.now + 1 < 2 ^ 32 }
+    requires results { greatest (λ (d : ResultAt). d.time) results.now + 1 < 2 ^ 32 }
     ensures { result ≡ free_after start hold results.now }
 {
     if results.is_empty() {

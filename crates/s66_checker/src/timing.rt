@@ -12,7 +12,7 @@ ghost use Rattle.s66_checker.specs.KeptPrefix.{TOTAL_LIMIT, under_standard, AreT
 
 use crate::past::Past;
 use crate::point::KeptPoint;
-use crate::result::{ResultAt, free_after};
+use crate::result::{KeptResult, free_after};
 use arrayvec::ArrayVec;
 use s66_isa::{Kind, Reg, Row, Write};
 
@@ -117,7 +117,7 @@ fn start(past: &Past, row: &Row, issue: u32) -> u32
 }
 
 /// When each result is done, where the unit starts then: a result waits until its earlier readers have started.
-fn results(past: &Past, writes: &[Write], start: u32) -> ArrayVec<ResultAt, 2>
+fn results(past: &Past, writes: &[Write], start: u32) -> ArrayVec<KeptResult, 2>
     requires few { length writes.now ≤ 2 }
     requires latencies { greatest (λ (w : WriteOf). w.latency) writes.now ≤ 100 }
     requires start { start ≤ TOTAL_LIMIT + 3 }
@@ -125,7 +125,7 @@ fn results(past: &Past, writes: &[Write], start: u32) -> ArrayVec<ResultAt, 2>
 {
     let mut results = ArrayVec::new();
     for write in writes {
-        results.push(ResultAt {
+        results.push(KeptResult {
             reg: write.reg,
             time: (start + write.latency).max(past.readers_wait(write.reg)),
             held: write.held,

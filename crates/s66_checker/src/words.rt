@@ -3,12 +3,12 @@
 ghost use Rattle.std.specs.Prelude.{ℕ, ◌≡◌, ◌+◌, ◌≤◌, ◌++◌, [], ◌∷◌, List, if◌then◌else◌, max, nat_lt};
 ghost use Rattle.s66_isa.specs.Lists.{greatest};
 ghost use Rattle.s66_isa.specs.Table.{Reg as RegOf, same_reg, has_reg};
-ghost use Rattle.s66_model.specs.Timing.{Point, ResultAt as ResultOf};
+ghost use Rattle.s66_model.specs.Timing.{Point, ResultAt};
 ghost use Rattle.s66_isa.specs.Registers.{word_of};
 ghost use Rattle.s66_checker.specs.PastWords.{AreFree, AreWords};
 
 use crate::point::KeptPoint;
-use crate::result::ResultAt;
+use crate::result::KeptResult;
 use s66_isa::{KIND_COUNT, Memory, REGISTER_COUNT, Reg, kind_number};
 
 /// A word for each register, by its index.
@@ -34,8 +34,8 @@ impl RegisterWords {
     }
 
     /// Raises the words of the registers of results to the times at which they are done.
-    fn raise_results(&mut self, results: &[ResultAt])
-        ensures { (r : RegOf) → r.digit ≤ 7 → word_of self.new.words r ≡ max (word_of self.old.words r) (greatest (λ (d : ResultOf). if same_reg d.reg r then d.time else 0) results.now) }
+    fn raise_results(&mut self, results: &[KeptResult])
+        ensures { (r : RegOf) → r.digit ≤ 7 → word_of self.new.words r ≡ max (word_of self.old.words r) (greatest (λ (d : ResultAt). if same_reg d.reg r then d.time else 0) results.now) }
     {
         for done in results {
             self.raise(done.reg, done.time);

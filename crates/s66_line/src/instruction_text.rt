@@ -1,7 +1,7 @@
-ghost use Rattle.std.specs.Prelude.{◌≡◌, ◌≤◌, ◌+◌, ◌++◌, ◌↔◌, true, length};
+ghost use Rattle.std.specs.Prelude.{◌≡◌, ◌≤◌, ◌+◌, ◌++◌, ◌↔◌, true, length, IfSome, IfNone};
 ghost use Rattle.s66_line.specs.Fields.{upper};
 ghost use Rattle.s66_line.specs.Operand.{instr_of};
-ghost use Rattle.s66_line.specs.InstructionText.{spelling, operation_in, operand_in, IsInstruction};
+ghost use Rattle.s66_line.specs.InstructionText.{spelling, operation_in, operand_in, IsTextOf, IsInstruction};
 ghost use Rattle.s66_line.specs.declared.limits.TheConstants.{TEXT_LIMIT};
 
 use crate::fields::{operation_and_operand, upper_case_byte};
@@ -48,7 +48,7 @@ pub(crate) fn spell(bytes: &[u8]) -> ArrayVec<u8, TEXT_LIMIT>
 
 /// The instruction that the operation and the operand in front of these bytes spell, in upper or in lower case and whatever follows
 /// them; none where they spell none.
-pub fn instruction_in(bytes: &[u8]) -> Option<Instr>
+pub(crate) fn instruction_in(bytes: &[u8]) -> Option<Instr>
     requires { length bytes.now ≤ TEXT_LIMIT }
     ensures { result ≡ instr_of (operation_in bytes.now) (operand_in bytes.now) }
 {
@@ -57,15 +57,25 @@ pub fn instruction_in(bytes: &[u8]) -> Option<Instr>
     decode(syntax, digit, upper_case(operand).as_slice())
 }
 
+/// The instruction whose text this is, as `Block::text` gives it; none where it is the text of none.
+pub fn instruction_of_text(text: &[u8]) -> Option<Instr>
+    ensures some { IfSome result (λ instr. IsTextOf text.now instr) }
+    ensures none { IfNone result (¬ IsInstruction text.now) }
+{
+    if text.len() > TEXT_LIMIT {
+        return None;
+    }
+    let instr = instruction_in(text)?;
+    if spell(text).as_slice() == text {
+        Some(instr)
+    } else {
+        None
+    }
+}
+
 /// Whether this is the text of an instruction, as `Block::text` gives it.
 pub fn is_instruction(text: &[u8]) -> bool
     ensures { result ≡ true ↔ IsInstruction text.now }
 {
-    if text.len() > TEXT_LIMIT {
-        return false;
-    }
-    match instruction_in(text) {
-        Some(_) => spell(text).as_slice() == text,
-        None => false,
-    }
+    instruction_of_text(text).is_some()
 }

@@ -22,7 +22,7 @@ mod text;
 pub use block::Block;
 pub use device::{Failed, Feed, OverRead, OverWrite, Sink, WriteError, write_all};
 pub use error::{SourceError, line_refusal, short_text};
-pub use instruction_text::{instruction_in, is_instruction};
+pub use instruction_text::{instruction_of_text, is_instruction};
 pub use laws::{
     byte_examples, case_law, code_law, constant_examples, copied_law, instruction_examples,
     line_examples, line_law, operation_law, parts_law, printed_examples, read_again_examples,

@@ -1,6 +1,4 @@
-ghost use Rattle.std.specs.Prelude.{◌≡◌, ℕ, map, IfOk};
-ghost use Rattle.std.specs.declared.alloc.Global.{Global};
-ghost use Rattle.std.specs.declared.vec.Vec.{Vec};
+ghost use Rattle.std.specs.Prelude.{◌≡◌, IfOk};
 ghost use Rattle.s66_line.specs.Block.{instrs_of};
 ghost use Rattle.s66_ledger.specs.Answers.{answer_of};
 ghost use Rattle.s66_cert.specs.Document.{profile_numbers};
@@ -9,7 +7,7 @@ ghost use Rattle.s66_program.specs.ProveText.{document_under, texts_of};
 ghost use Rattle.s66_program.specs.ProvedAnswers.{IsSpelled};
 
 use arrayvec::ArrayVec;
-use s66_cert::{Claim, Document, PROFILE_LENGTH};
+use s66_cert::{Claim, Document, InstructionText, PROFILE_LENGTH};
 use s66_isa::{BLOCK_LIMIT, Profile};
 use s66_ledger::{Answer, BUDGET_LIMIT};
 use s66_line::Block;
@@ -40,16 +38,16 @@ fn profile_numbers(profile: &Profile) -> ArrayVec<u8, PROFILE_LENGTH>
     ])
 }
 
-/// The texts of a block's instructions.
-fn texts_of(alloc: Global, block: &Block) -> Result<Vec<Vec<u8>>, AllocError>
-    ensures texts { IfOk result (λ texts. map (λ (text : Vec ℕ Global). text.items) texts.items ≡ texts_of block.now) }
+/// The instructions of a block with their texts.
+fn texts_of(alloc: Global, block: &Block) -> Result<Vec<InstructionText>, AllocError>
+    ensures texts { IfOk result (λ texts. texts.items ≡ texts_of block.now) }
     ensures spelled { IfOk result (λ texts. IsSpelled block.now) }
 {
     let mut texts = Vec::new(alloc);
     for position in 0..block.count() {
-        let mut text = Vec::new(alloc);
-        text.extend_from_slice(block.text(position + 1).as_slice())?;
-        texts.push(text)?;
+        let bytes = block.text(position + 1);
+        let instr = block.instr(position + 1);
+        texts.push(InstructionText::new(alloc, bytes.as_slice(), instr)?)?;
     }
     Ok(texts)
 }

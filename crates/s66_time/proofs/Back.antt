@@ -1,5 +1,5 @@
 -- What was saved of words comes back.
-use Rattle.std.proofs.Common.{max, cond, ◌≤◌, ◌||◌, ℕ, ◌+◌, ◌≡◌, ◌<◌, List, [], ◌∷◌, ◌++◌, refl, sym, ap, ◌∙◌, set, get_or, length, take, replicate, arith, inl, inr}
+use Rattle.std.proofs.Common.{max, cond, ◌||◌, ℕ, ◌+◌, ◌≡◌, ◌<◌, List, [], ◌∷◌, ◌++◌, refl, sym, ap, ◌∙◌, set, get_or, length, take, replicate, arith, inl, inr}
 use Rattle.std.proofs.lemmas.List.{set-set, set-get_or, take_more, get_or-replicate, get_or_past, length-replicate}
 use Rattle.std.proofs.Math.Bool.{or-false}
 use Rattle.s66_isa.specs.Table.{Reg, same_reg, has_reg}

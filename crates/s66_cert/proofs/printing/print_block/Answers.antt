@@ -1,8 +1,6 @@
-use Rattle.std.proofs.Common.{◌≡◌, ◌<◌, suc, get_or, length, ◌+◌, ◌++◌, ◌∷◌, [], ℕ, List, drop, map, rules, sym, ap, subst, ◌∙◌, add-one, drop-cons}
-use Rattle.std.specs.declared.vec.Vec.{Vec}
-use Rattle.std.specs.declared.alloc.Global.{Global}
+use Rattle.std.proofs.Common.{◌≡◌, ◌<◌, suc, get_or, length, ◌+◌, ◌++◌, ◌∷◌, [], ℕ, List, drop, rules, sym, ap, subst, ◌∙◌, add-one, drop-cons}
 use Rattle.std.proofs.lemmas.Result.{MatchResult-from_err}
-use Rattle.s66_cert.specs.Document.{AreInstructions, instruction_lines}
+use Rattle.s66_cert.specs.Document.{instruction_lines}
 use Rattle.s66_cert.proofs.Pages.{IsUnderway, underway-more, underway-begun, printed-behind}
 use Rattle.s66_cert.proofs.Printed.{first-instruction}
 use Rattle.s66_cert.proofs.printing.print_block.Goals as goal
@@ -19,15 +17,14 @@ returns-in_err-make_room g c =
 pub loop-text-preserved : goal.loop-text-preserved
 loop-text-preserved g c =
     let i = c.loop-text.text-index in
-    let texts = λ (vecs : List (Vec ℕ Global)). map (λ (text : Vec ℕ Global). text.items) vecs in
-    let text = c.text-item.result.items in
-    let more = drop (i + 1) c.args.block.now in
-    let next : drop i c.args.block.now ≡ c.text-item.result ∷ more = drop-here c.args.block.now i c.text-item.result c.loop-text-test.true c.text-item.is in
-    let way : IsUnderway _ _ c.args.page.now c.loop-text.page (instruction_lines (texts c.args.block.now)) (instruction_lines (text ∷ []) ++ instruction_lines (texts more)) =
-    subst (IsUnderway _ _ c.args.page.now c.loop-text.page (instruction_lines (texts c.args.block.now))) (ap (λ vecs. instruction_lines (texts vecs)) next ∙ first-instruction text (texts more)) c.loop-text.invariant.way in
+    let text : List ℕ = c.text-item.result in
+    let texts : List (List ℕ) = c.args.block.now in
+    let more = drop (i + 1) texts in
+    let next : drop i texts ≡ text ∷ more = drop-here texts i text c.loop-text-test.true c.text-item.is in
+    let way : IsUnderway _ _ c.args.page.now c.loop-text.page (instruction_lines texts) (instruction_lines (text ∷ []) ++ instruction_lines more) =
+    subst (IsUnderway _ _ c.args.page.now c.loop-text.page (instruction_lines texts)) (ap instruction_lines next ∙ first-instruction text more) c.loop-text.invariant.way in
     record {
-      way = underway-more _ _ _ c.args.page.now c.loop-text.page c.instruction.new.self _ (instruction_lines (text ∷ [])) (instruction_lines (texts more)) way
-          (printed-behind _ _ c.loop-text.page c.make_room.new.self c.instruction.new.self (instruction_lines (text ∷ [])) c.in_ok-make_room.ensures.printed.0 (rw (← c.as_slice.ensures.value) c.instruction.ensures));
-      rest = (subst (λ vecs. AreInstructions (texts vecs)) next c.loop-text.invariant.rest).1;
+      way = underway-more _ _ _ c.args.page.now c.loop-text.page c.instruction.new.self _ (instruction_lines (text ∷ [])) (instruction_lines more) way
+          (printed-behind _ _ c.loop-text.page c.make_room.new.self c.instruction.new.self (instruction_lines (text ∷ [])) c.in_ok-make_room.ensures.printed.0 (rw (← c.bytes.ensures.value) c.instruction.ensures));
       same = c.in_ok-make_room.ensures.printed.1 ∙ c.loop-text.invariant.same;
     }

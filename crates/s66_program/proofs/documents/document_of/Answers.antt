@@ -1,6 +1,4 @@
-use Rattle.std.proofs.Common.{ℕ, ◌≡◌, ◌∙◌, ap, sym, subst, arith, map}
-use Rattle.std.specs.declared.alloc.Global.{Global}
-use Rattle.std.specs.declared.vec.Vec.{Vec}
+use Rattle.std.proofs.Common.{ℕ, ◌≡◌, ◌∙◌, ap, sym, subst, arith}
 use Rattle.s66_dep.specs.Ordered.{Ordered}
 use Rattle.s66_line.specs.Block.{instrs_of}
 use Rattle.s66_model.specs.Answer.{IsAnswer}
@@ -14,7 +12,7 @@ use Rattle.s66_program.proofs.documents.document_of.Goals as goal
 abbrev claimed : goal.In_ok-tree → Parts
 claimed c = record {
   profile = c.profile_numbers.result.items;
-  block = map (λ (text : Vec ℕ Global). text.items) c.in_ok-texts_of.field-0.items;
+  block = c.in_ok-texts_of.field-0.items;
   time = c.time.result;
   bound = c.bound.result;
   numbers = c.in-Ok.order.items;

@@ -1,6 +1,4 @@
-use Rattle.std.proofs.Common.{ℕ, ◌+◌, ◌++◌, ◌∙◌, ap, arith, subst}
-use Rattle.std.specs.declared.alloc.Global.{Global}
-use Rattle.std.specs.declared.vec.Vec.{Vec}
+use Rattle.std.proofs.Common.{◌+◌, ◌∙◌, arith, subst}
 use Rattle.s66_isa.specs.Table.{instr_at}
 use Rattle.s66_line.specs.Block.{instrs_of, text_of}
 use Rattle.s66_line.specs.InstructionText.{IsTextOf}
@@ -11,9 +9,9 @@ pub loop-position-preserved : goal.loop-position-preserved
 loop-position-preserved c =
     let i = c.loop-position.position in
     let block = c.args.block.now in
-    let is : IsTextOf (text_of block (i + 1)) (instr_at (instrs_of block) (i + 1)) = subst (λ text. IsTextOf text (instr_at (instrs_of block) (i + 1))) c.text.ensures.value c.text.ensures.is_text in
+    let is : IsTextOf (text_of block (i + 1)) (instr_at (instrs_of block) (i + 1)) = subst (λ text. IsTextOf text (instr_at (instrs_of block) (i + 1))) c.text-bytes.ensures.value c.text-bytes.ensures.is_text in
     record {
-      texts = texts-more (λ (text : Vec ℕ Global). text.items) block i c.loop-position.texts.items c.push.new.self.items _ (omega arith)
-          c.loop-position.invariant.texts c.in_ok-push.ensures.items (c.in_ok-extend_from_slice.ensures.items ∙ ap (λ xs. xs ++ c.as_slice.result.now) c.new-text.ensures.items ∙ c.as_slice.ensures.value ∙ c.text.ensures.value);
+      texts = texts-more block i c.loop-position.texts.items c.push.new.self.items _ (omega arith)
+          c.loop-position.invariant.texts c.in_ok-push.ensures.items (c.in_ok-new.ensures ∙ c.as_slice.ensures.value ∙ c.text-bytes.ensures.value);
       spelled = spelled-more block i c.loop-position.invariant.spelled is;
     }

@@ -1,6 +1,4 @@
 use Rattle.std.proofs.Common.{◌≡◌, ◌++◌, ◌+◌, ◌-◌, ℕ, length, map}
-use Rattle.std.specs.declared.alloc.Global.{Global}
-use Rattle.std.specs.declared.vec.Vec.{Vec}
 use Rattle.s66_isa.specs.Lists.{rising}
 use Rattle.s66_line.specs.Block.{instrs_of, text_of}
 use Rattle.s66_program.specs.ProvedAnswers.{IsSpelledTo}
@@ -9,7 +7,6 @@ use Rattle.s66_program.proofs.documents.texts_of.Given as goal
 
 abbrev pub invariant-loop-position : goal.invariant-loop-position
 invariant-loop-position l = record {
-  texts : map (λ (text : Vec ℕ Global). text.items) l.texts.items ++ map (text_of l.block) (rising (length (instrs_of l.block) - l.position) (l.position + 1))
-      ≡ texts_of l.block;
+  texts : l.texts.items ++ map (text_of l.block) (rising (length (instrs_of l.block) - l.position) (l.position + 1)) ≡ texts_of l.block;
   spelled : IsSpelledTo l.block l.position;
 }
