@@ -35,8 +35,25 @@ def kind_of(words, folder):
     return "tests" if "--test" in words else "check"
 
 
+def stats():
+    """The fields after its name of /proc/NUMBER/stat, of each process by its number."""
+    found = {}
+    for pid in filter(str.isdigit, os.listdir("/proc")):
+        stat = read(f"/proc/{pid}/stat").rpartition(b")")[2].split()
+        if len(stat) >= 20:
+            found[int(pid)] = stat
+    return found
+
+
+def is_below(pid, top, found):
+    """Whether a process was started by the process top, or by one that was."""
+    while pid in found and pid != top:
+        pid = int(found[pid][1])
+    return pid == top
+
+
 class Sampler(threading.Thread):
-    """Samples the processor time of every check below this process until it is stopped."""
+    """Samples the processor time of every check that this process has started, until it is stopped."""
 
     def __init__(self):
         super().__init__(daemon=True)
@@ -44,10 +61,7 @@ class Sampler(threading.Thread):
         self.seconds = {}  # of a process: what it has used when it was last seen
         self.ended = threading.Event()
 
-    def look(self, pid):
-        stat = read(f"/proc/{pid}/stat").rpartition(b")")[2].split()
-        if len(stat) < 20:
-            return
+    def look(self, pid, stat):
         process = pid, stat[19]
         if process not in self.labels:
             words = read(f"/proc/{pid}/cmdline").decode(errors="replace").split("\0")
@@ -62,8 +76,10 @@ class Sampler(threading.Thread):
 
     def run(self):
         while not self.ended.wait(0.5):
-            for pid in filter(str.isdigit, os.listdir("/proc")):
-                self.look(pid)
+            found = stats()
+            for pid, stat in found.items():
+                if is_below(pid, os.getpid(), found):
+                    self.look(pid, stat)
 
     def sums(self):
         sums = {}
