@@ -3,10 +3,10 @@
 
     docs/check.py PROGRAM [DOCUMENT..]
 
-PROGRAM is the built program. Without a DOCUMENT all are checked: README.md, examples/README.md, docs/*.md, the manual page docs/s66.1: that its
-literal displays are what a terminal shows, and that it has each sentence of the program's help; and the files of
-examples/: that each NAME.time, NAME.chart and NAME.order is to the byte what the program writes of NAME.compass, and that
-check says yes to each document that prove writes of it, at the times of NAME.order. The status is 1 where something is
+PROGRAM is the built program. Without a DOCUMENT all are checked: README.md, CONTRIBUTING.md, the README.md of bench/ and of examples/,
+and docs/*.md; the manual page docs/s66.1: that its literal displays are what a terminal shows, and that it has each sentence of the
+program's help; and the files of examples/: that each NAME.time, NAME.chart and NAME.order is to the byte what the program writes
+of NAME.compass, and that check says yes to each document that prove writes of it, at the times of NAME.order. The status is 1 where something is
 wrong, and each wrong place is told, wrong output as a diff.
 
 Two kinds of fences hold commands. In
@@ -50,6 +50,7 @@ HELP = re.compile(r"^ +(?:--)?(?!help)\w+(?: <N>)?  +(\S.*)$", re.MULTILINE)
 STATUSES = re.compile(r"^Status: (.*)$", re.MULTILINE)
 COMMENT = re.compile(r"^\s*(//|--).*$", re.MULTILINE)
 BEST = re.compile(r"^\* BLOCK (\d+) COUNT \d+ SOURCE \d+ TIME (\d+) BEST$", re.MULTILINE)
+DOCUMENTS = ["README.md", "CONTRIBUTING.md", "bench/README.md", "examples/README.md"]
 EXAMPLES = {"time": ["time"], "chart": ["chart"], "order": ["order", "--workers", "1", "--trace"]}
 STATUS_END = "\x1e"  # behind the output of a command: its status, and this
 
@@ -232,7 +233,7 @@ def main(arguments):
         sys.exit(__doc__.split("\n\n")[1].strip())
     program, documents = arguments[0], arguments[1:]
     if not documents:
-        documents = [os.path.join(ROOT, "README.md"), os.path.join(ROOT, "examples/README.md")]
+        documents = [os.path.join(ROOT, name) for name in DOCUMENTS]
         documents += sorted(glob.glob(os.path.join(ROOT, "docs/*.md")))
     wrong, commands = [], 0
     if not arguments[1:]:
