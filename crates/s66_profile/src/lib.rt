@@ -4,7 +4,9 @@
 mod error;
 mod examples;
 mod profile;
+#[cfg(test)]
+mod tests;
 
 pub use error::ProfileError;
-pub use examples::profile_examples;
+pub use examples::{profile_examples, refusal_examples};
 pub use profile::read_profile;
