@@ -27,6 +27,14 @@ abbrev pub with_members : List ℕ → Members → Option (List ℕ)
 with_members ns no_members = Some ns
 with_members ns (member name value more) = option_and_then (λ place. option_and_then (λ n. with_members (slice_set ns place n) more) (number_in value)) (place_of name)
 
--- the profile that a text gives: what its JSON object does not name is as in the standard profile
+-- the numbers that a JSON value gives: those of the standard profile, but what an object sets
+abbrev pub numbers_in : Data → Option (List ℕ)
+numbers_in value = option_and_then (with_members (entries standard)) (as_object value)
+
+-- the numbers that a text gives
+abbrev pub numbers_in_text : List ℕ → Option (List ℕ)
+numbers_in_text text = option_and_then numbers_in (read text)
+
+-- the profile of these numbers
 abbrev pub profile_in_text : List ℕ → Option Profile
-profile_in_text text = option_map profile_of (option_and_then (with_members (entries standard)) (option_and_then as_object (read text)))
+profile_in_text text = option_map profile_of (numbers_in_text text)

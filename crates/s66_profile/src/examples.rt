@@ -2,11 +2,11 @@
 //! functions do nothing.
 
 ghost use Rattle.std.specs.Prelude.{[], ◌∷◌, ◌≡◌, ◌++◌, Some, None, codes};
-ghost use Rattle.s66_profile.specs.Examples.{numbers_in_text, standard_but};
-ghost use Rattle.s66_profile.specs.ProfileText.{profile_in_text};
+ghost use Rattle.s66_profile.specs.Examples.{standard_but};
+ghost use Rattle.s66_profile.specs.ProfileText.{numbers_in_text};
 
 /// Texts that give a profile.
-#[tactic(auto, unfolding(serde_json::proofs::OnLiterals::serde_json_on_literals, s66_isa::specs::Profiles::profile_of))]
+#[tactic(auto, unfolding(serde_json::proofs::OnLiterals::serde_json_on_literals))]
 pub fn profile_examples()
     ensures no_key { numbers_in_text (codes "{}") ≡ Some (3 ∷ 3 ∷ 4 ∷ 4 ∷ 3 ∷ 10 ∷ 29 ∷ 8 ∷ 3 ∷ 8 ∷ 1 ∷ 1 ∷ 1 ∷ 1 ∷ 2 ∷ 1 ∷ 2 ∷ []) }
     ensures a_time { numbers_in_text (codes "{\"boolean\":5}") ≡ standard_but 0 5 }
@@ -16,6 +16,7 @@ pub fn profile_examples()
     ensures blanks { numbers_in_text (codes " \t\r\n{ \"load\"\n:\t2 } \r\n") ≡ standard_but 9 2 }
     ensures escaped_key { numbers_in_text (codes "{\"\\u0062oolean\":5}") ≡ standard_but 0 5 }
     ensures last_of_equal_keys { numbers_in_text (codes "{\"boolean\":5,\"boolean\":7}") ≡ standard_but 0 7 }
+    ensures only_the_last_counts { numbers_in_text (codes "{\"boolean\":\"x\",\"boolean\":7}") ≡ standard_but 0 7 }
     ensures each_key { numbers_in_text (
         codes "{\"units_increment\":27,\"units_divide\":26,\"units_multiply\":25,\"units_longadd\":24,\"units_add\":23,\"units_shift\":22,\"units_boolean\":21," ++
         codes "\"load\":20,\"increment\":19,\"population\":18,\"divide\":17,\"multiply\":16,\"longadd\":15,\"add\":14,\"normalise\":13,\"shift\":12,\"boolean\":11}") ≡
@@ -25,28 +26,28 @@ pub fn profile_examples()
 /// Texts that give no profile: JSON that is no such object, and what isn't JSON.
 #[tactic(auto, unfolding(serde_json::proofs::OnLiterals::serde_json_on_literals))]
 pub fn refusal_examples()
-    ensures zero { profile_in_text (codes "{\"boolean\":0}") ≡ None }
-    ensures above { profile_in_text (codes "{\"boolean\":101}") ≡ None }
-    ensures far_above { profile_in_text (codes "{\"boolean\":18446744073709551621}") ≡ None }
-    ensures text { profile_in_text (codes "{\"boolean\":\"3\"}") ≡ None }
-    ensures point { profile_in_text (codes "{\"boolean\":3.0}") ≡ None }
-    ensures exponent { profile_in_text (codes "{\"boolean\":3e0}") ≡ None }
-    ensures minus_zero { profile_in_text (codes "{\"boolean\":-0}") ≡ None }
-    ensures minus { profile_in_text (codes "{\"boolean\":-3}") ≡ None }
-    ensures plus { profile_in_text (codes "{\"boolean\":+3}") ≡ None }
-    ensures leading_zero { profile_in_text (codes "{\"boolean\":03}") ≡ None }
-    ensures truth { profile_in_text (codes "{\"boolean\":true}") ≡ None }
-    ensures null { profile_in_text (codes "{\"boolean\":null}") ≡ None }
-    ensures array_of_number { profile_in_text (codes "{\"boolean\":[3]}") ≡ None }
-    ensures other_key { profile_in_text (codes "{\"branch\":3}") ≡ None }
-    ensures upper_case { profile_in_text (codes "{\"Boolean\":3}") ≡ None }
-    ensures one_bad_key { profile_in_text (codes "{\"boolean\":3,\"branch\":3}") ≡ None }
-    ensures array { profile_in_text (codes "[]") ≡ None }
-    ensures number { profile_in_text (codes "3") ≡ None }
-    ensures cut { profile_in_text (codes "{") ≡ None }
-    ensures nothing { profile_in_text [] ≡ None }
-    ensures only_blanks { profile_in_text (codes " \n") ≡ None }
-    ensures more { profile_in_text (codes "{\"boolean\":5} x") ≡ None }
-    ensures two_objects { profile_in_text (codes "{} {}") ≡ None }
-    ensures last_comma { profile_in_text (codes "{\"boolean\":1,}") ≡ None }
+    ensures zero { numbers_in_text (codes "{\"boolean\":0}") ≡ None }
+    ensures above { numbers_in_text (codes "{\"boolean\":101}") ≡ None }
+    ensures far_above { numbers_in_text (codes "{\"boolean\":18446744073709551621}") ≡ None }
+    ensures text { numbers_in_text (codes "{\"boolean\":\"3\"}") ≡ None }
+    ensures point { numbers_in_text (codes "{\"boolean\":3.0}") ≡ None }
+    ensures exponent { numbers_in_text (codes "{\"boolean\":3e0}") ≡ None }
+    ensures minus_zero { numbers_in_text (codes "{\"boolean\":-0}") ≡ None }
+    ensures minus { numbers_in_text (codes "{\"boolean\":-3}") ≡ None }
+    ensures plus { numbers_in_text (codes "{\"boolean\":+3}") ≡ None }
+    ensures leading_zero { numbers_in_text (codes "{\"boolean\":03}") ≡ None }
+    ensures truth { numbers_in_text (codes "{\"boolean\":true}") ≡ None }
+    ensures null { numbers_in_text (codes "{\"boolean\":null}") ≡ None }
+    ensures array_of_number { numbers_in_text (codes "{\"boolean\":[3]}") ≡ None }
+    ensures other_key { numbers_in_text (codes "{\"branch\":3}") ≡ None }
+    ensures upper_case { numbers_in_text (codes "{\"Boolean\":3}") ≡ None }
+    ensures one_bad_key { numbers_in_text (codes "{\"boolean\":3,\"branch\":3}") ≡ None }
+    ensures array { numbers_in_text (codes "[]") ≡ None }
+    ensures number { numbers_in_text (codes "3") ≡ None }
+    ensures cut { numbers_in_text (codes "{") ≡ None }
+    ensures nothing { numbers_in_text [] ≡ None }
+    ensures only_blanks { numbers_in_text (codes " \n") ≡ None }
+    ensures more { numbers_in_text (codes "{\"boolean\":5} x") ≡ None }
+    ensures two_objects { numbers_in_text (codes "{} {}") ≡ None }
+    ensures last_comma { numbers_in_text (codes "{\"boolean\":1,}") ≡ None }
 {}

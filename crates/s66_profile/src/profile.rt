@@ -1,10 +1,9 @@
-ghost use Rattle.std.specs.Prelude.{◌≡◌, ◌<◌, ◌≤◌, IfSome, length, option_and_then, option_map};
-ghost use Rattle.serde_json.specs.Find.{as_object};
+ghost use Rattle.std.specs.Prelude.{◌≡◌, ◌<◌, ◌≤◌, IfOk, IfSome, Some, length, option_map};
 ghost use Rattle.serde_json.specs.View.{view};
 ghost use Rattle.s66_isa.specs.Profiles.{profile_of};
-ghost use Rattle.s66_isa.specs.Table.{entries, standard};
+ghost use Rattle.s66_isa.specs.Table.{entries};
 ghost use Rattle.s66_profile.specs.Gives.{Gives};
-ghost use Rattle.s66_profile.specs.ProfileText.{number_in, place_of, profile_in_text, with_members};
+ghost use Rattle.s66_profile.specs.ProfileText.{number_in, numbers_in, numbers_in_text, place_of, profile_in_text};
 ghost use Rattle.s66_profile.specs.declared.error.ProfileError.TheVariants.{OutOfMemory};
 
 use crate::error::ProfileError;
@@ -57,7 +56,8 @@ fn number(value: &Value) -> Option<u8>
 /// The profile that a JSON value gives: each member of the object sets the number that it names, and the others are the standard
 /// profile's.
 fn profile_in(value: &Value) -> Option<Profile>
-    ensures { result ≡ option_map profile_of (option_and_then (with_members (entries standard)) (as_object (view value.now))) }
+    ensures value { result ≡ option_map profile_of (numbers_in (view value.now)) }
+    ensures numbers { IfSome result (λ p. numbers_in (view value.now) ≡ Some (entries p)) }
 {
     let members = value.as_object()?;
     let mut numbers = Profile::standard().entries();
@@ -77,7 +77,8 @@ fn profile_in(value: &Value) -> Option<Profile>
 /// `BadProfile` for any other text. `OutOfMemory` where a growth was refused, which may stand in the place of any other answer; an
 /// empty text wants none.
 pub fn read_profile(alloc: Global, text: &str) -> Result<Profile, ProfileError>
-    ensures read { Gives result (profile_in_text text.now) }
+    ensures profile { Gives result (profile_in_text text.now) }
+    ensures numbers { IfOk result (λ p. numbers_in_text text.now ≡ Some (entries p)) }
     ensures memory { result ≡ Err OutOfMemory → 0 < length text.now }
 {
     let value = Value::from_str(alloc, text)?;
