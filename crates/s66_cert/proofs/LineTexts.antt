@@ -13,7 +13,8 @@ use Rattle.s66_isa.specs.declared.instr.Kind.TheVariants.{Boolean, Shift, Add, L
 use Rattle.s66_model.specs.Leaves.{Whole, Chain, Load, Parcels}
 use Rattle.s66_model.specs.Tree.{AtTip, AtSplit}
 use Rattle.s66_cert.specs.Document.{AreIn, AreNumbers, kind_name}
-use Rattle.s66_cert.specs.declared.limits.TheConstants.{PROFILE_LENGTH, PROFILE_LIMIT, TIME_LIMIT}
+use Rattle.s66_isa.specs.declared.limits.TheConstants.{PROFILE_LENGTH, PROFILE_LIMIT}
+use Rattle.s66_cert.specs.declared.limits.TheConstants.{TIME_LIMIT}
 use Rattle.s66_cert.specs.Lines.{Line, Header, Profile, Block, Instruction, Time, Bound, Order, OfTree, End, bytes_of, IsInRange, first_word, after_word, words_in, numbers_in, number_in, if_count, block_numbers, one_number, is_instruction, instruction_in, kind_in, alone, header_in, line_with, line_of}
 use Rattle.s66_cert.proofs.NumberTexts.{number-again, number-is}
 use Rattle.s66_cert.proofs.Spelled.{instruction-again, instruction-is}

@@ -2,18 +2,12 @@
 use Rattle.std.specs.Prelude.{◌≡◌, ℕ, List, [], ◌∷◌, ◌++◌, ◌≤◌, codes, decimal, length}
 use Rattle.s66_isa.specs.declared.instr.Kind.{Kind}
 use Rattle.s66_isa.specs.declared.instr.Kind.TheVariants.{Boolean, Shift, Add, LongAdd, Multiply, Divide, Increment}
-use Rattle.s66_isa.specs.declared.profile.Profile.{Profile}
 use Rattle.s66_model.specs.Leaves.{Leaf, Whole, Chain, Load, Parcels}
 use Rattle.s66_model.specs.Tree.{Tree, Alone, Parted, Kids, NoMore, Unsplit, Split, Knot, AtTip, AtSplit, flat, splits}
 use Rattle.s66_isa.specs.Lists.{after_blanks}
 use Rattle.s66_line.specs.InstructionText.{IsInstruction}
-use Rattle.s66_cert.specs.declared.limits.TheConstants.{PROFILE_LENGTH, PROFILE_LIMIT, TIME_LIMIT, SPLIT_LIMIT}
-
--- the 17 numbers of a profile: its ten entries, then its seven copies
-abbrev pub profile_numbers : Profile → List ℕ
-profile_numbers p =
-    p.boolean ∷ p.shift ∷ p.normalise ∷ p.add ∷ p.longadd ∷ p.multiply ∷ p.divide ∷ p.population ∷ p.increment ∷ p.load
-    ∷ p.units_boolean ∷ p.units_shift ∷ p.units_add ∷ p.units_longadd ∷ p.units_multiply ∷ p.units_divide ∷ p.units_increment ∷ []
+use Rattle.s66_isa.specs.declared.limits.TheConstants.{PROFILE_LENGTH, PROFILE_LIMIT}
+use Rattle.s66_cert.specs.declared.limits.TheConstants.{TIME_LIMIT, SPLIT_LIMIT}
 
 -- what it claims: under this profile, the instructions of these texts, in this order, take this time, and none takes less than the bound, as the tree shows
 pub record Document : Type 0 where

@@ -6,7 +6,8 @@ use Rattle.s66_model.specs.Tree.{Knot, AtTip, AtSplit}
 use Rattle.s66_cert.specs.Document.{AreDocumentsWithin, AreIn, AreNumbers, AreInstructions, IsLeafLine}
 use Rattle.s66_cert.specs.DocumentParts.{Parts}
 use Rattle.s66_cert.specs.Reading.{State}
-use Rattle.s66_cert.specs.declared.limits.TheConstants.{PROFILE_LENGTH, PROFILE_LIMIT, TIME_LIMIT}
+use Rattle.s66_isa.specs.declared.limits.TheConstants.{PROFILE_LENGTH, PROFILE_LIMIT}
+use Rattle.s66_cert.specs.declared.limits.TheConstants.{TIME_LIMIT}
 use Rattle.s66_cert.specs.declared.place.Place.{Place}
 use Rattle.s66_cert.specs.declared.place.Place.TheVariants.{AtHeader, AtProfile, AtBlock, AtInstruction, AtTime, AtBound, AtOrder, AtTree, AtEnd}
 

@@ -11,7 +11,8 @@ use Rattle.s66_line.specs.InstructionText.{spelling, operation_in, operand_in, I
 use Rattle.s66_line.specs.Operand.{instr_of}
 use Rattle.s66_line.specs.declared.limits.TheConstants.{TEXT_LIMIT}
 use Rattle.s66_cert.specs.Document.{AreIn, AreNumbers, IsLeafLine, kind_name}
-use Rattle.s66_cert.specs.declared.limits.TheConstants.{PROFILE_LENGTH, PROFILE_LIMIT, TIME_LIMIT}
+use Rattle.s66_isa.specs.declared.limits.TheConstants.{PROFILE_LENGTH, PROFILE_LIMIT}
+use Rattle.s66_cert.specs.declared.limits.TheConstants.{TIME_LIMIT}
 
 pub data Line : Type 0 where
   Header : Line

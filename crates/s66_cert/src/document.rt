@@ -1,8 +1,7 @@
 use crate::instruction::InstructionText;
-use crate::limits::PROFILE_LENGTH;
 use crate::tree::{Tree, TreeLines};
 use arrayvec::ArrayVec;
-use s66_isa::BLOCK_LIMIT;
+use s66_isa::{BLOCK_LIMIT, PROFILE_LENGTH};
 use std::marker::Model;
 
 /// What a document says.

@@ -24,7 +24,7 @@ pub use error::CertError;
 pub use examples::document_examples;
 pub use instruction::InstructionText;
 pub use laws::{one_reading_law, reading_law};
-pub use limits::{PROFILE_LENGTH, PROFILE_LIMIT, SPLIT_LIMIT, TIME_LIMIT};
+pub use limits::{SPLIT_LIMIT, TIME_LIMIT};
 pub use printing::print;
 pub use reading::read;
 pub use readings::{fault_examples, reading_examples};

@@ -1,7 +1,6 @@
 use crate::instruction::ReadText;
-use crate::limits::PROFILE_LENGTH;
 use arrayvec::ArrayVec;
-use s66_isa::{BLOCK_LIMIT, Kind};
+use s66_isa::{BLOCK_LIMIT, Kind, PROFILE_LENGTH};
 
 /// What a line of a document says.
 #[derive(Debug, Drop)]

@@ -10,11 +10,11 @@ ghost use Rattle.s66_cert.specs.Said.{said};
 ghost use Rattle.s66_cert.specs.declared.limits.TheConstants.{TIME_LIMIT};
 
 use crate::instruction::ReadText;
-use crate::limits::{PROFILE_LENGTH, PROFILE_LIMIT, TIME_LIMIT};
+use crate::limits::TIME_LIMIT;
 use crate::line::LineOf;
 use crate::scan::{number_in, numbers_in, split_word};
 use arrayvec::ArrayVec;
-use s66_isa::{BLOCK_LIMIT, Kind};
+use s66_isa::{BLOCK_LIMIT, Kind, PROFILE_LENGTH, PROFILE_LIMIT};
 use s66_line::instruction_of_text;
 
 fn is_name(bytes: &[u8], name: &[u8]) -> bool

@@ -13,13 +13,13 @@ ghost use Rattle.s66_cert.specs.declared.place.Place.TheVariants.{AtInstruction,
 use crate::document::{Claim, Document};
 use crate::error::CertError;
 use crate::instruction::{InstructionText, ReadText};
-use crate::limits::{PROFILE_LENGTH, SPLIT_LIMIT};
+use crate::limits::SPLIT_LIMIT;
 use crate::line::LineOf;
 use crate::parse::line_of;
 use crate::place::Place;
 use crate::tree::{Tree, TreeLine};
 use arrayvec::ArrayVec;
-use s66_isa::BLOCK_LIMIT;
+use s66_isa::{BLOCK_LIMIT, PROFILE_LENGTH};
 use std::alloc::Global;
 use std::mem;
 

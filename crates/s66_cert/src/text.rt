@@ -1,10 +1,10 @@
 //! The text of documents.
 
 ghost use Rattle.std.specs.Prelude.{ℕ, List, [], ◌∷◌, ◌++◌, ◌≡◌, codes};
-ghost use Rattle.s66_isa.specs.Table.{standard};
+ghost use Rattle.s66_isa.specs.Table.{entries, standard};
 ghost use Rattle.s66_model.specs.Tree.{flat};
 ghost use Rattle.s66_model.specs.Examples.{uneven_profile};
-ghost use Rattle.s66_cert.specs.Document.{Document, IsText, document_text, profile_numbers, tree_lines};
+ghost use Rattle.s66_cert.specs.Document.{Document, IsText, document_text, tree_lines};
 ghost use Rattle.s66_cert.specs.Examples as examples;
 
 /// The text of each worked document, what is read of a text, and texts of which nothing is read.
@@ -23,8 +23,8 @@ pub fn text_examples()
     ensures extremes_text { document_text examples.extremes ≡ examples.extremes_text }
     ensures extremes_is_read { IsText 64 examples.extremes_text (examples.extremes ∷ []) }
     ensures each_unit_load { tree_lines (flat examples.unit_loads) ≡ examples.unit_loads_lines }
-    ensures standard_profile { profile_numbers standard ≡ examples.standard_numbers }
-    ensures uneven_profile { profile_numbers uneven_profile ≡ 11 ∷ 12 ∷ 13 ∷ 14 ∷ 15 ∷ 16 ∷ 17 ∷ 18 ∷ 20 ∷ 19 ∷ 1 ∷ 2 ∷ 3 ∷ 4 ∷ 5 ∷ 6 ∷ 7 ∷ [] }
+    ensures standard_profile { entries standard ≡ examples.standard_numbers }
+    ensures uneven_profile { entries uneven_profile ≡ 11 ∷ 12 ∷ 13 ∷ 14 ∷ 15 ∷ 16 ∷ 17 ∷ 18 ∷ 20 ∷ 19 ∷ 1 ∷ 2 ∷ 3 ∷ 4 ∷ 5 ∷ 6 ∷ 7 ∷ [] }
     ensures two_documents { IsText 64 (examples.three_multiplies_text ++ examples.one_load_text) (examples.three_multiplies ∷ examples.one_load ∷ []) }
     ensures no_document { IsText 64 [] [] }
     ensures nothing_is_read_of_no_text { (limit : ℕ) (ds : List Document) → IsText limit [] ds → ds ≡ [] }

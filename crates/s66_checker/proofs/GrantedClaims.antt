@@ -4,13 +4,13 @@ use Rattle.std.proofs.lemmas.Bool.{eqb-true, eq-eqb, ltb-false, le-ltb, not-fals
 use Rattle.std.proofs.lemmas.Slice.Eq.{bytes_eq-Decides}
 use Rattle.std.specs.Prelude.{nat_lt, ◌==◌}
 use Rattle.s66_isa.specs.Lists.{Among}
-use Rattle.s66_isa.specs.Table.{standard}
+use Rattle.s66_isa.specs.Table.{entries, standard}
 use Rattle.s66_model.specs.Timing.{Problem, total_of}
 use Rattle.s66_model.specs.LegalOrder.{is_ready, ready, IsBeginning}
 use Rattle.s66_model.specs.Leaves.{Leaf}
 use Rattle.s66_model.specs.Tree.{Tree, Alone, Parted, Kids, NoMore, Unsplit, Split, Knot, KidsHold, LeafShows, Shows}
 use Rattle.s66_model.proofs.Remaining.{ready-among, step-begins}
-use Rattle.s66_cert.specs.Document.{Document, KidsFit, TreeFits, profile_numbers}
+use Rattle.s66_cert.specs.Document.{Document, KidsFit, TreeFits}
 use Rattle.s66_checker.specs.declared.verdict.Verdict.{Verdict}
 use Rattle.s66_checker.specs.declared.verdict.Verdict.TheVariants.{Yes, No}
 use Rattle.s66_checker.specs.declared.verdict.Reason.{Reason}
@@ -95,7 +95,7 @@ verdict-yes limit d time bound fit =
     let high : Bool = nat_lt d.time d.bound in
     let times : Bool = total_of b d.numbers == d.time in
     let legal : Bool = is_legal_order b.block d.numbers in
-    let known : Bool = bytes_eq d.profile (profile_numbers standard) in
+    let known : Bool = bytes_eq d.profile (entries standard) in
     let after_time : Verdict = cond high (No (bound_line d) fault.Bound) lines in
     let after_order : Verdict = cond (not times) (No (time_line d) fault.Time) after_time in
     let after_profile : Verdict = cond (not legal) (No (order_line d) fault.Order) after_order in
@@ -105,7 +105,7 @@ verdict-yes limit d time bound fit =
     let within = passed high (No (bound_line d) fault.Bound) lines (Yes time bound) (λ h. (cc)) in
     let told = lines-yes d (tree_placed [] d.tree) (tree_line d) time bound in
     let shows = tree-shows b d.bound limit d.tree fit in
-    let same = bytes_eq-Decides d.profile (profile_numbers standard) in
+    let same = bytes_eq-Decides d.profile (entries standard) in
     let is_legal = is_legal_order-Decides b.block d.numbers in (
       (λ h. (let one = profile.0 h in
           let two = order.0 one.1 in

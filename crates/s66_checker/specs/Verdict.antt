@@ -2,13 +2,13 @@
 use Rattle.std.specs.Prelude.{ℕ, suc, ◌+◌, ◌==◌, ◌&&◌, if◌then◌else◌, Bool, true, false, not, List, [], ◌∷◌, ◌++◌, Option, None, Some, length, map, nat_lt}
 use Rattle.std.specs.Str.{bytes_eq}
 use Rattle.s66_isa.specs.declared.instr.Instr.{Instr}
-use Rattle.s66_isa.specs.Table.{standard}
+use Rattle.s66_isa.specs.Table.{entries, standard}
 use Rattle.s66_line.specs.InstructionText.{instr_in_text}
 use Rattle.s66_model.specs.Timing.{Problem, total_of}
 use Rattle.s66_model.specs.LegalOrder.{is_ready, is_remaining, ready}
 use Rattle.s66_model.specs.Leaves.{Leaf, Whole, Chain, Load, Parcels, value, is_linked}
 use Rattle.s66_model.specs.Tree.{Tree, Alone, Parted, Kids, NoMore, Unsplit, Split, Knot, AtTip, AtSplit}
-use Rattle.s66_cert.specs.Document.{Document, profile_numbers}
+use Rattle.s66_cert.specs.Document.{Document}
 use Rattle.s66_checker.specs.declared.verdict.Verdict.{Verdict}
 use Rattle.s66_checker.specs.declared.verdict.Verdict.TheVariants.{Yes, No}
 use Rattle.s66_checker.specs.declared.verdict.Reason.{Reason}
@@ -108,7 +108,7 @@ tree_line d = 7 + length d.block
 -- first the profile, the order, the time and the bound, and then the tree line by line
 abbrev pub verdict : Document → Verdict
 verdict d =
-    if not (bytes_eq d.profile (profile_numbers standard)) then No 2 fault.Profile
+    if not (bytes_eq d.profile (entries standard)) then No 2 fault.Profile
     else (if not (is_legal_order (problem_of d).block d.numbers) then No (order_line d) fault.Order
     else (if not (total_of (problem_of d) d.numbers == d.time) then No (time_line d) fault.Time
     else (if nat_lt d.time d.bound then No (bound_line d) fault.Bound

@@ -1,8 +1,7 @@
 ghost use Rattle.std.specs.Prelude.{◌≡◌, ◌≤◌, [], Some, None, if◌then◌else◌, bytes_eq, length, map};
-ghost use Rattle.s66_isa.specs.Table.{standard};
+ghost use Rattle.s66_isa.specs.Table.{entries, standard};
 ghost use Rattle.s66_isa.specs.declared.limits.TheConstants.{BLOCK_LIMIT};
 ghost use Rattle.s66_model.specs.Timing.{total_of};
-ghost use Rattle.s66_cert.specs.Document.{profile_numbers};
 ghost use Rattle.s66_cert.specs.DocumentParts.{document_of};
 ghost use Rattle.s66_line.specs.InstructionText.{instr_in_text};
 ghost use Rattle.s66_checker.specs.Verdict.{is_legal_order, verdict};
@@ -11,15 +10,15 @@ use crate::prefix::Prefix;
 use crate::verdict::{Reason, Verdict};
 use crate::walk::tree_verdict;
 use arrayvec::ArrayVec;
-use s66_cert::{Document, InstructionText, PROFILE_LENGTH};
-use s66_isa::{BLOCK_LIMIT, Instr};
+use s66_cert::{Document, InstructionText};
+use s66_isa::{BLOCK_LIMIT, Instr, PROFILE_LENGTH};
 
 /// The numbers of the standard profile.
 const STANDARD: [u8; PROFILE_LENGTH] = [3, 3, 4, 4, 3, 10, 29, 8, 3, 8, 1, 1, 1, 1, 2, 1, 2];
 
 /// Whether these are the numbers of the standard profile.
 fn is_standard(profile: &[u8]) -> bool
-    ensures { result ≡ bytes_eq profile.now (profile_numbers standard) }
+    ensures { result ≡ bytes_eq profile.now (entries standard) }
 {
     profile == STANDARD.as_slice()
 }

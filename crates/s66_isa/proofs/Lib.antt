@@ -3,3 +3,4 @@ pub mod SameRegister
 pub mod RegisterBits
 pub mod Writes
 pub mod GoodRows
+pub mod Profiles

@@ -228,6 +228,12 @@ copies_of p Multiply = p.units_multiply
 copies_of p Divide = p.units_divide
 copies_of p Increment = p.units_increment
 
+-- its seventeen numbers: ten times, then the copies of the seven kinds
+abbrev pub entries : Profile → List ℕ
+entries p =
+    p.boolean ∷ p.shift ∷ p.normalise ∷ p.add ∷ p.longadd ∷ p.multiply ∷ p.divide ∷ p.population ∷ p.increment ∷ p.load
+    ∷ p.units_boolean ∷ p.units_shift ∷ p.units_add ∷ p.units_longadd ∷ p.units_multiply ∷ p.units_divide ∷ p.units_increment ∷ []
+
 abbrev pub standard : Profile
 standard = record {
   boolean = 3;

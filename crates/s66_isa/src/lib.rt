@@ -13,7 +13,7 @@ mod write;
 pub use instr::{
     Instr, KIND_COUNT, KINDS, Kind, Memory, Operands, is_memory_conflict, is_same_kind, kind_number,
 };
-pub use limits::BLOCK_LIMIT;
+pub use limits::{BLOCK_LIMIT, PROFILE_LENGTH, PROFILE_LIMIT};
 pub use op::Op;
 pub use profile::{Profile, is_same_profile};
 pub use reg::{Bank, REGISTER_COUNT, Reg, has_register, is_same_register, is_zero_register};

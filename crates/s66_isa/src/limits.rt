@@ -1,2 +1,8 @@
 /// The most instructions of a block, and so the greatest number that one has.
 pub const BLOCK_LIMIT: usize = 64;
+
+/// How many numbers a profile has.
+pub const PROFILE_LENGTH: usize = 17;
+
+/// The greatest number of a profile; the least is 1.
+pub const PROFILE_LIMIT: u32 = 100;

@@ -1,6 +1,7 @@
-ghost use Rattle.std.specs.Prelude.{◌≡◌, ◌≤◌, ◌↔◌, IsTrue};
+ghost use Rattle.std.specs.Prelude.{◌≡◌, ◌≤◌, ◌↔◌, [], ◌∷◌, IfNone, IfSome, IsTrue};
 
 use crate::instr::Kind;
+use crate::limits::{PROFILE_LENGTH, PROFILE_LIMIT};
 
 /// A timing profile: execution times in minor cycles of 100 ns, and how many units there are of each kind; each 1 to 100.
 ///
@@ -32,11 +33,13 @@ pub struct Profile {
 }
 
 impl Profile {
-    ghost use Rattle.s66_isa.specs.Table.{copies_of, standard};
+    ghost use Rattle.s66_isa.specs.Table.{copies_of, entries, standard};
+    ghost use Rattle.s66_isa.specs.Profiles.{IsProfile, profile_of};
 
     /// The standard profile: the copies are those of the 6600, the times are this project's.
     pub fn standard() -> Profile
-        ensures { result ≡ standard }
+        ensures value { result ≡ standard }
+        ensures numbers { entries standard ≡ 3 ∷ 3 ∷ 4 ∷ 4 ∷ 3 ∷ 10 ∷ 29 ∷ 8 ∷ 3 ∷ 8 ∷ 1 ∷ 1 ∷ 1 ∷ 1 ∷ 2 ∷ 1 ∷ 2 ∷ [] }
     {
         Profile {
             boolean: 3,
@@ -57,6 +60,94 @@ impl Profile {
             units_divide: 1,
             units_increment: 2,
         }
+    }
+
+    /// The profile of seventeen numbers, each 1 to 100: the ten times in the order of the fields, then the copies of the
+    /// seven kinds.
+    ///
+    /// # Errors
+    ///
+    /// `None` if a number is not 1 to 100.
+    pub fn of(numbers: &[u8; PROFILE_LENGTH]) -> Option<Profile>
+        ensures some { IfSome result (λ p. (p ≡ profile_of numbers.now) × (entries p ≡ numbers.now)) }
+        ensures none { IfNone result (¬ IsProfile numbers.now) }
+    {
+        if !Profile::are_in_range(numbers) {
+            return None;
+        }
+        let [
+            boolean,
+            shift,
+            normalise,
+            add,
+            longadd,
+            multiply,
+            divide,
+            population,
+            increment,
+            load,
+            units_boolean,
+            units_shift,
+            units_add,
+            units_longadd,
+            units_multiply,
+            units_divide,
+            units_increment,
+        ] = *numbers;
+        Some(Profile {
+            boolean: u32::from(boolean),
+            shift: u32::from(shift),
+            normalise: u32::from(normalise),
+            add: u32::from(add),
+            longadd: u32::from(longadd),
+            multiply: u32::from(multiply),
+            divide: u32::from(divide),
+            population: u32::from(population),
+            increment: u32::from(increment),
+            load: u32::from(load),
+            units_boolean: u32::from(units_boolean),
+            units_shift: u32::from(units_shift),
+            units_add: u32::from(units_add),
+            units_longadd: u32::from(units_longadd),
+            units_multiply: u32::from(units_multiply),
+            units_divide: u32::from(units_divide),
+            units_increment: u32::from(units_increment),
+        })
+    }
+
+    /// Its seventeen numbers, as `of` takes them.
+    pub fn entries(&self) -> [u8; PROFILE_LENGTH]
+        ensures value { result ≡ entries self.now }
+        ensures range { IsProfile result }
+    {
+        [
+            self.boolean as u8,
+            self.shift as u8,
+            self.normalise as u8,
+            self.add as u8,
+            self.longadd as u8,
+            self.multiply as u8,
+            self.divide as u8,
+            self.population as u8,
+            self.increment as u8,
+            self.load as u8,
+            self.units_boolean as u8,
+            self.units_shift as u8,
+            self.units_add as u8,
+            self.units_longadd as u8,
+            self.units_multiply as u8,
+            self.units_divide as u8,
+            self.units_increment as u8,
+        ]
+    }
+
+    /// Whether each is a number of a profile.
+    fn are_in_range(numbers: &[u8; PROFILE_LENGTH]) -> bool
+        ensures { IsTrue result ↔ IsProfile numbers.now }
+    {
+        numbers
+            .iter()
+            .all(|n| 1 <= *n && u32::from(*n) <= PROFILE_LIMIT)
     }
 
     /// How many units there are of a kind.

@@ -7,7 +7,7 @@ use Rattle.std.specs.Prelude.{nat_lt}
 use Rattle.s66_isa.specs.declared.instr.Instr.{Instr}
 use Rattle.s66_isa.specs.declared.profile.Profile.{Profile}
 use Rattle.s66_isa.specs.Lists.{Among, rising}
-use Rattle.s66_isa.specs.Table.{numbers}
+use Rattle.s66_isa.specs.Table.{entries, numbers}
 use Rattle.s66_isa.proofs.Lists.{least-le}
 use Rattle.s66_isa.specs.declared.limits.TheConstants.{BLOCK_LIMIT}
 use Rattle.s66_line.specs.Block.{instrs_of, text_of}
@@ -24,7 +24,7 @@ use Rattle.s66_model.proofs.Growth.{total-le}
 use Rattle.s66_model.proofs.LegalOrders.{legal-order, ready-parts}
 use Rattle.s66_model.proofs.Remaining.{among-ready, legal-parts, ready-among, remaining-parts, rest-first, step-begins}
 use Rattle.s66_cert.specs.declared.limits.TheConstants.{SPLIT_LIMIT, TIME_LIMIT}
-use Rattle.s66_cert.specs.Document.{AreIn, AreInstructions, AreNumbers, IsDocument, IsLeafLine, KidsFit, TreeFits, profile_numbers}
+use Rattle.s66_cert.specs.Document.{AreIn, AreInstructions, AreNumbers, IsDocument, IsLeafLine, KidsFit, TreeFits}
 use Rattle.s66_cert.specs.DocumentParts.{Parts, AreWhole, document_of, tree_of}
 use Rattle.s66_program.specs.ProvedAnswers.{IsSpelled}
 use Rattle.s66_program.specs.ProveText.{document_under, texts_of}
@@ -139,7 +139,7 @@ length-texts block = length-map (numbers (instrs_of block)) (text_of block) ∙ 
 
 -- DOCUMENTS
 
-profile-in : (p : Profile) → AreIn 1 100 (profile_numbers p)
+profile-in : (p : Profile) → AreIn 1 100 (entries p)
 profile-in p = (
   p.least.0,
   p.greatest.0,
@@ -204,7 +204,7 @@ answer-document p block budget a is splits some few spelled =
 
 abbrev pub parts_under : Profile → Block → Answer → Parts
 parts_under p block a =
-    record { profile = profile_numbers p; block = texts_of block; time = a.time; bound = a.bound; numbers = a.order; knots = flat a.tree }
+    record { profile = entries p; block = texts_of block; time = a.time; bound = a.bound; numbers = a.order; knots = flat a.tree }
 
 pub parts-document : (p : Profile) (block : Block) (budget : ℕ) (a : Answer) → IsAnswer (record { block = instrs_of block; profile = p }) budget a →
     document_of (parts_under p block a) ≡ document_under p block a

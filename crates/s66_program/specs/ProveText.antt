@@ -1,11 +1,11 @@
 -- To be believed: what `prove` writes for a source, and how it ends: for each block the document of an answer of a search of its orders, of which there may be several.
 use Rattle.std.specs.Prelude.{ℕ, ◌≡◌, List, [], ◌∷◌, Ok, map}
 use Rattle.s66_isa.specs.declared.profile.Profile.{Profile}
-use Rattle.s66_isa.specs.Table.{numbers, standard}
+use Rattle.s66_isa.specs.Table.{entries, numbers, standard}
 use Rattle.s66_line.specs.Block.{instrs_of, text_of}
 use Rattle.s66_line.specs.Source.{Block, source_of}
 use Rattle.s66_model.specs.Answer.{Answer}
-use Rattle.s66_cert.specs.Document.{Document, documents_text, profile_numbers}
+use Rattle.s66_cert.specs.Document.{Document, documents_text}
 use Rattle.s66_program.specs.declared.outcome.Status.{Status}
 use Rattle.s66_program.specs.OrderText.{AreAnswers, status_of}
 
@@ -16,7 +16,7 @@ texts_of block = map (text_of block) (numbers (instrs_of block))
 -- what an answer claims of a block under a profile
 abbrev pub document_under : Profile → Block → Answer → Document
 document_under p block a =
-    record { profile = profile_numbers p; block = texts_of block; time = a.time; bound = a.bound; numbers = a.order; tree = a.tree }
+    record { profile = entries p; block = texts_of block; time = a.time; bound = a.bound; numbers = a.order; tree = a.tree }
 
 abbrev pub document_by : Block → Answer → Document
 document_by block a = document_under standard block a

@@ -1,13 +1,13 @@
 ghost use Rattle.std.specs.Prelude.{◌≡◌, IfOk};
 ghost use Rattle.s66_line.specs.Block.{instrs_of};
 ghost use Rattle.s66_ledger.specs.Answers.{answer_of};
-ghost use Rattle.s66_cert.specs.Document.{profile_numbers};
+ghost use Rattle.s66_isa.specs.Table.{entries};
 ghost use Rattle.s66_cert.specs.DocumentParts.{document_of};
 ghost use Rattle.s66_program.specs.ProveText.{document_under, texts_of};
 ghost use Rattle.s66_program.specs.ProvedAnswers.{IsSpelled};
 
 use arrayvec::ArrayVec;
-use s66_cert::{Claim, Document, InstructionText, PROFILE_LENGTH};
+use s66_cert::{Claim, Document, InstructionText};
 use s66_isa::{BLOCK_LIMIT, Profile};
 use s66_ledger::{Answer, BUDGET_LIMIT};
 use s66_line::Block;
@@ -15,7 +15,7 @@ use std::alloc::{AllocError, Global};
 
 /// The times of a profile, then its copies of units.
 fn profile_numbers(profile: &Profile) -> ArrayVec<u8, PROFILE_LENGTH>
-    ensures { result.items ≡ profile_numbers profile.now }
+    ensures { result.items ≡ entries profile.now }
 {
     ArrayVec::from([
         profile.boolean as u8,
