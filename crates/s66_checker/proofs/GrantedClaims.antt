@@ -1,10 +1,8 @@
 -- The verdict is yes exactly where the claim is true.
-use Rattle.std.proofs.Common.{ℕ, suc, ◌≡◌, ◌↔◌, Bool, true, cond, not, List, [], ◌∷◌, ◌++◌, Option, None, Some, bytes_eq, refl, inl, inr, subst}
+use Rattle.std.proofs.Common.{ℕ, suc, ◌≡◌, ◌↔◌, Bool, true, cond, not, List, [], ◌∷◌, ◌++◌, Option, None, Some, refl, inl, inr, subst}
 use Rattle.std.proofs.lemmas.Bool.{eqb-true, eq-eqb, ltb-false, le-ltb, not-false, not_from_true}
-use Rattle.std.proofs.lemmas.Slice.Eq.{bytes_eq-Decides}
 use Rattle.std.specs.Prelude.{nat_lt, ◌==◌}
 use Rattle.s66_isa.specs.Lists.{Among}
-use Rattle.s66_isa.specs.Table.{entries, standard}
 use Rattle.s66_model.specs.Timing.{Problem, total_of}
 use Rattle.s66_model.specs.LegalOrder.{is_ready, ready, IsBeginning}
 use Rattle.s66_model.specs.Leaves.{Leaf}
@@ -95,44 +93,35 @@ verdict-yes limit d time bound fit =
     let high : Bool = nat_lt d.time d.bound in
     let times : Bool = total_of b d.numbers == d.time in
     let legal : Bool = is_legal_order b.block d.numbers in
-    let known : Bool = bytes_eq d.profile (entries standard) in
     let after_time : Verdict = cond high (No (bound_line d) fault.Bound) lines in
     let after_order : Verdict = cond (not times) (No (time_line d) fault.Time) after_time in
-    let after_profile : Verdict = cond (not legal) (No (order_line d) fault.Order) after_order in
-    let profile = passed (not known) (No 2 fault.Profile) after_profile (Yes time bound) (λ h. (cc)) in
     let order = passed (not legal) (No (order_line d) fault.Order) after_order (Yes time bound) (λ h. (cc)) in
     let total = passed (not times) (No (time_line d) fault.Time) after_time (Yes time bound) (λ h. (cc)) in
     let within = passed high (No (bound_line d) fault.Bound) lines (Yes time bound) (λ h. (cc)) in
     let told = lines-yes d (tree_placed [] d.tree) (tree_line d) time bound in
     let shows = tree-shows b d.bound limit d.tree fit in
-    let same = bytes_eq-Decides d.profile (entries standard) in
     let is_legal = is_legal_order-Decides b.block d.numbers in (
-      (λ h. (let one = profile.0 h in
-          let two = order.0 one.1 in
-          let three = total.0 two.1 in
-          let four = within.0 three.1 in
-          let five = told.0 four.1 in (
-            five.1,
-            five.2,
+      (λ h. (let one = order.0 h in
+          let two = total.0 one.1 in
+          let three = within.0 two.1 in
+          let four = told.0 three.1 in (
+            four.1,
+            four.2,
             record {
-              profile = same.0 (not-false known one.0);
-              legal = is_legal.0 (not-false legal two.0);
-              time = eqb-true (total_of b d.numbers) d.time (not-false times three.0);
-              bound = ltb-false d.time d.bound four.0;
-              tree = shows.0 five.0;
+              legal = is_legal.0 (not-false legal one.0);
+              time = eqb-true (total_of b d.numbers) d.time (not-false times two.0);
+              bound = ltb-false d.time d.bound three.0;
+              tree = shows.0 four.0;
             },
           ))),
       λ h. (let claim = h.2 in
-          profile.1 (
-            not_from_true known (same.1 claim.profile),
-            order.1 (
-              not_from_true legal (is_legal.1 claim.legal),
-              total.1 (
-                not_from_true times (eq-eqb (total_of b d.numbers) d.time claim.time),
-                within.1 (
-                  le-ltb d.time d.bound claim.bound,
-                  told.1 (shows.1 claim.tree, h.0, h.1),
-                ),
+          order.1 (
+            not_from_true legal (is_legal.1 claim.legal),
+            total.1 (
+              not_from_true times (eq-eqb (total_of b d.numbers) d.time claim.time),
+              within.1 (
+                le-ltb d.time d.bound claim.bound,
+                told.1 (shows.1 claim.tree, h.0, h.1),
               ),
             ),
           )),

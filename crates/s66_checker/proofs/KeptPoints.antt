@@ -12,7 +12,7 @@ use Rattle.s66_model.specs.Leaves.{rest_busy}
 use Rattle.s66_model.proofs.Growth.{AreSmall, point-ordered, total-le}
 use Rattle.s66_model.proofs.PointTimes.{good-at, points_after-length, point_of-row, issue-le-start, hold-le-free}
 use Rattle.s66_model.proofs.ChainBound.{last-is_greatest}
-use Rattle.s66_checker.specs.KeptPrefix.{TOTAL_LIMIT, under_standard, AreTimed}
+use Rattle.s66_checker.specs.KeptPrefix.{TOTAL_LIMIT, AreTimed}
 use Rattle.s66_checker.proofs.Reversed.{greatest-reverse, reverse-last}
 
 -- OF THE NEWEST FIRST
@@ -40,7 +40,7 @@ early-run b s (n ∷ ns) early = early-run b (point_of b s n ∷ s) ns (early-st
 early : (xs : List Point) → AreTimed xs → AreEarly (reverse xs)
 early xs timed =
     subst (λ s. AreEarly s) (sym timed.timed)
-    (early-run (under_standard timed.block) [] timed.numbers (record { small = record { starts = omega arith; parcels = omega arith }; packed = refl }))
+    (early-run timed.problem [] timed.numbers (record { small = record { starts = omega arith; parcels = omega arith }; packed = refl }))
 
 pub timed-small : (xs : List Point) → AreTimed xs → AreSmall (reverse xs)
 timed-small xs timed = (early xs timed).small
@@ -52,16 +52,16 @@ timed-packed xs timed = (early xs timed).packed
 
 pub timed-few : (xs : List Point) → AreTimed xs → length xs ≤ BLOCK_LIMIT
 timed-few xs timed =
-    omega (arith, length-reverse xs, ap length timed.timed, points_after-length (under_standard timed.block) [] timed.numbers, timed.few)
+    omega (arith, length-reverse xs, ap length timed.timed, points_after-length timed.problem [] timed.numbers, timed.few)
 
 pub timed-total : (xs : List Point) → AreTimed xs → total xs ≤ TOTAL_LIMIT
 timed-total xs timed =
-    omega (arith, greatest-reverse end_of xs, ap total timed.timed, total-le (under_standard timed.block) timed.numbers, timed.few)
+    omega (arith, greatest-reverse end_of xs, ap total timed.timed, total-le timed.problem timed.numbers, timed.few)
 
 -- the latest writer of a register is done last
 pub timed-latest : (xs : List Point) → AreTimed xs → (r : Reg) → last_done r (reverse xs) ≡ done_of (reverse xs) r
 timed-latest xs timed r =
-    subst (λ s. last_done r s ≡ done_of s r) (sym timed.timed) (last-is_greatest (under_standard timed.block) timed.numbers r)
+    subst (λ s. last_done r s ≡ done_of s r) (sym timed.timed) (last-is_greatest timed.problem timed.numbers r)
 
 -- THE LAST POINT
 

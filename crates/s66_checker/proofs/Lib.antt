@@ -4,6 +4,7 @@ pub mod Placed
 pub mod TreeWalk
 pub mod Reversed
 pub mod KeptPoints
+pub mod KeptProfile
 pub mod Issues
 pub mod NumbersInTurn
 pub mod ReadyByNeeds

@@ -4,34 +4,35 @@ use Rattle.std.proofs.lemmas.Bool.{cases_eq, or_left}
 use Rattle.std.proofs.lemmas.List.{length-append, length-reverse, get_or_default, reverse-append}
 use Rattle.s66_isa.specs.declared.instr.Instr.{Instr}
 use Rattle.s66_isa.specs.Lists.{has}
-use Rattle.s66_isa.specs.Table.{Row, row, standard}
+use Rattle.s66_isa.specs.declared.profile.Profile.{Profile}
+use Rattle.s66_isa.specs.Table.{Row, row}
 use Rattle.s66_isa.specs.declared.limits.TheConstants.{BLOCK_LIMIT}
 use Rattle.s66_model.specs.Timing.{Problem, Point, row_at, point, point_of, points_of, points_after}
 use Rattle.s66_model.specs.LegalOrder.{IsBeginning, is_ready}
 use Rattle.s66_model.proofs.LegalOrders.{ready-parts, has_push-same, has_push-other, GoesOn-append}
 use Rattle.s66_model.proofs.PointTimes.{points_after-append, points_after-length}
 use Rattle.s66_model.proofs.Remaining.{step-begins}
-use Rattle.s66_checker.specs.KeptPrefix.{under_standard, AreNeeds, AreTimed, IsPrefix}
+use Rattle.s66_checker.specs.KeptPrefix.{under, AreNeeds, AreTimed, IsPrefix}
 use Rattle.s66_checker.specs.Marked.{is_marked}
 use Rattle.s66_checker.specs.declared.marks.Marks.{Marks}
 use Rattle.s66_checker.proofs.Reversed.{reverse-last}
 use Rattle.s66_checker.proofs.ReadyByNeeds.{beginning-few}
 
-pub prefix-timed : (block : List Instr) (rows : List Row) (all : List Marks) (placed : Marks) (ns : List ℕ) (xs : List Point) → IsPrefix block rows all placed ns xs → AreTimed xs
-prefix-timed block rows all placed ns xs is =
-    record { block = block; numbers = ns; few = omega (arith, beginning-few block ns is.begins, is.few); timed = is.timed }
+pub prefix-timed : (block : List Instr) (profile : Profile) (rows : List Row) (all : List Marks) (placed : Marks) (ns : List ℕ) (xs : List Point) → IsPrefix block profile rows all placed ns xs → AreTimed xs
+prefix-timed block profile rows all placed ns xs is =
+    record { problem = record { block = block; profile = profile }; numbers = ns; few = omega (arith, beginning-few block ns is.begins, is.few); timed = is.timed }
 
 -- as many points as numbers
-prefix-length : (block : List Instr) (rows : List Row) (all : List Marks) (placed : Marks) (ns : List ℕ) (xs : List Point) → IsPrefix block rows all placed ns xs → length xs ≡ length ns
-prefix-length block rows all placed ns xs is =
-    omega (arith, length-reverse xs, ap length is.timed, points_after-length (under_standard block) [] ns)
+prefix-length : (block : List Instr) (profile : Profile) (rows : List Row) (all : List Marks) (placed : Marks) (ns : List ℕ) (xs : List Point) → IsPrefix block profile rows all placed ns xs → length xs ≡ length ns
+prefix-length block profile rows all placed ns xs is =
+    omega (arith, length-reverse xs, ap length is.timed, points_after-length (record { block = block; profile = profile }) [] ns)
 
 -- AT FIRST
 
-pub prefix-start : (block instrs : List Instr) (rows : List Row) (all : List Marks) (placed : Marks) (ns : List ℕ) (xs : List Point) → 1 ≤ length block → length block ≤ BLOCK_LIMIT →
-    instrs ≡ block → rows ≡ map (row standard) block → AreNeeds block all → ((m : ℕ) → is_marked placed m ≡ false) → ns ≡ [] → xs ≡ [] → IsPrefix instrs rows all placed ns xs
-prefix-start block instrs rows all placed ns xs some few same known needed unmarked no_number no_point =
-    subst (λ is. IsPrefix is rows all placed ns xs) (sym same)
+pub prefix-start : (block instrs : List Instr) (profile : Profile) (rows : List Row) (all : List Marks) (placed : Marks) (ns : List ℕ) (xs : List Point) → 1 ≤ length block → length block ≤ BLOCK_LIMIT →
+    instrs ≡ block → rows ≡ map (row profile) block → AreNeeds block all → ((m : ℕ) → is_marked placed m ≡ false) → ns ≡ [] → xs ≡ [] → IsPrefix instrs profile rows all placed ns xs
+prefix-start block instrs profile rows all placed ns xs some few same known needed unmarked no_number no_point =
+    subst (λ is. IsPrefix is profile rows all placed ns xs) (sym same)
     (record {
       some = some;
       few = few;
@@ -44,16 +45,16 @@ prefix-start block instrs rows all placed ns xs some few same known needed unmar
 
 -- A PUSH
 
-pub room-left : (block : List Instr) (rows : List Row) (all : List Marks) (placed : Marks) (ns : List ℕ) (xs : List Point) (n : ℕ) → IsPrefix block rows all placed ns xs → is_ready block ns n ≡ true →
+pub room-left : (block : List Instr) (profile : Profile) (rows : List Row) (all : List Marks) (placed : Marks) (ns : List ℕ) (xs : List Point) (n : ℕ) → IsPrefix block profile rows all placed ns xs → is_ready block ns n ≡ true →
     (length xs < BLOCK_LIMIT) × (length ns < BLOCK_LIMIT)
-room-left block rows all placed ns xs n is ready =
+room-left block profile rows all placed ns xs n is ready =
     let more : length ns < BLOCK_LIMIT = omega (arith, beginning-few block (ns ++ n ∷ []) (step-begins block ns n is.begins ready), length-append ns (n ∷ []), is.few) in
-    (omega (arith, more, prefix-length block rows all placed ns xs is), more)
+    (omega (arith, more, prefix-length block profile rows all placed ns xs is), more)
 
 -- only the row matters, and the profile
-point-under : (block : List Instr) (s : List Point) (n : ℕ) (r : Row) → point (under_standard []) s n r ≡ point (under_standard block) s n r
+point-under : (block : List Instr) (profile : Profile) (s : List Point) (n : ℕ) (r : Row) → point (under profile) s n r ≡ point (record { block = block; profile = profile }) s n r
 unfolding point Rattle.s66_model.specs.Timing.start_of Rattle.s66_model.specs.Timing.issue_of
-point-under block s n r = refl
+point-under block profile s n r = refl
 
 marked-push : (placed more : Marks) (ns : List ℕ) (n : ℕ) → ((m : ℕ) → 1 ≤ m → is_marked more m ≡ (m == n || is_marked placed m)) → ((m : ℕ) → 1 ≤ m → m ≤ BLOCK_LIMIT → is_marked placed m ≡ has m ns) →
     (m : ℕ) → 1 ≤ m → m ≤ BLOCK_LIMIT → is_marked more m ≡ has m (ns ++ n ∷ [])
@@ -63,14 +64,14 @@ marked-push placed more ns n with marked m low high =
       | inr apart ↦ with m low ∙ rw (ne_eqb m n apart) (marked m low high) ∙ sym (has_push-other m n ns apart)
     ]
 
-pub prefix-push : (block : List Instr) (rows : List Row) (all : List Marks) (placed : Marks) (ns : List ℕ) (xs : List Point) (n : ℕ) (more : Marks) (r : Row) (p : Point) (ms : List ℕ) (ys : List Point) →
-    IsPrefix block rows all placed ns xs → ((m : ℕ) → 1 ≤ m → is_marked more m ≡ (m == n || is_marked placed m)) → is_ready block ns n ≡ true → r ≡ row_at (under_standard block) n → p ≡ point (under_standard []) (reverse xs) n r →
-    ms ≡ ns ++ n ∷ [] → ys ≡ xs ++ p ∷ [] → IsPrefix block rows all more ms ys
-prefix-push block rows all placed ns xs n more r p ms ys is with ready e2 e3 e4 e5 =
+pub prefix-push : (block : List Instr) (profile : Profile) (rows : List Row) (all : List Marks) (placed : Marks) (ns : List ℕ) (xs : List Point) (n : ℕ) (more : Marks) (r : Row) (p : Point) (ms : List ℕ) (ys : List Point) →
+    IsPrefix block profile rows all placed ns xs → ((m : ℕ) → 1 ≤ m → is_marked more m ≡ (m == n || is_marked placed m)) → is_ready block ns n ≡ true → r ≡ row_at (record { block = block; profile = profile }) n → p ≡ point (under profile) (reverse xs) n r →
+    ms ≡ ns ++ n ∷ [] → ys ≡ xs ++ p ∷ [] → IsPrefix block profile rows all more ms ys
+prefix-push block profile rows all placed ns xs n more r p ms ys is with ready e2 e3 e4 e5 =
     let (low, high, new, met) = ready-parts block ns n ready in
-    let b : Problem = under_standard block in
+    let b : Problem = record { block = block; profile = profile } in
     let made : p ≡ point_of b (points_of b ns) n =
-    e3 ∙ point-under block (reverse xs) n r ∙ ap (λ s. point b s n r) is.timed
+    e3 ∙ point-under block profile (reverse xs) n r ∙ ap (λ s. point b s n r) is.timed
     ∙ ap (λ (j : Row). point b (points_of b ns) n j) e2
     in
     record {
@@ -103,13 +104,13 @@ marked-pop placed less ns n new without marked m low high =
       | inr apart ↦ without m low high ∙ rw (ne_eqb m n apart) (marked m low high ∙ has_push-other m n ns apart)
     ]
 
-pub prefix-pop : (block : List Instr) (rows : List Row) (all : List Marks) (placed : Marks) (ns : List ℕ) (xs : List Point) (n : ℕ) (less : Marks) (ms : List ℕ) (ys : List Point) →
-    IsPrefix block rows all placed ns xs → ((m : ℕ) → 1 ≤ m → m ≤ BLOCK_LIMIT → is_marked less m ≡ (not (m == n) && is_marked placed m)) → ns ≡ ms ++ n ∷ [] → ys ≡ take (length xs - 1) xs → IsPrefix block rows all less ms ys
-prefix-pop block rows all placed ns xs n less ms ys is without e1 e2 =
+pub prefix-pop : (block : List Instr) (profile : Profile) (rows : List Row) (all : List Marks) (placed : Marks) (ns : List ℕ) (xs : List Point) (n : ℕ) (less : Marks) (ms : List ℕ) (ys : List Point) →
+    IsPrefix block profile rows all placed ns xs → ((m : ℕ) → 1 ≤ m → m ≤ BLOCK_LIMIT → is_marked less m ≡ (not (m == n) && is_marked placed m)) → ns ≡ ms ++ n ∷ [] → ys ≡ take (length xs - 1) xs → IsPrefix block profile rows all less ms ys
+prefix-pop block profile rows all placed ns xs n less ms ys is without e1 e2 =
     let (begins, ready) = last-ready block ns ms n is.begins e1 in
     let (low, high, new, met) = ready-parts block ms n ready in
-    let b : Problem = under_standard block in
-    let some : 0 < length xs = omega (arith, prefix-length block rows all placed ns xs is, ap length e1, length-append ms (n ∷ [])) in
+    let b : Problem = record { block = block; profile = profile } in
+    let some : 0 < length xs = omega (arith, prefix-length block profile rows all placed ns xs is, ap length e1, length-append ms (n ∷ [])) in
     let last : Point = get_or xs (length xs - 1) (point_of b [] n) in
     let newest : reverse xs ≡ last ∷ reverse (take (length xs - 1) xs) = reverse-last xs last some (get_or_default xs (length xs - 1) (point_of b [] n) last (omega (arith, some))) in
     let pushed : reverse xs ≡ point_of b (points_of b ms) n ∷ points_of b ms = is.timed ∙ ap (points_of b) e1 ∙ points_after-append b [] ms (n ∷ []) in

@@ -11,7 +11,7 @@ use Rattle.s66_isa.specs.declared.instr.Memory.TheVariants as memory
 use Rattle.s66_isa.specs.declared.reg.Reg.{Reg}
 use Rattle.s66_isa.specs.declared.reg.TheConstants.{REGISTER_COUNT}
 use Rattle.s66_isa.specs.Registers.{index_of, word_of}
-use Rattle.s66_isa.specs.Table.{same_reg, has_reg, same_kind, kind_number, memory_pair, copies_of, standard}
+use Rattle.s66_isa.specs.Table.{same_reg, has_reg, same_kind, kind_number, memory_pair}
 use Rattle.s66_isa.proofs.Lists.{greatest-append, tally-append}
 use Rattle.s66_isa.proofs.RegisterBits.{index-few, raised-twice}
 use Rattle.s66_isa.proofs.SameRegister.{same_reg-sym}
@@ -71,24 +71,29 @@ free-same busy other f same are =
       two = λ t lt. omega (arith, same t, are.two t lt);
     }
 
--- there are one or two of each kind
-pub few-copies : (kind : Kind) → copies_of standard kind ≤ 2
-few-copies Boolean = omega arith
-few-copies Shift = omega arith
-few-copies Add = omega arith
-few-copies LongAdd = omega arith
-few-copies Multiply = omega arith
-few-copies Divide = omega arith
-few-copies Increment = omega arith
+-- a unit that is busy at a time was busy before it
+busy-before : (t u f : ℕ) → t ≤ u → ◌≤◌ (cond (ltb u f) 1 0) (cond (ltb t f) 1 0)
+busy-before t u f le =
+    elim (cases_lt u f) [
+      | inl lt ↦ omega (arith, held u f lt, held t f (omega (arith, le, lt)))
+      | inr ge ↦ omega (arith, past u f ge)
+    ]
 
--- the first time from this one on at which fewer are busy than there are copies
-pub one-free : (busy : ℕ → ℕ) (f : FreeTimes) (copies u : ℕ) → AreFree busy f → copies ≡ 1 → busy u < copies → f.all ≤ u
-one-free busy f copies u are one few =
-    elim (cases_lt u f.all) [ inl lt ↦ absurd (omega (arith, one, few, are.some u lt)) | inr le ↦ le ]
+-- so the busy units of a kind only grow fewer
+busy-falls : (kind : Kind) (t u : ℕ) (xs : List Point) → t ≤ u → tally (busy_at kind u) xs ≤ tally (busy_at kind t) xs
+busy-falls kind t u [] le = omega arith
+busy-falls kind t u (p ∷ xs) le =
+    elim (cases_Bool (same_kind p.row.kind kind)) [
+      | inl same ↦
+          omega (arith, busy-falls kind t u xs le, busy-before t u p.free le, ap (λ b. cond {A = ℕ} (b && ltb u p.free) 1 0) same, ap (λ b. cond {A = ℕ} (b && ltb t p.free) 1 0) same)
+      | inr other ↦
+          omega (arith, busy-falls kind t u xs le, ap (λ b. cond {A = ℕ} (b && ltb u p.free) 1 0) other, ap (λ b. cond {A = ℕ} (b && ltb t p.free) 1 0) other)
+    ]
 
-pub two-free : (busy : ℕ → ℕ) (f : FreeTimes) (copies u : ℕ) → AreFree busy f → copies ≤ 2 → busy u < copies → f.all_but_one ≤ u
-two-free busy f copies u are two few =
-    elim (cases_lt u f.all_but_one) [ inl lt ↦ absurd (omega (arith, two, few, are.two u lt)) | inr le ↦ le ]
+-- where none is free at a time, the first that is comes later
+pub free-later : (kind : Kind) (xs : List Point) (copies t u : ℕ) → copies ≤ tally (busy_at kind t) xs → tally (busy_at kind u) xs < copies → t + 1 ≤ u
+free-later kind xs copies t u none some =
+    elim (cases_lt t u) [ inl lt ↦ omega (arith, lt) | inr le ↦ absurd (omega (arith, none, some, busy-falls kind u t xs le)) ]
 
 -- MEMORY
 

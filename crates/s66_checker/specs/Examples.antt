@@ -1,7 +1,7 @@
 -- Used by examples alone: worked documents with a part changed.
 use Rattle.std.specs.Prelude.{ℕ, List, [], ◌∷◌}
-use Rattle.s66_model.specs.Leaves.{Leaf, Whole}
-use Rattle.s66_model.specs.Tree.{Parted, Kids, NoMore, Unsplit, Split}
+use Rattle.s66_model.specs.Leaves.{Leaf, Whole, Parcels}
+use Rattle.s66_model.specs.Tree.{Alone, Parted, Kids, NoMore, Unsplit, Split}
 use Rattle.s66_cert.specs.Document.{Document}
 use Rattle.s66_cert.specs.Examples.{one_load, three_multiplies, after_one}
 
@@ -10,8 +10,19 @@ use Rattle.s66_cert.specs.Examples.{one_load, three_multiplies, after_one}
 abbrev pub refused_order : Document
 refused_order = record one_load { numbers = 2 ∷ 1 ∷ 3 ∷ []; time = 99 }
 
-abbrev pub refused_profile : Document
-refused_profile = record one_load { profile = 4 ∷ []; numbers = 2 ∷ 1 ∷ 3 ∷ [] }
+-- UNDER ANOTHER PROFILE: a Boolean takes a minor cycle more, and there are three multiply units
+
+abbrev pub slow_booleans : List ℕ
+slow_booleans = 4 ∷ 3 ∷ 4 ∷ 4 ∷ 3 ∷ 10 ∷ 29 ∷ 8 ∷ 3 ∷ 8 ∷ 1 ∷ 1 ∷ 1 ∷ 1 ∷ 2 ∷ 1 ∷ 2 ∷ []
+
+abbrev pub slow_one_load : ℕ → Document
+slow_one_load time = record one_load { profile = slow_booleans; time = time }
+
+abbrev pub three_units : List ℕ
+three_units = 3 ∷ 3 ∷ 4 ∷ 4 ∷ 3 ∷ 10 ∷ 29 ∷ 8 ∷ 3 ∷ 8 ∷ 1 ∷ 1 ∷ 1 ∷ 1 ∷ 3 ∷ 1 ∷ 2 ∷ []
+
+abbrev pub multiplies_at_once : ℕ → Document
+multiplies_at_once bound = record three_multiplies { profile = three_units; time = 13; bound = bound; tree = Alone Parcels }
 
 -- THREE MULTIPLIES WITH ANOTHER TREE, the first line of which is line 10
 

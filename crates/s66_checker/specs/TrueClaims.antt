@@ -1,15 +1,13 @@
 -- To be believed: when what a document claims is true.
 use Rattle.std.specs.Prelude.{◌≡◌, ◌≤◌, []}
-use Rattle.s66_isa.specs.Table.{entries, standard}
 use Rattle.s66_model.specs.Timing.{total_of}
 use Rattle.s66_model.specs.LegalOrder.{IsLegal}
 use Rattle.s66_model.specs.Tree.{Shows}
 use Rattle.s66_cert.specs.Document.{Document}
 use Rattle.s66_checker.specs.Verdict.{problem_of}
 
--- under the standard profile its order is legal and takes its time, and its tree shows its bound, which isn't above the time
+-- under its own profile its order is legal and takes its time, and its tree shows its bound, which isn't above the time
 pub record IsTrueClaim (d : Document) : Type 0 where
-  pub profile : d.profile ≡ entries standard
   pub legal : IsLegal (problem_of d).block d.numbers
   pub time : total_of (problem_of d) d.numbers ≡ d.time
   pub bound : d.bound ≤ d.time

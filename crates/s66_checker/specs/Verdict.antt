@@ -2,7 +2,7 @@
 use Rattle.std.specs.Prelude.{ℕ, suc, ◌+◌, ◌==◌, ◌&&◌, if◌then◌else◌, Bool, true, false, not, List, [], ◌∷◌, ◌++◌, Option, None, Some, length, map, nat_lt}
 use Rattle.std.specs.Str.{bytes_eq}
 use Rattle.s66_isa.specs.declared.instr.Instr.{Instr}
-use Rattle.s66_isa.specs.Table.{entries, standard}
+use Rattle.s66_isa.specs.Profiles.{profile_of}
 use Rattle.s66_line.specs.InstructionText.{instr_in_text}
 use Rattle.s66_model.specs.Timing.{Problem, total_of}
 use Rattle.s66_model.specs.LegalOrder.{is_ready, is_remaining, ready}
@@ -14,10 +14,10 @@ use Rattle.s66_checker.specs.declared.verdict.Verdict.TheVariants.{Yes, No}
 use Rattle.s66_checker.specs.declared.verdict.Reason.{Reason}
 use Rattle.s66_checker.specs.declared.verdict.Reason.TheVariants as fault
 
--- ITS BLOCK, under the standard profile
+-- ITS BLOCK, under its own profile
 
 abbrev pub problem_of : Document → Problem
-problem_of d = record { block = map instr_in_text d.block; profile = standard }
+problem_of d = record { block = map instr_in_text d.block; profile = profile_of d.profile }
 
 -- ITS ORDER
 
@@ -105,11 +105,10 @@ order_line d = 6 + length d.block
 abbrev pub tree_line : Document → ℕ
 tree_line d = 7 + length d.block
 
--- first the profile, the order, the time and the bound, and then the tree line by line
+-- first the order, the time and the bound, and then the tree line by line
 abbrev pub verdict : Document → Verdict
 verdict d =
-    if not (bytes_eq d.profile (entries standard)) then No 2 fault.Profile
-    else (if not (is_legal_order (problem_of d).block d.numbers) then No (order_line d) fault.Order
+    if not (is_legal_order (problem_of d).block d.numbers) then No (order_line d) fault.Order
     else (if not (total_of (problem_of d) d.numbers == d.time) then No (time_line d) fault.Time
     else (if nat_lt d.time d.bound then No (bound_line d) fault.Bound
-    else lines_verdict d (tree_line d) (tree_placed [] d.tree))))
+    else lines_verdict d (tree_line d) (tree_placed [] d.tree)))

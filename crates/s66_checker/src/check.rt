@@ -1,5 +1,5 @@
-ghost use Rattle.std.specs.Prelude.{◌≡◌, ◌≤◌, [], Some, None, if◌then◌else◌, bytes_eq, length, map};
-ghost use Rattle.s66_isa.specs.Table.{entries, standard};
+ghost use Rattle.std.specs.Prelude.{◌≡◌, ◌≤◌, [], Some, None, if◌then◌else◌, length, map};
+ghost use Rattle.s66_isa.specs.Profiles.{profile_of};
 ghost use Rattle.s66_isa.specs.declared.limits.TheConstants.{BLOCK_LIMIT};
 ghost use Rattle.s66_model.specs.Timing.{total_of};
 ghost use Rattle.s66_cert.specs.DocumentParts.{document_of};
@@ -11,16 +11,19 @@ use crate::verdict::{Reason, Verdict};
 use crate::walk::tree_verdict;
 use arrayvec::ArrayVec;
 use s66_cert::{Document, InstructionText};
-use s66_isa::{BLOCK_LIMIT, Instr, PROFILE_LENGTH};
+use s66_isa::{BLOCK_LIMIT, Instr, PROFILE_LENGTH, Profile};
 
-/// The numbers of the standard profile.
-const STANDARD: [u8; PROFILE_LENGTH] = [3, 3, 4, 4, 3, 10, 29, 8, 3, 8, 1, 1, 1, 1, 2, 1, 2];
-
-/// Whether these are the numbers of the standard profile.
-fn is_standard(profile: &[u8]) -> bool
-    ensures { result ≡ bytes_eq profile.now (entries standard) }
+/// A document's profile.
+fn profile_of(document: &Document) -> Profile
+    ensures { result ≡ profile_of document.now.profile }
 {
-    profile == STANDARD.as_slice()
+    let Ok(numbers) = <&[u8; PROFILE_LENGTH]>::try_from(document.profile()) else {
+        unreachable!()
+    };
+    let Some(profile) = Profile::of(numbers) else {
+        unreachable!()
+    };
+    profile
 }
 
 /// The instructions of a document's block.
@@ -54,9 +57,9 @@ fn legal_total(prefix: &mut Prefix, order: &[u8]) -> Option<u32>
     }
 }
 
-/// The verdict on a document: yes with its time and its bound exactly where what it claims is true, and else its first fault, that of
-/// the profile, of the order, of the time, of the bound, or of a line of the tree. It allocates nothing, and stands on no other timing
-/// and no other test of dependence than its own.
+/// The verdict on a document, timed by its own profile: yes with its time and its bound exactly where what it claims is true, and else
+/// its first fault, that of the order, of the time, of the bound, or of a line of the tree. It allocates nothing, and stands on no
+/// other timing and no other test of dependence than its own.
 ///
 /// Each pair of the block's instructions is looked at once; beside that a line of the tree takes a time linear in the block's length,
 /// on the average over all lines.
@@ -65,13 +68,7 @@ pub fn verify(document: &Document) -> Verdict
 {
     let block = instructions_of(document.block());
     let count = block.len() as u32;
-    if !is_standard(document.profile()) {
-        return Verdict::No {
-            line: 2,
-            reason: Reason::Profile,
-        };
-    }
-    let mut prefix = Prefix::new(block.as_slice());
+    let mut prefix = Prefix::new(block.as_slice(), &profile_of(document));
     let Some(total) = legal_total(&mut prefix, document.order()) else {
         return Verdict::No {
             line: count + 6,

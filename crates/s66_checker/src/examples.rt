@@ -1,5 +1,5 @@
 //! Worked verdicts.
-#![tactic(auto, unfolding(s66_isa::specs::Table::row, s66_model::specs::Dependence::conflict, s66_model::specs::Timing::issue_of, s66_model::specs::Timing::start_of, s66_model::specs::Timing::point))]
+#![tactic(auto, unfolding(s66_isa::specs::Table::row, s66_isa::specs::Profiles::profile_of, s66_model::specs::Dependence::conflict, s66_model::specs::Timing::issue_of, s66_model::specs::Timing::start_of, s66_model::specs::Timing::point))]
 
 ghost use Rattle.std.specs.Prelude.{[], ◌∷◌, ◌≡◌};
 ghost use Rattle.s66_isa.specs.declared.instr.Kind.TheVariants.{Boolean, Multiply};
@@ -10,7 +10,7 @@ ghost use Rattle.s66_cert.specs.Examples.{after_one, with_times, with_order, wit
 ghost use Rattle.s66_checker.specs.declared.verdict.Verdict.TheVariants.{Yes, No};
 ghost use Rattle.s66_checker.specs.declared.verdict.Reason.TheVariants as fault;
 ghost use Rattle.s66_checker.specs.Verdict.{verdict};
-ghost use Rattle.s66_checker.specs.Examples.{refused_order, refused_profile, multiplies_split, second_line, third_line, last_leaf};
+ghost use Rattle.s66_checker.specs.Examples.{refused_order, slow_one_load, multiplies_at_once, multiplies_split, second_line, third_line, last_leaf};
 
 /// Verdicts on the worked documents: a leaf of each kind, and whole orders alone.
 pub fn verdict_examples()
@@ -22,8 +22,8 @@ pub fn verdict_examples()
     ensures bound_11 { verdict (with_times 12 11) ≡ Yes 12 11 }
 {}
 
-/// Verdicts on documents of one load, a part of which is changed: the first fault stands, in the order of profile, order, time, bound
-/// and tree.
+/// Verdicts on documents of one load, a part of which is changed. The first fault stands: of the order, the time, the bound and the
+/// tree, in turn.
 pub fn fault_examples()
     ensures bound_13 { verdict (with_times 12 13) ≡ No 8 fault.Bound }
     ensures source_order { verdict (with_order (1 ∷ 2 ∷ 3 ∷ [])) ≡ No 7 fault.Time }
@@ -33,7 +33,14 @@ pub fn fault_examples()
     ensures order_too_long { verdict (with_order (1 ∷ 3 ∷ 2 ∷ 2 ∷ [])) ≡ No 9 fault.Order }
     ensures wrong_order_hides_the_time { verdict refused_order ≡ No 9 fault.Order }
     ensures wrong_time_hides_the_bound { verdict (with_times 11 13) ≡ No 7 fault.Time }
-    ensures wrong_profile_hides_the_order { verdict refused_profile ≡ No 2 fault.Profile }
+{}
+
+/// Verdicts on documents under another profile than the standard one, by which they are timed.
+pub fn profile_examples()
+    ensures slower_boolean { verdict (slow_one_load 13) ≡ Yes 13 12 }
+    ensures time_of_the_standard_profile { verdict (slow_one_load 12) ≡ No 7 fault.Time }
+    ensures three_multiply_units { verdict (multiplies_at_once 13) ≡ Yes 13 13 }
+    ensures bound_above_the_time { verdict (multiplies_at_once 14) ≡ No 8 fault.Bound }
 {}
 
 /// Verdicts on documents of one load with another tree.

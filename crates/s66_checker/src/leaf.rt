@@ -14,7 +14,7 @@ use crate::needs::Numbers;
 use crate::prefix::Prefix;
 use crate::timing::{next, registers_done, rest_busy, writes_done};
 use arrayvec::ArrayVec;
-use s66_isa::{Kind, Profile};
+use s66_isa::Kind;
 
 /// What is ready after the prefix, rising: one look at a word for each number of the block.
 pub fn ready(prefix: &Prefix) -> Numbers
@@ -107,7 +107,7 @@ pub fn load(prefix: &Prefix, kind: Kind) -> u32
 {
     let slot = next(prefix.points());
     let work = remaining_work(prefix, kind) + rest_busy(prefix.points(), kind, slot);
-    over(work, Profile::standard().copies(kind)) + slot
+    over(work, prefix.copies(kind)) + slot
 }
 
 /// When the instruction of a number starts at soonest: next, and where the registers are done that it reads or writes.

@@ -1,4 +1,5 @@
-//! The verdict on a certificate, from its document alone: a legal order, its time and a bound that no order beats, or the first fault.
+//! The verdict on a certificate, from its document alone: under the document's profile a legal order, its time and a bound that no
+//! order beats, or the first fault.
 //!
 //! It goes through the order, and then through the tree of the bound line by line: a split has to go on with all instructions that
 //! are ready there, and a leaf has to have a value that reaches the bound, by one of the four rules of the model.
@@ -10,7 +11,7 @@
 //! they leave for the next instruction (`past`, `words`, `timing`); one prefix is pushed and popped along the tree (`prefix`, `walk`).
 //!
 //! It allocates nothing. A block takes time for each of its pairs once, and a line of the tree a time linear in the block's length,
-//! on the average over all lines.
+//! on the average over all lines, whatever the profile.
 #![tactic(auto)]
 
 mod check;
@@ -31,6 +32,8 @@ mod walk;
 mod words;
 
 pub use check::verify;
-pub use examples::{fault_examples, leaf_examples, split_examples, verdict_examples};
+pub use examples::{
+    fault_examples, leaf_examples, profile_examples, split_examples, verdict_examples,
+};
 pub use laws::yes_law;
 pub use verdict::{Reason, Verdict};

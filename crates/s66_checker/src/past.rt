@@ -3,10 +3,10 @@ ghost use Rattle.std.specs.Prelude.{◌≡◌, ◌≤◌, ◌<◌, length};
 use crate::point::KeptPoint;
 use crate::words::Words;
 use arrayvec::ArrayVec;
-use s66_isa::{BLOCK_LIMIT, Kind, Memory, Profile, Reg, kind_number};
+use s66_isa::{BLOCK_LIMIT, Kind, Memory, Reg, kind_number};
 use std::marker::Model;
 
-/// What is placed under the standard profile, with what it leaves for the next instruction. All times are in minor cycles.
+/// What is placed, with what it leaves for the next instruction. All times are in minor cycles.
 ///
 /// Beside the points it keeps the words that they leave, and those before each point: a push copies them and a pop takes them back
 /// whole, so that neither takes longer the more is placed.
@@ -33,8 +33,8 @@ impl Model for Past {
 
 impl Past {
     ghost use Rattle.std.specs.Prelude.{ℕ, ◌+◌, ◌-◌, ◌++◌, [], ◌∷◌, if◌then◌else◌, take};
-    ghost use Rattle.s66_isa.specs.Lists.{greatest, tally, weigh};
-    ghost use Rattle.s66_isa.specs.Table.{copies_of, memory_pair, standard};
+    ghost use Rattle.s66_isa.specs.Lists.{greatest, tally};
+    ghost use Rattle.s66_isa.specs.Table.{memory_pair};
     ghost use Rattle.s66_isa.specs.declared.limits.TheConstants.{BLOCK_LIMIT};
     ghost use Rattle.s66_model.specs.Timing.{Point, busy_at, done_of, readers_wait, total};
 
@@ -109,17 +109,61 @@ impl Past {
         }
     }
 
-    /// The first time, at least this one, at which a unit of the kind is free: there are one or two of it.
-    pub fn first_free(&self, kind: Kind, from: u32) -> u32
+    /// The first time, at least this one, at which a unit of the kind is free, if there are this many copies of it.
+    ///
+    /// For one copy or two it reads a word. For more it counts the busy units at this time, and if none is free then, at each step of
+    /// a bisection: at most 15 counts of the points, since no total reaches 2^14 minor cycles.
+    pub fn first_free(&self, kind: Kind, copies: u32, from: u32) -> u32
+        requires { 1 ≤ copies }
         ensures late { from ≤ result }
-        ensures free { tally (busy_at kind result) self.now < copies_of standard kind }
-        ensures least { (u : ℕ) → from ≤ u → tally (busy_at kind u) self.now < copies_of standard kind → result ≤ u }
+        ensures free { tally (busy_at kind result) self.now < copies }
+        ensures least { (u : ℕ) → from ≤ u → tally (busy_at kind u) self.now < copies → result ≤ u }
     {
         let free = self.words.free[kind_number(kind)];
-        if Profile::standard().copies(kind) == 1 {
-            from.max(free.all)
-        } else {
-            from.max(free.all_but_one)
+        if copies == 1 {
+            return from.max(free.all);
         }
+        let by = from.max(free.all_but_one);
+        if copies == 2 {
+            return by;
+        }
+        if self.busy_count(kind, from) < copies {
+            return from;
+        }
+        self.first_free_by(kind, copies, from, by)
+    }
+
+    /// The same by bisection, if a unit is free at the later time `by`: from when on one is free, one stays free.
+    fn first_free_by(&self, kind: Kind, copies: u32, from: u32, by: u32) -> u32
+        requires order { from ≤ by }
+        requires by { tally (busy_at kind by) self.now < copies }
+        ensures late { from ≤ result }
+        ensures free { tally (busy_at kind result) self.now < copies }
+        ensures least { (u : ℕ) → from ≤ u → tally (busy_at kind u) self.now < copies → result ≤ u }
+    {
+        let mut low = from;
+        let mut high = by;
+        while low < high {
+            let middle = low + (high - low) / 2;
+            if self.busy_count(kind, middle) < copies {
+                high = middle;
+            } else {
+                low = middle + 1;
+            }
+        }
+        low
+    }
+
+    /// How many units of the kind are busy at a time, by a look at each point.
+    fn busy_count(&self, kind: Kind, time: u32) -> u32
+        ensures { result ≡ tally (busy_at kind time) self.now }
+    {
+        let mut count = 0;
+        for point in self.points.as_slice() {
+            if point.is_busy(kind, time) {
+                count += 1;
+            }
+        }
+        count
     }
 }

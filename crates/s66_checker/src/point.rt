@@ -1,6 +1,6 @@
 ghost use Rattle.std.specs.Prelude.{◌≡◌, ◌+◌, if◌then◌else◌};
 ghost use Rattle.s66_isa.specs.Table.{memory_pair};
-ghost use Rattle.s66_model.specs.Timing.{end_of};
+ghost use Rattle.s66_model.specs.Timing.{busy_at, end_of};
 ghost use Rattle.s66_model.specs.Leaves.{rest_busy};
 
 use crate::result::{KeptResult, last_time};
@@ -79,6 +79,13 @@ impl KeptPoint {
         ensures { result ≡ self.now.free }
     {
         self.free
+    }
+
+    /// Whether it holds a unit of the kind beyond a time.
+    pub fn is_busy(&self, kind: Kind, time: u32) -> bool
+        ensures { result ≡ busy_at kind time self.now }
+    {
+        is_same_kind(self.row.kind, kind) && time < self.free
     }
 
     /// For how long a unit of the kind works on it after a time.

@@ -1,5 +1,5 @@
 ghost use Rattle.std.specs.Prelude.{◌≡◌, ◌≤◌, length, map};
-ghost use Rattle.s66_isa.specs.Table.{row, standard};
+ghost use Rattle.s66_isa.specs.Table.{row};
 ghost use Rattle.s66_isa.specs.declared.limits.TheConstants.{BLOCK_LIMIT};
 
 use crate::marks::Marks;
@@ -8,13 +8,14 @@ use crate::past::Past;
 use crate::point::KeptPoint;
 use crate::timing::next_point;
 use arrayvec::ArrayVec;
-use s66_isa::{BLOCK_LIMIT, Instr, Profile, Row};
+use s66_isa::{BLOCK_LIMIT, Instr, Kind, Profile, Row};
 use std::marker::Model;
 
-/// The beginning of an order of a block that a checker has come to, with the times of its instructions under the standard profile.
+/// The beginning of an order of a block that a checker has come to, with the times of its instructions under its profile.
 #[derive(Debug, Drop)]
 pub(crate) struct Prefix {
     block: ArrayVec<Instr, BLOCK_LIMIT>,
+    profile: Profile,
     rows: ArrayVec<Row, BLOCK_LIMIT>,
     needs: ArrayVec<Marks, BLOCK_LIMIT>,
     placed: Marks,
@@ -24,49 +25,48 @@ pub(crate) struct Prefix {
 
 impl Model for Prefix {
     ghost use Rattle.s66_checker.specs.Checked.{Checked};
-    ghost use Rattle.s66_checker.specs.KeptPrefix.{IsPrefix, under_standard};
+    ghost use Rattle.s66_checker.specs.KeptPrefix.{IsPrefix};
 
     ghost Value = { Checked };
 
-    ghost view = { λ p. record { problem = under_standard p.block.items; numbers = p.numbers.items } };
+    ghost view = { λ p. record { problem = record { block = p.block.items; profile = p.profile }; numbers = p.numbers.items } };
 
-    ghost invariant = { λ p. IsPrefix p.block.items p.rows.items p.needs.items p.placed p.numbers.items p.past };
+    ghost invariant = { λ p. IsPrefix p.block.items p.profile p.rows.items p.needs.items p.placed p.numbers.items p.past };
 }
 
-/// The rows of a block's instructions.
-fn rows_of(block: &[Instr]) -> ArrayVec<Row, BLOCK_LIMIT>
+/// The rows of a block's instructions under a profile.
+fn rows_of(block: &[Instr], profile: &Profile) -> ArrayVec<Row, BLOCK_LIMIT>
     requires { length block.now ≤ BLOCK_LIMIT }
-    ensures { result.items ≡ map (row standard) block.now }
+    ensures { result.items ≡ map (row profile.now) block.now }
 {
-    let profile = Profile::standard();
     let mut rows = ArrayVec::new();
     for instr in block {
-        rows.push(Row::of(instr, &profile));
+        rows.push(Row::of(instr, profile));
     }
     rows
 }
 
 impl Prefix {
     ghost use Rattle.std.specs.Prelude.{ℕ, ◌++◌, [], ◌∷◌, true, IfSome, IfNone, reverse};
-    ghost use Rattle.s66_isa.specs.Table.{standard};
-    ghost use Rattle.s66_model.specs.Timing.{points_of, row_at, total_of};
+    ghost use Rattle.s66_model.specs.Timing.{copies, points_of, row_at, total_of};
     ghost use Rattle.s66_model.specs.LegalOrder.{IsBeginning, is_remaining, is_ready, needs_met};
     ghost use Rattle.s66_model.specs.Dependence.{depends};
     ghost use Rattle.s66_checker.specs.KeptPrefix.{AreTimed};
     ghost use Rattle.s66_checker.specs.Marked.{is_marked};
 
-    /// Before the first instruction of a block. Each pair of its instructions is looked at once.
-    pub(crate) fn new(block: &[Instr]) -> Prefix
+    /// Before the first instruction of a block, under a profile. Each pair of its instructions is looked at once.
+    pub(crate) fn new(block: &[Instr], profile: &Profile) -> Prefix
         requires some { 1 ≤ length block.now }
         requires few { length block.now ≤ BLOCK_LIMIT }
-        ensures { result ≡ record { problem = record { block = block.now; profile = standard }; numbers = [] } }
+        ensures { result ≡ record { problem = record { block = block.now; profile = profile.now }; numbers = [] } }
     {
         let Ok(copy) = ArrayVec::try_from(block) else {
             unreachable!()
         };
         Prefix {
             block: copy,
-            rows: rows_of(block),
+            profile: *profile,
+            rows: rows_of(block, profile),
             needs: needs_of_all(block),
             placed: Marks::none(),
             numbers: ArrayVec::new(),
@@ -83,6 +83,15 @@ impl Prefix {
         self.block.len() as u8
     }
 
+    /// How many units there are of a kind.
+    pub(crate) fn copies(&self, kind: Kind) -> u32
+        ensures value { result ≡ copies self.now.problem kind }
+        ensures at_least { 1 ≤ result }
+        ensures at_most { result ≤ 100 }
+    {
+        self.profile.copies(kind)
+    }
+
     /// The numbers in order, from 1.
     pub(crate) fn numbers(&self) -> &[u8]
         ensures value { result.now ≡ self.now.numbers }
@@ -95,7 +104,6 @@ impl Prefix {
     pub(crate) fn points(&self) -> &[KeptPoint]
         ensures value { reverse result.now ≡ points_of self.now.problem self.now.numbers }
         ensures timed { AreTimed result.now }
-        ensures profile { self.now.problem.profile ≡ standard }
     {
         self.past.points()
     }
@@ -104,7 +112,6 @@ impl Prefix {
     pub(crate) fn past(&self) -> &Past
         ensures value { reverse result.now ≡ points_of self.now.problem self.now.numbers }
         ensures timed { AreTimed result.now }
-        ensures profile { self.now.problem.profile ≡ standard }
     {
         &self.past
     }
@@ -147,13 +154,13 @@ impl Prefix {
         self.is_remaining(n) && self.needs_met(n)
     }
 
-    /// Places a number that is ready, in a time that doesn't grow with what is placed.
+    /// Places a number that is ready. The time for it grows with what is placed only if its kind has three or more copies.
     pub(crate) fn push(&mut self, n: u8)
         requires { is_ready self.old.problem.block self.old.numbers n ≡ true }
         ensures { self.new ≡ record self.old { numbers = self.old.numbers ++ n ∷ [] } }
     {
         let row = self.row(n).duplicate();
-        let point = next_point(&self.past, n, row);
+        let point = next_point(&self.past, &self.profile, n, row);
         self.past.push(point);
         self.numbers.push(n);
         self.placed = self.placed.with(n);

@@ -1,20 +1,19 @@
 //! The times of an instruction by what all that stand before it leave. Points stand with the oldest first, and
 //! times are in minor cycles.
 
-ghost use Rattle.std.specs.Prelude.{ℕ, ◌≡◌, ◌+◌, ◌<◌, ◌≤◌, ◌^◌, [], if◌then◌else◌, length, map, reverse};
-ghost use Rattle.s66_isa.specs.Lists.{greatest, tally, weigh};
-ghost use Rattle.s66_isa.specs.Table.{Write as WriteOf, copies_of, memory_pair, standard};
-ghost use Rattle.s66_isa.specs.declared.limits.TheConstants.{BLOCK_LIMIT};
+ghost use Rattle.std.specs.Prelude.{◌≡◌, ◌+◌, ◌<◌, ◌≤◌, ◌^◌, if◌then◌else◌, length, map, reverse};
+ghost use Rattle.s66_isa.specs.Lists.{greatest, weigh};
+ghost use Rattle.s66_isa.specs.Table.{Write as WriteOf};
 ghost use Rattle.s66_model.specs.Packing.{fits_at};
-ghost use Rattle.s66_model.specs.Timing.{Point, busy_at, done_of, total, next, parcel_of, slot_of, issue_of, start_of, readers_wait, result_at, point};
+ghost use Rattle.s66_model.specs.Timing.{Problem, done_of, next, parcel_of, slot_of, issue_of, start_of, readers_wait, result_at, point};
 ghost use Rattle.s66_model.specs.Leaves.{rest_busy};
-ghost use Rattle.s66_checker.specs.KeptPrefix.{TOTAL_LIMIT, under_standard, AreTimed};
+ghost use Rattle.s66_checker.specs.KeptPrefix.{TOTAL_LIMIT, under, AreTimed};
 
 use crate::past::Past;
 use crate::point::KeptPoint;
 use crate::result::{KeptResult, free_after};
 use arrayvec::ArrayVec;
-use s66_isa::{Kind, Reg, Row, Write};
+use s66_isa::{Kind, Profile, Reg, Row, Write};
 
 /// For how long the units of a kind work after a time, all together.
 pub fn rest_busy(points: &[KeptPoint], kind: Kind, time: u32) -> u32
@@ -96,21 +95,20 @@ fn slot(points: &[KeptPoint], parcels: u32) -> u32
     }
 }
 
-/// When the next instruction issues: a unit is free for it, and no earlier result of its registers is to come.
-fn issue(past: &Past, row: &Row) -> u32
+/// When the next instruction issues under a profile: a unit is free for it, and no earlier result of its registers is to come.
+fn issue(past: &Past, profile: &Profile, row: &Row) -> u32
     requires { AreTimed past.now }
-    ensures { result ≡ issue_of (under_standard []) (reverse past.now) row.now }
+    ensures { result ≡ issue_of (under profile.now) (reverse past.now) row.now }
 {
     let slot = slot(past.points(), row.parcels);
     let written = writes_done(past, row.writes.as_slice());
-    past.first_free(row.kind, slot.max(written))
+    past.first_free(row.kind, profile.copies(row.kind), slot.max(written))
 }
 
 /// When the next instruction starts, which issues then: its operands are done, and memory is its to reference.
 fn start(past: &Past, row: &Row, issue: u32) -> u32
-    requires timed { AreTimed past.now }
-    requires issue { issue ≡ issue_of (under_standard []) (reverse past.now) row.now }
-    ensures { result ≡ start_of (under_standard []) (reverse past.now) row.now }
+    requires { AreTimed past.now }
+    ensures { (b : Problem) → issue ≡ issue_of b (reverse past.now) row.now → result ≡ start_of b (reverse past.now) row.now }
 {
     let done = registers_done(past, row.reads.as_slice());
     issue.max(done.max(past.memory_wait(row.memory)))
@@ -134,12 +132,12 @@ fn results(past: &Past, writes: &[Write], start: u32) -> ArrayVec<KeptResult, 2>
     results
 }
 
-/// The next instruction with its times.
-pub fn next_point(past: &Past, number: u8, row: Row) -> KeptPoint
+/// The next instruction with its times under a profile.
+pub fn next_point(past: &Past, profile: &Profile, number: u8, row: Row) -> KeptPoint
     requires { AreTimed past.now }
-    ensures { result ≡ point (under_standard []) (reverse past.now) number row }
+    ensures { result ≡ point (under profile.now) (reverse past.now) number row }
 {
-    let issue = issue(past, &row);
+    let issue = issue(past, profile, &row);
     let start = start(past, &row, issue);
     let results = results(past, row.writes.as_slice(), start);
     let free = free_after(start, row.hold, results.as_slice());

@@ -25,14 +25,12 @@ pub enum Reason {
     Value,
     /// A whole order at a prefix that isn't complete, or another leaf at one that is.
     Place,
-    /// `PROFILE` isn't the standard profile.
-    Profile,
     /// `BOUND` is above `TIME`.
     Bound,
 }
 
 impl Reason {
-    /// The number by which it is printed, 1 to 8.
+    /// The number by which it is printed. No reason has 7.
     pub fn number(self) -> u32
         ensures { result ≡ number_of self }
     {
@@ -43,7 +41,6 @@ impl Reason {
             Reason::Chain => 4,
             Reason::Value => 5,
             Reason::Place => 6,
-            Reason::Profile => 7,
             Reason::Bound => 8,
         }
     }

@@ -1,8 +1,6 @@
 use Rattle.std.proofs.Common.{rules, ◌+◌, ◌^◌, ◌<◌, ◌≡◌, ◌∙◌, ap, sym, arith}
 use Rattle.s66_isa.specs.Lists.{weigh}
-use Rattle.s66_isa.specs.Table.{copies_of}
-use Rattle.s66_isa.specs.declared.profile.Profile.{Profile}
-use Rattle.s66_model.specs.Timing.{points_of, next, copies}
+use Rattle.s66_model.specs.Timing.{points_of, next}
 use Rattle.s66_model.specs.Leaves.{rest_busy}
 use Rattle.s66_checker.proofs.Reversed.{weigh-reverse}
 use Rattle.s66_checker.proofs.KeptPoints.{timed-work}
@@ -37,6 +35,5 @@ returns c =
     let busy : c.rest_busy.result ≡ weigh (rest_busy kind (next (points_of b ns))) (points_of b ns) =
     c.rest_busy.ensures ∙ sym (weigh-reverse (rest_busy kind slot) c.points-2.result.now) ∙ ap (weigh (rest_busy kind slot)) c.points-2.ensures.value ∙ ap (λ t. weigh (rest_busy kind t) (points_of b ns)) slot_is
     in
-    let count : c.copies.result ≡ copies b kind = c.copies.ensures.value ∙ ap (λ (p : Profile). copies_of p kind) (c.standard.ensures ∙ sym c.points.ensures.profile) in
     ap (λ x. x + slot) c.over.ensures.value
-    ∙ load-made b ns kind c.remaining_work.result c.rest_busy.result c.copies.result slot c.remaining_work.ensures.value busy count slot_is
+    ∙ load-made b ns kind c.remaining_work.result c.rest_busy.result c.copies.result slot c.remaining_work.ensures.value busy c.copies.ensures.value slot_is

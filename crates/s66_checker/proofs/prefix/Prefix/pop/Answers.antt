@@ -10,4 +10,4 @@ without-self-inside-requires c =
     (low, omega (arith, high, c.self.invariant.few))
 
 pub invariant_of-self-2 : goal.invariant_of-self-2
-invariant_of-self-2 c = prefix-pop _ _ _ _ _ c.self.inside.past c.in_ok-n.n _ c.pop.new.self.items _ c.self.invariant c.without-self-inside.ensures c.in_ok-n.ensures.items c.pop-2.ensures
+invariant_of-self-2 c = prefix-pop _ _ _ _ _ _ c.self.inside.past c.in_ok-n.n _ c.pop.new.self.items _ c.self.invariant c.without-self-inside.ensures c.in_ok-n.ensures.items c.pop-2.ensures

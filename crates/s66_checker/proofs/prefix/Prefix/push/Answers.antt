@@ -7,7 +7,7 @@ use Rattle.s66_checker.proofs.PrefixSteps.{prefix-timed, room-left, prefix-push}
 use Rattle.s66_checker.proofs.prefix.Prefix.push.Goals as goal
 
 pub next_point-point-requires : goal.next_point-point-requires
-next_point-point-requires c = prefix-timed _ _ _ _ _ _ c.self.invariant
+next_point-point-requires c = prefix-timed _ _ _ _ _ _ _ c.self.invariant
 
 pub with-self-inside-requires : goal.with-self-inside-requires
 with-self-inside-requires c =
@@ -16,16 +16,16 @@ with-self-inside-requires c =
 
 pub push-requires : goal.push-requires
 push-requires c =
-    (room-left _ _ _ _ _ _ c.args.n c.self.invariant (subst (λ (q : Checked). is_ready q.problem.block q.numbers c.args.n ≡ true) (sym c.self.view_is) c.requires)).0
+    (room-left _ _ _ _ _ _ _ c.args.n c.self.invariant (subst (λ (q : Checked). is_ready q.problem.block q.numbers c.args.n ≡ true) (sym c.self.view_is) c.requires)).0
 
 pub push-requires-2 : goal.push-requires-2
 push-requires-2 c =
-    (omega arith, (room-left _ _ _ _ _ _ c.args.n c.self.invariant (subst (λ (q : Checked). is_ready q.problem.block q.numbers c.args.n ≡ true) (sym c.self.view_is) c.requires)).1)
+    (omega arith, (room-left _ _ _ _ _ _ _ c.args.n c.self.invariant (subst (λ (q : Checked). is_ready q.problem.block q.numbers c.args.n ≡ true) (sym c.self.view_is) c.requires)).1)
 
 pub invariant_of-self : goal.invariant_of-self
 invariant_of-self c =
     let n = c.args.n in
     let row = c.duplicate-row.ensures ∙ c.row.ensures ∙ ap (λ (q : Checked). row_at q.problem n) (sym c.self.view_is) in
-    prefix-push _ _ _ _ _ c.self.inside.past n _ c.duplicate-row.result c.next_point-point.result _ _ c.self.invariant c.with-self-inside.ensures
+    prefix-push _ _ _ _ _ _ c.self.inside.past n _ c.duplicate-row.result c.next_point-point.result _ _ c.self.invariant c.with-self-inside.ensures
     (subst (λ (q : Checked). is_ready q.problem.block q.numbers n ≡ true) (sym c.self.view_is) c.requires)
     row c.next_point-point.ensures c.push-2.ensures.items c.push.ensures
