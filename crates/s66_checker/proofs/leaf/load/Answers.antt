@@ -37,6 +37,6 @@ returns c =
     let busy : c.rest_busy.result ≡ weigh (rest_busy kind (next (points_of b ns))) (points_of b ns) =
     c.rest_busy.ensures ∙ sym (weigh-reverse (rest_busy kind slot) c.points-2.result.now) ∙ ap (weigh (rest_busy kind slot)) c.points-2.ensures.value ∙ ap (λ t. weigh (rest_busy kind t) (points_of b ns)) slot_is
     in
-    let count : c.copies.result ≡ copies b kind = c.copies.ensures.value ∙ ap (λ (p : Profile). copies_of p kind) (c.standard.ensures ∙ sym c.points.ensures.profile) in
+    let count : c.copies.result ≡ copies b kind = c.copies.ensures.value ∙ ap (λ (p : Profile). copies_of p kind) (c.standard.ensures.value ∙ sym c.points.ensures.profile) in
     ap (λ x. x + slot) c.over.ensures.value
     ∙ load-made b ns kind c.remaining_work.result c.rest_busy.result c.copies.result slot c.remaining_work.ensures.value busy count slot_is
