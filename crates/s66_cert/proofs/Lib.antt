@@ -11,6 +11,7 @@ pub mod TextLines
 pub mod States
 pub mod Grammar
 pub mod RoundTrip
+pub mod WiderDocuments
 pub mod OneReading
 pub mod Sound
 pub mod ReadFronts

@@ -18,3 +18,10 @@ pub fn reading_law()
     ensures not_both { (text : List ℕ) (ds : List Document) (e : CertError) → IsText BLOCK_LIMIT text ds → ¬ IsFault text e }
     ensures one_fault { (text : List ℕ) (e f : CertError) → IsFault text e → IsFault text f → e ≡ f }
 {}
+
+/// Blocks once had at most 64 instructions, and now have at most 128. What was a text of documents then is a text of the same
+/// documents now.
+pub fn old_documents_stay()
+    ensures stay { (text : List ℕ) (ds : List Document) → IsText 64 text ds → IsText 128 text ds }
+    ensures limit { BLOCK_LIMIT ≡ 128 }
+{}

@@ -23,7 +23,7 @@ pub use document::{Claim, Document};
 pub use error::CertError;
 pub use examples::document_examples;
 pub use instruction::InstructionText;
-pub use laws::{one_reading_law, reading_law};
+pub use laws::{old_documents_stay, one_reading_law, reading_law};
 pub use limits::{SPLIT_LIMIT, TIME_LIMIT};
 pub use printing::print;
 pub use reading::read;

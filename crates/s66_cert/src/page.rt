@@ -20,8 +20,11 @@ const PAGE_SIZE: usize = 4096;
 /// The most bytes of a number.
 const NUMBER_ROOM: usize = 10;
 
+/// The most bytes of a number of an instruction, which has at most three digits, after its blank.
+const SHORT_ROOM: usize = 4;
+
 /// The most bytes of the numbers of a line, each after a blank.
-const NUMBERS_ROOM: usize = (NUMBER_ROOM + 1) * BLOCK_LIMIT;
+const NUMBERS_ROOM: usize = SHORT_ROOM * BLOCK_LIMIT;
 
 /// More bytes than any line of a document has, and than those that are printed together.
 const LINE_ROOM: usize = 1024;
@@ -74,17 +77,21 @@ impl Page {
 
     /// Prints a number in decimal, after a blank: most have one digit or two.
     fn number_after_blank(&mut self, number: u8)
-        requires { length self.old + NUMBER_ROOM + 1 ≤ PAGE_SIZE }
+        requires { length self.old + SHORT_ROOM ≤ PAGE_SIZE }
         ensures text { self.new ≡ self.old ++ 32 ∷ decimal number }
-        ensures few { length self.new ≤ length self.old + NUMBER_ROOM + 1 }
+        ensures few { length self.new ≤ length self.old + SHORT_ROOM }
     {
         if number < 10 {
             self.text(&[b' ', b'0' + number]);
         } else if number < 100 {
             self.text(&[b' ', b'0' + number / 10, b'0' + number % 10]);
         } else {
-            self.text(b" ");
-            self.number(number as u32);
+            self.text(&[
+                b' ',
+                b'0' + number / 100,
+                b'0' + number % 100 / 10,
+                b'0' + number % 10,
+            ]);
         }
     }
 

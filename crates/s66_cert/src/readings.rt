@@ -3,6 +3,7 @@
 ghost use Rattle.std.specs.Prelude.{[], ◌∷◌, ◌++◌, ◌-◌, ◌≡◌, codes, Ok, Err, take, replicate, true, length};
 ghost use Rattle.s66_isa.specs.Lists.{rising};
 ghost use Rattle.s66_isa.specs.declared.instr.Kind.TheVariants.{Multiply};
+ghost use Rattle.s66_isa.specs.declared.limits.TheConstants.{BLOCK_LIMIT};
 ghost use Rattle.s66_model.specs.Leaves.{Chain, Load};
 ghost use Rattle.s66_model.specs.Tree.{Alone, Parted};
 ghost use Rattle.s66_cert.specs.declared.error.CertError.TheVariants.{BadLine, Truncated, TooManyNodes};
@@ -24,10 +25,10 @@ pub fn reading_examples()
     ensures order_of_two { read_of (with_line 9 (codes "ORDER 1 2")) ≡ Ok (record three_multiplies { numbers = 1 ∷ 2 ∷ [] } ∷ []) }
     ensures load_alone { read_of (replaced 10 16 (codes "U MULTIPLY" ∷ []) three_multiplies_text) ≡ Ok (record three_multiplies { tree = Alone (Load Multiply) } ∷ []) }
     ensures chain_alone { read_of (replaced 10 16 (codes "C 3" ∷ []) three_multiplies_text) ≡ Ok (record three_multiplies { tree = Alone (Chain (3 ∷ [])) } ∷ []) }
-    ensures split_of_64 { read_of (with_split_of 64 64) ≡ Ok (record three_multiplies { tree = Parted (replicate 64 1) (examples.wholes 64) } ∷ []) }
-    ensures ten_splits { read_within 64 10 three_multiplies_text ≡ Ok (three_multiplies ∷ []) }
-    ensures splits_are_counted_anew { read_within 64 10 (three_multiplies_text ++ three_multiplies_text) ≡ Ok (three_multiplies ∷ three_multiplies ∷ []) }
-    ensures wide_order { read_within 128 SPLIT_LIMIT (with_line 9 (codes "ORDER 128")) ≡ Ok (record three_multiplies { numbers = 128 ∷ [] } ∷ []) }
+    ensures split_of_128 { read_of (with_split_of 128 128) ≡ Ok (record three_multiplies { tree = Parted (replicate 128 1) (examples.wholes 128) } ∷ []) }
+    ensures ten_splits { read_within BLOCK_LIMIT 10 three_multiplies_text ≡ Ok (three_multiplies ∷ []) }
+    ensures splits_are_counted_anew { read_within BLOCK_LIMIT 10 (three_multiplies_text ++ three_multiplies_text) ≡ Ok (three_multiplies ∷ three_multiplies ∷ []) }
+    ensures order_with_128 { read_of (with_line 9 (codes "ORDER 128")) ≡ Ok (record three_multiplies { numbers = 128 ∷ [] } ∷ []) }
 {}
 
 /// Texts that have a fault.
@@ -47,8 +48,8 @@ pub fn fault_examples()
     ensures profile_with_0 { read_of (with_line 2 (codes "PROFILE 0 3 4 4 3 10 29 8 3 8 1 1 1 1 2 1 2")) ≡ Err (BadLine 2) }
     ensures profile_with_101 { read_of (with_line 2 (codes "PROFILE 101 3 4 4 3 10 29 8 3 8 1 1 1 1 2 1 2")) ≡ Err (BadLine 2) }
     ensures block_of_0 { read_of (with_line 3 (codes "BLOCK 0")) ≡ Err (BadLine 3) }
-    ensures block_of_65 { read_of (with_line 3 (codes "BLOCK 65")) ≡ Err (BadLine 3) }
-    ensures block_of_129 { read_within 128 SPLIT_LIMIT (with_line 3 (codes "BLOCK 129")) ≡ Err (BadLine 3) }
+    ensures block_of_129 { read_of (with_line 3 (codes "BLOCK 129")) ≡ Err (BadLine 3) }
+    ensures block_of_65_at_64 { read_within 64 SPLIT_LIMIT (with_line 3 (codes "BLOCK 65")) ≡ Err (BadLine 3) }
     ensures instruction_too_many { read_of (with_line 3 (codes "BLOCK 2")) ≡ Err (BadLine 6) }
     ensures instruction_missing { read_of (with_line 3 (codes "BLOCK 4")) ≡ Err (BadLine 7) }
     ensures lower_case { read_of (with_line 4 (codes "I fx1 X2*X3")) ≡ Err (BadLine 4) }
@@ -69,11 +70,12 @@ pub fn fault_examples()
     ensures two_blanks { read_of (with_line 9 (codes "ORDER 1  2 3")) ≡ Err (BadLine 9) }
     ensures tab { read_of (with_line 9 (codes "ORDER 1\t2 3")) ≡ Err (BadLine 9) }
     ensures empty_order { read_of (with_line 9 (codes "ORDER")) ≡ Err (BadLine 9) }
-    ensures order_with_65 { read_of (with_line 9 (codes "ORDER 65")) ≡ Err (BadLine 9) }
+    ensures order_with_129 { read_of (with_line 9 (codes "ORDER 129")) ≡ Err (BadLine 9) }
     ensures split_without_numbers { read_of (with_line 10 (codes "S")) ≡ Err (BadLine 10) }
     ensures split_with_0 { read_of (with_line 10 (codes "S 1 0")) ≡ Err (BadLine 10) }
-    ensures split_of_65 { read_of (with_split_of 65 65) ≡ Err (BadLine 10) }
-    ensures split_with_129 { read_within 128 SPLIT_LIMIT (with_line 10 (codes "S 129")) ≡ Err (BadLine 10) }
+    ensures split_of_129 { read_of (with_split_of 129 129) ≡ Err (BadLine 10) }
+    ensures split_with_129 { read_of (with_line 10 (codes "S 129")) ≡ Err (BadLine 10) }
+    ensures split_with_65_at_64 { read_within 64 SPLIT_LIMIT (with_line 10 (codes "S 65")) ≡ Err (BadLine 10) }
     ensures chain_without_numbers { read_of (with_line 13 (codes "C")) ≡ Err (BadLine 13) }
     ensures no_kind_of_unit { read_of (with_line 13 (codes "U BRANCH")) ≡ Err (BadLine 13) }
     ensures blank_after_whole { read_of (with_line 13 (codes "T ")) ≡ Err (BadLine 13) }
@@ -84,8 +86,8 @@ pub fn fault_examples()
     ensures split_after_the_tree { read_of (with_line 26 (codes "S 1")) ≡ Err (BadLine 26) }
     ensures end_before_the_tree { read_of (with_line 25 (codes "END")) ≡ Err (BadLine 25) }
     ensures line_after_the_end { read_of (three_multiplies_text ++ codes "T\n") ≡ Err (BadLine 27) }
-    ensures tenth_split_too_many { read_within 64 9 three_multiplies_text ≡ Err TooManyNodes }
-    ensures bad_line_before_it { read_within 64 9 (with_line 12 (codes "S")) ≡ Err (BadLine 12) }
-    ensures bad_split_is_a_bad_line { read_within 64 9 (with_line 23 (codes "S 0")) ≡ Err (BadLine 23) }
-    ensures split_too_many_before_the_end { read_within 64 9 (take (length three_multiplies_text - 1) three_multiplies_text) ≡ Err TooManyNodes }
+    ensures tenth_split_too_many { read_within BLOCK_LIMIT 9 three_multiplies_text ≡ Err TooManyNodes }
+    ensures bad_line_before_it { read_within BLOCK_LIMIT 9 (with_line 12 (codes "S")) ≡ Err (BadLine 12) }
+    ensures bad_split_is_a_bad_line { read_within BLOCK_LIMIT 9 (with_line 23 (codes "S 0")) ≡ Err (BadLine 23) }
+    ensures split_too_many_before_the_end { read_within BLOCK_LIMIT 9 (take (length three_multiplies_text - 1) three_multiplies_text) ≡ Err TooManyNodes }
 {}

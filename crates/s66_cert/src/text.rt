@@ -2,6 +2,7 @@
 
 ghost use Rattle.std.specs.Prelude.{ℕ, List, [], ◌∷◌, ◌++◌, ◌≡◌, codes};
 ghost use Rattle.s66_isa.specs.Table.{entries, standard};
+ghost use Rattle.s66_isa.specs.declared.limits.TheConstants.{BLOCK_LIMIT};
 ghost use Rattle.s66_model.specs.Tree.{flat};
 ghost use Rattle.s66_model.specs.Examples.{uneven_profile};
 ghost use Rattle.s66_cert.specs.Document.{Document, IsText, document_text, tree_lines};
@@ -11,26 +12,26 @@ ghost use Rattle.s66_cert.specs.Examples as examples;
 #[tactic(auto, unfolding(crate::specs::Examples::digits))]
 pub fn text_examples()
     ensures three_multiplies_text { document_text examples.three_multiplies ≡ examples.three_multiplies_text }
-    ensures three_multiplies_is_read { IsText 64 examples.three_multiplies_text (examples.three_multiplies ∷ []) }
+    ensures three_multiplies_is_read { IsText BLOCK_LIMIT examples.three_multiplies_text (examples.three_multiplies ∷ []) }
     ensures store_then_load_text { document_text examples.store_then_load ≡ examples.store_then_load_text }
-    ensures store_then_load_is_read { IsText 64 examples.store_then_load_text (examples.store_then_load ∷ []) }
+    ensures store_then_load_is_read { IsText BLOCK_LIMIT examples.store_then_load_text (examples.store_then_load ∷ []) }
     ensures one_load_text { document_text examples.one_load ≡ examples.one_load_text }
-    ensures one_load_is_read { IsText 64 examples.one_load_text (examples.one_load ∷ []) }
+    ensures one_load_is_read { IsText BLOCK_LIMIT examples.one_load_text (examples.one_load ∷ []) }
     ensures two_booleans_text { document_text examples.two_booleans ≡ examples.two_booleans_text }
-    ensures two_booleans_is_read { IsText 64 examples.two_booleans_text (examples.two_booleans ∷ []) }
+    ensures two_booleans_is_read { IsText BLOCK_LIMIT examples.two_booleans_text (examples.two_booleans ∷ []) }
     ensures zero_register_text { document_text examples.zero_register ≡ examples.zero_register_text }
-    ensures zero_register_is_read { IsText 64 examples.zero_register_text (examples.zero_register ∷ []) }
+    ensures zero_register_is_read { IsText BLOCK_LIMIT examples.zero_register_text (examples.zero_register ∷ []) }
     ensures extremes_text { document_text examples.extremes ≡ examples.extremes_text }
-    ensures extremes_is_read { IsText 64 examples.extremes_text (examples.extremes ∷ []) }
+    ensures extremes_is_read { IsText BLOCK_LIMIT examples.extremes_text (examples.extremes ∷ []) }
     ensures each_unit_load { tree_lines (flat examples.unit_loads) ≡ examples.unit_loads_lines }
     ensures standard_profile { entries standard ≡ examples.standard_numbers }
     ensures uneven_profile { entries uneven_profile ≡ 11 ∷ 12 ∷ 13 ∷ 14 ∷ 15 ∷ 16 ∷ 17 ∷ 18 ∷ 20 ∷ 19 ∷ 1 ∷ 2 ∷ 3 ∷ 4 ∷ 5 ∷ 6 ∷ 7 ∷ [] }
-    ensures two_documents { IsText 64 (examples.three_multiplies_text ++ examples.one_load_text) (examples.three_multiplies ∷ examples.one_load ∷ []) }
-    ensures no_document { IsText 64 [] [] }
+    ensures two_documents { IsText BLOCK_LIMIT (examples.three_multiplies_text ++ examples.one_load_text) (examples.three_multiplies ∷ examples.one_load ∷ []) }
+    ensures no_document { IsText BLOCK_LIMIT [] [] }
     ensures nothing_is_read_of_no_text { (limit : ℕ) (ds : List Document) → IsText limit [] ds → ds ≡ [] }
     ensures other_version { (limit : ℕ) (more : List ℕ) (ds : List Document) → ¬ IsText limit (codes "S66 CERTIFICATE 2\n" ++ more) ds }
     ensures unfinished_line { (limit : ℕ) (text : List ℕ) (ds : List Document) → ¬ IsText limit (text ++ codes "END") ds }
-    ensures text_goes_on { ¬ IsText 64 (examples.one_load_text ++ codes "\n") (examples.one_load ∷ []) }
-    ensures no_document_alone { ¬ IsText 64 (document_text (examples.with_order (65 ∷ []))) (examples.with_order (65 ∷ []) ∷ []) }
-    ensures no_document_behind_one { ¬ IsText 64 (examples.one_load_text ++ document_text (examples.with_order (65 ∷ []))) (examples.one_load ∷ examples.with_order (65 ∷ []) ∷ []) }
+    ensures text_goes_on { ¬ IsText BLOCK_LIMIT (examples.one_load_text ++ codes "\n") (examples.one_load ∷ []) }
+    ensures no_document_alone { ¬ IsText BLOCK_LIMIT (document_text (examples.with_order (129 ∷ []))) (examples.with_order (129 ∷ []) ∷ []) }
+    ensures no_document_behind_one { ¬ IsText BLOCK_LIMIT (examples.one_load_text ++ document_text (examples.with_order (129 ∷ []))) (examples.one_load ∷ examples.with_order (129 ∷ []) ∷ []) }
 {}

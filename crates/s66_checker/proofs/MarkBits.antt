@@ -1,35 +1,35 @@
 -- What is marked, by the bits of its word.
-use Rattle.std.proofs.Common.{ℕ, ◌+◌, ◌-◌, ◌*◌, ◌%◌, ◌^◌, ◌≤◌, ◌<◌, ◌≡◌, ◌↔◌, true, not, ◌||◌, ◌&&◌, ◌==◌, IsTrue, bit_and, bit_or, w64, eqb-true, eq-eqb, ne_eqb, refl, sym, ap, ◌∙◌, inl, inr, arith}
-use Rattle.std.specs.Int.{bit_at, bit_not}
+use Rattle.std.proofs.Common.{ℕ, ◌+◌, ◌-◌, ◌*◌, ◌%◌, ◌^◌, ◌≤◌, ◌<◌, ◌≡◌, ◌↔◌, true, not, ◌||◌, ◌&&◌, ◌==◌, IsTrue, bit_and, bit_or, eqb-true, eq-eqb, ne_eqb, refl, sym, ap, ◌∙◌, inl, inr, arith}
+use Rattle.std.specs.Int.{w128, bit_at, bit_not}
 use Rattle.std.proofs.lemmas.Bool.{cases_eq, cases_lt}
 use Rattle.std.proofs.lemmas.Nat.Bits.{bit_at-lt, bit_at_and, bit_at_above, bit_at_set_same, bit_at_set_other, bit_at_clear_same, bit_at_clear_other, same_from_bits}
 use Rattle.s66_isa.specs.declared.limits.TheConstants.{BLOCK_LIMIT}
 use Rattle.s66_checker.specs.Marked.{is_marked}
 use Rattle.s66_checker.specs.declared.marks.Marks.{Marks}
 
-pub marked-with : (old new : Marks) (n m : ℕ) → 1 ≤ n → n ≤ BLOCK_LIMIT → 1 ≤ m → new.bits ≡ bit_or old.bits (1 * 2 ^ (n - 1) % 2 ^ 64) → is_marked new m ≡ (m == n || is_marked old m)
+pub marked-with : (old new : Marks) (n m : ℕ) → 1 ≤ n → n ≤ BLOCK_LIMIT → 1 ≤ m → new.bits ≡ bit_or old.bits (1 * 2 ^ (n - 1) % 2 ^ 128) → is_marked new m ≡ (m == n || is_marked old m)
 marked-with old new n m low high first is =
     elim (cases_eq m n) [
       | inl here ↦
-          eq-eqb (bit_at new.bits (m - 1)) 1 (ap (λ k. bit_at new.bits (k - 1)) here ∙ ap (λ bits. bit_at bits (n - 1)) is ∙ bit_at_set_same w64 old.bits (n - 1) (omega arith))
+          eq-eqb (bit_at new.bits (m - 1)) 1 (ap (λ k. bit_at new.bits (k - 1)) here ∙ ap (λ bits. bit_at bits (n - 1)) is ∙ bit_at_set_same w128 old.bits (n - 1) (omega arith))
           ∙ sym (rw (eq-eqb m n here) refl)
       | inr apart ↦
-          ap (λ bits. bit_at bits (m - 1) == 1) is ∙ ap (λ bit. bit == 1) (bit_at_set_other w64 old.bits (n - 1) (omega arith) (m - 1) (λ e. apart (omega (arith, e))))
+          ap (λ bits. bit_at bits (m - 1) == 1) is ∙ ap (λ bit. bit == 1) (bit_at_set_other w128 old.bits (n - 1) (omega arith) (m - 1) (λ e. apart (omega (arith, e))))
           ∙ sym (rw (ne_eqb m n apart) refl)
     ]
 
-pub marked-without : (old new : Marks) (n m : ℕ) → old.bits < 2 ^ 64 → 1 ≤ n → n ≤ BLOCK_LIMIT → 1 ≤ m → m ≤ BLOCK_LIMIT → new.bits ≡ bit_and old.bits (bit_not w64 (1 * 2 ^ (n - 1) % 2 ^ 64)) → is_marked new m ≡ (not (m == n) && is_marked old m)
+pub marked-without : (old new : Marks) (n m : ℕ) → old.bits < 2 ^ 128 → 1 ≤ n → n ≤ BLOCK_LIMIT → 1 ≤ m → m ≤ BLOCK_LIMIT → new.bits ≡ bit_and old.bits (bit_not w128 (1 * 2 ^ (n - 1) % 2 ^ 128)) → is_marked new m ≡ (not (m == n) && is_marked old m)
 marked-without old new n m fits low high first last is =
     elim (cases_eq m n) [
       | inl here ↦
-          ne_eqb (bit_at new.bits (m - 1)) 1 (λ e. omega (arith, e, ap (λ k. bit_at new.bits (k - 1)) here, ap (λ bits. bit_at bits (n - 1)) is, bit_at_clear_same w64 old.bits (n - 1) (omega arith)))
+          ne_eqb (bit_at new.bits (m - 1)) 1 (λ e. omega (arith, e, ap (λ k. bit_at new.bits (k - 1)) here, ap (λ bits. bit_at bits (n - 1)) is, bit_at_clear_same w128 old.bits (n - 1) (omega arith)))
           ∙ sym (rw (eq-eqb m n here) refl)
       | inr apart ↦
-          ap (λ bits. bit_at bits (m - 1) == 1) is ∙ ap (λ bit. bit == 1) (bit_at_clear_other w64 old.bits (n - 1) (omega arith) (m - 1) (omega arith) (λ e. apart (omega (arith, e))))
+          ap (λ bits. bit_at bits (m - 1) == 1) is ∙ ap (λ bit. bit == 1) (bit_at_clear_other w128 old.bits (n - 1) (omega arith) (m - 1) (omega arith) (λ e. apart (omega (arith, e))))
           ∙ sym (rw (ne_eqb m n apart) refl)
     ]
 
-pub marks-within : (own other : Marks) → own.bits < 2 ^ 64 → IsTrue (bit_and own.bits other.bits == own.bits) ↔ ((m : ℕ) → 1 ≤ m → m ≤ BLOCK_LIMIT → is_marked own m ≡ true → is_marked other m ≡ true)
+pub marks-within : (own other : Marks) → own.bits < 2 ^ 128 → IsTrue (bit_and own.bits other.bits == own.bits) ↔ ((m : ℕ) → 1 ≤ m → m ≤ BLOCK_LIMIT → is_marked own m ≡ true → is_marked other m ≡ true)
 marks-within own other fits =
     let both = bit_and own.bits other.bits in (
       (λ same m low high is.

@@ -5,13 +5,13 @@ ghost use Rattle.s66_checker.specs.Marked.{is_marked};
 use s66_isa::BLOCK_LIMIT;
 
 // one word has a bit for each number of a block
-const _: () = prove!(BLOCK_LIMIT == u64::BITS as usize);
+const _: () = prove!(BLOCK_LIMIT == u128::BITS as usize);
 
 /// Which numbers of a block are marked, in one word.
 #[derive(Clone, Copy, Debug, Default, Drop)]
 pub struct Marks {
     /// Bit n - 1 tells whether n is marked.
-    bits: u64,
+    bits: u128,
 }
 
 impl Marks {

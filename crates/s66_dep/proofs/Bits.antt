@@ -1,6 +1,6 @@
 -- The numbers in a set, and the bits of its word.
-use Rattle.std.proofs.Common.{ℕ, zero, suc, ◌+◌, ◌-◌, ◌*◌, ◌/◌, ◌%◌, ◌^◌, ◌≤◌, ◌<◌, ◌≡◌, ◌⊎◌, ◌↔◌, Bool, true, false, cond, ◌||◌, ◌&&◌, not, ◌==◌, IsTrue, ◌∷◌, length, filter, min, bit_and, bit_or, count_ones, w64, eqb-true, eq-eqb, ne_eqb, true≢false, refl, sym, ap, subst, ◌∙◌, inl, inr, arith, add-one, div-one, shr-shr, pow-suc}
-use Rattle.std.specs.Int.{bit_at, bit_not}
+use Rattle.std.proofs.Common.{ℕ, zero, suc, ◌+◌, ◌-◌, ◌*◌, ◌/◌, ◌%◌, ◌^◌, ◌≤◌, ◌<◌, ◌≡◌, ◌⊎◌, ◌↔◌, Bool, true, false, cond, ◌||◌, ◌&&◌, not, ◌==◌, IsTrue, ◌∷◌, length, filter, min, bit_and, bit_or, count_ones, eqb-true, eq-eqb, ne_eqb, true≢false, refl, sym, ap, subst, ◌∙◌, inl, inr, arith, add-one, div-one, shr-shr, pow-suc}
+use Rattle.std.specs.Int.{w128, bit_at, bit_not}
 use Rattle.std.specs.Int.Count.{ones_step}
 use Rattle.std.proofs.lemmas.Bool.{cases_eq, cases_lt, cond_both, or_from, eqb-false}
 use Rattle.std.proofs.lemmas.Nat.{ones_le_self}
@@ -49,29 +49,29 @@ has-outside set m out = has-outside_rising (is_member set.bits) BLOCK_LIMIT 1 m 
 member-bit : (bits i : ℕ) → is_member bits (suc i) ≡ (bit_at bits i == 1)
 member-bit bits i = ap (λ x. x == 1) (shr_and_one bits (suc i - 1) ∙ ap (bit_at bits) (omega arith))
 
-has-bit : (set : Set) (i : ℕ) → i < 64 → has (suc i) (numbers_in set) ≡ (bit_at set.bits i == 1)
+has-bit : (set : Set) (i : ℕ) → i < BLOCK_LIMIT → has (suc i) (numbers_in set) ≡ (bit_at set.bits i == 1)
 has-bit set i lt = has-inside set (suc i) (omega arith) (omega arith) ∙ member-bit set.bits i
 
 -- ONE NUMBER MORE
 
-pub with-number : (set : Set) (n : ℕ) → 1 ≤ n → n ≤ BLOCK_LIMIT → (m : ℕ) → has m (numbers_in (record { bits = bit_or set.bits (1 * 2 ^ (n - 1) % 2 ^ 64) })) ≡ (m == n || has m (numbers_in set))
+pub with-number : (set : Set) (n : ℕ) → 1 ≤ n → n ≤ BLOCK_LIMIT → (m : ℕ) → has m (numbers_in (record { bits = bit_or set.bits (1 * 2 ^ (n - 1) % 2 ^ 128) })) ≡ (m == n || has m (numbers_in set))
 with-number set zero low high m = absurd (omega arith)
 with-number set (suc k) low high zero =
-    has-outside (record { bits = bit_or set.bits (1 * 2 ^ (suc k - 1) % 2 ^ 64) }) 0 (inl (omega arith))
+    has-outside (record { bits = bit_or set.bits (1 * 2 ^ (suc k - 1) % 2 ^ 128) }) 0 (inl (omega arith))
     ∙ sym (or_from (0 == suc k) (has 0 (numbers_in set)) (ne_eqb 0 (suc k) (λ e. omega arith)) (has-outside set 0 (inl (omega arith))))
 with-number set (suc k) low high (suc i) =
-    let bits = bit_or set.bits (1 * 2 ^ (suc k - 1) % 2 ^ 64) in
+    let bits = bit_or set.bits (1 * 2 ^ (suc k - 1) % 2 ^ 128) in
     let place : suc k - 1 ≡ k = omega arith in
-    elim (cases_lt i 64) [
+    elim (cases_lt i BLOCK_LIMIT) [
       | inl lt ↦
           elim (cases_eq i k) [
             | inl here ↦
                 has-bit (record { bits = bits }) i lt
-                ∙ eq-eqb (bit_at bits i) 1 (ap (bit_at bits) (here ∙ sym place) ∙ bit_at_set_same w64 set.bits (suc k - 1) (omega arith))
+                ∙ eq-eqb (bit_at bits i) 1 (ap (bit_at bits) (here ∙ sym place) ∙ bit_at_set_same w128 set.bits (suc k - 1) (omega arith))
                 ∙ sym (rw (eq-eqb (suc i) (suc k) (ap suc here)) refl)
             | inr apart ↦
                 has-bit (record { bits = bits }) i lt
-                ∙ ap (λ bit. bit == 1) (bit_at_set_other w64 set.bits (suc k - 1) (omega arith) i (λ e. apart (e ∙ place)))
+                ∙ ap (λ bit. bit == 1) (bit_at_set_other w128 set.bits (suc k - 1) (omega arith) i (λ e. apart (e ∙ place)))
                 ∙ sym (has-bit set i lt)
                 ∙ sym (rw (ne_eqb (suc i) (suc k) (λ e. apart (omega arith))) refl)
           ]
@@ -88,7 +88,7 @@ IsWithin set other = (m : ℕ) → has m (numbers_in set) ≡ true → has m (nu
 from-shared : (set other : Set) → bit_and set.bits other.bits ≡ set.bits → IsWithin set other
 from-shared set other same zero prefix = absurd (true≢false (sym prefix ∙ has-outside set 0 (inl (omega arith))))
 from-shared set other same (suc i) prefix =
-    elim (cases_lt i 64) [
+    elim (cases_lt i BLOCK_LIMIT) [
       | inl lt ↦
           let own : bit_at set.bits i ≡ 1 = eqb-true (bit_at set.bits i) 1 (sym (has-bit set i lt) ∙ prefix) in
           let shared : bit_at (bit_and set.bits other.bits) i ≡ bit_at set.bits i = ap (λ bits. bit_at bits i) same in
@@ -96,20 +96,20 @@ from-shared set other same (suc i) prefix =
       | inr ge ↦ absurd (true≢false (sym prefix ∙ has-outside set (suc i) (inr (omega arith))))
     ]
 
-shared-bit : (set other : Set) → set.bits < 2 ^ 64 → IsWithin set other → (i : ℕ) → bit_at (bit_and set.bits other.bits) i ≡ bit_at set.bits i
+shared-bit : (set other : Set) → set.bits < 2 ^ 128 → IsWithin set other → (i : ℕ) → bit_at (bit_and set.bits other.bits) i ≡ bit_at set.bits i
 shared-bit set other fits each i =
     elim (cases_eq (bit_at set.bits i) 1) [
       | inl own ↦
-          elim (cases_lt i 64) [
+          elim (cases_lt i BLOCK_LIMIT) [
             | inl lt ↦
                 let prefix : has (suc i) (numbers_in other) ≡ true = each (suc i) (has-bit set i lt ∙ eq-eqb (bit_at set.bits i) 1 own) in
                 omega (arith, own, bit_at_and set.bits other.bits i, eqb-true (bit_at other.bits i) 1 (sym (has-bit other i lt) ∙ prefix))
-            | inr ge ↦ absurd (omega (arith, own, bit_at_above set.bits 64 i fits ge))
+            | inr ge ↦ absurd (omega (arith, own, bit_at_above set.bits BLOCK_LIMIT i fits ge))
           ]
       | inr clear ↦ grind (arith, clear, bit_at_and set.bits other.bits i, bit_at-lt set.bits i)
     ]
 
-pub within-numbers : (set other : Set) → set.bits < 2 ^ 64 → IsTrue (bit_and set.bits other.bits == set.bits) ↔ ((m : ℕ) → has m (numbers_in set) ≡ true → has m (numbers_in other) ≡ true)
+pub within-numbers : (set other : Set) → set.bits < 2 ^ 128 → IsTrue (bit_and set.bits other.bits == set.bits) ↔ ((m : ℕ) → has m (numbers_in set) ≡ true → has m (numbers_in other) ≡ true)
 within-numbers set other fits =
     let both = bit_and set.bits other.bits in
     (λ same. from-shared set other (eqb-true both set.bits same), λ each. eq-eqb both set.bits (same_from_bits both set.bits (shared-bit set other fits each)))
@@ -128,21 +128,21 @@ ones-rising bits (suc count) low fits =
     (λ is. omega (arith, ones_step word, later, eqb-true (bit_at bits low) 1 (sym (member-bit bits low) ∙ is)))
     (λ is. grind (arith, ones_step word, later, bit_at-lt bits low, eqb-false (bit_at bits low) 1 (sym (member-bit bits low) ∙ is)))
 
-pub count-numbers : (set : Set) → set.bits < 2 ^ 64 → count_ones set.bits ≡ length (numbers_in set)
+pub count-numbers : (set : Set) → set.bits < 2 ^ 128 → count_ones set.bits ≡ length (numbers_in set)
 unfolding numbers_in
-count-numbers set fits = ap count_ones (sym (div-one set.bits)) ∙ ones-rising set.bits 64 0 (rw (div-one set.bits) fits)
+count-numbers set fits = ap count_ones (sym (div-one set.bits)) ∙ ones-rising set.bits BLOCK_LIMIT 0 (rw (div-one set.bits) fits)
 
 -- WITHOUT ANOTHER, AND IN BOTH
 
-pub without-numbers : (set other : Set) → other.bits < 2 ^ 64 → (m : ℕ) → has m (numbers_in (record { bits = bit_and set.bits (bit_not w64 other.bits) })) ≡ (has m (numbers_in set) && not (has m (numbers_in other)))
+pub without-numbers : (set other : Set) → other.bits < 2 ^ 128 → (m : ℕ) → has m (numbers_in (record { bits = bit_and set.bits (bit_not w128 other.bits) })) ≡ (has m (numbers_in set) && not (has m (numbers_in other)))
 without-numbers set other fits zero =
-    has-outside (record { bits = bit_and set.bits (bit_not w64 other.bits) }) 0 (inl (omega arith)) ∙ sym (rw (has-outside set 0 (inl (omega arith))) refl)
+    has-outside (record { bits = bit_and set.bits (bit_not w128 other.bits) }) 0 (inl (omega arith)) ∙ sym (rw (has-outside set 0 (inl (omega arith))) refl)
 without-numbers set other fits (suc i) =
-    let all : Set = record { bits = bit_and set.bits (bit_not w64 other.bits) } in
-    elim (cases_lt i 64) [
+    let all : Set = record { bits = bit_and set.bits (bit_not w128 other.bits) } in
+    elim (cases_lt i BLOCK_LIMIT) [
       | inl lt ↦
           has-bit all i lt ∙ tells (bit_at set.bits i) (bit_at other.bits i) (bit_at all.bits i) (bit_at-lt set.bits i) (bit_at-lt other.bits i) (bit_at-lt all.bits i)
-          (bit_at_and set.bits (bit_not w64 other.bits) i ∙ ap (min (bit_at set.bits i)) (bit_at_not w64 other.bits i fits lt)) ∙ sym (rw (has-bit set i lt, has-bit other i lt) refl)
+          (bit_at_and set.bits (bit_not w128 other.bits) i ∙ ap (min (bit_at set.bits i)) (bit_at_not w128 other.bits i fits lt)) ∙ sym (rw (has-bit set i lt, has-bit other i lt) refl)
       | inr ge ↦ has-outside all (suc i) (inr (omega arith)) ∙ sym (rw (has-outside set (suc i) (inr (omega arith))) refl)
     ]
   where
@@ -154,7 +154,7 @@ both-numbers set other zero =
     has-outside (record { bits = bit_and set.bits other.bits }) 0 (inl (omega arith)) ∙ sym (rw (has-outside set 0 (inl (omega arith))) refl)
 both-numbers set other (suc i) =
     let all : Set = record { bits = bit_and set.bits other.bits } in
-    elim (cases_lt i 64) [
+    elim (cases_lt i BLOCK_LIMIT) [
       | inl lt ↦
           has-bit all i lt ∙ tells (bit_at set.bits i) (bit_at other.bits i) (bit_at all.bits i) (bit_at-lt set.bits i) (bit_at-lt other.bits i) (bit_at-lt all.bits i) (bit_at_and set.bits other.bits i)
           ∙ sym (rw (has-bit set i lt, has-bit other i lt) refl)

@@ -1,8 +1,9 @@
 -- The lowest number of a set, and the others.
-use Rattle.std.proofs.Common.{ℕ, zero, suc, ◌+◌, ◌-◌, ◌/◌, ◌%◌, ◌^◌, ◌≤◌, ◌<◌, ◌≡◌, ◌==◌, Bool, true, false, [], ◌∷◌, filter, bit_and, w64, sym, ap, ◌∙◌, inl, inr, arith}
-use Rattle.std.specs.Int.{bit_at, trailing_zeros}
+use Rattle.std.proofs.Common.{ℕ, zero, suc, ◌+◌, ◌-◌, ◌/◌, ◌%◌, ◌^◌, ◌≤◌, ◌<◌, ◌≡◌, ◌==◌, Bool, true, false, [], ◌∷◌, filter, bit_and, sym, ap, ◌∙◌, inl, inr, arith}
+use Rattle.std.specs.Int.{w128, bit_at, trailing_zeros}
 use Rattle.std.proofs.lemmas.Bool.{cases_eq, eq-eqb, ne_eqb}
 use Rattle.std.proofs.lemmas.Nat.Bits.{shr_and_one, bit_at-zero, bit_at-suc, bit_at_lowest, bit_at_and, bit_at-trailing_zeros}
+use Rattle.s66_isa.specs.declared.limits.TheConstants.{BLOCK_LIMIT}
 use Rattle.s66_isa.specs.Lists.{rising}
 use Rattle.s66_dep.specs.declared.set.Set.{Set}
 use Rattle.s66_dep.specs.Members.{is_member, numbers_in}
@@ -49,16 +50,16 @@ one-less (suc t) n own lower =
     higher half above (suc i) lt = bit_at-suc (n - 1) i ∙ ap (λ m. bit_at m i) half ∙ above i (omega (arith, lt)) ∙ sym (bit_at-suc n i)
 
 -- the bit of the lowest number is cleared
-pub lowest-out : (set : Set) → 0 < set.bits → set.bits < 2 ^ 64 → numbers_in set ≡ (trailing_zeros w64 set.bits + 1) ∷ numbers_in (record { bits = bit_and set.bits (set.bits - 1) })
+pub lowest-out : (set : Set) → 0 < set.bits → set.bits < 2 ^ 128 → numbers_in set ≡ (trailing_zeros w128 set.bits + 1) ∷ numbers_in (record { bits = bit_and set.bits (set.bits - 1) })
 unfolding numbers_in
 lowest-out set some fits =
-    let t = trailing_zeros w64 set.bits in
+    let t = trailing_zeros w128 set.bits in
     let bits = set.bits in
     let others = bit_and bits (bits - 1) in
-    let (few, own, lower) = bit_at-trailing_zeros w64 bits some fits in
+    let (few, own, lower) = bit_at-trailing_zeros w128 bits some fits in
     let (clear, higher) = one-less t bits own lower in
-    let within : t < 64 = omega (arith, few) in
-    filter-first (is_member bits) (is_member others) 64 1 (t + 1) (omega arith) (omega (arith, within))
+    let within : t < BLOCK_LIMIT = omega (arith, few) in
+    filter-first (is_member bits) (is_member others) BLOCK_LIMIT 1 (t + 1) (omega arith) (omega (arith, within))
     (member-bit bits t ∙ eq-eqb (bit_at bits t) 1 own)
     (λ m low lt. member-by bits m low ∙ ne_eqb (bit_at bits (m - 1)) 1 (λ e. omega (arith, e, lower (m - 1) (omega (arith, low, lt)))))
     (λ m low le.
@@ -76,4 +77,4 @@ lowest-out set some fits =
 
 pub none-prefix : (set : Set) → set.bits ≡ 0 → numbers_in set ≡ []
 unfolding numbers_in
-none-prefix set none = filter-none (is_member set.bits) 64 1 (λ m low. member-by set.bits m low ∙ ne_eqb (bit_at set.bits (m - 1)) 1 (λ e. omega (arith, e, ap (λ n. bit_at n (m - 1)) none, bit_at-zero (m - 1))))
+none-prefix set none = filter-none (is_member set.bits) BLOCK_LIMIT 1 (λ m low. member-by set.bits m low ∙ ne_eqb (bit_at set.bits (m - 1)) 1 (λ e. omega (arith, e, ap (λ n. bit_at n (m - 1)) none, bit_at-zero (m - 1))))

@@ -7,13 +7,13 @@ use arrayvec::ArrayVec;
 use s66_isa::BLOCK_LIMIT;
 
 // one word has a bit for each number of a block
-const _: () = prove!(BLOCK_LIMIT == u64::BITS as usize);
+const _: () = prove!(BLOCK_LIMIT == u128::BITS as usize);
 
 /// A set of instruction numbers of a block, in one word.
 #[derive(Clone, Copy, Debug, Default, PartialEq, Eq)]
 pub struct Set {
     /// Bit n - 1 tells whether n is there.
-    bits: u64,
+    bits: u128,
 }
 
 impl Set {

@@ -1,5 +1,5 @@
 /// The most instructions of a block, and so the greatest number that one has.
-pub const BLOCK_LIMIT: usize = 64;
+pub const BLOCK_LIMIT: usize = 128;
 
 /// How many numbers a profile has.
 pub const PROFILE_LENGTH: usize = 17;

@@ -42,11 +42,14 @@ floor-parts b prefix begins short =
 
 -- HOW GREAT THEY ARE: some order completes a beginning, and each leaf is a lower bound of it
 
-pub leaf-fits : (b : Problem) (prefix : List ℕ) (leaf : Leaf) → IsBeginning b.block prefix → length b.block ≤ BLOCK_LIMIT → MayStand b prefix leaf → value b prefix leaf ≤ 104 * BLOCK_LIMIT
-leaf-fits b prefix leaf begins few may =
+pub leaf-small : (b : Problem) (prefix : List ℕ) (leaf : Leaf) → IsBeginning b.block prefix → MayStand b prefix leaf → value b prefix leaf ≤ 104 * length b.block
+leaf-small b prefix leaf begins may =
     let (rest, legal) = beginning-front b.block prefix begins in
     let (begins2, completes) = legal-parts b.block prefix rest legal in
-    omega (arith, leaf-sound b prefix rest leaf begins2 completes may, total-le b (prefix ++ rest), completes.1, few)
+    omega (arith, leaf-sound b prefix rest leaf begins2 completes may, total-le b (prefix ++ rest), completes.1)
+
+pub leaf-fits : (b : Problem) (prefix : List ℕ) (leaf : Leaf) → IsBeginning b.block prefix → length b.block ≤ BLOCK_LIMIT → MayStand b prefix leaf → value b prefix leaf ≤ 104 * BLOCK_LIMIT
+leaf-fits b prefix leaf begins few may = omega (arith, leaf-small b prefix leaf begins may, few)
 
 pub chain-fits : (b : Problem) (prefix : List ℕ) → IsBeginning b.block prefix → length b.block ≤ BLOCK_LIMIT → IsIncomplete b.block prefix → chain b prefix ≤ 104 * BLOCK_LIMIT
 chain-fits b prefix begins few short =

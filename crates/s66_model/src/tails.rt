@@ -3,7 +3,6 @@
 ghost use Rattle.std.specs.Prelude.{ℕ, List, length, get_or, max, true, ◌+◌, ◌-◌, ◌*◌, ◌≡◌, ◌≤◌, [], ◌∷◌};
 ghost use Rattle.std.specs.List.{filter};
 ghost use Rattle.s66_isa.specs.declared.instr.Kind.{Kind};
-ghost use Rattle.s66_isa.specs.declared.limits.TheConstants.{BLOCK_LIMIT};
 ghost use Rattle.s66_isa.specs.declared.reg.Reg.{Reg};
 ghost use Rattle.s66_isa.specs.Lists.{greatest, least, weigh};
 ghost use Rattle.s66_isa.specs.Table.{numbers, a_reg, x_reg};
@@ -35,14 +34,13 @@ pub fn printed_chain_law()
 
 /// The value of an incomplete floor is the greatest of its chains, the load of each kind of unit, and its parcels: those of all
 /// that remains, and the least that a tail is longer than its own. A table with a word for each number gives the sums over what
-/// remains, and so the loads. No leaf of a block is above 104 minor cycles for each of the
-/// `BLOCK_LIMIT` instructions that it may have.
+/// remains, and so the loads. No leaf of a block is above 104 minor cycles for each of its instructions.
 pub fn floor_parts_law()
     ensures greatest { (b : Problem) (prefix : List ℕ) → IsBeginning b.block prefix → IsIncomplete b.block prefix → floor_value b prefix ≡ max (chain b prefix) (greatest (value b prefix) after_chain) }
     ensures parcels { (b : Problem) (prefix : List ℕ) → IsBeginning b.block prefix → IsIncomplete b.block prefix → parcels b prefix ≡ (next (points_of b prefix) + sum_remaining b.block prefix (λ n. (row_at b n).parcels)) + least (spare b) (remaining b.block prefix) }
     ensures loads { (b : Problem) (prefix words : List ℕ) (kind : Kind) → HasWords b (λ n. work_of kind (row_at b n)) words → load b prefix kind ≡ over (weigh (λ n. get_or words (n - 1) 0) (remaining b.block prefix) + weigh (rest_busy kind (next (points_of b prefix))) (points_of b prefix)) (copies b kind) + next (points_of b prefix) }
     ensures sums { (b : Problem) (prefix words : List ℕ) (f : ℕ → ℕ) → HasWords b f words → weigh (λ n. get_or words (n - 1) 0) (remaining b.block prefix) ≡ sum_remaining b.block prefix f }
-    ensures fits { (b : Problem) (prefix : List ℕ) (leaf : Leaf) → IsBeginning b.block prefix → length b.block ≤ BLOCK_LIMIT → MayStand b prefix leaf → value b prefix leaf ≤ 104 * BLOCK_LIMIT }
+    ensures fits { (b : Problem) (prefix : List ℕ) (leaf : Leaf) → IsBeginning b.block prefix → MayStand b prefix leaf → value b prefix leaf ≤ 104 * length b.block }
 {}
 
 /// The longest tail of each number of a block, the walk that takes it, and what heads, registers and parcels make of them.

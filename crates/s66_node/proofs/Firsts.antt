@@ -3,6 +3,7 @@ use Rattle.std.proofs.Common.{ℕ, zero, suc, ◌≤◌, ◌<◌, ◌≡◌, ◌
 use Rattle.std.proofs.lemmas.Bool.{cond_both, cases_lt}
 use Rattle.std.proofs.lemmas.Bool.Decides.{nat_tests}
 use Rattle.std.specs.List.{filter}
+use Rattle.s66_isa.specs.declared.limits.TheConstants.{BLOCK_LIMIT}
 use Rattle.s66_isa.specs.Lists.{Among, rising}
 use Rattle.s66_isa.proofs.Lists.{among-rising}
 use Rattle.s66_model.specs.LegalOrder.{is_ready, ready}
@@ -33,7 +34,7 @@ filter-rises test (suc k) low n m ns is among =
 -- what is taken from a set is its lowest number
 taken-lower : (set rest : Set) (n m : ℕ) → numbers_in set ≡ n ∷ numbers_in rest → Among m (numbers_in rest) → n < m
 unfolding numbers_in
-taken-lower set rest n m is among = filter-rises (is_member set.bits) 64 1 n m (numbers_in rest) is among
+taken-lower set rest n m is among = filter-rises (is_member set.bits) BLOCK_LIMIT 1 n m (numbers_in rest) is among
 
 -- WHAT COMES BEFORE WHAT, by times t, u, v, tails k, l, j and numbers n, m, o
 

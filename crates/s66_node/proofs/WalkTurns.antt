@@ -187,7 +187,7 @@ pub work-tip : (k : ℕ) (old new fs : List Set) (f f2 : Set) (n : ℕ) → old 
 work-tip k old new fs f f2 n popped pushed is =
     omega (arith, ap work popped, ap work pushed, work-push fs f, work-push fs f2, ap length is)
 
-pub work-split : (allowance count : ℕ) (old mid new fs : List Set) (f f2 f3 : Set) (n : ℕ) → count < allowance → old ≡ fs ++ f ∷ [] → mid ≡ fs ++ f2 ∷ [] → new ≡ mid ++ f3 ∷ [] → numbers_in f ≡ n ∷ numbers_in f2 → (allowance - (count + 1)) * 66 + work new < (allowance - count) * 66 + work old
+pub work-split : (allowance count : ℕ) (old mid new fs : List Set) (f f2 f3 : Set) (n : ℕ) → count < allowance → old ≡ fs ++ f ∷ [] → mid ≡ fs ++ f2 ∷ [] → new ≡ mid ++ f3 ∷ [] → numbers_in f ≡ n ∷ numbers_in f2 → (allowance - (count + 1)) * (BLOCK_LIMIT + 2) + work new < (allowance - count) * (BLOCK_LIMIT + 2) + work old
 work-split allowance count old mid new fs f f2 f3 n lt popped put pushed is =
     omega (arith, lt, ap work popped, ap work put, ap work pushed, work-push fs f, work-push fs f2, work-push mid f3, ap length is, set-few f3)
 

@@ -2,8 +2,8 @@ use Rattle.std.proofs.Common.{rules}
 use Rattle.s66_line.proofs.InstructionTexts.{instruction}
 use Rattle.s66_cert.proofs.examples.document_examples.Goals as goal
 
-pub returns-clause-order_of_64 : goal.returns-clause-order_of_64
-returns-clause-order_of_64 c = search (rules, instruction)
+pub returns-clause-order_of_128 : goal.returns-clause-order_of_128
+returns-clause-order_of_128 c = search (rules, instruction)
 
 pub returns-clause-order_of_one : goal.returns-clause-order_of_one
 returns-clause-order_of_one c = search (rules, instruction)
@@ -14,11 +14,11 @@ returns-clause-whole_order_alone c = search (rules, instruction)
 pub returns-clause-chain_of_one : goal.returns-clause-chain_of_one
 returns-clause-chain_of_one c = search (rules, instruction)
 
-pub returns-clause-chain_of_64 : goal.returns-clause-chain_of_64
-returns-clause-chain_of_64 c = search (rules, instruction)
+pub returns-clause-chain_of_128 : goal.returns-clause-chain_of_128
+returns-clause-chain_of_128 c = search (rules, instruction)
 
-pub returns-clause-split_of_64 : goal.returns-clause-split_of_64
-returns-clause-split_of_64 c = search (rules, instruction)
+pub returns-clause-split_of_128 : goal.returns-clause-split_of_128
+returns-clause-split_of_128 c = search (rules, instruction)
 
 pub returns-clause-child_twice : goal.returns-clause-child_twice
 returns-clause-child_twice c = search (rules, instruction)
@@ -35,14 +35,11 @@ returns-clause-greatest_times c = search (rules, instruction)
 pub returns-clause-least_times : goal.returns-clause-least_times
 returns-clause-least_times c = search (rules, instruction)
 
-pub returns-clause-block_of_64 : goal.returns-clause-block_of_64
-returns-clause-block_of_64 c = search (rules, instruction)
+pub returns-clause-block_of_128 : goal.returns-clause-block_of_128
+returns-clause-block_of_128 c = search (rules, instruction)
 
 pub returns-clause-text_of_199 : goal.returns-clause-text_of_199
 returns-clause-text_of_199 c = search (rules, instruction)
 
-pub returns-clause-wide_order : goal.returns-clause-wide_order
-returns-clause-wide_order c = search (rules, instruction)
-
-pub returns-clause-wide_block : goal.returns-clause-wide_block
-returns-clause-wide_block c = search (rules, instruction)
+pub returns-clause-order_at_64 : goal.returns-clause-order_at_64
+returns-clause-order_at_64 c = search (rules, instruction)

@@ -58,7 +58,7 @@ row-requires c =
     let (low, high, new) = remaining-parts c.args.prefix.now.problem.block c.args.prefix.now.numbers c.loop-m.last c.loop-m.invariant.remains in
     (low, high)
 
-small : (b : Problem) (prefix : List ℕ) (last time own : ℕ) (r : Row) → is_remaining b.block prefix last ≡ true → length b.block ≤ BLOCK_LIMIT → time ≤ 100 * last → own ≡ tail r → r ≡ row_at b last → time + own ≤ 6501
+small : (b : Problem) (prefix : List ℕ) (last time own : ℕ) (r : Row) → is_remaining b.block prefix last ≡ true → length b.block ≤ BLOCK_LIMIT → time ≤ 100 * last → own ≡ tail r → r ≡ row_at b last → time + own ≤ 100 * BLOCK_LIMIT + 101
 small b prefix last time own r stays few le own_is row_is =
     let (low, high, new) = remaining-parts b.block prefix last stays in
     omega (arith, le, high, few, own_is, ap tail row_is, tail-le (row_at b last) (good-at b last))

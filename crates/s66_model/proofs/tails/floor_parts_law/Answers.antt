@@ -3,7 +3,7 @@ use Rattle.s66_isa.specs.Lists.{weigh}
 use Rattle.s66_model.specs.Timing.{points_of, next, copies}
 use Rattle.s66_model.specs.LegalOrder.{remaining}
 use Rattle.s66_model.specs.Leaves.{rest_busy}
-use Rattle.s66_model.proofs.FloorParts.{floor-parts, rest-some, parcels-static, left-sum, leaf-fits}
+use Rattle.s66_model.proofs.FloorParts.{floor-parts, rest-some, parcels-static, left-sum, leaf-small}
 use Rattle.s66_model.proofs.UnitLoad.{load-parts}
 use Rattle.s66_model.proofs.tails.floor_parts_law.Goals as goal
 
@@ -23,4 +23,4 @@ pub returns-clause-sums : goal.returns-clause-sums
 returns-clause-sums c = λ b prefix words f known. left-sum b prefix f words known
 
 pub returns-clause-fits : goal.returns-clause-fits
-returns-clause-fits c = leaf-fits
+returns-clause-fits c = leaf-small

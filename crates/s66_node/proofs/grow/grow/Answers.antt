@@ -1,5 +1,6 @@
-use Rattle.std.proofs.Common.{ℕ, ◌-◌, ◌*◌, ◌≡◌, ◌++◌, ◌∷◌, [], List, arith, sym, ◌∙◌, ap, subst, refl, length, length-append}
+use Rattle.std.proofs.Common.{ℕ, ◌+◌, ◌-◌, ◌*◌, ◌≡◌, ◌++◌, ◌∷◌, [], List, arith, sym, ◌∙◌, ap, subst, refl, length, length-append}
 use Rattle.std.proofs.lemmas.Bool.{lt-ltb, ltb-true, true≢false}
+use Rattle.s66_isa.specs.declared.limits.TheConstants.{BLOCK_LIMIT}
 use Rattle.s66_model.specs.Timing.{Problem}
 use Rattle.s66_model.specs.LegalOrder.{ready}
 use Rattle.s66_model.specs.Tree.{Alone, AtTip, AtSplit}
@@ -53,7 +54,7 @@ push-requires-in-Some-pop_first c =
 pub loop-frame-smaller-in-Some-unsplit_knot : goal.loop-frame-smaller-in-Some-unsplit_knot
 loop-frame-smaller-in-Some-unsplit_knot c =
     let lf = c.loop-frame in
-    work-tip ((c.args.allowance - lf.splits) * 66) lf.frames.items c.push-in-Some-pop_first.new.self.items c.pop.new.self.items c.in-Some-pop.frame c.pop_first.new.self c.in-Some-pop_first.n c.in-Some-pop.ensures.items c.push-in-Some-pop_first.ensures.items c.in-Some-pop_first.ensures.some
+    work-tip ((c.args.allowance - lf.splits) * (BLOCK_LIMIT + 2)) lf.frames.items c.push-in-Some-pop_first.new.self.items c.pop.new.self.items c.in-Some-pop.frame c.pop_first.new.self c.in-Some-pop_first.n c.in-Some-pop.ensures.items c.push-in-Some-pop_first.ensures.items c.in-Some-pop_first.ensures.some
 
 pub loop-frame-preserved-in-Some-unsplit_knot : goal.loop-frame-preserved-in-Some-unsplit_knot
 loop-frame-preserved-in-Some-unsplit_knot c =
@@ -111,7 +112,7 @@ loop-frame-preserved-in-None c =
 
 pub loop-frame-smaller-then-not-is_empty : goal.loop-frame-smaller-then-not-is_empty
 loop-frame-smaller-then-not-is_empty c =
-    work-up ((c.args.allowance - c.loop-frame.splits) * 66) c.loop-frame.frames.items c.pop.new.self.items c.in-Some-pop.frame c.in-Some-pop.ensures.items
+    work-up ((c.args.allowance - c.loop-frame.splits) * (BLOCK_LIMIT + 2)) c.loop-frame.frames.items c.pop.new.self.items c.in-Some-pop.frame c.in-Some-pop.ensures.items
 
 pub loop-frame-preserved-then-not-is_empty : goal.loop-frame-preserved-then-not-is_empty
 loop-frame-preserved-then-not-is_empty c =

@@ -1,4 +1,5 @@
 use Rattle.std.proofs.Common.{◌+◌, ◌-◌, ◌*◌, ◌≡◌}
+use Rattle.s66_isa.specs.declared.limits.TheConstants.{BLOCK_LIMIT}
 use Rattle.s66_node.specs.SeenKnots.{seen}
 use Rattle.s66_node.specs.Walking.{IsWalk}
 use Rattle.s66_node.proofs.WalkTurns.{work}
@@ -12,4 +13,4 @@ invariant-loop-frame l =
     }
 
 abbrev pub decreases-loop-frame : goal.decreases-loop-frame
-decreases-loop-frame l = (l.allowance - l.splits) * 66 + work l.frames.items
+decreases-loop-frame l = (l.allowance - l.splits) * (BLOCK_LIMIT + 2) + work l.frames.items

@@ -6,5 +6,5 @@ use Rattle.s66_cert.proofs.page.Page.numbers.Given as goal
 abbrev pub invariant-loop-number : goal.invariant-loop-number
 invariant-loop-number l = record {
   rest : l.self ++ after_blanks (drop l.number-index l.numbers) ≡ l.fn.self ++ after_blanks l.numbers;
-  few : length l.self ≤ length l.fn.self + 11 * l.number-index;
+  few : length l.self ≤ length l.fn.self + 4 * l.number-index;
 }
