@@ -101,9 +101,6 @@ module _ (b : Problem) (best : ℕ) (total : List model.Node) (at : List ℕ) (o
   deep : length ps ≤ length at
   deep = omega (arith, reading.depth, ap length popped, length-append ps (p ∷ []))
 
-  pub reading-room : length ps < length b.block
-  reading-room = omega (arith, deep, reading.part)
-
   pub reading-within : p.node < length made
   reading-within = omega (arith, stands.0, length-prefixes made)
 

@@ -20,7 +20,7 @@ use Rattle.s66_ledger.specs.Planting.{kids_of, knot_value, made_state, told_stat
 use Rattle.s66_ledger.specs.Subtrees.{placed_parent, placed, settled_state, settled, planted, lines_below, CanBeOver, IsPlanted, IsSubtreeOf}
 use Rattle.s66_ledger.proofs.Chains.{chain-of}
 use Rattle.s66_ledger.proofs.Depths.{depths-push}
-use Rattle.s66_ledger.proofs.Reading.{knot_state, reading-start, reading-within, reading-over, reading-room, reading-up, reading-next, reading-tip, reading-deeper, reading-split, reading-done, reading-none}
+use Rattle.s66_ledger.proofs.Reading.{knot_state, reading-start, reading-within, reading-over, reading-up, reading-next, reading-tip, reading-deeper, reading-split, reading-done, reading-none}
 
 -- PLANTED
 
@@ -177,13 +177,12 @@ module _ (p : PieceOf) (numbers : List ℕ) (places ps : List Place) (q : Place)
         let s = shifted root (length made) in
         reading-next p.problem 0 (all_planted p 0 made numbers) g.at (map s places) (map s ps) (s q) (planted 0 root made nodes) later g.reading (shifted-push root (length made) places ps q popped) n ns is
 
-    pub growing-room : length ps < length p.problem.block
+    -- no node is deeper than a whole order
+    pub growing-room : length p.prefix + length ps < length p.problem.block
     growing-room =
-        let root = length p.prefix in
         let (made, over) = some-over p few in
-        let g = growing 0 root made over in
-        let s = shifted root (length made) in
-        omega (arith, reading-room p.problem 0 (all_planted p 0 made numbers) g.at (map s places) (map s ps) (s q) (planted 0 root made nodes) later g.reading (shifted-push root (length made) places ps q popped), length-map ps s)
+        let g = growing 0 (length p.prefix) made over in
+        omega (arith, g.high (omega (arith, count)), count, g.reading.part)
 
     pub growing-deeper : (n : ℕ) (ns ms : List ℕ) (after : List (Knot Told)) → numbers_in q.left ≡ n ∷ ns → later ≡ AtSplit ms ∷ after → length ps + 1 < length p.problem.block
     growing-deeper n ns ms after is first =
