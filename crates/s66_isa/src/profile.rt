@@ -145,7 +145,9 @@ impl Profile {
     fn are_in_range(numbers: &[u8; PROFILE_LENGTH]) -> bool
         ensures { IsTrue result ↔ IsProfile numbers.now }
     {
-        numbers.iter().all(|n| 1 <= *n && u32::from(*n) <= PROFILE_LIMIT)
+        numbers
+            .iter()
+            .all(|n| 1 <= *n && u32::from(*n) <= PROFILE_LIMIT)
     }
 
     /// How many units there are of a kind.

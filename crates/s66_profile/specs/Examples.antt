@@ -1,0 +1,7 @@
+-- A word of the examples.
+use Rattle.std.specs.Prelude.{ℕ, List, slice_set, Option, Some}
+use Rattle.s66_isa.specs.Table.{entries, standard}
+
+-- the numbers of the standard profile, but one at this place, from 0
+abbrev pub standard_but : ℕ → ℕ → Option (List ℕ)
+standard_but place n = Some (slice_set (entries standard) place n)

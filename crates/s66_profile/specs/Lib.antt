@@ -1,0 +1,4 @@
+pub mod ProfileText
+pub mod Gives
+pub mod Refusals
+pub mod Examples

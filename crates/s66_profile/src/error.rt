@@ -1,0 +1,55 @@
+ghost use Rattle.std.specs.Prelude.{◌≡◌};
+ghost use Rattle.serde_json.specs.Errors.{IsMemory};
+ghost use Rattle.s66_profile.specs.declared.error.ProfileError.TheVariants.{BadProfile, OutOfMemory};
+
+use std::{error, fmt};
+
+/// Why a text gave no profile. Each shows itself as the line that tells it.
+///
+/// `OutOfMemory` is for a growth that was refused, and may stand in the place of any other answer.
+#[derive(Clone, Copy, Debug, Drop, PartialEq, Eq)]
+pub enum ProfileError {
+    /// It is no JSON object whose keys all name numbers of a profile, each with a whole number 1 to `PROFILE_LIMIT`.
+    BadProfile,
+    OutOfMemory,
+}
+
+impl From<serde_json::Error> for ProfileError {
+    ghost from_gives = { λ e fault. (IsMemory e → fault ≡ OutOfMemory) × ((¬ IsMemory e) → fault ≡ BadProfile) };
+
+    fn from(e: serde_json::Error) -> ProfileError {
+        if e.is_memory() {
+            ProfileError::OutOfMemory
+        } else {
+            ProfileError::BadProfile
+        }
+    }
+}
+
+impl ProfileError {
+    ghost use Rattle.std.specs.Prelude.{◌≡◌};
+    ghost use Rattle.s66_profile.specs.Refusals.{profile_refusal_line};
+
+    /// The line that tells it, without a newline.
+    pub fn line(&self) -> &'static str
+        ensures { result.now ≡ profile_refusal_line self.now }
+    {
+        match self {
+            ProfileError::BadProfile => "BAD PROFILE",
+            ProfileError::OutOfMemory => "OUT OF MEMORY",
+        }
+    }
+}
+
+impl fmt::Display for ProfileError {
+    ghost use Rattle.std.specs.Prelude.{Some};
+    ghost use Rattle.s66_profile.specs.Refusals.{profile_refusal_line};
+
+    ghost output = { λ e. Some (profile_refusal_line e) };
+
+    fn fmt<W: fmt::Write>(&self, f: &mut fmt::Formatter<W>) -> fmt::Result {
+        f.write_str(self.line())
+    }
+}
+
+impl error::Error for ProfileError {}

@@ -1,0 +1,12 @@
+//! Timing profiles as JSON texts. Examples are functions that do nothing: each clause is one.
+#![tactic(auto)]
+
+mod error;
+mod examples;
+mod profile;
+#[cfg(test)]
+mod tests;
+
+pub use error::ProfileError;
+pub use examples::{profile_examples, refusal_examples};
+pub use profile::read_profile;

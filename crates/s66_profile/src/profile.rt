@@ -1,0 +1,86 @@
+ghost use Rattle.std.specs.Prelude.{◌≡◌, ◌<◌, ◌≤◌, IfOk, IfSome, Some, length, option_map};
+ghost use Rattle.serde_json.specs.View.{view};
+ghost use Rattle.s66_isa.specs.Profiles.{profile_of};
+ghost use Rattle.s66_isa.specs.Table.{entries};
+ghost use Rattle.s66_profile.specs.Gives.{Gives};
+ghost use Rattle.s66_profile.specs.ProfileText.{number_in, numbers_in, numbers_in_text, place_of, profile_in_text};
+ghost use Rattle.s66_profile.specs.declared.error.ProfileError.TheVariants.{OutOfMemory};
+
+use crate::error::ProfileError;
+use s66_isa::{PROFILE_LENGTH, PROFILE_LIMIT, Profile};
+use serde_json::Value;
+use std::alloc::Global;
+
+/// The name of each number of a profile, in the order of `Profile::entries`.
+const NAMES: [&str; PROFILE_LENGTH] = [
+    "boolean",
+    "shift",
+    "normalise",
+    "add",
+    "longadd",
+    "multiply",
+    "divide",
+    "population",
+    "increment",
+    "load",
+    "units_boolean",
+    "units_shift",
+    "units_add",
+    "units_longadd",
+    "units_multiply",
+    "units_divide",
+    "units_increment",
+];
+
+/// The place of the number of this name.
+fn place(name: &str) -> Option<usize>
+    ensures value { result ≡ place_of name.now }
+    ensures within { IfSome result (λ at. at < PROFILE_LENGTH) }
+{
+    NAMES.iter().position(|known| *known == name)
+}
+
+/// The number that a value is, if it may stand in a profile.
+fn number(value: &Value) -> Option<u8>
+    ensures value { result ≡ number_in (view value.now) }
+    ensures range { IfSome result (λ n. (1 ≤ n) × (n ≤ PROFILE_LIMIT)) }
+{
+    let number = value.as_u64()?;
+    if 1 <= number && number <= u64::from(PROFILE_LIMIT) {
+        Some(number as u8)
+    } else {
+        None
+    }
+}
+
+/// The profile that a JSON value gives: each member of the object sets the number that it names, and the others are the standard
+/// profile's.
+fn profile_in(value: &Value) -> Option<Profile>
+    ensures value { result ≡ option_map profile_of (numbers_in (view value.now)) }
+    ensures numbers { IfSome result (λ p. numbers_in (view value.now) ≡ Some (entries p)) }
+{
+    let members = value.as_object()?;
+    let mut numbers = Profile::standard().entries();
+    for (name, member) in members.iter() {
+        let at = place(name.as_str())?;
+        numbers[at] = number(member)?;
+    }
+    Profile::of(&numbers)
+}
+
+/// The profile that a JSON object gives. Its keys are names of the numbers of a profile, as `boolean` or `units_multiply`, and its
+/// values whole numbers 1 to `PROFILE_LIMIT`, written in digits alone; a number that has no key is the standard profile's, and of
+/// equal keys the last counts.
+///
+/// # Errors
+///
+/// `BadProfile` for any other text. `OutOfMemory` where a growth was refused, which may stand in the place of any other answer; an
+/// empty text wants none.
+pub fn read_profile(alloc: Global, text: &str) -> Result<Profile, ProfileError>
+    ensures profile { Gives result (profile_in_text text.now) }
+    ensures numbers { IfOk result (λ p. numbers_in_text text.now ≡ Some (entries p)) }
+    ensures memory { result ≡ Err OutOfMemory → 0 < length text.now }
+{
+    let value = Value::from_str(alloc, text)?;
+    profile_in(&value).ok_or(ProfileError::BadProfile)
+}
