@@ -2,14 +2,16 @@
 use Rattle.std.proofs.Common.{ℕ, zero, suc, ◌+◌, ◌≤◌, ◌≡◌, true, not, List, [], ◌∷◌, ◌++◌, length, refl, sym, ap, arith, inl, inr, subst, ◌∙◌, map}
 use Rattle.std.proofs.lemmas.Bool.{and_parts, ltb-true}
 use Rattle.std.proofs.lemmas.List.{length-map}
+use Rattle.std.proofs.lemmas.List.Elements.{All-head, All-tail}
 use Rattle.std.proofs.lemmas.List.Filters.{length-filter_both}
-use Rattle.std.specs.Prelude.{nat_lt}
+use Rattle.std.specs.Prelude.{All, nat_lt}
 use Rattle.s66_isa.specs.declared.instr.Instr.{Instr}
 use Rattle.s66_isa.specs.declared.profile.Profile.{Profile}
 use Rattle.s66_isa.specs.Lists.{Among, rising}
 use Rattle.s66_isa.specs.Table.{entries, numbers}
 use Rattle.s66_isa.proofs.Lists.{least-le}
-use Rattle.s66_isa.specs.declared.limits.TheConstants.{BLOCK_LIMIT}
+use Rattle.s66_isa.proofs.Profiles.{entries-in-range}
+use Rattle.s66_isa.specs.declared.limits.TheConstants.{BLOCK_LIMIT, PROFILE_LIMIT}
 use Rattle.s66_line.specs.Block.{instrs_of, text_of}
 use Rattle.s66_line.specs.Source.{Block}
 use Rattle.s66_model.specs.Answer.{Answer, IsAnswer}
@@ -36,6 +38,12 @@ are-in low high [] within = tt
 are-in low high (n ∷ ns) within =
     let first = within n (inl refl) in
     (first.0, first.1, are-in low high ns (λ m among. within m (inr among)))
+
+all-in : (low high : ℕ) (ns : List ℕ) → All (λ n. (low ≤ n) × (n ≤ high)) ns → AreIn low high ns
+all-in low high [] all = tt
+all-in low high (n ∷ ns) all =
+    let first = All-head (λ m. (low ≤ m) × (m ≤ high)) n ns all in
+    (first.0, first.1, all-in low high ns (All-tail (λ m. (low ≤ m) × (m ≤ high)) n ns all))
 
 not-empty : {X : Type 0} (x : X) (xs : List X) → Among x xs → 1 ≤ length xs
 not-empty x [] h = absurd h
@@ -139,49 +147,6 @@ length-texts block = length-map (numbers (instrs_of block)) (text_of block) ∙ 
 
 -- DOCUMENTS
 
-profile-in : (p : Profile) → AreIn 1 100 (entries p)
-profile-in p = (
-  p.least.0,
-  p.greatest.0,
-  (
-    p.least.1,
-    p.greatest.1,
-    (
-      p.least.2,
-      p.greatest.2,
-      (
-        p.least.3,
-        p.greatest.3,
-        (
-          p.least.4,
-          p.greatest.4,
-          (
-            p.least.5,
-            p.greatest.5,
-            (
-              p.least.6,
-              p.greatest.6,
-              (
-                p.least.7,
-                p.greatest.7,
-                (
-                  p.least.8,
-                  p.greatest.8,
-                  (
-                    p.least.9,
-                    p.greatest.9,
-                    (p.units.0, p.few.0, (p.units.1, p.few.1, (p.units.2, p.few.2, (p.units.3, p.few.3, (p.units.4, p.few.4, (p.units.5, p.few.5, (p.units.6, p.few.6, tt))))))),
-                  ),
-                ),
-              ),
-            ),
-          ),
-        ),
-      ),
-    ),
-  ),
-)
-
 pub bound-within : (b : Problem) (budget : ℕ) (a : Answer) → IsAnswer b budget a → a.bound ≤ a.time
 bound-within b budget a is = omega (arith, is.bound, least-le (λ v. v) a.time (a.time ∷ tree_values (leaf_values b) [] a.tree) (inl refl))
 
@@ -189,9 +154,10 @@ pub answer-document : (p : Profile) (block : Block) (budget : ℕ) (a : Answer) 
     1 ≤ length (instrs_of block) → length (instrs_of block) ≤ BLOCK_LIMIT → IsSpelled block → IsDocument BLOCK_LIMIT (document_under p block a)
 answer-document p block budget a is splits some few spelled =
     let b : Problem = record { block = instrs_of block; profile = p } in
+    let in-range = entries-in-range p in
     let time : a.time ≤ TIME_LIMIT = omega (arith, is.time, total-le b a.order, (legal-order b.block a.order is.legal).1, few) in
     record {
-      profile = (refl, profile-in p);
+      profile = (in-range.0, all-in 1 PROFILE_LIMIT (entries p) in-range.1);
       block = (omega (arith, length-texts block, some), omega (arith, length-texts block, few), texts-instructions block (length (instrs_of block)) 1 (omega arith) (omega arith) spelled);
       time = time;
       bound = omega (arith, bound-within b budget a is, time);

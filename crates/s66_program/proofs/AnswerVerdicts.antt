@@ -2,7 +2,9 @@
 use Rattle.std.proofs.Common.{ℕ, zero, suc, ◌+◌, ◌≡◌, ◌≤◌, ◌∙◌, List, [], ◌∷◌, Ok, length, map, refl, sym, ap, ap₂, subst, arith}
 use Rattle.s66_isa.specs.declared.instr.Instr.{Instr}
 use Rattle.s66_isa.specs.Lists.{Among, rising}
-use Rattle.s66_isa.specs.Table.{instr_at, standard}
+use Rattle.s66_isa.specs.declared.profile.Profile.{Profile}
+use Rattle.s66_isa.specs.Table.{instr_at}
+use Rattle.s66_isa.proofs.Profiles.{profile_of-entries}
 use Rattle.s66_isa.specs.declared.limits.TheConstants.{BLOCK_LIMIT}
 use Rattle.s66_line.specs.Block.{instrs_of, text_of}
 use Rattle.s66_line.specs.InstructionText.{Spells, instr_in_text}
@@ -23,7 +25,7 @@ use Rattle.s66_checker.specs.Verdict as checker
 use Rattle.s66_checker.proofs.GrantedClaims.{verdict-yes}
 use Rattle.s66_program.specs.OrderText.{problem_of}
 use Rattle.s66_program.specs.ProvedAnswers.{IsSpelled, IsSpelledBlock}
-use Rattle.s66_program.specs.ProveText.{document_by}
+use Rattle.s66_program.specs.ProveText.{document_under}
 use Rattle.s66_program.proofs.AnswerDocuments.{answer-document, bound-within}
 
 instr-in : (text : List ℕ) (n : Instr) → Spells text n → instr_in_text text ≡ n
@@ -42,25 +44,24 @@ spelled-instrs block (suc count) low least most spelled =
     let is = spelled low least (omega (arith, most)) in
     ap₂ (λ x xs. x ∷ xs) (instr-in (text_of block low) (instr_at (instrs_of block) low) is.spells) (spelled-instrs block count (suc low) (omega (arith, least)) (omega (arith, most)) spelled)
 
-pub same-problem : (block : Block) (a : Answer) → IsSpelled block → checker.problem_of (document_by block a) ≡ problem_of block
-same-problem block a spelled =
-    ap (λ (instrs : List Instr). record { block = instrs; profile = standard })
-    (spelled-instrs block (length (instrs_of block)) 1 (omega arith) (omega arith) spelled ∙ block-by_numbers (instrs_of block))
+pub same-problem : (p : Profile) (block : Block) (a : Answer) → IsSpelled block → checker.problem_of (document_under p block a) ≡ problem_of p block
+same-problem p block a spelled =
+    ap₂ (λ (instrs : List Instr) (q : Profile). record { block = instrs; profile = q })
+    (spelled-instrs block (length (instrs_of block)) 1 (omega arith) (omega arith) spelled ∙ block-by_numbers (instrs_of block)) (profile_of-entries p)
 
-true-claim : (block : Block) (budget : ℕ) (a : Answer) → IsSpelled block → IsAnswer (problem_of block) budget a → IsTrueClaim (document_by block a)
-true-claim block budget a spelled is =
-    let same = sym (same-problem block a spelled) in
+true-claim : (p : Profile) (block : Block) (budget : ℕ) (a : Answer) → IsSpelled block → IsAnswer (problem_of p block) budget a → IsTrueClaim (document_under p block a)
+true-claim p block budget a spelled is =
+    let same = sym (same-problem p block a spelled) in
     record {
-      profile = refl;
       legal = subst (λ (b : Problem). IsLegal b.block a.order) same is.legal;
       time = subst (λ (b : Problem). total_of b a.order ≡ a.time) same (sym is.time);
-      bound = bound-within (problem_of block) budget a is;
-      tree = subst (λ (b : Problem). Shows b a.bound [] a.tree) same (answer-shown floor-stands (problem_of block) budget a is);
+      bound = bound-within (problem_of p block) budget a is;
+      tree = subst (λ (b : Problem). Shows b a.bound [] a.tree) same (answer-shown floor-stands (problem_of p block) budget a is);
     }
 
-pub verdict-of_answer : (block : Block) (budget : ℕ) (a : Answer) → IsSpelledBlock block → budget ≤ SPLIT_LIMIT → IsAnswer (problem_of block) budget a →
-    checker.verdict (document_by block a) ≡ Yes a.time a.bound
-verdict-of_answer block budget a (some, few, spelled) within is =
-    let d : Document = document_by block a in
-    let document : IsDocument BLOCK_LIMIT d = answer-document standard block budget a is (omega (arith, is.within, within)) some few spelled in
-    (verdict-yes BLOCK_LIMIT d a.time a.bound document.tree).1 (refl, refl, true-claim block budget a spelled is)
+pub verdict-of_answer : (p : Profile) (block : Block) (budget : ℕ) (a : Answer) → IsSpelledBlock block → budget ≤ SPLIT_LIMIT → IsAnswer (problem_of p block) budget a →
+    checker.verdict (document_under p block a) ≡ Yes a.time a.bound
+verdict-of_answer p block budget a (some, few, spelled) within is =
+    let d : Document = document_under p block a in
+    let document : IsDocument BLOCK_LIMIT d = answer-document p block budget a is (omega (arith, is.within, within)) some few spelled in
+    (verdict-yes BLOCK_LIMIT d a.time a.bound document.tree).1 (refl, refl, true-claim p block budget a spelled is)

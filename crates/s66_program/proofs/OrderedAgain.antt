@@ -2,7 +2,7 @@
 use Rattle.std.proofs.Common.{ℕ, ◌≡◌, ◌∙◌, Bool, List, [], ◌∷◌, Ok, length, map, refl, sym, ap, ap₂, subst}
 use Rattle.std.proofs.lemmas.List.{length-map}
 use Rattle.s66_isa.specs.declared.instr.Instr.{Instr}
-use Rattle.s66_isa.specs.Table.{standard}
+use Rattle.s66_isa.specs.declared.profile.Profile.{Profile}
 use Rattle.s66_line.specs.Printed.{printed}
 use Rattle.s66_line.specs.ReadAgain.{AreComplete, ArePlacedAgain, IsPlacedAgain}
 use Rattle.s66_line.specs.Source.{Entry, Block, source_of}
@@ -15,32 +15,32 @@ use Rattle.s66_program.specs.OrderedAgain.{TakePrintedTimes, written_time}
 use Rattle.s66_program.proofs.PlacedAnswers.{all-within}
 
 -- a legal order has a number for each instruction
-all-complete : (nodes : ℕ) (trace : Bool) (blocks : List Block) (answers : List Answer) → AreAnswers nodes blocks answers → AreComplete blocks (all_placed trace blocks answers)
-all-complete nodes trace [] [] are = tt
-all-complete nodes trace [] (a ∷ answers) are = absurd are
-all-complete nodes trace (block ∷ blocks) [] are = absurd are
-all-complete nodes trace (block ∷ blocks) (a ∷ answers) are =
-    (are.0.legal.whole ∙ length-map block.entries (λ (e : Entry). e.instr), all-complete nodes trace blocks answers are.1)
+all-complete : (profile : Profile) (nodes : ℕ) (trace : Bool) (blocks : List Block) (answers : List Answer) → AreAnswers profile nodes blocks answers → AreComplete blocks (all_placed profile trace blocks answers)
+all-complete profile nodes trace [] [] are = tt
+all-complete profile nodes trace [] (a ∷ answers) are = absurd are
+all-complete profile nodes trace (block ∷ blocks) [] are = absurd are
+all-complete profile nodes trace (block ∷ blocks) (a ∷ answers) are =
+    (are.0.legal.whole ∙ length-map block.entries (λ (e : Entry). e.instr), all-complete profile nodes trace blocks answers are.1)
 
-time-again : (nodes : ℕ) (block again : Block) (a : Answer) → IsAnswer (problem_of block) nodes a → IsPlacedAgain block again a.order → written_time again ≡ a.time
-time-again nodes block again a is placed =
-    ap (λ (instrs : List Instr). source_time (record { block = instrs; profile = standard })) placed.instrs ∙ written-order (problem_of block) a.order ∙ sym is.time
+time-again : (profile : Profile) (nodes : ℕ) (block again : Block) (a : Answer) → IsAnswer (problem_of profile block) nodes a → IsPlacedAgain block again a.order → written_time profile again ≡ a.time
+time-again profile nodes block again a is placed =
+    ap (λ (instrs : List Instr). source_time (record { block = instrs; profile = profile })) placed.instrs ∙ written-order (problem_of profile block) a.order ∙ sym is.time
 
-times-again : (nodes : ℕ) (trace : Bool) (blocks : List Block) (answers : List Answer) (again : List Block) → AreAnswers nodes blocks answers →
-    ArePlacedAgain blocks (all_placed trace blocks answers) again → map written_time again ≡ map (λ (a : Answer). a.time) answers
-times-again nodes trace [] [] [] are placed = refl
-times-again nodes trace [] [] (next ∷ again) are placed = absurd placed
-times-again nodes trace [] (a ∷ answers) again are placed = absurd are
-times-again nodes trace (block ∷ blocks) [] again are placed = absurd are
-times-again nodes trace (block ∷ blocks) (a ∷ answers) [] are placed = absurd placed
-times-again nodes trace (block ∷ blocks) (a ∷ answers) (next ∷ again) are placed =
-    ap₂ (λ t ts. t ∷ ts) (time-again nodes block next a are.0 placed.0) (times-again nodes trace blocks answers again are.1 placed.1)
+times-again : (profile : Profile) (nodes : ℕ) (trace : Bool) (blocks : List Block) (answers : List Answer) (again : List Block) → AreAnswers profile nodes blocks answers →
+    ArePlacedAgain blocks (all_placed profile trace blocks answers) again → map (written_time profile) again ≡ map (λ (a : Answer). a.time) answers
+times-again profile nodes trace [] [] [] are placed = refl
+times-again profile nodes trace [] [] (next ∷ again) are placed = absurd placed
+times-again profile nodes trace [] (a ∷ answers) again are placed = absurd are
+times-again profile nodes trace (block ∷ blocks) [] again are placed = absurd are
+times-again profile nodes trace (block ∷ blocks) (a ∷ answers) [] are placed = absurd placed
+times-again profile nodes trace (block ∷ blocks) (a ∷ answers) (next ∷ again) are placed =
+    ap₂ (λ t ts. t ∷ ts) (time-again profile nodes block next a are.0 placed.0) (times-again profile nodes trace blocks answers again are.1 placed.1)
 
-pub ordered-again : (nodes : ℕ) (trace : Bool) (input text : List ℕ) (status : Status) (again : List Block) → IsOrderOutput nodes trace input text status → source_of text ≡ Ok again →
-    TakePrintedTimes nodes trace input text again
-ordered-again nodes trace input text status again (blocks, accepted, (answers, are, is, ends)) read =
-    let ps = all_placed trace blocks answers in
+pub ordered-again : (profile : Profile) (nodes : ℕ) (trace : Bool) (input text : List ℕ) (status : Status) (again : List Block) → IsOrderOutput profile nodes trace input text status → source_of text ≡ Ok again →
+    TakePrintedTimes profile nodes trace input text again
+ordered-again profile nodes trace input text status again (blocks, accepted, (answers, are, is, ends)) read =
+    let ps = all_placed profile trace blocks answers in
     let placed : ArePlacedAgain blocks ps again =
-    read-again input blocks again ps accepted (all-within nodes trace blocks answers are) (all-complete nodes trace blocks answers are) (subst (λ t. source_of t ≡ Ok again) is read)
+    read-again input blocks again ps accepted (all-within profile nodes trace blocks answers are) (all-complete profile nodes trace blocks answers are) (subst (λ t. source_of t ≡ Ok again) is read)
     in
-    (blocks, accepted, (answers, are, is, times-again nodes trace blocks answers again are placed))
+    (blocks, accepted, (answers, are, is, times-again profile nodes trace blocks answers again are placed))

@@ -1,6 +1,7 @@
 -- The documents of answers, one block after the other, and whether all answers are best.
 use Rattle.std.proofs.Common.{ℕ, ◌+◌, ◌≡◌, ◌≤◌, ◌<◌, ◌&&◌, ◌∙◌, Bool, true, false, List, [], ◌∷◌, ◌++◌, drop, length, refl, sym, subst, ap, ap₂, append_assoc, slice_index_or, if◌then◌else◌}
 use Rattle.std.proofs.lemmas.List.{append-nil, at_drop_all, drop_more}
+use Rattle.s66_isa.specs.declared.profile.Profile.{Profile}
 use Rattle.s66_line.specs.Source.{Block}
 use Rattle.s66_model.specs.Answer.{Answer}
 use Rattle.s66_cert.specs.Document.{document_text, documents_text}
@@ -8,7 +9,7 @@ use Rattle.s66_program.specs.declared.outcome.Status.{Status}
 use Rattle.s66_program.specs.declared.outcome.Status.TheVariants.{Done, Bounded}
 use Rattle.s66_program.specs.OrderText.{AreAnswers, all_best}
 use Rattle.s66_program.specs.ProvedAnswers.{AreProved, IsProved}
-use Rattle.s66_program.specs.ProveText.{all_documents, document_by}
+use Rattle.s66_program.specs.ProveText.{all_documents, document_under}
 
 and-assoc : (a b c : Bool) → ((a && b) && c) ≡ (a && (b && c))
 and-assoc true b c = refl
@@ -19,34 +20,34 @@ and-true true = refl
 and-true false = refl
 
 -- the documents of some answers, which are all best or not
-abbrev pub AreProvedSo : ℕ → List Block → List ℕ → Bool → Type 0
-AreProvedSo nodes blocks text best =
-    (answers : List Answer) × AreAnswers nodes blocks answers × (text ≡ documents_text (all_documents blocks answers)) × (best ≡ all_best answers)
+abbrev pub AreProvedSo : Profile → ℕ → List Block → List ℕ → Bool → Type 0
+AreProvedSo profile nodes blocks text best =
+    (answers : List Answer) × AreAnswers profile nodes blocks answers × (text ≡ documents_text (all_documents profile blocks answers)) × (best ≡ all_best answers)
 
 -- the text is of the blocks before a place, and whatever documents of the others may follow it
-abbrev pub GoesOnAt : ℕ → List Block → ℕ → List ℕ → Bool → Type 0
-GoesOnAt nodes blocks i text best = (rest : List ℕ) (others : Bool) → AreProvedSo nodes (drop i blocks) rest others → AreProvedSo nodes blocks (text ++ rest) (best && others)
+abbrev pub GoesOnAt : Profile → ℕ → List Block → ℕ → List ℕ → Bool → Type 0
+GoesOnAt profile nodes blocks i text best = (rest : List ℕ) (others : Bool) → AreProvedSo profile nodes (drop i blocks) rest others → AreProvedSo profile nodes blocks (text ++ rest) (best && others)
 
-pub begins : (nodes : ℕ) (blocks : List Block) (text : List ℕ) → text ≡ [] → GoesOnAt nodes blocks 0 text true
-begins nodes blocks text none rest others are = subst (λ t. AreProvedSo nodes blocks (t ++ rest) others) (sym none) are
+pub begins : (profile : Profile) (nodes : ℕ) (blocks : List Block) (text : List ℕ) → text ≡ [] → GoesOnAt profile nodes blocks 0 text true
+begins profile nodes blocks text none rest others are = subst (λ t. AreProvedSo profile nodes blocks (t ++ rest) others) (sym none) are
 
-pub goes-on : (nodes : ℕ) (blocks : List Block) (i : ℕ) (block : Block) (text new : List ℕ) (best own : Bool) → i < length blocks → block ≡ slice_index_or blocks i block →
-    IsProved nodes block text new own → GoesOnAt nodes blocks i text best → GoesOnAt nodes blocks (i + 1) new (best && own)
-goes-on nodes blocks i block text new best own within at (a, is, pushed, told) so_far rest others (answers, are, rest-is, all) =
+pub goes-on : (profile : Profile) (nodes : ℕ) (blocks : List Block) (i : ℕ) (block : Block) (text new : List ℕ) (best own : Bool) → i < length blocks → block ≡ slice_index_or blocks i block →
+    IsProved profile nodes block text new own → GoesOnAt profile nodes blocks i text best → GoesOnAt profile nodes blocks (i + 1) new (best && own)
+goes-on profile nodes blocks i block text new best own within at (a, is, pushed, told) so_far rest others (answers, are, rest-is, all) =
     let left : block ∷ drop (i + 1) blocks ≡ drop i blocks = ap (λ b. b ∷ drop (i + 1) blocks) at ∙ sym (drop_more blocks i block within) in
-    let document = document_text (document_by block a) in
-    let there : AreProvedSo nodes (drop i blocks) (document ++ rest) (own && others) =
-    subst (λ bs. AreProvedSo nodes bs (document ++ rest) (own && others)) left
+    let document = document_text (document_under profile block a) in
+    let there : AreProvedSo profile nodes (drop i blocks) (document ++ rest) (own && others) =
+    subst (λ bs. AreProvedSo profile nodes bs (document ++ rest) (own && others)) left
     (a ∷ answers, (is, are), ap (λ t. document ++ t) rest-is, ap₂ (λ x y. x && y) told all)
     in
     let joined : new ++ rest ≡ text ++ (document ++ rest) = ap (λ t. t ++ rest) pushed ∙ append_assoc text document rest in
-    subst (AreProvedSo nodes blocks (new ++ rest)) (sym (and-assoc best own others))
-    (subst (λ t. AreProvedSo nodes blocks t (best && (own && others))) (sym joined) (so_far (document ++ rest) (own && others) there))
+    subst (AreProvedSo profile nodes blocks (new ++ rest)) (sym (and-assoc best own others))
+    (subst (λ t. AreProvedSo profile nodes blocks t (best && (own && others))) (sym joined) (so_far (document ++ rest) (own && others) there))
 
-pub proved-all : (nodes : ℕ) (blocks : List Block) (i : ℕ) (text : List ℕ) (best : Bool) (status : Status) → length blocks ≤ i → GoesOnAt nodes blocks i text best →
-    status ≡ (if best then Done else Bounded) → AreProved nodes blocks text status
-proved-all nodes blocks i text best status past so_far ends =
+pub proved-all : (profile : Profile) (nodes : ℕ) (blocks : List Block) (i : ℕ) (text : List ℕ) (best : Bool) (status : Status) → length blocks ≤ i → GoesOnAt profile nodes blocks i text best →
+    status ≡ (if best then Done else Bounded) → AreProved profile nodes blocks text status
+proved-all profile nodes blocks i text best status past so_far ends =
     let none : drop i blocks ≡ [] = at_drop_all (λ bs. bs) blocks i past in
-    let empty : AreProvedSo nodes [] [] true = ([], tt, refl, refl) in
-    let (answers, are, is, all) = so_far [] true (subst (λ bs. AreProvedSo nodes bs [] true) (sym none) empty) in
+    let empty : AreProvedSo profile nodes [] [] true = ([], tt, refl, refl) in
+    let (answers, are, is, all) = so_far [] true (subst (λ bs. AreProvedSo profile nodes bs [] true) (sym none) empty) in
     (answers, are, sym (append-nil text) ∙ is, ends ∙ ap (λ b. if b then Done else Bounded) (sym (and-true best) ∙ all))

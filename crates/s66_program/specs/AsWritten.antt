@@ -1,12 +1,13 @@
--- To be believed: a block in the order in which it was written, under the standard profile.
+-- To be believed: a block in the order in which it was written, under a profile.
 use Rattle.std.specs.Prelude.{ℕ, List}
 use Rattle.s66_isa.specs.declared.instr.Instr.{Instr}
-use Rattle.s66_isa.specs.Table.{numbers, standard}
+use Rattle.s66_isa.specs.declared.profile.Profile.{Profile}
+use Rattle.s66_isa.specs.Table.{numbers}
 use Rattle.s66_model.specs.Timing.{total_of}
 use Rattle.s66_time.specs.TimedOrder.{TimedOrder}
 
-abbrev pub as_written : List Instr → TimedOrder
-as_written block = record { problem = record { block = block; profile = standard }; numbers = numbers block }
+abbrev pub as_written : Profile → List Instr → TimedOrder
+as_written p block = record { problem = record { block = block; profile = p }; numbers = numbers block }
 
 -- how many minor cycles a timed order takes
 abbrev pub total_time : TimedOrder → ℕ

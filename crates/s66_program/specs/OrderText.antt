@@ -1,7 +1,7 @@
 -- To be believed: what `order` writes for a source, and how it ends: for each block an answer of a search of its orders, of which there may be several.
 use Rattle.std.specs.Prelude.{ℕ, ◌≡◌, ◌==◌, if◌then◌else◌, Bool, List, [], ◌∷◌, Some, None, Ok}
 use Rattle.s66_isa.specs.Lists.{every}
-use Rattle.s66_isa.specs.Table.{standard}
+use Rattle.s66_isa.specs.declared.profile.Profile.{Profile}
 use Rattle.s66_line.specs.Block.{instrs_of}
 use Rattle.s66_line.specs.Printed.{Placed, printed}
 use Rattle.s66_line.specs.Source.{Block, source_of}
@@ -12,15 +12,15 @@ use Rattle.s66_program.specs.declared.outcome.Status.TheVariants.{Done, Bounded}
 
 -- ANSWERS
 
--- a block's orders under the standard profile
-abbrev pub problem_of : Block → Problem
-problem_of block = record { block = instrs_of block; profile = standard }
+-- a block's orders under a profile
+abbrev pub problem_of : Profile → Block → Problem
+problem_of p block = record { block = instrs_of block; profile = p }
 
 -- an answer for each block, of a search of at most so many splits
-abbrev pub AreAnswers : ℕ → List Block → List Answer → Type 0
-AreAnswers nodes [] [] = Unit {0}
-AreAnswers nodes (block ∷ blocks) (a ∷ answers) = IsAnswer (problem_of block) nodes a × AreAnswers nodes blocks answers
-AreAnswers nodes blocks answers = ⊥
+abbrev pub AreAnswers : Profile → ℕ → List Block → List Answer → Type 0
+AreAnswers p nodes [] [] = Unit {0}
+AreAnswers p nodes (block ∷ blocks) (a ∷ answers) = IsAnswer (problem_of p block) nodes a × AreAnswers p nodes blocks answers
+AreAnswers p nodes blocks answers = ⊥
 
 -- each is best: its time is its bound
 abbrev pub all_best : List Answer → Bool
@@ -33,16 +33,16 @@ status_of answers = if all_best answers then Done else Bounded
 -- WHAT IS WRITTEN
 
 -- a block in the order of its answer; with the trace its splits are told
-abbrev pub placed_by : Bool → Block → Answer → Placed
-placed_by trace block a =
-    record { order = a.order; source = source_time (problem_of block); time = a.time; bound = a.bound; splits = if trace then Some a.splits else None }
+abbrev pub placed_by : Profile → Bool → Block → Answer → Placed
+placed_by p trace block a =
+    record { order = a.order; source = source_time (problem_of p block); time = a.time; bound = a.bound; splits = if trace then Some a.splits else None }
 
-abbrev pub all_placed : Bool → List Block → List Answer → List Placed
-all_placed trace (block ∷ blocks) (a ∷ answers) = placed_by trace block a ∷ all_placed trace blocks answers
-all_placed trace blocks answers = []
+abbrev pub all_placed : Profile → Bool → List Block → List Answer → List Placed
+all_placed p trace (block ∷ blocks) (a ∷ answers) = placed_by p trace block a ∷ all_placed p trace blocks answers
+all_placed p trace blocks answers = []
 
 -- for some answers, the source printed in their orders, and their status
-abbrev pub IsOrderOutput : (nodes : ℕ) (trace : Bool) (input text : List ℕ) → Status → Type 0
-IsOrderOutput nodes trace input text status =
+abbrev pub IsOrderOutput : Profile → (nodes : ℕ) (trace : Bool) (input text : List ℕ) → Status → Type 0
+IsOrderOutput p nodes trace input text status =
     (blocks : List Block) × (source_of input ≡ Ok blocks)
-    × ((answers : List Answer) × AreAnswers nodes blocks answers × (text ≡ printed input (all_placed trace blocks answers)) × (status ≡ status_of answers))
+    × ((answers : List Answer) × AreAnswers p nodes blocks answers × (text ≡ printed input (all_placed p trace blocks answers)) × (status ≡ status_of answers))

@@ -1,5 +1,6 @@
 -- To be believed: what each command writes for what it reads, and how it ends.
 use Rattle.std.specs.Prelude.{ℕ, ◌+◌, ◌≡◌, ◌≤◌, Bool, true, false, List, [], ◌∷◌, ◌++◌, Ok}
+use Rattle.s66_isa.specs.Table.{standard}
 use Rattle.s66_ledger.specs.declared.limits.TheConstants.{BUDGET_LIMIT}
 use Rattle.s66_line.specs.Source.{Block, source_of}
 use Rattle.s66_pool.specs.declared.limits.TheConstants.{WORKERS_LIMIT}
@@ -33,9 +34,9 @@ IsWithin Check = Unit {0}
 
 -- what a listing has of the n-th block, from 1
 abbrev pub block_lines : Listing → ℕ → Block → List ℕ
-block_lines (listing.Times trace) n block = time_lines trace n block
+block_lines (listing.Times p trace) n block = time_lines p trace n block
 block_lines listing.Dependences n block = deps_lines n block
-block_lines listing.Chart n block = chart_lines n block
+block_lines (listing.Chart p) n block = chart_lines p n block
 
 -- of these blocks, before which n blocks stand
 abbrev pub lines_of_blocks : Listing → ℕ → List Block → List ℕ
@@ -50,11 +51,11 @@ IsListing l input text = (blocks : List Block) × (source_of input ≡ Ok blocks
 
 -- for this input a command writes the text and ends so
 abbrev pub IsOutput : Command → (input text : List ℕ) → Status → Type 0
-IsOutput (Time trace) input text status = IsListing (listing.Times trace) input text × (status ≡ Done)
+IsOutput (Time trace) input text status = IsListing (listing.Times standard trace) input text × (status ≡ Done)
 IsOutput Deps input text status = IsListing listing.Dependences input text × (status ≡ Done)
-IsOutput Chart input text status = IsListing listing.Chart input text × (status ≡ Done)
-IsOutput (Order workers nodes trace) input text status = IsOrderOutput nodes trace input text status
-IsOutput (Prove workers nodes) input text status = IsProveOutput nodes input text status
+IsOutput Chart input text status = IsListing (listing.Chart standard) input text × (status ≡ Done)
+IsOutput (Order workers nodes trace) input text status = IsOrderOutput standard nodes trace input text status
+IsOutput (Prove workers nodes) input text status = IsProveOutput standard nodes input text status
 IsOutput Check input text status = IsCheckOutput input text status
 
 -- the command reads a source, and not documents

@@ -1,5 +1,6 @@
 -- Used by contracts within the crate alone: answers as they are printed.
 use Rattle.std.specs.Prelude.{ℕ, ◌≡◌, ◌==◌, Bool, List}
+use Rattle.s66_isa.specs.declared.profile.Profile.{Profile}
 use Rattle.s66_isa.specs.Lists.{every}
 use Rattle.s66_line.specs.Printed.{Placed}
 use Rattle.s66_line.specs.Source.{Block}
@@ -7,12 +8,12 @@ use Rattle.s66_model.specs.Answer.{Answer, IsAnswer}
 use Rattle.s66_program.specs.OrderText.{AreAnswers, all_placed, placed_by, problem_of}
 
 -- an answer to the block
-abbrev pub IsPlaced : ℕ → Bool → Block → Placed → Type 0
-IsPlaced nodes trace block p = (a : Answer) × IsAnswer (problem_of block) nodes a × (p ≡ placed_by trace block a)
+abbrev pub IsPlaced : Profile → ℕ → Bool → Block → Placed → Type 0
+IsPlaced p nodes trace block placed = (a : Answer) × IsAnswer (problem_of p block) nodes a × (placed ≡ placed_by p trace block a)
 
 -- an answer to each block
-abbrev pub AreAllPlaced : ℕ → Bool → List Block → List Placed → Type 0
-AreAllPlaced nodes trace blocks ps = (answers : List Answer) × AreAnswers nodes blocks answers × (ps ≡ all_placed trace blocks answers)
+abbrev pub AreAllPlaced : Profile → ℕ → Bool → List Block → List Placed → Type 0
+AreAllPlaced p nodes trace blocks ps = (answers : List Answer) × AreAnswers p nodes blocks answers × (ps ≡ all_placed p trace blocks answers)
 
 -- each report tells that its order is best
 abbrev pub tell_best : List Placed → Bool

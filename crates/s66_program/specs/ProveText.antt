@@ -1,7 +1,7 @@
 -- To be believed: what `prove` writes for a source, and how it ends: for each block the document of an answer of a search of its orders, of which there may be several.
 use Rattle.std.specs.Prelude.{ℕ, ◌≡◌, List, [], ◌∷◌, Ok, map}
 use Rattle.s66_isa.specs.declared.profile.Profile.{Profile}
-use Rattle.s66_isa.specs.Table.{entries, numbers, standard}
+use Rattle.s66_isa.specs.Table.{entries, numbers}
 use Rattle.s66_line.specs.Block.{instrs_of, text_of}
 use Rattle.s66_line.specs.Source.{Block, source_of}
 use Rattle.s66_model.specs.Answer.{Answer}
@@ -18,15 +18,12 @@ abbrev pub document_under : Profile → Block → Answer → Document
 document_under p block a =
     record { profile = entries p; block = texts_of block; time = a.time; bound = a.bound; numbers = a.order; tree = a.tree }
 
-abbrev pub document_by : Block → Answer → Document
-document_by block a = document_under standard block a
-
-abbrev pub all_documents : List Block → List Answer → List Document
-all_documents (block ∷ blocks) (a ∷ answers) = document_by block a ∷ all_documents blocks answers
-all_documents blocks answers = []
+abbrev pub all_documents : Profile → List Block → List Answer → List Document
+all_documents p (block ∷ blocks) (a ∷ answers) = document_under p block a ∷ all_documents p blocks answers
+all_documents p blocks answers = []
 
 -- for some answers, their documents, and their status
-abbrev pub IsProveOutput : (nodes : ℕ) (input text : List ℕ) → Status → Type 0
-IsProveOutput nodes input text status =
+abbrev pub IsProveOutput : Profile → (nodes : ℕ) (input text : List ℕ) → Status → Type 0
+IsProveOutput p nodes input text status =
     (blocks : List Block) × (source_of input ≡ Ok blocks)
-    × ((answers : List Answer) × AreAnswers nodes blocks answers × (text ≡ documents_text (all_documents blocks answers)) × (status ≡ status_of answers))
+    × ((answers : List Answer) × AreAnswers p nodes blocks answers × (text ≡ documents_text (all_documents p blocks answers)) × (status ≡ status_of answers))

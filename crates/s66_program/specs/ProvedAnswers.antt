@@ -1,5 +1,6 @@
 -- Used by contracts within the crate alone: blocks and the documents of their answers.
 use Rattle.std.specs.Prelude.{ℕ, ◌≡◌, ◌≤◌, ◌==◌, Bool, List, ◌++◌, length}
+use Rattle.s66_isa.specs.declared.profile.Profile.{Profile}
 use Rattle.s66_isa.specs.Table.{instr_at}
 use Rattle.s66_isa.specs.declared.limits.TheConstants.{BLOCK_LIMIT}
 use Rattle.s66_line.specs.Block.{instrs_of, text_of}
@@ -9,7 +10,7 @@ use Rattle.s66_model.specs.Answer.{Answer, IsAnswer}
 use Rattle.s66_cert.specs.Document.{document_text, documents_text}
 use Rattle.s66_program.specs.declared.outcome.Status.{Status}
 use Rattle.s66_program.specs.OrderText.{AreAnswers, problem_of, status_of}
-use Rattle.s66_program.specs.ProveText.{all_documents, document_by}
+use Rattle.s66_program.specs.ProveText.{all_documents, document_under}
 
 -- the text of each of the first instructions, so many, is one of it
 abbrev pub IsSpelledTo : Block → ℕ → Type 0
@@ -23,11 +24,11 @@ abbrev pub IsSpelledBlock : Block → Type 0
 IsSpelledBlock block = (1 ≤ length (instrs_of block)) × (length (instrs_of block) ≤ BLOCK_LIMIT) × IsSpelled block
 
 -- the document of an answer to the block was appended, which is best or not
-abbrev pub IsProved : ℕ → Block → (old new : List ℕ) → Bool → Type 0
-IsProved nodes block old new best =
-    (a : Answer) × IsAnswer (problem_of block) nodes a × (new ≡ old ++ document_text (document_by block a)) × (best ≡ (a.bound == a.time))
+abbrev pub IsProved : Profile → ℕ → Block → (old new : List ℕ) → Bool → Type 0
+IsProved p nodes block old new best =
+    (a : Answer) × IsAnswer (problem_of p block) nodes a × (new ≡ old ++ document_text (document_under p block a)) × (best ≡ (a.bound == a.time))
 
 -- the text is the documents of answers to the blocks, and the status is theirs
-abbrev pub AreProved : ℕ → List Block → (text : List ℕ) → Status → Type 0
-AreProved nodes blocks text status =
-    (answers : List Answer) × AreAnswers nodes blocks answers × (text ≡ documents_text (all_documents blocks answers)) × (status ≡ status_of answers)
+abbrev pub AreProved : Profile → ℕ → List Block → (text : List ℕ) → Status → Type 0
+AreProved p nodes blocks text status =
+    (answers : List Answer) × AreAnswers p nodes blocks answers × (text ≡ documents_text (all_documents p blocks answers)) × (status ≡ status_of answers)

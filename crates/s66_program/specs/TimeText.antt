@@ -1,6 +1,7 @@
 -- To be believed: what `time` writes of a block: a line and, with its trace, a line for each instruction.
 use Rattle.std.specs.Prelude.{ℕ, ◌+◌, Bool, if◌then◌else◌, List, [], ◌∷◌, ◌++◌, length, map, codes, decimal}
 use Rattle.s66_isa.specs.declared.instr.Instr.{Instr}
+use Rattle.s66_isa.specs.declared.profile.Profile.{Profile}
 use Rattle.s66_isa.specs.Lists.{weigh}
 use Rattle.s66_isa.specs.Table.{parcels_of, numbers}
 use Rattle.s66_model.specs.Packing.{fillers, len_at}
@@ -20,11 +21,11 @@ abbrev pub fillers_as_written : List Instr → ℕ
 fillers_as_written block = length (fillers 0 (map (len_at block) (numbers block)))
 
 -- the line of the n-th block, from 1
-abbrev pub time_line : ℕ → Block → List ℕ
-time_line n block =
+abbrev pub time_line : Profile → ℕ → Block → List ℕ
+time_line p n block =
     block_head n block ++ codes " COUNT " ++ decimal (length (instrs_of block))
     ++ codes " PARCELS " ++ decimal (parcels_in (instrs_of block)) ++ codes " NO " ++ decimal (fillers_as_written (instrs_of block))
-    ++ codes " TIME " ++ decimal (total_time (as_written (instrs_of block))) ++ codes "\n"
+    ++ codes " TIME " ++ decimal (total_time (as_written p (instrs_of block))) ++ codes "\n"
 
 -- the line of the instruction of this number, which stands at a position, from 0
 abbrev pub trace_line : TimedOrder → ℕ → ℕ → List ℕ
@@ -39,5 +40,5 @@ trace_lines t position [] = []
 trace_lines t position (n ∷ ns) = trace_line t position n ++ trace_lines t (position + 1) ns
 
 -- the lines of the n-th block, from 1
-abbrev pub time_lines : Bool → ℕ → Block → List ℕ
-time_lines trace n block = time_line n block ++ (if trace then trace_lines (as_written (instrs_of block)) 0 (numbers (instrs_of block)) else [])
+abbrev pub time_lines : Profile → Bool → ℕ → Block → List ℕ
+time_lines p trace n block = time_line p n block ++ (if trace then trace_lines (as_written p (instrs_of block)) 0 (numbers (instrs_of block)) else [])

@@ -1,7 +1,7 @@
 ghost use Rattle.std.specs.Prelude.{◌≡◌, ◌++◌, OnOk};
 ghost use Rattle.s66_line.specs.Block.{instrs_of};
 ghost use Rattle.s66_chart.specs.Chart.{chart_text};
-ghost use Rattle.s66_program.specs.AsWritten.{as_written, total_time};
+ghost use Rattle.s66_program.specs.AsWritten.{as_written};
 ghost use Rattle.s66_program.specs.ChartText.{chart_line, chart_lines};
 
 use crate::fields::push_block_head;
@@ -13,18 +13,18 @@ use s66_time::{Timed, time_of};
 use std::alloc::{AllocError, Global};
 use std::mem;
 
-/// The line of a block, whose number is from 1.
+/// The line of a block, whose number is from 1, and which is timed as it was written.
 fn push_chart_line(
     out: &mut Vec<u8>,
     number: usize,
     block: &Block,
-    total: u32,
+    timed: &Timed,
 ) -> Result<(), AllocError>
-    requires { total ≡ total_time (as_written (instrs_of block.now)) }
-    ensures { OnOk result (out.new.items ≡ out.old.items ++ chart_line number block.now) }
+    requires { timed.now ≡ as_written timed.now.problem.profile (instrs_of block.now) }
+    ensures { OnOk result (out.new.items ≡ out.old.items ++ chart_line timed.now.problem.profile number block.now) }
 {
     push_block_head(out, number, block)?;
-    push_field(out, b" TIME ", total as usize)?;
+    push_field(out, b" TIME ", timed.total() as usize)?;
     out.extend_from_slice(b"\n")
 }
 
@@ -41,16 +41,17 @@ fn push_chart(alloc: Global, out: &mut Vec<u8>, timed: &Timed) -> Result<(), All
     }
 }
 
-/// The lines of a block, whose number is from 1.
+/// The lines of a block, whose number is from 1, under a profile.
 pub fn push_chart_lines(
     alloc: Global,
     out: &mut Vec<u8>,
+    profile: &Profile,
     number: usize,
     block: &Block,
 ) -> Result<(), AllocError>
-    ensures { OnOk result (out.new.items ≡ out.old.items ++ chart_lines number block.now) }
+    ensures { OnOk result (out.new.items ≡ out.old.items ++ chart_lines profile.now number block.now) }
 {
-    let timed = time_of(block, &Profile::standard(), &Order::source(block));
-    push_chart_line(out, number, block, timed.total())?;
+    let timed = time_of(block, profile, &Order::source(block));
+    push_chart_line(out, number, block, &timed)?;
     push_chart(alloc, out, &timed)
 }

@@ -1,7 +1,6 @@
 ghost use Rattle.std.specs.Prelude.{◌≡◌, IfOk};
 ghost use Rattle.s66_line.specs.Block.{instrs_of};
 ghost use Rattle.s66_ledger.specs.Answers.{answer_of};
-ghost use Rattle.s66_isa.specs.Table.{entries};
 ghost use Rattle.s66_cert.specs.DocumentParts.{document_of};
 ghost use Rattle.s66_program.specs.ProveText.{document_under, texts_of};
 ghost use Rattle.s66_program.specs.ProvedAnswers.{IsSpelled};
@@ -12,31 +11,6 @@ use s66_isa::{BLOCK_LIMIT, Profile};
 use s66_ledger::{Answer, BUDGET_LIMIT};
 use s66_line::Block;
 use std::alloc::{AllocError, Global};
-
-/// The times of a profile, then its copies of units.
-fn profile_numbers(profile: &Profile) -> ArrayVec<u8, PROFILE_LENGTH>
-    ensures { result.items ≡ entries profile.now }
-{
-    ArrayVec::from([
-        profile.boolean as u8,
-        profile.shift as u8,
-        profile.normalise as u8,
-        profile.add as u8,
-        profile.longadd as u8,
-        profile.multiply as u8,
-        profile.divide as u8,
-        profile.population as u8,
-        profile.increment as u8,
-        profile.load as u8,
-        profile.units_boolean as u8,
-        profile.units_shift as u8,
-        profile.units_add as u8,
-        profile.units_longadd as u8,
-        profile.units_multiply as u8,
-        profile.units_divide as u8,
-        profile.units_increment as u8,
-    ])
-}
 
 /// The instructions of a block with their texts.
 fn texts_of(alloc: Global, block: &Block) -> Result<Vec<InstructionText>, AllocError>
@@ -70,7 +44,7 @@ pub fn document_of(
     prove!(block.count() <= BLOCK_LIMIT);
     prove!(answer.splits() <= BUDGET_LIMIT);
     Ok(Document::new(Claim {
-        profile: profile_numbers(profile),
+        profile: ArrayVec::from(profile.entries()),
         block: texts_of(alloc, block)?,
         time: answer.time(),
         bound: answer.bound(),

@@ -1,7 +1,9 @@
 //! What becomes of the output of `order` and `prove` that is read again: contracts of functions that do nothing.
 
 ghost use Rattle.std.specs.Prelude.{ℕ, Bool, false, List, [], ◌∷◌, ◌++◌, map, Ok, ◌≡◌, ◌≤◌, codes};
+ghost use Rattle.s66_isa.specs.declared.profile.Profile.{Profile};
 ghost use Rattle.s66_isa.specs.Lists.{Among};
+ghost use Rattle.s66_isa.specs.Table.{standard};
 ghost use Rattle.s66_line.specs.Printed.{printed};
 ghost use Rattle.s66_line.specs.Source.{Block, source_of};
 ghost use Rattle.s66_isa.specs.declared.limits.TheConstants.{BLOCK_LIMIT};
@@ -19,34 +21,35 @@ ghost use Rattle.s66_program.specs.CheckedAnswers.{AreYesLines, yes_lines};
 ghost use Rattle.s66_program.specs.Examples.{blocks_in, one_load_answer, one_load_ordered, one_load_source};
 ghost use Rattle.s66_program.specs.OrderText.{IsOrderOutput, all_placed, problem_of};
 ghost use Rattle.s66_program.specs.OrderedAgain.{TakePrintedTimes, written_time};
-ghost use Rattle.s66_program.specs.ProveText.{IsProveOutput, all_documents, document_by};
+ghost use Rattle.s66_program.specs.ProveText.{IsProveOutput, all_documents, document_under};
 
-/// If what `order` wrote for a source is accepted again, each of its blocks takes as written the time that was printed of it.
+/// If what `order` wrote for a source is accepted again, each of its blocks takes as written, under the same profile, the time
+/// that was printed of it.
 pub fn ordered_again_law()
-    ensures { (nodes : ℕ) (trace : Bool) (input text : List ℕ) (status : Status) (again : List Block) → IsOrderOutput nodes trace input text status → source_of text ≡ Ok again → TakePrintedTimes nodes trace input text again }
+    ensures { (p : Profile) (nodes : ℕ) (trace : Bool) (input text : List ℕ) (status : Status) (again : List Block) → IsOrderOutput p nodes trace input text status → source_of text ≡ Ok again → TakePrintedTimes p nodes trace input text again }
 {}
 
-/// What a search answers of a block of an accepted source makes a document, of the block's own problem, and the verdict on it is yes,
-/// with the answer's time and bound.
+/// What a search answers of a block of an accepted source, under any profile, makes a document, of the block's own problem, and the
+/// verdict on it is yes, with the answer's time and bound.
 pub fn proved_law()
-    ensures same { (text : List ℕ) (blocks : List Block) (block : Block) (a : Answer) → source_of text ≡ Ok blocks → Among block blocks → checker.problem_of (document_by block a) ≡ problem_of block }
-    ensures document { (text : List ℕ) (blocks : List Block) (block : Block) (budget : ℕ) (a : Answer) → source_of text ≡ Ok blocks → Among block blocks → budget ≤ BUDGET_LIMIT → IsAnswer (problem_of block) budget a → IsDocument BLOCK_LIMIT (document_by block a) }
-    ensures yes { (text : List ℕ) (blocks : List Block) (block : Block) (budget : ℕ) (a : Answer) → source_of text ≡ Ok blocks → Among block blocks → budget ≤ BUDGET_LIMIT → IsAnswer (problem_of block) budget a → verdict (document_by block a) ≡ Yes a.time a.bound }
+    ensures same { (p : Profile) (text : List ℕ) (blocks : List Block) (block : Block) (a : Answer) → source_of text ≡ Ok blocks → Among block blocks → checker.problem_of (document_under p block a) ≡ problem_of p block }
+    ensures document { (p : Profile) (text : List ℕ) (blocks : List Block) (block : Block) (budget : ℕ) (a : Answer) → source_of text ≡ Ok blocks → Among block blocks → budget ≤ BUDGET_LIMIT → IsAnswer (problem_of p block) budget a → IsDocument BLOCK_LIMIT (document_under p block a) }
+    ensures yes { (p : Profile) (text : List ℕ) (blocks : List Block) (block : Block) (budget : ℕ) (a : Answer) → source_of text ≡ Ok blocks → Among block blocks → budget ≤ BUDGET_LIMIT → IsAnswer (problem_of p block) budget a → verdict (document_under p block a) ≡ Yes a.time a.bound }
 {}
 
-/// What `prove` wrote for a source is a text of documents, for each of which `check` writes YES, with the answer's time and bound; it
+/// What `prove` wrote for a source, under any profile, is a text of documents, for each of which `check` writes YES, with the answer's time and bound; it
 /// writes nothing else, and is done.
 pub fn checked_law()
-    ensures yes { (nodes : ℕ) (input text : List ℕ) (status : Status) → nodes ≤ BUDGET_LIMIT → IsProveOutput nodes input text status → (lines : List ℕ) × AreYesLines nodes input text lines × IsCheckOutput text lines Done }
-    ensures alone { (nodes : ℕ) (input text lines : List ℕ) (status checked : Status) → nodes ≤ BUDGET_LIMIT → IsProveOutput nodes input text status → IsCheckOutput text lines checked → AreYesLines nodes input text lines × (checked ≡ Done) }
+    ensures yes { (p : Profile) (nodes : ℕ) (input text : List ℕ) (status : Status) → nodes ≤ BUDGET_LIMIT → IsProveOutput p nodes input text status → (lines : List ℕ) × AreYesLines p nodes input text lines × IsCheckOutput text lines Done }
+    ensures alone { (p : Profile) (nodes : ℕ) (input text lines : List ℕ) (status checked : Status) → nodes ≤ BUDGET_LIMIT → IsProveOutput p nodes input text status → IsCheckOutput text lines checked → AreYesLines p nodes input text lines × (checked ≡ Done) }
 {}
 
 /// The worked block of one load, as `order` and `prove` write it, and what `time` and `check` then write; and other documents of it.
-#[tactic(auto, unfolding(s66_isa::specs::Table::row, s66_model::specs::Dependence::conflict, s66_model::specs::Timing::issue_of, s66_model::specs::Timing::start_of, s66_model::specs::Timing::point, crate::specs::Examples::digits))]
+#[tactic(auto, unfolding(s66_isa::specs::Profiles::profile_of, s66_isa::specs::Table::row, s66_model::specs::Dependence::conflict, s66_model::specs::Timing::issue_of, s66_model::specs::Timing::start_of, s66_model::specs::Timing::point, crate::specs::Examples::digits))]
 pub fn again_examples()
-    ensures ordered { printed one_load_source (all_placed false (blocks_in one_load_source) (one_load_answer ∷ [])) ≡ one_load_ordered }
-    ensures time_again { map written_time (blocks_in one_load_ordered) ≡ 12 ∷ [] }
-    ensures proved { all_documents (blocks_in one_load_source) (one_load_answer ∷ []) ≡ one_load ∷ [] }
+    ensures ordered { printed one_load_source (all_placed standard false (blocks_in one_load_source) (one_load_answer ∷ [])) ≡ one_load_ordered }
+    ensures time_again { map (written_time standard) (blocks_in one_load_ordered) ≡ 12 ∷ [] }
+    ensures proved { all_documents standard (blocks_in one_load_source) (one_load_answer ∷ []) ≡ one_load ∷ [] }
     ensures yes { yes_lines 0 (one_load_answer ∷ []) ≡ codes "DOCUMENT 1 YES TIME 12 BOUND 12\n" }
     ensures checked { verdict_lines 0 (one_load ∷ with_times 12 11 ∷ with_times 12 13 ∷ []) ≡ codes "DOCUMENT 1 YES TIME 12 BOUND 12\n" ++ codes "DOCUMENT 2 YES TIME 12 BOUND 11\n" ++ codes "DOCUMENT 3 NO LINE 8 REASON 8\n" }
     ensures done { verdicts_status (one_load ∷ with_times 12 11 ∷ []) ≡ Done }

@@ -34,19 +34,19 @@ impl Model for Found {
     ghost view = { λ f. record { order = f.order.numbers; source = f.source; time = f.time; bound = f.bound; splits = f.splits } };
 }
 
-/// Searches the orders of a block.
+/// Searches the orders of a block under a profile.
 fn search<R: AllocGlobal + Threads + Wait + Sync>(
     rt: &R,
     block: &Block,
+    profile: &Profile,
     options: Options,
     trace: bool,
 ) -> Result<Found, AllocError>
     requires { IsSearchWithin options.workers options.nodes }
-    ensures { IfOk result (λ found. IsPlaced options.nodes trace block.now found) }
+    ensures { IfOk result (λ found. IsPlaced profile.now options.nodes trace block.now found) }
 {
-    let profile = Profile::standard();
-    let source = time_of(block, &profile, &Order::source(block)).total();
-    let answer = run(rt, block, &profile, options, &Free)?;
+    let source = time_of(block, profile, &Order::source(block)).total();
+    let answer = run(rt, block, profile, options, &Free)?;
     Ok(Found {
         order: answer.order().duplicate(),
         source,
@@ -60,17 +60,18 @@ fn search<R: AllocGlobal + Threads + Wait + Sync>(
 fn search_all<R: AllocGlobal + Threads + Wait + Sync, O: Observer>(
     rt: &R,
     blocks: &[Block],
+    profile: &Profile,
     options: Options,
     trace: bool,
     observer: &mut O,
 ) -> Result<Vec<Found>, AllocError>
     requires { IsSearchWithin options.workers options.nodes }
-    ensures { IfOk result (λ found. AreAllPlaced options.nodes trace blocks.now found.items) }
+    ensures { IfOk result (λ found. AreAllPlaced profile.now options.nodes trace blocks.now found.items) }
 {
     let mut found = Vec::new(rt.alloc());
     for block in blocks {
         observer.done(found.len(), blocks.len());
-        found.push(search(rt, block, options, trace)?)?;
+        found.push(search(rt, block, profile, options, trace)?)?;
     }
     Ok(found)
 }
@@ -104,19 +105,20 @@ fn placed_of<'a>(alloc: Global, found: &'a [Found]) -> Result<Vec<Placed<'a>>, A
     Ok(placed)
 }
 
-/// A source with each block in the best order that a search finds.
+/// A source with each block in the best order that a search finds under a profile.
 pub fn order_output<R: AllocGlobal + Threads + Wait + Sync, O: Observer>(
     rt: &R,
     source: &Source,
+    profile: &Profile,
     options: Options,
     trace: bool,
     observer: &mut O,
 ) -> Result<Output, AllocError>
     requires { IsSearchWithin options.workers options.nodes }
-    ensures { IfOk result (λ output. IsOrderOutput options.nodes trace source.now output.text.items output.status) }
+    ensures { IfOk result (λ output. IsOrderOutput profile.now options.nodes trace source.now output.text.items output.status) }
 {
     let alloc = rt.alloc();
-    let found = search_all(rt, source.blocks(), options, trace, observer)?;
+    let found = search_all(rt, source.blocks(), profile, options, trace, observer)?;
     let placed = placed_of(alloc, found.as_slice())?;
     Ok(Output {
         text: print_source(alloc, source, placed.as_slice())?,

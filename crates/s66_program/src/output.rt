@@ -12,6 +12,7 @@ use crate::order_text::order_output;
 use crate::outcome::{Fault, Output, Status};
 use crate::prove_text::prove_output;
 use crate::time_text::push_time_lines;
+use s66_isa::Profile;
 use s66_line::{Block, Source, read_source};
 use s66_pool::Options;
 use std::alloc::{AllocError, Global};
@@ -22,33 +23,36 @@ use std::thread::Threads;
 #[derive(Clone, Copy, Debug, PartialEq, Eq)]
 pub enum Listing {
     Times {
+        profile: Profile,
         /// Whether each instruction is told.
         trace: bool,
     },
     Dependences,
-    Chart,
+    Chart {
+        profile: Profile,
+    },
 }
 
 /// The lines of a block, whose number is from 1.
 fn push_block(
     alloc: Global,
     out: &mut Vec<u8>,
-    listing: Listing,
+    listing: &Listing,
     number: usize,
     block: &Block,
 ) -> Result<(), AllocError>
-    ensures { OnOk result (out.new.items ≡ out.old.items ++ block_lines listing number block.now) }
+    ensures { OnOk result (out.new.items ≡ out.old.items ++ block_lines listing.now number block.now) }
 {
     match listing {
-        Listing::Times { trace } => push_time_lines(out, trace, number, block),
+        Listing::Times { profile, trace } => push_time_lines(out, profile, *trace, number, block),
         Listing::Dependences => push_deps_lines(out, number, block),
-        Listing::Chart => push_chart_lines(alloc, out, number, block),
+        Listing::Chart { profile } => push_chart_lines(alloc, out, profile, number, block),
     }
 }
 
 /// The listing of these blocks.
-fn text_of_blocks(alloc: Global, listing: Listing, blocks: &[Block]) -> Result<Vec<u8>, AllocError>
-    ensures { IfOk result (λ text. text.items ≡ lines_of_blocks listing 0 blocks.now) }
+fn text_of_blocks(alloc: Global, listing: &Listing, blocks: &[Block]) -> Result<Vec<u8>, AllocError>
+    ensures { IfOk result (λ text. text.items ≡ lines_of_blocks listing.now 0 blocks.now) }
 {
     let mut out = Vec::new(alloc);
     for (i, block) in blocks.iter().enumerate() {
@@ -58,8 +62,8 @@ fn text_of_blocks(alloc: Global, listing: Listing, blocks: &[Block]) -> Result<V
 }
 
 /// The listing of a source's blocks.
-fn listing_output(alloc: Global, listing: Listing, source: &Source) -> Result<Output, AllocError>
-    ensures { IfOk result (λ output. IsListing listing source.now output.text.items × (output.status ≡ Done)) }
+fn listing_output(alloc: Global, listing: &Listing, source: &Source) -> Result<Output, AllocError>
+    ensures { IfOk result (λ output. IsListing listing.now source.now output.text.items × (output.status ≡ Done)) }
 {
     Ok(Output {
         text: text_of_blocks(alloc, listing, source.blocks())?,
@@ -80,25 +84,37 @@ pub fn output_for<R: AllocGlobal + Threads + Wait + Sync, O: Observer>(
     ensures err { IfErr result (IsRefusal command input.now) }
 {
     let alloc = rt.alloc();
+    let profile = Profile::standard();
     let output = match command {
         Command::Time { trace } => {
-            listing_output(alloc, Listing::Times { trace }, &read_source(alloc, input)?)?
+            let listing = Listing::Times { profile, trace };
+            listing_output(alloc, &listing, &read_source(alloc, input)?)?
         }
         Command::Deps => {
-            listing_output(alloc, Listing::Dependences, &read_source(alloc, input)?)?
+            listing_output(alloc, &Listing::Dependences, &read_source(alloc, input)?)?
         }
-        Command::Chart => listing_output(alloc, Listing::Chart, &read_source(alloc, input)?)?,
+        Command::Chart => {
+            let listing = Listing::Chart { profile };
+            listing_output(alloc, &listing, &read_source(alloc, input)?)?
+        }
         Command::Order {
             workers,
             nodes,
             trace,
         } => {
             let options = Options { workers, nodes };
-            order_output(rt, &read_source(alloc, input)?, options, trace, observer)?
+            order_output(
+                rt,
+                &read_source(alloc, input)?,
+                &profile,
+                options,
+                trace,
+                observer,
+            )?
         }
         Command::Prove { workers, nodes } => {
             let options = Options { workers, nodes };
-            prove_output(rt, &read_source(alloc, input)?, options, observer)?
+            prove_output(rt, &read_source(alloc, input)?, &profile, options, observer)?
         }
         Command::Check => check_output(alloc, input, observer)?,
     };

@@ -30,20 +30,20 @@ fn push_document(alloc: Global, out: &mut Vec<u8>, document: &Document) -> Resul
     }
 }
 
-/// The document of an answer that a search of the block's orders finds, and whether the answer is best.
+/// The document of an answer that a search of the block's orders under a profile finds, and whether the answer is best.
 fn push_proof<R: AllocGlobal + Threads + Wait + Sync>(
     rt: &R,
     out: &mut Vec<u8>,
     block: &Block,
+    profile: &Profile,
     options: Options,
 ) -> Result<bool, AllocError>
     requires { IsSearchWithin options.workers options.nodes }
-    ensures { IfOk result (λ best. IsProved options.nodes block.now out.old.items out.new.items best) }
+    ensures { IfOk result (λ best. IsProved profile.now options.nodes block.now out.old.items out.new.items best) }
 {
     let alloc = rt.alloc();
-    let profile = Profile::standard();
-    let answer = run(rt, block, &profile, options, &Free)?;
-    let document = document_of(alloc, block, &profile, &answer)?;
+    let answer = run(rt, block, profile, options, &Free)?;
+    let document = document_of(alloc, block, profile, &answer)?;
     push_document(alloc, out, &document)?;
     Ok(answer.is_best())
 }
@@ -52,17 +52,18 @@ fn push_proof<R: AllocGlobal + Threads + Wait + Sync>(
 fn prove_all<R: AllocGlobal + Threads + Wait + Sync, O: Observer>(
     rt: &R,
     blocks: &[Block],
+    profile: &Profile,
     options: Options,
     observer: &mut O,
 ) -> Result<Output, AllocError>
     requires { IsSearchWithin options.workers options.nodes }
-    ensures { IfOk result (λ output. AreProved options.nodes blocks.now output.text.items output.status) }
+    ensures { IfOk result (λ output. AreProved profile.now options.nodes blocks.now output.text.items output.status) }
 {
     let mut text = Vec::new(rt.alloc());
     let mut all_best = true;
     for (done, block) in blocks.iter().enumerate() {
         observer.done(done, blocks.len());
-        let best = push_proof(rt, &mut text, block, options)?;
+        let best = push_proof(rt, &mut text, block, profile, options)?;
         all_best = all_best && best;
     }
     let status = if all_best {
@@ -73,15 +74,16 @@ fn prove_all<R: AllocGlobal + Threads + Wait + Sync, O: Observer>(
     Ok(Output { text, status })
 }
 
-/// A document for each block of a source, of the answer that a search finds.
+/// A document for each block of a source, of the answer that a search finds under a profile.
 pub fn prove_output<R: AllocGlobal + Threads + Wait + Sync, O: Observer>(
     rt: &R,
     source: &Source,
+    profile: &Profile,
     options: Options,
     observer: &mut O,
 ) -> Result<Output, AllocError>
     requires { IsSearchWithin options.workers options.nodes }
-    ensures { IfOk result (λ output. IsProveOutput options.nodes source.now output.text.items output.status) }
+    ensures { IfOk result (λ output. IsProveOutput profile.now options.nodes source.now output.text.items output.status) }
 {
-    prove_all(rt, source.blocks(), options, observer)
+    prove_all(rt, source.blocks(), profile, options, observer)
 }

@@ -1,6 +1,6 @@
 ghost use Rattle.std.specs.Prelude.{◌≡◌, ◌<◌, ◌++◌, length, OnOk};
 ghost use Rattle.s66_line.specs.Block.{instrs_of};
-ghost use Rattle.s66_program.specs.AsWritten.{as_written, total_time};
+ghost use Rattle.s66_program.specs.AsWritten.{as_written};
 ghost use Rattle.s66_program.specs.TimeText.{fillers_as_written, time_line, trace_line, trace_lines, time_lines};
 
 use crate::fields::push_block_head;
@@ -10,24 +10,24 @@ use s66_line::{Block, push_field};
 use s66_time::{Timed, pack, time_of};
 use std::alloc::AllocError;
 
-/// The line of a block, whose number is from 1.
+/// The line of a block, whose number is from 1, and which is timed as it was written.
 fn push_time_line(
     out: &mut Vec<u8>,
     number: usize,
     block: &Block,
     fillers: usize,
-    total: u32,
+    timed: &Timed,
 ) -> Result<(), AllocError>
     requires fillers { fillers ≡ fillers_as_written (instrs_of block.now) }
-    requires total { total ≡ total_time (as_written (instrs_of block.now)) }
-    ensures { OnOk result (out.new.items ≡ out.old.items ++ time_line number block.now) }
+    requires timed { timed.now ≡ as_written timed.now.problem.profile (instrs_of block.now) }
+    ensures { OnOk result (out.new.items ≡ out.old.items ++ time_line timed.now.problem.profile number block.now) }
 {
     let count = block.count();
     push_block_head(out, number, block)?;
     push_field(out, b" COUNT ", count)?;
     push_field(out, b" PARCELS ", block.parcels() as usize)?;
     push_field(out, b" NO ", fillers)?;
-    push_field(out, b" TIME ", total as usize)?;
+    push_field(out, b" TIME ", timed.total() as usize)?;
     out.extend_from_slice(b"\n")
 }
 
@@ -61,19 +61,20 @@ fn push_trace(out: &mut Vec<u8>, timed: &Timed) -> Result<(), AllocError>
     Ok(())
 }
 
-/// The lines of a block, whose number is from 1.
+/// The lines of a block, whose number is from 1, under a profile.
 pub fn push_time_lines(
     out: &mut Vec<u8>,
+    profile: &Profile,
     trace: bool,
     number: usize,
     block: &Block,
 ) -> Result<(), AllocError>
-    ensures { OnOk result (out.new.items ≡ out.old.items ++ time_lines trace number block.now) }
+    ensures { OnOk result (out.new.items ≡ out.old.items ++ time_lines profile.now trace number block.now) }
 {
     let order = Order::source(block);
     let fillers = pack(block, &order).fillers.len();
-    let timed = time_of(block, &Profile::standard(), &order);
-    push_time_line(out, number, block, fillers, timed.total())?;
+    let timed = time_of(block, profile, &order);
+    push_time_line(out, number, block, fillers, &timed)?;
     if trace {
         push_trace(out, &timed)?;
     }

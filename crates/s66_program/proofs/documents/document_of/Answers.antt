@@ -1,4 +1,4 @@
-use Rattle.std.proofs.Common.{◌≡◌, ◌∙◌, ap, sym, subst, arith}
+use Rattle.std.proofs.Common.{◌≡◌, ◌∙◌, ap, sym, subst, arith, rules}
 use Rattle.s66_dep.specs.Ordered.{Ordered}
 use Rattle.s66_line.specs.Block.{instrs_of}
 use Rattle.s66_model.specs.Answer.{IsAnswer}
@@ -11,7 +11,7 @@ use Rattle.s66_program.proofs.documents.document_of.Goals as goal
 -- what the claim says, and the answer's own parts
 abbrev claimed : goal.In_ok-tree → Parts
 claimed c = record {
-  profile = c.profile_numbers.result.items;
+  profile = c.from.result.items;
   block = c.in_ok-texts_of.field-0.items;
   time = c.time.result;
   bound = c.bound.result;
@@ -24,7 +24,7 @@ own c = parts_under c.args.profile.now c.args.block.now (answer_of c.args.answer
 
 same : (c : goal.In_ok-tree) → claimed c ≡ own c
 same c =
-    same-parts (claimed c) (own c) c.profile_numbers.ensures (c.in_ok-texts_of.ensures.texts) c.time.ensures.value c.bound.ensures.value
+    same-parts (claimed c) (own c) (search rules) (c.in_ok-texts_of.ensures.texts) c.time.ensures.value c.bound.ensures.value
     (c.in-Ok.ensures.0 ∙ c.numbers.ensures.value ∙ ap (λ (o : Ordered). o.numbers) c.order.ensures) c.in_ok-tree.ensures
 
 is : (c : goal.In_ok-tree) → IsAnswer (record { block = instrs_of c.args.block.now; profile = c.args.profile.now }) c.args.answer.now.budget (answer_of c.args.answer.now)

@@ -1,30 +1,23 @@
-use Rattle.std.proofs.Common.{◌≡◌, ◌==◌, ◌∙◌, ◌++◌, ap, subst}
+use Rattle.std.proofs.Common.{◌==◌, ◌∙◌, ◌++◌, ap, subst}
 use Rattle.std.specs.Cmp.{both_ways}
 use Rattle.std.proofs.lemmas.Bool.{eq-eqb, eqb-true}
-use Rattle.s66_isa.specs.declared.profile.Profile.{Profile}
-use Rattle.s66_line.specs.Block.{instrs_of}
 use Rattle.s66_model.specs.Answer.{IsAnswer}
 use Rattle.s66_model.specs.Timing.{Problem}
 use Rattle.s66_ledger.specs.Answers.{answer_of}
 use Rattle.s66_cert.specs.Document.{Document, document_text}
-use Rattle.s66_cert.specs.DocumentParts.{document_of}
 use Rattle.s66_program.specs.OrderText.{problem_of}
-use Rattle.s66_program.specs.ProveText.{document_by, document_under}
 use Rattle.s66_program.proofs.prove_text.push_proof.Goals as goal
 
 pub returns : goal.returns
 returns g c =
+    let p = c.args.profile.now in
     let block = c.args.block.now in
     let answer = c.in_ok-answer.answer in
     let a = answer_of answer in
-    let problem : answer.problem ≡ problem_of block =
-    c.in_ok-answer.ensures.problem ∙ ap (λ (p : Profile). record { block = instrs_of block; profile = p }) c.standard-profile.ensures in
-    let is : IsAnswer (problem_of block) c.args.options.nodes a =
-    subst (λ (b : Problem). IsAnswer b c.args.options.nodes a) problem (subst (λ n. IsAnswer answer.problem n a) c.in_ok-answer.ensures.budget c.is_best.ensures.answer) in
-    let says : document_of c.in_ok-document.document ≡ document_by block a =
-    c.in_ok-document.ensures ∙ ap (λ (p : Profile). document_under p block a) c.standard-profile.ensures in (
+    let is : IsAnswer (problem_of p block) c.args.options.nodes a =
+    subst (λ (b : Problem). IsAnswer b c.args.options.nodes a) c.in_ok-answer.ensures.problem (subst (λ n. IsAnswer answer.problem n a) c.in_ok-answer.ensures.budget c.is_best.ensures.answer) in (
       a,
       is,
-      c.in_ok-push_document.ensures ∙ ap (λ (d : Document). c.args.out.now.items ++ document_text d) says,
+      c.in_ok-push_document.ensures ∙ ap (λ (d : Document). c.args.out.now.items ++ document_text d) c.in_ok-document.ensures,
       both_ways c.is_best.result (a.bound == a.time) (λ is. eq-eqb a.bound a.time (c.is_best.ensures.value.0 is)) (λ is. c.is_best.ensures.value.1 (eqb-true a.bound a.time is)),
     )
