@@ -70,3 +70,20 @@ fn proves_and_checks_large_trees(rt: HostRuntime) -> Result<(), Fail> {
     assert_eq!(rt; verdicts.as_slice(), yes.as_bytes());
     Ok(())
 }
+
+/// A chain of the most instructions that a block has is proved, and its document is checked.
+#[test]
+fn proves_and_checks_a_block_of_128(rt: HostRuntime) -> Result<(), Fail> {
+    let prove = Command::Prove {
+        workers: 1,
+        nodes: 0,
+    };
+    let source = "  BX0 X0\n".repeat(rt.alloc(), 128)?;
+    let (result, document) = run(&rt, prove, source.as_bytes());
+    assert_eq!(rt; result, Ok(Status::Done));
+    let (result, verdict) = run(&rt, Command::Check, document.as_slice());
+    assert_eq!(rt; result, Ok(Status::Done));
+    let yes = "DOCUMENT 1 YES TIME 512 BOUND 512\n";
+    assert_eq!(rt; verdict.as_slice(), yes.as_bytes());
+    Ok(())
+}

@@ -14,11 +14,11 @@ const CODE: [&str; 8] = [
     "NX0 B2,X0 ",
 ];
 
-/// The most lines, each of the most bytes; each 64th has a label.
+/// The most lines, each of the most bytes; each that begins a block of 128 has a label.
 fn longest_source<R: AllocGlobal>(rt: &R) -> Result<String, AllocError> {
     let mut source = String::new(rt.alloc());
     for i in 0..SOURCE_LINES_LIMIT as usize {
-        let label = if i % 64 == 0 {
+        let label = if i % 128 == 0 {
             format!(in rt.alloc(); "LABEL{i:05}")?
         } else {
             String::new(rt.alloc())
@@ -51,24 +51,24 @@ fn keeps_memory(rt: HostRuntime) -> Result<(), Fail> {
         "longest source, trace",
         TRACE,
         longest,
-        998_148,
-        1_293_134_652,
+        1_040_355,
+        2_191_233_989,
     );
     check_sum(
         &rt,
         "longest source, deps",
         DEPS,
         longest,
-        920_629,
-        2_467_588_895,
+        1_781_212,
+        2_081_357_281,
     );
     check_sum(
         &rt,
         "longest source, chart",
         CHART,
         longest,
-        2_523_507,
-        1_604_942_136,
+        4_861_722,
+        531_766_293,
     );
     let most = labelled_source(&rt)?;
     let most = most.as_bytes();

@@ -70,7 +70,23 @@ const REPEATED: &[(&str, &[&str], &str, usize, u8, &str)] = &[
         "  BX0 X0\n",
         65,
         0,
-        "BLOCK 1 LINE 1 COUNT 64 PARCELS 64 NO 0 TIME 256\nBLOCK 2 LINE 65 COUNT 1 PARCELS 1 NO 0 TIME 4\n",
+        "BLOCK 1 LINE 1 COUNT 65 PARCELS 65 NO 0 TIME 260\n",
+    ),
+    (
+        "a block of 128",
+        TIME,
+        "  BX0 X0\n",
+        128,
+        0,
+        "BLOCK 1 LINE 1 COUNT 128 PARCELS 128 NO 0 TIME 512\n",
+    ),
+    (
+        "one more than a block of 128",
+        TIME,
+        "  BX0 X0\n",
+        129,
+        0,
+        "BLOCK 1 LINE 1 COUNT 128 PARCELS 128 NO 0 TIME 512\nBLOCK 2 LINE 129 COUNT 1 PARCELS 1 NO 0 TIME 4\n",
     ),
     ("201 bytes", TIME, "*", 201, 3, "LINE 1 TOO LONG\n"),
     ("20,000 lines", TIME, "*\n", 20_000, 0, ""),
@@ -84,6 +100,9 @@ const REPEATED: &[(&str, &[&str], &str, usize, u8, &str)] = &[
         "TOO MANY LINES\n",
     ),
 ];
+
+/// How many instructions a chain has, and what it takes.
+const CHAINS: &[(usize, u32)] = &[(64, 256), (65, 260), (128, 512)];
 
 fn check_rows<R: AllocGlobal + Abort + Threads + Wait + Sync>(rt: &R, rows: &[Row]) {
     for &(name, words, input, status, text) in rows {
@@ -125,18 +144,20 @@ fn runs_repeated_rows(rt: HostRuntime) -> Result<(), Fail> {
 
 /// Each instruction waits for the one before it, so the source order is the only one.
 #[test]
-fn orders_sixty_four(rt: HostRuntime) -> Result<(), Fail> {
-    let lines = "          BX0 X0\n".repeat(rt.alloc(), 64)?;
-    let text = format!(in rt.alloc();
-        "* BLOCK 1 COUNT 64 SOURCE 256 TIME 256 BEST\n* SPLITS 0\n{lines}"
-    )?;
-    check(
-        &rt,
-        "sixty-four",
-        ORDER_TRACE,
-        lines.as_bytes(),
-        0,
-        text.as_str(),
-    );
+fn orders_long_chains(rt: HostRuntime) -> Result<(), Fail> {
+    for &(count, time) in CHAINS {
+        let lines = "          BX0 X0\n".repeat(rt.alloc(), count)?;
+        let text = format!(in rt.alloc();
+            "* BLOCK 1 COUNT {count} SOURCE {time} TIME {time} BEST\n* SPLITS 0\n{lines}"
+        )?;
+        check(
+            &rt,
+            "long chain",
+            ORDER_TRACE,
+            lines.as_bytes(),
+            0,
+            text.as_str(),
+        );
+    }
     Ok(())
 }
