@@ -54,7 +54,7 @@ units-within p Multiply = (p.units.4, p.few.4)
 units-within p Divide = (p.units.5, p.few.5)
 units-within p Increment = (p.units.6, p.few.6)
 
-kinds-few : (kind : Kind) → kind_number kind ≤ 6
+pub kinds-few : (kind : Kind) → kind_number kind ≤ 6
 kinds-few Boolean = omega arith
 kinds-few Shift = omega arith
 kinds-few Add = omega arith

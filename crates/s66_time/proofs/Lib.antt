@@ -5,3 +5,4 @@ pub mod ClockPoints
 pub mod Clocks
 pub mod Positions
 pub mod RowsOfBlock
+pub mod Cleared

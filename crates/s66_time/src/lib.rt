@@ -18,4 +18,4 @@ mod words;
 pub use clock::Clock;
 pub use limits::{LOOK_LIMIT, TOTAL_LIMIT};
 pub use packing::{Packing, pack};
-pub use timed::{Timed, Times, time_of};
+pub use timed::{Timed, Timer, Times, time_of};

@@ -1,4 +1,4 @@
-ghost use Rattle.std.specs.Prelude.{ℕ, ◌==◌, ◌||◌, ◌≡◌, ◌+◌, ◌≤◌, if◌then◌else◌, max};
+ghost use Rattle.std.specs.Prelude.{ℕ, [], ◌==◌, ◌||◌, ◌≡◌, ◌+◌, ◌≤◌, if◌then◌else◌, max};
 ghost use Rattle.s66_isa.specs.Lists.{greatest, has};
 ghost use Rattle.s66_isa.specs.Table.{touches, stores};
 ghost use Rattle.s66_dep.specs.Members.{numbers_in};
@@ -28,6 +28,21 @@ pub struct Progress {
 }
 
 impl Progress {
+    /// Before the first push.
+    pub fn new() -> Progress
+        ensures words { (result.refs ≡ 0) × (result.stores ≡ 0) × (result.parcel ≡ 0) × (result.next ≡ 0) × (result.total ≡ 0) }
+        ensures pushed { numbers_in result.pushed ≡ [] }
+    {
+        Progress {
+            refs: 0,
+            stores: 0,
+            parcel: 0,
+            next: 0,
+            total: 0,
+            pushed: Set::empty(),
+        }
+    }
+
     /// The progress after one more instruction, with its times.
     pub fn after(&self, number: u8, row: &Row, tick: &Tick) -> Progress
         requires number { (1 ≤ number) × (number ≤ BLOCK_LIMIT) }

@@ -1,11 +1,12 @@
 ghost use Rattle.std.specs.Prelude.{ℕ, ◌≡◌, ◌+◌, ◌-◌, ◌*◌, ◌<◌, ◌≤◌, ◌^◌, length, set, get_or, replicate};
 ghost use Rattle.s66_isa.specs.Lists.{greatest, weigh};
 ghost use Rattle.s66_isa.specs.Table.{copies_of};
+ghost use Rattle.s66_isa.specs.declared.instr.Kind.{Kind as KindOf};
 ghost use Rattle.s66_time.specs.declared.limits.TheConstants.{COPIES_LIMIT, TOTAL_LIMIT, UNIT_LIMIT};
 ghost use Rattle.s66_time.specs.Places.{first_unit, units_of};
 
 use crate::limits::{COPIES_LIMIT, UNIT_LIMIT};
-use s66_isa::{Kind, Profile, kind_number};
+use s66_isa::{KINDS, Kind, Profile, kind_number};
 
 /// A word for each unit: when it is free. Those of a kind stand together, from a multiple of `COPIES_LIMIT` on.
 #[derive(Debug, Drop)]
@@ -28,6 +29,29 @@ impl UnitWords {
     {
         UnitWords {
             words: [0; UNIT_LIMIT],
+        }
+    }
+
+    /// The words of a kind's units, of which there are so many, are 0 from now on; no word that was 0 is another.
+    fn clear(&mut self, copies: u32, kind: Kind)
+        requires { copies ≤ COPIES_LIMIT }
+        ensures own { (i : ℕ) → i < copies → get_or self.new.words (first_unit kind + i) 0 ≡ 0 }
+        ensures others { (j : ℕ) → get_or self.old.words j 0 ≡ 0 → get_or self.new.words j 0 ≡ 0 }
+        ensures size { length self.new.words ≡ length self.old.words }
+    {
+        let first = first_unit(kind);
+        for copy in 0..copies as usize {
+            self.words[first + copy] = 0;
+        }
+    }
+
+    /// The words of all units that a profile has are 0 from now on.
+    pub fn clear_all(&mut self, profile: &Profile)
+        ensures zeros { (kind : KindOf) (i : ℕ) → i < copies_of profile.now kind → get_or self.new.words (first_unit kind + i) 0 ≡ 0 }
+        ensures size { length self.new.words ≡ length self.old.words }
+    {
+        for kind in KINDS {
+            self.clear(profile.copies(kind), kind);
         }
     }
 

@@ -1,4 +1,4 @@
-ghost use Rattle.std.specs.Prelude.{ℕ, ◌≡◌, ◌+◌, ◌-◌, ◌<◌, ◌≤◌, List, [], ◌∷◌};
+ghost use Rattle.std.specs.Prelude.{ℕ, ◌≡◌, ◌+◌, ◌-◌, ◌<◌, ◌≤◌, List, [], ◌∷◌, length};
 ghost use Rattle.s66_isa.specs.Table.{copies_of};
 ghost use Rattle.s66_isa.specs.declared.profile.Profile.{Profile as ProfileOf};
 ghost use Rattle.s66_isa.specs.declared.limits.TheConstants.{BLOCK_LIMIT};
@@ -14,7 +14,6 @@ use crate::registers::RegisterWords;
 use crate::step::Step;
 use crate::tick::{Tick, free_after};
 use crate::units::UnitWords;
-use s66_dep::Set;
 use s66_isa::{Memory, Profile, Row};
 
 /// The words of a clock.
@@ -38,15 +37,19 @@ impl Words {
             done: RegisterWords::new(),
             read: RegisterWords::new(),
             units: UnitWords::new(),
-            progress: Progress {
-                refs: 0,
-                stores: 0,
-                parcel: 0,
-                next: 0,
-                total: 0,
-                pushed: Set::empty(),
-            },
+            progress: Progress::new(),
         }
+    }
+
+    /// Before the first push again, under a profile; the time is that of its units.
+    pub fn clear(&mut self, profile: &Profile)
+        requires { length self.old.units.words ≡ UNIT_LIMIT }
+        ensures { IsWords profile.now [] self.new }
+    {
+        self.done = RegisterWords::new();
+        self.read = RegisterWords::new();
+        self.units.clear_all(profile);
+        self.progress = Progress::new();
     }
 
     /// The first slot of an instruction of so many parcels.

@@ -1,4 +1,4 @@
-use Rattle.std.proofs.Common.{ap, ◌∙◌, refl, ◌≡◌, length, ℕ}
+use Rattle.std.proofs.Common.{ap, ◌∙◌, ◌≡◌, length, ℕ}
 use Rattle.std.proofs.lemmas.List.{length-replicate}
 use Rattle.s66_isa.specs.Lists.{has}
 use Rattle.s66_time.specs.declared.limits.TheConstants.{UNIT_LIMIT}
@@ -13,10 +13,10 @@ returns c = λ p.
       read = λ r small. c.new-2.ensures r;
       units = λ kind t. zero-units p kind t c.new-3.result.words c.new-3.ensures;
       size = size;
-      refs = refl;
-      stores = refl;
-      parcel = refl;
-      next = refl;
-      total = refl;
-      pushed = λ m. ap (has m) c.empty.ensures;
+      refs = c.new-4.ensures.words.0;
+      stores = c.new-4.ensures.words.1;
+      parcel = c.new-4.ensures.words.2;
+      next = c.new-4.ensures.words.3;
+      total = c.new-4.ensures.words.4;
+      pushed = λ m. ap (has m) c.new-4.ensures.pushed;
     }
