@@ -1,6 +1,5 @@
 ghost use Rattle.std.specs.Prelude.{ℕ, ◌≡◌, ◌+◌, ◌<◌, ◌≤◌, ◌++◌, length, map, take};
 ghost use Rattle.std.specs.List.{range_with_len};
-ghost use Rattle.s66_time.specs.declared.limits.TheConstants.{TOTAL_LIMIT};
 ghost use Rattle.s66_chart.specs.declared.row.TheConstants.{NAME_ROOM, ROW_FRAME};
 ghost use Rattle.s66_chart.specs.Chart.{letter, row_text};
 ghost use Rattle.s66_chart.specs.Runs.{until, IsInOrder};
@@ -51,11 +50,12 @@ fn draw(letters: &mut [u8], activity: &Activity)
 
 /// Writes a row over the front of a page: a name, right in three places, one blank, the letters of so many minor cycles, and a
 /// newline.
-pub fn draw_row(page: &mut [u8; ROW_LIMIT], name: &[u8], activity: &Activity, cycles: usize)
+pub fn draw_row(page: &mut [u8], name: &[u8], activity: &Activity, cycles: usize)
     requires name { length name.now ≤ NAME_ROOM }
     requires in_order { IsInOrder activity.now }
-    requires cycles { cycles ≤ TOTAL_LIMIT }
-    ensures { take (cycles + ROW_FRAME) page.new ≡ row_text name.now activity.now cycles }
+    requires page { cycles + ROW_FRAME ≤ length page.old }
+    ensures page { length page.new ≡ length page.old }
+    ensures row { take (cycles + ROW_FRAME) page.new ≡ row_text name.now activity.now cycles }
 {
     put(page, 0, b"   ");
     put(page, NAME_ROOM - name.len(), name);

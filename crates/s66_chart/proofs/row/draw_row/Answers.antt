@@ -5,8 +5,8 @@ use Rattle.std.specs.List.{range_with_len}
 use Rattle.s66_chart.specs.Chart.{in_three, letter}
 use Rattle.s66_chart.proofs.row.draw_row.Goals as goal
 
-pub returns : goal.returns
-returns c =
+pub returns-clause-row : goal.returns-clause-row
+returns-clause-row c =
     let n = length c.args.name.now in
     let front = take 4 c.put-3.new.page in
     let letters = c.draw.new.letters in
