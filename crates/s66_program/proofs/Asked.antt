@@ -10,9 +10,9 @@ search-within : (words : List Text) (workers nodes : ℕ) → GivesSearch words 
 search-within words workers nodes h = (h.1, h.2, h.4)
 
 pub asked-within : (words : List Text) (command : Command) → Asks words command → IsWithin command
-asked-within words (Time trace) h = tt
+asked-within words (Time trace profile) h = tt
 asked-within words Deps h = tt
-asked-within words Chart h = tt
-asked-within words (Order workers nodes trace) h = search-within words workers nodes h.1
-asked-within words (Prove workers nodes) h = search-within words workers nodes h.1
+asked-within words (Chart profile) h = tt
+asked-within words (Order workers nodes trace profile) h = search-within words workers nodes h.1
+asked-within words (Prove workers nodes profile) h = search-within words workers nodes h.1
 asked-within words Check h = tt

@@ -1,10 +1,11 @@
 -- Words that clap takes name a subcommand.
 use Rattle.std.proofs.Common.{◌≡◌, ◌⊎◌, inl, inr, ℕ, Bool, cond, true, false, true≢false, ◌||◌, List, [], ◌∷◌, ◌++◌, Option, Some, None, refl, sym, ap, ◌∙◌, subst, Box, box_value, codes, find, fold, drop, is_some, map, option_and_then, option_map, bytes_eq}
 use Rattle.std.specs.Prelude.{unwrap_or}
+use Rattle.std.specs.Borrow.{Bor}
 use Rattle.std.specs.List.{list_all, list_any}
 use Rattle.std.specs.Option.{option_map_or}
 use Rattle.std.proofs.lemmas.Slice.Eq.{bytes_eq-Decides}
-use Rattle.clap.specs.Words.{App, HasMatchesOf, Rule, Shape, Text, built, is_simple_and_free, one_of, one_text, rows_of, subcommand_name_of, subcommand_of, subcommand_rows, subcommand_rows_of}
+use Rattle.clap.specs.Words.{App, HasMatchesOf, Rule, Shape, Text, built, first_of, first_value, is_simple_and_free, one_of, one_text, rows_of, subcommand_name_of, subcommand_of, subcommand_rows, subcommand_rows_of}
 use Rattle.clap.specs.Takes.{is_given}
 use Rattle.clap.specs.declared.parser.matches.ArgMatches.{ArgMatches}
 use Rattle.clap.specs.declared.parser.matches.ArgMatches.TheViews.{out-ArgMatches, out-SubCommand}
@@ -15,12 +16,12 @@ use Rattle.clap.specs.Lexer.{long_of, short_of}
 use Rattle.clap.specs.Simple.{entered, label_of, names_of}
 use Rattle.clap.specs.Faults.{check_fault, defaults_fault, entered_fault, fault_of, level_fault, settle_fault, other_fault, turn_fault, walk_fault, word_fault}
 use Rattle.clap.proofs.SimpleLemmas.{is_nil}
-use Rattle.clap.proofs.WalkLemmas.{both, one_text-rows}
+use Rattle.clap.proofs.WalkLemmas.{both, first_value-rows, one_text-rows}
 use Rattle.s66_ledger.specs.declared.limits.TheConstants.{BUDGET_LIMIT}
 use Rattle.s66_pool.specs.declared.limits.TheConstants.{WORKERS_LIMIT}
 use Rattle.s66_program.specs.declared.limits.TheConstants.{NODES_DEFAULT, WORKERS_DEFAULT}
 use Rattle.s66_program.specs.OptionNumbers.{IsNumber, IsReadAs}
-use Rattle.s66_program.specs.Usage.{AsksFor, GivesSearch, has_option, option_text, s66_app, subcommand_name}
+use Rattle.s66_program.specs.Usage.{AsksFor, GivesProfile, GivesSearch, has_option, option_text, s66_app, subcommand_name}
 use Rattle.s66_program.proofs.Faults.{first-none, full, second-none}
 use Rattle.s66_program.proofs.Flags.{HasFlag, flag-is}
 use Rattle.s66_program.proofs.OptionRanges.{HasNumber, number-is}
@@ -270,6 +271,12 @@ pub flag-of : (words : List Text) (found : Found) (flag : Bool) (s : Shape) (id 
 flag-of words found flag s id long is options there when-true when-false =
     flag-is id long s.rules options there is.0 (rows_of found) (one_text found id) flag is.1 (one_text-rows found id) when-true when-false
     ∙ sym (ap (λ o. option_map_or (λ (p : Text × List Row). is_given id p.1) o false) is.2)
+
+-- the text of a subcommand's profile, as it was found
+pub profile-of : (words : List Text) (found : Found) (s : Shape) (profile : Option (Bor Text)) → IsMatched found words s →
+    option_map (λ text. text.now) profile ≡ first_value found (codes "profile") → GivesProfile words profile
+profile-of words found s profile is given =
+    given ∙ first_value-rows found (codes "profile") ∙ sym (ap (option_and_then (λ (p : Text × List Row). first_of (codes "profile") p.1)) is.2)
 
 -- the text of a number's option, as it was found
 number-of : (words : List Text) (found : Found) (s : Shape) (id : Text) (least most : ℕ) → IsMatched found words s → HasNumber id least most s.rules →

@@ -2,6 +2,7 @@
 use Rattle.std.proofs.Common.{◌≡◌, ◌+◌, ◌≤◌, ℕ, List, Option, None, Some, Result, Ok, Err, refl, ap, sym, subst, arith}
 use Rattle.std.specs.Io.KnownBytes.{Keeps}
 use Rattle.std.specs.Result.{IsErr, IsErrAnd}
+use Rattle.s66_isa.specs.declared.profile.Profile.{Profile}
 use Rattle.s66_line.specs.Devices.{IsUntouched, Reader, Writer}
 use Rattle.s66_program.specs.declared.command.Command.{Command}
 use Rattle.s66_program.specs.declared.outcome.Fault.{Fault}
@@ -9,13 +10,13 @@ use Rattle.s66_program.specs.declared.outcome.Fault.TheVariants as fault
 use Rattle.s66_program.specs.declared.outcome.Status.{Status}
 use Rattle.s66_program.specs.declared.limits.TheConstants.{FEED_CALLS}
 use Rattle.s66_program.specs.Device.{ReadsAll, ReadsSome}
-use Rattle.s66_program.specs.Run.{IsOutcome, IsRefusal}
+use Rattle.s66_program.specs.Run.{IsOutcomeUnder, IsRefusal}
 
 keeps : (bytes : Option (List ℕ)) → Keeps bytes bytes
 keeps None = tt
 keeps (Some bytes) = refl
 
-untouched : (writer : Writer) → IsUntouched writer writer
+pub untouched : (writer : Writer) → IsUntouched writer writer
 untouched writer = (keeps writer.bytes, refl)
 
 -- also where the want of memory comes later
@@ -25,19 +26,20 @@ reads-some reader reader' input (taken, all, same, (reads, few, calls)) =
     let one : 1 ≤ 1 = omega arith in
     (same, (reads, 1, most, one, calls))
 
-leaves : (command : Command) (reader reader' : Reader) (writer : Writer) (input : List ℕ) (f : Fault) → ReadsAll reader reader' input → IsRefusal command input f → IsOutcome command reader reader' writer writer (Err f)
-leaves command reader reader' writer input (fault.Source e) reads h = ((input, reads, h), untouched writer)
-leaves command reader reader' writer input (fault.Document e) reads h = ((input, reads, h), untouched writer)
-leaves command reader reader' writer input fault.Memory reads h = (reads-some reader reader' input reads, untouched writer)
-leaves command reader reader' writer input fault.Read reads h = absurd h
-leaves command reader reader' writer input fault.Write reads h = absurd h
+leaves : (p : Profile) (command : Command) (reader reader' : Reader) (writer : Writer) (input : List ℕ) (f : Fault) → ReadsAll reader reader' input → IsRefusal command input f → IsOutcomeUnder p command reader reader' writer writer (Err f)
+leaves p command reader reader' writer input (fault.Source e) reads h = ((input, reads, h), untouched writer)
+leaves p command reader reader' writer input (fault.Document e) reads h = ((input, reads, h), untouched writer)
+leaves p command reader reader' writer input fault.Profile reads h = absurd h
+leaves p command reader reader' writer input fault.Memory reads h = (reads-some reader reader' input reads, untouched writer)
+leaves p command reader reader' writer input fault.Read reads h = absurd h
+leaves p command reader reader' writer input fault.Write reads h = absurd h
 
-given : (result : Result Status Fault) (f : Fault) → IsErr result → IsErrAnd result (λ e. e ≡ f) → result ≡ Err f
+pub given : (result : Result Status Fault) (f : Fault) → IsErr result → IsErrAnd result (λ e. e ≡ f) → result ≡ Err f
 given (Ok status) f is which = absurd which
 given (Err e) f is which = ap (λ (x : Fault). Err x) which
 
-pub refused-input : (command : Command) (reader reader' : Reader) (writer : Writer) (read input : List ℕ) (f : Fault) (result : Result Status Fault) → ReadsAll reader reader' read → input ≡ read → IsRefusal command input f →
-    IsErr result × IsErrAnd result (λ e. e ≡ f) → IsOutcome command reader reader' writer writer result
-refused-input command reader reader' writer read input f result reads same h is =
-    subst (IsOutcome command reader reader' writer writer) (sym (given result f is.0 is.1))
-    (leaves command reader reader' writer input f (subst (ReadsAll reader reader') (sym same) reads) h)
+pub refused-input : (p : Profile) (command : Command) (reader reader' : Reader) (writer : Writer) (read input : List ℕ) (f : Fault) (result : Result Status Fault) → ReadsAll reader reader' read → input ≡ read → IsRefusal command input f →
+    IsErr result × IsErrAnd result (λ e. e ≡ f) → IsOutcomeUnder p command reader reader' writer writer result
+refused-input p command reader reader' writer read input f result reads same h is =
+    subst (IsOutcomeUnder p command reader reader' writer writer) (sym (given result f is.0 is.1))
+    (leaves p command reader reader' writer input f (subst (ReadsAll reader reader') (sym same) reads) h)

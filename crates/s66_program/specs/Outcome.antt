@@ -6,8 +6,10 @@ use Rattle.s66_line.specs.declared.error.SourceError.{SourceError}
 use Rattle.s66_line.specs.declared.error.SourceError.TheVariants.{BadOperand, LineTooLong, OutOfMemory, TooLarge}
 use Rattle.s66_line.specs.Refusals.{refusal_line}
 use Rattle.s66_cert.specs.Refusals.{document_refusal_line}
+use Rattle.s66_profile.specs.declared.error.ProfileError.{ProfileError}
+use Rattle.s66_profile.specs.declared.error.ProfileError.TheVariants as profile
 use Rattle.s66_program.specs.declared.outcome.Fault.{Fault}
-use Rattle.s66_program.specs.declared.outcome.Fault.TheVariants.{Source, Document, Memory, Read, Write}
+use Rattle.s66_program.specs.declared.outcome.Fault.TheVariants.{Source, Document, Profile, Memory, Read, Write}
 use Rattle.s66_program.specs.declared.outcome.Status.{Status}
 use Rattle.s66_program.specs.declared.outcome.Status.TheVariants.{Done, Denied, Bounded}
 
@@ -25,6 +27,11 @@ document_fault cert.Truncated = Document cert.Truncated
 document_fault cert.TooManyNodes = Document cert.TooManyNodes
 document_fault cert.OutOfMemory = Memory
 
+-- the fault of a text that gave no profile
+abbrev pub profile_fault : ProfileError → Fault
+profile_fault profile.BadProfile = Profile
+profile_fault profile.OutOfMemory = Memory
+
 abbrev pub status_code : Status → ℕ
 status_code Done = 0
 status_code Denied = 5
@@ -33,6 +40,7 @@ status_code Bounded = 7
 abbrev pub fault_code : Fault → ℕ
 fault_code (Source e) = 3
 fault_code (Document e) = 3
+fault_code Profile = 3
 fault_code Memory = 4
 fault_code Read = 6
 fault_code Write = 6
@@ -41,6 +49,7 @@ fault_code Write = 6
 abbrev pub fault_line : Fault → List ℕ
 fault_line (Source e) = refusal_line e
 fault_line (Document e) = document_refusal_line e
+fault_line Profile = codes "BAD PROFILE"
 fault_line Memory = codes "OUT OF MEMORY"
 fault_line Read = codes "READ FAILED"
 fault_line Write = codes "WRITE FAILED"

@@ -1,9 +1,11 @@
 -- To be believed: what each command writes for what it reads, and how it ends.
-use Rattle.std.specs.Prelude.{ℕ, ◌+◌, ◌≡◌, ◌≤◌, Bool, true, false, List, [], ◌∷◌, ◌++◌, Ok}
+use Rattle.std.specs.Prelude.{ℕ, ◌+◌, ◌≡◌, ◌≤◌, Bool, true, false, List, [], ◌∷◌, ◌++◌, Option, None, Some, option_map, Ok}
+use Rattle.s66_isa.specs.declared.profile.Profile.{Profile}
 use Rattle.s66_isa.specs.Table.{standard}
 use Rattle.s66_ledger.specs.declared.limits.TheConstants.{BUDGET_LIMIT}
 use Rattle.s66_line.specs.Source.{Block, source_of}
 use Rattle.s66_pool.specs.declared.limits.TheConstants.{WORKERS_LIMIT}
+use Rattle.s66_profile.specs.ProfileText.{profile_in_text}
 use Rattle.s66_program.specs.declared.command.Command.{Command}
 use Rattle.s66_program.specs.declared.command.Command.TheVariants.{Time, Deps, Chart, Order, Prove, Check}
 use Rattle.s66_program.specs.declared.outcome.Status.{Status}
@@ -23,12 +25,32 @@ IsSearchWithin workers nodes = (1 ≤ workers) × (workers ≤ WORKERS_LIMIT) ×
 
 -- the numbers of a command are within their limits
 abbrev pub IsWithin : Command → Type 0
-IsWithin (Time trace) = Unit {0}
+IsWithin (Time trace profile) = Unit {0}
 IsWithin Deps = Unit {0}
-IsWithin Chart = Unit {0}
-IsWithin (Order workers nodes trace) = IsSearchWithin workers nodes
-IsWithin (Prove workers nodes) = IsSearchWithin workers nodes
+IsWithin (Chart profile) = Unit {0}
+IsWithin (Order workers nodes trace profile) = IsSearchWithin workers nodes
+IsWithin (Prove workers nodes profile) = IsSearchWithin workers nodes
 IsWithin Check = Unit {0}
+
+-- PROFILES
+
+-- the text of a profile that a command has, if any
+abbrev pub profile_text : Command → Option (List ℕ)
+profile_text (Time trace profile) = option_map (λ text. text.now) profile
+profile_text Deps = None
+profile_text (Chart profile) = option_map (λ text. text.now) profile
+profile_text (Order workers nodes trace profile) = option_map (λ text. text.now) profile
+profile_text (Prove workers nodes profile) = option_map (λ text. text.now) profile
+profile_text Check = None
+
+-- the profile that is asked for: that of the text, or the standard one without a text
+abbrev pub profile_asked : Option (List ℕ) → Option Profile
+profile_asked None = Some standard
+profile_asked (Some text) = profile_in_text text
+
+-- the command asks for this profile
+abbrev pub IsUnder : Command → Profile → Type 0
+IsUnder command p = profile_asked (profile_text command) ≡ Some p
 
 -- LISTINGS
 
@@ -49,20 +71,20 @@ IsListing l input text = (blocks : List Block) × (source_of input ≡ Ok blocks
 
 -- COMMANDS
 
--- for this input a command writes the text and ends so
-abbrev pub IsOutput : Command → (input text : List ℕ) → Status → Type 0
-IsOutput (Time trace) input text status = IsListing (listing.Times standard trace) input text × (status ≡ Done)
-IsOutput Deps input text status = IsListing listing.Dependences input text × (status ≡ Done)
-IsOutput Chart input text status = IsListing (listing.Chart standard) input text × (status ≡ Done)
-IsOutput (Order workers nodes trace) input text status = IsOrderOutput standard nodes trace input text status
-IsOutput (Prove workers nodes) input text status = IsProveOutput standard nodes input text status
-IsOutput Check input text status = IsCheckOutput input text status
+-- for this input, under a profile, a command writes the text and ends so
+abbrev pub IsOutput : Profile → Command → (input text : List ℕ) → Status → Type 0
+IsOutput p (Time trace profile) input text status = IsListing (listing.Times p trace) input text × (status ≡ Done)
+IsOutput p Deps input text status = IsListing listing.Dependences input text × (status ≡ Done)
+IsOutput p (Chart profile) input text status = IsListing (listing.Chart p) input text × (status ≡ Done)
+IsOutput p (Order workers nodes trace profile) input text status = IsOrderOutput p nodes trace input text status
+IsOutput p (Prove workers nodes profile) input text status = IsProveOutput p nodes input text status
+IsOutput p Check input text status = IsCheckOutput input text status
 
 -- the command reads a source, and not documents
 abbrev pub reads_source : Command → Bool
-reads_source (Time trace) = true
+reads_source (Time trace profile) = true
 reads_source Deps = true
-reads_source Chart = true
-reads_source (Order workers nodes trace) = true
-reads_source (Prove workers nodes) = true
+reads_source (Chart profile) = true
+reads_source (Order workers nodes trace profile) = true
+reads_source (Prove workers nodes profile) = true
 reads_source Check = false

@@ -1,5 +1,6 @@
 -- To be believed: what a command leaves of its reader and its writer.
-use Rattle.std.specs.Prelude.{◌≡◌, ◌≢◌, ℕ, true, false, List, Result, Ok, Err}
+use Rattle.std.specs.Prelude.{◌≡◌, ◌≢◌, ◌⊎◌, ℕ, true, false, List, None, Result, Ok, Err}
+use Rattle.s66_isa.specs.declared.profile.Profile.{Profile}
 use Rattle.s66_line.specs.declared.error.SourceError.TheVariants.{OutOfMemory}
 use Rattle.s66_line.specs.Devices.{IsUntouched, Reader, WriteFails, Writer, Writes}
 use Rattle.s66_line.specs.Source.{source_of}
@@ -9,30 +10,48 @@ use Rattle.s66_program.specs.declared.outcome.Fault.{Fault}
 use Rattle.s66_program.specs.declared.outcome.Fault.TheVariants as fault
 use Rattle.s66_program.specs.declared.outcome.Status.{Status}
 use Rattle.s66_program.specs.Device.{ReadFails, ReadsAll, ReadsSome}
-use Rattle.s66_program.specs.Output.{IsOutput, reads_source}
+use Rattle.s66_program.specs.Output.{IsOutput, IsUnder, profile_asked, profile_text, reads_source}
 
 -- why a command writes nothing for an input
 abbrev pub IsRefusal : Command → List ℕ → Fault → Type 0
 IsRefusal command input (fault.Source e) = (reads_source command ≡ true) × (e ≢ OutOfMemory) × (source_of input ≡ Err e)
 IsRefusal command input (fault.Document e) = (reads_source command ≡ false) × IsFault input e
+IsRefusal command input fault.Profile = ⊥
 IsRefusal command input fault.Memory = Unit {0}
 IsRefusal command input fault.Read = ⊥
 IsRefusal command input fault.Write = ⊥
 
--- what a command leaves of its reader and its writer, by its result; want of memory is Memory and never Source or Document
-abbrev pub IsOutcome : Command → Reader → Reader → Writer → Writer → Result Status Fault → Type 0
-IsOutcome command reader reader' writer writer' (Ok status) =
+-- what a command leaves of its reader and its writer under a profile, by its result; want of memory is Memory and never Source or
+-- Document
+abbrev pub IsOutcomeUnder : Profile → Command → Reader → Reader → Writer → Writer → Result Status Fault → Type 0
+IsOutcomeUnder p command reader reader' writer writer' (Ok status) =
     (input : List ℕ) × ReadsAll reader reader' input
-    × ((text : List ℕ) × IsOutput command input text status × Writes writer writer' text)
-IsOutcome command reader reader' writer writer' (Err (fault.Source e)) =
+    × ((text : List ℕ) × IsOutput p command input text status × Writes writer writer' text)
+IsOutcomeUnder p command reader reader' writer writer' (Err (fault.Source e)) =
     ((input : List ℕ) × ReadsAll reader reader' input × IsRefusal command input (fault.Source e)) × IsUntouched writer writer'
-IsOutcome command reader reader' writer writer' (Err (fault.Document e)) =
+IsOutcomeUnder p command reader reader' writer writer' (Err (fault.Document e)) =
     ((input : List ℕ) × ReadsAll reader reader' input × IsRefusal command input (fault.Document e)) × IsUntouched writer writer'
-IsOutcome command reader reader' writer writer' (Err fault.Memory) = ReadsSome reader reader' × IsUntouched writer writer'
-IsOutcome command reader reader' writer writer' (Err fault.Read) = ReadFails reader reader' × IsUntouched writer writer'
-IsOutcome command reader reader' writer writer' (Err fault.Write) =
+IsOutcomeUnder p command reader reader' writer writer' (Err fault.Profile) = ⊥
+IsOutcomeUnder p command reader reader' writer writer' (Err fault.Memory) = ReadsSome reader reader' × IsUntouched writer writer'
+IsOutcomeUnder p command reader reader' writer writer' (Err fault.Read) = ReadFails reader reader' × IsUntouched writer writer'
+IsOutcomeUnder p command reader reader' writer writer' (Err fault.Write) =
     (input : List ℕ) × ReadsAll reader reader' input
-    × ((text : List ℕ) × (status : Status) × IsOutput command input text status × WriteFails writer writer' text)
+    × ((text : List ℕ) × (status : Status) × IsOutput p command input text status × WriteFails writer writer' text)
+
+-- why a command has no profile: its text gives none, or memory was wanted to read it
+abbrev pub IsProfileFault : Command → Fault → Type 0
+IsProfileFault command fault.Profile = profile_asked (profile_text command) ≡ None
+IsProfileFault command fault.Memory = Unit {0}
+IsProfileFault command (fault.Source e) = ⊥
+IsProfileFault command (fault.Document e) = ⊥
+IsProfileFault command fault.Read = ⊥
+IsProfileFault command fault.Write = ⊥
+
+-- it runs under the profile that it asks for, or it has none, and then nothing is read
+abbrev pub IsOutcome : Command → Reader → Reader → Writer → Writer → Result Status Fault → Type 0
+IsOutcome command reader reader' writer writer' result =
+    ((p : Profile) × IsUnder command p × IsOutcomeUnder p command reader reader' writer writer' result)
+    ⊎ ((f : Fault) × (result ≡ Err f) × IsProfileFault command f × (reader' ≡ reader) × IsUntouched writer writer')
 
 -- why reading to the end fails
 abbrev pub IsReadFault : Reader → Reader → Fault → Type 0
@@ -40,4 +59,5 @@ IsReadFault old new fault.Read = ReadFails old new
 IsReadFault old new fault.Memory = ReadsSome old new
 IsReadFault old new (fault.Source e) = ⊥
 IsReadFault old new (fault.Document e) = ⊥
+IsReadFault old new fault.Profile = ⊥
 IsReadFault old new fault.Write = ⊥

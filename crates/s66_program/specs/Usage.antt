@@ -1,10 +1,11 @@
--- To be believed: the command line, by clap's rules: the subcommands `time`, with the flag `--trace`, `deps`, `chart`,
--- `order` and `prove`, each with the options `--workers` and `--nodes`, and `order` also with the flag `--trace`, and `check`,
--- and a version.
+-- To be believed: the command line, by clap's rules: the subcommands `time`, `deps`, `chart`, `order`, `prove` and `check`, and a
+-- version. `time`, `chart`, `order` and `prove` have the option `--profile`, `order` and `prove` also `--workers` and `--nodes`, and
+-- `time` and `order` the flag `--trace`.
 use Rattle.std.specs.Prelude.{◌≡◌, ◌≢◌, ◌⊎◌, ◌≤◌, ℕ, Bool, List, [], false, true, Option, Some, codes, option_and_then, pos}
+use Rattle.std.specs.Borrow.{Bor}
 use Rattle.std.specs.Option.{option_map, option_map_or}
 use Rattle.std.specs.Str.Parse.{digits_value, without_leading_plus}
-use Rattle.clap.specs.Words.{App, IsAmong, Rule, Text, app_of, fault_of, new_app, new_rule, one_of, rule_of, subcommand_of, with_rule, with_subcommand}
+use Rattle.clap.specs.Words.{App, IsAmong, Rule, Text, app_of, fault_of, first_of, new_app, new_rule, one_of, rule_of, subcommand_of, with_rule, with_subcommand}
 use Rattle.clap.specs.Takes.{is_given}
 use Rattle.clap.specs.declared.builder.action.ArgAction.TheVariants.{SetTrue}
 use Rattle.clap.specs.declared.builder.arg.Arg.{Arg}
@@ -34,18 +35,22 @@ workers_rule = number_rule (codes "workers") 1 WORKERS_LIMIT
 abbrev pub nodes_rule : Rule
 nodes_rule = number_rule (codes "nodes") 0 BUDGET_LIMIT
 
+-- its value is any text
+abbrev pub profile_rule : Rule
+profile_rule = record (new_rule (codes "profile")) { long = Some (codes "profile"); value_names = 1 }
+
 abbrev pub time_app : App
-time_app = with_rule (new_app (codes "time")) trace_rule
+time_app = with_rule (with_rule (new_app (codes "time")) profile_rule) trace_rule
 
 abbrev pub deps_app : App
 deps_app = new_app (codes "deps")
 
 abbrev pub chart_app : App
-chart_app = new_app (codes "chart")
+chart_app = with_rule (new_app (codes "chart")) profile_rule
 
 -- a subcommand that searches
 abbrev pub search_app : Text → App
-search_app name = with_rule (with_rule (new_app name) workers_rule) nodes_rule
+search_app name = with_rule (with_rule (with_rule (new_app name) workers_rule) nodes_rule) profile_rule
 
 abbrev pub order_app : App
 order_app = with_rule (search_app (codes "order")) trace_rule
@@ -82,6 +87,10 @@ has_option id words = option_map_or (λ s. is_given id s.1) (subcommand_of s66_a
 abbrev pub option_text : Text → List Text → Option Text
 option_text id words = option_and_then (λ s. one_of id s.1) (subcommand_of s66_app words)
 
+-- the text that the words give the subcommand for this option, as it stands
+abbrev pub plain_text : Text → List Text → Option Text
+plain_text id words = option_and_then (λ s. first_of id s.1) (subcommand_of s66_app words)
+
 -- the number that the words give the subcommand for this option, or else the default
 abbrev pub option_number : Text → ℕ → List Text → ℕ
 option_number id default words = option_map_or (λ text. digits_value 10 (without_leading_plus text)) (option_text id words) default
@@ -96,14 +105,19 @@ GivesSearch words workers nodes =
     (workers ≡ option_number (codes "workers") WORKERS_DEFAULT words) × (1 ≤ workers) × (workers ≤ WORKERS_LIMIT)
     × (nodes ≡ option_number (codes "nodes") NODES_DEFAULT words) × (nodes ≤ BUDGET_LIMIT)
 
+-- they give it this text for its profile, if any
+abbrev pub GivesProfile : List Text → Option (Bor Text) → Type 0
+GivesProfile words profile = option_map (λ text. text.now) profile ≡ plain_text (codes "profile") words
+
 -- they ask for the command
 abbrev pub Asks : List Text → Command → Type 0
-Asks words (Time trace) = AsksFor words (codes "time") × (trace ≡ has_option (codes "trace") words)
+Asks words (Time trace profile) =
+    AsksFor words (codes "time") × (trace ≡ has_option (codes "trace") words) × GivesProfile words profile
 Asks words Deps = AsksFor words (codes "deps")
-Asks words Chart = AsksFor words (codes "chart")
-Asks words (Order workers nodes trace) =
-    AsksFor words (codes "order") × GivesSearch words workers nodes × (trace ≡ has_option (codes "trace") words)
-Asks words (Prove workers nodes) = AsksFor words (codes "prove") × GivesSearch words workers nodes
+Asks words (Chart profile) = AsksFor words (codes "chart") × GivesProfile words profile
+Asks words (Order workers nodes trace profile) =
+    AsksFor words (codes "order") × GivesSearch words workers nodes × (trace ≡ has_option (codes "trace") words) × GivesProfile words profile
+Asks words (Prove workers nodes profile) = AsksFor words (codes "prove") × GivesSearch words workers nodes × GivesProfile words profile
 Asks words Check = AsksFor words (codes "check")
 
 -- a kind of error that is no mistake

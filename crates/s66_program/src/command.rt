@@ -1,15 +1,20 @@
 /// What the program is asked for.
 #[derive(Clone, Copy, Debug, PartialEq, Eq)]
-pub enum Command {
+pub enum Command<'a> {
     /// The times of each block of a source, as it was written.
     Time {
         /// Whether each instruction is told.
         trace: bool,
+        /// The text of the profile, if it isn't the standard one.
+        profile: Option<&'a str>,
     },
     /// On which instructions each instruction of a block depends.
     Deps,
     /// A chart of each block of a source, as it was written.
-    Chart,
+    Chart {
+        /// The text of the profile, if it isn't the standard one.
+        profile: Option<&'a str>,
+    },
     /// Each block of a source in the best order that was found.
     Order {
         /// How many workers search, 1 to `WORKERS_LIMIT`.
@@ -18,6 +23,8 @@ pub enum Command {
         nodes: u32,
         /// Whether the number of splits is told.
         trace: bool,
+        /// The text of the profile, if it isn't the standard one.
+        profile: Option<&'a str>,
     },
     /// A document for each block of a source: an order, its time, a bound, and a tree that shows the bound.
     Prove {
@@ -25,7 +32,27 @@ pub enum Command {
         workers: u8,
         /// The most splits of a block's search, 0 to `BUDGET_LIMIT`.
         nodes: u32,
+        /// The text of the profile, if it isn't the standard one.
+        profile: Option<&'a str>,
     },
     /// The verdict on each document.
     Check,
+}
+
+impl<'a> Command<'a> {
+    ghost use Rattle.std.specs.Prelude.{◌≡◌, option_map};
+    ghost use Rattle.s66_program.specs.Output.{profile_text};
+
+    /// The text of its profile, if it has one.
+    pub(crate) fn profile_text(self) -> Option<&'a str>
+        ensures { option_map (λ text. text.now) result ≡ profile_text self.entry }
+    {
+        match self {
+            Command::Time { profile, .. }
+            | Command::Chart { profile }
+            | Command::Order { profile, .. }
+            | Command::Prove { profile, .. } => profile,
+            Command::Deps | Command::Check => None,
+        }
+    }
 }

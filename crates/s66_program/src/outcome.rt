@@ -1,10 +1,11 @@
 ghost use Rattle.std.specs.Prelude.{◌≡◌};
 ghost use Rattle.s66_program.specs.declared.outcome.Fault.TheVariants.{Memory};
-ghost use Rattle.s66_program.specs.Outcome.{document_fault, source_fault};
+ghost use Rattle.s66_program.specs.Outcome.{document_fault, profile_fault, source_fault};
 
 use arrayvec::ArrayString;
 use s66_cert::CertError;
 use s66_line::{FAULT_ROOM, SourceError, short_text};
+use s66_profile::ProfileError;
 use std::alloc::{AllocError, AllocFailed};
 use std::{error, fmt};
 
@@ -48,6 +49,8 @@ pub enum Fault {
     Source(SourceError),
     /// The documents were refused; never for `OutOfMemory`, which is `Memory`.
     Document(CertError),
+    /// The text for the profile gives none; never for `OutOfMemory`, which is `Memory`.
+    Profile,
     /// A growth was refused.
     Memory,
     /// The reader failed, or none of 16,777,216 calls with room for 65,536 bytes each gave the end.
@@ -94,6 +97,17 @@ impl From<CertError> for Fault {
     }
 }
 
+impl From<ProfileError> for Fault {
+    ghost from_gives = { λ e fault. fault ≡ profile_fault e };
+
+    fn from(e: ProfileError) -> Fault {
+        match e {
+            ProfileError::BadProfile => Fault::Profile,
+            ProfileError::OutOfMemory => Fault::Memory,
+        }
+    }
+}
+
 impl Fault {
     ghost use Rattle.std.specs.Prelude.{◌≡◌, ◌<◌, length};
     ghost use Rattle.s66_line.specs.declared.limits.TheConstants.{FAULT_ROOM};
@@ -104,7 +118,7 @@ impl Fault {
         ensures { result ≡ fault_code self.now }
     {
         match self {
-            Fault::Source(_) | Fault::Document(_) => 3,
+            Fault::Source(_) | Fault::Document(_) | Fault::Profile => 3,
             Fault::Memory => 4,
             Fault::Read | Fault::Write => 6,
         }
@@ -118,6 +132,7 @@ impl Fault {
         match self {
             Fault::Source(e) => e.line(),
             Fault::Document(e) => e.line(),
+            Fault::Profile => short_text("BAD PROFILE"),
             Fault::Memory => SourceError::OutOfMemory.line(),
             Fault::Read => short_text("READ FAILED"),
             Fault::Write => short_text("WRITE FAILED"),

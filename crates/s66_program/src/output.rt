@@ -71,50 +71,54 @@ fn listing_output(alloc: Global, listing: &Listing, source: &Source) -> Result<O
     })
 }
 
-/// What a command writes for an input, or why the input was refused; no other fault than `Source`, `Document` and `Memory`. The
+/// What a command writes for an input under a profile, or why the input was refused; no other fault than `Source`, `Document` and `Memory`. The
 /// observer is told how far it is, and not of the end.
 pub fn output_for<R: AllocGlobal + Threads + Wait + Sync, O: Observer>(
     rt: &R,
     command: Command,
+    profile: &Profile,
     input: &[u8],
     observer: &mut O,
 ) -> Result<Output, Fault>
     requires { IsWithin command }
-    ensures ok { IfOk result (λ output. IsOutput command input.now output.text.items output.status) }
-    ensures err { IfErr result (IsRefusal command input.now) }
+    ensures ok { IfOk result (λ output. IsOutput profile.now command.entry input.now output.text.items output.status) }
+    ensures err { IfErr result (IsRefusal command.entry input.now) }
 {
     let alloc = rt.alloc();
-    let profile = Profile::standard();
     let output = match command {
-        Command::Time { trace } => {
-            let listing = Listing::Times { profile, trace };
+        Command::Time { trace, .. } => {
+            let listing = Listing::Times {
+                profile: *profile,
+                trace,
+            };
             listing_output(alloc, &listing, &read_source(alloc, input)?)?
         }
         Command::Deps => {
             listing_output(alloc, &Listing::Dependences, &read_source(alloc, input)?)?
         }
-        Command::Chart => {
-            let listing = Listing::Chart { profile };
+        Command::Chart { .. } => {
+            let listing = Listing::Chart { profile: *profile };
             listing_output(alloc, &listing, &read_source(alloc, input)?)?
         }
         Command::Order {
             workers,
             nodes,
             trace,
+            ..
         } => {
             let options = Options { workers, nodes };
             order_output(
                 rt,
                 &read_source(alloc, input)?,
-                &profile,
+                profile,
                 options,
                 trace,
                 observer,
             )?
         }
-        Command::Prove { workers, nodes } => {
+        Command::Prove { workers, nodes, .. } => {
             let options = Options { workers, nodes };
-            prove_output(rt, &read_source(alloc, input)?, &profile, options, observer)?
+            prove_output(rt, &read_source(alloc, input)?, profile, options, observer)?
         }
         Command::Check => check_output(alloc, input, observer)?,
     };

@@ -1,17 +1,30 @@
 ghost use Rattle.std.specs.Prelude.{◌≡◌, ◌-◌, ◌^◌, ◌<◌, length, vec_len, IfOk, IfErr};
 ghost use Rattle.s66_program.specs.Device.{ReadsAll};
-ghost use Rattle.s66_program.specs.Output.{IsWithin};
-ghost use Rattle.s66_program.specs.Run.{IsReadFault, IsOutcome};
+ghost use Rattle.s66_program.specs.Output.{IsUnder, IsWithin};
+ghost use Rattle.s66_program.specs.Run.{IsOutcome, IsOutcomeUnder, IsProfileFault, IsReadFault};
 
 use crate::command::Command;
 use crate::limits::{FEED_CALLS, FEED_ROOM};
 use crate::observer::{Observer, Silent};
 use crate::outcome::{Fault, Status};
 use crate::output::output_for;
+use s66_isa::Profile;
 use s66_line::{Feed, Sink, write_all};
+use s66_profile::read_profile;
 use std::alloc::{AllocError, Global};
 use std::sync::Wait;
 use std::thread::Threads;
+
+/// The profile that a command asks for.
+fn profile_of(alloc: Global, command: Command) -> Result<Profile, Fault>
+    ensures ok { IfOk result (IsUnder command.entry) }
+    ensures err { IfErr result (IsProfileFault command.entry) }
+{
+    match command.profile_text() {
+        Some(text) => Ok(read_profile(alloc, text)?),
+        None => Ok(Profile::standard()),
+    }
+}
 
 /// Room for what a call reads.
 fn room(alloc: Global) -> Result<Vec<u8>, AllocError>
@@ -52,11 +65,35 @@ fn read_all<F: Feed>(alloc: Global, reader: &mut F) -> Result<Vec<u8>, Fault>
     read_through(alloc, reader, &mut buffer)
 }
 
+/// Runs a command under a profile: reads to the end, builds all text, and only then writes.
+fn run_under<R: AllocGlobal + Threads + Wait + Sync, F: Feed, S: Sink, O: Observer>(
+    rt: &R,
+    command: Command,
+    profile: &Profile,
+    reader: &mut F,
+    writer: &mut S,
+    observer: &mut O,
+) -> Result<Status, Fault>
+    requires within { IsWithin command }
+    requires reads { (F.seen reader.old).failures < 2 ^ 64 - 1 }
+    requires writes { (S.seen writer.old).failures < 2 ^ 64 - 1 }
+    ensures { IsOutcomeUnder profile.now command.entry (F.seen reader.old) (F.seen reader.new) (S.seen writer.old) (S.seen writer.new) result }
+{
+    let input = read_all(rt.alloc(), reader)?;
+    let output = output_for(rt, command, profile, input.as_slice(), observer);
+    observer.ended();
+    let output = output?;
+    match write_all(writer, output.text.as_slice()) {
+        Ok(()) => Ok(output.status),
+        Err(_) => Err(Fault::Write),
+    }
+}
+
 /// Runs a command whose numbers are within their limits: reads to the end, builds all text, and only then writes. The answer is
 /// `Bounded` where `order` or `prove` left a block only bounded, `Denied` where `check` has a verdict that isn't yes, and else
 /// `Done`.
 ///
-/// Errors: `Source` tells why the source was refused, `Document` why the documents were, `Memory` that memory was wanting, `Read` that the reader failed or none
+/// Errors: `Profile` tells that the text for the profile gives none, and then nothing was read; `Source` tells why the source was refused, `Document` why the documents were, `Memory` that memory was wanting, `Read` that the reader failed or none
 /// of `FEED_CALLS` calls gave the end, `Write` that the writer failed; nothing is written but at `Write`, which leaves a
 /// beginning of the text.
 pub fn run_command<R: AllocGlobal + Threads + Wait + Sync, F: Feed, S: Sink>(
@@ -68,7 +105,7 @@ pub fn run_command<R: AllocGlobal + Threads + Wait + Sync, F: Feed, S: Sink>(
     requires within { IsWithin command }
     requires reads { (F.seen reader.old).failures < 2 ^ 64 - 1 }
     requires writes { (S.seen writer.old).failures < 2 ^ 64 - 1 }
-    ensures { IsOutcome command (F.seen reader.old) (F.seen reader.new) (S.seen writer.old) (S.seen writer.new) result }
+    ensures { IsOutcome command.entry (F.seen reader.old) (F.seen reader.new) (S.seen writer.old) (S.seen writer.new) result }
 {
     run_observed(rt, command, reader, writer, &mut Silent)
 }
@@ -85,14 +122,8 @@ pub fn run_observed<R: AllocGlobal + Threads + Wait + Sync, F: Feed, S: Sink, O:
     requires within { IsWithin command }
     requires reads { (F.seen reader.old).failures < 2 ^ 64 - 1 }
     requires writes { (S.seen writer.old).failures < 2 ^ 64 - 1 }
-    ensures { IsOutcome command (F.seen reader.old) (F.seen reader.new) (S.seen writer.old) (S.seen writer.new) result }
+    ensures { IsOutcome command.entry (F.seen reader.old) (F.seen reader.new) (S.seen writer.old) (S.seen writer.new) result }
 {
-    let input = read_all(rt.alloc(), reader)?;
-    let output = output_for(rt, command, input.as_slice(), observer);
-    observer.ended();
-    let output = output?;
-    match write_all(writer, output.text.as_slice()) {
-        Ok(()) => Ok(output.status),
-        Err(_) => Err(Fault::Write),
-    }
+    let profile = profile_of(rt.alloc(), command)?;
+    run_under(rt, command, &profile, reader, writer, observer)
 }

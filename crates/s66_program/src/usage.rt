@@ -3,7 +3,7 @@ ghost use Rattle.clap.specs.Words.{Text, app_of, found_of, kind_of, one_text};
 ghost use Rattle.s66_ledger.specs.declared.limits.TheConstants.{BUDGET_LIMIT};
 ghost use Rattle.s66_pool.specs.declared.limits.TheConstants.{WORKERS_LIMIT};
 ghost use Rattle.s66_program.specs.declared.limits.TheConstants.{NODES_DEFAULT, WORKERS_DEFAULT};
-ghost use Rattle.s66_program.specs.Usage.{Asks, IsArgumentOf, IsCommandOf, IsUsageOf, Refuses, chart_app, check_app, deps_app, nodes_rule, order_app, prove_app, s66_app, search_app, time_app, trace_rule, workers_rule};
+ghost use Rattle.s66_program.specs.Usage.{Asks, IsArgumentOf, IsCommandOf, IsUsageOf, Refuses, chart_app, check_app, deps_app, nodes_rule, order_app, profile_rule, prove_app, s66_app, search_app, time_app, trace_rule, workers_rule};
 ghost use Rattle.s66_program.specs.OptionNumbers.{IsNumber, IsReadAs};
 ghost use Rattle.s66_program.specs.declared.usage.Usage.TheVariants.{OutOfMemory};
 
@@ -11,6 +11,7 @@ use crate::command::Command as Asked;
 use crate::limits::{NODES_DEFAULT, WORKERS_DEFAULT};
 use clap::error::ErrorKind;
 use clap::{Arg, ArgAction, ArgMatches, Command, Error, value_parser};
+use s66_isa::PROFILE_LIMIT;
 use s66_ledger::BUDGET_LIMIT;
 use s66_pool::WORKERS_LIMIT;
 use std::alloc::{AllocError, Global};
@@ -70,7 +71,7 @@ fn usage_of(alloc: Global, error: &Error) -> Usage
 /// What the help of a subcommand ends with: an example, the statuses, and those that it has alone.
 macro_rules! help_ending {
     ($example:literal) => {
-        help_ending!($example, "the source was refused", "")
+        help_ending!($example, "the source or the profile was refused", "")
     };
     ($example:literal, $refusal:literal, $own_statuses:literal) => {
         concat!(
@@ -86,19 +87,19 @@ macro_rules! help_ending {
 
 const TIME_ENDING: &str = help_ending!("s66 time --trace < SOURCE");
 
-const DEPS_ENDING: &str = help_ending!("s66 deps < SOURCE");
+const DEPS_ENDING: &str = help_ending!("s66 deps < SOURCE", "the source was refused", "");
 
 const CHART_ENDING: &str = help_ending!("s66 chart < SOURCE");
 
 const ORDER_ENDING: &str = help_ending!(
     "s66 order --nodes 1000 < SOURCE",
-    "the source was refused",
+    "the source or the profile was refused",
     ", 7 some block is only bounded"
 );
 
 const PROVE_ENDING: &str = help_ending!(
     "s66 prove --nodes 1000 < SOURCE",
-    "the source was refused",
+    "the source or the profile was refused",
     ", 7 some block is only bounded"
 );
 
@@ -107,6 +108,15 @@ const CHECK_ENDING: &str = help_ending!(
     "the documents were refused",
     ", 5 some verdict is NO"
 );
+
+const PROFILE_HELP: &str = "\
+The timing profile, a JSON object; what it does not name is standard, and {} is the standard profile.
+
+Times in minor cycles: boolean, shift, normalise, add, longadd, multiply, divide, population, increment, load.
+Units of each kind: units_boolean, units_shift, units_add, units_longadd, units_multiply, units_divide, units_increment.
+Each is 1 to 100.
+
+A third Multiply unit: --profile '{\"units_multiply\":3}'";
 
 /// The flag `--trace`.
 fn trace_flag<'a>(alloc: Global, help: &'a str) -> Arg<'a>
@@ -118,7 +128,9 @@ fn trace_flag<'a>(alloc: Global, help: &'a str) -> Arg<'a>
         .action(ArgAction::SetTrue)
 }
 
-// the help of the two options says these as numbers
+// the help of the options says these as numbers
+const _: () = prove!(PROFILE_LIMIT == 100);
+
 const _: () = prove!(WORKERS_LIMIT == 16);
 
 const _: () = prove!(WORKERS_DEFAULT == 4);
@@ -149,6 +161,17 @@ fn nodes_option<'a>(alloc: Global) -> Arg<'a>
         .value_parser(value_parser!(u32).range(..=i64::from(BUDGET_LIMIT)))
 }
 
+/// The option `--profile`.
+fn profile_option<'a>(alloc: Global) -> Arg<'a>
+    ensures { IsArgumentOf profile_rule result }
+{
+    Arg::new(alloc, "profile")
+        .long("profile")
+        .value_name("TEXT")
+        .help("The timing profile, a JSON object [default: {}, the standard one]")
+        .long_help(PROFILE_HELP)
+}
+
 /// The subcommand `time`.
 fn time_command<'a>(alloc: Global) -> Result<Command<'a>, AllocError>
     ensures { IfOk result (IsCommandOf time_app) }
@@ -156,6 +179,7 @@ fn time_command<'a>(alloc: Global) -> Result<Command<'a>, AllocError>
     Command::new(alloc, "time")
         .about("Times each block of a source as it was written")
         .after_help(TIME_ENDING)
+        .arg(profile_option(alloc))?
         .arg(trace_flag(alloc, "Tells each instruction"))
 }
 
@@ -169,12 +193,13 @@ fn deps_command<'a>(alloc: Global) -> Command<'a>
 }
 
 /// The subcommand `chart`.
-fn chart_command<'a>(alloc: Global) -> Command<'a>
-    ensures { IsCommandOf chart_app result }
+fn chart_command<'a>(alloc: Global) -> Result<Command<'a>, AllocError>
+    ensures { IfOk result (IsCommandOf chart_app) }
 {
     Command::new(alloc, "chart")
         .about("Draws each block of a source as it was written")
         .after_help(CHART_ENDING)
+        .arg(profile_option(alloc))
 }
 
 /// A subcommand that searches.
@@ -190,7 +215,8 @@ fn search_command<'a>(
         .about(about)
         .after_help(ending)
         .arg(workers_option(alloc))?
-        .arg(nodes_option(alloc))
+        .arg(nodes_option(alloc))?
+        .arg(profile_option(alloc))
 }
 
 /// The subcommand `order`.
@@ -240,7 +266,7 @@ fn program<'a>(alloc: Global) -> Result<Command<'a>, AllocError>
         .subcommand_required(true)
         .subcommand(time_command(alloc)?)?
         .subcommand(deps_command(alloc))?
-        .subcommand(chart_command(alloc))?
+        .subcommand(chart_command(alloc)?)?
         .subcommand(order_command(alloc)?)?
         .subcommand(prove_command(alloc)?)?
         .subcommand(check_command(alloc))
@@ -261,7 +287,7 @@ fn nodes_in(matches: &ArgMatches) -> u32
 }
 
 /// The command that the words give, of which the first is the program's name.
-pub fn command_of<'a, S: AsStr>(alloc: Global, words: &'a [S]) -> Result<Asked, Usage>
+pub fn command_of<'a, S: AsStr>(alloc: Global, words: &'a [S]) -> Result<Asked<'a>, Usage>
     ensures ok { IfOk result (λ command. Asks (map S.text words.entry.now) command) }
     ensures err { IfErr result (λ usage. Refuses (map S.text words.entry.now) usage) }
 {
@@ -272,17 +298,22 @@ pub fn command_of<'a, S: AsStr>(alloc: Global, words: &'a [S]) -> Result<Asked, 
     match matches.subcommand() {
         Some(("time", time)) => Ok(Asked::Time {
             trace: time.get_flag("trace"),
+            profile: time.get_str("profile"),
         }),
         Some(("deps", _)) => Ok(Asked::Deps),
-        Some(("chart", _)) => Ok(Asked::Chart),
+        Some(("chart", chart)) => Ok(Asked::Chart {
+            profile: chart.get_str("profile"),
+        }),
         Some(("order", order)) => Ok(Asked::Order {
             workers: workers_in(order),
             nodes: nodes_in(order),
             trace: order.get_flag("trace"),
+            profile: order.get_str("profile"),
         }),
         Some(("prove", prove)) => Ok(Asked::Prove {
             workers: workers_in(prove),
             nodes: nodes_in(prove),
+            profile: prove.get_str("profile"),
         }),
         Some(("check", _)) => Ok(Asked::Check),
         _ => unreachable!(),

@@ -31,6 +31,7 @@ fn proves_worked_rows(rt: HostRuntime) {
     let prove = Command::Prove {
         workers: 1,
         nodes: 100_000,
+        profile: None,
     };
     for &(source, documents) in PROOFS {
         check_output(&rt, prove, source, Status::Done, documents);
@@ -54,6 +55,7 @@ fn proves_and_checks_large_trees(rt: HostRuntime) -> Result<(), Fail> {
     let prove = Command::Prove {
         workers: 16,
         nodes: 100_000,
+        profile: None,
     };
     let (result, document) = run(&rt, prove, SEVEN_MULTIPLIES.as_bytes());
     assert_eq!(rt; result, Ok(Status::Done));

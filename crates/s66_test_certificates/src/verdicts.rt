@@ -24,6 +24,7 @@ fn altered<R: AllocGlobal>(rt: &R, text: &str, old: &str, new: &str) -> Result<S
 
 /// What of one load's document is altered, and the verdict.
 const ALTERED_LOADS: &[(&str, &str, &str)] = &[
+    ("PROFILE 3", "PROFILE 4", "DOCUMENT 1 NO LINE 7 REASON 2\n"),
     ("BOUND 12", "BOUND 13", "DOCUMENT 1 NO LINE 8 REASON 8\n"),
     (
         "ORDER 1 3 2",
@@ -42,7 +43,6 @@ const ALTERED_LOADS: &[(&str, &str, &str)] = &[
 
 /// The same of three multiplies.
 const ALTERED_MULTIPLIES: &[(&str, &str, &str)] = &[
-    ("PROFILE 3", "PROFILE 4", "DOCUMENT 1 NO LINE 2 REASON 7\n"),
     (
         "ORDER 1 2 3",
         "ORDER 1 2",
@@ -90,6 +90,20 @@ const BOTH: &str = "DOCUMENT 1 YES TIME 22 BOUND 22\nDOCUMENT 2 YES TIME 12 BOUN
 
 /// What it says if the second's bound is above its time.
 const FIRST: &str = "DOCUMENT 1 YES TIME 22 BOUND 22\nDOCUMENT 2 NO LINE 8 REASON 8\n";
+
+/// A document is checked under its own profile, here of a slower Boolean unit.
+#[test]
+fn checks_under_its_profile(rt: HostRuntime) -> Result<(), Fail> {
+    let slower = altered(&rt, ONE_LOAD, "PROFILE 3", "PROFILE 4")?;
+    let true_of_it = altered(&rt, slower.as_str(), "TIME 12", "TIME 13")?;
+    let yes = "DOCUMENT 1 YES TIME 13 BOUND 12\n";
+    check_output(&rt, Command::Check, true_of_it.as_str(), Status::Done, yes);
+    // no Boolean in it
+    let same = altered(&rt, THREE_MULTIPLIES, "PROFILE 3", "PROFILE 4")?;
+    let yes = "DOCUMENT 1 YES TIME 22 BOUND 22\n";
+    check_output(&rt, Command::Check, same.as_str(), Status::Done, yes);
+    Ok(())
+}
 
 #[test]
 fn tells_each_document(rt: HostRuntime) -> Result<(), Fail> {

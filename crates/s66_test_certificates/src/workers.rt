@@ -25,12 +25,14 @@ fn check_order<R: AllocGlobal + Abort + Threads + Wait + Sync>(rt: &R, workers: 
         workers,
         nodes: 10,
         trace: true,
+        profile: None,
     };
     check_output(rt, order, MULTIPLIES, Status::Done, BEST_ORDER);
     let order = Command::Order {
         workers,
         nodes: 9,
         trace: true,
+        profile: None,
     };
     check_output(rt, order, MULTIPLIES, Status::Bounded, BOUNDED_ORDER);
 }
@@ -40,9 +42,17 @@ fn check_order<R: AllocGlobal + Abort + Threads + Wait + Sync>(rt: &R, workers: 
 fn check_proof<R: AllocGlobal + Abort + Threads + Wait + Sync>(rt: &R, workers: u8)
     requires { (1 ≤ workers) × (workers ≤ WORKERS_LIMIT) }
 {
-    let prove = Command::Prove { workers, nodes: 10 };
+    let prove = Command::Prove {
+        workers,
+        nodes: 10,
+        profile: None,
+    };
     check_output(rt, prove, MULTIPLIES, Status::Done, THREE_MULTIPLIES);
-    let prove = Command::Prove { workers, nodes: 9 };
+    let prove = Command::Prove {
+        workers,
+        nodes: 9,
+        profile: None,
+    };
     let (result, document) = run(rt, prove, MULTIPLIES.as_bytes());
     assert_eq!(rt; result, Ok(Status::Bounded));
     let (result, verdict) = run(rt, Command::Check, document.as_slice());

@@ -88,6 +88,23 @@ fn tells_read_faults(rt: HostRuntime) {
     }
 }
 
+/// Where the profile is none the reader isn't called, though it would fail.
+#[test]
+fn reads_nothing_for_a_bad_profile(rt: HostRuntime) {
+    let mut reader = GivesFew {
+        left: 0,
+        reads: 0,
+        failed: 0,
+        least_room: usize::MAX,
+        most_room: 0,
+    };
+    let words = &["s66", "time", "--profile", "[]"];
+    let ran = run_observed(&rt, words, &mut reader, &mut Silent);
+    assert!(rt; ran.status == 3 && ran.written.is_empty());
+    assert!(rt; ran.told.as_slice() == b"BAD PROFILE\n".as_slice());
+    assert!(rt; reader.reads == 0 && reader.failed == 0);
+}
+
 /// A writer with room for so many bytes.
 fn writer_of(room: usize) -> TakesFew
     ensures { result.failed ≡ 0 }

@@ -40,6 +40,7 @@ const CERT_ERRORS: &[(CertError, &str)] = &[
 
 /// The other reasons why the program fails, and what they show.
 const FAULTS: &[(Fault, &str)] = &[
+    (Fault::Profile, "BAD PROFILE"),
     (Fault::Memory, "OUT OF MEMORY"),
     (Fault::Read, "READ FAILED"),
     (Fault::Write, "WRITE FAILED"),

@@ -7,6 +7,7 @@ use std::thread::Threads;
 mod chart;
 mod deps;
 mod order;
+mod profile;
 mod time;
 mod words;
 
@@ -116,7 +117,21 @@ fn runs_rows(rt: HostRuntime) {
     check_rows(&rt, deps::ROWS);
     check_rows(&rt, chart::ROWS);
     check_rows(&rt, order::ROWS);
+    check_rows(&rt, profile::ROWS);
     check_rows(&rt, words::ROWS);
+}
+
+/// The profile is told before anything is read, so also where the input is refused.
+#[test]
+fn refuses_bad_profiles(rt: HostRuntime) {
+    for text in profile::BAD {
+        for command in ["time", "chart", "order", "prove"] {
+            let words = ["s66", command, "--profile", *text];
+            for input in [ONE_LOAD, "  SA1 *+2\n"] {
+                check(&rt, text, &words, input.as_bytes(), 3, "BAD PROFILE\n");
+            }
+        }
+    }
 }
 
 #[test]

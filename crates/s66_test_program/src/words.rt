@@ -12,6 +12,10 @@ const NO_COMMANDS: &[(&[&str], u8)] = &[
     (&["s66", "time", "--nodes", "5"], 2),
     (&["s66", "time", "--trace=1"], 2),
     (&["s66", "time", "--trace", "--trace"], 2),
+    (&["s66", "time", "--profile"], 2),
+    (&["s66", "time", "--profile", "{}", "--profile", "{}"], 2),
+    (&["s66", "deps", "--profile", "{}"], 2),
+    (&["s66", "check", "--profile", "{}"], 2),
     (&["s66", "deps", "--trace"], 2),
     (&["s66", "deps", "extra"], 2),
     (&["s66", "deps", "chart"], 2),
@@ -37,16 +41,57 @@ const NO_COMMANDS: &[(&[&str], u8)] = &[
 
 /// Words, and the command that they give.
 const COMMANDS: &[(&[&str], Command)] = &[
-    (&["s66", "time"], Command::Time { trace: false }),
-    (&["s66", "time", "--trace"], Command::Time { trace: true }),
+    (
+        &["s66", "time"],
+        Command::Time {
+            trace: false,
+            profile: None,
+        },
+    ),
+    (
+        &["s66", "time", "--trace"],
+        Command::Time {
+            trace: true,
+            profile: None,
+        },
+    ),
+    (
+        &["s66", "time", "--profile", "{\"boolean\":5}"],
+        Command::Time {
+            trace: false,
+            profile: Some("{\"boolean\":5}"),
+        },
+    ),
     (&["s66", "deps"], Command::Deps),
-    (&["s66", "chart"], Command::Chart),
+    (&["s66", "chart"], Command::Chart { profile: None }),
+    (
+        &["s66", "chart", "--profile="],
+        Command::Chart { profile: Some("") },
+    ),
+    (
+        &["s66", "prove", "--profile", "no profile", "--nodes", "7"],
+        Command::Prove {
+            workers: 4,
+            nodes: 7,
+            profile: Some("no profile"),
+        },
+    ),
+    (
+        &["s66", "order", "--trace", "--profile=--trace"],
+        Command::Order {
+            workers: 4,
+            nodes: 100_000,
+            trace: true,
+            profile: Some("--trace"),
+        },
+    ),
     (
         &["s66", "order"],
         Command::Order {
             workers: 4,
             nodes: 100_000,
             trace: false,
+            profile: None,
         },
     ),
     (
@@ -55,6 +100,7 @@ const COMMANDS: &[(&[&str], Command)] = &[
             workers: 4,
             nodes: 100_000,
             trace: true,
+            profile: None,
         },
     ),
     (
@@ -63,6 +109,7 @@ const COMMANDS: &[(&[&str], Command)] = &[
             workers: 1,
             nodes: 0,
             trace: false,
+            profile: None,
         },
     ),
     (
@@ -71,6 +118,7 @@ const COMMANDS: &[(&[&str], Command)] = &[
             workers: 16,
             nodes: 1_000_000,
             trace: true,
+            profile: None,
         },
     ),
 ];

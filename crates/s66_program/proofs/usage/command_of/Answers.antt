@@ -1,6 +1,6 @@
 use Rattle.std.proofs.Common.{rules, ◌∙◌, ap, codes, inl, inr, map, option_map, refl, sym}
 use Rattle.clap.specs.Words.{app_of, found_of}
-use Rattle.s66_program.proofs.Named.{asks-for, flag-of, matched, name-known, search-of, taken}
+use Rattle.s66_program.proofs.Named.{asks-for, flag-of, matched, name-known, profile-of, search-of, taken}
 use Rattle.s66_program.proofs.Refused.{refused}
 use Rattle.s66_program.proofs.usage.command_of.Goals as goal
 use Rattle.s66_program.proofs.usage.command_of.Goals.{in_default-via-in-Some+in_default, in_default-via-in_default}
@@ -38,7 +38,8 @@ returns-in-Some-time-default-clause-ok g c =
     let found = found_of c.in-Some-time-default.time.now in
     let here = matched m words found _ is asks.1 refl c.in-Some-time-default.ensures.rows in (
       asks,
-      flag-of words found c.get_flag.result _ (codes "trace") (codes "trace") here (inl refl, (inr refl, tt)) refl c.get_flag.ensures.value c.get_flag.ensures.other,
+      flag-of words found c.get_flag.result _ (codes "trace") (codes "trace") here (inr refl, (inl refl, (inr refl, tt))) refl c.get_flag.ensures.value c.get_flag.ensures.other,
+      profile-of words found _ c.get_str.result here c.get_str.ensures,
     )
 
 pub returns-in-Some-deps-default-clause-ok : goal.returns-in-Some-deps-default-clause-ok
@@ -53,7 +54,10 @@ returns-in-Some-chart-default-clause-ok g c =
     let words = map g.S.AsStr.text c.args.words.now in
     let m = c.in-Ok.matches in
     let is = taken m (app_of c.in_ok-program.field-0) words c.in_ok-program.ensures c.in-Ok.ensures.kinds c.in-Ok.ensures.matches in
-    asks-for m words c.in-Some-chart-default.field-0-0.now (codes "chart") is c.in-Some-chart-default.ensures.name c.in-Some-chart-default.is-chart
+    let asks = asks-for m words c.in-Some-chart-default.field-0-0.now (codes "chart") is c.in-Some-chart-default.ensures.name c.in-Some-chart-default.is-chart in
+    let found = found_of c.in-Some-chart-default.chart.now in
+    let here = matched m words found _ is asks.1 refl c.in-Some-chart-default.ensures.rows in
+    (asks, profile-of words found _ c.get_str-in-Some-chart-default.result here c.get_str-in-Some-chart-default.ensures)
 
 pub returns-in-Some-order-default-clause-ok : goal.returns-in-Some-order-default-clause-ok
 returns-in-Some-order-default-clause-ok g c =
@@ -64,10 +68,11 @@ returns-in-Some-order-default-clause-ok g c =
     let found = found_of c.in-Some-order-default.order.now in
     let here = matched m words found _ is asks.1 refl c.in-Some-order-default.ensures.rows in (
       asks,
-      search-of words found _ c.workers_in.result c.nodes_in.result here (inl refl, (inr refl, (inr refl, (inr refl, tt)))) (inr refl, (inl refl, (inr refl, (inr refl, tt))))
+      search-of words found _ c.workers_in.result c.nodes_in.result here (inl refl, (inr refl, (inr refl, (inr refl, (inr refl, tt))))) (inr refl, (inl refl, (inr refl, (inr refl, (inr refl, tt)))))
           c.workers_in.ensures c.nodes_in.ensures,
-      flag-of words found c.get_flag-in-Some-order-default.result _ (codes "trace") (codes "trace") here (inr refl, (inr refl, (inl refl, (inr refl, tt)))) refl
+      flag-of words found c.get_flag-in-Some-order-default.result _ (codes "trace") (codes "trace") here (inr refl, (inr refl, (inr refl, (inl refl, (inr refl, tt))))) refl
           c.get_flag-in-Some-order-default.ensures.value c.get_flag-in-Some-order-default.ensures.other,
+      profile-of words found _ c.get_str-in-Some-order-default.result here c.get_str-in-Some-order-default.ensures,
     )
 
 pub returns-in-Some-prove-default-clause-ok : goal.returns-in-Some-prove-default-clause-ok
@@ -79,8 +84,9 @@ returns-in-Some-prove-default-clause-ok g c =
     let found = found_of c.in-Some-prove-default.prove.now in
     let here = matched m words found _ is asks.1 refl c.in-Some-prove-default.ensures.rows in (
       asks,
-      search-of words found _ c.workers_in-in-Some-prove-default.result c.nodes_in-in-Some-prove-default.result here (inl refl, (inr refl, (inr refl, tt))) (inr refl, (inl refl, (inr refl, tt)))
+      search-of words found _ c.workers_in-in-Some-prove-default.result c.nodes_in-in-Some-prove-default.result here (inl refl, (inr refl, (inr refl, (inr refl, tt)))) (inr refl, (inl refl, (inr refl, (inr refl, tt))))
           c.workers_in-in-Some-prove-default.ensures c.nodes_in-in-Some-prove-default.ensures,
+      profile-of words found _ c.get_str-in-Some-prove-default.result here c.get_str-in-Some-prove-default.ensures,
     )
 
 pub returns-in-Some-check-default-clause-ok : goal.returns-in-Some-check-default-clause-ok

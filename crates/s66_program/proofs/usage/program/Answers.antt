@@ -10,7 +10,7 @@ returns c =
     let wants = wants-subcommand _ c.about.result c.subcommand_required.result told c.subcommand_required.ensures in
     let with-time = with-subcommand _ _ _ _ _ wants c.in_ok-time_command.ensures c.in_ok-subcommand.ensures in
     let with-deps = with-subcommand _ _ _ _ _ with-time c.deps_command.ensures c.in_ok-subcommand-2.ensures in
-    let with-chart = with-subcommand _ _ _ _ _ with-deps c.chart_command.ensures c.in_ok-subcommand-3.ensures in
+    let with-chart = with-subcommand _ _ _ _ _ with-deps c.in_ok-chart_command.ensures c.in_ok-subcommand-3.ensures in
     let with-order = with-subcommand _ _ _ _ _ with-chart c.in_ok-order_command.ensures c.in_ok-subcommand-4.ensures in
     let with-prove = with-subcommand _ _ _ _ _ with-order c.in_ok-prove_command.ensures c.in_ok-subcommand-5.ensures in
     IfOk-weaker c.subcommand-6.result _ _ (λ r adds. (with-subcommand _ _ _ _ _ with-prove c.check_command.ensures adds).0) c.subcommand-6.ensures
