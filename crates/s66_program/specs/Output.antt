@@ -54,28 +54,28 @@ IsUnder command p = profile_asked (profile_text command) ≡ Some p
 
 -- LISTINGS
 
--- what a listing has of the n-th block, from 1
-abbrev pub block_lines : Listing → ℕ → Block → List ℕ
-block_lines (listing.Times p trace) n block = time_lines p trace n block
-block_lines listing.Dependences n block = deps_lines n block
-block_lines (listing.Chart p) n block = chart_lines p n block
+-- what a listing under a profile has of the n-th block, from 1
+abbrev pub block_lines : Profile → Listing → ℕ → Block → List ℕ
+block_lines p (listing.Times trace) n block = time_lines p trace n block
+block_lines p listing.Dependences n block = deps_lines n block
+block_lines p listing.Chart n block = chart_lines p n block
 
 -- of these blocks, before which n blocks stand
-abbrev pub lines_of_blocks : Listing → ℕ → List Block → List ℕ
-lines_of_blocks l n [] = []
-lines_of_blocks l n (block ∷ blocks) = block_lines l (n + 1) block ++ lines_of_blocks l (n + 1) blocks
+abbrev pub lines_of_blocks : Profile → Listing → ℕ → List Block → List ℕ
+lines_of_blocks p l n [] = []
+lines_of_blocks p l n (block ∷ blocks) = block_lines p l (n + 1) block ++ lines_of_blocks p l (n + 1) blocks
 
 -- the listing of the source's blocks
-abbrev pub IsListing : Listing → (input text : List ℕ) → Type 0
-IsListing l input text = (blocks : List Block) × (source_of input ≡ Ok blocks) × (text ≡ lines_of_blocks l 0 blocks)
+abbrev pub IsListing : Profile → Listing → (input text : List ℕ) → Type 0
+IsListing p l input text = (blocks : List Block) × (source_of input ≡ Ok blocks) × (text ≡ lines_of_blocks p l 0 blocks)
 
 -- COMMANDS
 
 -- for this input, under a profile, a command writes the text and ends so
 abbrev pub IsOutput : Profile → Command → (input text : List ℕ) → Status → Type 0
-IsOutput p (Time trace profile) input text status = IsListing (listing.Times p trace) input text × (status ≡ Done)
-IsOutput p Deps input text status = IsListing listing.Dependences input text × (status ≡ Done)
-IsOutput p (Chart profile) input text status = IsListing (listing.Chart p) input text × (status ≡ Done)
+IsOutput p (Time trace profile) input text status = IsListing p (listing.Times trace) input text × (status ≡ Done)
+IsOutput p Deps input text status = IsListing p listing.Dependences input text × (status ≡ Done)
+IsOutput p (Chart profile) input text status = IsListing p listing.Chart input text × (status ≡ Done)
 IsOutput p (Order workers nodes trace profile) input text status = IsOrderOutput p nodes trace input text status
 IsOutput p (Prove workers nodes profile) input text status = IsProveOutput p nodes input text status
 IsOutput p Check input text status = IsCheckOutput input text status

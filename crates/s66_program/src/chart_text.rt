@@ -7,9 +7,8 @@ ghost use Rattle.s66_program.specs.ChartText.{chart_line, chart_lines};
 use crate::fields::push_block_head;
 use s66_chart::chart;
 use s66_dep::Order;
-use s66_isa::Profile;
 use s66_line::{Block, OverWrite, push_field};
-use s66_time::{Timed, time_of};
+use s66_time::{Timed, Timer};
 use std::alloc::{AllocError, Global};
 use std::mem;
 
@@ -41,17 +40,18 @@ fn push_chart(alloc: Global, out: &mut Vec<u8>, timed: &Timed) -> Result<(), All
     }
 }
 
-/// The lines of a block, whose number is from 1, under a profile.
+/// The lines of a block, whose number is from 1, under the timer's profile.
 pub fn push_chart_lines(
     alloc: Global,
     out: &mut Vec<u8>,
-    profile: &Profile,
+    timer: &mut Timer,
     number: usize,
     block: &Block,
 ) -> Result<(), AllocError>
-    ensures { OnOk result (out.new.items ≡ out.old.items ++ chart_lines profile.now number block.now) }
+    ensures profile { timer.new ≡ timer.old }
+    ensures lines { OnOk result (out.new.items ≡ out.old.items ++ chart_lines timer.old number block.now) }
 {
-    let timed = time_of(block, profile, &Order::source(block));
+    let timed = timer.time(block, &Order::source(block));
     push_chart_line(out, number, block, &timed)?;
     push_chart(alloc, out, &timed)
 }

@@ -1,6 +1,6 @@
 //! What becomes of the output of `order` and `prove` that is read again: contracts of functions that do nothing.
 
-ghost use Rattle.std.specs.Prelude.{ℕ, Bool, false, List, [], ◌∷◌, ◌++◌, map, Ok, ◌≡◌, ◌≤◌, codes};
+ghost use Rattle.std.specs.Prelude.{ℕ, Bool, false, List, [], ◌∷◌, ◌++◌, length, map, Ok, ◌≡◌, ◌≤◌, codes};
 ghost use Rattle.s66_isa.specs.declared.profile.Profile.{Profile};
 ghost use Rattle.s66_isa.specs.Lists.{Among};
 ghost use Rattle.s66_isa.specs.Table.{standard};
@@ -8,8 +8,10 @@ ghost use Rattle.s66_line.specs.Printed.{printed};
 ghost use Rattle.s66_line.specs.Source.{Block, source_of};
 ghost use Rattle.s66_isa.specs.declared.limits.TheConstants.{BLOCK_LIMIT};
 ghost use Rattle.s66_model.specs.Answer.{Answer, IsAnswer};
+ghost use Rattle.s66_model.specs.Timing.{Problem, total_of};
 ghost use Rattle.s66_ledger.specs.declared.limits.TheConstants.{BUDGET_LIMIT};
 ghost use Rattle.s66_cert.specs.Document.{IsDocument};
+ghost use Rattle.s66_cert.specs.declared.limits.TheConstants.{TIME_LIMIT};
 ghost use Rattle.s66_cert.specs.Examples.{one_load, with_times};
 ghost use Rattle.s66_checker.specs.declared.verdict.Verdict.TheVariants.{Yes};
 ghost use Rattle.s66_checker.specs.Verdict as checker;
@@ -22,6 +24,11 @@ ghost use Rattle.s66_program.specs.Examples.{blocks_in, one_load_answer, one_loa
 ghost use Rattle.s66_program.specs.OrderText.{IsOrderOutput, all_placed, problem_of};
 ghost use Rattle.s66_program.specs.OrderedAgain.{TakePrintedTimes, written_time};
 ghost use Rattle.s66_program.specs.ProveText.{IsProveOutput, all_documents, document_under};
+
+/// No order of a block takes more minor cycles than a certificate may claim, whatever the profile.
+pub fn total_limit_law()
+    ensures { (b : Problem) (order : List ℕ) → length order ≤ BLOCK_LIMIT → total_of b order ≤ TIME_LIMIT }
+{}
 
 /// If what `order` wrote for a source is accepted again, each of its blocks takes as written, under the same profile, the time
 /// that was printed of it.
@@ -37,8 +44,8 @@ pub fn proved_law()
     ensures yes { (p : Profile) (text : List ℕ) (blocks : List Block) (block : Block) (budget : ℕ) (a : Answer) → source_of text ≡ Ok blocks → Among block blocks → budget ≤ BUDGET_LIMIT → IsAnswer (problem_of p block) budget a → verdict (document_under p block a) ≡ Yes a.time a.bound }
 {}
 
-/// What `prove` wrote for a source, under any profile, is a text of documents, for each of which `check` writes YES, with the answer's time and bound; it
-/// writes nothing else, and is done.
+/// What `prove` wrote for a source, under any profile, is a text of documents, for each of which `check` writes YES, with the answer's
+/// time and bound; it writes nothing else, and is done.
 pub fn checked_law()
     ensures yes { (p : Profile) (nodes : ℕ) (input text : List ℕ) (status : Status) → nodes ≤ BUDGET_LIMIT → IsProveOutput p nodes input text status → (lines : List ℕ) × AreYesLines p nodes input text lines × IsCheckOutput text lines Done }
     ensures alone { (p : Profile) (nodes : ℕ) (input text lines : List ℕ) (status checked : Status) → nodes ≤ BUDGET_LIMIT → IsProveOutput p nodes input text status → IsCheckOutput text lines checked → AreYesLines p nodes input text lines × (checked ≡ Done) }

@@ -15,6 +15,7 @@ use crate::time_text::push_time_lines;
 use s66_isa::Profile;
 use s66_line::{Block, Source, read_source};
 use s66_pool::Options;
+use s66_time::Timer;
 use std::alloc::{AllocError, Global};
 use std::sync::Wait;
 use std::thread::Threads;
@@ -23,56 +24,66 @@ use std::thread::Threads;
 #[derive(Clone, Copy, Debug, PartialEq, Eq)]
 pub enum Listing {
     Times {
-        profile: Profile,
         /// Whether each instruction is told.
         trace: bool,
     },
     Dependences,
-    Chart {
-        profile: Profile,
-    },
+    Chart,
 }
 
 /// The lines of a block, whose number is from 1.
 fn push_block(
     alloc: Global,
     out: &mut Vec<u8>,
+    timer: &mut Timer,
     listing: &Listing,
     number: usize,
     block: &Block,
 ) -> Result<(), AllocError>
-    ensures { OnOk result (out.new.items ≡ out.old.items ++ block_lines listing.now number block.now) }
+    ensures profile { timer.new ≡ timer.old }
+    ensures lines { OnOk result (out.new.items ≡ out.old.items ++ block_lines timer.old listing.now number block.now) }
 {
     match listing {
-        Listing::Times { profile, trace } => push_time_lines(out, profile, *trace, number, block),
+        Listing::Times { trace } => push_time_lines(out, timer, *trace, number, block),
         Listing::Dependences => push_deps_lines(out, number, block),
-        Listing::Chart { profile } => push_chart_lines(alloc, out, profile, number, block),
+        Listing::Chart => push_chart_lines(alloc, out, timer, number, block),
     }
 }
 
-/// The listing of these blocks.
-fn text_of_blocks(alloc: Global, listing: &Listing, blocks: &[Block]) -> Result<Vec<u8>, AllocError>
-    ensures { IfOk result (λ text. text.items ≡ lines_of_blocks listing.now 0 blocks.now) }
+/// The listing of these blocks, all of which one timer times.
+fn text_of_blocks(
+    alloc: Global,
+    profile: &Profile,
+    listing: &Listing,
+    blocks: &[Block],
+) -> Result<Vec<u8>, AllocError>
+    ensures { IfOk result (λ text. text.items ≡ lines_of_blocks profile.now listing.now 0 blocks.now) }
 {
+    let mut timer = Timer::new(profile);
     let mut out = Vec::new(alloc);
     for (i, block) in blocks.iter().enumerate() {
-        push_block(alloc, &mut out, listing, i + 1, block)?;
+        push_block(alloc, &mut out, &mut timer, listing, i + 1, block)?;
     }
     Ok(out)
 }
 
 /// The listing of a source's blocks.
-fn listing_output(alloc: Global, listing: &Listing, source: &Source) -> Result<Output, AllocError>
-    ensures { IfOk result (λ output. IsListing listing.now source.now output.text.items × (output.status ≡ Done)) }
+fn listing_output(
+    alloc: Global,
+    profile: &Profile,
+    listing: &Listing,
+    source: &Source,
+) -> Result<Output, AllocError>
+    ensures { IfOk result (λ output. IsListing profile.now listing.now source.now output.text.items × (output.status ≡ Done)) }
 {
     Ok(Output {
-        text: text_of_blocks(alloc, listing, source.blocks())?,
+        text: text_of_blocks(alloc, profile, listing, source.blocks())?,
         status: Status::Done,
     })
 }
 
-/// What a command writes for an input under a profile, or why the input was refused; no other fault than `Source`, `Document` and `Memory`. The
-/// observer is told how far it is, and not of the end.
+/// What a command writes for an input under a profile, or why the input was refused; no other fault than `Source`, `Document` and
+/// `Memory`. The observer is told how far it is, and not of the end.
 pub fn output_for<R: AllocGlobal + Threads + Wait + Sync, O: Observer>(
     rt: &R,
     command: Command,
@@ -87,18 +98,16 @@ pub fn output_for<R: AllocGlobal + Threads + Wait + Sync, O: Observer>(
     let alloc = rt.alloc();
     let output = match command {
         Command::Time { trace, .. } => {
-            let listing = Listing::Times {
-                profile: *profile,
-                trace,
-            };
-            listing_output(alloc, &listing, &read_source(alloc, input)?)?
+            let listing = Listing::Times { trace };
+            listing_output(alloc, profile, &listing, &read_source(alloc, input)?)?
         }
         Command::Deps => {
-            listing_output(alloc, &Listing::Dependences, &read_source(alloc, input)?)?
+            let listing = Listing::Dependences;
+            listing_output(alloc, profile, &listing, &read_source(alloc, input)?)?
         }
         Command::Chart { .. } => {
-            let listing = Listing::Chart { profile: *profile };
-            listing_output(alloc, &listing, &read_source(alloc, input)?)?
+            let listing = Listing::Chart;
+            listing_output(alloc, profile, &listing, &read_source(alloc, input)?)?
         }
         Command::Order {
             workers,

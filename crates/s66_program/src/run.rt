@@ -93,9 +93,10 @@ fn run_under<R: AllocGlobal + Threads + Wait + Sync, F: Feed, S: Sink, O: Observ
 /// `Bounded` where `order` or `prove` left a block only bounded, `Denied` where `check` has a verdict that isn't yes, and else
 /// `Done`.
 ///
-/// Errors: `Profile` tells that the text for the profile gives none, and then nothing was read; `Source` tells why the source was refused, `Document` why the documents were, `Memory` that memory was wanting, `Read` that the reader failed or none
-/// of `FEED_CALLS` calls gave the end, `Write` that the writer failed; nothing is written but at `Write`, which leaves a
-/// beginning of the text.
+/// Errors: `Profile` tells that the text for the profile gives none, and then nothing was read; `Source` tells why the source was
+/// refused, `Document` why the documents were, `Memory` that memory was wanting, `Read` that the reader failed or none of
+/// `FEED_CALLS` calls gave the end, `Write` that the writer failed; nothing is written but at `Write`, which leaves a beginning of
+/// the text.
 pub fn run_command<R: AllocGlobal + Threads + Wait + Sync, F: Feed, S: Sink>(
     rt: &R,
     command: Command,

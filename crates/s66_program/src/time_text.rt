@@ -5,9 +5,8 @@ ghost use Rattle.s66_program.specs.TimeText.{fillers_as_written, time_line, trac
 
 use crate::fields::push_block_head;
 use s66_dep::Order;
-use s66_isa::Profile;
 use s66_line::{Block, push_field};
-use s66_time::{Timed, pack, time_of};
+use s66_time::{Timed, Timer, pack};
 use std::alloc::AllocError;
 
 /// The line of a block, whose number is from 1, and which is timed as it was written.
@@ -61,19 +60,20 @@ fn push_trace(out: &mut Vec<u8>, timed: &Timed) -> Result<(), AllocError>
     Ok(())
 }
 
-/// The lines of a block, whose number is from 1, under a profile.
+/// The lines of a block, whose number is from 1, under the timer's profile.
 pub fn push_time_lines(
     out: &mut Vec<u8>,
-    profile: &Profile,
+    timer: &mut Timer,
     trace: bool,
     number: usize,
     block: &Block,
 ) -> Result<(), AllocError>
-    ensures { OnOk result (out.new.items ≡ out.old.items ++ time_lines profile.now trace number block.now) }
+    ensures profile { timer.new ≡ timer.old }
+    ensures lines { OnOk result (out.new.items ≡ out.old.items ++ time_lines timer.old trace number block.now) }
 {
     let order = Order::source(block);
     let fillers = pack(block, &order).fillers.len();
-    let timed = time_of(block, profile, &order);
+    let timed = timer.time(block, &order);
     push_time_line(out, number, block, fillers, &timed)?;
     if trace {
         push_trace(out, &timed)?;
