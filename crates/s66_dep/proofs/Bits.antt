@@ -1,14 +1,15 @@
--- The numbers in a set, and the bits of its word.
-use Rattle.std.proofs.Common.{ℕ, zero, suc, ◌+◌, ◌-◌, ◌*◌, ◌/◌, ◌%◌, ◌^◌, ◌≤◌, ◌<◌, ◌≡◌, ◌⊎◌, ◌↔◌, Bool, true, false, cond, ◌||◌, ◌&&◌, not, ◌==◌, IsTrue, ◌∷◌, length, filter, min, bit_and, bit_or, count_ones, eqb-true, eq-eqb, ne_eqb, true≢false, refl, sym, ap, subst, ◌∙◌, inl, inr, arith, add-one, div-one, shr-shr, pow-suc}
-use Rattle.std.specs.Int.{w128, bit_at, bit_not}
+-- The numbers in a set, and the bits of its two words.
+use Rattle.std.proofs.Common.{ℕ, zero, suc, ◌+◌, ◌-◌, ◌*◌, ◌/◌, ◌%◌, ◌^◌, ◌≤◌, ◌<◌, ◌≡◌, ◌⊎◌, Bool, true, false, cond, ◌||◌, ◌&&◌, not, ◌==◌, IsTrue, ◌∷◌, ◌++◌, List, length, filter, min, bit_and, bit_or, count_ones, eqb-true, eq-eqb, ne_eqb, true≢false, refl, sym, ap, subst, ◌∙◌, inl, inr, arith, pow-suc, length-append}
+use Rattle.std.specs.Int.{w64, bit_at, bit_not}
 use Rattle.std.specs.Int.Count.{ones_step}
-use Rattle.std.proofs.lemmas.Bool.{cases_eq, cases_lt, cond_both, or_from, eqb-false}
-use Rattle.std.proofs.lemmas.Nat.{ones_le_self}
-use Rattle.std.proofs.lemmas.Nat.Bits.{shr_and_one, bit_at-lt, bit_at_and, bit_at_not, bit_at_above, bit_at_set_same, bit_at_set_other, same_from_bits}
+use Rattle.std.proofs.lemmas.Bool.{cases_eq, cases_lt, cond_both, or_from, eqb-false, and_parts, le-leb, lt-leb}
+use Rattle.std.proofs.lemmas.List.Elements.{filter-append}
+use Rattle.std.proofs.lemmas.Nat.{ones_le_self, and_le_l}
+use Rattle.std.proofs.lemmas.Nat.Bits.{bit_at-lt, bit_at_lowest, bit_at-suc, bit_at_and, bit_at_not, bit_at_set_same, bit_at_set_other, same_from_bits_below}
 use Rattle.s66_isa.specs.declared.limits.TheConstants.{BLOCK_LIMIT}
 use Rattle.s66_isa.specs.Lists.{has, rising}
 use Rattle.s66_dep.specs.declared.set.Set.{Set}
-use Rattle.s66_dep.specs.Members.{is_member, numbers_in}
+use Rattle.s66_dep.specs.Members.{bit_of, is_member, numbers_in}
 
 -- RISING NUMBERS THAT PASS A TEST
 
@@ -38,128 +39,178 @@ has-inside_rising test (suc count) low m le lt =
 
 -- WHICH NUMBERS ARE THERE
 
-pub has-inside : (set : Set) (m : ℕ) → 1 ≤ m → m ≤ BLOCK_LIMIT → has m (numbers_in set) ≡ is_member set.bits m
+pub has-inside : (set : Set) (m : ℕ) → 1 ≤ m → m ≤ BLOCK_LIMIT → has m (numbers_in set) ≡ is_member set m
 unfolding numbers_in
-has-inside set m low high = has-inside_rising (is_member set.bits) BLOCK_LIMIT 1 m low (omega arith)
+has-inside set m low high = has-inside_rising (is_member set) BLOCK_LIMIT 1 m low (omega arith)
 
 pub has-outside : (set : Set) (m : ℕ) → (m < 1) ⊎ (BLOCK_LIMIT < m) → has m (numbers_in set) ≡ false
 unfolding numbers_in
-has-outside set m out = has-outside_rising (is_member set.bits) BLOCK_LIMIT 1 m (grind arith)
+has-outside set m out = has-outside_rising (is_member set) BLOCK_LIMIT 1 m (grind arith)
 
-member-bit : (bits i : ℕ) → is_member bits (suc i) ≡ (bit_at bits i == 1)
-member-bit bits i = ap (λ x. x == 1) (shr_and_one bits (suc i - 1) ∙ ap (bit_at bits) (omega arith))
+pub in-low : (set : Set) (m : ℕ) → m ≤ 64 → bit_of set m ≡ bit_at set.low (m - 1)
+in-low set m le = rw (le-leb m 64 le) refl
 
-has-bit : (set : Set) (i : ℕ) → i < BLOCK_LIMIT → has (suc i) (numbers_in set) ≡ (bit_at set.bits i == 1)
-has-bit set i lt = has-inside set (suc i) (omega arith) (omega arith) ∙ member-bit set.bits i
+pub in-high : (set : Set) (m : ℕ) → 64 < m → bit_of set m ≡ bit_at set.high (m - 65)
+in-high set m lt = rw (lt-leb m 64 lt) refl
+
+at-low : (set : Set) (i : ℕ) → i < 64 → bit_at set.low i ≡ bit_of set (1 + i)
+at-low set i lt = (let e : i ≡ 1 + i - 1 = omega arith in ap (bit_at set.low) e) ∙ sym (in-low set (1 + i) (omega arith))
+
+at-high : (set : Set) (i : ℕ) → bit_at set.high i ≡ bit_of set (65 + i)
+at-high set i = (let e : i ≡ 65 + i - 65 = omega arith in ap (bit_at set.high) e) ∙ sym (in-high set (65 + i) (omega arith))
+
+bit-lt : (set : Set) (m : ℕ) → bit_of set m < 2
+bit-lt set m = elim (cases_lt 64 m) [ inl lt ↦ rw (lt-leb m 64 lt) (bit_at-lt set.high (m - 65)) | inr le ↦ rw (le-leb m 64 le) (bit_at-lt set.low (m - 1)) ]
+
+-- what is so of the bits is so of the numbers, if a number outside the block's is in none of the sets
+from-members : (all set other : Set) (tell : ℕ → Bool → Bool → Bool) → ((m : ℕ) → (m < 1) ⊎ (BLOCK_LIMIT < m) → tell m false false ≡ false) →
+    ((m : ℕ) → 1 ≤ m → m ≤ BLOCK_LIMIT → is_member all m ≡ tell m (is_member set m) (is_member other m)) → (m : ℕ) → has m (numbers_in all) ≡ tell m (has m (numbers_in set)) (has m (numbers_in other))
+from-members all set other tell outside inside m =
+    elim (cases_lt m 1) [
+      | inl below ↦ out (inl below)
+      | inr low ↦
+          elim (cases_lt BLOCK_LIMIT m) [
+            | inl above ↦ out (inr above)
+            | inr high ↦ has-inside all m low high ∙ (inside m low high ∙ sym (ap (λ b. tell m b (has m (numbers_in other))) (has-inside set m low high) ∙ ap (tell m (is_member set m)) (has-inside other m low high)))
+          ]
+    ]
+  where
+    out : (m < 1) ⊎ (BLOCK_LIMIT < m) → has m (numbers_in all) ≡ tell m (has m (numbers_in set)) (has m (numbers_in other))
+    out o = has-outside all m o ∙ sym (ap (λ b. tell m b (has m (numbers_in other))) (has-outside set m o) ∙ (ap (tell m false) (has-outside other m o) ∙ outside m o))
 
 -- ONE NUMBER MORE
 
-pub with-number : (set : Set) (n : ℕ) → 1 ≤ n → n ≤ BLOCK_LIMIT → (m : ℕ) → has m (numbers_in (record { bits = bit_or set.bits (1 * 2 ^ (n - 1) % 2 ^ 128) })) ≡ (m == n || has m (numbers_in set))
-with-number set zero low high m = absurd (omega arith)
-with-number set (suc k) low high zero =
-    has-outside (record { bits = bit_or set.bits (1 * 2 ^ (suc k - 1) % 2 ^ 128) }) 0 (inl (omega arith))
-    ∙ sym (or_from (0 == suc k) (has 0 (numbers_in set)) (ne_eqb 0 (suc k) (λ e. omega arith)) (has-outside set 0 (inl (omega arith))))
-with-number set (suc k) low high (suc i) =
-    let bits = bit_or set.bits (1 * 2 ^ (suc k - 1) % 2 ^ 128) in
-    let place : suc k - 1 ≡ k = omega arith in
-    elim (cases_lt i BLOCK_LIMIT) [
-      | inl lt ↦
-          elim (cases_eq i k) [
-            | inl here ↦
-                has-bit (record { bits = bits }) i lt
-                ∙ eq-eqb (bit_at bits i) 1 (ap (bit_at bits) (here ∙ sym place) ∙ bit_at_set_same w128 set.bits (suc k - 1) (omega arith))
-                ∙ sym (rw (eq-eqb (suc i) (suc k) (ap suc here)) refl)
-            | inr apart ↦
-                has-bit (record { bits = bits }) i lt
-                ∙ ap (λ bit. bit == 1) (bit_at_set_other w128 set.bits (suc k - 1) (omega arith) i (λ e. apart (e ∙ place)))
-                ∙ sym (has-bit set i lt)
-                ∙ sym (rw (ne_eqb (suc i) (suc k) (λ e. apart (omega arith))) refl)
-          ]
-      | inr ge ↦
-          has-outside (record { bits = bits }) (suc i) (inr (omega arith))
-          ∙ sym (or_from (suc i == suc k) (has (suc i) (numbers_in set)) (ne_eqb (suc i) (suc k) (λ e. omega arith)) (has-outside set (suc i) (inr (omega arith))))
+one-more : (word first n m : ℕ) → first ≤ n → n < first + 64 → first ≤ m → (bit_at (bit_or word (1 * 2 ^ (n - first) % 2 ^ 64)) (m - first) == 1) ≡ (m == n || bit_at word (m - first) == 1)
+one-more word first n m low high le =
+    let more = bit_or word (1 * 2 ^ (n - first) % 2 ^ 64) in
+    elim (cases_eq m n) [
+      | inl here ↦ eq-eqb (bit_at more (m - first)) 1 (ap (λ k. bit_at more (k - first)) here ∙ bit_at_set_same w64 word (n - first) (omega arith)) ∙ sym (rw (eq-eqb m n here) refl)
+      | inr apart ↦ ap (λ bit. bit == 1) (bit_at_set_other w64 word (n - first) (omega arith) (m - first) (λ e. apart (omega (arith, e)))) ∙ sym (rw (ne_eqb m n apart) refl)
     ]
 
--- A SET WITHIN ANOTHER
+pub with-low : (set : Set) (n : ℕ) → 1 ≤ n → n ≤ 64 → (m : ℕ) → has m (numbers_in (record { low = bit_or set.low (1 * 2 ^ (n - 1) % 2 ^ 64); high = set.high })) ≡ (m == n || has m (numbers_in set))
+with-low set n low high =
+    from-members (record { low = bit_or set.low (1 * 2 ^ (n - 1) % 2 ^ 64); high = set.high }) set set (λ m b c. m == n || b)
+    (λ m out. rw (ne_eqb m n (grind arith)) refl)
+    (λ m some few.
+    elim (cases_lt 64 m) [
+      | inl lt ↦ rw (lt-leb m 64 lt, ne_eqb m n (λ e. omega (arith, e, lt))) refl
+      | inr le ↦ rw (le-leb m 64 le) (one-more set.low 1 n m low (omega (arith, high)) some)
+    ])
 
-abbrev IsWithin : Set → Set → Type 0
+pub with-high : (set : Set) (n : ℕ) → 64 < n → n ≤ BLOCK_LIMIT → (m : ℕ) → has m (numbers_in (record { low = set.low; high = bit_or set.high (1 * 2 ^ (n - 65) % 2 ^ 64) })) ≡ (m == n || has m (numbers_in set))
+with-high set n low high =
+    from-members (record { low = set.low; high = bit_or set.high (1 * 2 ^ (n - 65) % 2 ^ 64) }) set set (λ m b c. m == n || b)
+    (λ m out. rw (ne_eqb m n (grind arith)) refl)
+    (λ m some few.
+    elim (cases_lt 64 m) [
+      | inl lt ↦ rw (lt-leb m 64 lt) (one-more set.high 65 n m (omega (arith, low)) (omega (arith, high)) (omega (arith, lt)))
+      | inr le ↦ rw (le-leb m 64 le, ne_eqb m n (λ e. omega (arith, e, le, low))) refl
+    ])
+
+-- IN BOTH, WITHOUT ANOTHER, AND WITHIN ANOTHER
+
+abbrev And : Set → Set → Set
+And set other = record { low = bit_and set.low other.low; high = bit_and set.high other.high }
+
+and-bit : (set other : Set) (m : ℕ) → bit_of (And set other) m ≡ min (bit_of set m) (bit_of other m)
+and-bit set other m =
+    elim (cases_lt 64 m) [
+      | inl lt ↦ rw (lt-leb m 64 lt) (bit_at_and set.high other.high (m - 65))
+      | inr le ↦ rw (le-leb m 64 le) (bit_at_and set.low other.low (m - 1))
+    ]
+
+tells-and : (x y z : ℕ) → x < 2 → y < 2 → z ≡ min x y → (z == 1) ≡ ((x == 1) && (y == 1))
+tells-and x y z h1 h2 e = grind (arith, h1, h2, e)
+
+pub both-numbers : (set other : Set) (m : ℕ) → has m (numbers_in (record { low = bit_and set.low other.low; high = bit_and set.high other.high })) ≡ (has m (numbers_in set) && has m (numbers_in other))
+both-numbers set other =
+    from-members (And set other) set other (λ m b c. b && c) (λ m out. refl)
+    (λ m low high. tells-and (bit_of set m) (bit_of other m) (bit_of (And set other) m) (bit-lt set m) (bit-lt other m) (and-bit set other m))
+
+abbrev Not : Set → Set
+Not set = record { low = bit_not w64 set.low; high = bit_not w64 set.high }
+
+not-bit : (set : Set) (m : ℕ) → set.low < 2 ^ 64 → set.high < 2 ^ 64 → 1 ≤ m → m ≤ BLOCK_LIMIT → bit_of (Not set) m ≡ 1 - bit_of set m
+not-bit set m fits fits2 low high =
+    elim (cases_lt 64 m) [
+      | inl lt ↦ rw (lt-leb m 64 lt) (bit_at_not w64 set.high (m - 65) fits2 (omega (arith, lt, high)))
+      | inr le ↦ rw (le-leb m 64 le) (bit_at_not w64 set.low (m - 1) fits (omega (arith, low, le)))
+    ]
+
+tells-not : (x y z : ℕ) → x < 2 → y < 2 → z ≡ min x (1 - y) → (z == 1) ≡ ((x == 1) && not (y == 1))
+tells-not x y z h1 h2 e = grind (arith, h1, h2, e)
+
+pub without-numbers : (set other : Set) → other.low < 2 ^ 64 → other.high < 2 ^ 64 → (m : ℕ) →
+    has m (numbers_in (record { low = bit_and set.low (bit_not w64 other.low); high = bit_and set.high (bit_not w64 other.high) })) ≡ (has m (numbers_in set) && not (has m (numbers_in other)))
+without-numbers set other fits fits2 =
+    from-members (And set (Not other)) set other (λ m b c. b && not c) (λ m out. refl)
+    (λ m low high. tells-not (bit_of set m) (bit_of other m) (bit_of (And set (Not other)) m) (bit-lt set m) (bit-lt other m)
+    (and-bit set (Not other) m ∙ ap (min (bit_of set m)) (not-bit other m fits fits2 low high)))
+
+abbrev pub IsWithin : Set → Set → Type 0
 IsWithin set other = (m : ℕ) → has m (numbers_in set) ≡ true → has m (numbers_in other) ≡ true
 
-from-shared : (set other : Set) → bit_and set.bits other.bits ≡ set.bits → IsWithin set other
-from-shared set other same zero prefix = absurd (true≢false (sym prefix ∙ has-outside set 0 (inl (omega arith))))
-from-shared set other same (suc i) prefix =
-    elim (cases_lt i BLOCK_LIMIT) [
-      | inl lt ↦
-          let own : bit_at set.bits i ≡ 1 = eqb-true (bit_at set.bits i) 1 (sym (has-bit set i lt) ∙ prefix) in
-          let shared : bit_at (bit_and set.bits other.bits) i ≡ bit_at set.bits i = ap (λ bits. bit_at bits i) same in
-          has-bit other i lt ∙ eq-eqb (bit_at other.bits i) 1 (omega (arith, own, shared, bit_at_and set.bits other.bits i, bit_at-lt other.bits i))
-      | inr ge ↦ absurd (true≢false (sym prefix ∙ has-outside set (suc i) (inr (omega arith))))
-    ]
+pub from-shared : (set other : Set) → bit_and set.low other.low ≡ set.low → bit_and set.high other.high ≡ set.high → IsWithin set other
+from-shared set other low high m is =
+    let same : And set other ≡ set = rw (low, high) refl in
+    let both : (has m (numbers_in set) && has m (numbers_in other)) ≡ true = sym (both-numbers set other m) ∙ (ap (λ (s : Set). has m (numbers_in s)) same ∙ is) in
+    (and_parts (has m (numbers_in set)) (has m (numbers_in other)) both).1
 
-shared-bit : (set other : Set) → set.bits < 2 ^ 128 → IsWithin set other → (i : ℕ) → bit_at (bit_and set.bits other.bits) i ≡ bit_at set.bits i
-shared-bit set other fits each i =
-    elim (cases_eq (bit_at set.bits i) 1) [
+shared-bit : (set other : Set) → IsWithin set other → (m : ℕ) → 1 ≤ m → m ≤ BLOCK_LIMIT → bit_of (And set other) m ≡ bit_of set m
+shared-bit set other each m low high =
+    elim (cases_eq (bit_of set m) 1) [
       | inl own ↦
-          elim (cases_lt i BLOCK_LIMIT) [
-            | inl lt ↦
-                let prefix : has (suc i) (numbers_in other) ≡ true = each (suc i) (has-bit set i lt ∙ eq-eqb (bit_at set.bits i) 1 own) in
-                omega (arith, own, bit_at_and set.bits other.bits i, eqb-true (bit_at other.bits i) 1 (sym (has-bit other i lt) ∙ prefix))
-            | inr ge ↦ absurd (omega (arith, own, bit_at_above set.bits BLOCK_LIMIT i fits ge))
-          ]
-      | inr clear ↦ grind (arith, clear, bit_at_and set.bits other.bits i, bit_at-lt set.bits i)
+          let there : bit_of other m ≡ 1 = eqb-true (bit_of other m) 1 (sym (has-inside other m low high) ∙ each m (has-inside set m low high ∙ eq-eqb (bit_of set m) 1 own)) in
+          omega (arith, own, there, and-bit set other m)
+      | inr clear ↦ grind (arith, clear, and-bit set other m, bit-lt set m)
     ]
 
-pub within-numbers : (set other : Set) → set.bits < 2 ^ 128 → IsTrue (bit_and set.bits other.bits == set.bits) ↔ ((m : ℕ) → has m (numbers_in set) ≡ true → has m (numbers_in other) ≡ true)
-within-numbers set other fits =
-    let both = bit_and set.bits other.bits in
-    (λ same. from-shared set other (eqb-true both set.bits same), λ each. eq-eqb both set.bits (same_from_bits both set.bits (shared-bit set other fits each)))
+pub shared-low : (set other : Set) → set.low < 2 ^ 64 → IsWithin set other → bit_and set.low other.low ≡ set.low
+shared-low set other fits each =
+    same_from_bits_below 64 (bit_and set.low other.low) set.low (omega (arith, fits, and_le_l set.low other.low)) fits
+    (λ i lt. at-low (And set other) i lt ∙ (shared-bit set other each (1 + i) (omega arith) (omega (arith, lt)) ∙ sym (at-low set i lt)))
+
+pub shared-high : (set other : Set) → set.high < 2 ^ 64 → IsWithin set other → bit_and set.high other.high ≡ set.high
+shared-high set other fits each =
+    same_from_bits_below 64 (bit_and set.high other.high) set.high (omega (arith, fits, and_le_l set.high other.high)) fits
+    (λ i lt. at-high (And set other) i ∙ (shared-bit set other each (65 + i) (omega arith) (omega (arith, lt)) ∙ sym (at-high set i)))
 
 -- HOW MANY ARE THERE
 
--- a word without its lowest bits has as many set bits as the set has numbers above them
-ones-rising : (bits count low : ℕ) → bits / 2 ^ low < 2 ^ count → count_ones (bits / 2 ^ low) ≡ length (filter (is_member bits) (rising count (suc low)))
-ones-rising bits zero low fits = omega (arith, ones_le_self (bits / 2 ^ low))
-ones-rising bits (suc count) low fits =
-    let word = bits / 2 ^ low in
-    let next : word / 2 ≡ bits / 2 ^ suc low = shr-shr bits low 1 ∙ ap (λ k. bits / 2 ^ k) (add-one low) in
-    let rest = filter (is_member bits) (rising count (suc (suc low))) in
-    let later : count_ones (word / 2) ≡ length rest = ap count_ones next ∙ ones-rising bits count (suc low) (omega (arith, pow-suc 2 count)) in
-    cond_both (is_member bits (suc low)) (suc low ∷ rest) rest (λ ns. count_ones word ≡ length ns)
-    (λ is. omega (arith, ones_step word, later, eqb-true (bit_at bits low) 1 (sym (member-bit bits low) ∙ is)))
-    (λ is. grind (arith, ones_step word, later, bit_at-lt bits low, eqb-false (bit_at bits low) 1 (sym (member-bit bits low) ∙ is)))
+rising-append : (k more low : ℕ) → rising (k + more) low ≡ rising k low ++ rising more (low + k)
+rising-append zero more low =
+    let none : 0 + more ≡ more = omega arith in
+    let here : low ≡ low + 0 = omega arith in
+    ap (λ n. rising n low) none ∙ ap (λ n. rising more n) here
+rising-append (suc k) more low =
+    let one : suc k + more ≡ suc (k + more) = omega arith in
+    let next : suc low + k ≡ low + suc k = omega arith in
+    ap (λ n. rising n low) one ∙ ap (λ ns. low ∷ ns) (rising-append k more (suc low) ∙ ap (λ n. rising k (suc low) ++ rising more n) next)
 
-pub count-numbers : (set : Set) → set.bits < 2 ^ 128 → count_ones set.bits ≡ length (numbers_in set)
+-- a word has as many set bits as there are numbers that pass, if each bit tells whether its number does
+ones-rising : (test : ℕ → Bool) (count word low : ℕ) → word < 2 ^ count → ((i : ℕ) → i < count → test (low + i) ≡ (bit_at word i == 1)) → count_ones word ≡ length (filter test (rising count low))
+ones-rising test zero word low fits tells = omega (arith, ones_le_self word)
+ones-rising test (suc count) word low fits tells =
+    let rest = filter test (rising count (suc low)) in
+    let later : count_ones (word / 2) ≡ length rest =
+    ones-rising test count (word / 2) (suc low) (omega (arith, pow-suc 2 count))
+    (λ i lt. (let e : suc low + i ≡ low + suc i = omega arith in ap test e) ∙ (tells (suc i) (omega (arith, lt)) ∙ ap (λ bit. bit == 1) (bit_at-suc word i)))
+    in
+    let first : test low ≡ (word % 2 == 1) = (let e : low ≡ low + 0 = omega arith in ap test e) ∙ (tells 0 (omega arith) ∙ ap (λ bit. bit == 1) (bit_at_lowest word)) in
+    cond_both (test low) (low ∷ rest) rest (λ ns. count_ones word ≡ length ns)
+    (λ is. omega (arith, ones_step word, later, eqb-true (word % 2) 1 (sym first ∙ is)))
+    (λ is. grind (arith, ones_step word, later, eqb-false (word % 2) 1 (sym first ∙ is)))
+
+pub count-numbers : (set : Set) → set.low < 2 ^ 64 → set.high < 2 ^ 64 → count_ones set.low + count_ones set.high ≡ length (numbers_in set)
 unfolding numbers_in
-count-numbers set fits = ap count_ones (sym (div-one set.bits)) ∙ ones-rising set.bits BLOCK_LIMIT 0 (rw (div-one set.bits) fits)
-
--- WITHOUT ANOTHER, AND IN BOTH
-
-pub without-numbers : (set other : Set) → other.bits < 2 ^ 128 → (m : ℕ) → has m (numbers_in (record { bits = bit_and set.bits (bit_not w128 other.bits) })) ≡ (has m (numbers_in set) && not (has m (numbers_in other)))
-without-numbers set other fits zero =
-    has-outside (record { bits = bit_and set.bits (bit_not w128 other.bits) }) 0 (inl (omega arith)) ∙ sym (rw (has-outside set 0 (inl (omega arith))) refl)
-without-numbers set other fits (suc i) =
-    let all : Set = record { bits = bit_and set.bits (bit_not w128 other.bits) } in
-    elim (cases_lt i BLOCK_LIMIT) [
-      | inl lt ↦
-          has-bit all i lt ∙ tells (bit_at set.bits i) (bit_at other.bits i) (bit_at all.bits i) (bit_at-lt set.bits i) (bit_at-lt other.bits i) (bit_at-lt all.bits i)
-          (bit_at_and set.bits (bit_not w128 other.bits) i ∙ ap (min (bit_at set.bits i)) (bit_at_not w128 other.bits i fits lt)) ∙ sym (rw (has-bit set i lt, has-bit other i lt) refl)
-      | inr ge ↦ has-outside all (suc i) (inr (omega arith)) ∙ sym (rw (has-outside set (suc i) (inr (omega arith))) refl)
-    ]
-  where
-    tells : (x y z : ℕ) → x < 2 → y < 2 → z < 2 → z ≡ min x (1 - y) → (z == 1) ≡ ((x == 1) && not (y == 1))
-    tells x y z h1 h2 h3 e = grind (arith, h1, h2, h3, e)
-
-pub both-numbers : (set other : Set) (m : ℕ) → has m (numbers_in (record { bits = bit_and set.bits other.bits })) ≡ (has m (numbers_in set) && has m (numbers_in other))
-both-numbers set other zero =
-    has-outside (record { bits = bit_and set.bits other.bits }) 0 (inl (omega arith)) ∙ sym (rw (has-outside set 0 (inl (omega arith))) refl)
-both-numbers set other (suc i) =
-    let all : Set = record { bits = bit_and set.bits other.bits } in
-    elim (cases_lt i BLOCK_LIMIT) [
-      | inl lt ↦
-          has-bit all i lt ∙ tells (bit_at set.bits i) (bit_at other.bits i) (bit_at all.bits i) (bit_at-lt set.bits i) (bit_at-lt other.bits i) (bit_at-lt all.bits i) (bit_at_and set.bits other.bits i)
-          ∙ sym (rw (has-bit set i lt, has-bit other i lt) refl)
-      | inr ge ↦ has-outside all (suc i) (inr (omega arith)) ∙ sym (rw (has-outside set (suc i) (inr (omega arith))) refl)
-    ]
-  where
-    tells : (x y z : ℕ) → x < 2 → y < 2 → z < 2 → z ≡ min x y → (z == 1) ≡ ((x == 1) && (y == 1))
-    tells x y z h1 h2 h3 e = grind (arith, h1, h2, h3, e)
+count-numbers set fits fits2 =
+    let below = rising 64 1 in
+    let above = rising 64 65 in
+    let halves : rising BLOCK_LIMIT 1 ≡ below ++ above = rising-append 64 64 1 in
+    let parts : length (filter (is_member set) (rising BLOCK_LIMIT 1)) ≡ length (filter (is_member set) below) + length (filter (is_member set) above) =
+    ap (λ ns. length (filter (is_member set) ns)) halves ∙ (ap (λ (ns : List ℕ). length ns) (filter-append (is_member set) below above) ∙ length-append (filter (is_member set) below) (filter (is_member set) above))
+    in
+    let lower : count_ones set.low ≡ length (filter (is_member set) below) = ones-rising (is_member set) 64 set.low 1 fits (λ i lt. ap (λ bit. bit == 1) (sym (at-low set i lt))) in
+    let upper : count_ones set.high ≡ length (filter (is_member set) above) = ones-rising (is_member set) 64 set.high 65 fits2 (λ i lt. ap (λ bit. bit == 1) (sym (at-high set i))) in
+    omega (arith, parts, lower, upper)

@@ -6,14 +6,17 @@ ghost use Rattle.s66_dep.specs.Members.{numbers_in};
 use arrayvec::ArrayVec;
 use s66_isa::BLOCK_LIMIT;
 
-// one word has a bit for each number of a block
-const _: () = prove!(BLOCK_LIMIT == u128::BITS as usize);
+// two words have a bit for each number of a block
+const _: () = prove!(BLOCK_LIMIT == 2 * u64::BITS as usize);
 
-/// A set of instruction numbers of a block, in one word.
+/// A set of instruction numbers of a block, in two words.
+/// A block of up to 64 instructions has nothing in the high one, and costs little more than one word does.
 #[derive(Clone, Copy, Debug, Default, PartialEq, Eq)]
 pub struct Set {
-    /// Bit n - 1 tells whether n is there.
-    bits: u128,
+    /// Bit n - 1 tells whether n is there, from 1 to 64.
+    low: u64,
+    /// Bit n - 65 tells whether n is there, from 65 on.
+    high: u64,
 }
 
 impl Set {
@@ -21,7 +24,7 @@ impl Set {
     pub fn empty() -> Set
         ensures { numbers_in result ≡ [] }
     {
-        Set { bits: 0 }
+        Set { low: 0, high: 0 }
     }
 
     /// The numbers from 1 to a count; the time is linear in the count.
@@ -41,8 +44,16 @@ impl Set {
         requires { (1 ≤ n) × (n ≤ BLOCK_LIMIT) }
         ensures { (m : ℕ) → has m (numbers_in result) ≡ (m == n || has m (numbers_in self)) }
     {
-        Set {
-            bits: self.bits | (1 << (n - 1)),
+        if n <= 64 {
+            Set {
+                low: self.low | (1 << (n - 1)),
+                high: self.high,
+            }
+        } else {
+            Set {
+                low: self.low,
+                high: self.high | (1 << (n - 65)),
+            }
         }
     }
 
@@ -50,14 +61,18 @@ impl Set {
     pub fn has(&self, n: u8) -> bool
         ensures { result ≡ has n (numbers_in self.now) }
     {
-        1 <= n && n as usize <= BLOCK_LIMIT && (self.bits >> (n - 1)) & 1 == 1
+        if n <= 64 {
+            1 <= n && (self.low >> (n - 1)) & 1 == 1
+        } else {
+            n as usize <= BLOCK_LIMIT && (self.high >> (n - 65)) & 1 == 1
+        }
     }
 
     /// Whether each number of this set is in the other.
     pub fn is_within(&self, other: &Set) -> bool
         ensures { IsTrue result ↔ ((m : ℕ) → has m (numbers_in self.now) ≡ true → has m (numbers_in other.now) ≡ true) }
     {
-        self.bits & other.bits == self.bits
+        self.low & other.low == self.low && self.high & other.high == self.high
     }
 
     /// The numbers of this set that aren't in the other.
@@ -65,7 +80,8 @@ impl Set {
         ensures { (m : ℕ) → has m (numbers_in result) ≡ (has m (numbers_in self.now) && not (has m (numbers_in other.now))) }
     {
         Set {
-            bits: self.bits & !other.bits,
+            low: self.low & !other.low,
+            high: self.high & !other.high,
         }
     }
 
@@ -74,7 +90,8 @@ impl Set {
         ensures { (m : ℕ) → has m (numbers_in result) ≡ (has m (numbers_in self.now) && has m (numbers_in other.now)) }
     {
         Set {
-            bits: self.bits & other.bits,
+            low: self.low & other.low,
+            high: self.high & other.high,
         }
     }
 
@@ -85,13 +102,18 @@ impl Set {
         ensures range { IfSome result (λ n. (1 ≤ n) × (n ≤ BLOCK_LIMIT)) }
         ensures same { IfNone result (self.new ≡ self.old) }
     {
-        if self.bits == 0 {
-            return None;
+        // n & (n - 1) is n without the lowest bit that is set
+        if self.low != 0 {
+            let lowest = self.low.trailing_zeros();
+            self.low &= self.low - 1;
+            Some(lowest as u8 + 1)
+        } else if self.high != 0 {
+            let lowest = self.high.trailing_zeros();
+            self.high &= self.high - 1;
+            Some(lowest as u8 + 65)
+        } else {
+            None
         }
-        let lowest = self.bits.trailing_zeros();
-        // takes out the lowest bit that is set
-        self.bits &= self.bits - 1;
-        Some(lowest as u8 + 1)
     }
 
     /// The numbers, rising.
@@ -110,6 +132,6 @@ impl Set {
     pub fn count(&self) -> u32
         ensures { result ≡ length (numbers_in self.now) }
     {
-        self.bits.count_ones()
+        self.low.count_ones() + self.high.count_ones()
     }
 }
