@@ -1,5 +1,5 @@
 -- The numbers in a set, and the bits of its two words.
-use Rattle.std.proofs.Common.{ℕ, zero, suc, ◌+◌, ◌-◌, ◌*◌, ◌/◌, ◌%◌, ◌^◌, ◌≤◌, ◌<◌, ◌≡◌, ◌⊎◌, Bool, true, false, cond, ◌||◌, ◌&&◌, not, ◌==◌, IsTrue, ◌∷◌, ◌++◌, List, length, filter, min, bit_and, bit_or, count_ones, eqb-true, eq-eqb, ne_eqb, true≢false, refl, sym, ap, subst, ◌∙◌, inl, inr, arith, pow-suc, length-append}
+use Rattle.std.proofs.Common.{ℕ, zero, suc, ◌+◌, ◌-◌, ◌*◌, ◌/◌, ◌%◌, ◌^◌, ◌≤◌, ◌<◌, ◌≡◌, ◌⊎◌, Bool, true, false, cond, ◌||◌, ◌&&◌, not, ◌==◌, ◌∷◌, ◌++◌, List, length, filter, min, bit_and, bit_or, count_ones, eqb-true, eq-eqb, ne_eqb, refl, sym, ap, subst, ◌∙◌, inl, inr, arith, pow-suc, length-append}
 use Rattle.std.specs.Int.{w64, bit_at, bit_not}
 use Rattle.std.specs.Int.Count.{ones_step}
 use Rattle.std.proofs.lemmas.Bool.{cases_eq, cases_lt, cond_both, or_from, eqb-false, and_parts, le-leb, lt-leb}
