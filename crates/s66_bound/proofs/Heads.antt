@@ -14,9 +14,9 @@ use Rattle.s66_model.specs.Leaves.{uses, head, chain}
 use Rattle.s66_model.specs.Tails.{longest_tail, HasLate}
 use Rattle.s66_model.proofs.Remaining.{among-filter, filter-among}
 use Rattle.s66_model.proofs.HeadByRegisters.{done_for, head-by-registers}
-use Rattle.s66_dep.specs.Members.{numbers_in}
+use Rattle.s66_dep.specs.Members.{numbers_in, no_set}
 use Rattle.s66_bound.specs.declared.tables.Tables.{Tables}
-use Rattle.s66_bound.specs.TableWords.{IsTables, no_set}
+use Rattle.s66_bound.specs.TableWords.{IsTables}
 
 has-those : (block : List Instr) (test : ℕ → Bool) (n : ℕ) → 1 ≤ n → n ≤ length block → has n (filter test (numbers block)) ≡ test n
 has-those block test n low high =

@@ -9,8 +9,8 @@ use Rattle.s66_isa.specs.Lists.{has}
 use Rattle.s66_model.specs.Timing.{Problem, row_at}
 use Rattle.s66_model.specs.LegalOrder.{remaining}
 use Rattle.s66_dep.specs.declared.set.Set.{Set}
-use Rattle.s66_dep.specs.Members.{numbers_in}
-use Rattle.s66_bound.specs.TableWords.{AreThose, no_set, HasKinds}
+use Rattle.s66_dep.specs.Members.{numbers_in, no_set}
+use Rattle.s66_bound.specs.TableWords.{AreThose, HasKinds}
 use Rattle.s66_bound.proofs.RemainingSets.{both-are}
 
 abbrev AreKind : Problem → Kind → Set → Type 0

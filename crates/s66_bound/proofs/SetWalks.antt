@@ -1,11 +1,6 @@
 -- What a walk over the numbers of a set has found so far, and what is left.
-use Rattle.std.proofs.Common.{ℕ, ◌≤◌, ◌<◌, ◌≡◌, min, not, List, [], ◌∷◌, length, refl, sym, ap, arith, ◌∙◌}
-use Rattle.std.proofs.lemmas.List.Filters.{length-filter_both}
-use Rattle.s66_isa.specs.declared.limits.TheConstants.{BLOCK_LIMIT}
-use Rattle.s66_isa.specs.Lists.{least, rising}
-use Rattle.s66_model.proofs.Beginnings.{length-rising}
-use Rattle.s66_dep.specs.declared.set.Set.{Set}
-use Rattle.s66_dep.specs.Members.{numbers_in, is_member}
+use Rattle.std.proofs.Common.{ℕ, ◌≤◌, ◌<◌, ◌≡◌, min, List, [], ◌∷◌, length, refl, sym, ap, arith, ◌∙◌}
+use Rattle.s66_isa.specs.Lists.{least}
 
 -- the least of low and of f of these
 abbrev pub least_with : ℕ → (ℕ → ℕ) → List ℕ → ℕ
@@ -26,8 +21,3 @@ least-from f top [] below some = absurd (omega arith)
 least-from f top (n ∷ ns) below some =
     let first : f n ≡ min top (f n) = omega (arith, below n) in
     least-with f n ns ∙ ap (λ k. least_with k f ns) first
-
--- a set has at most as many numbers as a block
-pub numbers-few : (s : Set) → length (numbers_in s) ≤ BLOCK_LIMIT
-unfolding numbers_in
-numbers-few s = let both = length-filter_both (is_member s.bits) (λ n. not (is_member s.bits n)) (λ n. refl) (rising BLOCK_LIMIT 1) in omega (arith, both, length-rising BLOCK_LIMIT 1)

@@ -13,7 +13,7 @@ use Rattle.s66_model.specs.LegalOrder.{remaining, IsBeginning}
 use Rattle.s66_model.specs.Leaves.{uses}
 use Rattle.s66_model.specs.Tails.{longest_tail, spare, HasWritten, HasWords}
 use Rattle.s66_dep.specs.declared.set.Set.{Set}
-use Rattle.s66_dep.specs.Members.{numbers_in}
+use Rattle.s66_dep.specs.Members.{numbers_in, no_set}
 use Rattle.s66_time.specs.Ticking.{Ticking}
 use Rattle.s66_bound.specs.declared.tables.Tables.{Tables}
 
@@ -27,9 +27,6 @@ HasLater b place words = (n : ℕ) → place + 1 < n → n ≤ length b.block �
 -- the numbers of the block that pass
 abbrev pub AreThose : Problem → (ℕ → Bool) → Set → Type 0
 AreThose b test set = numbers_in set ≡ filter test (numbers b.block)
-
-abbrev pub no_set : Set
-no_set = record { bits = 0 }
 
 abbrev pub HasKinds : Problem → List Set → Type 0
 HasKinds b sets = (kind : Kind) → AreThose b (λ n. same_kind (row_at b n).kind kind) (get_or sets (kind_number kind) no_set)

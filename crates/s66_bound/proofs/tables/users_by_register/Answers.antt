@@ -8,7 +8,8 @@ use Rattle.s66_isa.proofs.RegisterBits.{index-apart}
 use Rattle.s66_isa.proofs.SameRegister.{same_reg-true}
 use Rattle.s66_model.specs.Timing.{row_at}
 use Rattle.s66_model.specs.Leaves.{uses}
-use Rattle.s66_bound.specs.TableWords.{AreThose, no_set}
+use Rattle.s66_dep.specs.Members.{no_set}
+use Rattle.s66_bound.specs.TableWords.{AreThose}
 use Rattle.s66_bound.proofs.tables.users_by_register.Goals as goal
 
 pub loop-index-preserved : goal.loop-index-preserved

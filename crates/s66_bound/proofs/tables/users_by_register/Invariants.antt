@@ -3,8 +3,9 @@ use Rattle.s66_isa.specs.Table.{Reg}
 use Rattle.s66_isa.specs.Registers.{index_of}
 use Rattle.s66_model.specs.Timing.{Problem, row_at}
 use Rattle.s66_model.specs.Leaves.{uses}
+use Rattle.s66_dep.specs.Members.{no_set}
 use Rattle.s66_bound.specs.InstructionCosts.{AreEntries}
-use Rattle.s66_bound.specs.TableWords.{AreThose, no_set}
+use Rattle.s66_bound.specs.TableWords.{AreThose}
 use Rattle.s66_bound.proofs.tables.users_by_register.Given as goal
 
 abbrev pub invariant-loop-index : goal.invariant-loop-index

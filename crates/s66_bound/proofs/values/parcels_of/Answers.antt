@@ -2,17 +2,17 @@ use Rattle.std.proofs.Common.{◌≡◌, ◌+◌, arith, ap, length}
 use Rattle.s66_model.specs.Leaves.{Parcels, parcels}
 use Rattle.s66_model.proofs.FloorParts.{leaf-fits, rest-some}
 use Rattle.s66_dep.specs.Members.{numbers_in}
+use Rattle.s66_dep.proofs.Sets.{numbers_in-few}
 use Rattle.s66_time.specs.Ticking.{problem_of}
 use Rattle.s66_bound.proofs.RemainingSets.{both-are}
 use Rattle.s66_bound.proofs.RemainingSums.{is_long, parcels-are}
-use Rattle.s66_bound.proofs.SetWalks.{numbers-few}
 use Rattle.s66_bound.proofs.values.parcels_of.Goals as goal
 
 pub overflow_add-parcels : goal.overflow_add-parcels
-overflow_add-parcels c = omega (arith, c.count.ensures, c.count-2.ensures, numbers-few c.args.rest.now, numbers-few c.both.result)
+overflow_add-parcels c = omega (arith, c.count.ensures, c.count-2.ensures, numbers_in-few c.args.rest.now, numbers_in-few c.both.result)
 
 pub overflow_add-result : goal.overflow_add-result
-overflow_add-result c = omega (arith, c.count.ensures, c.count-2.ensures, numbers-few c.args.rest.now, numbers-few c.both.result, c.next.ensures.at_most)
+overflow_add-result c = omega (arith, c.count.ensures, c.count-2.ensures, numbers_in-few c.args.rest.now, numbers_in-few c.both.result, c.next.ensures.at_most)
 
 pub least_of-requires : goal.least_of-requires
 least_of-requires c =

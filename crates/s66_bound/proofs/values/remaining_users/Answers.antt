@@ -1,6 +1,7 @@
 use Rattle.std.proofs.Common.{get_or, sym, subst}
+use Rattle.s66_dep.specs.Members.{no_set}
 use Rattle.s66_time.specs.Ticking.{problem_of}
-use Rattle.s66_bound.specs.TableWords.{AreThose, no_set}
+use Rattle.s66_bound.specs.TableWords.{AreThose}
 use Rattle.s66_bound.proofs.RemainingSets.{both-are}
 use Rattle.s66_bound.proofs.RemainingSums.{is_user}
 use Rattle.s66_bound.proofs.values.remaining_users.Goals as goal
