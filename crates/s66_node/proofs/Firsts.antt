@@ -1,40 +1,18 @@
 -- Of the numbers that are ready after a prefix, looked at in rising order, the one that comes first.
 use Rattle.std.proofs.Common.{ℕ, zero, suc, ◌≤◌, ◌<◌, ◌≡◌, ◌⊎◌, Bool, true, false, ◌||◌, ◌&&◌, ◌==◌, nat_lt, List, [], ◌∷◌, refl, sym, subst, arith, inl, inr, ◌∙◌}
-use Rattle.std.proofs.lemmas.Bool.{cond_both, cases_lt}
+use Rattle.std.proofs.lemmas.Bool.{cases_lt}
 use Rattle.std.proofs.lemmas.Bool.Decides.{nat_tests}
-use Rattle.std.specs.List.{filter}
-use Rattle.s66_isa.specs.declared.limits.TheConstants.{BLOCK_LIMIT}
-use Rattle.s66_isa.specs.Lists.{Among, rising}
-use Rattle.s66_isa.proofs.Lists.{among-rising}
+use Rattle.s66_isa.specs.Lists.{Among}
 use Rattle.s66_model.specs.LegalOrder.{is_ready, ready}
 use Rattle.s66_model.specs.Tails.{longest_tail}
 use Rattle.s66_model.specs.Timing.{Problem}
-use Rattle.s66_model.proofs.Remaining.{among-ready, filter-among, ready-among}
+use Rattle.s66_model.proofs.Remaining.{among-ready, ready-among}
 use Rattle.s66_dep.specs.declared.set.Set.{Set}
-use Rattle.s66_dep.specs.Members.{is_member, numbers_in}
+use Rattle.s66_dep.specs.Members.{numbers_in}
+use Rattle.s66_dep.proofs.Sets.{taken-lower}
 use Rattle.s66_node.specs.declared.schedule.Candidate.{Candidate}
 use Rattle.s66_node.specs.declared.schedule.Priority.{Priority}
 use Rattle.s66_node.specs.Schedules.{time_by, ComesBefore, IsFirst}
-
--- RISING NUMBERS
-
-same-parts : (low n : ℕ) (xs ns : List ℕ) → low ∷ xs ≡ n ∷ ns → (low ≡ n) × (xs ≡ ns)
-same-parts low n xs ns is = (cc, cc)
-
-filter-rises : (test : ℕ → Bool) (k low n m : ℕ) (ns : List ℕ) → filter test (rising k low) ≡ n ∷ ns → Among m ns → n < m
-filter-rises test zero low n m ns is among = absurd cc
-filter-rises test (suc k) low n m ns is among =
-    let rest = filter test (rising k (suc low)) in
-    cond_both (test low) (low ∷ rest) rest (λ zs. zs ≡ n ∷ ns → n < m)
-    (λ passes is. let (first, others) = same-parts low n rest ns is in
-    omega (arith, first, (among-rising k (suc low) m (filter-among test m (rising k (suc low)) (subst (Among m) (sym others) among)).0).0))
-    (λ fails is. filter-rises test k (suc low) n m ns is among)
-    is
-
--- what is taken from a set is its lowest number
-taken-lower : (set rest : Set) (n m : ℕ) → numbers_in set ≡ n ∷ numbers_in rest → Among m (numbers_in rest) → n < m
-unfolding numbers_in
-taken-lower set rest n m is among = filter-rises (is_member set.bits) BLOCK_LIMIT 1 n m (numbers_in rest) is among
 
 -- WHAT COMES BEFORE WHAT, by times t, u, v, tails k, l, j and numbers n, m, o
 

@@ -1,16 +1,16 @@
 -- Each turn of a walk.
 use Rattle.std.proofs.Common.{ℕ, ◌+◌, ◌-◌, ◌*◌, ◌≤◌, ◌<◌, ◌≡◌, ◌==◌, true, false, not, List, [], ◌∷◌, ◌++◌, length, map, refl, sym, ap, arith, inl, inr, ◌∙◌, length-append, subst, Option, None, eqb-true}
 use Rattle.std.proofs.lemmas.List.{reverse-append, length-take, map-append}
-use Rattle.std.proofs.lemmas.List.Filters.{length-filter_both}
 use Rattle.s66_isa.specs.declared.limits.TheConstants.{BLOCK_LIMIT}
-use Rattle.s66_isa.specs.Lists.{Among, weigh, rising}
+use Rattle.s66_isa.specs.Lists.{Among, weigh}
 use Rattle.s66_isa.proofs.Lists.{weigh-append}
 use Rattle.s66_model.specs.Timing.{Problem}
 use Rattle.s66_model.specs.LegalOrder.{IsBeginning, is_ready, ready}
 use Rattle.s66_model.specs.Tree.{Tree, Knot, AtTip, AtSplit, TreeHolds, flat, splits, tree_values}
 use Rattle.s66_model.proofs.Remaining.{step-begins, ready-among}
 use Rattle.s66_dep.specs.declared.set.Set.{Set}
-use Rattle.s66_dep.specs.Members.{numbers_in, is_member}
+use Rattle.s66_dep.specs.Members.{numbers_in}
+use Rattle.s66_dep.proofs.Sets.{numbers_in-few}
 use Rattle.s66_dep.proofs.LongestBeginning.{beginning-few}
 use Rattle.s66_node.specs.declared.knot.Knot as code
 use Rattle.s66_node.specs.declared.whole_order.WholeOrder.{WholeOrder}
@@ -173,10 +173,6 @@ module _ (b : Problem) (best allowance : ℕ) (root : List ℕ) where
 
 -- WHAT IS LEFT TO DO falls at each turn: each number of a frame, the frame itself, and splits
 
-pub set-few : (s : Set) → length (numbers_in s) ≤ BLOCK_LIMIT
-unfolding numbers_in
-set-few s = omega (arith, length-filter_both (is_member s.bits) (λ n. not (is_member s.bits n)) (λ n. refl) (rising BLOCK_LIMIT 1))
-
 abbrev pub work : List Set → ℕ
 work frames = weigh (λ (f : Set). 1 + length (numbers_in f)) frames
 
@@ -189,7 +185,7 @@ work-tip k old new fs f f2 n popped pushed is =
 
 pub work-split : (allowance count : ℕ) (old mid new fs : List Set) (f f2 f3 : Set) (n : ℕ) → count < allowance → old ≡ fs ++ f ∷ [] → mid ≡ fs ++ f2 ∷ [] → new ≡ mid ++ f3 ∷ [] → numbers_in f ≡ n ∷ numbers_in f2 → (allowance - (count + 1)) * (BLOCK_LIMIT + 2) + work new < (allowance - count) * (BLOCK_LIMIT + 2) + work old
 work-split allowance count old mid new fs f f2 f3 n lt popped put pushed is =
-    omega (arith, lt, ap work popped, ap work put, ap work pushed, work-push fs f, work-push fs f2, work-push mid f3, ap length is, set-few f3)
+    omega (arith, lt, ap work popped, ap work put, ap work pushed, work-push fs f, work-push fs f2, work-push mid f3, ap length is, numbers_in-few f3)
 
 pub work-up : (k : ℕ) (old fs : List Set) (f : Set) → old ≡ fs ++ f ∷ [] → k + work fs < k + work old
 work-up k old fs f popped = omega (arith, ap work popped, work-push fs f)
