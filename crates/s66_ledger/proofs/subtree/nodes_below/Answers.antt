@@ -1,5 +1,5 @@
 use Rattle.std.proofs.Common.{ℕ, ◌+◌, ◌^◌, ◌≡◌, ◌<◌, ◌++◌, ◌∷◌, [], List, true≢false, arith, sym, ◌∙◌, ap, subst, refl, length, get_or, drop, length-append, length-drop}
-use Rattle.s66_dep.specs.Members.{numbers_in}
+use Rattle.s66_dep.specs.Members.{numbers_in, no_set}
 use Rattle.s66_model.specs.Tree.{Knot, AtTip, AtSplit, flat}
 use Rattle.s66_model.specs.Told.{Told}
 use Rattle.s66_node.specs.declared.knot.Knot as code
@@ -15,8 +15,8 @@ use Rattle.s66_ledger.proofs.Subtrees.{AreGrowing, growing-start, growing-up, gr
 use Rattle.s66_ledger.proofs.subtree.nodes_below.Goals as goal
 
 -- the line at a place, where the place is known by another number
-line-here : (knots : List code.Knot) (i j : ℕ) → i ≡ j → i < length knots → drop i (seen knots) ≡ seen_knot (get_or knots j (line.Split (record { bits = 0 }))) ∷ drop (i + 1) (seen knots)
-line-here knots i j same lt = line-at knots i (get_or knots j (line.Split (record { bits = 0 }))) (line.Split (record { bits = 0 })) lt (ap (λ m. get_or knots m (line.Split (record { bits = 0 }))) (sym same))
+line-here : (knots : List code.Knot) (i j : ℕ) → i ≡ j → i < length knots → drop i (seen knots) ≡ seen_knot (get_or knots j (line.Split no_set)) ∷ drop (i + 1) (seen knots)
+line-here knots i j same lt = line-at knots i (get_or knots j (line.Split no_set)) (line.Split no_set) lt (ap (λ m. get_or knots m (line.Split no_set)) (sym same))
 
 pub loop-place-init : goal.loop-place-init
 loop-place-init c =
@@ -81,7 +81,7 @@ loop-place-preserved-in-Split c =
     let next = growing-next p numbers l.places.items c.pop.new.self.items c.in-Some.place l.nodes.items (drop i ks) l.invariant.growing c.in-Some.ensures.items few c.in-Some-pop_first.number left c.in-Some-pop_first.ensures.some in
     let lt : i < length knots = omega (arith, next, length-drop i ks, length-seen knots) in
     let high = growing-room p numbers l.places.items c.pop.new.self.items c.in-Some.place l.nodes.items (drop i ks) l.invariant.growing c.in-Some.ensures.items few in
-    let k = get_or knots (c.len.result + 1) (line.Split (record { bits = 0 })) in
+    let k = get_or knots (c.len.result + 1) (line.Split no_set) in
     let first : drop i ks ≡ AtSplit (numbers_in c.in-Split.numbers) ∷ drop (i + 1) ks = line-here knots i (c.len.result + 1) (omega (arith, c.len.ensures)) lt ∙ ap (λ k. seen_knot k ∷ drop (i + 1) ks) c.in-Split.is in
     let place : Place = record { node = c.in-Some.place.node; left = c.pop_first.new.self } in
     let below : Place = record { node = c.len-in-Split.result; left = c.in-Split.numbers } in
@@ -115,7 +115,7 @@ loop-place-preserved-in_default-knot c =
     let next = growing-next p numbers l.places.items c.pop.new.self.items c.in-Some.place l.nodes.items (drop i ks) l.invariant.growing c.in-Some.ensures.items few c.in-Some-pop_first.number left c.in-Some-pop_first.ensures.some in
     let lt : i < length knots = omega (arith, next, length-drop i ks, length-seen knots) in
     let high = growing-room p numbers l.places.items c.pop.new.self.items c.in-Some.place l.nodes.items (drop i ks) l.invariant.growing c.in-Some.ensures.items few in
-    let k = get_or knots (c.len.result + 1) (line.Split (record { bits = 0 })) in
+    let k = get_or knots (c.len.result + 1) (line.Split no_set) in
     let (told, seen_is, state_is, value_is) = line-told 0 k c.in_default-knot.not-Split in
     let first : drop i ks ≡ AtTip told ∷ drop (i + 1) ks = line-here knots i (c.len.result + 1) (omega (arith, c.len.ensures)) lt ∙ ap (λ (x : Knot Told). x ∷ drop (i + 1) ks) seen_is in
     let place : Place = record { node = c.in-Some.place.node; left = c.pop_first.new.self } in
