@@ -79,6 +79,7 @@ fn proves_and_checks_a_block_of_128(rt: HostRuntime) -> Result<(), Fail> {
     let prove = Command::Prove {
         workers: 1,
         nodes: 0,
+        profile: None,
     };
     let source = "  BX0 X0\n".repeat(rt.alloc(), 128)?;
     let (result, document) = run(&rt, prove, source.as_bytes());
