@@ -5,7 +5,7 @@ pub mod Seats
 pub mod Sums
 pub mod SeatEvents
 pub mod AfterCalls
-pub mod SeatAfterGraft
+pub mod Supplied
 pub mod Spending
 pub mod Dealing
 pub mod Present

@@ -41,7 +41,7 @@ renewed-agrees s t p is follows = record {
 }
 
 -- the passbook that agrees is the one that is opened, but for its least time
-renewed-is : (s : Summary) (p : Passbook) → Agrees s p → renewed s p p.least ≡ p
+pub renewed-is : (s : Summary) (p : Passbook) → Agrees s p → renewed s p p.least ≡ p
 renewed-is s p is = λ i. record { who = p.who; problem = sym is.problem i; budget = sym is.budget i; account = sym is.account i; least = p.least }
 
 -- after the best time was read
@@ -77,7 +77,7 @@ module _ (old new : LedgerOf) (p : Passbook) where
                 (agrees-other old.problem old.budget old.workers (events_of old) old.state event reply new.state q h.3 is (λ e. ne (sym e ∙ own)));
           }
 
-      event-agrees : Agrees (account_summary old) p → Agrees (account_summary new) (after_event p event reply)
+      pub event-agrees : Agrees (account_summary old) p → Agrees (account_summary new) (after_event p event reply)
       event-agrees is = subst (λ (s : Summary). Agrees s (after_event p event reply)) (sym summary-after)
           (agrees-own old.problem old.budget old.workers (events_of old) old.state event reply new.state p h.3 is own)
 

@@ -10,9 +10,9 @@ use Rattle.s66_node.specs.Pieces.{PieceOf, tree_of}
 use Rattle.s66_time.specs.TimedOrder.{TimedOrder}
 use Rattle.s66_ledger.specs.declared.reply.GraftError.{GraftError}
 use Rattle.s66_ledger.specs.declared.reply.GraftError.TheVariants as refused
-use Rattle.s66_pool.specs.declared.after_graft.Next.{Next}
-use Rattle.s66_pool.specs.declared.after_graft.AfterGraft.{AfterGraft}
-use Rattle.s66_pool.specs.AfterGraft.{IsAfter}
+use Rattle.s66_ledger.specs.Tickets.{TicketOf}
+use Rattle.s66_pool.specs.declared.supply.Supply.{Supply}
+use Rattle.s66_pool.specs.Supplies.{after_events, supplied}
 
 -- which hub, and the summary of the ledger with which it opened
 pub record HubOf : Type 0 where
@@ -34,10 +34,14 @@ HasGrafted old node piece reply new =
     (event : Event) × IsGraftOf old.book.problem old.book.who node piece.problem piece.prefix (tree_of piece) reply event
     × (new.book ≡ after_event old.book event reply)
 
--- after such a graft that was taken, and what the worker did after it in the same turn
-abbrev pub HasGraftedAndGoneOn : SeatOf → (node : ℕ) → PieceOf → Next → AfterGraft → SeatOf → Type 0
-HasGraftedAndGoneOn old node piece asked after new =
-    (between : SeatOf) × HasGrafted old node piece model.Taken between × IsAfter asked between.book after new.book
+-- after what its worker got in a turn
+abbrev pub HasSupply : SeatOf → Supply → List TicketOf → SeatOf → Type 0
+HasSupply old supply tickets new = new.book ≡ after_events old.book (supplied old.book.who supply tickets)
+
+-- after such a graft that was taken, and what the worker got after it in the same turn
+abbrev pub HasGraftedAndSupply : SeatOf → (node : ℕ) → PieceOf → Supply → List TicketOf → SeatOf → Type 0
+HasGraftedAndSupply old node piece supply tickets new =
+    (between : SeatOf) × HasGrafted old node piece model.Taken between × (between.book.who ≡ old.book.who) × HasSupply between supply tickets new
 
 -- a refusal is a reply too, but for want of memory, after which the seat is as it was
 abbrev pub HasBeenRefused : SeatOf → (node : ℕ) → PieceOf → GraftError → SeatOf → Type 0

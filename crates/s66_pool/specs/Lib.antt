@@ -1,5 +1,5 @@
 pub mod Hubs
-pub mod AfterGraft
+pub mod Supplies
 pub mod SeatViews
 pub mod Locked
 pub mod LockTokens

@@ -1,8 +1,8 @@
 //! The calls of a hub: each waits for the lock, makes a call of the ledger or some, and gives it back.
 
-use crate::after_graft::{AfterGraft, Next, go_on};
 use crate::hub::Hub;
 use crate::seat::Seat;
+use crate::supply::{Needs, Supply, serve};
 use s66_ledger::{BackError, GraftError, Offered, Subtree, Ticket};
 use s66_node::Piece;
 use s66_time::Timed;
@@ -10,14 +10,14 @@ use std::alloc::AllocError;
 use std::sync::Wait;
 
 impl<'a> Hub<'a> {
-    ghost use Rattle.std.specs.Prelude.{◌≡◌, ◌≤◌, IfOk, IfErr, OnOk, OnErr};
+    ghost use Rattle.std.specs.Prelude.{◌≡◌, ◌≤◌, [], IfOk, IfErr, OnOk, OnErr};
     ghost use Rattle.s66_model.specs.Ledger.{Grant, Granted, Claim, Claimed, Taken, Back, Returned, NotOut, Retire, Retired};
     ghost use Rattle.s66_model.specs.Accounts.{after_event, after_reading};
     ghost use Rattle.s66_ledger.specs.ClaimedNodes.{claimed_node};
     ghost use Rattle.s66_ledger.specs.Replies.{offered_reply};
     ghost use Rattle.s66_ledger.specs.declared.reply.BackError.TheVariants as refused;
-    ghost use Rattle.s66_pool.specs.AfterGraft.{IsKnownAfter};
-    ghost use Rattle.s66_pool.specs.Hubs.{HasGrafted, HasGraftedAndGoneOn, HasBeenRefused, HasOffered, IsKnown};
+    ghost use Rattle.s66_pool.specs.Supplies.{IsSupplyFor};
+    ghost use Rattle.s66_pool.specs.Hubs.{HasSupply, HasGrafted, HasGraftedAndSupply, HasBeenRefused, HasOffered, IsKnown};
 
     /// Moves splits of the budget to the worker, as `Ledger::grant` does.
     pub fn grant<R: Wait>(&self, rt: &R, seat: &mut Seat<'a>) -> Result<u32, AllocError>
@@ -58,45 +58,47 @@ impl<'a> Hub<'a> {
         claimed
     }
 
-    /// Hands out the best open node, as `claim` does, and then reads the best time in minor cycles, as `best` does, in one turn at the
-    /// lock.
-    pub fn claim_and_read<R: Wait>(
+    /// Gives the worker what it needs, in one turn at the lock: splits, as `grant` does, and then up to `CLAIMS_LIMIT` nodes, as `claim`
+    /// does, until none is open. Their tickets are put into the list, which keeps its room. If nothing is left of the budget, or if out
+    /// of memory, nothing more is done; what was done before that stays.
+    pub fn supply<R: Wait>(
         &self,
         rt: &R,
         seat: &mut Seat<'a>,
-    ) -> Result<(Option<Ticket>, u32), AllocError>
-        requires { seat.old.hub ≡ self.now.id }
+        needs: Needs,
+        tickets: &mut Vec<Ticket>,
+    ) -> Supply
+        requires here { seat.old.hub ≡ self.now.id }
+        requires empty { tickets.old.items ≡ [] }
         ensures here { seat.new.hub ≡ seat.old.hub }
-        ensures ok { IfOk result (λ r. seat.new.book ≡ after_reading (after_event seat.old.book (Claim seat.old.book.who) (Claimed (claimed_node r.0))) r.1) }
-        ensures known { IfOk result (λ r. r.1 ≤ seat.old.book.least) }
-        ensures err { OnErr result (seat.new ≡ seat.old) }
+        ensures supply { HasSupply seat.old result tickets.new.items seat.new }
+        ensures needed { IsSupplyFor needs result tickets.new.items }
     {
         let mut ledger = self.lock.take(rt, &mut seat.token);
-        let Ok(ticket) = ledger.claim(seat.number) else {
-            self.lock.give(&mut seat.token, ledger);
-            return Err(AllocError);
-        };
-        let claimed = (ticket, ledger.best());
-        self.lock.give_read(&mut seat.token, ledger);
-        Ok(claimed)
+        let got = serve(&mut *ledger, seat.number, needs, tickets);
+        self.lock.give(&mut seat.token, ledger);
+        got
     }
 
-    /// Puts a piece in the place of the node of this number, as `Ledger::graft_at` does, and where it is taken, does what the worker
-    /// asks for next in the same turn at the lock. The piece's nodes are made before the lock is taken; the piece stays with the
-    /// caller. On `Err` nothing more is done.
-    pub fn graft_and_go_on<R: Wait>(
+    /// Puts a piece in the place of the node of this number, as `Ledger::graft_at` does, and if it is taken, gives the worker what it
+    /// needs in the same turn at the lock, as `supply` does. The piece's nodes are made before the lock is taken; the piece stays with
+    /// the caller. On `Err` nothing more is done.
+    pub fn graft_and_supply<R: Wait>(
         &self,
         rt: &R,
         seat: &mut Seat<'a>,
         node: u32,
         piece: &Piece,
-        next: Next,
-    ) -> Result<AfterGraft, GraftError>
-        requires { seat.old.hub ≡ self.now.id }
+        needs: Needs,
+        tickets: &mut Vec<Ticket>,
+    ) -> Result<Supply, GraftError>
+        requires here { seat.old.hub ≡ self.now.id }
+        requires empty { tickets.old.items ≡ [] }
         ensures here { seat.new.hub ≡ seat.old.hub }
-        ensures ok { IfOk result (λ after. HasGraftedAndGoneOn seat.old node piece.now next after seat.new) }
-        ensures known { IfOk result (λ after. IsKnownAfter after seat.old.book) }
+        ensures ok { IfOk result (λ supply. HasGraftedAndSupply seat.old node piece.now supply tickets.new.items seat.new) }
+        ensures needed { IfOk result (λ supply. IsSupplyFor needs supply tickets.new.items) }
         ensures refused { IfErr result (λ why. HasBeenRefused seat.old node piece.now why seat.new) }
+        ensures unclaimed { OnErr result (tickets.new.items ≡ []) }
     {
         let Ok(subtree) = Subtree::of(self.alloc, piece) else {
             return Err(GraftError::OutOfMemory);
@@ -110,13 +112,9 @@ impl<'a> Hub<'a> {
         // proof only: no worker has spent more than all have
         let _spent = ledger.splits();
         seat.splits += added;
-        let after = go_on(&mut *ledger, seat.number, next);
-        if !after.is_claimed() {
-            self.lock.give(&mut seat.token, ledger);
-            return Ok(after);
-        }
-        self.lock.give_read(&mut seat.token, ledger);
-        Ok(after)
+        let got = serve(&mut *ledger, seat.number, needs, tickets);
+        self.lock.give(&mut seat.token, ledger);
+        Ok(got)
     }
 
     /// Puts a piece in the place of a node that was handed out, as `Ledger::graft` does. Ticket and piece are dropped after
@@ -134,7 +132,12 @@ impl<'a> Hub<'a> {
         ensures refused { IfErr result (λ e. HasBeenRefused seat.old ticket.node piece e.0 seat.new) }
         ensures handed_back { IfErr result (λ e. (e.1 ≡ ticket) × (e.2 ≡ piece)) }
     {
-        match self.graft_and_go_on(rt, seat, ticket.node(), &piece, Next::Rest) {
+        let nothing = Needs {
+            splits: false,
+            nodes: false,
+        };
+        let mut none = Vec::new(self.alloc);
+        match self.graft_and_supply(rt, seat, ticket.node(), &piece, nothing, &mut none) {
             Ok(_) => Ok(()),
             Err(why) => Err((why, ticket, piece)),
         }

@@ -1,9 +1,13 @@
-ghost use Rattle.std.specs.Prelude.{◌≡◌, ◌<◌, ℕ, IfOk, IfErr, All, length, slice_index_or};
-ghost use Rattle.s66_pool.specs.Workers.{AreSameSeats, IsSameSeat};
+ghost use Rattle.std.specs.Prelude.{◌≡◌, ◌<◌, ℕ, IfOk, IfErr, All, length, map, slice_index_or};
+ghost use Rattle.s66_pool.specs.Workers.{AreSameSeats, IsSameMember, IsSameSeat, IsSameLocal, ArePlaced, lanes_of};
+ghost use Rattle.s66_pool.specs.declared.member.Member.{Member as MemberOf};
 
 use crate::gate::Gate;
+use crate::hint::Hint;
 use crate::hub::Hub;
 use crate::limits::WORKERS_LIMIT;
+use crate::locals::{lanes_for, locals_for};
+use crate::member::{Local, Member};
 use crate::options::Options;
 use crate::seat::Seat;
 use crate::worker::{Site, work_at};
@@ -15,10 +19,11 @@ use std::sync::atomic::AtomicUsize;
 use std::thread;
 use std::thread::Threads;
 
-/// Starts a worker for each seat, each in a thread of its own where one can be made, and else one after the other; waits for all
-/// of them, and gives the seats back, each in its place. A worker that meets want of memory ends.
+/// Starts a worker for each seat, each in a thread of its own if one can be made, and else one after the other; waits for all of them,
+/// and gives the seats back, each in its place. A worker that runs out of memory ends.
 ///
-/// No memory is asked for before the workers start, so it is never refused; nothing of the options is read.
+/// The workers share a hint of the best time, and each has a lane of nodes from which the others may steal. `Err` is out of memory for
+/// these, and comes before a worker has started. Nothing of the options is read.
 pub fn work<'a, R: AllocGlobal + Threads + Wait + Sync, G: Gate + Sync>(
     rt: &R,
     hub: &Hub<'a>,
@@ -33,22 +38,94 @@ pub fn work<'a, R: AllocGlobal + Threads + Wait + Sync, G: Gate + Sync>(
     ensures here { IfOk result (λ back. All (λ s. s.hub ≡ hub.now.id) back.items) }
     ensures err { IfErr result (λ e. AreSameSeats seats.entry.items e.1.items × All (λ s. s.hub ≡ hub.now.id) e.1.items) }
 {
-    let task = SeatWork {
+    if seats.is_empty() {
+        return Ok(seats);
+    }
+    let alloc = rt.alloc();
+    let workers = seats.len();
+    let best = hub.best(rt, &mut seats[0]);
+    let Ok((hint, hint_seats)) = Hint::new(alloc, best, workers) else {
+        return Err((AllocError, seats));
+    };
+    let Ok((lanes, thieves)) = lanes_for(alloc, workers) else {
+        return Err((AllocError, seats));
+    };
+    let Ok(locals) = locals_for(alloc, &hint, hint_seats, lanes, thieves.as_slice()) else {
+        return Err((AllocError, seats));
+    };
+    let Ok(mut members) = Vec::with_capacity(alloc, workers) else {
+        return Err((AllocError, seats));
+    };
+    seat_members(&mut members, &mut seats, locals);
+    let task = MemberWork {
         site: Site {
             rt,
             hub,
             gate,
-            searching: AtomicUsize::new(seats.len()),
+            searching: AtomicUsize::new(workers),
         },
         block,
         profile,
     };
-    run_at_each(rt, &task, seats.as_mut_slice());
+    run_at_each(rt, &task, members.as_mut_slice());
+    settle(rt, hub, members.as_mut_slice());
+    take_seats(&mut seats, members);
     Ok(seats)
 }
 
-/// What is done at each place of a slice. It stands between `work_at` and the threads since the borrow checker doesn't cover a closure
-/// over `&mut Seat<'a>`, whose lifetime is invariant; over a `&mut` to a type parameter it does.
+/// A member for each seat, in the order of the seats.
+fn seat_members<'t, 'a>(
+    members: &mut Vec<Member<'t, 'a>>,
+    seats: &mut Vec<Seat<'a>>,
+    mut locals: Vec<Local<'t>>,
+)
+{
+    while !seats.is_empty() {
+        members.push_reserved(Member {
+            seat: seats.remove(0),
+            local: locals.remove(0),
+        });
+    }
+}
+
+/// The members' seats, in the order of the members.
+fn take_seats<'t, 'a>(seats: &mut Vec<Seat<'a>>, mut members: Vec<Member<'t, 'a>>) {
+    while !members.is_empty() {
+        let Member { seat, .. } = members.remove(0);
+        seats.push_reserved(seat);
+    }
+}
+
+/// Gives each pass back to its lane, and each node that is left in a lane back to the hub.
+fn settle<'a, R: Wait>(rt: &R, hub: &Hub<'a>, members: &mut [Member<'_, 'a>]) {
+    for worker in 0..members.len() {
+        while let Some(victim) = members[worker].local.victims.pop() {
+            let place = victim.place();
+            victim.leave(&mut members[place].local.lane);
+        }
+    }
+    for worker in 0..members.len() {
+        give_left_back(rt, hub, &mut members[worker]);
+    }
+}
+
+/// Gives each node that is left in a worker's lane back to the hub.
+fn give_left_back<'a, R: Wait>(rt: &R, hub: &Hub<'a>, member: &mut Member<'_, 'a>)
+    requires { member.old.seat.hub ≡ hub.now.id }
+    ensures { IsSameSeat member.old.seat member.new.seat }
+{
+    let Some(left) = member.local.lane.left() else {
+        return;
+    };
+    for _ in 0..left {
+        if let Some(ticket) = member.local.lane.take() {
+            let _ = hub.back(rt, &mut member.seat, ticket);
+        }
+    }
+}
+
+/// What is done at each place of a slice. It is between `work_at` and the threads since the borrow checker doesn't cover a closure
+/// over `&mut Member<'_, 'a>`, whose lifetime is invariant; over a `&mut` to a type parameter it does.
 trait Task<T> {
     ghost accepts: { Self → T → Type 0 };
 
@@ -59,20 +136,20 @@ trait Task<T> {
         ensures { changes self.now at.old at.new };
 }
 
-/// A worker's steps at a seat.
+/// A worker's steps.
 #[derive(Drop)]
-struct SeatWork<'s, 'a, R, G> {
+struct MemberWork<'s, 'a, R, G> {
     site: Site<'s, 'a, R, G>,
     block: &'s Block<'s>,
     profile: &'s Profile,
 }
 
-impl<'s, 'a, R: AllocGlobal + Wait, G: Gate> Task<Seat<'a>> for SeatWork<'s, 'a, R, G> {
-    ghost accepts = { λ t s. s.hub ≡ t.site.hub.now.id };
+impl<'s, 't, 'a, R: AllocGlobal + Wait, G: Gate> Task<Member<'t, 'a>> for MemberWork<'s, 'a, R, G> {
+    ghost accepts = { λ t m. m.seat.hub ≡ t.site.hub.now.id };
 
-    ghost changes = { λ t s r. IsSameSeat s r };
+    ghost changes = { λ t m r. IsSameMember m r };
 
-    fn run(&self, at: &mut Seat<'a>) {
+    fn run(&self, at: &mut Member<'t, 'a>) {
         work_at(&self.site, at, self.block, self.profile);
     }
 }

@@ -1,25 +1,30 @@
 //! The workers of a search: its ledger under a lock, a seat at it for each worker, and threads.
 #![tactic(auto)]
 
-mod after_graft;
 mod calls;
 mod crew;
 mod gate;
+mod hint;
 mod hub;
 mod limits;
+mod locals;
 mod lock;
+mod member;
 mod opening;
 mod options;
 mod search;
 mod seat;
+mod supply;
+mod victim;
 mod view;
 mod worker;
 
-pub use after_graft::{AfterGraft, Next};
 pub use crew::work;
 pub use gate::{Free, Gate};
+pub use hint::{Hint, HintSeat};
 pub use hub::{Hub, SeatsMissing};
-pub use limits::WORKERS_LIMIT;
+pub use limits::{CLAIMS_LIMIT, WORKERS_LIMIT};
 pub use options::Options;
 pub use search::run;
 pub use seat::Seat;
+pub use supply::{Needs, Supply};

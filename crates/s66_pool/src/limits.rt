@@ -1,7 +1,10 @@
 /// How many workers search at most.
 pub const WORKERS_LIMIT: u8 = 16;
 
-/// After how many claims in a row that get no node a worker ends.
+/// How many nodes a worker claims in one turn at most.
+pub const CLAIMS_LIMIT: usize = 8;
+
+/// After how many searches in a row that find no node a worker ends.
 pub const NONES_LIMIT: u32 = 1_000;
 
 /// How often a worker that got no node looks whether another has one, before it claims again.

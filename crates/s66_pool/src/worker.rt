@@ -1,11 +1,12 @@
 ghost use Rattle.std.specs.Prelude.{◌≡◌};
-ghost use Rattle.s66_pool.specs.Workers.{IsSameSeat};
+ghost use Rattle.s66_pool.specs.Workers.{IsSameMember, IsSameSeat};
 
-use crate::after_graft::{AfterGraft, Next};
 use crate::gate::Gate;
 use crate::hub::Hub;
-use crate::limits::{LOOKS, NONES_LIMIT};
+use crate::limits::{CLAIMS_LIMIT, LOOKS, NONES_LIMIT};
+use crate::member::Member;
 use crate::seat::Seat;
+use crate::supply::{Needs, Supply};
 use s66_isa::Profile;
 use s66_ledger::{Offered, SCHEDULE_ROUNDS, Ticket};
 use s66_line::Block;
@@ -16,76 +17,78 @@ use std::sync::Wait;
 use std::sync::atomic::{AtomicUsize, Ordering};
 use std::thread::yield_now;
 
-/// Where a worker works.
+/// Where workers search.
 #[derive(Drop)]
 pub(crate) struct Site<'s, 'a, R, G> {
     pub rt: &'s R,
     pub hub: &'s Hub<'a>,
     pub gate: &'s G,
-    /// How many workers have a node, or may have left some open since they were last told of none.
+    /// The number of workers that have nodes, or may have left some open since they last found none.
     pub searching: AtomicUsize,
 }
 
-/// A worker of a search, with what it keeps from step to step. Times are in minor cycles.
+/// A worker of a search, with what it keeps from step to step.
 #[derive(Drop)]
 struct Worker<'b> {
     walk: Walk<'b>,
     /// How many splits are left of what it was granted.
     allowance: u32,
     has_claimed: bool,
-    /// How many claims in a row have got no node.
+    /// How many searches for a node in a row have found none.
     nones: u32,
     /// How many pieces it has grafted.
     rounds: u32,
-    /// The least time that it knows.
-    best: u32,
 }
 
 /// What a worker does next.
 #[derive(Drop)]
 enum Step {
+    /// Take a node from a lane, or claim some.
+    Find,
     Claim,
-    /// Expand the node that it has claimed.
+    /// Expand a node.
     Expand(Ticket),
-    /// Wait, since no node was open.
+    /// Wait, since it found no node.
     Wait,
     End,
 }
 
-/// A worker's steps at its seat, until there is nothing more for it to do; then it retires.
+/// A worker's steps, until there is nothing more for it to do; then it gives the nodes of its lane back, and retires.
 pub(crate) fn work_at<'a, R: AllocGlobal + Wait, G: Gate>(
     site: &Site<'_, 'a, R, G>,
-    seat: &mut Seat<'a>,
+    member: &mut Member<'_, 'a>,
     block: &Block,
     profile: &Profile,
 )
-    requires { seat.old.hub ≡ site.now.hub.now.id }
-    ensures { IsSameSeat seat.old seat.new }
+    requires { member.old.seat.hub ≡ site.now.hub.now.id }
+    ensures { IsSameMember member.old member.new }
 {
     let mut worker = Worker::new(block, profile);
     let mut step = Step::Claim;
     for _ in site.rt.forever() {
         step = match step {
-            Step::Claim => worker.claim(site, seat),
-            Step::Expand(ticket) => worker.expand(site, seat, ticket),
+            Step::Find => worker.find(site, member),
+            Step::Claim => worker.claim(site, member),
+            Step::Expand(ticket) => worker.expand(site, member, ticket),
             Step::Wait => worker.wait_for_nodes(site),
             Step::End => break,
         };
     }
-    if worker.was_told_of_none() {
+    give_lane_back(site, member);
+    if worker.found_none() {
         site.searching.fetch_sub(1, Ordering::SeqCst);
     }
-    // an allowance that memory keeps out is taken back when the ledger is finished
-    let _ = site.hub.retire(site.rt, seat);
+    // an allowance that stays for want of memory is taken back when the ledger is finished
+    let _ = site.hub.retire(site.rt, &mut member.seat);
 }
 
 impl<'b> Worker<'b> {
     ghost use Rattle.std.specs.Prelude.{◌≡◌, ◌≤◌};
     ghost use Rattle.s66_model.specs.Tree.{splits};
     ghost use Rattle.s66_node.specs.Pieces.{tree_of};
-    ghost use Rattle.s66_pool.specs.Workers.{IsSameSeat};
+    ghost use Rattle.s66_pool.specs.Workers.{IsSameMember, IsSameSeat};
 
-    /// One that has done nothing yet.
+    /// A worker that has done nothing yet.
     fn new(block: &'b Block<'b>, profile: &Profile) -> Worker<'b> {
         Worker {
             walk: Walk::new(block, profile),
@@ -93,11 +96,28 @@ impl<'b> Worker<'b> {
             has_claimed: false,
             nones: 0,
             rounds: 0,
-            best: u32::MAX,
         }
     }
 
-    /// Whether it may claim, after a grant where it has no allowance: it has some then, or it hasn't claimed yet.
+    /// Takes the next node of its own lane, or steals one from the others, or claims some.
+    fn find<'a, R: AllocGlobal + Wait, G: Gate>(
+        &mut self,
+        site: &Site<'_, 'a, R, G>,
+        member: &mut Member<'_, 'a>,
+    ) -> Step
+        requires { member.old.seat.hub ≡ site.now.hub.now.id }
+        ensures { IsSameMember member.old member.new }
+    {
+        match member.local.take_or_steal() {
+            Some(ticket) => {
+                self.nones = 0;
+                Step::Expand(ticket)
+            }
+            None => self.claim(site, member),
+        }
+    }
+
+    /// Whether it may claim, after a grant if it has no allowance: if it has some then, or hasn't claimed yet.
     fn may_claim<'a, R: Wait, G: Gate>(
         &mut self,
         site: &Site<'_, 'a, R, G>,
@@ -116,41 +136,54 @@ impl<'b> Worker<'b> {
         0 < granted || !self.has_claimed
     }
 
-    /// Claims a node where it may, and learns the best time.
-    fn claim<'a, R: Wait, G: Gate>(
+    /// Claims nodes if it may.
+    fn claim<'a, R: AllocGlobal + Wait, G: Gate>(
         &mut self,
         site: &Site<'_, 'a, R, G>,
-        seat: &mut Seat<'a>,
+        member: &mut Member<'_, 'a>,
     ) -> Step
-        requires { seat.old.hub ≡ site.now.hub.now.id }
-        ensures { IsSameSeat seat.old seat.new }
+        requires { member.old.seat.hub ≡ site.now.hub.now.id }
+        ensures { IsSameMember member.old member.new }
     {
-        if !self.may_claim(site, seat) {
+        if !self.may_claim(site, &mut member.seat) {
             return Step::End;
         }
-        let claimed = site.hub.claim_and_read(site.rt, seat);
+        let needs = Needs {
+            splits: false,
+            nodes: true,
+        };
+        let Ok(mut claimed) = room_for(site.rt.alloc(), needs) else {
+            return Step::End;
+        };
+        let supply = site
+            .hub
+            .supply(site.rt, &mut member.seat, needs, &mut claimed);
         self.has_claimed = true;
-        match claimed {
-            Ok((ticket, best)) => self.take_up(site, seat.number(), ticket, best),
-            Err(AllocError) => end_unclaimed(site, seat.number()),
-        }
+        self.take_up(site, member, supply, claimed)
     }
 
-    /// Takes up what it has claimed: tells the gate, and keeps the best time.
-    fn take_up<'a, R, G: Gate>(
+    /// Takes up what it has claimed: tells the gate of each claim, and puts all nodes but the first into its lane.
+    fn take_up<'a, R: Wait, G: Gate>(
         &mut self,
         site: &Site<'_, 'a, R, G>,
-        w: u8,
-        ticket: Option<Ticket>,
-        best: u32,
-    ) -> Step {
-        site.gate.after_claim(w, ticket.is_some());
-        self.best = best;
-        match ticket {
+        member: &mut Member<'_, 'a>,
+        supply: Supply,
+        mut claimed: Vec<Ticket>,
+    ) -> Step
+        requires { member.old.seat.hub ≡ site.now.hub.now.id }
+        ensures { IsSameMember member.old member.new }
+    {
+        tell_gate(site, member.seat.number(), claimed.len(), supply);
+        claimed.reverse();
+        let first = claimed.pop();
+        put_all(site, member, claimed);
+        match first {
+            Some(ticket) if supply.out_of_memory => give_back(site, &mut member.seat, ticket),
             Some(ticket) => {
                 self.nones = 0;
                 Step::Expand(ticket)
             }
+            None if supply.out_of_memory => Step::End,
             None => {
                 self.nones = self.nones.saturating_add(1);
                 Step::Wait
@@ -158,186 +191,214 @@ impl<'b> Worker<'b> {
         }
     }
 
-    /// Whether its last claim got no node.
-    fn was_told_of_none(&self) -> bool {
+    /// Whether its last search for a node found none.
+    fn found_none(&self) -> bool {
         0 < self.nones
     }
 
-    /// Waits for nodes, since none was open; it ends where none will be, and after `NONES_LIMIT` times in a row.
+    /// Waits for nodes, since it found none; it ends if none will be there, or after `NONES_LIMIT` times in a row.
     fn wait_for_nodes<'a, R, G>(&mut self, site: &Site<'_, 'a, R, G>) -> Step {
         site.searching.fetch_sub(1, Ordering::SeqCst);
         let others_search = is_searched(&site.searching);
         site.searching.fetch_add(1, Ordering::SeqCst);
         if others_search && self.nones < NONES_LIMIT {
-            Step::Claim
+            Step::Find
         } else {
             Step::End
         }
     }
 
-    /// Expands a claimed node and hands its piece in.
+    /// Expands a node and hands its piece in.
     fn expand<'a, R: AllocGlobal + Wait, G: Gate>(
         &mut self,
         site: &Site<'_, 'a, R, G>,
-        seat: &mut Seat<'a>,
+        member: &mut Member<'_, 'a>,
         ticket: Ticket,
     ) -> Step
-        requires { seat.old.hub ≡ site.now.hub.now.id }
-        ensures { IsSameSeat seat.old seat.new }
+        requires { member.old.seat.hub ≡ site.now.hub.now.id }
+        ensures { IsSameMember member.old member.new }
     {
         // the hub may be another block's
         if !self.walk.try_go_to(ticket.prefix()) {
-            return give_back(site, seat, ticket);
+            return give_back(site, &mut member.seat, ticket);
         }
-        match self.walk.expand(site.rt.alloc(), ticket.prefix(), self.best, self.allowance) {
-            Ok(piece) => self.hand_in(site, seat, ticket, &piece),
-            Err(AllocError) => give_back(site, seat, ticket),
+        match self.walk.expand_with(
+            site.rt.alloc(),
+            ticket.prefix(),
+            &mut member.local.incumbent,
+            self.allowance,
+        ) {
+            Ok(piece) => self.hand_in(site, member, ticket, &piece),
+            Err(AllocError) => give_back(site, &mut member.seat, ticket),
         }
     }
 
-    /// Offers a piece's best whole order, grafts the piece, and goes on in the same turn.
-    fn hand_in<'a, R: Wait, G: Gate>(
+    /// Offers a piece's best whole order, grafts the piece, and in the same turn gets what it then needs.
+    fn hand_in<'a, R: AllocGlobal + Wait, G: Gate>(
         &mut self,
         site: &Site<'_, 'a, R, G>,
-        seat: &mut Seat<'a>,
+        member: &mut Member<'_, 'a>,
         ticket: Ticket,
         piece: &Piece,
     ) -> Step
-        requires here { seat.old.hub ≡ site.now.hub.now.id }
+        requires here { member.old.seat.hub ≡ site.now.hub.now.id }
         requires within { splits (tree_of piece.now) ≤ self.old.allowance }
-        ensures { IsSameSeat seat.old seat.new }
+        ensures { IsSameMember member.old member.new }
     {
-        if !self.offer_whole(site, seat, piece) {
-            return give_back(site, seat, ticket);
+        if !offer_whole(site, member, piece) {
+            return give_back(site, &mut member.seat, ticket);
         }
         self.allowance -= piece.splits();
-        let asked = self.asks();
-        site.gate.before_graft(seat.number());
-        match site
-            .hub
-            .graft_and_go_on(site.rt, seat, ticket.node(), piece, asked)
-        {
-            Ok(after) => {
-                let next = self.go_on(site, seat.number(), after);
-                self.end_round(site, seat, next)
-            }
-            Err(_) => give_back(site, seat, ticket),
-        }
+        let next = member.local.take_or_steal();
+        let needs = Needs {
+            splits: self.allowance == 0,
+            nodes: next.is_none(),
+        };
+        let Ok(mut claimed) = room_for(site.rt.alloc(), needs) else {
+            give_back_some(site, &mut member.seat, next);
+            return give_back(site, &mut member.seat, ticket);
+        };
+        site.gate.before_graft(member.seat.number());
+        let Ok(supply) = site.hub.graft_and_supply(
+            site.rt,
+            &mut member.seat,
+            ticket.node(),
+            piece,
+            needs,
+            &mut claimed,
+        ) else {
+            give_back_some(site, &mut member.seat, next);
+            return give_back(site, &mut member.seat, ticket);
+        };
+        let step = self.go_on(site, member, needs, supply, next, claimed);
+        self.end_round(site, member, step)
     }
 
-    /// What it asks for in the turn of its graft: splits too, where it has none left.
-    fn asks(&self) -> Next {
-        if self.allowance == 0 {
-            Next::GrantAndClaim
-        } else {
-            Next::Claim
-        }
-    }
-
-    /// Takes up what came of the turn of its graft.
-    fn go_on<'a, R, G: Gate>(
+    /// Goes on after the turn of its graft, with the node that it had found before it or with those that it claimed in it.
+    fn go_on<'a, R: Wait, G: Gate>(
         &mut self,
         site: &Site<'_, 'a, R, G>,
-        w: u8,
-        after: AfterGraft,
-    ) -> Step {
-        match after {
-            AfterGraft::Rested => Step::Claim,
-            AfterGraft::NotGranted | AfterGraft::GrantRefused => Step::End,
-            AfterGraft::NotClaimed { .. } => end_unclaimed(site, w),
-            AfterGraft::Claimed {
-                granted,
-                ticket,
-                best,
-            } => {
-                self.allowance = self.allowance.saturating_add(granted);
-                self.take_up(site, w, ticket, best)
-            }
+        member: &mut Member<'_, 'a>,
+        needs: Needs,
+        supply: Supply,
+        next: Option<Ticket>,
+        claimed: Vec<Ticket>,
+    ) -> Step
+        requires { member.old.seat.hub ≡ site.now.hub.now.id }
+        ensures { IsSameMember member.old member.new }
+    {
+        let granted = supply.granted.unwrap_or(0);
+        self.allowance = self.allowance.saturating_add(granted);
+        // nothing is left of the budget, or out of memory: it claimed nothing
+        if needs.splits && granted == 0 {
+            give_back_some(site, &mut member.seat, next);
+            return Step::End;
+        }
+        match next {
+            Some(ticket) => Step::Expand(ticket),
+            None => self.take_up(site, member, supply, claimed),
         }
     }
 
-    /// Counts a piece that was grafted, and offers a list schedule where it is time; then comes the next step. Where memory is refused
-    /// the worker ends, and gives back what it has claimed.
+    /// Counts a piece that was grafted, and offers a list schedule if it is time; then comes the next step. If out of memory the worker
+    /// ends, and gives its next node back.
     fn end_round<'a, R: Wait, G: Gate>(
         &mut self,
         site: &Site<'_, 'a, R, G>,
-        seat: &mut Seat<'a>,
+        member: &mut Member<'_, 'a>,
         next: Step,
     ) -> Step
-        requires { seat.old.hub ≡ site.now.hub.now.id }
-        ensures { IsSameSeat seat.old seat.new }
+        requires { member.old.seat.hub ≡ site.now.hub.now.id }
+        ensures { IsSameMember member.old member.new }
     {
         self.rounds = self.rounds.wrapping_add(1);
-        if self.offer_sometimes(site, seat) {
+        if self.offer_sometimes(site, member) {
             return next;
         }
         match next {
-            Step::Expand(ticket) => give_back(site, seat, ticket),
+            Step::Expand(ticket) => give_back(site, &mut member.seat, ticket),
             _ => Step::End,
         }
     }
 
-    /// Offers a piece's best whole order, where its time is below the best; false where memory was refused.
-    fn offer_whole<'a, R: Wait, G: Gate>(
-        &mut self,
-        site: &Site<'_, 'a, R, G>,
-        seat: &mut Seat<'a>,
-        piece: &Piece,
-    ) -> bool
-        requires { seat.old.hub ≡ site.now.hub.now.id }
-        ensures here { IsSameSeat seat.old seat.new }
-        ensures allowance { self.new.allowance ≡ self.old.allowance }
-    {
-        match piece.timed() {
-            Some(timed) if timed.total() < self.best => self.offer(site, seat, timed.duplicate()),
-            _ => true,
-        }
-    }
-
-    /// Offers a list schedule from the walk's prefix on, after each `SCHEDULE_ROUNDS` rounds and where its time is below the best;
-    /// false where memory was refused.
+    /// Offers a list schedule from the walk's prefix on, after each `SCHEDULE_ROUNDS` rounds and if its time is below the best; false if
+    /// out of memory.
     fn offer_sometimes<'a, R: Wait, G: Gate>(
         &mut self,
         site: &Site<'_, 'a, R, G>,
-        seat: &mut Seat<'a>,
+        member: &mut Member<'_, 'a>,
     ) -> bool
-        requires { seat.old.hub ≡ site.now.hub.now.id }
-        ensures { IsSameSeat seat.old seat.new }
+        requires { member.old.seat.hub ≡ site.now.hub.now.id }
+        ensures { IsSameMember member.old member.new }
     {
         if self.rounds % SCHEDULE_ROUNDS != 0 {
             return true;
         }
-        match schedule_below(&mut self.walk, Priority::Start, self.best) {
-            Some(timed) => self.offer(site, seat, timed),
+        let best = member.local.incumbent.load();
+        match schedule_below(&mut self.walk, Priority::Start, best) {
+            Some(timed) => offer(site, member, timed),
             None => true,
         }
     }
+}
 
-    /// Offers an order, and keeps the best time that is answered; false where memory was refused.
-    fn offer<'a, R: Wait, G: Gate>(
-        &mut self,
-        site: &Site<'_, 'a, R, G>,
-        seat: &mut Seat<'a>,
-        timed: Timed,
-    ) -> bool
-        requires { seat.old.hub ≡ site.now.hub.now.id }
-        ensures here { IsSameSeat seat.old seat.new }
-        ensures allowance { self.new.allowance ≡ self.old.allowance }
-    {
-        let total = timed.total();
-        match site.hub.offer(site.rt, seat, timed) {
-            Ok(Offered::Lower) => self.best = total,
-            Ok(Offered::NotLower { least }) => self.best = least,
-            // the hub is another block's
-            Ok(Offered::OtherBlock) => {}
-            Err(AllocError) => return false,
+/// Offers a piece's best whole order, if its time is below the best; false if out of memory.
+fn offer_whole<'a, R: Wait, G: Gate>(
+    site: &Site<'_, 'a, R, G>,
+    member: &mut Member<'_, 'a>,
+    piece: &Piece,
+) -> bool
+    requires { member.old.seat.hub ≡ site.now.hub.now.id }
+    ensures { IsSameMember member.old member.new }
+{
+    match piece.timed() {
+        Some(timed) if timed.total() < member.local.incumbent.load() => {
+            offer(site, member, timed.duplicate())
         }
-        true
+        _ => true,
     }
 }
 
-/// Looks `LOOKS` times whether any worker is searching, and lets other threads run between. Where none is, each was told of no node
-/// after it last grafted or gave one back, so none is open, and none will be.
+/// Offers an order, and lowers the hint to the best time that the ledger then has; false if out of memory.
+fn offer<'a, R: Wait, G: Gate>(
+    site: &Site<'_, 'a, R, G>,
+    member: &mut Member<'_, 'a>,
+    timed: Timed,
+) -> bool
+    requires { member.old.seat.hub ≡ site.now.hub.now.id }
+    ensures { IsSameMember member.old member.new }
+{
+    let total = timed.total();
+    match site.hub.offer(site.rt, &mut member.seat, timed) {
+        Ok(Offered::Lower) => member.local.incumbent.lower(total),
+        Ok(Offered::NotLower { least }) => member.local.incumbent.lower(least),
+        // the hub is another block's
+        Ok(Offered::OtherBlock) => {}
+        Err(AllocError) => return false,
+    }
+    true
+}
+
+/// Room for the nodes that a worker may claim in one turn, so that none is made while it has the lock.
+fn room_for(alloc: Global, needs: Needs) -> Result<Vec<Ticket>, AllocError>
+    ensures { IfOk result (λ claimed. claimed.items ≡ []) }
+{
+    let room = if needs.nodes { CLAIMS_LIMIT } else { 0 };
+    Vec::with_capacity(alloc, room)
+}
+
+/// Tells the gate of each claim of a turn: of those that got a node, and of the last if it got none.
+fn tell_gate<'a, R, G: Gate>(site: &Site<'_, 'a, R, G>, w: u8, nodes: usize, supply: Supply) {
+    for _ in 0..nodes {
+        site.gate.after_claim(w, true);
+    }
+    if supply.none_open || supply.out_of_memory {
+        site.gate.after_claim(w, false);
+    }
+}
+
+/// Looks `LOOKS` times whether any worker is searching, and lets other threads run between. If none is, each found no node after it
+/// last grafted or gave one back, so none is open or in a lane, and none will be.
 fn is_searched(searching: &AtomicUsize) -> bool {
     for _ in 0..LOOKS {
         if searching.load(Ordering::SeqCst) == 0 {
@@ -348,13 +409,50 @@ fn is_searched(searching: &AtomicUsize) -> bool {
     true
 }
 
-/// Tells the gate of a claim for which memory was refused, with which the worker ends.
-fn end_unclaimed<'a, R, G: Gate>(site: &Site<'_, 'a, R, G>, w: u8) -> Step {
-    site.gate.after_claim(w, false);
-    Step::End
+/// Puts nodes into the worker's lane, the last first; those for which it has no room go back to the hub.
+fn put_all<'a, R: Wait, G: Gate>(
+    site: &Site<'_, 'a, R, G>,
+    member: &mut Member<'_, 'a>,
+    mut claimed: Vec<Ticket>,
+)
+    requires { member.old.seat.hub ≡ site.now.hub.now.id }
+    ensures { IsSameMember member.old member.new }
+{
+    while let Some(ticket) = claimed.pop() {
+        if let Err((AllocError, refused)) = member.local.lane.put(ticket) {
+            give_back(site, &mut member.seat, refused);
+        }
+    }
 }
 
-/// Gives a ticket back, with which the worker ends. Refused for want of memory, its node stays out until the ledger is finished.
+/// Gives the nodes of the worker's lane back.
+fn give_lane_back<'a, R: Wait, G: Gate>(site: &Site<'_, 'a, R, G>, member: &mut Member<'_, 'a>)
+    requires { member.old.seat.hub ≡ site.now.hub.now.id }
+    ensures { IsSameMember member.old member.new }
+{
+    for _ in site.rt.forever() {
+        let Some(ticket) = member.local.lane.take() else {
+            return;
+        };
+        give_back(site, &mut member.seat, ticket);
+    }
+}
+
+/// Gives a node back, if there is one.
+fn give_back_some<'a, R: Wait, G: Gate>(
+    site: &Site<'_, 'a, R, G>,
+    seat: &mut Seat<'a>,
+    ticket: Option<Ticket>,
+)
+    requires { seat.old.hub ≡ site.now.hub.now.id }
+    ensures { IsSameSeat seat.old seat.new }
+{
+    if let Some(ticket) = ticket {
+        give_back(site, seat, ticket);
+    }
+}
+
+/// Gives a node back, with which the worker ends. If out of memory, its node stays out until the ledger is finished.
 fn give_back<'a, R: Wait, G: Gate>(
     site: &Site<'_, 'a, R, G>,
     seat: &mut Seat<'a>,
