@@ -1,10 +1,11 @@
-//! The workers of a search: its ledger under a lock, a seat at it for each worker, and threads.
+//! The workers of a search: its ledger under a lock, a hint of its best time, a seat at each for every worker, and threads.
 #![tactic(auto)]
 
 mod after_graft;
 mod calls;
 mod crew;
 mod gate;
+mod hint;
 mod hub;
 mod limits;
 mod lock;
@@ -18,6 +19,7 @@ mod worker;
 pub use after_graft::{AfterGraft, Next};
 pub use crew::work;
 pub use gate::{Free, Gate};
+pub use hint::{Hint, HintSeat};
 pub use hub::{Hub, SeatsMissing};
 pub use limits::WORKERS_LIMIT;
 pub use options::Options;
