@@ -156,3 +156,15 @@ module _ (l : LedgerOf) (p : Passbook) (agrees : Agrees (account_summary l) p) (
         ap (λ (q : Passbook). q.who) at,
         has-supply mid book-between agrees-between began new f number who supply tickets events between now refl gave,
       )
+
+-- THE WORKER of a seat stays the same
+
+events-who : (es : List (Event × Reply)) (p : Passbook) → (after_events p es).who ≡ p.who
+events-who [] p = refl
+events-who (x ∷ es) p = events-who es (after_event p x.0 x.1)
+
+pub supply-who : (old new : SeatOf) (supply : Supply) (tickets : List TicketOf) → HasSupply old supply tickets new → new.book.who ≡ old.book.who
+supply-who old new supply tickets h = ap (λ (q : Passbook). q.who) h ∙ events-who (supplied old.book.who supply tickets) old.book
+
+pub graft-who : (old new : SeatOf) (node : ℕ) (piece : PieceOf) (supply : Supply) (tickets : List TicketOf) → HasGraftedAndSupply old node piece supply tickets new → new.book.who ≡ old.book.who
+graft-who old new node piece supply tickets (between, grafted, who, h) = supply-who between new supply tickets h ∙ who
