@@ -1,4 +1,4 @@
-//! Tests of the search: expansion, list schedules, the ledger, the calls of a hub, and workers at gates.
+//! Tests of the search: expansion, list schedules, the ledger, lanes of its tickets, the calls of a hub, and workers at gates.
 #![tactic(auto)]
 
 #[cfg(test)]
@@ -7,6 +7,8 @@ mod expansion;
 mod gates;
 #[cfg(test)]
 mod hub;
+#[cfg(test)]
+mod lanes;
 #[cfg(test)]
 mod ledger;
 #[cfg(test)]
