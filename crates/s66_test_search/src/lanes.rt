@@ -41,7 +41,7 @@ fn put_children<R: AllocGlobal + Abort>(rt: &R, block: &Block, lane: &mut Lane)
     claim_and_put(rt, &mut ledger, lane, &[1]);
 }
 
-/// Takes a ticket, and tells its node.
+/// Takes a ticket, and returns its node.
 fn take_node<R: Abort>(rt: &R, lane: &mut Lane) -> u32 {
     lane.take().expect(rt, "a ticket").node()
 }
@@ -80,7 +80,7 @@ fn only_pass<R: Abort>(rt: &R, lane: &mut Lane) -> Pass
     pass
 }
 
-/// Steals, and keeps the nodes of what was stolen.
+/// Steals, and pushes the nodes of what was stolen.
 fn steal_some<R: Abort>(rt: &R, thief: &Thief, pass: &mut Pass, nodes: &mut Vec<u32>)
     requires { pass.old.lane ≡ thief.now }
     ensures { pass.new.lane ≡ pass.old.lane }
@@ -93,7 +93,7 @@ fn steal_some<R: Abort>(rt: &R, thief: &Thief, pass: &mut Pass, nodes: &mut Vec<
     assert!(rt; !nodes.is_empty());
 }
 
-/// Takes what is left, and keeps its nodes too.
+/// Takes what is left, and pushes its nodes too.
 fn take_rest<R: Abort>(rt: &R, lane: &mut Lane, nodes: &mut Vec<u32>)
     ensures { lane.new.id ≡ lane.old.id }
 {
