@@ -1,10 +1,12 @@
-//! Tests of the search: expansion, list schedules, the ledger, the calls of a hub, and workers at gates.
+//! Tests of the search: expansion, list schedules, the ledger, the calls of a hub, a hint, and workers at gates.
 #![tactic(auto)]
 
 #[cfg(test)]
 mod expansion;
 #[cfg(test)]
 mod gates;
+#[cfg(test)]
+mod hint;
 #[cfg(test)]
 mod hub;
 #[cfg(test)]
