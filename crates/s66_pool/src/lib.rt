@@ -7,6 +7,7 @@ mod crew;
 mod gate;
 mod hint;
 mod hub;
+mod incumbent;
 mod limits;
 mod lock;
 mod opening;
