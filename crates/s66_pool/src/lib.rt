@@ -6,6 +6,7 @@ mod crew;
 mod gate;
 mod hint;
 mod hub;
+mod incumbent;
 mod limits;
 mod locals;
 mod lock;

@@ -1,10 +1,13 @@
-//! Tests of the search: expansion, list schedules, the ledger, lanes of its tickets, the calls of a hub, and workers at gates.
+//! Tests of the search: expansion, list schedules, the ledger, lanes of its tickets, the calls of a hub, its hint, and workers at
+//! gates.
 #![tactic(auto)]
 
 #[cfg(test)]
 mod expansion;
 #[cfg(test)]
 mod gates;
+#[cfg(test)]
+mod hint;
 #[cfg(test)]
 mod hub;
 #[cfg(test)]
