@@ -6,11 +6,11 @@ use Rattle.s66_isa.specs.declared.instr.Instr.{Instr}
 use Rattle.s66_model.specs.LegalOrder.{ready, IsIncomplete}
 use Rattle.s66_model.specs.Leaves.{Leaf}
 use Rattle.s66_model.specs.Tree.{Kids, NoMore, Unsplit, Split, Tree, Alone, Parted, KidsHold, TreeHolds}
-use Rattle.s66_model.specs.NodeNames.{tip_at, kid_at, node_at}
-use Rattle.s66_model.specs.DominatedLeaves.{Ending, Bounding, Dominated, is_node, is_standing}
+use Rattle.s66_model.specs.NodeNames.{tip_at, kid_at, node_at, is_node}
+use Rattle.s66_model.specs.DominatedLeaves.{Ending, Bounding, Dominated, is_standing}
 
 -- a node's name goes on from the prefix
-pub node-begins : (prefix : List ℕ) (tree : Tree Ending) (name : List ℕ) → is_node (node_at prefix tree name) ≡ true → (path : List ℕ) × (name ≡ prefix ++ path)
+pub node-begins : {M : Type 0} (prefix : List ℕ) (tree : Tree M) (name : List ℕ) → is_node (node_at prefix tree name) ≡ true → (path : List ℕ) × (name ≡ prefix ++ path)
 node-begins [] tree name h = (name, refl)
 node-begins (n ∷ prefix) tree [] h = absurd cc
 node-begins (n ∷ prefix) tree (m ∷ name) h =

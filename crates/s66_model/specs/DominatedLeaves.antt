@@ -5,7 +5,7 @@ use Rattle.s66_model.specs.LegalOrder.{IsIncomplete}
 use Rattle.s66_model.specs.Leaves.{Leaf}
 use Rattle.s66_model.specs.Tree.{Kids, NoMore, Unsplit, Split, Tree, Alone, Parted, Knot, AtTip, AtSplit, TreeHolds, LeafShows}
 use Rattle.s66_model.specs.Dominance.{Dominates, DominatesClamped}
-use Rattle.s66_model.specs.NodeNames.{node_at}
+use Rattle.s66_model.specs.NodeNames.{node_at, is_node}
 
 -- what ends a tree at a prefix that isn't split: a leaf that bounds, or the name of a node that dominates the prefix
 pub data Ending : Type 0 where
@@ -14,22 +14,11 @@ pub data Ending : Type 0 where
 
 -- WHICH NODES MAY BE NAMED
 
--- an earlier node, which dominates as written; or a node before or after that is no dominated leaf itself, and dominates clamped at the next slot
 pub data Rule : Type 0 where
+  -- an earlier node, which dominates as written
   WrittenEarlier : Rule
+  -- a node that is no dominated leaf itself, earlier or later, which dominates clamped at the next slot
   ClampedStanding : Rule
-
--- there is a node of the name
-abbrev pub is_node : Option (Knot Ending) → Bool
-is_node None = false
-is_node (Some knot) = true
-
--- and it is no dominated leaf
-abbrev pub is_standing : Option (Knot Ending) → Bool
-is_standing None = false
-is_standing (Some (AtSplit numbers)) = true
-is_standing (Some (AtTip (Bounding leaf))) = true
-is_standing (Some (AtTip (Dominated name))) = false
 
 -- smaller at the first place where they differ
 abbrev pub IsEarlier : List ℕ → List ℕ → Type 0
@@ -37,16 +26,27 @@ IsEarlier [] ms = ⊥
 IsEarlier (n ∷ ns) [] = ⊥
 IsEarlier (n ∷ ns) (m ∷ ms) = (n < m) ⊎ ((n ≡ m) × IsEarlier ns ms)
 
--- a leaf at the prefix may name this node
+-- there is a node, and it is no dominated leaf
+abbrev pub is_standing : Option (Knot Ending) → Bool
+is_standing None = false
+is_standing (Some (AtSplit numbers)) = true
+is_standing (Some (AtTip (Bounding leaf))) = true
+is_standing (Some (AtTip (Dominated name))) = false
+
+-- a dominated leaf at this prefix may name this node
 abbrev pub MayName : Rule → Problem → List ℕ → Option (Knot Ending) → List ℕ → Type 0
 MayName WrittenEarlier b at node name = (is_node node ≡ true) × IsEarlier name at × Dominates b name at
 MayName ClampedStanding b at node name = (is_standing node ≡ true) × DominatesClamped b name at
 
--- WHAT A TREE SHOWS over a prefix: dominated leaves stand at incomplete prefixes, and are passed over
+-- a dominated leaf may stand there in the tree, which is over a prefix
+abbrev pub MayBeDominated : Rule → Problem → List ℕ → Tree Ending → List ℕ → List ℕ → Type 0
+MayBeDominated rule b prefix tree at name = IsIncomplete b.block at × MayName rule b at (node_at prefix tree name) name
+
+-- WHAT A TREE SHOWS over a prefix: dominated leaves are passed over
 
 abbrev pub EndingShows : Rule → Problem → ℕ → List ℕ → Tree Ending → List ℕ → Ending → Type 0
 EndingShows rule b low prefix tree at (Bounding leaf) = LeafShows b low at leaf
-EndingShows rule b low prefix tree at (Dominated name) = IsIncomplete b.block at × MayName rule b at (node_at prefix tree name) name
+EndingShows rule b low prefix tree at (Dominated name) = MayBeDominated rule b prefix tree at name
 
 abbrev pub ShowsBy : Rule → Problem → ℕ → List ℕ → Tree Ending → Type 0
 ShowsBy rule b low prefix tree = TreeHolds b.block (EndingShows rule b low prefix tree) prefix tree

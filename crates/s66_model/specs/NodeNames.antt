@@ -1,5 +1,5 @@
 -- To be believed: which node of a tree a list of numbers names.
-use Rattle.std.specs.Prelude.{ℕ, if◌then◌else◌, ◌==◌, List, [], ◌∷◌, Option, Some, None}
+use Rattle.std.specs.Prelude.{ℕ, Bool, true, false, if◌then◌else◌, ◌==◌, List, [], ◌∷◌, Option, Some, None}
 use Rattle.s66_model.specs.Tree.{Kids, NoMore, Unsplit, Split, Tree, Alone, Parted, Knot, AtTip, AtSplit}
 
 -- the tip itself, of which there are no nodes further down
@@ -21,3 +21,8 @@ node_at [] (Alone tip) name = tip_at tip name
 node_at [] (Parted numbers kids) name = kid_at numbers kids name
 node_at (n ∷ prefix) tree [] = None
 node_at (n ∷ prefix) tree (m ∷ name) = if n == m then node_at prefix tree name else None
+
+-- there is a node of the name
+abbrev pub is_node : {M : Type 0} → Option (Knot M) → Bool
+is_node None = false
+is_node (Some knot) = true
