@@ -46,7 +46,7 @@ written-after s start r (w ∷ ws) h le =
           ]
     ]
 
-pub last-step : (b : Problem) (s : List Point) (n : ℕ) (r : Reg) → last_done r s ≡ done_of s r → last_done r (point_of b s n ∷ s) ≡ done_of (point_of b s n ∷ s) r
+last-step : (b : Problem) (s : List Point) (n : ℕ) (r : Reg) → last_done r s ≡ done_of s r → last_done r (point_of b s n ∷ s) ≡ done_of (point_of b s n ∷ s) r
 unfolding point
 last-step b s n r h =
     let p = point_of b s n in

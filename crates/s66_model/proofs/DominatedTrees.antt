@@ -1,4 +1,4 @@
--- What a tree with dominated leaves shows is a lower bound, by either rule; without such leaves it shows what it shows as a tree of leaves.
+-- What a tree with dominated leaves shows is a lower bound, by either rule; a tree of leaves shows the same by each.
 use Rattle.std.proofs.Common.{ℕ, zero, suc, ◌+◌, ◌≤◌, ◌≡◌, ◌⊎◌, List, [], ◌∷◌, ◌++◌, length, ap, arith, inl, inr, subst, append_assoc, ◌∙◌}
 use Rattle.s66_isa.specs.declared.instr.Instr.{Instr}
 use Rattle.s66_model.specs.Timing.{Problem, total_of, points_of, next}
@@ -41,7 +41,7 @@ module _ (b : Problem) (low : ℕ) (prefix : List ℕ) (tree : Tree Ending) (sho
         subst (λ x. IsEarlier x (at ++ rest)) same (earlier-append name at rest earlier),
       ))
 
-  -- the first order below low would go through a dominated leaf, and there is one before it
+  -- an order below low goes through a dominated leaf, and its node gives an earlier one
   earlier-below : (rest : List ℕ) → IsBeginning b.block prefix → IsOrder b.block (prefix ++ rest) → low ≤ total_of b (prefix ++ rest)
   earlier-below rest begins order =
       descent b low prefix (λ more whole. tree-find b (EndingShows WrittenEarlier b low prefix tree) (λ x. (low ≤ total_of b x) ⊎ HasBetter b prefix x) earlier-step prefix tree shows begins more (legal-parts b.block prefix more (order-legal b.block (prefix ++ more) whole)).1) rest order

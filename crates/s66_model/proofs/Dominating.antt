@@ -111,7 +111,7 @@ past_clamped = record {
   readers_rise = λ now later h. omega arith;
 }
 
--- what is no later up to a clamp is so up to a later one
+-- what is no later than a clamp is no later than a later one
 below-later : (b : Problem) (c d : Clamp) (q s : List Point) → c.others ≤ d.others → c.readers ≤ d.readers → Below b c q s → Below b d q s
 below-later b c d q s others readers h =
     record {
@@ -195,10 +195,10 @@ clamped-total b = total-le b clamp_at past_clamped
 pub clamped-no-worse : (b : Problem) (other prefix : List ℕ) → DominatesClamped b other prefix → IsNoWorse b other prefix
 clamped-no-worse b = no-worse b clamp_at past_clamped
 
--- FROM ONE TO THE NEXT
+-- TRANSITIVE
 
-no_later-on : (b : Problem) (u q s : List Point) → IsNoLater b (clamp_at (next s)) q s → IsNoLater b (clamp_at (next q)) u q → IsNoLater b (clamp_at (next s)) u s
-no_later-on b u q s h k =
+no_later-transitive : (b : Problem) (u q s : List Point) → IsNoLater b (clamp_at (next s)) q s → IsNoLater b (clamp_at (next q)) u q → IsNoLater b (clamp_at (next s)) u s
+no_later-transitive b u q s h k =
     record {
       slot = omega (arith, h.slot, k.slot);
       phase = k.phase ∙ h.phase;
@@ -209,13 +209,13 @@ no_later-on b u q s h k =
       stores = omega (arith, h.stores, k.stores, h.slot);
     }
 
-pub clamped-on : (b : Problem) (third other prefix : List ℕ) → DominatesClamped b third other → DominatesClamped b other prefix → DominatesClamped b third prefix
-clamped-on b third other prefix k h =
+pub clamped-transitive : (b : Problem) (third other prefix : List ℕ) → DominatesClamped b third other → DominatesClamped b other prefix → DominatesClamped b third prefix
+clamped-transitive b third other prefix k h =
     record {
       begins = h.begins;
       other_begins = k.other_begins;
       same_set = λ n. k.same_set n ∙ h.same_set n;
-      no_later = no_later-on b (points_of b third) (points_of b other) (points_of b prefix) h.no_later k.no_later;
+      no_later = no_later-transitive b (points_of b third) (points_of b other) (points_of b prefix) h.no_later k.no_later;
     }
 
 -- what is no later at all is no later than a clamp either

@@ -1,4 +1,4 @@
--- What holds of an order if it is a lower bound or an earlier order is as quick: no earlier one without end.
+-- Every order takes at least a time if each either does or has an earlier one that is as quick.
 use Rattle.std.proofs.Common.{ℕ, zero, suc, ◌+◌, ◌*◌, ◌-◌, ◌≤◌, ◌<◌, ◌≡◌, ◌⊎◌, List, [], ◌∷◌, ◌++◌, length, sym, ap, arith, inl, inr, ◌∙◌}
 use Rattle.s66_isa.specs.declared.instr.Instr.{Instr}
 use Rattle.s66_model.specs.Timing.{Problem, total_of}
@@ -74,7 +74,7 @@ module _ (b : Problem) (low : ℕ) (prefix : List ℕ) (step : (rest : List ℕ)
             omega (arith, fall fuel better.0 better.1 (omega (arith, less, h)), better.2))
       ]
 
-  -- the first order below low, by its numbers, would have none before it
+  -- no order has earlier ones without end
   pub descent : (rest : List ℕ) → IsOrder b.block (prefix ++ rest) → low ≤ total_of b (prefix ++ rest)
   descent rest legal = fall (suc (rank (suc (length b.block)) (prefix ++ rest))) rest legal (omega arith)
 

@@ -1,4 +1,4 @@
--- A push of the same number on both keeps the words of one list of points no later than those of another.
+-- After a push of the same number on both, points that were no later than others still are.
 use Rattle.std.proofs.Common.{ℕ, ◌+◌, ◌%◌, ◌≤◌, ◌<◌, ◌≡◌, Bool, true, false, cond, ◌&&◌, max, min, List, [], ◌∷◌, refl, ap, arith, inl, inr, ltb, eqb, map}
 use Rattle.std.proofs.lemmas.Bool.{cases_Bool, lt-ltb, le-ltb}
 use Rattle.s66_isa.specs.declared.instr.Kind.{Kind}
@@ -10,14 +10,14 @@ use Rattle.s66_isa.specs.Table.{Row, Write, same_reg, same_kind, has_reg, memory
 use Rattle.s66_isa.proofs.Lists.{cases_le, greatest-le, le-greatest, greatest-same}
 use Rattle.s66_model.specs.Packing.{fits_at}
 use Rattle.s66_model.specs.Timing.{Problem, ResultAt, Point, row_at, copies, next, next_parcel, parcel_of, slot_of, busy_at, issue_of, start_of, done_at, done_of, last_done, readers_wait, result_at, free_after, point, point_of}
-use Rattle.s66_model.specs.Dominance.{references_wait, stores_wait, Clamp}
+use Rattle.s66_model.specs.Dominance.{place_in_word, references_wait, stores_wait, Clamp}
 use Rattle.s66_model.proofs.Issue.{issue-is}
 use Rattle.s66_model.proofs.PointTimes.{point_of-row}
 
--- no word of q is later than that of s, with the busy units counted
+-- q is no later than s or the clamps, with the busy units counted
 pub record Below (b : Problem) (c : Clamp) (q s : List Point) : Type 0 where
   pub slot : next q ≤ next s
-  pub phase : next_parcel q % 4 ≡ next_parcel s % 4
+  pub phase : place_in_word q ≡ place_in_word s
   pub writers : (r : Reg) → done_of q r ≤ max (done_of s r) c.others
   pub readers : (r : Reg) → readers_wait q r ≤ max (readers_wait s r) c.readers
   pub busy : (kind : Kind) (t : ℕ) → c.others ≤ t → min (copies b kind) (tally (busy_at kind t) q) ≤ min (copies b kind) (tally (busy_at kind t) s)
@@ -49,7 +49,7 @@ and_false false = refl
 pad_zero : (len : ℕ) → pad len 0 ≡ 0
 pad_zero len = rw (and_false (eqb len 2)) refl
 
-slot-is : (s : List Point) (len : ℕ) → slot_of s len ≡ next s + pad len (next_parcel s % 4)
+slot-is : (s : List Point) (len : ℕ) → slot_of s len ≡ next s + pad len (place_in_word s)
 slot-is [] len = omega (arith, pad_zero len)
 slot-is (p ∷ s) len = omega (arith, fits-is (p.parcel + p.row.parcels) len)
 
@@ -64,7 +64,7 @@ phase_arith y y' len e =
     let p : pad len (y' % 4) ≡ pad len (y % 4) = ap (pad len) e in
     omega (arith, mod_arith y' y (pad len (y % 4) + len) e)
 
--- WORDS OF LISTS
+-- WHAT EACH WAITS FOR
 
 -- f is at most g or c everywhere
 greatest-or : {X : Type 0} (f g : X → ℕ) (c : ℕ) → ((x : X) → f x ≤ max (g x) c) → (xs : List X) → greatest f xs ≤ max (greatest g xs) c
@@ -75,7 +75,7 @@ greatest-zero : {X : Type 0} (f : X → ℕ) → ((x : X) → f x ≡ 0) → (xs
 greatest-zero f h [] = refl
 greatest-zero f h (x ∷ xs) = rw (h x, greatest-zero f h xs) refl
 
--- what a reference waits for, by the two words of memory
+-- what a reference waits for: a load for stores, a store for all references
 pair-none : (m : Memory) → memory_pair m memory.None ≡ false
 pair-none memory.None = refl
 pair-none memory.Load = refl
@@ -178,7 +178,7 @@ module _ (b : Problem) (c : Clamp) (q s : List Point) (n : ℕ) (h : Below b c q
         let r : Row = row_at b n in
         free-le c.readers q s (start_of b s r) (start_of b q r) r.hold h.readers start-below r.writes late.result
 
-    phase-below : next_parcel (point_of b q n ∷ q) % 4 ≡ next_parcel (point_of b s n ∷ s) % 4
+    phase-below : place_in_word (point_of b q n ∷ q) ≡ place_in_word (point_of b s n ∷ s)
     unfolding point
     phase-below =
         let r : Row = row_at b n in

@@ -1,4 +1,4 @@
--- Each order that begins with the prefix of a tree goes through one of its prefixes that aren't split.
+-- What holds of the orders through each unsplit prefix of a tree holds of all orders that begin with the tree's prefix.
 use Rattle.std.proofs.Common.{ℕ, ◌≤◌, ◌<◌, ◌≡◌, List, [], ◌∷◌, ◌++◌, length, sym, arith, inl, inr, subst, append_assoc, length-append}
 use Rattle.s66_isa.specs.Lists.{Among}
 use Rattle.s66_model.specs.Timing.{Problem}
@@ -6,7 +6,7 @@ use Rattle.s66_model.specs.LegalOrder.{ready, Completes, IsBeginning, IsIncomple
 use Rattle.s66_model.specs.Tree.{Kids, NoMore, Unsplit, Split, Tree, Alone, Parted, KidsHold, TreeHolds}
 use Rattle.s66_model.proofs.Remaining.{among-ready, step-begins, step-completes, rest-first}
 
--- R is what Q, where an order goes through a tip below a depth, says of the order
+-- R holds of each order through a tip that is deeper than depth
 module _ {M : Type 0} (b : Problem) (Q : List ℕ → M → Type 0) (R : List ℕ → Type 0) (depth : ℕ) (at_tip : (at : List ℕ) (tip : M) (rest : List ℕ) → depth < length at → Q at tip → IsBeginning b.block at → Completes b.block at rest → R (at ++ rest)) where
   find_split : (sub : Kids M) → ((there ns : List ℕ) → KidsHold b.block Q there ns sub → depth ≤ length there → IsBeginning b.block there → (n : ℕ) (rest : List ℕ) → Among n ns → Completes b.block there (n ∷ rest) → R (there ++ n ∷ rest)) → (at rest numbers : List ℕ) → IsIncomplete b.block at → numbers ≡ ready b.block at → KidsHold b.block Q at numbers sub → depth ≤ length at → IsBeginning b.block at → Completes b.block at rest → R (at ++ rest)
   find_split sub ih at rest numbers part is holds deep begins whole =

@@ -1,4 +1,4 @@
--- To be believed: trees with dominated leaves: which nodes such a leaf may name, by either of two rules, and what a tree shows.
+-- To be believed: trees with dominated leaves: which nodes such leaves may name, by one of two rules, and what a tree shows.
 use Rattle.std.specs.Prelude.{ℕ, ◌≡◌, ◌<◌, ◌⊎◌, Bool, true, false, List, [], ◌∷◌, Option, Some, None}
 use Rattle.s66_model.specs.Timing.{Problem}
 use Rattle.s66_model.specs.LegalOrder.{IsIncomplete}
@@ -7,7 +7,7 @@ use Rattle.s66_model.specs.Tree.{Kids, NoMore, Unsplit, Split, Tree, Alone, Part
 use Rattle.s66_model.specs.Dominance.{Dominates, DominatesClamped}
 use Rattle.s66_model.specs.NodeNames.{node_at, is_node}
 
--- what ends a tree at a prefix that isn't split: a leaf that bounds, or the name of a node that dominates the prefix
+-- what a prefix has that isn't split: a leaf that bounds, or the name of a node that dominates the prefix
 pub data Ending : Type 0 where
   Bounding : Leaf → Ending
   Dominated : (name : List ℕ) → Ending
@@ -26,7 +26,7 @@ IsEarlier [] ms = ⊥
 IsEarlier (n ∷ ns) [] = ⊥
 IsEarlier (n ∷ ns) (m ∷ ms) = (n < m) ⊎ ((n ≡ m) × IsEarlier ns ms)
 
--- there is a node, and it is no dominated leaf
+-- it is a node, and no dominated leaf
 abbrev pub is_standing : Option (Knot Ending) → Bool
 is_standing None = false
 is_standing (Some (AtSplit numbers)) = true
@@ -38,7 +38,7 @@ abbrev pub MayName : Rule → Problem → List ℕ → Option (Knot Ending) → 
 MayName WrittenEarlier b at node name = (is_node node ≡ true) × IsEarlier name at × Dominates b name at
 MayName ClampedStanding b at node name = (is_standing node ≡ true) × DominatesClamped b name at
 
--- a dominated leaf may stand there in the tree, which is over a prefix
+-- a dominated leaf with this name may stand there, in a tree over the prefix
 abbrev pub MayBeDominated : Rule → Problem → List ℕ → Tree Ending → List ℕ → List ℕ → Type 0
 MayBeDominated rule b prefix tree at name = IsIncomplete b.block at × MayName rule b at (node_at prefix tree name) name
 

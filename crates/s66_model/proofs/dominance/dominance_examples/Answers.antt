@@ -1,5 +1,6 @@
 use Rattle.std.proofs.Common.{arith, true≢false}
-use Rattle.s66_isa.specs.Table.{row, x_reg, b_reg}
+use Rattle.s66_isa.specs.declared.instr.Kind.TheVariants.{Shift}
+use Rattle.s66_isa.specs.Table.{row, x_reg}
 use Rattle.s66_model.specs.Timing.{issue_of, start_of, point}
 use Rattle.s66_model.specs.Dependence.{conflict}
 use Rattle.s66_model.proofs.dominance.dominance_examples.Goals as goal
@@ -19,14 +20,22 @@ returns-clause-result_later_clamped c = λ h. absurd (omega (arith, h.no_later.w
 pub returns-clause-another_set : goal.returns-clause-another_set
 returns-clause-another_set c = λ h. true≢false (h.same_set 3)
 
-pub returns-clause-reader_later_as_written : goal.returns-clause-reader_later_as_written
+pub returns-clause-free_later_as_written : goal.returns-clause-free_later_as_written
 unfolding row issue_of start_of point conflict
-returns-clause-reader_later_as_written c = λ h. absurd (omega (arith, h.0.no_later.readers (b_reg 1)))
+returns-clause-free_later_as_written c = λ h. absurd (omega (arith, h.0.no_later.units Shift 0 (omega arith)))
 
-pub returns-clause-result_after_the_slot : goal.returns-clause-result_after_the_slot
+pub returns-clause-done_later_as_written : goal.returns-clause-done_later_as_written
 unfolding row issue_of start_of point conflict
-returns-clause-result_after_the_slot c = λ h. absurd (omega (arith, h.no_later.writers (x_reg 3)))
+returns-clause-done_later_as_written c = λ h. absurd (omega (arith, h.0.no_later.writers (x_reg 1)))
 
-pub returns-clause-another_phase : goal.returns-clause-another_phase
+pub returns-clause-done_after_the_slot : goal.returns-clause-done_after_the_slot
 unfolding row issue_of start_of point conflict
-returns-clause-another_phase c = λ h. absurd (omega (arith, h.no_later.phase))
+returns-clause-done_after_the_slot c = λ h. absurd (omega (arith, h.no_later.writers (x_reg 3)))
+
+pub returns-clause-a_parcel_apart : goal.returns-clause-a_parcel_apart
+unfolding row issue_of start_of point conflict
+returns-clause-a_parcel_apart c = λ h. absurd (omega (arith, h.no_later.phase))
+
+pub returns-clause-half_a_word_apart : goal.returns-clause-half_a_word_apart
+unfolding row issue_of start_of point conflict
+returns-clause-half_a_word_apart c = λ h. absurd (omega (arith, h.no_later.phase))

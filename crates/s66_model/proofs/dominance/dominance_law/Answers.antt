@@ -1,4 +1,4 @@
-use Rattle.s66_model.proofs.Dominating.{written-push, written-no-worse, clamped-push, clamped-total, clamped-no-worse, clamped-on, written-clamped}
+use Rattle.s66_model.proofs.Dominating.{written-push, written-no-worse, clamped-push, clamped-total, clamped-no-worse, clamped-transitive, written-clamped}
 use Rattle.s66_model.proofs.dominance.dominance_law.Goals as goal
 
 pub returns-clause-pushed : goal.returns-clause-pushed
@@ -19,5 +19,5 @@ returns-clause-total c = clamped-total
 pub returns-clause-weaker : goal.returns-clause-weaker
 returns-clause-weaker c = written-clamped
 
-pub returns-clause-on : goal.returns-clause-on
-returns-clause-on c = clamped-on
+pub returns-clause-transitive : goal.returns-clause-transitive
+returns-clause-transitive c = clamped-transitive
