@@ -41,3 +41,10 @@ pub mod NodeTrees
 pub mod EndedLedgers
 pub mod TreeLines
 pub mod WrittenOrders
+pub mod FreeTimes
+pub mod PushedBoth
+pub mod Dominating
+pub mod EarlierOrders
+pub mod UnderTrees
+pub mod StandingNodes
+pub mod DominatedTrees

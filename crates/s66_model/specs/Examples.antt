@@ -3,7 +3,7 @@ use Rattle.std.specs.Prelude.{ℕ, Bool, zero, suc, true, false, ◌≢◌, List
 use Rattle.std.proofs.Common.{lit≤}
 use Rattle.s66_isa.specs.declared.instr.Instr.{Instr}
 use Rattle.s66_isa.specs.declared.instr.Kind.{Kind}
-use Rattle.s66_isa.specs.declared.instr.Kind.TheVariants.{Boolean, Multiply}
+use Rattle.s66_isa.specs.declared.instr.Kind.TheVariants.{Boolean, Multiply, Increment}
 use Rattle.s66_isa.specs.declared.instr.Memory.{Memory}
 use Rattle.s66_isa.specs.declared.reg.Reg.{Reg}
 use Rattle.s66_isa.specs.declared.profile.Profile.{Profile}
@@ -16,6 +16,7 @@ use Rattle.s66_model.specs.Leaves.{Leaf, Whole, Chain, Load, link, load, chain, 
 use Rattle.s66_model.specs.Tails.{longest_tail}
 use Rattle.s66_model.specs.Tree.{Tree, Parted, Kids, NoMore, Unsplit, Split}
 use Rattle.s66_model.specs.Answer.{Answer}
+use Rattle.s66_model.specs.DominatedLeaves.{Ending, Bounding, Dominated}
 use Rattle.s66_model.specs.Piece.{Tip, Carries, Frontier}
 use Rattle.s66_model.specs.Ledger.{State, Open, Out, Cut, Closed, Node, Ledger, Event, Grant, Claim, Graft, Offer, Reply, Granted, Claimed, Taken, NotOut, NotLower, Step, Run}
 
@@ -237,6 +238,22 @@ forked_chain = instr 0o54 1 1 1 ∷ instr 0o10 6 1 0 ∷ instr 0o10 7 1 0 ∷ []
 abbrev pub early_end : List Instr
 early_end = instr 0o54 1 1 1 ∷ instr 0o54 6 6 2 ∷ instr 0o64 3 6 0 ∷ []
 
+-- FX1 X2/X3 / SX5 B1 / BX4 X1 / FX6 X7+X0: the third waits for X1
+abbrev pub late_reader : List Instr
+late_reader = instr 0o44 1 2 3 ∷ instr 0o76 5 1 0 ∷ instr 0o10 4 1 0 ∷ instr 0o30 6 7 0 ∷ []
+
+-- SB0 B1 / SB0 B1 / SB0 B1
+abbrev pub three_increments : List Instr
+three_increments = instr 0o66 0 1 0 ∷ instr 0o66 0 1 0 ∷ instr 0o66 0 1 0 ∷ []
+
+-- SX3 A1+5 / SX5 B1 / LX3 1: the third shifts the X3 of the first, which takes two parcels
+abbrev pub late_result : List Instr
+late_result = instr 0o70 3 1 0 ∷ instr 0o76 5 1 0 ∷ instr 0o20 3 0 0 ∷ []
+
+-- SA2 A2+5 / SB5 B6 / SA1 A1+5 / SX7 A3+5 / SB1 5: only the second takes one parcel; the gap is before the third, or before the fifth if the second comes after the third
+abbrev pub later_gap : List Instr
+later_gap = instr 0o50 2 2 0 ∷ instr 0o66 5 6 0 ∷ instr 0o50 1 1 0 ∷ instr 0o70 7 3 0 ∷ instr 0o61 1 0 0 ∷ []
+
 -- WHAT LEAVES A PREFIX HAS
 
 -- its floor, and the floor's value
@@ -321,6 +338,43 @@ one_split tip = Parted (1 ∷ 2 ∷ 3 ∷ []) (children 3 tip)
 
 abbrev pub child_omitted : {M : Type 0} → M → Tree M
 child_omitted tip = Parted (1 ∷ 2 ∷ []) (children 2 tip)
+
+-- TREES WITH DOMINATED LEAVES
+
+-- of late_reader: 1 3 2 is dominated by the node of this name, and 1 4 is as given
+abbrev pub late_reader_tree : List ℕ → Kids Ending → Tree Ending
+late_reader_tree name fourth =
+    Parted (1 ∷ 2 ∷ 4 ∷ [])
+    (Split (2 ∷ 3 ∷ 4 ∷ [])
+    (Split (3 ∷ 4 ∷ []) (Split (4 ∷ []) (Unsplit (Bounding Whole) NoMore) (Unsplit (Bounding (Chain (3 ∷ []))) NoMore))
+    (Split (2 ∷ 4 ∷ []) (Unsplit (Dominated name) (Split (2 ∷ []) (Unsplit (Bounding Whole) NoMore) NoMore)) fourth))
+    (children 2 (Bounding (Chain (1 ∷ 3 ∷ [])))))
+
+-- 1 4 has a leaf, or is split, and 1 4 2 is dominated by 1 2 4
+abbrev pub fourth_bounding : Kids Ending
+fourth_bounding = Unsplit (Bounding (Chain (3 ∷ []))) NoMore
+
+abbrev pub fourth_split : Kids Ending
+fourth_split = Split (2 ∷ 3 ∷ []) (Unsplit (Dominated (1 ∷ 2 ∷ 4 ∷ [])) (Unsplit (Bounding (Chain (2 ∷ []))) NoMore)) NoMore
+
+-- a leaf: the load of the Increment units
+abbrev pub increments_load : Ending
+increments_load = Bounding (Load Increment)
+
+-- of three_increments, split at the empty prefix, 1 and 2: these endings at 1 2 and 2 1, and that leaf elsewhere
+abbrev pub increments_tree : Ending → Ending → Tree Ending
+increments_tree first second =
+    Parted (1 ∷ 2 ∷ 3 ∷ []) (Split (2 ∷ 3 ∷ []) (Unsplit first (Unsplit increments_load NoMore)) (Split (1 ∷ 3 ∷ []) (Unsplit second (Unsplit increments_load NoMore)) (Unsplit increments_load NoMore)))
+
+-- the same without the split at 1
+abbrev pub first_unsplit : Ending → Tree Ending
+first_unsplit second =
+    Parted (1 ∷ 2 ∷ 3 ∷ []) (Unsplit increments_load (Split (1 ∷ 3 ∷ []) (Unsplit second (Unsplit increments_load NoMore)) (Unsplit increments_load NoMore)))
+
+-- split at the empty prefix, 1 and 1 2: this ending at 1 2 3, and that leaf elsewhere
+abbrev pub order_ending : Ending → Tree Ending
+order_ending ending =
+    Parted (1 ∷ 2 ∷ 3 ∷ []) (Split (2 ∷ 3 ∷ []) (Split (3 ∷ []) (Unsplit ending NoMore) (Unsplit increments_load NoMore)) (children 2 increments_load))
 
 -- LEDGERS AND THEIR HISTORIES
 

@@ -21,6 +21,9 @@ pub mod Coverage
 pub mod NodeTable
 pub mod NodeTree
 pub mod Ended
+pub mod Dominance
+pub mod NodeNames
+pub mod DominatedLeaves
 pub mod Reached
 pub mod Recorded
 pub mod Examples

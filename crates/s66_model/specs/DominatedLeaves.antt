@@ -1,0 +1,63 @@
+-- To be believed: trees with dominated leaves: which nodes such leaves may name, by one of two rules, and what a tree shows.
+use Rattle.std.specs.Prelude.{ℕ, ◌≡◌, ◌<◌, ◌⊎◌, Bool, true, false, List, [], ◌∷◌, Option, Some, None}
+use Rattle.s66_model.specs.Timing.{Problem}
+use Rattle.s66_model.specs.LegalOrder.{IsIncomplete}
+use Rattle.s66_model.specs.Leaves.{Leaf}
+use Rattle.s66_model.specs.Tree.{Kids, NoMore, Unsplit, Split, Tree, Alone, Parted, Knot, AtTip, AtSplit, TreeHolds, LeafShows}
+use Rattle.s66_model.specs.Dominance.{Dominates, DominatesClamped}
+use Rattle.s66_model.specs.NodeNames.{node_at, is_node}
+
+-- what a prefix has that isn't split: a leaf that bounds, or the name of a node that dominates the prefix
+pub data Ending : Type 0 where
+  Bounding : Leaf → Ending
+  Dominated : (name : List ℕ) → Ending
+
+-- WHICH NODES MAY BE NAMED
+
+pub data Rule : Type 0 where
+  -- an earlier node, which dominates as written
+  WrittenEarlier : Rule
+  -- a node that is no dominated leaf itself, earlier or later, which dominates clamped at the next slot
+  ClampedStanding : Rule
+
+-- smaller at the first place where they differ
+abbrev pub IsEarlier : List ℕ → List ℕ → Type 0
+IsEarlier [] ms = ⊥
+IsEarlier (n ∷ ns) [] = ⊥
+IsEarlier (n ∷ ns) (m ∷ ms) = (n < m) ⊎ ((n ≡ m) × IsEarlier ns ms)
+
+-- it is a node, and no dominated leaf
+abbrev pub is_standing : Option (Knot Ending) → Bool
+is_standing None = false
+is_standing (Some (AtSplit numbers)) = true
+is_standing (Some (AtTip (Bounding leaf))) = true
+is_standing (Some (AtTip (Dominated name))) = false
+
+-- a dominated leaf at this prefix may name this node
+abbrev pub MayName : Rule → Problem → List ℕ → Option (Knot Ending) → List ℕ → Type 0
+MayName WrittenEarlier b at node name = (is_node node ≡ true) × IsEarlier name at × Dominates b name at
+MayName ClampedStanding b at node name = (is_standing node ≡ true) × DominatesClamped b name at
+
+-- a dominated leaf with this name may stand there, in a tree over the prefix
+abbrev pub MayBeDominated : Rule → Problem → List ℕ → Tree Ending → List ℕ → List ℕ → Type 0
+MayBeDominated rule b prefix tree at name = IsIncomplete b.block at × MayName rule b at (node_at prefix tree name) name
+
+-- WHAT A TREE SHOWS over a prefix: dominated leaves are passed over
+
+abbrev pub EndingShows : Rule → Problem → ℕ → List ℕ → Tree Ending → List ℕ → Ending → Type 0
+EndingShows rule b low prefix tree at (Bounding leaf) = LeafShows b low at leaf
+EndingShows rule b low prefix tree at (Dominated name) = MayBeDominated rule b prefix tree at name
+
+abbrev pub ShowsBy : Rule → Problem → ℕ → List ℕ → Tree Ending → Type 0
+ShowsBy rule b low prefix tree = TreeHolds b.block (EndingShows rule b low prefix tree) prefix tree
+
+-- A TREE WITHOUT DOMINATED LEAVES
+
+abbrev pub kids_bounding : Kids Leaf → Kids Ending
+kids_bounding NoMore = NoMore
+kids_bounding (Unsplit leaf kids) = Unsplit (Bounding leaf) (kids_bounding kids)
+kids_bounding (Split numbers sub kids) = Split numbers (kids_bounding sub) (kids_bounding kids)
+
+abbrev pub tree_bounding : Tree Leaf → Tree Ending
+tree_bounding (Alone leaf) = Alone (Bounding leaf)
+tree_bounding (Parted numbers kids) = Parted numbers (kids_bounding kids)

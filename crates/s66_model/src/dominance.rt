@@ -1,0 +1,42 @@
+//! Dominance: what a beginning that is no later than another of the same numbers is worth.
+
+ghost use Rattle.std.specs.Prelude.{ℕ, List, ◌≡◌, ◌≤◌, true, [], ◌∷◌, ◌++◌};
+ghost use Rattle.s66_model.specs.Timing.{Problem, total_of};
+ghost use Rattle.s66_model.specs.LegalOrder.{is_ready};
+ghost use Rattle.s66_model.specs.Dominance.{Dominates, DominatesClamped, IsNoWorse};
+ghost use Rattle.s66_model.specs.Examples.{standard_problem, packing_gap, two_gaps, booleans_and_sets, late_reader, late_result, later_gap};
+
+/// A beginning that dominates another still does after both go on with the same number. So whatever completes the other
+/// completes it too, with no greater total. All this also holds clamped at the next slot, which asks for less: that its own
+/// total is no greater follows. What dominates a dominating beginning dominates what this one does.
+pub fn dominance_law()
+    ensures pushed { (b : Problem) (other prefix : List ℕ) (n : ℕ) → Dominates b other prefix → is_ready b.block prefix n ≡ true → Dominates b (other ++ n ∷ []) (prefix ++ n ∷ []) }
+    ensures pushed_clamped { (b : Problem) (other prefix : List ℕ) (n : ℕ) → DominatesClamped b other prefix → is_ready b.block prefix n ≡ true → DominatesClamped b (other ++ n ∷ []) (prefix ++ n ∷ []) }
+    ensures no_worse { (b : Problem) (other prefix : List ℕ) → Dominates b other prefix → IsNoWorse b other prefix }
+    ensures no_worse_clamped { (b : Problem) (other prefix : List ℕ) → DominatesClamped b other prefix → IsNoWorse b other prefix }
+    ensures total { (b : Problem) (other prefix : List ℕ) → DominatesClamped b other prefix → total_of b other ≤ total_of b prefix }
+    ensures weaker { (b : Problem) (other prefix : List ℕ) → Dominates b other prefix → DominatesClamped b other prefix }
+    ensures transitive { (b : Problem) (third other prefix : List ℕ) → DominatesClamped b third other → DominatesClamped b other prefix → DominatesClamped b third prefix }
+{}
+
+/// Which beginnings dominate which.
+pub fn dominance_examples()
+    ensures waits_in_either_order { Dominates (standard_problem late_reader) (1 ∷ 2 ∷ 3 ∷ []) (1 ∷ 3 ∷ 2 ∷ []) }
+    ensures waits_clamped { DominatesClamped (standard_problem late_reader) (1 ∷ 2 ∷ 3 ∷ []) (1 ∷ 3 ∷ 2 ∷ []) }
+    ensures waits_the_other_way { ¬ DominatesClamped (standard_problem late_reader) (1 ∷ 3 ∷ 2 ∷ []) (1 ∷ 2 ∷ 3 ∷ []) }
+    ensures result_later { ¬ Dominates (standard_problem late_reader) (1 ∷ 2 ∷ 4 ∷ []) (1 ∷ 4 ∷ 2 ∷ []) }
+    ensures result_later_clamped { ¬ DominatesClamped (standard_problem late_reader) (1 ∷ 2 ∷ 4 ∷ []) (1 ∷ 4 ∷ 2 ∷ []) }
+    ensures another_set { ¬ DominatesClamped (standard_problem late_reader) (1 ∷ 2 ∷ 3 ∷ []) (1 ∷ 2 ∷ 4 ∷ []) }
+    ensures itself { Dominates (standard_problem late_reader) (1 ∷ 2 ∷ []) (1 ∷ 2 ∷ []) }
+    ensures free_by_the_slot { DominatesClamped (standard_problem packing_gap) (1 ∷ 3 ∷ 2 ∷ 4 ∷ []) (1 ∷ 2 ∷ 3 ∷ 4 ∷ []) }
+    ensures free_later_as_written { ¬ Dominates (standard_problem packing_gap) (1 ∷ 3 ∷ 2 ∷ 4 ∷ []) (1 ∷ 2 ∷ 3 ∷ 4 ∷ []) }
+    ensures done_by_the_slot { DominatesClamped (standard_problem booleans_and_sets) (2 ∷ 1 ∷ 3 ∷ []) (1 ∷ 2 ∷ 3 ∷ []) }
+    ensures done_later_as_written { ¬ Dominates (standard_problem booleans_and_sets) (2 ∷ 1 ∷ 3 ∷ []) (1 ∷ 2 ∷ 3 ∷ []) }
+    ensures done_after_the_slot { ¬ DominatesClamped (standard_problem late_result) (2 ∷ 1 ∷ []) (1 ∷ 2 ∷ []) }
+    ensures total_after_it { total_of (standard_problem late_result) (2 ∷ 1 ∷ 3 ∷ []) ≡ 8 }
+    ensures total_of_the_other { total_of (standard_problem late_result) (1 ∷ 2 ∷ 3 ∷ []) ≡ 7 }
+    ensures half_a_word_apart { ¬ DominatesClamped (standard_problem two_gaps) (1 ∷ 2 ∷ 4 ∷ 3 ∷ 5 ∷ 6 ∷ []) (1 ∷ 2 ∷ 3 ∷ 4 ∷ 5 ∷ 6 ∷ []) }
+    ensures a_parcel_apart { ¬ DominatesClamped (standard_problem later_gap) (1 ∷ 3 ∷ 2 ∷ 4 ∷ []) (1 ∷ 2 ∷ 3 ∷ 4 ∷ []) }
+    ensures total_with_a_gap { total_of (standard_problem later_gap) (1 ∷ 3 ∷ 2 ∷ 4 ∷ 5 ∷ []) ≡ 13 }
+    ensures total_without_one { total_of (standard_problem later_gap) (1 ∷ 2 ∷ 3 ∷ 4 ∷ 5 ∷ []) ≡ 12 }
+{}
