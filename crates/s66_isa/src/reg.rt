@@ -40,7 +40,9 @@ impl Model for Reg {
 }
 
 impl Reg {
-    ghost use Rattle.s66_isa.specs.Registers.{index_of};
+    ghost use Rattle.std.specs.Prelude.{◌<◌};
+    ghost use Rattle.s66_isa.specs.declared.reg.TheConstants.{REGISTER_COUNT};
+    ghost use Rattle.s66_isa.specs.Registers.{index_of, register_at};
 
     /// The register of a bank and a digit.
     pub fn new(bank: Bank, digit: u8) -> Reg
@@ -55,6 +57,14 @@ impl Reg {
         Reg {
             index: first + digit,
         }
+    }
+
+    /// The register of an index.
+    pub fn of_index(index: u8) -> Reg
+        requires { index < REGISTER_COUNT }
+        ensures { result ≡ register_at index }
+    {
+        Reg { index }
     }
 
     /// Its bank.
