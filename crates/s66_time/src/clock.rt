@@ -90,8 +90,8 @@ impl<'a> Clock<'a> {
         let row = &self.rows[n as usize - 1];
         let copies = self.copies.at(row.kind);
         let step = self.words.push(&self.profile, copies, n, row);
-        // a word for each unit of the kind, each saved word twice, the six of the progress, and the record
-        self.looks = copies + 2 * step.words() + 7;
+        // a word for each unit of the kind and its work, each saved word twice, the six of the progress, and the record
+        self.looks = copies + 2 * step.words() + 8;
         self.steps.push(step);
     }
 
@@ -102,8 +102,8 @@ impl<'a> Clock<'a> {
         ensures looks { self.new.looks ≤ LOOK_LIMIT }
     {
         let step = self.steps.last();
-        // each saved word, the unit's, the six of the progress, and the record
-        self.looks = step.words() + 8;
+        // each saved word, the unit's and the kind's, the six of the progress, and the record
+        self.looks = step.words() + 9;
         self.words.undo(step);
         self.steps.remove_last();
     }
