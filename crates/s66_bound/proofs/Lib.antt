@@ -3,7 +3,7 @@ pub mod EntryTables
 pub mod Heads
 pub mod EntryOfNumber
 pub mod FirstGreatest
-pub mod KindTables
+pub mod WorkTables
 pub mod WrittenRegisters
 pub mod LongestWalks
 pub mod RemainingSets

@@ -7,7 +7,7 @@ use Rattle.s66_isa.specs.declared.limits.TheConstants.{BLOCK_LIMIT}
 use Rattle.s66_isa.specs.declared.instr.Kind.{Kind}
 use Rattle.s66_isa.specs.Lists.{greatest, least, weigh, Among}
 use Rattle.s66_isa.specs.Table.{Reg, same_kind}
-use Rattle.s66_isa.proofs.Lists.{greatest-same, greatest-plus, greatest-filter, least-same, weigh-same, weigh-filter}
+use Rattle.s66_isa.proofs.Lists.{greatest-same, greatest-filter, least-same, weigh-same, weigh-filter}
 use Rattle.s66_model.specs.Timing.{Problem, row_at, points_of, next, done_of, copies}
 use Rattle.s66_model.specs.LegalOrder.{remaining, sum_remaining}
 use Rattle.s66_model.specs.Leaves.{uses, work_of, rest_busy, over, load, parcels}
@@ -21,18 +21,7 @@ words-those : (b : Problem) (prefix : List ℕ) (f : ℕ → ℕ) (words ns : Li
 words-those b prefix f words ns test known is n among =
     words-remaining b prefix f words known n (filter-among test n (remaining b.block prefix) (subst (λ ms. Among n ms) is among)).0
 
--- THE WORK OF A KIND
-
-abbrev pub is_kind : Problem → Kind → ℕ → Bool
-is_kind b kind n = same_kind (row_at b n).kind kind
-
-pub work-is : (b : Problem) (prefix words ns : List ℕ) (kind : Kind) → HasWords b (λ n. (row_at b n).hold + 1) words → ns ≡ filter (is_kind b kind) (remaining b.block prefix) →
-    weigh (λ n. get_or words (n - 1) 0) ns ≡ sum_remaining b.block prefix (λ n. work_of kind (row_at b n))
-work-is b prefix words ns kind known is =
-    weigh-same (λ n. get_or words (n - 1) 0) (λ n. (row_at b n).hold + 1) ns (words-those b prefix (λ n. (row_at b n).hold + 1) words ns (is_kind b kind) known is)
-    ∙ (ap (weigh (λ n. (row_at b n).hold + 1)) is
-    ∙ (weigh-filter (is_kind b kind) (λ n. (row_at b n).hold + 1) (remaining b.block prefix)
-    ∙ sym (sum_remaining-weigh b prefix (λ n. work_of kind (row_at b n)))))
+-- LOADS
 
 -- the load by the work that remains and that is busy
 pub load-is : (b : Problem) (prefix : List ℕ) (kind : Kind) (sum busy count slot : ℕ) → sum ≡ sum_remaining b.block prefix (λ n. work_of kind (row_at b n)) →
@@ -44,15 +33,6 @@ over-small x c = div-le_self (x + (c - 1)) c
 
 pub over-one : (x : ℕ) → over x 1 ≡ x
 over-one x = div-one (x + (1 - 1)) ∙ (let e : x + (1 - 1) ≡ x = omega arith in e)
-
-weigh-most : (f : ℕ → ℕ) (most : ℕ) (ns : List ℕ) → ((n : ℕ) → Among n ns → f n ≤ most) → weigh f ns ≤ most * length ns
-weigh-most f most [] h = omega arith
-weigh-most f most (n ∷ ns) h = omega (arith, h n (inl refl), weigh-most f most ns (λ m among. h m (inr among)))
-
-pub work-small : (b : Problem) (prefix words ns : List ℕ) (test : ℕ → Bool) → HasWords b (λ n. (row_at b n).hold + 1) words → ns ≡ filter test (remaining b.block prefix) → length ns ≤ BLOCK_LIMIT →
-    weigh (λ n. get_or words (n - 1) 0) ns ≤ 101 * BLOCK_LIMIT
-work-small b prefix words ns test known is few =
-    omega (arith, weigh-most (λ n. get_or words (n - 1) 0) 101 ns (λ n among. omega (arith, words-those b prefix (λ n. (row_at b n).hold + 1) words ns test known is n among, (good-at b n).hold.1)), few)
 
 -- PARCELS
 
@@ -101,16 +81,8 @@ by-is b prefix users x is =
     sym (greatest-filter (is_user b x) (λ n. done_of (points_of b prefix) x + longest_tail b n) (remaining b.block prefix))
     ∙ ap (greatest (λ n. done_of (points_of b prefix) x + longest_tail b n)) (sym is)
 
-pub by-none : (b : Problem) (prefix users : List ℕ) (x : Reg) → users ≡ filter (is_user b x) (remaining b.block prefix) → length users ≡ 0 → chain_by b prefix x ≡ 0
-by-none b prefix users x is none = by-is b prefix users x is ∙ empty users none
-  where
-    empty : (ns : List ℕ) → length ns ≡ 0 → greatest (λ n. done_of (points_of b prefix) x + longest_tail b n) ns ≡ 0
-    empty [] e = refl
-    empty (n ∷ ns) e = absurd (omega (arith, e))
-
-pub by-some : (b : Problem) (prefix words users : List ℕ) (x : Reg) → HasWords b (longest_tail b) words → users ≡ filter (is_user b x) (remaining b.block prefix) → 0 < length users →
-    chain_by b prefix x ≡ done_of (points_of b prefix) x + greatest (λ n. get_or words (n - 1) 0) users
-by-some b prefix words users x known is some =
-    by-is b prefix users x is
-    ∙ (greatest-plus (done_of (points_of b prefix) x) (longest_tail b) users some
-    ∙ ap (λ k. done_of (points_of b prefix) x + k) (sym (greatest-same (λ n. get_or words (n - 1) 0) (longest_tail b) users (words-those b prefix (longest_tail b) words users (is_user b x) known is))))
+pub by-words : (b : Problem) (prefix words users : List ℕ) (done : ℕ) (x : Reg) → HasWords b (longest_tail b) words → users ≡ filter (is_user b x) (remaining b.block prefix) → done ≡ done_of (points_of b prefix) x →
+    greatest (λ n. done + get_or words (n - 1) 0) users ≡ chain_by b prefix x
+by-words b prefix words users done x known is late =
+    greatest-same (λ n. done + get_or words (n - 1) 0) (λ n. done_of (points_of b prefix) x + longest_tail b n) users (λ n among. omega (arith, late, words-those b prefix (longest_tail b) words users (is_user b x) known is n among))
+    ∙ sym (by-is b prefix users x is)

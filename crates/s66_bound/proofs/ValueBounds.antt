@@ -1,14 +1,17 @@
 -- Chains by late registers, the greatest of all leaves, and that each is a lower bound of all orders that go on from a beginning.
-use Rattle.std.proofs.Common.{ℕ, ◌+◌, ◌≤◌, ◌<◌, ◌≡◌, max, List, [], ◌∷◌, ◌++◌, length, length-append, true, true≢false, refl, sym, arith, inl, inr, ◌∙◌}
-use Rattle.std.proofs.lemmas.Bool.{cases_lt, eq-eqb}
+use Rattle.std.proofs.Common.{ℕ, ◌+◌, ◌-◌, ◌≤◌, ◌<◌, ◌≡◌, max, cond, ltb, List, [], ◌∷◌, ◌++◌, length, length-append, true, true≢false, refl, sym, arith, inl, inr, ◌∙◌}
+use Rattle.std.proofs.lemmas.Bool.{cases_lt, cond_both, lt-ltb, eq-eqb}
 use Rattle.s66_isa.specs.Lists.{greatest, Among}
-use Rattle.s66_isa.specs.Table.{Reg, all_kinds}
-use Rattle.s66_model.specs.Timing.{Problem, points_of, next, total_of}
+use Rattle.s66_isa.specs.Table.{Reg, all_kinds, has_reg}
+use Rattle.s66_isa.proofs.Lists.{le-greatest, greatest-le}
+use Rattle.s66_isa.proofs.SameRegister.{has_reg-le}
+use Rattle.s66_model.specs.Timing.{Problem, row_at, points_of, next, done_of, total_of}
 use Rattle.s66_model.specs.LegalOrder.{IsLegal, IsBeginning, IsIncomplete, IsComplete, is_remaining, remaining}
-use Rattle.s66_model.specs.Leaves.{Leaf, Chain, value, chain, load, parcels, longest_chain, MayStand, floor, floor_value}
-use Rattle.s66_model.specs.Tails.{tail_remaining, chain_by, HasWritten}
+use Rattle.s66_model.specs.Leaves.{Leaf, Chain, value, uses, chain, load, parcels, longest_chain, MayStand, floor, floor_value}
+use Rattle.s66_model.specs.Tails.{longest_tail, tail_remaining, chain_by, HasWritten}
 use Rattle.s66_model.proofs.Beginnings.{beginning-front}
-use Rattle.s66_model.proofs.ChainParts.{chain-parts}
+use Rattle.s66_model.proofs.ChainParts.{by-le, chain-parts}
+use Rattle.s66_model.proofs.Longest.{chain-static}
 use Rattle.s66_model.proofs.LateRegisters.{has-late}
 use Rattle.s66_model.proofs.FloorParts.{rest-some}
 use Rattle.s66_model.proofs.FloorWalk.{floor-sorts}
@@ -16,12 +19,41 @@ use Rattle.s66_model.proofs.Floors.{some-remains, floor-stands}
 use Rattle.s66_model.proofs.LongestChain.{longest-is_chain}
 use Rattle.s66_model.proofs.Remaining.{legal-parts, order-has, remaining-among, remaining-parts}
 use Rattle.s66_model.proofs.Trees.{leaf-sound}
+use Rattle.s66_bound.specs.TableWords.{AreRegisters}
 
 pub chain-covered : (b : Problem) (prefix : List ℕ) (xs : List Reg) → IsBeginning b.block prefix → IsIncomplete b.block prefix → HasWritten b xs →
     chain b prefix ≡ max (next (points_of b prefix) + tail_remaining b prefix) (greatest (chain_by b prefix) xs)
 chain-covered b prefix xs begins short covers =
     let (n, stays) = some-remains b.block prefix begins short in
     chain-parts b prefix xs n begins stays (has-late b prefix xs covers begins)
+
+-- a chain from a register is no longer than the time when it is done and the longest tail
+by-tail : (b : Problem) (prefix : List ℕ) (x : Reg) → chain_by b prefix x ≤ done_of (points_of b prefix) x + tail_remaining b prefix
+by-tail b prefix x =
+    greatest-le (λ n. cond (uses (row_at b n) x) (done_of (points_of b prefix) x + longest_tail b n) 0) (done_of (points_of b prefix) x + tail_remaining b prefix) (remaining b.block prefix) (λ n among.
+    let reached : longest_tail b n ≤ tail_remaining b prefix = le-greatest (longest_tail b) n (remaining b.block prefix) among in
+    cond_both (uses (row_at b n) x) (done_of (points_of b prefix) x + longest_tail b n) 0 (λ k. k ≤ done_of (points_of b prefix) x + tail_remaining b prefix)
+    (λ used. omega (arith, reached))
+    (λ not_used. omega arith))
+
+by-chain : (b : Problem) (prefix : List ℕ) (x : Reg) → IsBeginning b.block prefix → chain_by b prefix x ≤ chain b prefix
+by-chain b prefix x begins =
+    greatest-le (λ n. cond (uses (row_at b n) x) (done_of (points_of b prefix) x + longest_tail b n) 0) (chain b prefix) (remaining b.block prefix) (λ n among. omega (arith, by-le b prefix x n among, chain-static b prefix begins))
+
+-- a register that isn't so late makes no chain that is greater than most
+pub late-covers : (b : Problem) (prefix : List ℕ) (xs late : List Reg) (most least tail : ℕ) → IsBeginning b.block prefix → IsIncomplete b.block prefix → HasWritten b xs → AreRegisters xs →
+    tail ≡ tail_remaining b prefix → most ≡ max least (next (points_of b prefix) + tail) → ((x : Reg) → x.digit ≤ 7 → has_reg x late ≡ ltb (most - tail) (done_of (points_of b prefix) x)) →
+    max most (greatest (chain_by b prefix) late) ≡ max least (chain b prefix)
+late-covers b prefix xs late most least tail begins short covers are is_tail is_most is_late =
+    let each : greatest (chain_by b prefix) late ≤ chain b prefix = greatest-le (chain_by b prefix) (chain b prefix) late (λ x among. by-chain b prefix x begins) in
+    let others : greatest (chain_by b prefix) xs ≤ max most (greatest (chain_by b prefix) late) =
+    greatest-le (chain_by b prefix) (max most (greatest (chain_by b prefix) late)) xs (λ x among.
+    elim (cases_lt (most - tail) (done_of (points_of b prefix) x)) [
+      | inl lt ↦ omega (arith, has_reg-le (chain_by b prefix) x late (is_late x (are x among) ∙ lt-ltb (most - tail) (done_of (points_of b prefix) x) lt))
+      | inr early ↦ omega (arith, early, by-tail b prefix x, is_tail, is_most)
+    ])
+    in
+    omega (arith, each, others, is_tail, is_most, chain-covered b prefix xs begins short covers)
 
 -- THE GREATEST
 

@@ -9,6 +9,7 @@ use Rattle.s66_isa.proofs.SameRegister.{has_reg-append, same_reg-self, same_reg-
 use Rattle.s66_model.specs.Timing.{Problem, row_at}
 use Rattle.s66_bound.specs.declared.entry.Entry.{Entry}
 use Rattle.s66_bound.specs.InstructionCosts.{IsEntry, AreEntries}
+use Rattle.s66_bound.specs.TableWords.{AreRegisters}
 
 some-written : (ws : List Write) (w : Write) → Among w ws → some_of (λ (v : Write). same_reg v.reg w.reg) ws ≡ true
 some-written [] w among = absurd among
@@ -44,6 +45,12 @@ written-by b es n w are low high among =
     let used : has_reg w.reg (registers_in e.used) ≡ true = is.used w.reg ∙ or_right (has_reg w.reg (row_at b n).reads) (some_of (λ (v : Write). same_reg v.reg w.reg) (row_at b n).writes) written in
     let digit : w.reg.digit ≤ 7 = elim (cases_lt 7 w.reg.digit) [ inl more ↦ absurd (true≢false (sym used ∙ has-none e.used w.reg more)) | inr few ↦ omega (arith, few) ] in
     (digit, some-entry w.reg es (n - 1) d lt (ap (some_of (λ (v : Write). same_reg v.reg w.reg)) is.writes ∙ written))
+
+pub registers-push : (xs : List Reg) (r : Reg) → r.digit ≤ 7 → AreRegisters xs → AreRegisters (xs ++ r ∷ [])
+registers-push [] r low are x (inl is) = subst (λ (y : Reg). y.digit ≤ 7) (sym is) low
+registers-push [] r low are x (inr none) = absurd none
+registers-push (y ∷ ys) r low are x (inl is) = are x (inl is)
+registers-push (y ∷ ys) r low are x (inr among) = registers-push ys r low (λ z later. are z (inr later)) x among
 
 -- each of the first registers that some entry writes is listed
 abbrev pub AreListed : List Entry → ℕ → List Reg → Type 0

@@ -3,14 +3,15 @@ use Rattle.std.specs.Prelude.{ℕ, ◌+◌, ◌-◌, ◌≡◌, ◌≤◌, ◌<�
 use Rattle.std.specs.List.{filter}
 use Rattle.s66_isa.specs.declared.profile.Profile.{Profile}
 use Rattle.s66_isa.specs.declared.instr.Kind.{Kind}
-use Rattle.s66_isa.specs.Table.{Reg, kind_number, same_kind, numbers}
+use Rattle.s66_isa.specs.Lists.{Among, weigh}
+use Rattle.s66_isa.specs.Table.{Reg, kind_number, numbers}
 use Rattle.s66_isa.specs.Registers.{index_of}
 use Rattle.s66_isa.specs.declared.limits.TheConstants.{BLOCK_LIMIT}
 use Rattle.s66_line.specs.Source.{Block}
 use Rattle.s66_line.specs.Block.{instrs_of}
 use Rattle.s66_model.specs.Timing.{Problem, row_at}
 use Rattle.s66_model.specs.LegalOrder.{remaining, IsBeginning}
-use Rattle.s66_model.specs.Leaves.{uses}
+use Rattle.s66_model.specs.Leaves.{uses, work_of}
 use Rattle.s66_model.specs.Tails.{longest_tail, spare, HasWritten, HasWords}
 use Rattle.s66_dep.specs.declared.set.Set.{Set}
 use Rattle.s66_dep.specs.Members.{numbers_in, no_set}
@@ -28,11 +29,16 @@ HasLater b place words = (n : ℕ) → place + 1 < n → n ≤ length b.block �
 abbrev pub AreThose : Problem → (ℕ → Bool) → Set → Type 0
 AreThose b test set = numbers_in set ≡ filter test (numbers b.block)
 
-abbrev pub HasKinds : Problem → List Set → Type 0
-HasKinds b sets = (kind : Kind) → AreThose b (λ n. same_kind (row_at b n).kind kind) (get_or sets (kind_number kind) no_set)
+-- of each kind, for how long the instructions take a unit
+abbrev pub HasWorks : Problem → List ℕ → Type 0
+HasWorks b words = (kind : Kind) → get_or words (kind_number kind) 0 ≡ weigh (λ n. work_of kind (row_at b n)) (numbers b.block)
 
 abbrev pub HasUsers : Problem → List Set → Type 0
 HasUsers b sets = (x : Reg) → x.digit ≤ 7 → AreThose b (λ n. uses (row_at b n) x) (get_or sets (index_of x) no_set)
+
+-- each is a register of the machine
+abbrev pub AreRegisters : List Reg → Type 0
+AreRegisters xs = (x : Reg) → Among x xs → x.digit ≤ 7
 
 -- the tables of a block under a profile
 pub record IsTables (b : Problem) (t : Tables) : Type 0 where
@@ -40,10 +46,10 @@ pub record IsTables (b : Problem) (t : Tables) : Type 0 where
   pub long : AreThose b (λ n. (row_at b n).parcels == 2) t.long
   pub longest : HasWords b (longest_tail b) t.longest
   pub spare : HasWords b (spare b) t.spare
-  pub work : HasWords b (λ n. (row_at b n).hold + 1) t.work
-  pub kinds : HasKinds b t.kinds
+  pub works : HasWorks b t.works
   pub users : HasUsers b t.users
   pub written : HasWritten b t.written.items
+  pub registers : AreRegisters t.written.items
 
 -- the set holds what a clock hasn't pushed of its block
 pub record AreRemaining (t : Ticking) (rest : Set) : Type 0 where

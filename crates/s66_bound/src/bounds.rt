@@ -80,12 +80,7 @@ impl<'a> Bounds<'a> {
         ensures value { result ≡ load self.now clock.now.numbers kind }
         ensures bound { length clock.now.numbers < length self.now.block → (rest : List ℕ) → IsLegal self.now.block (clock.now.numbers ++ rest) → result ≤ total_of self.now (clock.now.numbers ++ rest) }
     {
-        load_of(
-            &self.tables,
-            clock,
-            &remaining_numbers(&self.tables, clock),
-            kind,
-        )
+        load_of(&self.tables, clock, kind)
     }
 
     /// The parcels that remain, and the least tail behind them, after the next slot: in minor cycles.

@@ -30,7 +30,7 @@ fn beyond_chain(tables: &Tables, clock: &Clock<'_>, rest: &Set, chain_value: u32
     let mut most = chain_value;
     let mut first = None;
     for kind in KINDS {
-        let value = load_of(tables, clock, rest, kind);
+        let value = load_of(tables, clock, kind);
         if most < value {
             most = value;
             first = Some(Leaf::Load { kind, value });
@@ -85,7 +85,7 @@ pub fn floor_of_value(
         };
     }
     for kind in KINDS {
-        if load_of(tables, clock, rest, kind) == value {
+        if load_of(tables, clock, kind) == value {
             return Leaf::Load { kind, value };
         }
     }

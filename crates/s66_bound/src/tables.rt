@@ -2,21 +2,21 @@ ghost use Rattle.std.specs.Prelude.{ℕ, ◌≡◌, ◌+◌, ◌≤◌, ◌<◌,
 ghost use Rattle.s66_isa.specs.declared.reg.TheConstants.{REGISTER_COUNT};
 ghost use Rattle.s66_isa.specs.Lists.{some_of};
 ghost use Rattle.s66_isa.specs.Registers.{index_of};
-ghost use Rattle.s66_isa.specs.Table.{same_kind, same_reg, Write as WriteOf};
+ghost use Rattle.s66_isa.specs.Table.{same_reg, Write as WriteOf};
 ghost use Rattle.s66_isa.specs.declared.limits.TheConstants.{BLOCK_LIMIT};
 ghost use Rattle.s66_model.specs.Timing.{Problem, row_at};
 ghost use Rattle.s66_model.specs.Leaves.{uses};
 ghost use Rattle.s66_model.specs.Tails.{spare, HasWords, HasWritten};
 ghost use Rattle.s66_bound.specs.InstructionCosts.{AreEntries};
 ghost use Rattle.s66_bound.specs.declared.entry.Entry.{Entry as EntryOf};
-ghost use Rattle.s66_bound.specs.TableWords.{AreThose, HasKinds, HasUsers, IsTables};
+ghost use Rattle.s66_bound.specs.TableWords.{AreThose, AreRegisters, HasWorks, HasUsers, IsTables};
 
 use crate::entry::Entry;
 use crate::longest::longest_tails;
 use arrayvec::ArrayVec;
 use s66_dep::Set;
 use s66_isa::{
-    BLOCK_LIMIT, Bank, KIND_COUNT, Kind, REGISTER_COUNT, Reg, Write, is_same_kind, is_same_register,
+    BLOCK_LIMIT, KIND_COUNT, REGISTER_COUNT, Reg, Write, is_same_register, kind_number,
 };
 
 /// What bounds look up of the numbers of a block; the word of n stands at n - 1. Times are in minor cycles.
@@ -30,10 +30,8 @@ pub struct Tables {
     pub longest: [u32; BLOCK_LIMIT],
     /// By how much its own tail is longer than its parcels.
     pub spare: [u32; BLOCK_LIMIT],
-    /// For how long it takes its unit: its hold and one.
-    pub work: [u32; BLOCK_LIMIT],
-    /// The numbers of each kind, by the place of the kind.
-    pub kinds: [Set; KIND_COUNT],
+    /// Of each kind, by its number, for how long the instructions take a unit, summed: each for its hold and one.
+    pub works: [u32; KIND_COUNT],
     /// The numbers that read or write each register, by its index.
     pub users: [Set; REGISTER_COUNT],
     /// The registers that the block writes, each once.
@@ -52,8 +50,7 @@ impl Tables {
             long: long_numbers(entries),
             longest: longest_tails(entries),
             spare: spares(entries),
-            work: works(entries),
-            kinds: numbers_by_kind(entries),
+            works: works_by_kind(entries),
             users: users_by_register(entries),
             written: written_registers(entries),
         }
@@ -86,46 +83,18 @@ fn spares(entries: &[Entry]) -> [u32; BLOCK_LIMIT]
     spares
 }
 
-/// For how long each takes its unit.
-fn works(entries: &[Entry]) -> [u32; BLOCK_LIMIT]
+/// Of each kind, by its number, for how long the instructions take a unit, summed.
+fn works_by_kind(entries: &[Entry]) -> [u32; KIND_COUNT]
     requires few { length entries.now ≤ BLOCK_LIMIT }
-    ensures { (b : Problem) → AreEntries b entries.now → HasWords b (λ n. (row_at b n).hold + 1) result }
+    requires known { (b : Problem) × AreEntries b entries.now }
+    ensures { (b : Problem) → AreEntries b entries.now → HasWorks b result }
 {
-    let mut works = [0; BLOCK_LIMIT];
+    let mut works = [0; KIND_COUNT];
     for place in 0..entries.len() {
-        works[place] = entries[place].work;
+        let kind = kind_number(entries[place].kind);
+        works[kind] += entries[place].work;
     }
     works
-}
-
-/// The numbers of a kind.
-fn numbers_of_kind(entries: &[Entry], kind: Kind) -> Set
-    requires few { length entries.now ≤ BLOCK_LIMIT }
-    ensures { (b : Problem) → AreEntries b entries.now → AreThose b (λ n. same_kind (row_at b n).kind kind) result }
-{
-    let mut numbers = Set::empty();
-    for place in 0..entries.len() {
-        if is_same_kind(entries[place].kind, kind) {
-            numbers = numbers.with((place + 1) as u8);
-        }
-    }
-    numbers
-}
-
-/// The numbers of each kind, by the place of the kind.
-fn numbers_by_kind(entries: &[Entry]) -> [Set; KIND_COUNT]
-    requires few { length entries.now ≤ BLOCK_LIMIT }
-    ensures { (b : Problem) → AreEntries b entries.now → HasKinds b result }
-{
-    [
-        numbers_of_kind(entries, Kind::Boolean),
-        numbers_of_kind(entries, Kind::Shift),
-        numbers_of_kind(entries, Kind::Add),
-        numbers_of_kind(entries, Kind::LongAdd),
-        numbers_of_kind(entries, Kind::Multiply),
-        numbers_of_kind(entries, Kind::Divide),
-        numbers_of_kind(entries, Kind::Increment),
-    ]
 }
 
 /// The numbers that read or write a register.
@@ -148,12 +117,7 @@ fn register_at(index: usize) -> Reg
     ensures value { index_of result ≡ index }
     ensures digit { result.digit ≤ 7 }
 {
-    let bank = match index / 8 {
-        0 => Bank::A,
-        1 => Bank::B,
-        _ => Bank::X,
-    };
-    Reg::new(bank, (index % 8) as u8)
+    Reg::of_index(index as u8)
 }
 
 /// The numbers that read or write each register, by its index.
@@ -194,7 +158,8 @@ fn writes_register(writes: &[Write], register: Reg) -> bool
 
 /// The registers that are written, each once.
 fn written_registers(entries: &[Entry]) -> ArrayVec<Reg, REGISTER_COUNT>
-    ensures { (b : Problem) → AreEntries b entries.now → HasWritten b result.items }
+    ensures written { (b : Problem) → AreEntries b entries.now → HasWritten b result.items }
+    ensures registers { AreRegisters result.items }
 {
     let mut written = ArrayVec::new();
     for index in 0..REGISTER_COUNT {

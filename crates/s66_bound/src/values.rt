@@ -5,16 +5,16 @@ ghost use Rattle.std.specs.List.{filter};
 ghost use Rattle.s66_isa.specs.Lists.{greatest};
 ghost use Rattle.s66_isa.specs.Table.{all_kinds};
 ghost use Rattle.s66_line.specs.Block.{instrs_of};
-ghost use Rattle.s66_model.specs.Timing.{next, row_at};
+ghost use Rattle.s66_model.specs.Timing.{row_at};
 ghost use Rattle.s66_model.specs.LegalOrder.{remaining, sum_remaining};
 ghost use Rattle.s66_model.specs.Leaves.{uses, work_of, over, chain, load, parcels, floor_value};
-ghost use Rattle.s66_model.specs.Tails.{tail_remaining, chain_by};
+ghost use Rattle.s66_model.specs.Tails.{chain_by};
 ghost use Rattle.s66_dep.specs.Members.{numbers_in};
 ghost use Rattle.s66_time.specs.declared.limits.TheConstants.{COPIES_LIMIT, TOTAL_LIMIT};
-ghost use Rattle.s66_time.specs.Ticking.{problem_of, points};
+ghost use Rattle.s66_time.specs.Ticking.{problem_of};
 ghost use Rattle.s66_bound.specs.TableWords.{AreRemaining, IsTables};
 
-use crate::numbers::{greatest_of, least_of, sum_of};
+use crate::numbers::{greatest_from, greatest_of, least_of};
 use crate::tables::Tables;
 use s66_dep::Set;
 use s66_isa::{Kind, Reg, kind_number};
@@ -37,46 +37,51 @@ fn remaining_users(tables: &Tables, clock: &Clock<'_>, rest: &Set, register: Reg
     rest.both(&tables.users[register.index() as usize])
 }
 
-/// The greatest chain that starts when the register is done, where that is after the next slot.
+/// The greatest chain that starts when the register is done; 0 if no number that remains reads or writes it.
 fn chain_by(tables: &Tables, clock: &Clock<'_>, rest: &Set, register: Reg) -> u32
     requires tables { IsTables (problem_of clock.now) tables.now }
     requires rest { AreRemaining clock.now rest.now }
     requires some { length clock.now.numbers < length (instrs_of clock.now.block) }
-    ensures { max (next (points clock.now) + tail_remaining (problem_of clock.now) clock.now.numbers) result ≡ max (next (points clock.now) + tail_remaining (problem_of clock.now) clock.now.numbers) (chain_by (problem_of clock.now) clock.now.numbers register) }
+    ensures { result ≡ chain_by (problem_of clock.now) clock.now.numbers register }
 {
-    let done = clock.done_of(register);
-    if done <= clock.next() {
-        return 0;
-    }
     let users = remaining_users(tables, clock, rest, register);
-    if users.count() == 0 {
-        return 0;
-    }
-    done + greatest_of(&tables.longest, &users)
+    greatest_from(&tables.longest, clock.done_of(register), &users)
 }
 
-/// The greatest value of a chain: it starts in the next slot, or when a register is done that is late.
+/// A value, or the greatest value of a chain if that is greater. A chain starts in the next slot, or when a register is done that
+/// is late; only the registers are looked at that are so late that they can make a greater one.
+fn least_or_chain(tables: &Tables, clock: &Clock<'_>, rest: &Set, least: u32) -> u32
+    requires tables { IsTables (problem_of clock.now) tables.now }
+    requires rest { AreRemaining clock.now rest.now }
+    requires some { length clock.now.numbers < length (instrs_of clock.now.block) }
+    ensures { result ≡ max least (chain (problem_of clock.now) clock.now.numbers) }
+{
+    let tail = greatest_of(&tables.longest, rest);
+    let mut most = least.max(clock.next() + tail);
+    let mut late = clock.late(most - tail);
+    while let Some(register) = late.pop_first() {
+        most = most.max(chain_by(tables, clock, rest, register));
+    }
+    most
+}
+
+/// The greatest value of a chain.
 pub fn chain_of(tables: &Tables, clock: &Clock<'_>, rest: &Set) -> u32
     requires tables { IsTables (problem_of clock.now) tables.now }
     requires rest { AreRemaining clock.now rest.now }
     requires some { length clock.now.numbers < length (instrs_of clock.now.block) }
     ensures { result ≡ chain (problem_of clock.now) clock.now.numbers }
 {
-    let mut most = clock.next() + greatest_of(&tables.longest, rest);
-    for register in tables.written.as_slice() {
-        most = most.max(chain_by(tables, clock, rest, *register));
-    }
-    most
+    least_or_chain(tables, clock, rest, 0)
 }
 
 /// The work that remains for a kind of unit.
-fn remaining_work(tables: &Tables, clock: &Clock<'_>, rest: &Set, kind: Kind) -> u32
-    requires tables { IsTables (problem_of clock.now) tables.now }
-    requires rest { AreRemaining clock.now rest.now }
+fn remaining_work(tables: &Tables, clock: &Clock<'_>, kind: Kind) -> u32
+    requires { IsTables (problem_of clock.now) tables.now }
     ensures value { result ≡ sum_remaining (instrs_of clock.now.block) clock.now.numbers (λ n. work_of kind (row_at (problem_of clock.now) n)) }
     ensures at_most { result ≤ TOTAL_LIMIT }
 {
-    sum_of(&tables.work, &rest.both(&tables.kinds[kind_number(kind)]))
+    tables.works[kind_number(kind)] - clock.worked(kind)
 }
 
 /// How long so many units work, where the work is parted among them: rounded up.
@@ -94,12 +99,11 @@ fn over(work: u32, copies: u32) -> u32
 }
 
 /// The load of a kind of unit; it may be asked where nothing remains, too.
-pub fn load_of(tables: &Tables, clock: &Clock<'_>, rest: &Set, kind: Kind) -> u32
-    requires tables { IsTables (problem_of clock.now) tables.now }
-    requires rest { AreRemaining clock.now rest.now }
+pub fn load_of(tables: &Tables, clock: &Clock<'_>, kind: Kind) -> u32
+    requires { IsTables (problem_of clock.now) tables.now }
     ensures { result ≡ load (problem_of clock.now) clock.now.numbers kind }
 {
-    let work = remaining_work(tables, clock, rest, kind) + clock.busy(kind);
+    let work = remaining_work(tables, clock, kind) + clock.busy(kind);
     over(work, clock.profile().copies(kind)) + clock.next()
 }
 
@@ -115,18 +119,17 @@ pub fn parcels_of(tables: &Tables, clock: &Clock<'_>, rest: &Set) -> u32
 }
 
 /// The greatest load.
-pub fn greatest_load(tables: &Tables, clock: &Clock<'_>, rest: &Set) -> u32
-    requires tables { IsTables (problem_of clock.now) tables.now }
-    requires rest { AreRemaining clock.now rest.now }
+pub fn greatest_load(tables: &Tables, clock: &Clock<'_>) -> u32
+    requires { IsTables (problem_of clock.now) tables.now }
     ensures { result ≡ greatest (load (problem_of clock.now) clock.now.numbers) all_kinds }
 {
-    let increment = load_of(tables, clock, rest, Kind::Increment);
-    let divide = load_of(tables, clock, rest, Kind::Divide).max(increment);
-    let multiply = load_of(tables, clock, rest, Kind::Multiply).max(divide);
-    let long_add = load_of(tables, clock, rest, Kind::LongAdd).max(multiply);
-    let add = load_of(tables, clock, rest, Kind::Add).max(long_add);
-    let shift = load_of(tables, clock, rest, Kind::Shift).max(add);
-    load_of(tables, clock, rest, Kind::Boolean).max(shift)
+    let increment = load_of(tables, clock, Kind::Increment);
+    let divide = load_of(tables, clock, Kind::Divide).max(increment);
+    let multiply = load_of(tables, clock, Kind::Multiply).max(divide);
+    let long_add = load_of(tables, clock, Kind::LongAdd).max(multiply);
+    let add = load_of(tables, clock, Kind::Add).max(long_add);
+    let shift = load_of(tables, clock, Kind::Shift).max(add);
+    load_of(tables, clock, Kind::Boolean).max(shift)
 }
 
 /// The greatest of the chain, the loads and the parcels.
@@ -136,7 +139,7 @@ pub fn floor_value_of(tables: &Tables, clock: &Clock<'_>, rest: &Set) -> u32
     requires some { length clock.now.numbers < length (instrs_of clock.now.block) }
     ensures { result ≡ floor_value (problem_of clock.now) clock.now.numbers }
 {
-    let loads = greatest_load(tables, clock, rest);
+    let loads = greatest_load(tables, clock);
     let parcels = parcels_of(tables, clock, rest);
-    chain_of(tables, clock, rest).max(loads.max(parcels))
+    least_or_chain(tables, clock, rest, loads.max(parcels))
 }

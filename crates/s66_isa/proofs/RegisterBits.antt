@@ -10,7 +10,8 @@ use Rattle.s66_isa.specs.declared.reg.Bank.TheVariants.{A, B, X}
 use Rattle.s66_isa.specs.declared.registers.Registers.{Registers}
 use Rattle.s66_isa.specs.Lists.{some_of}
 use Rattle.s66_isa.specs.Table.{Reg, bank_number, same_reg, has_reg}
-use Rattle.s66_isa.specs.Registers.{index_of, word_of, all_registers, is_there, registers_in}
+use Rattle.s66_isa.specs.Registers.{index_of, register_at, word_of, all_registers, is_there, registers_in}
+use Rattle.s66_isa.specs.RegisterIndices.{register_at-index}
 use Rattle.s66_isa.proofs.SameRegister.{same_reg-true, same_reg-self}
 
 -- THE REGISTERS BY THEIR INDICES
@@ -28,27 +29,7 @@ index-few r few = omega (arith, bank-few r.bank)
     bank-few B = omega arith
     bank-few X = omega arith
 
-bank_at : ℕ → Bank
-bank_at zero = A
-bank_at (suc zero) = B
-bank_at (suc (suc more)) = X
-
-bank_at-number : (n : ℕ) → n < 3 → bank_number (bank_at n) ≡ n
-unfolding bank_at
-bank_at-number zero few = refl
-bank_at-number (suc zero) few = refl
-bank_at-number (suc (suc zero)) few = refl
-bank_at-number (suc (suc (suc more))) few = absurd (omega (arith, few))
-
-register_at : ℕ → Reg
-register_at i = record { bank = bank_at (i / 8); digit = i % 8 }
-
-register_at-index : (i : ℕ) → i < 24 → index_of (register_at i) ≡ i
-unfolding register_at
-register_at-index i few = omega (arith, bank_at-number (i / 8) (omega arith))
-
-register_at-digit : (i : ℕ) → (register_at i).digit ≤ 7
-unfolding register_at
+pub register_at-digit : (i : ℕ) → (register_at i).digit ≤ 7
 register_at-digit i = omega arith
 
 -- WHICH ARE THERE

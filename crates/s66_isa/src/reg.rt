@@ -15,41 +15,67 @@ pub enum Bank {
     X,
 }
 
-/// A register: its bank, and its digit 0 to 7.
+/// A register: its bank, and its digit 0 to 7. It is kept by its index, so that a look at a word of it works nothing out.
 #[derive(Clone, Copy, Debug, Default, PartialEq, Eq)]
 pub struct Reg {
-    bank: Bank,
-    digit: u8,
+    /// 0 to 23: A0 to A7, then B0 to B7, then X0 to X7.
+    index: u8,
 }
 
 impl Model for Reg {
-    ghost use Rattle.s66_isa.specs.Table.{Reg, IsDigit};
+    ghost use Rattle.std.specs.Prelude.{◌<◌};
+    ghost use Rattle.s66_isa.specs.Table.{Reg};
+    ghost use Rattle.s66_isa.specs.Registers.{index_of, register_at};
+    ghost use Rattle.s66_isa.specs.RegisterIndices.{register_at-index};
 
     ghost Value = { Reg };
 
-    ghost view = { λ r. record { bank = r.bank; digit = r.digit } };
+    ghost view = { λ r. register_at r.index };
 
-    ghost inverse = { λ r. record { bank = r.bank; digit = r.digit } };
+    ghost inverse = { λ r. record { index = index_of r } };
 
-    ghost invariant = { λ r. IsDigit r.digit };
+    ghost inverse_ok = { λ r h i. record { index = register_at-index r.index h i } };
+
+    ghost invariant = { λ r. r.index < 24 };
 }
 
 impl Reg {
-    ghost use Rattle.s66_isa.specs.Registers.{index_of};
+    ghost use Rattle.std.specs.Prelude.{◌<◌};
+    ghost use Rattle.s66_isa.specs.declared.reg.TheConstants.{REGISTER_COUNT};
+    ghost use Rattle.s66_isa.specs.Registers.{index_of, register_at};
 
     /// The register of a bank and a digit.
     pub fn new(bank: Bank, digit: u8) -> Reg
         requires { digit ≤ 7 }
         ensures { result ≡ record { bank = bank; digit = digit } }
     {
-        Reg { bank, digit }
+        let first = match bank {
+            Bank::A => 0,
+            Bank::B => 8,
+            Bank::X => 16,
+        };
+        Reg {
+            index: first + digit,
+        }
+    }
+
+    /// The register of an index.
+    pub fn of_index(index: u8) -> Reg
+        requires { index < REGISTER_COUNT }
+        ensures { result ≡ register_at index }
+    {
+        Reg { index }
     }
 
     /// Its bank.
     pub fn bank(&self) -> Bank
         ensures { result ≡ self.now.bank }
     {
-        self.bank
+        match self.index / 8 {
+            0 => Bank::A,
+            1 => Bank::B,
+            _ => Bank::X,
+        }
     }
 
     /// Its digit.
@@ -57,7 +83,7 @@ impl Reg {
         ensures value { result ≡ self.now.digit }
         ensures at_most { result ≤ 7 }
     {
-        self.digit
+        self.index % 8
     }
 
     /// Its index, 0 to 23: A0 to A7, then B0 to B7, then X0 to X7.
@@ -66,12 +92,7 @@ impl Reg {
         ensures at_most { result ≤ 23 }
         ensures digit { self.now.digit ≤ 7 }
     {
-        let first = match self.bank {
-            Bank::A => 0,
-            Bank::B => 8,
-            Bank::X => 16,
-        };
-        first + self.digit
+        self.index
     }
 }
 
@@ -79,7 +100,7 @@ impl Reg {
 pub fn is_same_register(a: Reg, b: Reg) -> bool
     ensures { result ≡ same_reg a b }
 {
-    a == b
+    a.index == b.index
 }
 
 /// Whether it is B0, which is always zero.

@@ -11,7 +11,7 @@ pub struct Registers {
 }
 
 impl Registers {
-    ghost use Rattle.std.specs.Prelude.{◌≡◌, ◌||◌, []};
+    ghost use Rattle.std.specs.Prelude.{◌≡◌, ◌||◌, [], ◌∷◌, IfSome, IfNone};
     ghost use Rattle.s66_isa.specs.Lists.{some_of};
     ghost use Rattle.s66_isa.specs.Table.{Reg, same_reg, has_reg};
     ghost use Rattle.s66_isa.specs.Registers.{registers_in};
@@ -41,6 +41,20 @@ impl Registers {
         Registers {
             bits: self.bits | (1 << register.index()),
         }
+    }
+
+    /// Takes the register of the lowest index out, if there is one.
+    pub fn pop_first(&mut self) -> Option<Reg>
+        ensures some { IfSome result (λ r. registers_in self.old ≡ r ∷ registers_in self.new) }
+        ensures none { IfNone result (registers_in self.old ≡ []) }
+    {
+        if self.bits == 0 {
+            return None;
+        }
+        let lowest = self.bits.trailing_zeros();
+        // n & (n - 1) is n without the lowest bit that is set
+        self.bits &= self.bits - 1;
+        Some(Reg::of_index(lowest as u8))
     }
 
     /// Whether a register is there.

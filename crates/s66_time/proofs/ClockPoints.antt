@@ -24,6 +24,7 @@ use Rattle.s66_isa.proofs.Lists.{cases_le}
 use Rattle.s66_time.specs.declared.progress.Progress.{Progress}
 use Rattle.s66_time.specs.declared.step.Saved.{Saved}
 use Rattle.s66_model.proofs.Growth.{AreSmall, none-first, fits_at-ge, start-le, start-ge, free-ge}
+use Rattle.s66_time.proofs.WorkOfKinds.{kinds-few, worked-step}
 use Rattle.s66_time.proofs.FreeUnits.{IsLeast, count-free, count-least, count-push, at-greatest, rest-same}
 
 -- a result by what the readers' words tell
@@ -53,15 +54,6 @@ units-within p LongAdd = (p.units.3, p.few.3)
 units-within p Multiply = (p.units.4, p.few.4)
 units-within p Divide = (p.units.5, p.few.5)
 units-within p Increment = (p.units.6, p.few.6)
-
-pub kinds-few : (kind : Kind) → kind_number kind ≤ 6
-kinds-few Boolean = omega arith
-kinds-few Shift = omega arith
-kinds-few Add = omega arith
-kinds-few LongAdd = omega arith
-kinds-few Multiply = omega arith
-kinds-few Divide = omega arith
-kinds-few Increment = omega arith
 
 pub units-length : (p : Profile) (kind : Kind) (words : List ℕ) → length words ≡ UNIT_LIMIT → length (units_of p kind words) ≡ copies_of p kind
 units-length p kind words size =
@@ -202,6 +194,8 @@ words-step p s q w w2 place is soon late takes =
       read = λ r small. omega (arith, takes.read r small, is.read r small);
       units = λ kind t. ap (λ (xs : List ℕ). tally (λ (f : ℕ). ltb t f) (units_of p kind xs)) takes.units ∙ units-step p s q w place is soon late kind t;
       size = ap length takes.units ∙ length-set w.units.words place q.free ∙ is.size;
+      kinds = ap length takes.worked ∙ length-set w.worked (kind_number q.row.kind) _ ∙ is.kinds;
+      worked = worked-step s q w.worked w2.worked is.kinds is.worked takes.worked;
       refs = omega (arith, takes.refs, is.refs);
       stores = omega (arith, takes.stores, is.stores);
       parcel = takes.parcel;
@@ -272,10 +266,11 @@ unit-late p s w r n place good is soon =
 
 -- WHAT WAS WRITTEN OVER COMES BACK
 
-pub words-back : (done done2 read read2 units : List ℕ) (progress : Progress) (ds rs : List Saved) (unit f : ℕ) → put_back ds done2 ≡ done → put_back rs read2 ≡ read →
-    ◌≡◌ {A = Words} (record { done = record { words = put_back ds done2 }; read = record { words = put_back rs read2 }; units = record { words = set (set units unit f) unit (get_or units unit 0) }; progress = progress })
-    (record { done = record { words = done }; read = record { words = read }; units = record { words = units }; progress = progress })
-words-back done done2 read read2 units progress ds rs unit f e1 e2 = rw (set-set units unit f (get_or units unit 0), set-get_or units unit 0, e1, e2) refl
+pub words-back : (done done2 read read2 units worked : List ℕ) (progress : Progress) (ds rs : List Saved) (unit f kind more : ℕ) → put_back ds done2 ≡ done → put_back rs read2 ≡ read →
+    ◌≡◌ {A = Words} (record { done = record { words = put_back ds done2 }; read = record { words = put_back rs read2 }; units = record { words = set (set units unit f) unit (get_or units unit 0) }; worked = set (set worked kind more) kind (get_or worked kind 0); progress = progress })
+    (record { done = record { words = done }; read = record { words = read }; units = record { words = units }; worked = worked; progress = progress })
+words-back done done2 read read2 units worked progress ds rs unit f kind more e1 e2 =
+    rw (set-set units unit f (get_or units unit 0), set-get_or units unit 0, set-set worked kind more (get_or worked kind 0), set-get_or worked kind 0, e1, e2) refl
 
 kind-of-point : (p : Profile) (s : List Point) (w : Words) (r : Row) (n place : ℕ) → IsSoonest p r.kind w.units.words place → IsSoonest p (point (under p) s n r).row.kind w.units.words place
 unfolding point

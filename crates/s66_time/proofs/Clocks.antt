@@ -11,7 +11,7 @@ use Rattle.s66_model.specs.LegalOrder.{IsBeginning, is_ready}
 use Rattle.s66_model.proofs.LegalOrders.{GoesOn-append, GoesOn-join}
 use Rattle.s66_model.proofs.Growth.{total-le, fits_at-ge}
 use Rattle.s66_model.proofs.ChainBound.{last-is_greatest}
-use Rattle.s66_model.proofs.PointTimes.{good-at, point_of-row, point_of-number, issue-le-start, hold-le-free}
+use Rattle.s66_model.proofs.PointTimes.{good-at, point_of-row, point_of-number, points_after-length, issue-le-start, hold-le-free}
 use Rattle.s66_model.proofs.Issue.{issue-late}
 use Rattle.s66_dep.proofs.LongestBeginning.{beginning-few}
 use Rattle.s66_isa.specs.declared.limits.TheConstants.{BLOCK_LIMIT}
@@ -28,6 +28,7 @@ record AreFair (s : List Point) : Type 0 where
   starts : greatest (λ (p : Point). max p.issue p.start + 1) s ≤ total s
   parcels : greatest (λ (p : Point). p.row.parcels) s ≤ 2
   parcel : next_parcel s ≤ next s
+  holds : greatest (λ (p : Point). p.row.hold) s ≤ 100
 
 pub early-point_of : (b : Problem) (s : List Point) (n : ℕ) → next_parcel s ≤ next s → (point_of b s n).parcel ≤ (point_of b s n).issue
 unfolding point
@@ -40,6 +41,7 @@ fair-step b s n fair =
       starts = omega (arith, fair.starts, issue-le-start b s n, hold-le-free b s n);
       parcels = omega (arith, fair.parcels, (good-at b n).parcels.1, ap (λ (r : Row). r.parcels) (point_of-row b s n));
       parcel = omega (arith, early-point_of b s n fair.parcel);
+      holds = omega (arith, fair.holds, (good-at b n).hold.1, ap (λ (r : Row). r.hold) (point_of-row b s n));
     }
 
 fair-run : (b : Problem) (s : List Point) (ns : List ℕ) → AreFair s → AreFair (points_after b s ns)
@@ -48,13 +50,15 @@ fair-run b s (n ∷ ns) fair = fair-run b (point_of b s n ∷ s) ns (fair-step b
 
 pub in-turn : (b : Problem) (ns : List ℕ) → length ns ≤ BLOCK_LIMIT → InTurn (points_of b ns)
 in-turn b ns few =
-    let fair = fair-run b [] ns (record { starts = omega arith; parcels = omega arith; parcel = omega arith }) in
+    let fair = fair-run b [] ns (record { starts = omega arith; parcels = omega arith; parcel = omega arith; holds = omega arith }) in
     record {
       early = omega (arith, total-le b ns);
       starts = fair.starts;
       parcels = fair.parcels;
       latest = last-is_greatest b ns;
       parcel = fair.parcel;
+      few = omega (arith, points_after-length b [] ns, few);
+      holds = fair.holds;
     }
 
 -- THE POINTS OF STEPS

@@ -1,8 +1,10 @@
 pub mod Loops
 pub mod Back
+pub mod WorkOfKinds
 pub mod FreeUnits
 pub mod ClockPoints
 pub mod Clocks
 pub mod Positions
 pub mod RowsOfBlock
 pub mod Cleared
+pub mod WordsAfter

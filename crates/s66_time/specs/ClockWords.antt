@@ -2,11 +2,14 @@
 use Rattle.std.specs.Prelude.{map, ◌==◌, ◌||◌, ℕ, ◌+◌, ◌≡◌, ◌≤◌, ◌<◌, if◌then◌else◌, max, min, List, [], ◌∷◌, length, get_or, set, nat_lt, ◌-◌}
 use Rattle.s66_isa.specs.Table.{Reg, Row, touches, stores, kind_number, copies_of, same_reg, has_reg}
 use Rattle.s66_isa.specs.declared.instr.Kind.{Kind}
+use Rattle.s66_isa.specs.declared.instr.TheConstants.{KIND_COUNT}
 use Rattle.s66_isa.specs.declared.instr.Memory.{Memory}
 use Rattle.s66_isa.specs.declared.instr.Memory.TheVariants as memory
 use Rattle.s66_isa.specs.declared.profile.Profile.{Profile}
-use Rattle.s66_isa.specs.Lists.{greatest, tally, has}
+use Rattle.s66_isa.specs.Lists.{greatest, tally, weigh, has}
 use Rattle.s66_model.specs.Timing.{Problem, Point, ResultAt, end_of, done_of, last_done, readers_wait, busy_at, next, next_parcel, total, point_of}
+use Rattle.s66_isa.specs.declared.limits.TheConstants.{BLOCK_LIMIT}
+use Rattle.s66_model.specs.Leaves.{work_of}
 use Rattle.s66_dep.specs.Members.{numbers_in}
 use Rattle.s66_time.specs.declared.limits.TheConstants.{TOTAL_LIMIT, UNIT_LIMIT}
 use Rattle.s66_isa.specs.Registers.{word_of}
@@ -33,6 +36,10 @@ wait_of memory.None refs stored = 0
 wait_of memory.Load refs stored = stored
 wait_of memory.Store refs stored = refs
 
+-- for how long those of a kind take a unit, summed
+abbrev pub worked_of : Kind → List Point → ℕ
+worked_of kind s = weigh (λ (p : Point). work_of kind p.row) s
+
 -- of each kind as many units as the profile has
 abbrev pub AreCopies : Profile → Copies → Type 0
 AreCopies p c = (kind : Kind) → get_or c.counts (kind_number kind) 0 ≡ copies_of p kind
@@ -47,6 +54,8 @@ pub record IsWords (p : Profile) (s : List Point) (w : Words) : Type 0 where
   -- of each kind as many words are later than t as units are busy, where there are so many
   pub units : (kind : Kind) (t : ℕ) → tally (λ (f : ℕ). nat_lt t f) (units_of p kind w.units.words) ≡ min (copies_of p kind) (tally (busy_at kind t) s)
   pub size : length w.units.words ≡ UNIT_LIMIT
+  pub kinds : length w.worked ≡ KIND_COUNT
+  pub worked : (kind : Kind) → get_or w.worked (kind_number kind) 0 ≡ worked_of kind s
   pub refs : w.progress.refs ≡ refs_wait s
   pub stores : w.progress.stores ≡ stores_wait s
   pub parcel : w.progress.parcel ≡ next_parcel s
@@ -67,6 +76,8 @@ pub record InTurn (s : List Point) : Type 0 where
   pub parcels : greatest (λ (p : Point). p.row.parcels) s ≤ 2
   pub latest : (r : Reg) → last_done r s ≡ done_of s r
   pub parcel : next_parcel s ≤ next s
+  pub few : length s ≤ BLOCK_LIMIT
+  pub holds : greatest (λ (p : Point). p.row.hold) s ≤ 100
 
 -- the words are those of some points
 abbrev pub Follows : Profile → Words → Type 0
@@ -90,6 +101,7 @@ pub record Takes (w w2 : Words) (q : Point) (place : ℕ) : Type 0 where
   pub done : (r : Reg) → r.digit ≤ 7 → word_of w2.done.words r ≡ max (word_of w.done.words r) (greatest (λ (d : ResultAt). if same_reg d.reg r then d.time else 0) q.results)
   pub read : (r : Reg) → r.digit ≤ 7 → word_of w2.read.words r ≡ max (word_of w.read.words r) (if has_reg r q.row.reads then q.start + 1 else 0)
   pub units : w2.units.words ≡ set w.units.words place q.free
+  pub worked : w2.worked ≡ set w.worked (kind_number q.row.kind) (get_or w.worked (kind_number q.row.kind) 0 + (q.row.hold + 1))
   pub refs : w2.progress.refs ≡ max w.progress.refs (if touches q.row.memory then q.start + 1 else 0)
   pub stores : w2.progress.stores ≡ max w.progress.stores (if stores q.row.memory then q.start + 1 else 0)
   pub parcel : w2.progress.parcel ≡ q.parcel + q.row.parcels
@@ -104,6 +116,7 @@ after_undo w k =
       done = record { words = put_back k.done.items w.done.words };
       read = record { words = put_back k.read.items w.read.words };
       units = record { words = set w.units.words k.unit k.free };
+      worked = set w.worked k.kind k.worked;
       progress = k.progress;
     }
 

@@ -7,7 +7,7 @@ use crate::steps::Steps;
 use crate::words::Words;
 use arrayvec::ArrayVec;
 use s66_dep::Set;
-use s66_isa::{BLOCK_LIMIT, Kind, Profile, Reg, Row};
+use s66_isa::{BLOCK_LIMIT, Kind, Profile, Reg, Registers, Row, kind_number};
 use s66_line::Block;
 use std::marker::Model;
 
@@ -52,15 +52,16 @@ fn rows_of(block: &Block<'_>, profile: &Profile) -> ArrayVec<Row, BLOCK_LIMIT>
 }
 
 impl<'a> Clock<'a> {
-    ghost use Rattle.std.specs.Prelude.{ℕ, ◌≡◌, ◌+◌, ◌-◌, ◌*◌, ◌<◌, ◌≤◌, ◌++◌, [], ◌∷◌, true, length, take};
+    ghost use Rattle.std.specs.Prelude.{ℕ, ◌≡◌, ◌+◌, ◌-◌, ◌*◌, ◌<◌, ◌≤◌, ◌++◌, [], ◌∷◌, true, length, take, nat_lt};
     ghost use Rattle.s66_isa.specs.Lists.{weigh, has};
-    ghost use Rattle.s66_isa.specs.Table.{copies_of, kind_of, instr_at};
+    ghost use Rattle.s66_isa.specs.Table.{Reg as RegOf, copies_of, kind_of, instr_at, has_reg};
+    ghost use Rattle.s66_isa.specs.Registers.{registers_in};
     ghost use Rattle.s66_dep.specs.Members.{numbers_in};
     ghost use Rattle.s66_line.specs.Block.{instrs_of};
     ghost use Rattle.s66_isa.specs.declared.limits.TheConstants.{BLOCK_LIMIT};
     ghost use Rattle.s66_model.specs.LegalOrder.{is_ready, IsBeginning};
-    ghost use Rattle.s66_model.specs.Timing.{next, total, done_of};
-    ghost use Rattle.s66_model.specs.Leaves.{rest_busy};
+    ghost use Rattle.s66_model.specs.Timing.{Point, next, total, done_of};
+    ghost use Rattle.s66_model.specs.Leaves.{rest_busy, work_of};
     ghost use Rattle.s66_time.specs.Ticking.{points};
     ghost use Rattle.s66_time.specs.declared.limits.TheConstants.{COPIES_LIMIT, LOOK_LIMIT, TOTAL_LIMIT};
 
@@ -89,8 +90,8 @@ impl<'a> Clock<'a> {
         let row = &self.rows[n as usize - 1];
         let copies = self.copies.at(row.kind);
         let step = self.words.push(&self.profile, copies, n, row);
-        // a word for each unit of the kind, each saved word twice, the six of the progress, and the record
-        self.looks = copies + 2 * step.words() + 7;
+        // a word for each unit of the kind and its work, each saved word twice, the six of the progress, and the record
+        self.looks = copies + 2 * step.words() + 8;
         self.steps.push(step);
     }
 
@@ -101,8 +102,8 @@ impl<'a> Clock<'a> {
         ensures looks { self.new.looks ≤ LOOK_LIMIT }
     {
         let step = self.steps.last();
-        // each saved word, the unit's, the six of the progress, and the record
-        self.looks = step.words() + 8;
+        // each saved word, the unit's and the kind's, the six of the progress, and the record
+        self.looks = step.words() + 9;
         self.words.undo(step);
         self.steps.remove_last();
     }
@@ -158,6 +159,22 @@ impl<'a> Clock<'a> {
         ensures { result ≡ done_of (points self.now) register }
     {
         self.words.done.at(register)
+    }
+
+    /// The registers whose last result is done after a time.
+    pub fn late(&self, time: u32) -> Registers
+        ensures { (r : RegOf) → r.digit ≤ 7 → has_reg r (registers_in result) ≡ nat_lt time (done_of (points self.now) r) }
+    {
+        self.words.done.after(time)
+    }
+
+    /// For how long the pushed instructions of a kind take a unit, summed: each for its hold and one.
+    pub fn worked(&self, kind: Kind) -> u32
+        ensures value { result ≡ weigh (λ (p : Point). work_of kind p.row) (points self.now) }
+        ensures begins { IsBeginning (instrs_of self.now.block) self.now.numbers }
+        ensures few { length (instrs_of self.now.block) ≤ BLOCK_LIMIT }
+    {
+        self.words.worked[kind_number(kind)]
     }
 
     /// How many minor cycles the units of a kind work on from `next` until they are free, summed over the units; the time is that

@@ -6,6 +6,9 @@ const STEP_LIMIT: u32 = 104;
 /// The most minor cycles that an order of a block takes.
 pub const TOTAL_LIMIT: u32 = STEP_LIMIT * BLOCK_LIMIT as u32;
 
+/// For how long the instructions of an order take units at most, summed.
+pub const WORK_LIMIT: u32 = 101 * BLOCK_LIMIT as u32;
+
 /// The most units of a kind that a profile has.
 pub const COPIES_LIMIT: usize = 100;
 

@@ -1,16 +1,16 @@
-ghost use Rattle.std.specs.Prelude.{ℕ, ◌≡◌, ◌+◌, ◌<◌, ◌≤◌, map, if◌then◌else◌, length, max};
+ghost use Rattle.std.specs.Prelude.{ℕ, ◌≡◌, ◌+◌, ◌<◌, ◌≤◌, map, if◌then◌else◌, length, max, nat_lt};
 ghost use Rattle.s66_isa.specs.Lists.{greatest};
 ghost use Rattle.s66_isa.specs.Table.{Reg as RegOf, Write as WriteOf, same_reg, has_reg};
 ghost use Rattle.s66_model.specs.Timing.{ResultAt as ResultOf};
 ghost use Rattle.s66_time.specs.declared.limits.TheConstants.{TOTAL_LIMIT};
 ghost use Rattle.s66_time.specs.ClockWords.{Tells};
-ghost use Rattle.s66_isa.specs.Registers.{word_of};
+ghost use Rattle.s66_isa.specs.Registers.{word_of, registers_in};
 ghost use Rattle.s66_time.specs.Places.{put_back};
 
 use crate::result::ResultAt;
 use crate::step::Saved;
 use arrayvec::ArrayVec;
-use s66_isa::{REGISTER_COUNT, Reg, Write};
+use s66_isa::{REGISTER_COUNT, Reg, Registers, Write};
 
 /// A word for each register, by its index: a minor cycle.
 ///
@@ -36,6 +36,19 @@ impl RegisterWords {
         ensures { (f : RegOf → ℕ) → Tells self.now.words f → result ≡ f register }
     {
         self.words[register.index() as usize]
+    }
+
+    /// The registers whose words are after a time.
+    pub fn after(&self, time: u32) -> Registers
+        ensures { (f : RegOf → ℕ) → Tells self.now.words f → (r : RegOf) → r.digit ≤ 7 → has_reg r (registers_in result) ≡ nat_lt time (f r) }
+    {
+        let mut after = Registers::empty();
+        for index in 0..REGISTER_COUNT {
+            if time < self.words[index] {
+                after = after.with(Reg::of_index(index as u8));
+            }
+        }
+        after
     }
 
     /// The greatest word of these registers.

@@ -1,4 +1,5 @@
 ghost use Rattle.std.specs.Prelude.{◌<◌, ◌≤◌};
+ghost use Rattle.s66_isa.specs.declared.instr.TheConstants.{KIND_COUNT};
 ghost use Rattle.s66_isa.specs.declared.reg.TheConstants.{REGISTER_COUNT};
 ghost use Rattle.s66_time.specs.declared.limits.TheConstants.{UNIT_LIMIT};
 
@@ -30,12 +31,16 @@ pub struct Step {
     pub unit: u16,
     /// When that unit was free before.
     pub free: u32,
+    /// The number of its kind.
+    pub kind: u8,
+    /// The word `Words::worked` of its kind.
+    pub worked: u32,
     /// The words `Words::done` of the registers that it writes.
     pub done: ArrayVec<Saved, 2>,
     /// The words `Words::read` of the registers that it reads.
     pub read: ArrayVec<Saved, 4>,
     pub progress: Progress,
-    ghost within: { unit < UNIT_LIMIT },
+    ghost within: { (unit < UNIT_LIMIT) × (kind < KIND_COUNT) },
 }
 
 impl Default for Step {
@@ -44,6 +49,8 @@ impl Default for Step {
             number: 0,
             unit: 0,
             free: 0,
+            kind: 0,
+            worked: 0,
             done: ArrayVec::new(),
             read: ArrayVec::new(),
             progress: Progress::default(),

@@ -1,11 +1,11 @@
-ghost use Rattle.std.specs.Prelude.{ℕ, ◌≡◌, ◌+◌, ◌-◌, ◌<◌, ◌≤◌, List, [], ◌∷◌, length};
-ghost use Rattle.s66_isa.specs.Table.{copies_of};
+ghost use Rattle.std.specs.Prelude.{ℕ, ◌≡◌, ◌+◌, ◌-◌, ◌<◌, ◌≤◌, List, [], ◌∷◌, length, get_or};
+ghost use Rattle.s66_isa.specs.Table.{copies_of, kind_number};
 ghost use Rattle.s66_isa.specs.declared.profile.Profile.{Profile as ProfileOf};
 ghost use Rattle.s66_isa.specs.declared.limits.TheConstants.{BLOCK_LIMIT};
 ghost use Rattle.s66_model.specs.Packing.{fits_at};
 ghost use Rattle.s66_isa.specs.Rows.{IsInRange};
 ghost use Rattle.s66_model.specs.Timing.{Point, issue_of, start_of, point};
-ghost use Rattle.s66_time.specs.declared.limits.TheConstants.{COPIES_LIMIT, TOTAL_LIMIT, UNIT_LIMIT};
+ghost use Rattle.s66_time.specs.declared.limits.TheConstants.{COPIES_LIMIT, TOTAL_LIMIT, UNIT_LIMIT, WORK_LIMIT};
 ghost use Rattle.s66_time.specs.ClockWords.{under, IsWords, InTurn, IsSoonest, Follows, wait_of, point_of_tick, after_undo, Takes};
 
 use crate::packing::fits_at;
@@ -14,7 +14,7 @@ use crate::registers::RegisterWords;
 use crate::step::Step;
 use crate::tick::{Tick, free_after};
 use crate::units::UnitWords;
-use s66_isa::{Memory, Profile, Row};
+use s66_isa::{KIND_COUNT, Memory, Profile, Row, kind_number};
 
 /// The words of a clock.
 #[derive(Debug, Drop)]
@@ -25,6 +25,8 @@ pub struct Words {
     pub read: RegisterWords,
     /// When each unit is free.
     pub units: UnitWords,
+    /// Of each kind, by its number, for how long the instructions so far take a unit, summed: each for its hold and one.
+    pub worked: [u32; KIND_COUNT],
     pub progress: Progress,
 }
 
@@ -37,6 +39,7 @@ impl Words {
             done: RegisterWords::new(),
             read: RegisterWords::new(),
             units: UnitWords::new(),
+            worked: [0; KIND_COUNT],
             progress: Progress::new(),
         }
     }
@@ -49,6 +52,7 @@ impl Words {
         self.done = RegisterWords::new();
         self.read = RegisterWords::new();
         self.units.clear_all(profile);
+        self.worked = [0; KIND_COUNT];
         self.progress = Progress::new();
     }
 
@@ -132,6 +136,7 @@ impl Words {
     pub fn take(&mut self, number: u8, row: &Row, tick: &Tick) -> Step
         requires number { (1 ≤ number) × (number ≤ BLOCK_LIMIT) }
         requires early { (tick.now.issue ≤ TOTAL_LIMIT + 3) × (tick.now.parcel ≤ TOTAL_LIMIT + 3) × (tick.now.start ≤ TOTAL_LIMIT + 3) }
+        requires worked { get_or self.old.worked (kind_number row.now.kind) 0 ≤ WORK_LIMIT }
         ensures number { result.number ≡ number }
         ensures back { after_undo self.new result ≡ self.old }
         ensures takes { Takes self.old self.new (point_of_tick number row.now tick.now) tick.now.unit }
@@ -140,12 +145,17 @@ impl Words {
         let free = self.units.words[tick.unit];
         let done = self.done.raise_results(tick.results.as_slice());
         let read = self.read.raise_all(row.reads.as_slice(), tick.start + 1);
+        let kind = kind_number(row.kind);
+        let worked = self.worked[kind];
         self.units.words[tick.unit] = tick.free;
+        self.worked[kind] = worked + (row.hold + 1);
         self.progress = self.progress.after(number, row, tick);
         Step {
             number,
             unit: tick.unit as u16,
             free,
+            kind: kind as u8,
+            worked,
             done,
             read,
             progress,
@@ -173,6 +183,7 @@ impl Words {
         self.done.put_back(step.done.as_slice());
         self.read.put_back(step.read.as_slice());
         self.units.words[step.unit as usize] = step.free;
+        self.worked[step.kind as usize] = step.worked;
         self.progress = step.progress;
     }
 }

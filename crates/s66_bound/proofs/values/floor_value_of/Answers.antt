@@ -1,4 +1,5 @@
-use Rattle.std.proofs.Common.{max, ap, ◌∙◌}
+use Rattle.std.proofs.Common.{refl, arith}
+use Rattle.s66_model.specs.Leaves.{chain}
 use Rattle.s66_time.specs.Ticking.{problem_of}
 use Rattle.s66_bound.proofs.ValueBounds.{floor-greatest}
 use Rattle.s66_bound.proofs.values.floor_value_of.Goals as goal
@@ -6,6 +7,10 @@ use Rattle.s66_bound.proofs.values.floor_value_of.Goals as goal
 pub returns : goal.returns
 returns c =
     let t = c.args.clock.now in
-    c.max-2.ensures
-    ∙ (ap (max c.chain_of.result) c.max.ensures
-    ∙ floor-greatest (problem_of t) t.numbers c.chain_of.result c.greatest_load-loads.result c.parcels_of-parcels.result c.requires.rest.begins c.requires.some c.chain_of.ensures c.greatest_load-loads.ensures c.parcels_of-parcels.ensures)
+    let b = problem_of t in
+    omega (
+      arith,
+      c.least_or_chain.ensures,
+      c.max.ensures,
+      floor-greatest b t.numbers (chain b t.numbers) c.greatest_load-loads.result c.parcels_of-parcels.result c.requires.rest.begins c.requires.some refl c.greatest_load-loads.ensures c.parcels_of-parcels.ensures,
+    )

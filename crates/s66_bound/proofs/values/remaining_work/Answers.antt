@@ -1,28 +1,33 @@
-use Rattle.std.proofs.Common.{arith, ◌∙◌}
-use Rattle.s66_dep.specs.Members.{numbers_in}
-use Rattle.s66_dep.proofs.Sets.{numbers_in-few}
+use Rattle.std.proofs.Common.{◌+◌, ◌≡◌, ap, arith, get_or, length}
+use Rattle.s66_isa.specs.Table.{numbers}
+use Rattle.s66_model.specs.LegalOrder.{sum_remaining}
+use Rattle.s66_model.proofs.Beginnings.{length-rising}
 use Rattle.s66_time.specs.Ticking.{problem_of}
-use Rattle.s66_bound.proofs.KindTables.{kind-remaining}
-use Rattle.s66_bound.proofs.RemainingSums.{is_kind, work-is, work-small}
+use Rattle.s66_bound.proofs.WorkTables.{work_at, work-remains, work-most}
 use Rattle.s66_bound.proofs.values.remaining_work.Goals as goal
 
-pub sum_of-requires : goal.sum_of-requires
-sum_of-requires c =
+-- what the block has is what is pushed and what remains
+parts : (c : goal.After-worked) →
+    get_or c.args.tables.now.works c.kind_number.result 0 ≡ c.worked.result + sum_remaining (problem_of c.args.clock.now).block c.args.clock.now.numbers (work_at (problem_of c.args.clock.now) c.args.kind)
+parts c =
     let t = c.args.clock.now in
-    let b = problem_of t in
-    let is = kind-remaining b t.numbers c.args.tables.now.kinds c.args.kind c.kind_number.result c.args.rest.now c.both.result c.requires.rest.few c.requires.rest.numbers c.requires.tables.kinds c.kind_number.ensures.value c.both.ensures in
-    omega (arith, work-small b t.numbers c.args.tables.now.work (numbers_in c.both.result) (is_kind b c.args.kind) c.requires.tables.work is (numbers_in-few c.both.result))
+    work-remains (problem_of t) t.numbers c.args.tables.now.works c.args.kind (get_or c.args.tables.now.works c.kind_number.result 0) c.worked.result c.worked.ensures.begins c.requires.works
+    (ap (λ k. get_or c.args.tables.now.works k 0) c.kind_number.ensures.value) c.worked.ensures.value
+
+pub overflow_sub-result : goal.overflow_sub-result
+overflow_sub-result c = omega (arith, parts c)
 
 pub returns-clause-value : goal.returns-clause-value
-returns-clause-value c =
-    let t = c.args.clock.now in
-    let b = problem_of t in
-    let is = kind-remaining b t.numbers c.args.tables.now.kinds c.args.kind c.kind_number.result c.args.rest.now c.both.result c.requires.rest.few c.requires.rest.numbers c.requires.tables.kinds c.kind_number.ensures.value c.both.ensures in
-    c.sum_of.ensures ∙ work-is b t.numbers c.args.tables.now.work (numbers_in c.both.result) c.args.kind c.requires.tables.work is
+returns-clause-value c = omega (arith, parts c)
 
 pub returns-clause-at_most : goal.returns-clause-at_most
 returns-clause-at_most c =
-    let t = c.args.clock.now in
-    let b = problem_of t in
-    let is = kind-remaining b t.numbers c.args.tables.now.kinds c.args.kind c.kind_number.result c.args.rest.now c.both.result c.requires.rest.few c.requires.rest.numbers c.requires.tables.kinds c.kind_number.ensures.value c.both.ensures in
-    omega (arith, c.sum_of.ensures, work-small b t.numbers c.args.tables.now.work (numbers_in c.both.result) (is_kind b c.args.kind) c.requires.tables.work is (numbers_in-few c.both.result))
+    let b = problem_of c.args.clock.now in
+    omega (
+      arith,
+      ap (λ k. get_or c.args.tables.now.works k 0) c.kind_number.ensures.value,
+      c.requires.works c.args.kind,
+      work-most b c.args.kind (numbers b.block),
+      length-rising (length b.block) 1,
+      c.worked.ensures.few,
+    )

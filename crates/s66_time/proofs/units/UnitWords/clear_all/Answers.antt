@@ -3,7 +3,7 @@ use Rattle.s66_isa.proofs.Lists.{cases_le}
 use Rattle.s66_isa.specs.Table.{copies_of, kind_number}
 use Rattle.s66_time.specs.Places.{first_unit}
 use Rattle.s66_time.proofs.Cleared.{kind-at}
-use Rattle.s66_time.proofs.ClockPoints.{kinds-few}
+use Rattle.s66_time.proofs.WorkOfKinds.{kinds-few}
 use Rattle.s66_time.proofs.units.UnitWords.clear_all.Goals as goal
 
 pub loop-kind-init : goal.loop-kind-init

@@ -1,6 +1,9 @@
 use Rattle.std.proofs.Common.{ap, ◌∙◌, ◌≡◌, length, ℕ}
 use Rattle.std.proofs.lemmas.List.{length-replicate}
 use Rattle.s66_isa.specs.Lists.{has}
+use Rattle.s66_isa.specs.Table.{kind_number}
+use Rattle.s66_isa.specs.declared.instr.TheConstants.{KIND_COUNT}
+use Rattle.s66_time.proofs.Back.{zeros}
 use Rattle.s66_time.specs.declared.limits.TheConstants.{UNIT_LIMIT}
 use Rattle.s66_time.proofs.ClockPoints.{zero-units}
 use Rattle.s66_time.proofs.words.Words.new.Goals as goal
@@ -13,6 +16,8 @@ returns c = λ p.
       read = λ r small. c.new-2.ensures r;
       units = λ kind t. zero-units p kind t c.new-3.result.words c.new-3.ensures;
       size = size;
+      kinds = length-replicate {A = ℕ} KIND_COUNT 0;
+      worked = λ kind. zeros KIND_COUNT (kind_number kind);
       refs = c.new-4.ensures.words.0;
       stores = c.new-4.ensures.words.1;
       parcel = c.new-4.ensures.words.2;

@@ -1,6 +1,10 @@
 use Rattle.s66_time.specs.ClockWords.{point_of_tick}
 use Rattle.s66_time.proofs.ClockPoints.{pushed-words}
+use Rattle.s66_time.proofs.WorkOfKinds.{worked-few}
 use Rattle.s66_time.proofs.words.Words.push.Goals as goal
+
+pub take-requires-clause-worked : goal.take-requires-clause-worked
+take-requires-clause-worked c = worked-few c.args.profile.now c.args.self.now c.args.row.now.kind c.requires.follows
 
 pub returns-clause-words : goal.returns-clause-words
 returns-clause-words c = λ s is turn.

@@ -1,8 +1,0 @@
-use Rattle.std.proofs.Common.{arith}
-use Rattle.s66_isa.specs.Table.{same_kind}
-use Rattle.s66_model.specs.Timing.{row_at}
-use Rattle.s66_bound.proofs.EntryTables.{set-filled}
-use Rattle.s66_bound.proofs.tables.numbers_of_kind.Goals as goal
-
-pub returns : goal.returns
-returns c = λ b are. set-filled b c.args.entries.now (λ n. same_kind (row_at b n).kind c.args.kind) c.loop-place.numbers c.loop-place.place are c.requires.few (omega (arith, c.loop-place-test.false, c.loop-place.auto.place-end)) (c.loop-place.invariant b are)
