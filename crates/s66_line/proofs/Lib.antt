@@ -28,3 +28,5 @@ pub mod ReadComments
 pub mod ReadBlock
 pub mod ReadAgain
 pub mod SpelledLaw
+pub mod FindingLines
+pub mod FindingsLaw

@@ -17,3 +17,4 @@ pub mod Printer
 pub mod Reader
 pub mod SourceReader
 pub mod Refusals
+pub mod Findings

@@ -27,6 +27,18 @@ pub enum Class {
     Instruction { located: bool, instr: Instr },
 }
 
+impl Class {
+    ghost use Rattle.std.specs.Prelude.{◌≡◌};
+    ghost use Rattle.s66_line.specs.Source.{is_code};
+
+    /// Whether it is an instruction or a `NO`.
+    pub(crate) fn is_code(&self) -> bool
+        ensures { result ≡ is_code self.now }
+    {
+        matches!(self, Class::Instruction { .. } | Class::Pad { .. })
+    }
+}
+
 #[tactic(auto, using(crate::proofs::Names::is_pad_short, crate::proofs::Names::is_pad_long))]
 fn is_pad_name(word: &[u8]) -> bool
     ensures { result ≡ is_pad (upper word.now) }

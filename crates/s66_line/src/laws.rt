@@ -1,14 +1,15 @@
-ghost use Rattle.std.specs.Prelude.{◌≡◌, ◌≤◌, ℕ, List, ◌∷◌, ◌++◌, Some, None, Ok, Bool, true, false, map, length, codes, [], not, ◌==◌};
+ghost use Rattle.std.specs.Prelude.{◌≡◌, ◌≤◌, ℕ, List, ◌∷◌, ◌++◌, Some, None, Ok, Bool, true, false, map, length, codes, [], not, ◌==◌, replicate};
 ghost use Rattle.std.specs.List.{filter};
 ghost use Rattle.s66_isa.specs.declared.instr.Instr.{Instr};
 ghost use Rattle.s66_isa.specs.declared.reg.Bank.{Bank};
 ghost use Rattle.s66_isa.specs.Table.{instr, instr_at};
 ghost use Rattle.s66_isa.specs.Lists.{Among, tally, every, rising};
+ghost use Rattle.s66_line.specs.Findings.{findings_text, first_refusal, told, told_from, told_lines};
 ghost use Rattle.s66_line.specs.Fields.{is_blank, is_newline, upper_byte, upper, body, lines_of, AreLines, HasFields};
 ghost use Rattle.s66_line.specs.InstructionText.{IsInstruction, IsTextOf};
 ghost use Rattle.s66_line.specs.Operand.{register_of, is_constant, constant_of, instr_of, set_form_of};
 ghost use Rattle.s66_line.specs.Spelling.{CanMean, spellings, all_codes, upper_read};
-ghost use Rattle.s66_line.specs.Source.{Line, Block, class_of, classed_lines, instructions, is_instruction, parts_of, blocks_of, source_of};
+ghost use Rattle.s66_line.specs.Source.{Line, Block, class_of, classed_lines, instructions, is_instruction, parts_of, blocks_of, source_of, unless_refused};
 ghost use Rattle.s66_line.specs.Block.{instrs_of, text_of, constants_in};
 ghost use Rattle.s66_isa.specs.declared.limits.TheConstants.{BLOCK_LIMIT};
 ghost use Rattle.s66_line.specs.BlockParts.{AreParts};
@@ -81,6 +82,37 @@ pub fn line_law()
 pub fn copied_law()
     ensures cut { (line text : List ℕ) → every (λ b. not (is_newline b)) line ≡ true → lines_of (line ++ codes "\n" ++ text) ≡ line ∷ lines_of text }
     ensures class { (after : Bool) (line : List ℕ) → class_of after (body line) ≡ class_of after line }
+{}
+
+/// A source is refused for the first refusal among what is told of it, and accepted if there is none; so it is if nothing is told.
+pub fn findings_law()
+    ensures told { (text : List ℕ) → source_of text ≡ unless_refused (first_refusal (told text)) (blocks_of (classed_lines text)) }
+    ensures nothing { (text : List ℕ) → findings_text text ≡ [] → source_of text ≡ Ok (blocks_of (classed_lines text)) }
+{}
+
+/// What is told of small sources: lines that are refused, slips, lines that count lines, long lines, and lines about the limit.
+#[tactic(auto, unfolding(crate::specs::Printed::digits))]
+pub fn findings_examples()
+    ensures refused { findings_text (codes "L SA1 *+2 LOAD\n  bx1\r\n,X2\n  BX1 X2\n,  X3,  X4\n  FOO\n,X5\n  NO\n,\n") ≡
+        codes "LINE 1 BAD OPERAND SA1 *+2\n" ++
+        codes "LINE 2 BAD OPERAND bx1\n" ++
+        codes "LINE 5 BAD OPERAND X3, X4\n" ++
+        codes "LINE 9 BAD OPERAND\n" }
+    ensures slips { findings_text (codes "  BX X1\n  bx8 X1\n  SAl\n  BX11\n  SAVE\n  SBYTE 1\n  BXAB\n  QX8\n  B\n* BX8\n  BX7 X1\n  BX\n,  BX8\n") ≡
+        codes "LINE 1 NOT AN INSTRUCTION BX\n" ++
+        codes "LINE 2 NOT AN INSTRUCTION bx8\n" ++
+        codes "LINE 3 NOT AN INSTRUCTION SAl\n" ++
+        codes "LINE 4 NOT AN INSTRUCTION BX11\n" ++
+        codes "LINE 12 NOT AN INSTRUCTION BX\n" }
+    ensures counts { findings_text (codes "  DUP 3,2\n  echo\n  IFEQ A,B,2\n  IFEQ A,B,2X\n  ifpl 10\n  IF DEF,A\n  IFC EQ,,\n  IFX A,2\n  ELSE 2\n") ≡
+        codes "LINE 1 COUNTS LINES DUP\n" ++
+        codes "LINE 2 COUNTS LINES echo\n" ++
+        codes "LINE 3 COUNTS LINES IFEQ\n" ++
+        codes "LINE 5 COUNTS LINES ifpl\n" }
+    ensures too_long { findings_text (codes "  BX1 X2" ++ replicate 193 32 ++ codes "\n,X3\n  BX8\n") ≡ codes "LINE 1 TOO LONG\n" ++ codes "LINE 3 NOT AN INSTRUCTION BX8\n" }
+    ensures as_long { findings_text (codes "  BX1 X2" ++ replicate 192 32 ++ codes "\n") ≡ [] }
+    ensures at_the_limit { told_lines (told_from 20000 false (codes "  BX1" ∷ codes "  BX2" ∷ codes "  BX3" ∷ [])) ≡ codes "LINE 20000 BAD OPERAND BX1\n" ++ codes "TOO MANY LINES\n" }
+    ensures past_the_limit { told_lines (told_from 20001 false (replicate 201 42 ∷ [])) ≡ codes "LINE 20001 TOO LONG\n" ++ codes "TOO MANY LINES\n" }
 {}
 
 /// Where a printed source is accepted when it is read again, its blocks are those of the source, each in its placed order. It

@@ -8,6 +8,7 @@ mod device;
 mod entry;
 mod error;
 mod fields;
+mod findings;
 mod instruction_text;
 mod laws;
 mod limits;
@@ -22,11 +23,13 @@ mod text;
 pub use block::Block;
 pub use device::{Failed, Feed, OverRead, OverWrite, Sink, WriteError, write_all};
 pub use error::{SourceError, line_refusal, short_text};
+pub use findings::findings_in;
 pub use instruction_text::{instruction_of_text, is_instruction};
 pub use laws::{
-    byte_examples, case_law, code_law, constant_examples, copied_law, instruction_examples,
-    line_examples, line_law, operation_law, parts_law, printed_examples, read_again_examples,
-    read_again_law, set_form_law, spelled_law, term_law, whole_law,
+    byte_examples, case_law, code_law, constant_examples, copied_law, findings_examples,
+    findings_law, instruction_examples, line_examples, line_law, operation_law, parts_law,
+    printed_examples, read_again_examples, read_again_law, set_form_law, spelled_law, term_law,
+    whole_law,
 };
 pub use limits::{FAULT_ROOM, LINE_BYTES_LIMIT, SOURCE_LINES_LIMIT, TEXT_LIMIT};
 pub use placed::Placed;

@@ -6,6 +6,7 @@ pub mod ChartText
 pub mod OrderText
 pub mod ProveText
 pub mod CheckText
+pub mod LintText
 pub mod OrderedAgain
 pub mod CheckedAnswers
 pub mod PlacedAnswers

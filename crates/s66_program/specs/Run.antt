@@ -1,5 +1,5 @@
 -- To be believed: what a command leaves of its reader and its writer.
-use Rattle.std.specs.Prelude.{◌≡◌, ◌≢◌, ◌⊎◌, ℕ, true, false, List, None, Result, Ok, Err}
+use Rattle.std.specs.Prelude.{◌≡◌, ◌≢◌, ◌⊎◌, ℕ, true, List, None, Result, Ok, Err}
 use Rattle.s66_isa.specs.declared.profile.Profile.{Profile}
 use Rattle.s66_line.specs.declared.error.SourceError.TheVariants.{OutOfMemory}
 use Rattle.s66_line.specs.Devices.{IsUntouched, Reader, WriteFails, Writer, Writes}
@@ -10,12 +10,12 @@ use Rattle.s66_program.specs.declared.outcome.Fault.{Fault}
 use Rattle.s66_program.specs.declared.outcome.Fault.TheVariants as fault
 use Rattle.s66_program.specs.declared.outcome.Status.{Status}
 use Rattle.s66_program.specs.Device.{ReadFails, ReadsAll, ReadsSome}
-use Rattle.s66_program.specs.Output.{IsOutput, IsUnder, profile_asked, profile_text, reads_source}
+use Rattle.s66_program.specs.Output.{IsOutput, IsUnder, profile_asked, profile_text, reads_documents, reads_source}
 
 -- why a command writes nothing for an input
 abbrev pub IsRefusal : Command → List ℕ → Fault → Type 0
 IsRefusal command input (fault.Source e) = (reads_source command ≡ true) × (e ≢ OutOfMemory) × (source_of input ≡ Err e)
-IsRefusal command input (fault.Document e) = (reads_source command ≡ false) × IsFault input e
+IsRefusal command input (fault.Document e) = (reads_documents command ≡ true) × IsFault input e
 IsRefusal command input fault.Profile = ⊥
 IsRefusal command input fault.Memory = Unit {0}
 IsRefusal command input fault.Read = ⊥

@@ -37,6 +37,8 @@ pub enum Command<'a> {
     },
     /// The verdict on each document.
     Check,
+    /// What is told of the lines of a source, which may be any text: each that is refused, and each that may not do what was meant.
+    Lint,
 }
 
 impl<'a> Command<'a> {
@@ -52,7 +54,7 @@ impl<'a> Command<'a> {
             | Command::Chart { profile }
             | Command::Order { profile, .. }
             | Command::Prove { profile, .. } => profile,
-            Command::Deps | Command::Check => None,
+            Command::Deps | Command::Check | Command::Lint => None,
         }
     }
 }

@@ -9,6 +9,7 @@ mod documents;
 mod fields;
 mod laws;
 mod limits;
+mod lint_text;
 mod observer;
 mod order_text;
 mod outcome;

@@ -7,6 +7,7 @@ use crate::chart_text::push_chart_lines;
 use crate::check_text::check_output;
 use crate::command::Command;
 use crate::deps_text::push_deps_lines;
+use crate::lint_text::lint_output;
 use crate::observer::Observer;
 use crate::order_text::order_output;
 use crate::outcome::{Fault, Output, Status};
@@ -130,6 +131,7 @@ pub fn output_for<R: AllocGlobal + Threads + Wait + Sync, O: Observer>(
             prove_output(rt, &read_source(alloc, input)?, profile, options, observer)?
         }
         Command::Check => check_output(alloc, input, observer)?,
+        Command::Lint => lint_output(alloc, input)?,
     };
     Ok(output)
 }

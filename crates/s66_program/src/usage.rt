@@ -3,7 +3,7 @@ ghost use Rattle.clap.specs.Words.{Text, app_of, found_of, kind_of, one_text};
 ghost use Rattle.s66_ledger.specs.declared.limits.TheConstants.{BUDGET_LIMIT};
 ghost use Rattle.s66_pool.specs.declared.limits.TheConstants.{WORKERS_LIMIT};
 ghost use Rattle.s66_program.specs.declared.limits.TheConstants.{NODES_DEFAULT, WORKERS_DEFAULT};
-ghost use Rattle.s66_program.specs.Usage.{Asks, IsArgumentOf, IsCommandOf, IsUsageOf, Refuses, chart_app, check_app, deps_app, nodes_rule, order_app, profile_rule, prove_app, s66_app, search_app, time_app, trace_rule, workers_rule};
+ghost use Rattle.s66_program.specs.Usage.{Asks, IsArgumentOf, IsCommandOf, IsUsageOf, Refuses, chart_app, check_app, deps_app, lint_app, nodes_rule, order_app, profile_rule, prove_app, s66_app, search_app, time_app, trace_rule, workers_rule};
 ghost use Rattle.s66_program.specs.OptionNumbers.{IsNumber, IsReadAs};
 ghost use Rattle.s66_program.specs.declared.usage.Usage.TheVariants.{OutOfMemory};
 
@@ -108,6 +108,11 @@ const CHECK_ENDING: &str = help_ending!(
     "the documents were refused",
     ", 5 some verdict is NO"
 );
+
+const LINT_ENDING: &str = "\
+Example: s66 lint < SOURCE
+
+Status: 0 done, 2 usage, 4 out of memory, 5 some line is told, 6 a read or write failed";
 
 const PROFILE_HELP: &str = "\
 The timing profile, a JSON object; what it does not name is standard, and {} is the standard profile.
@@ -253,6 +258,15 @@ fn check_command<'a>(alloc: Global) -> Command<'a>
         .after_help(CHECK_ENDING)
 }
 
+/// The subcommand `lint`.
+fn lint_command<'a>(alloc: Global) -> Command<'a>
+    ensures { IsCommandOf lint_app result }
+{
+    Command::new(alloc, "lint")
+        .about("Tells each line of a source that is refused, or that may not do what was meant")
+        .after_help(LINT_ENDING)
+}
+
 /// The command line of the program, which usage and help call s66 whatever the program's file is named.
 fn program<'a>(alloc: Global) -> Result<Command<'a>, AllocError>
     ensures { IfOk result (λ c. app_of c ≡ s66_app) }
@@ -269,7 +283,8 @@ fn program<'a>(alloc: Global) -> Result<Command<'a>, AllocError>
         .subcommand(chart_command(alloc)?)?
         .subcommand(order_command(alloc)?)?
         .subcommand(prove_command(alloc)?)?
-        .subcommand(check_command(alloc))
+        .subcommand(check_command(alloc))?
+        .subcommand(lint_command(alloc))
 }
 
 /// How many workers search, as a subcommand that searches was told.
@@ -316,6 +331,7 @@ pub fn command_of<'a, S: AsStr>(alloc: Global, words: &'a [S]) -> Result<Asked<'
             profile: prove.get_str("profile"),
         }),
         Some(("check", _)) => Ok(Asked::Check),
+        Some(("lint", _)) => Ok(Asked::Lint),
         _ => unreachable!(),
     }
 }

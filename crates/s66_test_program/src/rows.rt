@@ -1,4 +1,4 @@
-use crate::running::{ORDER, ORDER_TRACE, TIME, check, run};
+use crate::running::{LINT, ORDER, ORDER_TRACE, TIME, check, run};
 use std::process::Abort;
 use std::sync::Wait;
 use std::test::Fail;
@@ -6,12 +6,13 @@ use std::thread::Threads;
 
 mod chart;
 mod deps;
+mod lint;
 mod order;
 mod profile;
 mod time;
 mod words;
 
-/// A run: name, words, input, status, and the text that is written if the status is 0 or 7, and else goes to standard error.
+/// A run: name, words, input, status, and the text that is written if the status is 0, 5 or 7, and else goes to standard error.
 pub(crate) type Row = (
     &'static str,
     &'static [&'static str],
@@ -90,8 +91,18 @@ const REPEATED: &[(&str, &[&str], &str, usize, u8, &str)] = &[
         "BLOCK 1 LINE 1 COUNT 128 PARCELS 128 NO 0 TIME 512\nBLOCK 2 LINE 129 COUNT 1 PARCELS 1 NO 0 TIME 4\n",
     ),
     ("201 bytes", TIME, "*", 201, 3, "LINE 1 TOO LONG\n"),
+    ("201 bytes, told", LINT, "*", 201, 5, "LINE 1 TOO LONG\n"),
     ("20,000 lines", TIME, "*\n", 20_000, 0, ""),
     ("20,001 lines", TIME, "*\n", 20_001, 3, "TOO MANY LINES\n"),
+    ("20,000 lines, told", LINT, "*\n", 20_000, 0, ""),
+    (
+        "20,001 lines, told",
+        LINT,
+        "*\n",
+        20_001,
+        5,
+        "TOO MANY LINES\n",
+    ),
     (
         "17,039,360 lines",
         TIME,
@@ -117,6 +128,7 @@ fn runs_rows(rt: HostRuntime) {
     check_rows(&rt, deps::ROWS);
     check_rows(&rt, chart::ROWS);
     check_rows(&rt, order::ROWS);
+    check_rows(&rt, lint::ROWS);
     check_rows(&rt, profile::ROWS);
     check_rows(&rt, words::ROWS);
 }

@@ -17,6 +17,8 @@ pub(crate) const CHART: &[&str] = &["s66", "chart"];
 
 pub(crate) const CHECK: &[&str] = &["s66", "check"];
 
+pub(crate) const LINT: &[&str] = &["s66", "lint"];
+
 pub(crate) const ORDER: &[&str] = &["s66", "order", "--workers", "1"];
 
 pub(crate) const ORDER_TRACE: &[&str] = &["s66", "order", "--workers", "1", "--trace"];
@@ -57,7 +59,7 @@ pub(crate) fn run<R: AllocGlobal + Threads + Wait + Sync>(
     run_observed(rt, words, &mut OverRead::new(input), &mut Silent)
 }
 
-/// Checks the status, and the text that is written if it is 0 or 7, and else goes to standard error.
+/// Checks the status, and the text that is written if it is 0, 5 or 7, and else goes to standard error.
 pub(crate) fn check<R: AllocGlobal + Abort + Threads + Wait + Sync>(
     rt: &R,
     name: &str,
@@ -68,7 +70,7 @@ pub(crate) fn check<R: AllocGlobal + Abort + Threads + Wait + Sync>(
 ) {
     let ran = run(rt, words, input);
     let (wanted, empty) = match status {
-        0 | 7 => (&ran.written, &ran.told),
+        0 | 5 | 7 => (&ran.written, &ran.told),
         _ => (&ran.told, &ran.written),
     };
     assert!(rt; ran.status == status, "{name}: {}", ran.status);

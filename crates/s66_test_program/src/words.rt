@@ -29,6 +29,7 @@ const NO_COMMANDS: &[(&[&str], u8)] = &[
     (&["s66", "prove", "--workers", "17"], 2),
     (&["s66", "prove", "--trace"], 2),
     (&["s66", "check", "--nodes", "5"], 2),
+    (&["s66", "lint", "--trace"], 2),
     (&["s66", "help"], 0),
     (&["s66", "--help"], 0),
     (&["s66", "time", "--help"], 0),
@@ -37,6 +38,7 @@ const NO_COMMANDS: &[(&[&str], u8)] = &[
     (&["s66", "order", "--help"], 0),
     (&["s66", "prove", "--help"], 0),
     (&["s66", "check", "--help"], 0),
+    (&["s66", "lint", "--help"], 0),
 ];
 
 /// Words, and the command that they give.
@@ -63,6 +65,7 @@ const COMMANDS: &[(&[&str], Command)] = &[
         },
     ),
     (&["s66", "deps"], Command::Deps),
+    (&["s66", "lint"], Command::Lint),
     (&["s66", "chart"], Command::Chart { profile: None }),
     (
         &["s66", "chart", "--profile="],

@@ -6,4 +6,5 @@ mod operation;
 mod set;
 mod terms;
 
-pub(crate) use operation::{decode, operation_of};
+pub(crate) use computing::is_octal_digit;
+pub(crate) use operation::{decode, operation_of, syntax_of};

@@ -40,7 +40,7 @@ pub(crate) enum Syntax {
 }
 
 /// The syntax of an operation by its two letters.
-fn syntax_of(first: u8, second: u8) -> Option<Syntax>
+pub(crate) fn syntax_of(first: u8, second: u8) -> Option<Syntax>
     ensures { result ≡ syntax_of first second }
 {
     match (first, second) {

@@ -19,7 +19,8 @@ unreachable-requires g c =
             | inr (inr (inr (inl e))) ↦ search rules
             | inr (inr (inr (inr (inl e)))) ↦ search rules
             | inr (inr (inr (inr (inr (inl e))))) ↦ search rules
-            | inr (inr (inr (inr (inr (inr none))))) ↦ none
+            | inr (inr (inr (inr (inr (inr (inl e)))))) ↦ search rules
+            | inr (inr (inr (inr (inr (inr (inr none)))))) ↦ none
           ]
       | in_default-via-in_default w ↦ name-known m words _ is (ap (option_map (λ p. p.0.now)) (sym w.in_default.is) ∙ c.subcommand.ensures.name)
     ]
@@ -95,3 +96,10 @@ returns-in-Some-check-default-clause-ok g c =
     let m = c.in-Ok.matches in
     let is = taken m (app_of c.in_ok-program.field-0) words c.in_ok-program.ensures c.in-Ok.ensures.kinds c.in-Ok.ensures.matches in
     asks-for m words c.in-Some-check-default.field-0-0.now (codes "check") is c.in-Some-check-default.ensures.name c.in-Some-check-default.is-check
+
+pub returns-in-Some-lint-default-clause-ok : goal.returns-in-Some-lint-default-clause-ok
+returns-in-Some-lint-default-clause-ok g c =
+    let words = map g.S.AsStr.text c.args.words.now in
+    let m = c.in-Ok.matches in
+    let is = taken m (app_of c.in_ok-program.field-0) words c.in_ok-program.ensures c.in-Ok.ensures.kinds c.in-Ok.ensures.matches in
+    asks-for m words c.in-Some-lint-default.field-0-0.now (codes "lint") is c.in-Some-lint-default.ensures.name c.in-Some-lint-default.is-lint

@@ -1,0 +1,168 @@
+-- To be believed: what is told of the lines of a source: each that is refused, and each that may not do what was meant.
+use Rattle.std.specs.Prelude.{ℕ, suc, Bool, true, false, not, ◌&&◌, ◌||◌, ◌==◌, if◌then◌else◌, List, [], ◌∷◌, ◌++◌, Option, None, Some, codes, decimal, length, nat_lt, nat_le, is_some, bytes_eq}
+use Rattle.s66_isa.specs.Lists.{every, some_of}
+use Rattle.s66_line.specs.Fields.{lines_of, upper, body, continues, operation, operand}
+use Rattle.s66_line.specs.Operand.{is_octal, syntax_of}
+use Rattle.s66_line.specs.Refusals.{refusal_line}
+use Rattle.s66_line.specs.Source.{class_of, is_code, or_else}
+use Rattle.s66_line.specs.declared.class.Class.{Class}
+use Rattle.s66_line.specs.declared.class.Class.TheVariants.{Other, Refused}
+use Rattle.s66_line.specs.declared.error.SourceError.{SourceError}
+use Rattle.s66_line.specs.declared.error.SourceError.TheVariants as error
+use Rattle.s66_line.specs.declared.findings.Finding.{Finding}
+use Rattle.s66_line.specs.declared.findings.Finding.TheVariants.{BadOperand, NotAnInstruction, CountsLines}
+use Rattle.s66_line.specs.declared.limits.TheConstants.{LINE_BYTES_LIMIT, SOURCE_LINES_LIMIT}
+
+-- OPERATIONS, in upper case
+
+abbrev pub is_decimal : ℕ → Bool
+is_decimal b = nat_le 48 b && nat_le b 57
+
+-- nothing, one byte that is no digit 0 to 7, or two digits or more and nothing else
+abbrev pub is_no_digit : List ℕ → Bool
+is_no_digit [] = true
+is_no_digit (b ∷ []) = not (is_octal b)
+is_no_digit (b ∷ c ∷ bytes) = every is_decimal (b ∷ c ∷ bytes)
+
+-- two letters of the instruction table, and then no digit
+abbrev pub is_slip : List ℕ → Bool
+is_slip (p ∷ q ∷ rest) = is_some (syntax_of p q) && is_no_digit rest
+is_slip word = false
+
+-- those that count the lines after them
+abbrev pub repetitions : List (List ℕ)
+repetitions = codes "DUP" ∷ codes "ECHO" ∷ []
+
+-- those that do so if their operand ends in a number of lines
+abbrev pub conditions : List (List ℕ)
+conditions =
+    codes "IF"
+    ∷ codes "IFEQ"
+    ∷ codes "IFNE"
+    ∷ codes "IFGT"
+    ∷ codes "IFGE"
+    ∷ codes "IFLT"
+    ∷ codes "IFLE"
+    ∷ codes "IFC"
+    ∷ codes "IFCP"
+    ∷ codes "IFCP6"
+    ∷ codes "IFCP7"
+    ∷ codes "IFPP"
+    ∷ codes "IFPP6"
+    ∷ codes "IFPP7"
+    ∷ codes "IFPL"
+    ∷ codes "IFMI"
+    ∷ []
+
+abbrev pub is_one_of : List (List ℕ) → List ℕ → Bool
+is_one_of names word = some_of (λ name. bytes_eq word name) names
+
+abbrev pub is_comma : ℕ → Bool
+is_comma b = b == 44
+
+-- of an operand, what stands after its last comma
+abbrev pub last_part : List ℕ → List ℕ
+last_part [] = []
+last_part (b ∷ bytes) = if some_of is_comma (b ∷ bytes) then last_part bytes else b ∷ bytes
+
+-- one digit or more, and nothing else
+abbrev pub is_numeral : List ℕ → Bool
+is_numeral [] = false
+is_numeral (b ∷ bytes) = every is_decimal (b ∷ bytes)
+
+abbrev pub counts_lines : List ℕ → List ℕ → Bool
+counts_lines operation operand = is_one_of repetitions operation || (is_one_of conditions operation && is_numeral (last_part operand))
+
+-- FINDINGS
+
+-- of an Other line, by its operation in upper case and its operand
+abbrev pub finding_by_fields : List ℕ → List ℕ → Option Finding
+finding_by_fields operation operand =
+    if is_slip operation then Some NotAnInstruction else (if counts_lines operation operand then Some CountsLines else None)
+
+-- of a line by its class; what continues a line has no operation of its own
+abbrev pub finding_of : Class → List ℕ → Option Finding
+finding_of Refused line = Some BadOperand
+finding_of Other line = if continues line then None else finding_by_fields (upper (operation line)) (operand line)
+finding_of class line = None
+
+-- WHAT IS TOLD, a line of text for each
+
+pub data Told : Type 0 where
+  TooLong : ℕ → Told
+  TooManyLines : Told
+  -- what was found in the line of this number, its operation and its operand
+  Found : ℕ → Finding → List ℕ → List ℕ → Told
+
+abbrev pub told_of : ℕ → Option Finding → List ℕ → List Told
+told_of number None line = []
+told_of number (Some finding) line = Found number finding (operation line) (operand line) ∷ []
+
+abbrev pub is_too_long : List ℕ → Bool
+is_too_long line = nat_lt LINE_BYTES_LIMIT (length line)
+
+-- of the line of this number; after: the line directly before is code
+abbrev pub told_at : ℕ → Bool → List ℕ → List Told
+told_at number after line =
+    if is_too_long line then TooLong number ∷ [] else told_of number (finding_of (class_of after line) (body line)) (body line)
+
+-- a comma in column 1 of the next line would continue it, which isn't said of a line that is too long
+abbrev pub may_continue : Bool → List ℕ → Bool
+may_continue after line = if is_too_long line then false else is_code (class_of after line)
+
+-- of the first line past the limit
+abbrev pub told_past : ℕ → List ℕ → List Told
+told_past number line = if is_too_long line then TooLong number ∷ TooManyLines ∷ [] else TooManyLines ∷ []
+
+abbrev pub told_from : ℕ → Bool → List (List ℕ) → List Told
+told_from number after [] = []
+told_from number after (line ∷ lines) =
+    if nat_lt SOURCE_LINES_LIMIT number then told_past number line else told_at number after line ++ told_from (suc number) (may_continue after line) lines
+
+-- all that is told of a source
+abbrev pub told : List ℕ → List Told
+told text = told_from 1 false (lines_of text)
+
+-- THE TEXT
+
+abbrev pub after_blank : List ℕ → List ℕ
+after_blank [] = []
+after_blank (b ∷ word) = 32 ∷ b ∷ word
+
+abbrev pub words_of : Finding → List ℕ
+words_of BadOperand = codes " BAD OPERAND"
+words_of NotAnInstruction = codes " NOT AN INSTRUCTION"
+words_of CountsLines = codes " COUNTS LINES"
+
+-- the operand is told where it is bad
+abbrev pub told_operand : Finding → List ℕ → List ℕ
+told_operand BadOperand operand = operand
+told_operand finding operand = []
+
+abbrev pub finding_text : Finding → List ℕ → List ℕ → List ℕ
+finding_text finding operation operand = words_of finding ++ after_blank operation ++ after_blank (told_operand finding operand)
+
+abbrev pub told_line : Told → List ℕ
+told_line (TooLong number) = refusal_line (error.LineTooLong number) ++ codes "\n"
+told_line TooManyLines = refusal_line error.TooLarge ++ codes "\n"
+told_line (Found number finding operation operand) = codes "LINE " ++ decimal number ++ finding_text finding operation operand ++ codes "\n"
+
+abbrev pub told_lines : List Told → List ℕ
+told_lines [] = []
+told_lines (t ∷ ts) = told_line t ++ told_lines ts
+
+-- the findings in a source
+abbrev pub findings_text : List ℕ → List ℕ
+findings_text text = told_lines (told text)
+
+-- WHAT IS REFUSED of what is told
+
+abbrev pub refusal_told : Told → Option SourceError
+refusal_told (TooLong number) = Some (error.LineTooLong number)
+refusal_told TooManyLines = Some error.TooLarge
+refusal_told (Found number BadOperand operation operand) = Some (error.BadOperand number)
+refusal_told (Found number finding operation operand) = None
+
+abbrev pub first_refusal : List Told → Option SourceError
+first_refusal [] = None
+first_refusal (t ∷ ts) = or_else (refusal_told t) (first_refusal ts)

@@ -1,0 +1,14 @@
+-- To be believed: what `lint` writes for a source, which may be any text, and how it ends.
+use Rattle.std.specs.Prelude.{ℕ, ◌≡◌, List, [], ◌∷◌}
+use Rattle.s66_line.specs.Findings.{findings_text}
+use Rattle.s66_program.specs.declared.outcome.Status.{Status}
+use Rattle.s66_program.specs.declared.outcome.Status.TheVariants.{Done, Denied}
+
+-- done where nothing is told
+abbrev pub status_of_told : List ℕ → Status
+status_of_told [] = Done
+status_of_told (b ∷ text) = Denied
+
+-- what is told of the source's lines, and its status
+abbrev pub IsLintOutput : (input text : List ℕ) → Status → Type 0
+IsLintOutput input text status = (text ≡ findings_text input) × (status ≡ status_of_told text)
