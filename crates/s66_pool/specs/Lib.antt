@@ -4,3 +4,4 @@ pub mod SeatViews
 pub mod Locked
 pub mod LockTokens
 pub mod Workers
+pub mod Victims
