@@ -11,3 +11,4 @@ pub mod Dealing
 pub mod Present
 pub mod Turns
 pub mod Collecting
+pub mod Members
