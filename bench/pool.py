@@ -3,8 +3,8 @@
 
     bench/pool.py [--rounds N] [PROGRAM]    splits a second of `s66 order`, by 1, 2 and 4 workers, and what they are measured by
 
-PROGRAM is the built program; without it, the one that `./s66` leaves when it has built it. The blocks are random ones of 24 and
-of 40 instructions, each of which uses up 1,000,000 splits, and that is checked in each run. All that a process does is counted,
+PROGRAM is the built program; without it, the one that `./s66` leaves when it has built it. The blocks are random ones of 24,
+of 40 and of 64 instructions, each of which uses up 1,000,000 splits, and that is checked in each run. All that a process does is counted,
 from its start to its end.
 
 The pace of a machine may change by a factor of two from one second to the next, as its clock does and what else runs on its
@@ -40,7 +40,7 @@ from search import block_of, build
 from speed import ENDED, PROGRAM
 
 BUDGET = 1_000_000
-SEEDS = {24: [2, 5, 6], 40: [2, 3, 4]}  # of blocks that use up the budget
+SEEDS = {24: [2, 5, 6], 40: [2, 3, 4], 64: [2, 3, 4]}  # of blocks that use up the budget
 SHORT_BUDGET = 300_000  # of the searches that tell what a worker costs
 PAIRS = 40  # of these searches, on each block
 
@@ -139,7 +139,7 @@ def measure_cost(length, texts, benches):
 
 def main():
     parser = argparse.ArgumentParser(description="Measures how much faster several workers search than one.")
-    parser.add_argument("--rounds", type=int, default=8, help="runs of each search on each block, 8 if left out")
+    parser.add_argument("--rounds", type=int, default=7, help="runs of each search on each block, 7 if left out")
     parser.add_argument("program", nargs="?", default=PROGRAM)
     asked = parser.parse_args()
     benches = build("s66_bench", ["tree", "1"])

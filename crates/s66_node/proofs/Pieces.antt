@@ -12,13 +12,13 @@ use Rattle.s66_model.proofs.TreesHold.{tree-weaken, seen-holds, seen-splits, see
 use Rattle.s66_node.specs.declared.grow.Grown.{Grown}
 use Rattle.s66_node.specs.SeenKnots.{seen}
 use Rattle.s66_node.specs.Pieces.{PieceOf, told_tree, tree_of, IsBestTimed, IsKept}
-use Rattle.s66_node.specs.Walking.{IsDue, IsTold, IsLeast, IsGrown}
+use Rattle.s66_node.specs.Walking.{Span, IsDue, IsTold, IsLeast, IsGrown}
 use Rattle.s66_node.proofs.Growing.{tree-holds, tree-splits}
 use Rattle.s66_node.proofs.Tips.{told-true, told-tip, holds-tip}
 
-module _ (b : Problem) (best allowance : ℕ) (root : List ℕ) (grown : Grown) (tree : Tree Told) (h : IsGrown b best allowance root grown tree) where
+module _ (b : Problem) (best : Span) (allowance : ℕ) (root : List ℕ) (grown : Grown) (tree : Tree Told) (h : IsGrown b best allowance root grown tree) where
   grown-told : TreeHolds b.block (IsTold b best) root tree
-  grown-told = tree-holds b.block (IsDue b best) (IsTold b best) (λ at due. due.0) root tree h.grows
+  grown-told = tree-holds b.block (IsDue b best.high) (IsTold b best) (λ at due. due.0) root tree h.grows
 
   grown-match : TreeMatches tree
   grown-match = tree-match b.block (IsTold b best) tree root grown-told
@@ -32,12 +32,12 @@ module _ (b : Problem) (best allowance : ℕ) (root : List ℕ) (grown : Grown) 
   pub grown-least : IsLeast b (whole_orders root (tree_told b root tree)) grown.least
   grown-least = subst (λ xs. IsLeast b xs grown.least) (sym (seen-values (tip_of b) whole_at tree root)) h.least
 
-  expansion : IsExpansion b best best allowance root (tree_told b root tree)
+  expansion : IsExpansion b best.high best.low allowance root (tree_told b root tree)
   expansion =
       record {
-        piece = seen-holds (tip_of b) b.block (TipHoldsWhile b best best) tree root (tree-weaken b.block (IsTold b best) (λ at told. TipHoldsWhile b best best at (tip_of b at told)) (told-tip b best) tree root grown-told);
+        piece = seen-holds (tip_of b) b.block (TipHoldsWhile b best.high best.low) tree root (tree-weaken b.block (IsTold b best) (λ at told. TipHoldsWhile b best.high best.low at (tip_of b at told)) (told-tip b best) tree root grown-told);
         within = omega (arith, grown-splits, h.within);
-        below = λ at among. (tree-splits b.block (IsDue b best) (IsTold b best) root tree h.grows at (subst (Among at) (seen-split_at (tip_of b) tree root) among)).1;
+        below = λ at among. (tree-splits b.block (IsDue b best.high) (IsTold b best) root tree h.grows at (subst (Among at) (seen-split_at (tip_of b) tree root) among)).1;
         due = λ some part lt. omega (arith, grown-splits, h.due some (part, lt));
       }
 
@@ -49,8 +49,8 @@ module _ (b : Problem) (best allowance : ℕ) (root : List ℕ) (grown : Grown) 
     pub piece-tree : tree_of p ≡ tree_told b root tree
     piece-tree = rw (own, over, piece-told) refl
 
-    pub piece-expansion : IsExpansion b best best allowance root (tree_of p)
-    piece-expansion = subst (IsExpansion b best best allowance root) (sym piece-tree) expansion
+    pub piece-expansion : IsExpansion b best.high best.low allowance root (tree_of p)
+    piece-expansion = subst (IsExpansion b best.high best.low allowance root) (sym piece-tree) expansion
 
     pub piece-kept : IsBestTimed b root (tree_told b root tree) p.timed → IsKept p grown.splits
     piece-kept timed =

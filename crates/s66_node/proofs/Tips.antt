@@ -1,5 +1,5 @@
 -- What is told of a prefix that isn't split, by its floor.
-use Rattle.std.proofs.Common.{ℕ, ◌≡◌, ◌≢◌, Bool, true, false, nat_lt, ◌&&◌, List, [], ◌∷◌, ◌++◌, length, refl, sym, ap, arith, inl, inr, ◌∙◌, subst, Option}
+use Rattle.std.proofs.Common.{ℕ, ◌≤◌, ◌≡◌, ◌≢◌, Bool, true, false, nat_lt, ◌&&◌, List, [], ◌∷◌, ◌++◌, length, refl, sym, ap, arith, inl, inr, ◌∙◌, subst, Option, None, Some, IfSome}
 use Rattle.std.proofs.lemmas.Bool.{eq-eqb, cases_Bool}
 use Rattle.std.proofs.lemmas.List.{append-nil}
 use Rattle.s66_isa.specs.Lists.{every}
@@ -16,7 +16,7 @@ use Rattle.s66_node.specs.declared.knot.Knot.TheVariants as line
 use Rattle.s66_node.specs.declared.whole_order.WholeOrder.{WholeOrder}
 use Rattle.s66_model.specs.Told.{Told, ToldLeaf, ToldFrontier, ToldHolds, tip_of}
 use Rattle.s66_node.specs.SeenKnots.{seen_knot}
-use Rattle.s66_node.specs.Walking.{IsTold, IsLeast, whole_told}
+use Rattle.s66_node.specs.Walking.{Span, span, IsTold, IsLeast, whole_told}
 
 pub complete-whole : (b : Problem) (at : List ℕ) → IsComplete b.block at → floor b at ≡ Whole
 complete-whole b at h = rw (eq-eqb (length at) (length b.block) h, floor) refl
@@ -54,14 +54,14 @@ part-none b at ne =
 
 -- WHOLE ORDERS that are told of
 
-pub told-none : (b : Problem) (best : ℕ) (at : List ℕ) (told : Told) → IsTold b best at told → ((v : ℕ) → told ≡ ToldLeaf v → length at ≢ length b.block) → whole_told b at told ≡ []
+pub told-none : (b : Problem) (best : Span) (at : List ℕ) (told : Told) → IsTold b best at told → ((v : ℕ) → told ≡ ToldLeaf v → length at ≢ length b.block) → whole_told b at told ≡ []
 told-none b best at (ToldLeaf v) h part = part-none b at (part v refl)
 told-none b best at (ToldFrontier v) h part = refl
 
 pub told-order : (b : Problem) (at : List ℕ) (v : ℕ) → IsComplete b.block at → whole_told b at (ToldLeaf v) ≡ at ∷ []
 told-order b at v h = ap (λ leaf. whole_at at (Carries leaf)) (complete-whole b at h)
 
-pub told-total : (b : Problem) (best : ℕ) (at : List ℕ) (v : ℕ) → IsComplete b.block at → IsTold b best at (ToldLeaf v) → v ≡ total_of b at
+pub told-total : (b : Problem) (best : Span) (at : List ℕ) (v : ℕ) → IsComplete b.block at → IsTold b best at (ToldLeaf v) → v ≡ total_of b at
 told-total b best at v h told = told.0 ∙ ap (value b at) (complete-whole b at h)
 
 pub told-legal : (b : Problem) (at : List ℕ) → IsBeginning b.block at → IsComplete b.block at → IsLegal b.block at
@@ -75,14 +75,26 @@ leaf-told knot v told is seen = let e : seen_knot (line.Leaf v) ≡ AtTip told =
 
 -- WHAT IS TOLD IS TRUE
 
-pub told-true : (b : Problem) (best : ℕ) (at : List ℕ) (told : Told) → IsTold b best at told → ToldHolds b at told
+pub told-true : (b : Problem) (best : Span) (at : List ℕ) (told : Told) → IsTold b best at told → ToldHolds b at told
 told-true b best at (ToldLeaf v) h = h.0
 told-true b best at (ToldFrontier v) h = (h.0, h.1.0)
 
-pub told-tip : (b : Problem) (best : ℕ) (at : List ℕ) (told : Told) → IsTold b best at told → TipHoldsWhile b best best at (tip_of b at told)
+pub told-tip : (b : Problem) (best : Span) (at : List ℕ) (told : Told) → IsTold b best at told → TipHoldsWhile b best.high best.low at (tip_of b at told)
 told-tip b best at (ToldLeaf v) h = (refl, elim h.1 [ inl whole ↦ inl whole | inr le ↦ inr (omega (arith, le, h.0)) ])
 told-tip b best at (ToldFrontier v) h = h.1
 
 pub holds-tip : (b : Problem) (at : List ℕ) (told : Told) → ToldHolds b at told → TipHolds b at (tip_of b at told)
 holds-tip b at (ToldLeaf v) h = refl
 holds-tip b at (ToldFrontier v) h = h.1
+
+-- WHILE THE BEST TIME FALLS
+
+-- what is told is told of wider best times
+pub told-wider : (b : Problem) (high low more less : ℕ) (at : List ℕ) (told : Told) → high ≤ more → less ≤ low → IsTold b (span high low) at told → IsTold b (span more less) at told
+told-wider b high low more less at (ToldLeaf v) up down h = (h.0, elim h.1 [ inl whole ↦ inl whole | inr le ↦ inr (omega arith) ])
+told-wider b high low more less at (ToldFrontier v) up down h = (h.0, (h.1.0, omega (arith, h.1.1)))
+
+-- what is told by the low one is told of both
+pub told-since : (b : Problem) (high low : ℕ) (at : List ℕ) (knot : Option code.Knot) → low ≤ high → IfSome knot (λ k. (told : Told) × (seen_knot k ≡ AtTip told) × IsTold b (span low low) at told) → IfSome knot (λ k. (told : Told) × (seen_knot k ≡ AtTip told) × IsTold b (span high low) at told)
+told-since b high low at None le h = h
+told-since b high low at (Some k) le (told, line, holds) = (told, line, told-wider b low low high low at told le (omega arith) holds)

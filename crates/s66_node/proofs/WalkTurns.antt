@@ -18,7 +18,7 @@ use Rattle.s66_node.specs.Walked.{front}
 use Rattle.s66_node.specs.Growing.{TreeGrows}
 use Rattle.s66_model.specs.Told.{Told}
 use Rattle.s66_node.specs.SeenKnots.{seen, seen_knot}
-use Rattle.s66_node.specs.Walking.{AreOpen, IsDue, IsTold, IsLeast, IsWalk, GrowsFor, lefts, whole_told}
+use Rattle.s66_node.specs.Walking.{Span, AreOpen, IsDue, IsTold, IsLeast, IsWalk, GrowsFor, lefts, whole_told}
 use Rattle.s66_node.proofs.Growing.{front-push, grows-root, grows-up, grows-tip, grows-split, grows-done, tree-holds, splits-count}
 
 -- one line more
@@ -44,15 +44,15 @@ length-front : (xs : List ℕ) → length xs ≤ length (front xs) + 1
 length-front xs = omega (arith, length-take (length xs - 1) xs)
 
 -- with no frame it stands nowhere
-nowhere : (b : Problem) (best : ℕ) (root at : List ℕ) (knots : List (Knot Told)) (found cuts : List (List ℕ)) → GrowsFor b best root (front at) [] knots found cuts → GrowsFor b best root at [] knots found cuts
+nowhere : (b : Problem) (best : Span) (root at : List ℕ) (knots : List (Knot Told)) (found cuts : List (List ℕ)) → GrowsFor b best root (front at) [] knots found cuts → GrowsFor b best root at [] knots found cuts
 nowhere b best root at knots found cuts g [] h = g [] tt
 nowhere b best root at knots found cuts g (kids ∷ rests) h = absurd h
 
-module _ (b : Problem) (best allowance : ℕ) (root : List ℕ) where
-  pub walk-root : (frame : Set) → 1 ≤ allowance → IsBeginning b.block root → IsDue b best root → numbers_in frame ≡ ready b.block root → IsWalk b best allowance root root (frame ∷ []) (AtSplit (ready b.block root) ∷ []) 1 None
+module _ (b : Problem) (best : Span) (allowance : ℕ) (root : List ℕ) where
+  pub walk-root : (frame : Set) → 1 ≤ allowance → IsBeginning b.block root → IsDue b best.high root → numbers_in frame ≡ ready b.block root → IsWalk b best allowance root root (frame ∷ []) (AtSplit (ready b.block root) ∷ []) 1 None
   walk-root frame le begins due is =
       let stand : AreOpen b.block root (ready b.block root ∷ []) = (begins, (λ n among. ready-among b.block root n among), tt) in
-      let grown = grows-root b.block (IsDue b best) (IsTold b best) (whole_told b) root due in
+      let grown = grows-root b.block (IsDue b best.high) (IsTold b best) (whole_told b) root due in
       record {
         standing = subst (λ ns. AreOpen b.block root (ns ∷ [])) (sym is) stand;
         depth = omega arith;
@@ -98,7 +98,7 @@ module _ (b : Problem) (best allowance : ℕ) (root : List ℕ) where
         let back_is : back ≡ at = up ∙ (ap front next ∙ front-push at n) in
         let holds2 : IsTold b best child told = subst (λ x. IsTold b best x told) next (subst (λ (q : Problem). IsTold q best now told) own holds) in
         let (found, cuts, g, count_is, l) = walk.grows in
-        let g2 = grows-tip b.block (IsDue b best) (IsTold b best) (whole_told b) root at n (numbers_in f2) (lefts fs) knots found cuts told holds2 (was n f2 is found cuts g) in
+        let g2 = grows-tip b.block (IsDue b best.high) (IsTold b best) (whole_told b) root at n (numbers_in f2) (lefts fs) knots found cuts told holds2 (was n f2 is found cuts g) in
         let l1 : IsLeast b (found ++ whole_told b now told) least2 = subst (λ (q : Problem). IsLeast q found least → IsLeast q (found ++ whole_told q now told) least2) own (lower found) l in
         let l2 = subst (λ x. IsLeast b (found ++ whole_told b x told) least2) next l1 in
         let g3 = subst (λ x. GrowsFor b best root at x (knots ++ AtTip told ∷ []) (found ++ whole_told b child told) cuts) (sym (lefts-push fs f2)) g2 in
@@ -112,13 +112,13 @@ module _ (b : Problem) (best allowance : ℕ) (root : List ℕ) where
         })
 
     -- a child that is split
-    pub walk-split : (n : ℕ) (f2 f3 : Set) (mid new : List Set) (more : List (Knot Told)) (p : Problem) (now : List ℕ) → numbers_in f ≡ n ∷ numbers_in f2 → mid ≡ fs ++ f2 ∷ [] → new ≡ mid ++ f3 ∷ [] → p ≡ b → now ≡ at ++ n ∷ [] → IsDue p best now → numbers_in f3 ≡ ready p.block now → more ≡ knots ++ AtSplit (numbers_in f3) ∷ [] → count < allowance → IsWalk b best allowance root now new more (count + 1) least
+    pub walk-split : (n : ℕ) (f2 f3 : Set) (mid new : List Set) (more : List (Knot Told)) (p : Problem) (now : List ℕ) → numbers_in f ≡ n ∷ numbers_in f2 → mid ≡ fs ++ f2 ∷ [] → new ≡ mid ++ f3 ∷ [] → p ≡ b → now ≡ at ++ n ∷ [] → IsDue p best.high now → numbers_in f3 ≡ ready p.block now → more ≡ knots ++ AtSplit (numbers_in f3) ∷ [] → count < allowance → IsWalk b best allowance root now new more (count + 1) least
     walk-split n f2 f3 mid new more p now is put pushed own next due ready_is lines lt =
         let child = at ++ n ∷ [] in
-        let due2 : IsDue b best child = subst (λ x. IsDue b best x) next (subst (λ (q : Problem). IsDue q best now) own due) in
+        let due2 : IsDue b best.high child = subst (λ x. IsDue b best.high x) next (subst (λ (q : Problem). IsDue q best.high now) own due) in
         let numbers_are : numbers_in f3 ≡ ready b.block child = subst (λ x. numbers_in f3 ≡ ready b.block x) next (subst (λ (q : Problem). numbers_in f3 ≡ ready q.block now) own ready_is) in
         let (found, cuts, g, count_is, l) = walk.grows in
-        let g2 = grows-split b.block (IsDue b best) (IsTold b best) (whole_told b) root at n (numbers_in f2) (numbers_in f3) (lefts fs) knots found cuts due2 numbers_are (was n f2 is found cuts g) in
+        let g2 = grows-split b.block (IsDue b best.high) (IsTold b best) (whole_told b) root at n (numbers_in f2) (numbers_in f3) (lefts fs) knots found cuts due2 numbers_are (was n f2 is found cuts g) in
         let frames : lefts ((fs ++ f2 ∷ []) ++ f3 ∷ []) ≡ numbers_in f3 ∷ (numbers_in f2 ∷ lefts fs) = lefts-push (fs ++ f2 ∷ []) f3 ∙ ap (λ ns. numbers_in f3 ∷ ns) (lefts-push fs f2) in
         let all : new ≡ (fs ++ f2 ∷ []) ++ f3 ∷ [] = pushed ∙ ap (λ x. x ++ f3 ∷ []) put in
         let back : AreOpen b.block (front child) (numbers_in f2 ∷ lefts fs) = subst (λ x. AreOpen b.block x (numbers_in f2 ∷ lefts fs)) (sym (front-push at n)) (subst (AreOpen b.block at) (lefts-push fs f2) (still n f2 is)) in
@@ -136,7 +136,7 @@ module _ (b : Problem) (best allowance : ℕ) (root : List ℕ) where
     ups : numbers_in f ≡ [] → (found cuts : List (List ℕ)) → GrowsFor b best root at (lefts old) knots found cuts → GrowsFor b best root (front at) (lefts fs) knots found cuts
     ups is found cuts g =
         let e : lefts old ≡ [] ∷ lefts fs = ap lefts popped ∙ (lefts-push fs f ∙ ap (λ ns. ns ∷ lefts fs) is) in
-        grows-up b.block (IsDue b best) (IsTold b best) (whole_told b) root at (lefts fs) knots found cuts (subst (λ x. GrowsFor b best root at x knots found cuts) e g)
+        grows-up b.block (IsDue b best.high) (IsTold b best) (whole_told b) root at (lefts fs) knots found cuts (subst (λ x. GrowsFor b best root at x knots found cuts) e g)
 
     pub walk-up : (back : List ℕ) → numbers_in f ≡ [] → 0 < length fs → back ≡ front at → IsWalk b best allowance root back fs knots count least
     walk-up back is some up =
@@ -163,12 +163,12 @@ module _ (b : Problem) (best allowance : ℕ) (root : List ℕ) where
           grows = (found, cuts, nowhere b best root at knots found cuts g2, count_is, l);
         })
 
-  pub walk-done : (at : List ℕ) (frames : List Set) (knots : List (Knot Told)) (count : ℕ) (least : Option WholeOrder) → frames ≡ [] → IsWalk b best allowance root at frames knots count least → (tree : Tree Told) × TreeGrows b.block (IsDue b best) (IsTold b best) root tree × (flat tree ≡ knots) × (splits tree ≡ count) × IsLeast b (tree_values (whole_told b) root tree) least
+  pub walk-done : (at : List ℕ) (frames : List Set) (knots : List (Knot Told)) (count : ℕ) (least : Option WholeOrder) → frames ≡ [] → IsWalk b best allowance root at frames knots count least → (tree : Tree Told) × TreeGrows b.block (IsDue b best.high) (IsTold b best) root tree × (flat tree ≡ knots) × (splits tree ≡ count) × IsLeast b (tree_values (whole_told b) root tree) least
   walk-done at frames knots count least none walk =
       let (found, cuts, g, count_is, l) = walk.grows in
       let g2 : GrowsFor b best root at [] knots found cuts = subst (λ (x : List Set). GrowsFor b best root at (lefts x) knots found cuts) none g in
-      let (tree, grows, knots_are, found_are, cuts_are) = grows-done b.block (IsDue b best) (IsTold b best) (whole_told b) root at knots found cuts g2 in
-      let holds : TreeHolds b.block (IsTold b best) root tree = tree-holds b.block (IsDue b best) (IsTold b best) (λ at due. due.0) root tree grows in
+      let (tree, grows, knots_are, found_are, cuts_are) = grows-done b.block (IsDue b best.high) (IsTold b best) (whole_told b) root at knots found cuts g2 in
+      let holds : TreeHolds b.block (IsTold b best) root tree = tree-holds b.block (IsDue b best.high) (IsTold b best) (λ at due. due.0) root tree grows in
       (tree, grows, knots_are, sym (splits-count b.block (IsTold b best) root tree holds) ∙ (ap length cuts_are ∙ count_is), subst (λ x. IsLeast b x least) (sym found_are) l)
 
 -- WHAT IS LEFT TO DO falls at each turn: each number of a frame, the frame itself, and splits

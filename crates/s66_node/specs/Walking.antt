@@ -16,14 +16,22 @@ use Rattle.s66_node.specs.SeenKnots.{seen}
 use Rattle.s66_node.specs.declared.whole_order.WholeOrder.{WholeOrder}
 use Rattle.s66_node.specs.declared.grow.Grown.{Grown}
 
+-- the best times while a tree is made: the high one is the first, the low one the last
+pub record Span : Type 0 where
+  pub high : ℕ
+  pub low : ℕ
+
+abbrev pub span : ℕ → ℕ → Span
+span high low = record { high = high; low = low }
+
 -- the prefix may be split: it is incomplete, and its floor is below the best time
 abbrev pub IsDue : Problem → ℕ → List ℕ → Type 0
 IsDue b best at = IsIncomplete b.block at × (floor_value b at < best)
 
--- what is told is true, and a prefix that may be split has no leaf
-abbrev pub IsTold : Problem → ℕ → List ℕ → Told → Type 0
-IsTold b best at (ToldLeaf value) = (value ≡ floor_value b at) × (IsComplete b.block at ⊎ (best ≤ value))
-IsTold b best at (ToldFrontier value) = (value ≡ floor_value b at) × IsDue b best at
+-- what is told is true: a leaf is of a whole order or at least the low best time, and what is in the frontier may be split by the high one
+abbrev pub IsTold : Problem → Span → List ℕ → Told → Type 0
+IsTold b best at (ToldLeaf value) = (value ≡ floor_value b at) × (IsComplete b.block at ⊎ (best.low ≤ value))
+IsTold b best at (ToldFrontier value) = (value ≡ floor_value b at) × IsDue b best.high at
 
 -- the whole order that is told of, if one is
 abbrev pub whole_told : Problem → List ℕ → Told → List (List ℕ)
@@ -39,13 +47,13 @@ IsLeast b orders (Some least) =
     × ((other : List ℕ) → Among other after → least.total ≤ total_of b other)
 
 -- a tree was made over the root: by its lines, with its splits and the first of the least of its whole orders
-pub record IsGrown (b : Problem) (best allowance : ℕ) (root : List ℕ) (grown : Grown) (tree : Tree Told) : Type 0 where
-  pub grows : TreeGrows b.block (IsDue b best) (IsTold b best) root tree
+pub record IsGrown (b : Problem) (best : Span) (allowance : ℕ) (root : List ℕ) (grown : Grown) (tree : Tree Told) : Type 0 where
+  pub grows : TreeGrows b.block (IsDue b best.high) (IsTold b best) root tree
   pub knots : flat tree ≡ seen grown.knots.items
   pub splits : splits tree ≡ grown.splits
   pub least : IsLeast b (tree_values (whole_told b) root tree) grown.least
   pub within : grown.splits ≤ allowance
-  pub due : 1 ≤ allowance → IsDue b best root → 1 ≤ grown.splits
+  pub due : 1 ≤ allowance → IsDue b best.low root → 1 ≤ grown.splits
 
 -- of frames with the last on top, the numbers still to come, those of the top first
 abbrev pub lefts : List Set → List (List ℕ)
@@ -58,11 +66,11 @@ AreOpen block at (ns ∷ above) =
     IsBeginning block at × ((n : ℕ) → Among n ns → is_ready block at n ≡ true) × AreOpen block (front at) above
 
 -- while a tree over the root is made: what Grows says of its splits, of what is told of its tips, and of its whole orders
-abbrev pub GrowsFor : Problem → ℕ → List ℕ → List ℕ → List (List ℕ) → List (Knot Told) → List (List ℕ) → List (List ℕ) → Type 0
-GrowsFor b best root at frames knots found cuts = Grows b.block (IsDue b best) (IsTold b best) (whole_told b) root at frames knots found cuts
+abbrev pub GrowsFor : Problem → Span → List ℕ → List ℕ → List (List ℕ) → List (Knot Told) → List (List ℕ) → List (List ℕ) → Type 0
+GrowsFor b best root at frames knots found cuts = Grows b.block (IsDue b best.high) (IsTold b best) (whole_told b) root at frames knots found cuts
 
 -- a tree over the root is being made: the walk stands at a prefix with these frames, the last on top, one for each prefix from the root down to it
-pub record IsWalk (b : Problem) (best allowance : ℕ) (root at : List ℕ) (frames : List Set) (knots : List (Knot Told)) (count : ℕ) (least : Option WholeOrder) : Type 0 where
+pub record IsWalk (b : Problem) (best : Span) (allowance : ℕ) (root at : List ℕ) (frames : List Set) (knots : List (Knot Told)) (count : ℕ) (least : Option WholeOrder) : Type 0 where
   pub standing : AreOpen b.block at (lefts frames)
   pub depth : length root + length frames ≤ length at + 1
   pub within : count ≤ allowance

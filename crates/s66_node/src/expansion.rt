@@ -1,4 +1,4 @@
-ghost use Rattle.std.specs.Prelude.{◌≡◌, ℕ, List, IfOk};
+ghost use Rattle.std.specs.Prelude.{◌≡◌, ◌≤◌, ℕ, List, IfOk};
 ghost use Rattle.std.specs.Option.{option_map};
 ghost use Rattle.s66_line.specs.Block.{instrs_of};
 ghost use Rattle.s66_model.specs.Timing.{Problem};
@@ -10,6 +10,7 @@ ghost use Rattle.s66_node.specs.Pieces.{tree_of, IsBestTimed};
 ghost use Rattle.s66_node.specs.Walking.{IsLeast};
 
 use crate::grow::{Grown, grow};
+use crate::least::{Constant, Least};
 use crate::piece::Piece;
 use crate::walk::Walk;
 use crate::whole_order::{WholeOrder, copy_of};
@@ -64,8 +65,33 @@ pub fn expand(
     Walk::new(block, profile).expand(alloc, prefix, best, allowance)
 }
 
+/// Expands a prefix as `expand` does, by a best time that may fall meanwhile: it is asked for at the prefix, and before each split
+/// below it.
+///
+/// A prefix whose floor is at least the first best time isn't split, and carries its floor as leaf. One that isn't split and whose
+/// floor is below the last best time is in the frontier, if it isn't complete. With a floor in between it may be either. There is a
+/// split if one is allowed and the prefix may be split by the last best time. On `Err` the best time may have fallen.
+pub fn expand_with<L: Least>(
+    alloc: Global,
+    block: &Block,
+    profile: &Profile,
+    prefix: &[u8],
+    incumbent: &mut L,
+    allowance: u32,
+) -> Result<Piece, AllocError>
+    requires { IsBeginning (instrs_of block.now) prefix.now }
+    ensures falls { L.kept incumbent.new ≤ L.kept incumbent.old }
+    ensures lowest { (L.lowest incumbent.new ≡ L.lowest incumbent.old) × (L.lowest incumbent.old ≤ L.kept incumbent.new) }
+    ensures problem { IfOk result (λ p. p.problem ≡ record { block = instrs_of block.now; profile = profile.now }) }
+    ensures prefix { IfOk result (λ p. p.prefix ≡ prefix.now) }
+    ensures expansion { IfOk result (λ p. IsExpansion (record { block = instrs_of block.now; profile = profile.now }) (L.kept incumbent.old) (L.kept incumbent.new) allowance prefix.now (tree_of p)) }
+    ensures timed { IfOk result (λ p. IsBestTimed (record { block = instrs_of block.now; profile = profile.now }) prefix.now (tree_of p) p.timed) }
+{
+    Walk::new(block, profile).expand_with(alloc, prefix, incumbent, allowance)
+}
+
 impl Walk<'_> {
-    ghost use Rattle.std.specs.Prelude.{◌≡◌, IfOk};
+    ghost use Rattle.std.specs.Prelude.{◌≡◌, ◌≤◌, IfOk};
     ghost use Rattle.s66_model.specs.LegalOrder.{IsBeginning};
     ghost use Rattle.s66_model.specs.Expansion.{IsExpansion};
     ghost use Rattle.s66_node.specs.Pieces.{tree_of, IsBestTimed};
@@ -86,12 +112,33 @@ impl Walk<'_> {
         ensures expansion { IfOk result (λ p. IsExpansion self.old.problem best best allowance prefix.now (tree_of p)) }
         ensures timed { IfOk result (λ p. IsBestTimed self.old.problem prefix.now (tree_of p) p.timed) }
     {
+        self.expand_with(alloc, prefix, &mut Constant(best), allowance)
+    }
+
+    /// Goes to a prefix and expands it, as `expand_with` does; the tables of the block are there already. On `Err` it stands at some
+    /// prefix of the same block, and the best time may have fallen.
+    pub fn expand_with<L: Least>(
+        &mut self,
+        alloc: Global,
+        prefix: &[u8],
+        incumbent: &mut L,
+        allowance: u32,
+    ) -> Result<Piece, AllocError>
+        requires { IsBeginning self.old.problem.block prefix.now }
+        ensures same { self.new.problem ≡ self.old.problem }
+        ensures falls { L.kept incumbent.new ≤ L.kept incumbent.old }
+        ensures lowest { (L.lowest incumbent.new ≡ L.lowest incumbent.old) × (L.lowest incumbent.old ≤ L.kept incumbent.new) }
+        ensures problem { IfOk result (λ p. p.problem ≡ self.old.problem) }
+        ensures prefix { IfOk result (λ p. p.prefix ≡ prefix.now) }
+        ensures expansion { IfOk result (λ p. IsExpansion self.old.problem (L.kept incumbent.old) (L.kept incumbent.new) allowance prefix.now (tree_of p)) }
+        ensures timed { IfOk result (λ p. IsBestTimed self.old.problem prefix.now (tree_of p) p.timed) }
+    {
         self.go_to(prefix);
         let Grown {
             knots,
             splits,
             least,
-        } = grow(alloc, self, best, allowance)?;
+        } = grow(alloc, self, incumbent, allowance)?;
         let block = self.clock.block();
         let profile = self.clock.profile();
         Ok(Piece {

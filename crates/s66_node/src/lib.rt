@@ -4,13 +4,15 @@
 mod expansion;
 mod grow;
 mod knot;
+mod least;
 mod piece;
 mod schedule;
 mod walk;
 mod whole_order;
 
-pub use expansion::expand;
+pub use expansion::{expand, expand_with};
 pub use knot::{FRONTIER, Knot, LEAF, SPLIT};
+pub use least::{Constant, Least};
 pub use piece::Piece;
 pub use schedule::{Priority, schedule_below, schedule_rest};
 pub use walk::Walk;

@@ -12,3 +12,4 @@ pub mod Present
 pub mod Turns
 pub mod Collecting
 pub mod Members
+pub mod HintSteps

@@ -20,7 +20,7 @@ number_within l found at p number is who =
     let count = accounts-count l.problem l.budget l.workers (events_of l) l.state in
     (omega (arith, is.worker.0, who), omega (arith, is.worker.1, who, count, ap (λ (k : LedgerOf). k.workers) at))
 
-follows-itself : (w : ℕ) (s : Summary) → Follows w s s
+pub follows-itself : (w : ℕ) (s : Summary) → Follows w s s
 follows-itself w s = record { search = record { problem = refl; budget = refl; workers = refl }; lower = omega arith; others = λ p ne is. is }
 
 pub follows-on : (w : ℕ) (s t u : Summary) → Follows w s t → Follows w t u → Follows w s u

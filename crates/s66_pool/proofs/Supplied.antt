@@ -34,6 +34,10 @@ claims-end l m w tickets h = events-append l m m (claims w tickets) [] h refl
 pub claims-none : (l m n : LedgerOf) (w : ℕ) (tickets : List TicketOf) → AreEvents l (claims w tickets) m → IsEvent m (Claim w) (Claimed None) n → AreEvents l (claims w tickets ++ last_claim w true) n
 claims-none l m n w tickets h last = events-append l m n (claims w tickets) (last_claim w true) h (n, last, refl)
 
+-- splits alone
+pub grants-end : (l m : LedgerOf) (w : ℕ) (granted : Option ℕ) → AreEvents l (grants w granted) m → AreEvents l (grants w granted ++ (claims w [] ++ last_claim w false)) m
+grants-end l m w granted h = events-append l m m (grants w granted) [] h refl
+
 -- workers, budget and problem stay
 pub events-workers : (l m : LedgerOf) (es : List (Event × Reply)) → AreEvents l es m → m.workers ≡ l.workers
 events-workers l m [] e = ap (λ (k : LedgerOf). k.workers) e
@@ -44,12 +48,12 @@ events-workers l m (x ∷ es) (between, first, more) = events-workers between m 
 abbrev IsQuiet : ℕ → Event × Reply → Type 0
 IsQuiet w entry = (worker entry.0 ≡ w) × ((least : ℕ) → least_after least entry.0 entry.1 ≡ least) × (spends entry.0 entry.1 ≡ 0)
 
-AreQuiet : ℕ → List (Event × Reply) → Type 0
-AreQuiet w [] = ⊤
+abbrev AreQuiet : ℕ → List (Event × Reply) → Type 0
+AreQuiet w [] = Unit {0}
 AreQuiet w (entry ∷ entries) = IsQuiet w entry × AreQuiet w entries
 
 quiet-append : (w : ℕ) (es fs : List (Event × Reply)) → AreQuiet w es → AreQuiet w fs → AreQuiet w (es ++ fs)
-quiet-append w [] fs tt h = h
+quiet-append w [] fs none h = h
 quiet-append w (x ∷ es) fs (first, more) h = (first, quiet-append w es fs more h)
 
 quiet-grants : (w : ℕ) (granted : Option ℕ) → AreQuiet w (grants w granted)
@@ -132,7 +136,7 @@ module _ (l : LedgerOf) (p : Passbook) (agrees : Agrees (account_summary l) p) (
   call : Keeps l mid p (p.account.splits + splits (tree_of piece)) × ((s now : SeatOf) → p ≡ s.book → now.book ≡ renewed (account_summary mid) p p.least → HasGrafted s node piece model.Taken now)
   call = grafted l old mid e p number who agrees node piece graft
 
-  book-between : Passbook
+  abbrev book-between : Passbook
   book-between = renewed (account_summary mid) p p.least
 
   agrees-between : Agrees (account_summary mid) book-between
@@ -152,3 +156,15 @@ module _ (l : LedgerOf) (p : Passbook) (agrees : Agrees (account_summary l) p) (
         ap (λ (q : Passbook). q.who) at,
         has-supply mid book-between agrees-between began new f number who supply tickets events between now refl gave,
       )
+
+-- THE WORKER of a seat stays the same
+
+events-who : (es : List (Event × Reply)) (p : Passbook) → (after_events p es).who ≡ p.who
+events-who [] p = refl
+events-who (x ∷ es) p = events-who es (after_event p x.0 x.1)
+
+pub supply-who : (old new : SeatOf) (supply : Supply) (tickets : List TicketOf) → HasSupply old supply tickets new → new.book.who ≡ old.book.who
+supply-who old new supply tickets h = ap (λ (q : Passbook). q.who) h ∙ events-who (supplied old.book.who supply tickets) old.book
+
+pub graft-who : (old new : SeatOf) (node : ℕ) (piece : PieceOf) (supply : Supply) (tickets : List TicketOf) → HasGraftedAndSupply old node piece supply tickets new → new.book.who ≡ old.book.who
+graft-who old new node piece supply tickets (between, grafted, who, h) = supply-who between new supply tickets h ∙ who

@@ -5,3 +5,4 @@ pub mod Locked
 pub mod LockTokens
 pub mod Workers
 pub mod Victims
+pub mod Hints

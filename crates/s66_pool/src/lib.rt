@@ -1,4 +1,4 @@
-//! The workers of a search: its ledger under a lock, a seat at it for each worker, and threads.
+//! The workers of a search: its ledger under a lock, a hint of its best time, a seat at each for every worker, and threads.
 #![tactic(auto)]
 
 mod calls;
@@ -6,6 +6,7 @@ mod crew;
 mod gate;
 mod hint;
 mod hub;
+mod incumbent;
 mod limits;
 mod locals;
 mod lock;

@@ -1,5 +1,5 @@
-ghost use Rattle.std.specs.Prelude.{◌≡◌, ◌≤◌, ◌++◌, []};
-ghost use Rattle.s66_pool.specs.Supplies.{AreEvents, IsClaimed, IsSupplyFor, claims, last_claim, supplied};
+ghost use Rattle.std.specs.Prelude.{◌≡◌, ◌≢◌, ◌≤◌, ◌++◌, [], true, false, None, IfOk, OnErr};
+ghost use Rattle.s66_pool.specs.Supplies.{AreEvents, IsClaimed, IsSupplyFor, grants, claims, last_claim, supplied};
 
 use crate::limits::CLAIMS_LIMIT;
 use s66_ledger::{Ledger, Ticket};
@@ -39,37 +39,50 @@ fn claim_nodes(
     ensures granted { result.granted ≡ granted }
     ensures claimed { IsClaimed result tickets.new.items }
 {
+    let full = Supply {
+        granted,
+        none_open: false,
+        out_of_memory: false,
+    };
     for _ in 0..CLAIMS_LIMIT {
         let Ok(()) = tickets.reserve(1) else {
             return Supply {
-                granted,
-                none_open: false,
                 out_of_memory: true,
+                ..full
             };
         };
         match ledger.claim(w) {
             Ok(Some(ticket)) => tickets.push_reserved(ticket),
             Ok(None) => {
                 return Supply {
-                    granted,
                     none_open: true,
-                    out_of_memory: false,
+                    ..full
                 };
             }
             Err(AllocError) => {
                 return Supply {
-                    granted,
-                    none_open: false,
                     out_of_memory: true,
+                    ..full
                 };
             }
         }
     }
-    Supply {
-        granted,
-        none_open: false,
-        out_of_memory: false,
+    full
+}
+
+/// Grants the worker splits, if it needs some; returns how many.
+fn grant_needed(ledger: &mut Ledger<'_>, w: u8, needs: Needs) -> Result<Option<u32>, AllocError>
+    requires worker { (1 ≤ w) × (w ≤ ledger.old.workers) }
+    ensures events { IfOk result (λ granted. AreEvents ledger.old (grants w granted) ledger.new) }
+    ensures unneeded { IfOk result (λ granted. needs.splits ≡ false → granted ≡ None) }
+    ensures needed { IfOk result (λ granted. needs.splits ≡ true → granted ≢ None) }
+    ensures err { OnErr result (ledger.new ≡ ledger.old) }
+{
+    if !needs.splits {
+        return Ok(None);
     }
+    let splits = ledger.grant(w)?;
+    Ok(Some(splits))
 }
 
 /// Gives the worker what it needs: splits first, and then nodes, unless nothing is left of the budget.
@@ -84,25 +97,14 @@ pub(crate) fn serve(
     ensures events { AreEvents ledger.old (supplied w result tickets.new.items) ledger.new }
     ensures needed { IsSupplyFor needs result tickets.new.items }
 {
-    let mut granted = None;
-    if needs.splits {
-        let Ok(splits) = ledger.grant(w) else {
-            return Supply {
-                granted: None,
-                none_open: false,
-                out_of_memory: true,
-            };
+    let Ok(granted) = grant_needed(ledger, w, needs) else {
+        return Supply {
+            granted: None,
+            none_open: false,
+            out_of_memory: true,
         };
-        granted = Some(splits);
-        if splits == 0 {
-            return Supply {
-                granted,
-                none_open: false,
-                out_of_memory: false,
-            };
-        }
-    }
-    if !needs.nodes {
+    };
+    if !needs.nodes || granted == Some(0) {
         return Supply {
             granted,
             none_open: false,

@@ -1,4 +1,4 @@
-ghost use Rattle.std.specs.Prelude.{◌≡◌};
+ghost use Rattle.std.specs.Prelude.{◌≡◌, [], IfOk};
 ghost use Rattle.s66_pool.specs.Workers.{IsSameMember, IsSameSeat};
 
 use crate::gate::Gate;

@@ -1,7 +1,14 @@
-use crate::running::{CHART, DEPS, TIME, TRACE, check_sum};
+use crate::running::{CHART, CHECK, DEPS, TIME, TRACE, check_sum, run};
 use s66_line::SOURCE_LINES_LIMIT;
 use std::alloc::AllocError;
 use std::test::Fail;
+
+const ORDER_FEW: &[&str] = &["s66", "order", "--workers", "1", "--nodes", "1"];
+
+const PROVE_FEW: &[&str] = &["s66", "prove", "--workers", "1", "--nodes", "1"];
+
+/// 20,000 instructions in blocks of 128: 156 of 128, and one of 32.
+const BLOCKS: usize = 157;
 
 const CODE: [&str; 8] = [
     "SA1 A1+B1 ",
@@ -88,5 +95,35 @@ fn keeps_memory(rt: HostRuntime) -> Result<(), Fail> {
         772_788,
         4_078_082_067,
     );
+    Ok(())
+}
+
+/// How many lines there are, and how many of them have this word.
+fn count_lines(text: &str, word: &str) -> (usize, usize) {
+    let mut lines = 0usize;
+    let mut with_word = 0usize;
+    for line in text.lines() {
+        lines = lines.saturating_add(1);
+        if line.contains(word) {
+            with_word = with_word.saturating_add(1);
+        }
+    }
+    (lines, with_word)
+}
+
+/// The longest source is printed with a line for each block more, and each of its blocks has a certificate that is checked.
+#[test]
+fn searches_longest_source(rt: HostRuntime) -> Result<(), Fail> {
+    let longest = longest_source(&rt)?;
+    let longest = longest.as_bytes();
+    let ordered = run(&rt, ORDER_FEW, longest);
+    let ordered = String::from_utf8(ordered.written).expect(&rt, "a text");
+    let lines = SOURCE_LINES_LIMIT as usize + BLOCKS;
+    assert_eq!(&rt; count_lines(ordered.as_str(), "* BLOCK "), (lines, BLOCKS));
+    let proved = run(&rt, PROVE_FEW, longest);
+    let checked = run(&rt, CHECK, proved.written.as_slice());
+    assert_eq!(&rt; checked.status, 0);
+    let checked = String::from_utf8(checked.written).expect(&rt, "a text");
+    assert_eq!(&rt; count_lines(checked.as_str(), " YES "), (BLOCKS, BLOCKS));
     Ok(())
 }

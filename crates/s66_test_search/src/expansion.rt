@@ -1,10 +1,32 @@
+ghost use Rattle.std.specs.Prelude.{ℕ, ◌≡◌, ◌≤◌};
+
 use s66_dep::{Set, is_beginning};
 use s66_isa::Profile;
 use s66_line::read_source;
-use s66_node::{Knot, Piece, expand};
+use s66_node::{Constant, Knot, Least, Piece, expand, expand_with};
 use s66_test_blocks::{MULTIPLIES, ONE_LOAD, SEVEN_MULTIPLIES, only_block};
 use std::process::Abort;
 use std::test::Fail;
+
+/// A best time that is told once, and falls when it is asked for again.
+#[derive(Drop)]
+struct Falling {
+    kept: u32,
+    next: u32,
+    is_told: bool,
+}
+
+impl Least for Falling {
+    ghost kept = { λ f. f.kept };
+
+    fn least(&mut self) -> u32 {
+        if self.is_told {
+            self.kept = self.kept.min(self.next);
+        }
+        self.is_told = true;
+        self.kept
+    }
+}
 
 /// What a prefix of a source's only block gives, for a best time and a number of splits that are allowed.
 fn piece_of<R: AllocGlobal + Abort>(
@@ -19,6 +41,20 @@ fn piece_of<R: AllocGlobal + Abort>(
     assert!(rt; is_beginning(block, prefix));
     let profile = Profile::standard();
     let piece = expand(rt.alloc(), block, &profile, prefix, best, allowance)?;
+    Ok(piece)
+}
+
+/// What the empty prefix of a source's only block gives, by a best time that is asked for before each split.
+fn piece_by<R: AllocGlobal + Abort, L: Least>(
+    rt: &R,
+    code: &str,
+    incumbent: &mut L,
+    allowance: u32,
+) -> Result<Piece, Fail> {
+    let source = read_source(rt.alloc(), code.as_bytes())?;
+    let block = only_block(&source).expect(rt, "one block");
+    let profile = Profile::standard();
+    let piece = expand_with(rt.alloc(), block, &profile, &[], incumbent, allowance)?;
     Ok(piece)
 }
 
@@ -43,6 +79,38 @@ fn expands_prefixes(rt: HostRuntime) -> Result<(), Fail> {
     let whole = piece_of(&rt, MULTIPLIES, &[1, 2, 3], 22, 0)?;
     assert_eq!(rt; whole.knots(), [Knot::Leaf { value: 22 }].as_slice());
     check_timed(&rt, &whole, &[1, 2, 3], 22);
+    Ok(())
+}
+
+/// By a best time that doesn't fall, a prefix is expanded as for that time.
+#[test]
+fn expands_by_a_constant(rt: HostRuntime) -> Result<(), Fail> {
+    for best in [22, 17] {
+        let mut constant = Constant(best);
+        let piece = piece_by(&rt, MULTIPLIES, &mut constant, 1)?;
+        let same = piece_of(&rt, MULTIPLIES, &[], best, 1)?;
+        assert_eq!(rt; piece.knots(), same.knots());
+        assert_eq!(rt; piece.splits(), same.splits());
+        assert_eq!(rt; constant, Constant(best));
+    }
+    Ok(())
+}
+
+/// Once the best time is 17, no prefix of the three multiplies is split.
+#[test]
+fn expands_by_a_falling_time(rt: HostRuntime) -> Result<(), Fail> {
+    let mut falling = Falling {
+        kept: 40,
+        next: 17,
+        is_told: false,
+    };
+    let piece = piece_by(&rt, MULTIPLIES, &mut falling, 100)?;
+    let leaf = Knot::Leaf { value: 17 };
+    let knots = [Knot::Split(Set::up_to(3)), leaf, leaf, leaf];
+    assert_eq!(rt; piece.knots(), knots.as_slice());
+    assert_eq!(rt; piece.splits(), 1);
+    assert_eq!(rt; falling.kept, 17);
+    assert!(rt; piece.timed().is_none());
     Ok(())
 }
 

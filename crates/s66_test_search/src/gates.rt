@@ -180,3 +180,43 @@ impl Gate for Claimants {
             .fetch_or(1u32.wrapping_shl(w as u32), Ordering::SeqCst);
     }
 }
+
+/// A gate that stands open, and counts the nodes that its one worker claims between its first piece and its second.
+#[derive(Drop)]
+pub struct Filling {
+    told: Told,
+    /// The nodes that it had claimed when it came to its first piece, and to its second.
+    nodes_at: [AtomicU32; 2],
+}
+
+impl Filling {
+    pub fn nothing() -> Filling {
+        Filling {
+            told: Told::nothing(),
+            nodes_at: [AtomicU32::new(0), AtomicU32::new(0)],
+        }
+    }
+
+    /// How many nodes the worker claimed between its first piece and its second.
+    pub fn nodes_between(&self) -> u32 {
+        let first = self.nodes_at[0].load(Ordering::SeqCst);
+        let second = self.nodes_at[1].load(Ordering::SeqCst);
+        second.saturating_sub(first)
+    }
+}
+
+impl Gate for Filling {
+    fn before_graft(&self, _w: u8) {
+        let piece = self.told.pieces.fetch_add(1, Ordering::SeqCst);
+        let nodes = self.told.nodes.load(Ordering::SeqCst);
+        if piece < 2 {
+            self.nodes_at[piece as usize].store(nodes, Ordering::SeqCst);
+        }
+    }
+
+    fn after_claim(&self, _w: u8, got: bool) {
+        if got {
+            self.told.nodes.fetch_add(1, Ordering::SeqCst);
+        }
+    }
+}

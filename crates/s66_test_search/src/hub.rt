@@ -6,12 +6,22 @@ use s66_isa::Profile;
 use s66_ledger::{GraftError, Ledger, Offered, Ticket};
 use s66_line::{Block, read_source};
 use s66_node::{Piece, expand};
-use s66_pool::{AfterGraft, Hub, Next, Seat, SeatsMissing};
+use s66_pool::{Hub, Needs, Seat, SeatsMissing, Supply};
 use s66_test_blocks::{MULTIPLIES, ONE_LOAD, only_block};
 use s66_time::{Timed, time_of};
 use std::process::Abort;
 use std::sync::Wait;
 use std::test::Fail;
+
+const NODES: Needs = Needs {
+    splits: false,
+    nodes: true,
+};
+
+const BOTH: Needs = Needs {
+    splits: true,
+    nodes: true,
+};
 
 /// A hub on a ledger of a block, and a seat for each worker.
 pub fn open_hub<'a, R: AllocGlobal + Abort>(
@@ -71,19 +81,30 @@ fn claim_root<'a, R: Abort + Wait>(rt: &R, hub: &Hub<'a>, seat: &mut Seat<'a>) -
     ticket
 }
 
-/// Claims a node, and checks the best time that is read in the same turn.
-fn claim_reading<'a, R: Abort + Wait>(
+/// Claims nodes in one turn, and checks how many; none is open after that. The last of them is returned.
+fn claim_all<'a, R: AllocGlobal + Abort + Wait>(
     rt: &R,
     hub: &Hub<'a>,
     seat: &mut Seat<'a>,
-    expected: u32,
+    expected: usize,
 ) -> Option<Ticket>
     requires { seat.old.hub ≡ hub.now.id }
     ensures { seat.new.hub ≡ seat.old.hub }
 {
-    let (ticket, best) = hub.claim_and_read(rt, seat).expect(rt, "memory");
-    assert_eq!(rt; best, expected);
-    ticket
+    let mut claimed = Vec::new(rt.alloc());
+    let supply = hub.supply(rt, seat, NODES, &mut claimed);
+    assert_eq!(rt; supply, all_claimed(None));
+    assert_eq!(rt; claimed.len(), expected);
+    claimed.pop()
+}
+
+/// A supply whose claims ended since no node was open.
+fn all_claimed(granted: Option<u32>) -> Supply {
+    Supply {
+        granted,
+        none_open: true,
+        out_of_memory: false,
+    }
 }
 
 /// Gives a node back.
@@ -201,8 +222,10 @@ fn graft_twice<'a, R: AllocGlobal + Abort + Wait>(
     let piece = piece_of(rt, block, &root, 22, 1);
     let again = piece_of(rt, block, &root, 22, 1);
     assert!(rt; hub.graft(rt, seat, root, piece).is_ok());
-    let refused = hub.graft_and_go_on(rt, seat, 0, &again, Next::Claim);
+    let mut claimed = Vec::new(rt.alloc());
+    let refused = hub.graft_and_supply(rt, seat, 0, &again, BOTH, &mut claimed);
     assert!(rt; matches!(refused, Err(GraftError::NotOut)));
+    assert!(rt; claimed.is_empty());
     assert_eq!(rt; seat.splits(), 1);
 }
 
@@ -220,33 +243,28 @@ fn grafts_at_nodes_that_are_out(rt: HostRuntime) -> Result<(), Fail> {
     Ok(())
 }
 
-/// Grafts a piece of a claimed node, and claims a node in the same turn; checks what is granted there, and the best time that is
-/// read.
-fn graft_claiming<'a, R: Abort + Wait>(
+/// Grafts a piece of a claimed node, and claims all open nodes in the same turn; checks what is granted there and how many nodes are
+/// claimed. The last of them is returned.
+fn graft_claiming<'a, R: AllocGlobal + Abort + Wait>(
     rt: &R,
     hub: &Hub<'a>,
     seat: &mut Seat<'a>,
     node: u32,
     piece: &Piece,
-    next: Next,
-    expected: (u32, u32),
+    needs: Needs,
+    expected: (Option<u32>, usize),
 ) -> Ticket
     requires { seat.old.hub ≡ hub.now.id }
     ensures { seat.new.hub ≡ seat.old.hub }
 {
-    match hub.graft_and_go_on(rt, seat, node, piece, next) {
-        Ok(
-            AfterGraft::Claimed {
-                granted,
-                ticket,
-                best,
-            },
-        ) => {
-            assert_eq!(rt; (granted, best), expected);
-            ticket.expect(rt, "an open node")
-        }
-        _ => panic!(rt; "the piece wasn't taken, or nothing was claimed"),
-    }
+    let (granted, nodes) = expected;
+    let mut claimed = Vec::new(rt.alloc());
+    let Ok(supply) = hub.graft_and_supply(rt, seat, node, piece, needs, &mut claimed) else {
+        panic!(rt; "the piece wasn't taken")
+    };
+    assert_eq!(rt; supply, all_claimed(granted));
+    assert_eq!(rt; claimed.len(), nodes);
+    claimed.pop().expect(rt, "an open node")
 }
 
 /// The turns of a worker that has the whole budget of 10 splits: it splits the root and a child, and retires.
@@ -261,16 +279,24 @@ fn spend_two<'a, R: AllocGlobal + Abort + Wait>(
     assert_eq!(rt; grant(rt, hub, seat), 10);
     let root = claim_root(rt, hub, seat);
     let piece = piece_of(rt, block, &root, 22, 1);
-    let child = graft_claiming(rt, hub, seat, 0, &piece, Next::Claim, (0, 22));
+    let child = graft_claiming(rt, hub, seat, 0, &piece, NODES, (None, 3));
     assert_eq!(rt; child.prefix().len(), 1);
     let piece = piece_of(rt, block, &child, 22, 1);
-    let after = hub.graft_and_go_on(rt, seat, child.node(), &piece, Next::GrantAndClaim);
-    assert!(rt; matches!(after, Ok(AfterGraft::NotGranted)));
+    let mut claimed = Vec::new(rt.alloc());
+    let after = hub.graft_and_supply(rt, seat, child.node(), &piece, BOTH, &mut claimed);
+    let spent = Supply {
+        granted: Some(0),
+        none_open: false,
+        out_of_memory: false,
+    };
+    assert_eq!(rt; after, Ok(spent));
+    assert!(rt; claimed.is_empty());
     retire(rt, hub, seat);
     assert_eq!(rt; seat.splits(), 2);
 }
 
-/// A worker's turn after that: it leaves a node open, and is granted the rest of the budget in the turn of its graft.
+/// A worker's turn after that, in which the two children of the node that was split are open: it leaves one of them open, and is
+/// granted the rest of the budget in the turn of its graft.
 fn ask_for_splits<'a, R: AllocGlobal + Abort + Wait>(
     rt: &R,
     hub: &Hub<'a>,
@@ -279,17 +305,9 @@ fn ask_for_splits<'a, R: AllocGlobal + Abort + Wait>(
 )
     requires { seat.old.hub ≡ hub.now.id }
 {
-    let node = claim_reading(rt, hub, seat, 22).expect(rt, "an open node");
+    let node = claim_all(rt, hub, seat, 2).expect(rt, "an open node");
     let piece = piece_of(rt, block, &node, 22, 0);
-    graft_claiming(
-        rt,
-        hub,
-        seat,
-        node.node(),
-        &piece,
-        Next::GrantAndClaim,
-        (8, 22),
-    );
+    graft_claiming(rt, hub, seat, node.node(), &piece, BOTH, (Some(8), 1));
     assert_eq!(rt; seat.splits(), 0);
 }
 
@@ -330,7 +348,7 @@ fn offer<'a, R: Abort + Wait>(
     assert_eq!(rt; hub.offer(rt, seat, timed), Ok(answer));
 }
 
-/// Offers the best order at one seat while another has the root out, and reads it there after the graft.
+/// Offers the best order at one seat while another has the root out, and reads its time there after the graft.
 fn offer_while_out<'a, R: AllocGlobal + Abort + Wait>(
     rt: &R,
     hub: &Hub<'a>,
@@ -341,14 +359,16 @@ fn offer_while_out<'a, R: AllocGlobal + Abort + Wait>(
     requires seat { seat.old.hub ≡ hub.now.id }
     requires other { other.old.hub ≡ hub.now.id }
 {
-    let root = claim_reading(rt, hub, other, 16).expect(rt, "an open node");
+    let root = claim_root(rt, hub, other);
+    assert_eq!(rt; hub.best(rt, other), 16);
     let piece = piece_of(rt, block, &root, 16, 0);
     let best = timed_of(rt, block, &[1, 3, 2]);
     offer(rt, hub, seat, best, Offered::Lower);
-    graft_claiming(rt, hub, other, root.node(), &piece, Next::Claim, (0, 12));
+    graft_claiming(rt, hub, other, root.node(), &piece, NODES, (None, 1));
+    assert_eq!(rt; hub.best(rt, other), 12);
 }
 
-/// Reads the best time at one seat by itself, and at another with a claim; the root is out.
+/// Reads the best time at one seat, and claims at another; the root is out.
 fn read_offer<'a, R: AllocGlobal + Abort + Wait>(
     rt: &R,
     hub: &Hub<'a>,
@@ -362,7 +382,7 @@ fn read_offer<'a, R: AllocGlobal + Abort + Wait>(
     assert_eq!(rt; hub.best(rt, seat), 12);
     let slower = timed_of(rt, block, &[1, 2, 3]);
     offer(rt, hub, seat, slower, Offered::NotLower { least: 12 });
-    assert!(rt; claim_reading(rt, hub, other, 12).is_none());
+    assert!(rt; claim_all(rt, hub, other, 0).is_none());
 }
 
 /// Checks that seats read what another has offered.

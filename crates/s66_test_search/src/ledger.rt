@@ -78,7 +78,7 @@ const REPLIES: [Reply; 10] = [
 const BYTES: &[u8] = &[SPLIT + 3, 1, 2, 3];
 
 /// A ledger of two workers.
-fn new_ledger<'a, R: AllocGlobal + Abort>(rt: &R, block: &'a Block<'a>) -> Ledger<'a>
+pub fn new_ledger<'a, R: AllocGlobal + Abort>(rt: &R, block: &'a Block<'a>) -> Ledger<'a>
     ensures { result.workers ≡ 2 }
 {
     Ledger::new(rt.alloc(), block, &Profile::standard(), BUDGET, 2).expect(rt, "memory")
@@ -115,7 +115,7 @@ fn source_order(block: &Block) -> Timed {
 }
 
 /// Claims a node for a worker, and checks its prefix.
-fn claim_node<R: Abort>(rt: &R, ledger: &mut Ledger, w: u8, prefix: &[u8]) -> Ticket
+pub fn claim_node<R: Abort>(rt: &R, ledger: &mut Ledger, w: u8, prefix: &[u8]) -> Ticket
     requires { (1 ≤ w) × (w ≤ ledger.old.workers) }
     ensures { ledger.new.workers ≡ ledger.old.workers }
 {
@@ -126,7 +126,7 @@ fn claim_node<R: Abort>(rt: &R, ledger: &mut Ledger, w: u8, prefix: &[u8]) -> Ti
 }
 
 /// The first three entries.
-fn split_root<R: AllocGlobal + Abort>(rt: &R, ledger: &mut Ledger)
+pub fn split_root<R: AllocGlobal + Abort>(rt: &R, ledger: &mut Ledger)
     requires { 2 ≤ ledger.old.workers }
     ensures { ledger.new.workers ≡ ledger.old.workers }
 {

@@ -1,4 +1,5 @@
-//! Tests of the search: expansion, list schedules, the ledger, the calls of a hub, and workers at gates.
+//! Tests of the search: expansion, list schedules, the ledger, lanes of its tickets, the calls of a hub, its hint, and workers at
+//! gates.
 #![tactic(auto)]
 
 #[cfg(test)]
@@ -6,7 +7,11 @@ mod expansion;
 #[cfg(test)]
 mod gates;
 #[cfg(test)]
+mod hint;
+#[cfg(test)]
 mod hub;
+#[cfg(test)]
+mod lanes;
 #[cfg(test)]
 mod ledger;
 #[cfg(test)]

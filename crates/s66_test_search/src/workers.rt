@@ -2,7 +2,7 @@ ghost use Rattle.std.specs.Prelude.{◌≤◌};
 ghost use Rattle.s66_ledger.specs.declared.limits.TheConstants.{BUDGET_LIMIT};
 ghost use Rattle.s66_pool.specs.declared.limits.TheConstants.{WORKERS_LIMIT};
 
-use crate::gates::{Claimants, Held, Meeting};
+use crate::gates::{Claimants, Filling, Held, Meeting};
 use crate::hub::open_hub;
 use s66_isa::Profile;
 use s66_ledger::BUDGET_LIMIT;
@@ -130,5 +130,16 @@ fn work_is_done(rt: HostRuntime) -> Result<(), Fail> {
     search_all(&rt, block, 1, &Free);
     search_all(&rt, block, 2, &Free);
     search_all(&rt, block, 16, &Free);
+    Ok(())
+}
+
+/// After its first piece, of at most 64 splits, a worker claims several nodes: all but one go into its lane.
+#[test]
+fn lane_fills(rt: HostRuntime) -> Result<(), Fail> {
+    let source = read_source(rt.alloc(), FIVE_MULTIPLIES.as_bytes())?;
+    let block = only_block(&source).expect(&rt, "one block");
+    let gate = Filling::nothing();
+    search_all(&rt, block, 1, &gate);
+    assert!(rt; 4 <= gate.nodes_between());
     Ok(())
 }

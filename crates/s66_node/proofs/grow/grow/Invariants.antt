@@ -1,16 +1,19 @@
-use Rattle.std.proofs.Common.{◌+◌, ◌-◌, ◌*◌, ◌≡◌}
+use Rattle.std.proofs.Common.{ℕ, ◌+◌, ◌-◌, ◌*◌, ◌≤◌, ◌≡◌}
 use Rattle.s66_isa.specs.declared.limits.TheConstants.{BLOCK_LIMIT}
 use Rattle.s66_node.specs.SeenKnots.{seen}
-use Rattle.s66_node.specs.Walking.{IsWalk}
+use Rattle.s66_node.specs.Walking.{IsWalk, span}
 use Rattle.s66_node.proofs.WalkTurns.{work}
 use Rattle.s66_node.proofs.grow.grow.Given as goal
 
 abbrev pub invariant-loop-frame : goal.invariant-loop-frame
-invariant-loop-frame l =
+invariant-loop-frame g l =
     record {
       problem : l.walk.problem ≡ l.fn.walk.problem;
-      walk : IsWalk l.fn.walk.problem l.best l.allowance l.fn.walk.numbers l.walk.numbers l.frames.items (seen l.knots.items) l.splits l.least;
+      kept : g.L.Least.kept l.incumbent ≡ l.best;
+      falls : l.best ≤ g.L.Least.kept l.fn.incumbent;
+      lowest : (g.L.Least.lowest l.incumbent ≡ g.L.Least.lowest l.fn.incumbent) × (g.L.Least.lowest l.fn.incumbent ≤ l.best);
+      walk : (low : ℕ) → low ≤ l.best → IsWalk l.fn.walk.problem (span (g.L.Least.kept l.fn.incumbent) low) l.allowance l.fn.walk.numbers l.walk.numbers l.frames.items (seen l.knots.items) l.splits l.least;
     }
 
 abbrev pub decreases-loop-frame : goal.decreases-loop-frame
-decreases-loop-frame l = (l.allowance - l.splits) * (BLOCK_LIMIT + 2) + work l.frames.items
+decreases-loop-frame g l = (l.allowance - l.splits) * (BLOCK_LIMIT + 2) + work l.frames.items

@@ -6,12 +6,12 @@ use Rattle.s66_node.proofs.grow.unsplit_knot.Goals.{then-is_complete-via-then-is
 
 pub returns-then-is_complete-clause-told : goal.returns-then-is_complete-clause-told
 returns-then-is_complete-clause-told c =
-    let either : IsComplete c.args.walk.now.problem.block c.args.walk.now.numbers ⊎ (c.args.best ≤ c.floor_value-value.result) =
+    let either : IsComplete c.args.walk.now.problem.block c.args.walk.now.numbers ⊎ (c.args.best ≤ c.args.value) =
     elim c.then-is_complete.branch [
       | then-is_complete-via-then-is_complete w ↦ inl (c.is_complete.ensures.complete.0 w.if-is_complete.true)
       | then-is_complete-via-else-is_complete+then-value-best w ↦ inr (omega (arith, w.if-value-best.true))
     ] in
-    (ToldLeaf c.floor_value-value.result, refl, (c.floor_value-value.ensures, either))
+    (ToldLeaf c.args.value, refl, (c.requires, either))
 
 pub returns-else-may_split-clause-told : goal.returns-else-may_split-clause-told
 returns-else-may_split-clause-told c =
@@ -20,4 +20,4 @@ returns-else-may_split-clause-told c =
       | inl whole ↦ absurd (true≢false (sym whole ∙ c.if-is_complete.false))
       | inr part ↦ part
     ] in
-    (ToldFrontier c.floor_value-value.result, refl, (c.floor_value-value.ensures, (part, omega (arith, c.floor_value-value.ensures, c.if-value-best.false))))
+    (ToldFrontier c.args.value, refl, (c.requires, (part, omega (arith, c.requires, c.if-value-best.false))))
