@@ -11,4 +11,5 @@ pub mod Dealing
 pub mod Present
 pub mod Turns
 pub mod Collecting
+pub mod Members
 pub mod HintSteps

@@ -4,4 +4,5 @@ pub mod SeatViews
 pub mod Locked
 pub mod LockTokens
 pub mod Workers
+pub mod Victims
 pub mod Hints

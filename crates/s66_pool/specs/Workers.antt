@@ -1,8 +1,10 @@
 -- To be believed: what comes back from the workers.
-use Rattle.std.specs.Prelude.{ℕ, ◌≡◌, ◌<◌, All, List, length, map, slice_index_or}
-use Rattle.s66_steal.specs.Lanes.{LaneId}
+use Rattle.std.specs.Prelude.{ℕ, ◌≡◌, ◌<◌, All, List, Vec, length, map, slice_index_or}
+use Rattle.std.specs.declared.alloc.Global.{Global}
+use Rattle.s66_steal.specs.Lanes.{LaneId, LaneOf}
 use Rattle.s66_ledger.specs.Ledgers.{LedgerOf}
 use Rattle.s66_pool.specs.Hubs.{SeatOf}
+use Rattle.s66_pool.specs.Victims.{VictimOf}
 use Rattle.s66_pool.specs.declared.member.Local.{Local}
 use Rattle.s66_pool.specs.declared.member.Member.{Member}
 
@@ -20,11 +22,6 @@ AreSameSeats seats others =
 abbrev pub IsSameSearch : LedgerOf → LedgerOf → Type 0
 IsSameSearch old new = (new.problem ≡ old.problem) × (new.budget ≡ old.budget) × (new.workers ≡ old.workers)
 
--- a lane from which a worker steals, and the place of its owner
-pub record VictimOf : Type 0 where
-  pub place : ℕ
-  pub lane : LaneId
-
 -- with the same lane of its own, and the same ones from which it steals
 abbrev pub IsSameLocal : Local → Local → Type 0
 IsSameLocal old new = (new.lane.id ≡ old.lane.id) × (new.victims.items ≡ old.victims.items)
@@ -32,14 +29,31 @@ IsSameLocal old new = (new.lane.id ≡ old.lane.id) × (new.victims.items ≡ ol
 abbrev pub IsSameMember : Member → Member → Type 0
 IsSameMember old new = IsSameSeat old.seat new.seat × IsSameLocal old.local new.local
 
--- the lanes of workers, each at its place
+-- which lanes these are
+abbrev pub ids_of : List LaneOf → List LaneId
+ids_of lanes = map (λ (l : LaneOf). l.id) lanes
+
+-- what members have
+abbrev pub seats_of : List Member → List SeatOf
+seats_of members = map (λ (m : Member). m.seat) members
+
+abbrev pub locals_of : List Member → List Local
+locals_of members = map (λ (m : Member). m.local) members
+
+-- the lanes of workers, each at its place, and those from which each may steal
 abbrev pub lanes_of : List Local → List LaneId
 lanes_of locals = map (λ (l : Local). l.lane.id) locals
+
+abbrev pub victims_of : List Local → List (Vec VictimOf Global)
+victims_of locals = map (λ (l : Local). l.victims) locals
 
 -- a victim's lane is that of the worker at its place
 abbrev pub IsPlaced : List LaneId → VictimOf → Type 0
 IsPlaced lanes v = (v.place < length lanes) × ((d : LaneId) → slice_index_or lanes v.place d ≡ v.lane)
 
--- and so is each worker's
-abbrev pub ArePlaced : List LaneId → List Local → Type 0
-ArePlaced lanes locals = All (λ (l : Local). All (IsPlaced lanes) l.victims.items) locals
+abbrev pub AllPlaced : List LaneId → List (Vec VictimOf Global) → Type 0
+AllPlaced lanes victims = All (λ (v : Vec VictimOf Global). All (IsPlaced lanes) v.items) victims
+
+-- each steals from lanes of these
+abbrev pub ArePlaced : List Local → Type 0
+ArePlaced locals = AllPlaced (lanes_of locals) (victims_of locals)

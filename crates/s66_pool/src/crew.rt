@@ -1,6 +1,6 @@
-ghost use Rattle.std.specs.Prelude.{◌≡◌, ◌<◌, ℕ, IfOk, IfErr, All, length, map, slice_index_or};
-ghost use Rattle.s66_pool.specs.Workers.{AreSameSeats, IsSameMember, IsSameSeat, IsSameLocal, ArePlaced, lanes_of};
-ghost use Rattle.s66_pool.specs.declared.member.Member.{Member as MemberOf};
+ghost use Rattle.std.specs.Prelude.{◌≡◌, ◌<◌, ◌≤◌, ℕ, [], IfOk, IfErr, All, length, slice_index_or, vec_capacity, vec_len};
+ghost use Rattle.s66_steal.specs.Lanes.{LaneId};
+ghost use Rattle.s66_pool.specs.Workers.{AreSameSeats, ArePlaced, IsSameMember, IsSameSeat, lanes_of, locals_of, seats_of, victims_of};
 
 use crate::gate::Gate;
 use crate::hint::Hint;
@@ -10,6 +10,7 @@ use crate::locals::{lanes_for, locals_for};
 use crate::member::{Local, Member};
 use crate::options::Options;
 use crate::seat::Seat;
+use crate::victim::Victim;
 use crate::worker::{Site, work_at};
 use s66_isa::Profile;
 use s66_line::Block;
@@ -43,7 +44,7 @@ pub fn work<'a, R: AllocGlobal + Threads + Wait + Sync, G: Gate + Sync>(
     }
     let alloc = rt.alloc();
     let workers = seats.len();
-    let best = hub.best(rt, &mut seats[0]);
+    let best = best_at_first(rt, hub, &mut seats);
     let Ok((hint, hint_seats)) = Hint::new(alloc, best, workers) else {
         return Err((AllocError, seats));
     };
@@ -57,28 +58,35 @@ pub fn work<'a, R: AllocGlobal + Threads + Wait + Sync, G: Gate + Sync>(
         return Err((AllocError, seats));
     };
     seat_members(&mut members, &mut seats, locals);
-    let task = MemberWork {
-        site: Site {
-            rt,
-            hub,
-            gate,
-            searching: AtomicUsize::new(workers),
-        },
-        block,
-        profile,
-    };
-    run_at_each(rt, &task, members.as_mut_slice());
-    settle(rt, hub, members.as_mut_slice());
+    let places = members.as_mut_slice();
+    work_at_each(rt, hub, places, block, profile, gate);
+    settle(rt, hub, places);
     take_seats(&mut seats, members);
     Ok(seats)
 }
 
-/// A member for each seat, in the order of the seats.
+/// The best time, which the first seat then knows.
+fn best_at_first<'a, R: Wait>(rt: &R, hub: &Hub<'a>, seats: &mut Vec<Seat<'a>>) -> u32
+    requires some { 0 < vec_len seats.old }
+    requires here { All (λ s. s.hub ≡ hub.now.id) seats.old.items }
+    ensures same { AreSameSeats seats.old.items seats.new.items }
+    ensures here { All (λ s. s.hub ≡ hub.now.id) seats.new.items }
+{
+    hub.best(rt, &mut seats[0])
+}
+
+/// A member for each seat, in the order of the seats. Each has the local of its place.
 fn seat_members<'t, 'a>(
     members: &mut Vec<Member<'t, 'a>>,
     seats: &mut Vec<Seat<'a>>,
     mut locals: Vec<Local<'t>>,
 )
+    requires empty { members.old.items ≡ [] }
+    requires room { length seats.old.items ≤ vec_capacity members.old }
+    requires count { length locals.items ≡ length seats.old.items }
+    ensures seats { seats_of members.new.items ≡ seats.old.items }
+    ensures locals { locals_of members.new.items ≡ locals.entry.items }
+    ensures left { (seats.new.items ≡ []) × (vec_capacity seats.new ≡ vec_capacity seats.old) }
 {
     while !seats.is_empty() {
         members.push_reserved(Member {
@@ -89,24 +97,81 @@ fn seat_members<'t, 'a>(
 }
 
 /// The members' seats, in the order of the members.
-fn take_seats<'t, 'a>(seats: &mut Vec<Seat<'a>>, mut members: Vec<Member<'t, 'a>>) {
+fn take_seats<'t, 'a>(seats: &mut Vec<Seat<'a>>, mut members: Vec<Member<'t, 'a>>)
+    requires empty { seats.old.items ≡ [] }
+    requires room { length members.items ≤ vec_capacity seats.old }
+    ensures { seats.new.items ≡ seats_of members.entry.items }
+{
     while !members.is_empty() {
         let Member { seat, .. } = members.remove(0);
         seats.push_reserved(seat);
     }
 }
 
+/// Runs a worker for each member, and waits for all of them.
+fn work_at_each<'a, R: AllocGlobal + Threads + Wait + Sync, G: Gate + Sync>(
+    rt: &R,
+    hub: &Hub<'a>,
+    members: &mut [Member<'_, 'a>],
+    block: &Block,
+    profile: &Profile,
+    gate: &G,
+)
+    requires here { All (λ m. m.seat.hub ≡ hub.now.id) members.old }
+    requires placed { ArePlaced (locals_of members.old) }
+    ensures same { AreSameSeats (seats_of members.old) (seats_of members.new) }
+    ensures here { All (λ s. s.hub ≡ hub.now.id) (seats_of members.new) }
+    ensures placed { ArePlaced (locals_of members.new) }
+{
+    let task = MemberWork {
+        site: Site {
+            rt,
+            hub,
+            gate,
+            searching: AtomicUsize::new(members.len()),
+        },
+        block,
+        profile,
+    };
+    run_at_each(rt, &task, members);
+}
+
 /// Gives each pass back to its lane, and each node that is left in a lane back to the hub.
-fn settle<'a, R: Wait>(rt: &R, hub: &Hub<'a>, members: &mut [Member<'_, 'a>]) {
+fn settle<'a, R: Wait>(rt: &R, hub: &Hub<'a>, members: &mut [Member<'_, 'a>])
+    requires here { All (λ s. s.hub ≡ hub.now.id) (seats_of members.old) }
+    requires placed { ArePlaced (locals_of members.old) }
+    ensures { AreSameSeats (seats_of members.old) (seats_of members.new) }
+{
     for worker in 0..members.len() {
-        while let Some(victim) = members[worker].local.victims.pop() {
-            let place = victim.place();
-            victim.leave(&mut members[place].local.lane);
-        }
+        leave_victims(members, worker);
     }
     for worker in 0..members.len() {
         give_left_back(rt, hub, &mut members[worker]);
     }
+}
+
+/// Gives each pass of a worker back to its lane.
+fn leave_victims<'a>(members: &mut [Member<'_, 'a>], worker: usize)
+    requires within { worker < length members.old }
+    requires placed { ArePlaced (locals_of members.old) }
+    ensures seats { seats_of members.new ≡ seats_of members.old }
+    ensures placed { ArePlaced (locals_of members.new) }
+{
+    while let Some(victim) = members[worker].local.victims.pop() {
+        leave_lane(members, victim);
+    }
+}
+
+/// Gives a pass back to its lane.
+fn leave_lane<'a>(members: &mut [Member<'_, 'a>], victim: Victim<'_>)
+    requires within { victim.place < length members.old }
+    requires here { (d : LaneId) → slice_index_or (lanes_of (locals_of members.old)) victim.place d ≡ victim.lane }
+    ensures seats { seats_of members.new ≡ seats_of members.old }
+    ensures lanes { lanes_of (locals_of members.new) ≡ lanes_of (locals_of members.old) }
+    ensures victims { victims_of (locals_of members.new) ≡ victims_of (locals_of members.old) }
+{
+    let place = victim.place();
+    victim.leave(&mut members[place].local.lane);
 }
 
 /// Gives each node that is left in a worker's lane back to the hub.

@@ -1,8 +1,8 @@
-//! What workers need beside their seats: made before they start, and settled after they have ended.
+//! What workers need beside their seats, made before they start.
 
-ghost use Rattle.std.specs.Prelude.{◌≡◌, ◌≤◌, ◌<◌, All, IfOk, IfSome, OnOk, [], length, map};
-ghost use Rattle.s66_steal.specs.Lanes.{LaneOf};
-ghost use Rattle.s66_pool.specs.Workers.{ArePlaced, IsPlaced, lanes_of};
+ghost use Rattle.std.specs.Prelude.{◌≡◌, ◌≤◌, ◌<◌, All, IfOk, [], length, slice_index_or};
+ghost use Rattle.s66_steal.specs.Lanes.{LaneId, LaneOf};
+ghost use Rattle.s66_pool.specs.Workers.{AllPlaced, ArePlaced, ids_of};
 
 use crate::hint::{Hint, HintSeat, Incumbent};
 use crate::limits::WORKERS_LIMIT;
@@ -11,14 +11,14 @@ use crate::victim::Victim;
 use s66_steal::{CAPACITY_LIMIT, Lane, Thief, lane};
 use std::alloc::{AllocError, Global};
 
-/// A lane for each of so many workers, and what the others steal with from each.
+/// A lane for each worker, and what the others steal with from each.
 pub(crate) fn lanes_for(
     alloc: Global,
     workers: usize,
 ) -> Result<(Vec<Lane>, Vec<Thief>), AllocError>
     ensures count { IfOk result (λ r. length r.0.items ≡ workers) }
-    ensures thieves { IfOk result (λ r. r.1.items ≡ map (λ (l : LaneOf). l.id) r.0.items) }
-    ensures new { IfOk result (λ r. All (λ (l : LaneOf). (l.put ≡ []) × (l.passes ≡ 0)) r.0.items) }
+    ensures thieves { IfOk result (λ r. r.1.items ≡ ids_of r.0.items) }
+    ensures new { IfOk result (λ r. All (λ (l : LaneOf). (l.passes ≡ 0) × (l.put ≡ [])) r.0.items) }
 {
     let mut lanes = Vec::with_capacity(alloc, workers)?;
     let mut thieves = Vec::with_capacity(alloc, workers)?;
@@ -41,25 +41,31 @@ fn passes_for(workers: usize) -> usize
     }
 }
 
-/// Deals a pass of a lane to each worker but the one at its place.
+/// Deals a pass of the lane at this place to each other worker.
 fn deal<'t>(
     lane: &mut Lane,
-    thief: &'t Thief,
+    thieves: &'t [Thief],
     place: usize,
     victims: &mut [Vec<Victim<'t>>],
 ) -> Result<(), AllocError>
-    requires new { (lane.old.put ≡ []) × (lane.old.passes ≡ 0) }
-    requires thief { thief.now ≡ lane.old.id }
+    requires new { (lane.old.passes ≡ 0) × (lane.old.put ≡ []) }
+    requires within { place < length thieves.now }
+    requires here { (d : LaneId) → slice_index_or thieves.now place d ≡ lane.old.id }
+    requires placed { AllPlaced thieves.now victims.old }
     ensures lane { lane.new.id ≡ lane.old.id }
+    ensures count { length victims.new ≡ length victims.old }
+    ensures placed { AllPlaced thieves.now victims.new }
 {
     let mut passes = lane.passes(passes_for(victims.len()))?;
     for worker in 0..victims.len() {
         if worker == place {
             continue;
         }
-        if let Some(pass) = passes.pop() {
-            victims[worker].push(Victim::new(thief, pass, place))?;
-        }
+        let Some(pass) = passes.pop() else {
+            return Ok(());
+        };
+        let victim = Victim::new(&thieves[place], pass, place);
+        victims[worker].push(victim)?;
     }
     Ok(())
 }
@@ -70,6 +76,11 @@ fn victims_for<'t>(
     lanes: &mut [Lane],
     thieves: &'t [Thief],
 ) -> Result<Vec<Vec<Victim<'t>>>, AllocError>
+    requires thieves { thieves.now ≡ ids_of lanes.old }
+    requires new { All (λ (l : LaneOf). (l.passes ≡ 0) × (l.put ≡ [])) lanes.old }
+    ensures lanes { ids_of lanes.new ≡ ids_of lanes.old }
+    ensures count { IfOk result (λ r. length r.items ≡ length lanes.old) }
+    ensures placed { IfOk result (λ r. AllPlaced thieves.now r.items) }
 {
     let workers = lanes.len();
     let mut victims = Vec::with_capacity(alloc, workers)?;
@@ -77,12 +88,17 @@ fn victims_for<'t>(
         victims.push_reserved(Vec::with_capacity(alloc, passes_for(workers))?);
     }
     for place in 0..workers {
-        deal(&mut lanes[place], &thieves[place], place, &mut victims)?;
+        deal(
+            &mut lanes[place],
+            thieves,
+            place,
+            victims.as_mut_slice(),
+        )?;
     }
     Ok(victims)
 }
 
-/// What each worker needs beside its seat.
+/// What each worker needs beside its seat. The lanes come to their workers in order.
 pub(crate) fn locals_for<'t>(
     alloc: Global,
     hint: &'t Hint,
@@ -90,14 +106,24 @@ pub(crate) fn locals_for<'t>(
     mut lanes: Vec<Lane>,
     thieves: &'t [Thief],
 ) -> Result<Vec<Local<'t>>, AllocError>
+    requires seats { All (λ s. s.hint ≡ hint.now) seats.items }
+    requires count { length seats.items ≡ length lanes.items }
+    requires thieves { thieves.now ≡ ids_of lanes.items }
+    requires new { All (λ (l : LaneOf). (l.passes ≡ 0) × (l.put ≡ [])) lanes.items }
+    ensures count { IfOk result (λ locals. length locals.items ≡ length lanes.items) }
+    ensures placed { IfOk result (λ locals. ArePlaced locals.items) }
 {
-    let mut victims = victims_for(alloc, &mut lanes, thieves)?;
-    let mut locals = Vec::with_capacity(alloc, lanes.len())?;
-    while !lanes.is_empty() {
+    let workers = lanes.len();
+    let mut victims = victims_for(alloc, lanes.as_mut_slice(), thieves)?;
+    let mut locals = Vec::with_capacity(alloc, workers)?;
+    for _ in 0..workers {
+        let seat = seats.remove(0);
+        let own = lanes.remove(0);
+        let others = victims.remove(0);
         locals.push_reserved(Local {
-            incumbent: Incumbent::new(hint, seats.remove(0)),
-            lane: lanes.remove(0),
-            victims: victims.remove(0),
+            incumbent: Incumbent::new(hint, seat),
+            lane: own,
+            victims: others,
         });
     }
     Ok(locals)

@@ -13,7 +13,7 @@ pub(crate) struct Victim<'t> {
 
 impl<'t> Model for Victim<'t> {
     ghost use Rattle.std.specs.Prelude.{◌≡◌};
-    ghost use Rattle.s66_pool.specs.Workers.{VictimOf};
+    ghost use Rattle.s66_pool.specs.Victims.{VictimOf};
 
     ghost Value = { VictimOf };
 
@@ -23,7 +23,7 @@ impl<'t> Model for Victim<'t> {
 }
 
 impl<'t> Victim<'t> {
-    ghost use Rattle.std.specs.Prelude.{◌≡◌, ◌≤◌};
+    ghost use Rattle.std.specs.Prelude.{◌≡◌};
 
     pub(crate) fn new(thief: &'t Thief, pass: Pass, place: usize) -> Victim<'t>
         requires { pass.lane ≡ thief.now }
@@ -39,7 +39,7 @@ impl<'t> Victim<'t> {
         self.place
     }
 
-    /// Steals the first node of the lane. None says only that this call got none.
+    /// Tries once to steal the first node of the lane. None says only that this call got none.
     pub(crate) fn steal(&mut self) -> Option<Ticket>
         ensures { self.new ≡ self.old }
     {
