@@ -122,7 +122,7 @@ class Maker:
         lines.insert(place, lines[place])
 
     def change_leaf(self, lines, _):
-        lines[self.place(lines, "[CUPT]")] = self.leaf(9)
+        lines[self.place(lines, "[CUPT]( |$)")] = self.leaf(9)
 
     def change_instruction(self, lines, _):
         lines[self.place(lines, "I ")] = "I " + self.instruction(INSTRUCTIONS + WRONG + LONG)
@@ -144,11 +144,11 @@ class Maker:
                 lines[place] = f"BOUND {self.any.randint(max(0, min(least, written)), written)}"
             elif line.startswith("ORDER "):
                 lines[place] = " ".join(["ORDER", *(str(n) for n in range(1, len(block) + 1))])
-            elif line[0] in "CUP" and line.split()[0] in "CUP" and self.any.random() < 0.5:
+            elif line.split(" ")[0] in ("C", "U", "P") and self.any.random() < 0.5:
                 lines[place] = self.leaf(len(block))
 
     def text(self):
-        """One document or a few, and how it was damaged."""
+        """One document or a few, right or damaged, and seldom cut off."""
         text = ""
         for _ in range(self.any.choice([1, 1, 1, 2, 3])):
             lines, written = self.document()
