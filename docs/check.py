@@ -6,7 +6,8 @@
 PROGRAM is the built program. Without a DOCUMENT all are checked: README.md, CONTRIBUTING.md, the README.md of bench/ and of examples/,
 and docs/*.md; the manual page docs/s66.1: that its literal displays are what a terminal shows, and that it has each sentence of the
 program's help; and the files of examples/: that each NAME.time, NAME.chart and NAME.order is to the byte what the program writes
-of NAME.compass, and that check says yes to each document that prove writes of it, at the times of NAME.order. The status is 1 where something is
+of NAME.compass, and that check says yes to each document that prove writes of it, at the times of NAME.order; and that tools/certificate.py,
+which is written from docs/FORMATS.md, says what check says of 200 texts of documents. The status is 1 where something is
 wrong, and each wrong place is told, wrong output as a diff.
 
 Two kinds of fences hold commands. In
@@ -228,6 +229,13 @@ def wrong_manual(name, program):
                 yield f"{name}: doesn't say: {sentence}"
 
 
+def wrong_verdicts(program):
+    """What check and tools/certificate.py say differently of random texts of documents."""
+    compare = [sys.executable, os.path.join(ROOT, "tools/compare_certificates.py"), program, "--texts", "200"]
+    done = subprocess.run(compare, stdout=subprocess.PIPE, stderr=subprocess.STDOUT, text=True)
+    return [] if done.returncode == 0 else [done.stdout.rstrip("\n")]
+
+
 def main(arguments):
     if not arguments:
         sys.exit(__doc__.split("\n\n")[1].strip())
@@ -239,6 +247,7 @@ def main(arguments):
     if not arguments[1:]:
         wrong += wrong_manual("docs/s66.1", program)
         wrong += wrong_examples(program)
+        wrong += wrong_verdicts(program)
     repository = Repository()
     for document in documents:
         name = os.path.relpath(document, ROOT)
