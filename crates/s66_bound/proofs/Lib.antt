@@ -9,3 +9,4 @@ pub mod LongestWalks
 pub mod RemainingSets
 pub mod RemainingSums
 pub mod ValueBounds
+pub mod TopNumbers

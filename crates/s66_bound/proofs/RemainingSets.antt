@@ -1,15 +1,15 @@
 -- What remains after a beginning, and those of it that pass a test, as sets.
-use Rattle.std.proofs.Common.{ℕ, ◌+◌, ◌≤◌, ◌≡◌, Bool, true, false, not, ◌&&◌, List, length, refl, sym, ap, arith, ltb, leb, ◌∙◌}
+use Rattle.std.proofs.Common.{ℕ, ◌+◌, ◌≤◌, ◌≡◌, Bool, true, false, not, ◌&&◌, List, length, refl, sym, subst, ap, arith, ltb, leb, ◌∙◌}
 use Rattle.std.proofs.lemmas.Bool.{and_parts, and_from, le-leb, leb-true}
 use Rattle.std.specs.Cmp.{both_ways}
 use Rattle.std.specs.List.{filter}
 use Rattle.s66_isa.specs.declared.limits.TheConstants.{BLOCK_LIMIT}
-use Rattle.s66_isa.specs.Lists.{has, rising}
+use Rattle.s66_isa.specs.Lists.{has, rising, Among}
 use Rattle.s66_isa.specs.Table.{Instr, numbers}
 use Rattle.s66_isa.proofs.Lists.{filter-filter, has-among, among-has, among-rising, rising-among}
 use Rattle.s66_model.specs.Timing.{Problem}
 use Rattle.s66_model.specs.LegalOrder.{is_remaining, remaining}
-use Rattle.s66_model.proofs.Remaining.{remaining-parts}
+use Rattle.s66_model.proofs.Remaining.{remaining-parts, remaining-among}
 use Rattle.s66_dep.specs.declared.set.Set.{Set}
 use Rattle.s66_dep.specs.Members.{numbers_in}
 use Rattle.s66_dep.proofs.Sets.{within, within-from, within-parts, filter-within, numbers_in-filter}
@@ -39,6 +39,12 @@ rest-is block prefix all pushed rest few is_all is_pushed is_rest =
         both_ways (is_remaining block prefix m) (within (is_remaining block prefix) (length block + 1) m)
         (λ is. let (low, high, new) = remaining-parts block prefix m is in within-from (is_remaining block prefix) (length block + 1) m low (omega (arith, high)) is)
         (λ is. let (low, high, passes) = within-parts (is_remaining block prefix) (length block + 1) m is in passes)
+
+-- they are numbers of the block
+pub remaining-within : (block : List Instr) (prefix : List ℕ) (rest : Set) → numbers_in rest ≡ remaining block prefix → (n : ℕ) → Among n (numbers_in rest) → (1 ≤ n) × (n ≤ length block)
+remaining-within block prefix rest is n among =
+    let (low, high, new) = remaining-parts block prefix n (remaining-among block prefix n (subst (Among n) is among)) in
+    (low, high)
 
 -- THOSE THAT PASS
 

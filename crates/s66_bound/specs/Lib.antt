@@ -1,3 +1,4 @@
 pub mod LeafValues
 pub mod InstructionCosts
 pub mod TableWords
+pub mod TopNumbers

@@ -16,7 +16,9 @@ use Rattle.s66_model.specs.Tails.{longest_tail, spare, HasWritten, HasWords}
 use Rattle.s66_dep.specs.declared.set.Set.{Set}
 use Rattle.s66_dep.specs.Members.{numbers_in, no_set}
 use Rattle.s66_time.specs.Ticking.{Ticking}
+use Rattle.s66_bound.specs.declared.numbers.TheConstants.{TOP_COUNT}
 use Rattle.s66_bound.specs.declared.tables.Tables.{Tables}
+use Rattle.s66_bound.specs.TopNumbers.{IsTop, AreEnds}
 
 abbrev pub timed_by : Block → Profile → Problem
 timed_by block profile = record { block = instrs_of block; profile = profile }
@@ -46,6 +48,8 @@ pub record IsTables (b : Problem) (t : Tables) : Type 0 where
   pub long : AreThose b (λ n. (row_at b n).parcels == 2) t.long
   pub longest : HasWords b (longest_tail b) t.longest
   pub spare : HasWords b (spare b) t.spare
+  pub tops : (i : ℕ) → i < TOP_COUNT → IsTop t.longest (length b.block) (get_or t.tops i no_set)
+  pub ends : AreEnds t.spare (length b.block) t.ends
   pub works : HasWorks b t.works
   pub users : HasUsers b t.users
   pub written : HasWritten b t.written.items

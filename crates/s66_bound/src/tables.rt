@@ -13,11 +13,10 @@ ghost use Rattle.s66_bound.specs.TableWords.{AreThose, AreRegisters, HasWorks, H
 
 use crate::entry::Entry;
 use crate::longest::longest_tails;
+use crate::numbers::{TOP_COUNT, ends_of, tops_of};
 use arrayvec::ArrayVec;
 use s66_dep::Set;
-use s66_isa::{
-    BLOCK_LIMIT, KIND_COUNT, REGISTER_COUNT, Reg, Write, is_same_register, kind_number,
-};
+use s66_isa::{BLOCK_LIMIT, KIND_COUNT, REGISTER_COUNT, Reg, Write, is_same_register, kind_number};
 
 /// What bounds look up of the numbers of a block; the word of n stands at n - 1. Times are in minor cycles.
 #[derive(Debug, Drop)]
@@ -30,6 +29,10 @@ pub struct Tables {
     pub longest: [u32; BLOCK_LIMIT],
     /// By how much its own tail is longer than its parcels.
     pub spare: [u32; BLOCK_LIMIT],
+    /// The numbers of the longest tails: those of at least half the greatest, those of at least a quarter of it, and so on.
+    pub tops: [Set; TOP_COUNT],
+    /// The numbers of the least spare.
+    pub ends: Set,
     /// Of each kind, by its number, for how long the instructions take a unit, summed: each for its hold and one.
     pub works: [u32; KIND_COUNT],
     /// The numbers that read or write each register, by its index.
@@ -45,11 +48,15 @@ impl Tables {
         requires known { (b : Problem) × AreEntries b entries.now }
         ensures { (b : Problem) → AreEntries b entries.now → IsTables b result }
     {
+        let longest = longest_tails(entries);
+        let spare = spares(entries);
         Tables {
             all: Set::up_to(entries.len()),
             long: long_numbers(entries),
-            longest: longest_tails(entries),
-            spare: spares(entries),
+            tops: tops_of(&longest, entries.len()),
+            ends: ends_of(&spare, entries.len()),
+            longest,
+            spare,
             works: works_by_kind(entries),
             users: users_by_register(entries),
             written: written_registers(entries),

@@ -1,8 +1,8 @@
 //! The values of the bounds, by the tables of the clock's block. All are in minor cycles.
 
-ghost use Rattle.std.specs.Prelude.{◌≡◌, ◌+◌, ◌<◌, ◌≤◌, ◌^◌, length, max};
+ghost use Rattle.std.specs.Prelude.{◌≡◌, ◌+◌, ◌-◌, ◌<◌, ◌≤◌, ◌^◌, length, max, get_or};
 ghost use Rattle.std.specs.List.{filter};
-ghost use Rattle.s66_isa.specs.Lists.{greatest};
+ghost use Rattle.s66_isa.specs.Lists.{greatest, least};
 ghost use Rattle.s66_isa.specs.Table.{all_kinds};
 ghost use Rattle.s66_line.specs.Block.{instrs_of};
 ghost use Rattle.s66_model.specs.Timing.{row_at};
@@ -14,7 +14,7 @@ ghost use Rattle.s66_time.specs.declared.limits.TheConstants.{COPIES_LIMIT, TOTA
 ghost use Rattle.s66_time.specs.Ticking.{problem_of};
 ghost use Rattle.s66_bound.specs.TableWords.{AreRemaining, IsTables};
 
-use crate::numbers::{greatest_from, greatest_of, least_of};
+use crate::numbers::{TOP_COUNT, greatest_from, greatest_of, least_of};
 use crate::tables::Tables;
 use s66_dep::Set;
 use s66_isa::{Kind, Reg, kind_number};
@@ -48,6 +48,21 @@ fn chain_by(tables: &Tables, clock: &Clock<'_>, rest: &Set, register: Reg) -> u3
     greatest_from(&tables.longest, clock.done_of(register), &users)
 }
 
+/// The greatest of the longest tails of the numbers that remain. They are looked for among the longest tails first.
+fn greatest_tail(tables: &Tables, clock: &Clock<'_>, rest: &Set) -> u32
+    requires tables { IsTables (problem_of clock.now) tables.now }
+    requires rest { AreRemaining clock.now rest.now }
+    ensures { result ≡ greatest (λ n. get_or tables.now.longest (n - 1) 0) (numbers_in rest.now) }
+{
+    for index in 0..TOP_COUNT {
+        let those = rest.both(&tables.tops[index]);
+        if those.count() != 0 {
+            return greatest_of(&tables.longest, &those);
+        }
+    }
+    greatest_of(&tables.longest, rest)
+}
+
 /// A value, or the greatest value of a chain if that is greater. A chain starts in the next slot, or when a register is done that
 /// is late; only the registers are looked at that are so late that they can make a greater one.
 fn least_or_chain(tables: &Tables, clock: &Clock<'_>, rest: &Set, least: u32) -> u32
@@ -56,7 +71,7 @@ fn least_or_chain(tables: &Tables, clock: &Clock<'_>, rest: &Set, least: u32) ->
     requires some { length clock.now.numbers < length (instrs_of clock.now.block) }
     ensures { result ≡ max least (chain (problem_of clock.now) clock.now.numbers) }
 {
-    let tail = greatest_of(&tables.longest, rest);
+    let tail = greatest_tail(tables, clock, rest);
     let mut most = least.max(clock.next() + tail);
     let mut late = clock.late(most - tail);
     while let Some(register) = late.pop_first() {
@@ -107,6 +122,20 @@ pub fn load_of(tables: &Tables, clock: &Clock<'_>, kind: Kind) -> u32
     over(work, clock.profile().copies(kind)) + clock.next()
 }
 
+/// The least spare of the numbers that remain. Mostly one of the block's least remains.
+fn least_spare(tables: &Tables, clock: &Clock<'_>, rest: &Set) -> u32
+    requires tables { IsTables (problem_of clock.now) tables.now }
+    requires rest { AreRemaining clock.now rest.now }
+    requires some { 0 < length (numbers_in rest.now) }
+    ensures { result ≡ least (λ n. get_or tables.now.spare (n - 1) 0) (numbers_in rest.now) }
+{
+    let mut ends = rest.both(&tables.ends);
+    match ends.pop_first() {
+        Some(number) => tables.spare[number as usize - 1],
+        None => least_of(&tables.spare, rest),
+    }
+}
+
 /// The parcels that remain, and the least that a last number's tail is longer than its own.
 pub fn parcels_of(tables: &Tables, clock: &Clock<'_>, rest: &Set) -> u32
     requires tables { IsTables (problem_of clock.now) tables.now }
@@ -115,7 +144,7 @@ pub fn parcels_of(tables: &Tables, clock: &Clock<'_>, rest: &Set) -> u32
     ensures { result ≡ parcels (problem_of clock.now) clock.now.numbers }
 {
     let parcels = rest.count() + rest.both(&tables.long).count();
-    clock.next() + parcels + least_of(&tables.spare, rest)
+    clock.next() + parcels + least_spare(tables, clock, rest)
 }
 
 /// The greatest load.

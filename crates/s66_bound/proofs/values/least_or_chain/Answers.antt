@@ -14,7 +14,7 @@ overflow_add-next c =
     omega (
       arith,
       c.next.ensures.value,
-      c.greatest_of-tail.ensures,
+      c.greatest_tail-tail.ensures,
       ap (greatest (λ n. get_or c.args.tables.now.longest (n - 1) 0)) c.requires.rest.numbers,
       tail_remaining-words b t.numbers c.args.tables.now.longest c.requires.tables.longest,
       chain-covered b t.numbers c.args.tables.now.written.items c.requires.rest.begins c.requires.some c.requires.tables.written,
@@ -25,10 +25,10 @@ pub loop-register-init : goal.loop-register-init
 loop-register-init c =
     let t = c.args.clock.now in
     let b = problem_of t in
-    late-covers b t.numbers c.args.tables.now.written.items (registers_in c.late-late.result) c.max-most.result c.args.least c.greatest_of-tail.result c.requires.rest.begins c.requires.some c.requires.tables.written c.requires.tables.registers
+    late-covers b t.numbers c.args.tables.now.written.items (registers_in c.late-late.result) c.max-most.result c.args.least c.greatest_tail-tail.result c.requires.rest.begins c.requires.some c.requires.tables.written c.requires.tables.registers
     (omega (
       arith,
-      c.greatest_of-tail.ensures,
+      c.greatest_tail-tail.ensures,
       ap (greatest (λ n. get_or c.args.tables.now.longest (n - 1) 0)) c.requires.rest.numbers,
       tail_remaining-words b t.numbers c.args.tables.now.longest c.requires.tables.longest,
     ))
