@@ -63,7 +63,7 @@ impl Model for Hint {
 #[derive(Drop)]
 pub struct HintSeat {
     // a value of no bytes couldn't lie in a slice
-    number: u8,
+    number: usize,
     token: Seat<(), u64>,
 }
 
@@ -81,7 +81,7 @@ impl Model for HintSeat {
 impl HintSeat {
     ghost use Rattle.std.specs.Prelude.{◌≡◌, ◌<◌, ◌^◌};
 
-    fn new(number: u8, token: Seat<(), u64>) -> HintSeat
+    fn new(number: usize, token: Seat<(), u64>) -> HintSeat
         requires { token.me.0 < 2 ^ 32 }
         ensures { result ≡ record { hint = token.table_id; kept = token.me.0 } }
     {
@@ -93,17 +93,21 @@ impl Hint {
     ghost use Rattle.std.specs.Prelude.{◌≡◌, ◌≤◌, All, length, min, IfOk};
 
     /// A hint, and a seat for each worker. All keep this word.
-    pub fn new(alloc: Global, word: u32, workers: u8) -> Result<(Hint, Vec<HintSeat>), AllocError>
+    pub fn new(
+        alloc: Global,
+        word: u32,
+        workers: usize,
+    ) -> Result<(Hint, Vec<HintSeat>), AllocError>
         ensures count { IfOk result (λ r. length r.1.items ≡ workers) }
         ensures here { IfOk result (λ r. All (λ s. s.hint ≡ r.0) r.1.items) }
         ensures kept { IfOk result (λ r. All (λ s. s.kept ≡ word) r.1.items) }
     {
-        let mut seats = Vec::with_capacity(alloc, workers as usize)?;
+        let mut seats = Vec::with_capacity(alloc, workers)?;
         let first = u64::from(word);
         let (table, mut founder) = Table::of_words(alloc, &[first], &first)?;
         for i in 0..workers {
             let token = table.shared.split_seat::<Copies>(&mut founder);
-            seats.push(HintSeat::new(i + 1, token))?;
+            seats.push(HintSeat::new(i, token))?;
         }
         Ok((Hint { table }, seats))
     }

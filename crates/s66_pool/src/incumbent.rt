@@ -7,31 +7,38 @@ use s66_node::Least;
 #[derive(Drop)]
 pub(crate) struct Incumbent<'h> {
     hint: &'h Hint,
-    seat: &'h mut HintSeat,
-    ghost here: { seat.now.hint ≡ hint.now },
+    seat: HintSeat,
+    ghost here: { seat.hint ≡ hint.now },
 }
 
 impl<'h> Incumbent<'h> {
-    pub(crate) fn new(hint: &'h Hint, seat: &'h mut HintSeat) -> Incumbent<'h>
-        requires { seat.old.hint ≡ hint.now }
-        ensures { result.seat.now ≡ seat.old }
+    pub(crate) fn new(hint: &'h Hint, seat: HintSeat) -> Incumbent<'h>
+        requires { seat.hint ≡ hint.now }
+        ensures { result.seat ≡ seat }
     {
         Incumbent { hint, seat }
     }
 
-    /// Lowers the hint, as `Hint::lower` does.
-    pub(crate) fn lower(&mut self, to: u32) -> u32
-        ensures kept { self.new.seat.now.kept ≡ min result to }
-        ensures known { result ≤ self.old.seat.now.kept }
+    /// Reads the hint, as `Hint::load` does.
+    pub(crate) fn load(&mut self) -> u32
+        ensures kept { self.new.seat.kept ≡ result }
+        ensures known { result ≤ self.old.seat.kept }
     {
-        self.hint.lower(&mut *self.seat, to)
+        self.hint.load(&mut self.seat)
+    }
+
+    /// Lowers the hint, as `Hint::lower` does.
+    pub(crate) fn lower(&mut self, to: u32)
+        ensures known { self.new.seat.kept ≤ min self.old.seat.kept to }
+    {
+        self.hint.lower(&mut self.seat, to);
     }
 }
 
 impl<'h> Least for Incumbent<'h> {
-    ghost kept = { λ i. i.seat.now.kept };
+    ghost kept = { λ i. i.seat.kept };
 
     fn least(&mut self) -> u32 {
-        self.hint.load(&mut *self.seat)
+        self.load()
     }
 }

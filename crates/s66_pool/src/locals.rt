@@ -4,7 +4,8 @@ ghost use Rattle.std.specs.Prelude.{◌≡◌, ◌≤◌, ◌<◌, All, IfOk, []
 ghost use Rattle.s66_steal.specs.Lanes.{LaneId, LaneOf};
 ghost use Rattle.s66_pool.specs.Workers.{AllPlaced, ArePlaced, ids_of};
 
-use crate::hint::{Hint, HintSeat, Incumbent};
+use crate::hint::{Hint, HintSeat};
+use crate::incumbent::Incumbent;
 use crate::limits::WORKERS_LIMIT;
 use crate::member::Local;
 use crate::victim::Victim;

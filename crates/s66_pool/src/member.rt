@@ -1,4 +1,4 @@
-use crate::hint::Incumbent;
+use crate::incumbent::Incumbent;
 use crate::seat::Seat;
 use crate::victim::Victim;
 use s66_ledger::Ticket;
