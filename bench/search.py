@@ -20,7 +20,7 @@ import time
 from speed import ALL, TOP, instructions
 
 CRATES = os.path.join(TOP, "crates")
-LENGTHS = [24, 40]
+LENGTHS = [24, 40, 64]
 BLOCKS = 4
 ROUNDS = 50
 
