@@ -40,9 +40,10 @@ all-moved locals (x ∷ xs) victims start first thieves none none' is ids those 
 all-moved locals [] (x ∷ xs) start first thieves none none' is ids those placed = absurd (omega arith)
 all-moved locals [] [] start first thieves none none' is ids those placed =
     let lanes : lanes_of locals ≡ thieves = sym (append-nil (lanes_of locals)) ∙ is in
-    let from : victims_of locals ≡ start = sym (append-nil (victims_of locals)) ∙ those in
-    (sym (length-map locals (λ (l : Local). l.lane.id)) ∙ (ap (λ (a : List LaneId). length a) (lanes ∙ ids) ∙ length-map first (λ (l : LaneOf). l.id)),
-    subst (λ (a : List LaneId). AllPlaced a (victims_of locals)) (sym lanes) (subst (λ (a : List (Vec VictimOf Global)). AllPlaced thieves a) (sym from) placed))
+    let from : victims_of locals ≡ start = sym (append-nil (victims_of locals)) ∙ those in (
+      sym (length-map locals (λ (l : Local). l.lane.id)) ∙ (ap (λ (a : List LaneId). length a) (lanes ∙ ids) ∙ length-map first (λ (l : LaneOf). l.id)),
+      subst (λ (a : List LaneId). AllPlaced a (victims_of locals)) (sym lanes) (subst (λ (a : List (Vec VictimOf Global)). AllPlaced thieves a) (sym from) placed),
+    )
 
 -- LANES THAT ARE DEALT
 
@@ -129,11 +130,11 @@ placed-pop ms i d now popped within is placed =
     let lanes : List LaneId = lanes_of (locals_of ms) in
     let same : lanes_of (locals_of ns) ≡ lanes = lanes-set ms i (with_victims (get_or ms i d) now) d refl in
     let at : All (IsPlaced lanes) (get_or ms i d).local.victims.items =
-        subst (λ (a : Vec VictimOf Global). All (IsPlaced lanes) a.items) (victims-get ms i d) (placed i d.local.victims (omega (arith, count-locals ms))) in
+    subst (λ (a : Vec VictimOf Global). All (IsPlaced lanes) a.items) (victims-get ms i d) (placed i d.local.victims (omega (arith, count-locals ms))) in
     let parts = All-pop (IsPlaced lanes) (get_or ms i d).local.victims.items now.items popped is at in
     let those : AllPlaced lanes (victims_of (locals_of ns)) =
-        subst (λ (a : List (Vec VictimOf Global)). AllPlaced lanes a) (sym (victims-put ms i (with_victims (get_or ms i d) now)))
-        (All-set (λ (a : Vec VictimOf Global). All (IsPlaced lanes) a.items) (victims_of (locals_of ms)) i now parts.0 placed) in
+    subst (λ (a : List (Vec VictimOf Global)). AllPlaced lanes a) (sym (victims-put ms i (with_victims (get_or ms i d) now)))
+    (All-set (λ (a : Vec VictimOf Global). All (IsPlaced lanes) a.items) (victims_of (locals_of ms)) i now parts.0 placed) in
     (subst (λ (a : List LaneId). AllPlaced a (victims_of (locals_of ns))) (sym same) those, subst (λ (a : List LaneId). IfSome popped (IsPlaced a)) (sym same) parts.1)
 
 pub victim-within : (ms : List Member) (popped : Option VictimOf) (v : VictimOf) → popped ≡ Some v → IfSome popped (IsPlaced (lanes_of (locals_of ms))) → v.place < length ms
@@ -170,33 +171,37 @@ pub fewer-at : (ms : List Member) (i : ℕ) (d : Member) (now : Vec VictimOf Glo
 fewer-at ms i d now ns within less same =
     let here = victims_at-here ms i d within in
     let there : victims_at ns i ≡ vec_len now =
-        ap (λ (a : List (Vec VictimOf Global)). get_or (map (λ (b : Vec VictimOf Global). vec_len b) a) i 0) same ∙ victims_at-set ms i (with_victims (get_or ms i d) now) within in
+    ap (λ (a : List (Vec VictimOf Global)). get_or (map (λ (b : Vec VictimOf Global). vec_len b) a) i 0) same ∙ victims_at-set ms i (with_victims (get_or ms i d) now) within in
     omega arith
 
 -- SEATS THAT COME BACK
 
 pub same-trans : (xs ys zs : List SeatOf) → AreSameSeats xs ys → AreSameSeats ys zs → AreSameSeats xs zs
-same-trans xs ys zs one two =
-    (two.0 ∙ one.0, λ i d within.
-    let a = one.1 i d within in
-    let b = two.1 i d (omega (arith, one.0)) in
-    (b.0 ∙ a.0, b.1 ∙ a.1))
+same-trans xs ys zs one two = (
+  two.0 ∙ one.0,
+  λ i d within.
+      let a = one.1 i d within in
+      let b = two.1 i d (omega (arith, one.0)) in
+      (b.0 ∙ a.0, b.1 ∙ a.1),
+)
 
 pub here-kept : (hub : TableId) (xs ys : List SeatOf) → AreSameSeats xs ys → All (λ (s : SeatOf). s.hub ≡ hub) xs → All (λ (s : SeatOf). s.hub ≡ hub) ys
 here-kept hub xs ys same here k d within = (same.1 k d (omega (arith, same.0))).0 ∙ here k d (omega (arith, same.0))
 
 same-put : (xs ys : List SeatOf) (i : ℕ) (s : SeatOf) → i < length ys → ((d : SeatOf) → IsSameSeat (get_or ys i d) s) → AreSameSeats xs ys → AreSameSeats xs (set ys i s)
-same-put xs ys i s within next same =
-    (length-set ys i s ∙ same.0, λ k d lt.
-    let before = same.1 k d lt in
-    dite (ℕ_discrete k i)
-    (λ (e : k ≡ i).
-    let is : get_or (set ys i s) k d ≡ s = ap (λ (j : ℕ). get_or (set ys i s) j d) e ∙ get_or-set_same ys i s d within in
-    let was : get_or ys i d ≡ get_or ys k d = ap (λ (j : ℕ). get_or ys j d) (sym e) in
-    (ap (λ (z : SeatOf). z.hub) is ∙ ((next d).0 ∙ (ap (λ (z : SeatOf). z.hub) was ∙ before.0)), ap (λ (z : SeatOf). z.book.who) is ∙ ((next d).1 ∙ (ap (λ (z : SeatOf). z.book.who) was ∙ before.1))))
-    (λ (ne : k ≢ i).
-    let is : get_or (set ys i s) k d ≡ get_or ys k d = get_or-set_other ys i k s d ne in
-    (ap (λ (z : SeatOf). z.hub) is ∙ before.0, ap (λ (z : SeatOf). z.book.who) is ∙ before.1)))
+same-put xs ys i s within next same = (
+  length-set ys i s ∙ same.0,
+  λ k d lt.
+      let before = same.1 k d lt in
+      dite (ℕ_discrete k i)
+      (λ (e : k ≡ i).
+      let is : get_or (set ys i s) k d ≡ s = ap (λ (j : ℕ). get_or (set ys i s) j d) e ∙ get_or-set_same ys i s d within in
+      let was : get_or ys i d ≡ get_or ys k d = ap (λ (j : ℕ). get_or ys j d) (sym e) in
+      (ap (λ (z : SeatOf). z.hub) is ∙ ((next d).0 ∙ (ap (λ (z : SeatOf). z.hub) was ∙ before.0)), ap (λ (z : SeatOf). z.book.who) is ∙ ((next d).1 ∙ (ap (λ (z : SeatOf). z.book.who) was ∙ before.1))))
+      (λ (ne : k ≢ i).
+      let is : get_or (set ys i s) k d ≡ get_or ys k d = get_or-set_other ys i k s d ne in
+      (ap (λ (z : SeatOf). z.hub) is ∙ before.0, ap (λ (z : SeatOf). z.book.who) is ∙ before.1)),
+)
 
 pub same-after : (xs : List SeatOf) (ms : List Member) (i : ℕ) (m d : Member) → i < length ms → IsSameSeat (get_or ms i d).seat m.seat → AreSameSeats xs (seats_of ms) → AreSameSeats xs (seats_of (set ms i m))
 same-after xs ms i m d within next same =
@@ -214,7 +219,7 @@ pub returned : (back first now : List SeatOf) (before between after rest : List 
 returned back first now before between after rest n is count one seats two three =
     let through = same-trans first (seats_of before) (seats_of after) (subst (λ (a : List SeatOf). AreSameSeats first a) (sym seats) one) (same-trans (seats_of before) (seats_of between) (seats_of after) two three) in
     let many : length after ≡ n =
-        sym (length-map after (λ (m : Member). m.seat)) ∙ (three.0 ∙ (two.0 ∙ (length-map before (λ (m : Member). m.seat) ∙ count))) in
+    sym (length-map after (λ (m : Member). m.seat)) ∙ (three.0 ∙ (two.0 ∙ (length-map before (λ (m : Member). m.seat) ∙ count))) in
     subst (λ (a : List SeatOf). AreSameSeats first a) (sym (is ∙ ap (λ (a : List Member). seats_of a) (take_at after rest n many))) through
 
 -- MEMBERS THAT HAVE WORKED

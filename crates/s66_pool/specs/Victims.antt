@@ -1,4 +1,4 @@
--- To be believed: what contracts see of a lane from which a worker steals.
+-- Used by contracts within the crate alone: what they see of a lane from which a worker steals.
 use Rattle.std.specs.Prelude.{ℕ}
 use Rattle.s66_steal.specs.Lanes.{LaneId}
 

@@ -22,6 +22,8 @@ AreSameSeats seats others =
 abbrev pub IsSameSearch : LedgerOf → LedgerOf → Type 0
 IsSameSearch old new = (new.problem ≡ old.problem) × (new.budget ≡ old.budget) × (new.workers ≡ old.workers)
 
+-- USED WITHIN THE CRATE ALONE
+
 -- with the same lane of its own, and the same ones from which it steals
 abbrev pub IsSameLocal : Local → Local → Type 0
 IsSameLocal old new = (new.lane.id ≡ old.lane.id) × (new.victims.items ≡ old.victims.items)

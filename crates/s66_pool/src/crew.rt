@@ -174,7 +174,7 @@ fn leave_lane<'a>(members: &mut [Member<'_, 'a>], victim: Victim<'_>)
     victim.leave(&mut members[place].local.lane);
 }
 
-/// Gives each node that is left in a worker's lane back to the hub.
+/// Gives each node that is left in a worker's lane back to the hub. If out of memory, a node stays out until the ledger is finished.
 fn give_left_back<'a, R: Wait>(rt: &R, hub: &Hub<'a>, member: &mut Member<'_, 'a>)
     requires { member.old.seat.hub ≡ hub.now.id }
     ensures { IsSameSeat member.old.seat member.new.seat }

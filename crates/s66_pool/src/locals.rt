@@ -89,12 +89,7 @@ fn victims_for<'t>(
         victims.push_reserved(Vec::with_capacity(alloc, passes_for(workers))?);
     }
     for place in 0..workers {
-        deal(
-            &mut lanes[place],
-            thieves,
-            place,
-            victims.as_mut_slice(),
-        )?;
+        deal(&mut lanes[place], thieves, place, victims.as_mut_slice())?;
     }
     Ok(victims)
 }
