@@ -1,8 +1,10 @@
-ghost use Rattle.std.specs.Prelude.{◌≡◌, map};
-ghost use Rattle.s66_isa.specs.Table.{row};
+ghost use Rattle.std.specs.Prelude.{ℕ, ◌≡◌, map};
+ghost use Rattle.s66_isa.specs.Table.{instr_at, row};
 ghost use Rattle.s66_line.specs.Block.{instrs_of};
+ghost use Rattle.s66_time.specs.Ticking.{HasDigits};
 
 use crate::copies::Copies;
+use crate::mark::Mark;
 use crate::steps::Steps;
 use crate::words::Words;
 use arrayvec::ArrayVec;
@@ -42,11 +44,16 @@ impl<'a> Model for Clock<'a> {
 
 /// The rows of a block's instructions.
 fn rows_of(block: &Block<'_>, profile: &Profile) -> ArrayVec<Row, BLOCK_LIMIT>
-    ensures { result.items ≡ map (row profile.now) (instrs_of block.now) }
+    ensures rows { result.items ≡ map (row profile.now) (instrs_of block.now) }
+    ensures digits { (n : ℕ) → HasDigits (instr_at (instrs_of block.now) n) }
 {
     let mut rows = ArrayVec::new();
     for position in 0..block.count() {
-        rows.push(Row::of(&block.instr(position + 1), profile));
+        let instr = block.instr(position + 1);
+        prove!(instr.i() <= 7);
+        prove!(instr.j() <= 7);
+        prove!(instr.k() <= 7);
+        rows.push(Row::of(&instr, profile));
     }
     rows
 }
@@ -62,7 +69,8 @@ impl<'a> Clock<'a> {
     ghost use Rattle.s66_model.specs.LegalOrder.{is_ready, IsBeginning};
     ghost use Rattle.s66_model.specs.Timing.{Point, next, total, done_of};
     ghost use Rattle.s66_model.specs.Leaves.{rest_busy, work_of};
-    ghost use Rattle.s66_time.specs.Ticking.{points};
+    ghost use Rattle.s66_time.specs.Marks.{IsMarkOf};
+    ghost use Rattle.s66_time.specs.Ticking.{points, problem_of};
     ghost use Rattle.s66_time.specs.declared.limits.TheConstants.{COPIES_LIMIT, LOOK_LIMIT, TOTAL_LIMIT};
 
     /// Before the first push, in time linear in the block's length.
@@ -113,6 +121,16 @@ impl<'a> Clock<'a> {
         ensures { result ≡ self.now.looks }
     {
         self.looks
+    }
+
+    /// What decides how soon each completion of the pushed numbers can be done.
+    pub fn mark(&self) -> Mark
+        ensures { IsMarkOf (problem_of self.now) self.now.numbers result }
+    {
+        Mark {
+            profile: self.profile,
+            words: self.words,
+        }
     }
 
     /// The block.

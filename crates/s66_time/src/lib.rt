@@ -4,6 +4,7 @@
 mod clock;
 mod copies;
 mod limits;
+mod mark;
 mod packing;
 mod progress;
 mod registers;
@@ -17,5 +18,6 @@ mod words;
 
 pub use clock::Clock;
 pub use limits::{LOOK_LIMIT, TOTAL_LIMIT};
+pub use mark::{Mark, dominates, dominates_clamped};
 pub use packing::{Packing, pack};
 pub use timed::{Timed, Timer, Times, time_of};

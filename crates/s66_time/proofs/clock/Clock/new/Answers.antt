@@ -8,5 +8,6 @@ invariant_of-result c =
     record {
       clock = clock-start (record { block = instrs_of c.args.block.now; profile = c.args.profile.now }) c.new.result c.new-2.result (omega (arith, c.count.ensures)) c.new-2.ensures c.new.ensures;
       counted = c.of.ensures;
-      each = c.rows_of.ensures;
+      each = c.rows_of.ensures.rows;
+      digits = c.rows_of.ensures.digits;
     }
