@@ -1,4 +1,4 @@
-use Rattle.std.proofs.Common.{◌∙◌, refl, sym}
+use Rattle.std.proofs.Common.{refl}
 use Rattle.s66_pool.proofs.Members.{seats-set, lanes-set, victims-set, lane-at}
 use Rattle.s66_pool.proofs.crew.leave_lane.Goals as goal
 
