@@ -3,7 +3,7 @@ ghost use Rattle.clap.specs.Words.{Text, app_of, found_of, kind_of, one_text};
 ghost use Rattle.s66_ledger.specs.declared.limits.TheConstants.{BUDGET_LIMIT};
 ghost use Rattle.s66_pool.specs.declared.limits.TheConstants.{WORKERS_LIMIT};
 ghost use Rattle.s66_program.specs.declared.limits.TheConstants.{NODES_DEFAULT, WORKERS_DEFAULT};
-ghost use Rattle.s66_program.specs.Usage.{Asks, IsArgumentOf, IsCommandOf, IsUsageOf, Refuses, chart_app, check_app, deps_app, lint_app, nodes_rule, order_app, profile_rule, prove_app, s66_app, search_app, time_app, trace_rule, workers_rule};
+ghost use Rattle.s66_program.specs.Usage.{Asks, IsArgumentOf, IsCommandOf, IsUsageOf, Refuses, chart_app, check_app, deps_app, lint_app, nodes_rule, order_app, profile_rule, prove_app, s66_app, search_app, sum_app, time_app, trace_rule, workers_rule};
 ghost use Rattle.s66_program.specs.OptionNumbers.{IsNumber, IsReadAs};
 ghost use Rattle.s66_program.specs.declared.usage.Usage.TheVariants.{OutOfMemory};
 
@@ -99,6 +99,12 @@ const ORDER_ENDING: &str = help_ending!(
 
 const PROVE_ENDING: &str = help_ending!(
     "s66 prove --nodes 1000 < SOURCE",
+    "the source or the profile was refused",
+    ", 7 some block is only bounded"
+);
+
+const SUM_ENDING: &str = help_ending!(
+    "s66 sum --nodes 1000 < SOURCE",
     "the source or the profile was refused",
     ", 7 some block is only bounded"
 );
@@ -267,6 +273,18 @@ fn lint_command<'a>(alloc: Global) -> Command<'a>
         .after_help(LINT_ENDING)
 }
 
+/// The subcommand `sum`.
+fn sum_command<'a>(alloc: Global) -> Result<Command<'a>, AllocError>
+    ensures { IfOk result (IsCommandOf sum_app) }
+{
+    search_command(
+        alloc,
+        "sum",
+        "Tells what each block of a source takes in the best order that was found, and all of them",
+        SUM_ENDING,
+    )
+}
+
 /// The command line of the program, which usage and help call s66 whatever the program's file is named.
 fn program<'a>(alloc: Global) -> Result<Command<'a>, AllocError>
     ensures { IfOk result (λ c. app_of c ≡ s66_app) }
@@ -284,7 +302,8 @@ fn program<'a>(alloc: Global) -> Result<Command<'a>, AllocError>
         .subcommand(order_command(alloc)?)?
         .subcommand(prove_command(alloc)?)?
         .subcommand(check_command(alloc))?
-        .subcommand(lint_command(alloc))
+        .subcommand(lint_command(alloc))?
+        .subcommand(sum_command(alloc)?)
 }
 
 /// How many workers search, as a subcommand that searches was told.
@@ -332,6 +351,11 @@ pub fn command_of<'a, S: AsStr>(alloc: Global, words: &'a [S]) -> Result<Asked<'
         }),
         Some(("check", _)) => Ok(Asked::Check),
         Some(("lint", _)) => Ok(Asked::Lint),
+        Some(("sum", sum)) => Ok(Asked::Sum {
+            workers: workers_in(sum),
+            nodes: nodes_in(sum),
+            profile: sum.get_str("profile"),
+        }),
         _ => unreachable!(),
     }
 }
