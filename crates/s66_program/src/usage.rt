@@ -1,5 +1,5 @@
 ghost use Rattle.std.specs.Prelude.{◌≡◌, IfOk, IfErr, List, codes, map};
-ghost use Rattle.clap.specs.Words.{Text, app_of, found_of, kind_of, one_text};
+ghost use Rattle.clap.specs.Words.{Text, app_of, found_of, kind_of, new_app, one_text};
 ghost use Rattle.s66_ledger.specs.declared.limits.TheConstants.{BUDGET_LIMIT};
 ghost use Rattle.s66_pool.specs.declared.limits.TheConstants.{WORKERS_LIMIT};
 ghost use Rattle.s66_program.specs.declared.limits.TheConstants.{NODES_DEFAULT, WORKERS_DEFAULT};
@@ -110,7 +110,7 @@ const SUM_ENDING: &str = help_ending!(
 );
 
 const CHECK_ENDING: &str = help_ending!(
-    "s66 check < DOCUMENTS",
+    "s66 check < CERTIFICATES",
     "the documents were refused",
     ", 5 some verdict is NO"
 );
@@ -128,6 +128,11 @@ Units of each kind: units_boolean, units_shift, units_add, units_longadd, units_
 Each is 1 to 100.
 
 A third Multiply unit: --profile '{\"units_multiply\":3}'";
+
+const NODES_HELP: &str = "\
+The most splits of a block's search, 0 to 1000000 [default: 100000]
+
+A split divides all orders with one beginning by the instruction that comes next.";
 
 /// The flag `--trace`.
 fn trace_flag<'a>(alloc: Global, help: &'a str) -> Arg<'a>
@@ -169,6 +174,7 @@ fn nodes_option<'a>(alloc: Global) -> Arg<'a>
         .long("nodes")
         .value_name("N")
         .help("The most splits of a block's search, 0 to 1000000 [default: 100000]")
+        .long_help(NODES_HELP)
         .value_parser(value_parser!(u32).range(..=i64::from(BUDGET_LIMIT)))
 }
 
@@ -183,34 +189,62 @@ fn profile_option<'a>(alloc: Global) -> Arg<'a>
         .long_help(PROFILE_HELP)
 }
 
+/// A subcommand by its name, with its help: what it does, how it is called, and how the help ends.
+fn described<'a>(
+    alloc: Global,
+    name: &'a str,
+    about: &'a str,
+    usage: &'a str,
+    ending: &'a str,
+) -> Command<'a>
+    ensures { IsCommandOf (new_app name.entry.now) result }
+{
+    Command::new(alloc, name)
+        .about(about)
+        .override_usage(usage)
+        .after_help(ending)
+}
+
 /// The subcommand `time`.
 fn time_command<'a>(alloc: Global) -> Result<Command<'a>, AllocError>
     ensures { IfOk result (IsCommandOf time_app) }
 {
-    Command::new(alloc, "time")
-        .about("Times each block of a source as it was written")
-        .after_help(TIME_ENDING)
-        .arg(profile_option(alloc))?
-        .arg(trace_flag(alloc, "Tells each instruction"))
+    described(
+        alloc,
+        "time",
+        "Times each block of a source as it was written",
+        "s66 time [OPTIONS] < SOURCE",
+        TIME_ENDING,
+    )
+    .arg(profile_option(alloc))?
+    .arg(trace_flag(alloc, "Tells each instruction"))
 }
 
 /// The subcommand `deps`.
 fn deps_command<'a>(alloc: Global) -> Command<'a>
     ensures { IsCommandOf deps_app result }
 {
-    Command::new(alloc, "deps")
-        .about("Tells on what each instruction of a block depends")
-        .after_help(DEPS_ENDING)
+    described(
+        alloc,
+        "deps",
+        "Tells on what each instruction of a block depends",
+        "s66 deps < SOURCE",
+        DEPS_ENDING,
+    )
 }
 
 /// The subcommand `chart`.
 fn chart_command<'a>(alloc: Global) -> Result<Command<'a>, AllocError>
     ensures { IfOk result (IsCommandOf chart_app) }
 {
-    Command::new(alloc, "chart")
-        .about("Draws each block of a source as it was written")
-        .after_help(CHART_ENDING)
-        .arg(profile_option(alloc))
+    described(
+        alloc,
+        "chart",
+        "Draws each block of a source as it was written",
+        "s66 chart [OPTIONS] < SOURCE",
+        CHART_ENDING,
+    )
+    .arg(profile_option(alloc))
 }
 
 /// A subcommand that searches.
@@ -218,13 +252,12 @@ fn search_command<'a>(
     alloc: Global,
     name: &'a str,
     about: &'a str,
+    usage: &'a str,
     ending: &'a str,
 ) -> Result<Command<'a>, AllocError>
     ensures { IfOk result (IsCommandOf (search_app name.entry.now)) }
 {
-    Command::new(alloc, name)
-        .about(about)
-        .after_help(ending)
+    described(alloc, name, about, usage, ending)
         .arg(workers_option(alloc))?
         .arg(nodes_option(alloc))?
         .arg(profile_option(alloc))
@@ -238,6 +271,7 @@ fn order_command<'a>(alloc: Global) -> Result<Command<'a>, AllocError>
         alloc,
         "order",
         "Writes each block of a source in the best order that was found",
+        "s66 order [OPTIONS] < SOURCE",
         ORDER_ENDING,
     )?
     .arg(trace_flag(alloc, "Tells the number of splits of each block"))
@@ -251,6 +285,7 @@ fn prove_command<'a>(alloc: Global) -> Result<Command<'a>, AllocError>
         alloc,
         "prove",
         "Writes a certificate for each block of a source: the best order that was found, and a bound with its proof",
+        "s66 prove [OPTIONS] < SOURCE",
         PROVE_ENDING,
     )
 }
@@ -259,18 +294,26 @@ fn prove_command<'a>(alloc: Global) -> Result<Command<'a>, AllocError>
 fn check_command<'a>(alloc: Global) -> Command<'a>
     ensures { IsCommandOf check_app result }
 {
-    Command::new(alloc, "check")
-        .about("Checks each certificate by itself")
-        .after_help(CHECK_ENDING)
+    described(
+        alloc,
+        "check",
+        "Checks each certificate by itself",
+        "s66 check < CERTIFICATES",
+        CHECK_ENDING,
+    )
 }
 
 /// The subcommand `lint`.
 fn lint_command<'a>(alloc: Global) -> Command<'a>
     ensures { IsCommandOf lint_app result }
 {
-    Command::new(alloc, "lint")
-        .about("Tells each line of a source that is refused, or that may not do what was meant")
-        .after_help(LINT_ENDING)
+    described(
+        alloc,
+        "lint",
+        "Tells each line of a source that is refused, or that may not do what was meant",
+        "s66 lint < SOURCE",
+        LINT_ENDING,
+    )
 }
 
 /// The subcommand `sum`.
@@ -281,6 +324,7 @@ fn sum_command<'a>(alloc: Global) -> Result<Command<'a>, AllocError>
         alloc,
         "sum",
         "Tells what each block of a source takes in the best order that was found, and all of them",
+        "s66 sum [OPTIONS] < SOURCE",
         SUM_ENDING,
     )
 }
