@@ -2,7 +2,7 @@
 use Rattle.clap.specs.Words.{Text}
 use Rattle.std.proofs.Common.{ℕ, List}
 use Rattle.s66_program.specs.declared.command.Command.{Command}
-use Rattle.s66_program.specs.declared.command.Command.TheVariants.{Time, Deps, Chart, Order, Prove, Check, Lint}
+use Rattle.s66_program.specs.declared.command.Command.TheVariants.{Time, Deps, Chart, Order, Prove, Check, Lint, Sum}
 use Rattle.s66_program.specs.Output.{IsSearchWithin, IsWithin}
 use Rattle.s66_program.specs.Usage.{Asks, GivesSearch}
 
@@ -17,3 +17,4 @@ asked-within words (Order workers nodes trace profile) h = search-within words w
 asked-within words (Prove workers nodes profile) h = search-within words workers nodes h.1
 asked-within words Check h = tt
 asked-within words Lint h = tt
+asked-within words (Sum workers nodes profile) h = search-within words workers nodes h.1

@@ -11,6 +11,9 @@ use Rattle.s66_program.specs.Usage.{IsCommandOf}
 pub about : (a : App) (c told : Command) (text : Option (Bor Text)) → IsCommandOf a c → out-Command told ≡ record (out-Command c) { about = text } → IsCommandOf a told
 about a c told text is same = (ap app_of_fields same ∙ is.0, ap (λ f. f.has_globals) same ∙ is.1)
 
+pub usage-line : (a : App) (c told : Command) (text : Option (Bor Text)) → IsCommandOf a c → out-Command told ≡ record (out-Command c) { usage_str = text } → IsCommandOf a told
+usage-line a c told text is same = (ap app_of_fields same ∙ is.0, ap (λ f. f.has_globals) same ∙ is.1)
+
 pub after-help : (a : App) (c told : Command) (text : Option (Bor Text)) → IsCommandOf a c → out-Command told ≡ record (out-Command c) { after_help = text } → IsCommandOf a told
 after-help a c told text is same = (ap app_of_fields same ∙ is.0, ap (λ f. f.has_globals) same ∙ is.1)
 

@@ -11,7 +11,9 @@ pub mod Flags
 pub mod Named
 pub mod OptionRanges
 pub mod OrderedAgain
+pub mod Pieces
 pub mod PlacedAnswers
 pub mod ProvedAnswers
 pub mod Refused
 pub mod RefusedInput
+pub mod SumRows

@@ -60,7 +60,7 @@ all-within profile nodes trace (block ∷ blocks) [] are = absurd are
 all-within profile nodes trace (block ∷ blocks) (a ∷ answers) are = (legal-within block a.order are.0.legal, all-within profile nodes trace blocks answers are.1)
 
 -- a source that was read has these blocks
-read-blocks : (e : Option SourceError) (made blocks : List Block) → unless_refused e made ≡ Ok blocks → blocks ≡ made
+pub read-blocks : (e : Option SourceError) (made blocks : List Block) → unless_refused e made ≡ Ok blocks → blocks ≡ made
 read-blocks None made blocks h = cc
 read-blocks (Some e) made blocks h = cc
 
@@ -72,7 +72,7 @@ placed-within profile nodes trace input blocks ps read (answers, are, same) =
 
 -- WHETHER ALL ARE BEST
 
-best-told : (profile : Profile) (nodes : ℕ) (trace : Bool) (blocks : List Block) (answers : List Answer) → AreAnswers profile nodes blocks answers → tell_best (all_placed profile trace blocks answers) ≡ all_best answers
+pub best-told : (profile : Profile) (nodes : ℕ) (trace : Bool) (blocks : List Block) (answers : List Answer) → AreAnswers profile nodes blocks answers → tell_best (all_placed profile trace blocks answers) ≡ all_best answers
 best-told profile nodes trace [] [] are = refl
 best-told profile nodes trace [] (a ∷ answers) are = absurd are
 best-told profile nodes trace (block ∷ blocks) [] are = absurd are

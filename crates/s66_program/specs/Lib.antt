@@ -7,6 +7,8 @@ pub mod OrderText
 pub mod ProveText
 pub mod CheckText
 pub mod LintText
+pub mod SumText
+pub mod SumRows
 pub mod OrderedAgain
 pub mod CheckedAnswers
 pub mod PlacedAnswers

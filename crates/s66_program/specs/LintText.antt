@@ -4,7 +4,7 @@ use Rattle.s66_line.specs.Findings.{findings_text}
 use Rattle.s66_program.specs.declared.outcome.Status.{Status}
 use Rattle.s66_program.specs.declared.outcome.Status.TheVariants.{Done, Denied}
 
--- done where nothing is told
+-- done if nothing is told
 abbrev pub status_of_told : List ℕ → Status
 status_of_told [] = Done
 status_of_told (b ∷ text) = Denied

@@ -7,7 +7,7 @@ use Rattle.s66_line.specs.Source.{Block, source_of}
 use Rattle.s66_pool.specs.declared.limits.TheConstants.{WORKERS_LIMIT}
 use Rattle.s66_profile.specs.ProfileText.{profile_in_text}
 use Rattle.s66_program.specs.declared.command.Command.{Command}
-use Rattle.s66_program.specs.declared.command.Command.TheVariants.{Time, Deps, Chart, Order, Prove, Check, Lint}
+use Rattle.s66_program.specs.declared.command.Command.TheVariants.{Time, Deps, Chart, Order, Prove, Check, Lint, Sum}
 use Rattle.s66_program.specs.declared.outcome.Status.{Status}
 use Rattle.s66_program.specs.declared.outcome.Status.TheVariants.{Done}
 use Rattle.s66_program.specs.declared.output.Listing.{Listing}
@@ -19,6 +19,7 @@ use Rattle.s66_program.specs.OrderText.{IsOrderOutput}
 use Rattle.s66_program.specs.ProveText.{IsProveOutput}
 use Rattle.s66_program.specs.CheckText.{IsCheckOutput}
 use Rattle.s66_program.specs.LintText.{IsLintOutput}
+use Rattle.s66_program.specs.SumText.{IsSumOutput}
 
 -- how many workers search, and the most splits of a search
 abbrev pub IsSearchWithin : (workers nodes : ℕ) → Type 0
@@ -33,6 +34,7 @@ IsWithin (Order workers nodes trace profile) = IsSearchWithin workers nodes
 IsWithin (Prove workers nodes profile) = IsSearchWithin workers nodes
 IsWithin Check = Unit {0}
 IsWithin Lint = Unit {0}
+IsWithin (Sum workers nodes profile) = IsSearchWithin workers nodes
 
 -- PROFILES
 
@@ -45,6 +47,7 @@ profile_text (Order workers nodes trace profile) = option_map (λ text. text.now
 profile_text (Prove workers nodes profile) = option_map (λ text. text.now) profile
 profile_text Check = None
 profile_text Lint = None
+profile_text (Sum workers nodes profile) = option_map (λ text. text.now) profile
 
 -- the profile that is asked for: that of the text, or the standard one without a text
 abbrev pub profile_asked : Option (List ℕ) → Option Profile
@@ -83,6 +86,7 @@ IsOutput p (Order workers nodes trace profile) input text status = IsOrderOutput
 IsOutput p (Prove workers nodes profile) input text status = IsProveOutput p nodes input text status
 IsOutput p Check input text status = IsCheckOutput input text status
 IsOutput p Lint input text status = IsLintOutput input text status
+IsOutput p (Sum workers nodes profile) input text status = IsSumOutput p nodes input text status
 
 -- the command reads a source, and refuses some
 abbrev pub reads_source : Command → Bool
@@ -93,6 +97,7 @@ reads_source (Order workers nodes trace profile) = true
 reads_source (Prove workers nodes profile) = true
 reads_source Check = false
 reads_source Lint = false
+reads_source (Sum workers nodes profile) = true
 
 -- the command reads documents, and refuses some
 abbrev pub reads_documents : Command → Bool

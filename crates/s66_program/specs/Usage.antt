@@ -1,5 +1,5 @@
--- To be believed: the command line, by clap's rules: the subcommands `time`, `deps`, `chart`, `order`, `prove`, `check` and `lint`,
--- and a version. `time`, `chart`, `order` and `prove` have the option `--profile`, `order` and `prove` also `--workers` and `--nodes`, and
+-- To be believed: the command line, by clap's rules: the subcommands `time`, `deps`, `chart`, `order`, `prove`, `check`, `lint`
+-- and `sum`, and a version. `time`, `chart`, `order`, `prove` and `sum` have the option `--profile`, the last three also `--workers` and `--nodes`, and
 -- `time` and `order` the flag `--trace`.
 use Rattle.std.specs.Prelude.{◌≡◌, ◌≢◌, ◌⊎◌, ◌≤◌, ℕ, Bool, List, [], false, true, Option, Some, codes, option_and_then, pos}
 use Rattle.std.specs.Borrow.{Bor}
@@ -18,7 +18,7 @@ use Rattle.s66_ledger.specs.declared.limits.TheConstants.{BUDGET_LIMIT}
 use Rattle.s66_pool.specs.declared.limits.TheConstants.{WORKERS_LIMIT}
 use Rattle.s66_program.specs.declared.limits.TheConstants.{NODES_DEFAULT, WORKERS_DEFAULT}
 use Rattle.s66_program.specs.declared.command.Command.{Command}
-use Rattle.s66_program.specs.declared.command.Command.TheVariants.{Time, Deps, Chart, Order, Prove, Check, Lint}
+use Rattle.s66_program.specs.declared.command.Command.TheVariants.{Time, Deps, Chart, Order, Prove, Check, Lint, Sum}
 use Rattle.s66_program.specs.declared.usage.Usage.{Usage}
 use Rattle.s66_program.specs.declared.usage.Usage.TheVariants.{Help, Bad, OutOfMemory}
 
@@ -64,11 +64,14 @@ check_app = new_app (codes "check")
 abbrev pub lint_app : App
 lint_app = new_app (codes "lint")
 
+abbrev pub sum_app : App
+sum_app = search_app (codes "sum")
+
 abbrev pub s66_app : App
 s66_app =
     let drawing = with_subcommand (with_subcommand (with_subcommand (new_app (codes "s66")) time_app.top) deps_app.top) chart_app.top in
     let searching = with_subcommand (with_subcommand drawing order_app.top) prove_app.top in
-    let a = with_subcommand (with_subcommand searching check_app.top) lint_app.top in
+    let a = with_subcommand (with_subcommand (with_subcommand searching check_app.top) lint_app.top) sum_app.top in
     record a { top = record a.top { subcommand_required = true; has_version = true } }
 
 -- the argument is this one, and not for all subcommands
@@ -124,6 +127,7 @@ Asks words (Order workers nodes trace profile) =
 Asks words (Prove workers nodes profile) = AsksFor words (codes "prove") × GivesSearch words workers nodes × GivesProfile words profile
 Asks words Check = AsksFor words (codes "check")
 Asks words Lint = AsksFor words (codes "lint")
+Asks words (Sum workers nodes profile) = AsksFor words (codes "sum") × GivesSearch words workers nodes × GivesProfile words profile
 
 -- a kind of error that is no mistake
 abbrev pub IsHelp : ErrorKind → Type 0

@@ -37,6 +37,15 @@ pub enum Command<'a> {
     },
     /// The verdict on each document.
     Check,
+    /// How long each block of a source takes in the best order that was found, and all of them.
+    Sum {
+        /// How many workers search, 1 to `WORKERS_LIMIT`.
+        workers: u8,
+        /// The most splits of a block's search, 0 to `BUDGET_LIMIT`.
+        nodes: u32,
+        /// The text of the profile, if it isn't the standard one.
+        profile: Option<&'a str>,
+    },
     /// What is told of the lines of a source, which may be any text: each that is refused, and each that may not do what was meant.
     Lint,
 }
@@ -53,7 +62,8 @@ impl<'a> Command<'a> {
             Command::Time { profile, .. }
             | Command::Chart { profile }
             | Command::Order { profile, .. }
-            | Command::Prove { profile, .. } => profile,
+            | Command::Prove { profile, .. }
+            | Command::Sum { profile, .. } => profile,
             Command::Deps | Command::Check | Command::Lint => None,
         }
     }

@@ -18,11 +18,11 @@ use std::thread::Threads;
 
 /// What is printed of an answer, without its tree.
 #[derive(Debug, Drop)]
-struct Found {
+pub(crate) struct Found {
     order: Order,
-    source: u32,
-    time: u32,
-    bound: u32,
+    pub source: u32,
+    pub time: u32,
+    pub bound: u32,
     splits: Option<u32>,
 }
 
@@ -57,7 +57,7 @@ fn search<R: AllocGlobal + Threads + Wait + Sync>(
 }
 
 /// Searches the orders of each block.
-fn search_all<R: AllocGlobal + Threads + Wait + Sync, O: Observer>(
+pub(crate) fn search_all<R: AllocGlobal + Threads + Wait + Sync, O: Observer>(
     rt: &R,
     blocks: &[Block],
     profile: &Profile,
@@ -77,7 +77,7 @@ fn search_all<R: AllocGlobal + Threads + Wait + Sync, O: Observer>(
 }
 
 /// Done where each order is best.
-fn status_of(found: &[Found]) -> Status
+pub(crate) fn status_of(found: &[Found]) -> Status
     ensures { result ≡ (if tell_best found.now then Done else Bounded) }
 {
     for answer in found {

@@ -12,6 +12,7 @@ use crate::observer::Observer;
 use crate::order_text::order_output;
 use crate::outcome::{Fault, Output, Status};
 use crate::prove_text::prove_output;
+use crate::sum_text::sum_output;
 use crate::time_text::push_time_lines;
 use s66_isa::Profile;
 use s66_line::{Block, Source, read_source};
@@ -132,6 +133,10 @@ pub fn output_for<R: AllocGlobal + Threads + Wait + Sync, O: Observer>(
         }
         Command::Check => check_output(alloc, input, observer)?,
         Command::Lint => lint_output(alloc, input)?,
+        Command::Sum { workers, nodes, .. } => {
+            let options = Options { workers, nodes };
+            sum_output(rt, &read_source(alloc, input)?, profile, options, observer)?
+        }
     };
     Ok(output)
 }

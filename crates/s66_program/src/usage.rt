@@ -1,9 +1,9 @@
 ghost use Rattle.std.specs.Prelude.{◌≡◌, IfOk, IfErr, List, codes, map};
-ghost use Rattle.clap.specs.Words.{Text, app_of, found_of, kind_of, one_text};
+ghost use Rattle.clap.specs.Words.{Text, app_of, found_of, kind_of, new_app, one_text};
 ghost use Rattle.s66_ledger.specs.declared.limits.TheConstants.{BUDGET_LIMIT};
 ghost use Rattle.s66_pool.specs.declared.limits.TheConstants.{WORKERS_LIMIT};
 ghost use Rattle.s66_program.specs.declared.limits.TheConstants.{NODES_DEFAULT, WORKERS_DEFAULT};
-ghost use Rattle.s66_program.specs.Usage.{Asks, IsArgumentOf, IsCommandOf, IsUsageOf, Refuses, chart_app, check_app, deps_app, lint_app, nodes_rule, order_app, profile_rule, prove_app, s66_app, search_app, time_app, trace_rule, workers_rule};
+ghost use Rattle.s66_program.specs.Usage.{Asks, IsArgumentOf, IsCommandOf, IsUsageOf, Refuses, chart_app, check_app, deps_app, lint_app, nodes_rule, order_app, profile_rule, prove_app, s66_app, search_app, sum_app, time_app, trace_rule, workers_rule};
 ghost use Rattle.s66_program.specs.OptionNumbers.{IsNumber, IsReadAs};
 ghost use Rattle.s66_program.specs.declared.usage.Usage.TheVariants.{OutOfMemory};
 
@@ -103,8 +103,14 @@ const PROVE_ENDING: &str = help_ending!(
     ", 7 some block is only bounded"
 );
 
+const SUM_ENDING: &str = help_ending!(
+    "s66 sum --nodes 1000 < SOURCE",
+    "the source or the profile was refused",
+    ", 7 some block is only bounded"
+);
+
 const CHECK_ENDING: &str = help_ending!(
-    "s66 check < DOCUMENTS",
+    "s66 check < CERTIFICATES",
     "the documents were refused",
     ", 5 some verdict is NO"
 );
@@ -122,6 +128,11 @@ Units of each kind: units_boolean, units_shift, units_add, units_longadd, units_
 Each is 1 to 100.
 
 A third Multiply unit: --profile '{\"units_multiply\":3}'";
+
+const NODES_HELP: &str = "\
+The most splits of a block's search, 0 to 1000000 [default: 100000]
+
+A split divides all orders with one beginning by the instruction that comes next.";
 
 /// The flag `--trace`.
 fn trace_flag<'a>(alloc: Global, help: &'a str) -> Arg<'a>
@@ -163,6 +174,7 @@ fn nodes_option<'a>(alloc: Global) -> Arg<'a>
         .long("nodes")
         .value_name("N")
         .help("The most splits of a block's search, 0 to 1000000 [default: 100000]")
+        .long_help(NODES_HELP)
         .value_parser(value_parser!(u32).range(..=i64::from(BUDGET_LIMIT)))
 }
 
@@ -177,34 +189,62 @@ fn profile_option<'a>(alloc: Global) -> Arg<'a>
         .long_help(PROFILE_HELP)
 }
 
+/// A subcommand by its name, with its help: what it does, how it is called, and how the help ends.
+fn described<'a>(
+    alloc: Global,
+    name: &'a str,
+    about: &'a str,
+    usage: &'a str,
+    ending: &'a str,
+) -> Command<'a>
+    ensures { IsCommandOf (new_app name.entry.now) result }
+{
+    Command::new(alloc, name)
+        .about(about)
+        .override_usage(usage)
+        .after_help(ending)
+}
+
 /// The subcommand `time`.
 fn time_command<'a>(alloc: Global) -> Result<Command<'a>, AllocError>
     ensures { IfOk result (IsCommandOf time_app) }
 {
-    Command::new(alloc, "time")
-        .about("Times each block of a source as it was written")
-        .after_help(TIME_ENDING)
-        .arg(profile_option(alloc))?
-        .arg(trace_flag(alloc, "Tells each instruction"))
+    described(
+        alloc,
+        "time",
+        "Times each block of a source as it was written",
+        "s66 time [OPTIONS] < SOURCE",
+        TIME_ENDING,
+    )
+    .arg(profile_option(alloc))?
+    .arg(trace_flag(alloc, "Tells each instruction"))
 }
 
 /// The subcommand `deps`.
 fn deps_command<'a>(alloc: Global) -> Command<'a>
     ensures { IsCommandOf deps_app result }
 {
-    Command::new(alloc, "deps")
-        .about("Tells on what each instruction of a block depends")
-        .after_help(DEPS_ENDING)
+    described(
+        alloc,
+        "deps",
+        "Tells on what each instruction of a block depends",
+        "s66 deps < SOURCE",
+        DEPS_ENDING,
+    )
 }
 
 /// The subcommand `chart`.
 fn chart_command<'a>(alloc: Global) -> Result<Command<'a>, AllocError>
     ensures { IfOk result (IsCommandOf chart_app) }
 {
-    Command::new(alloc, "chart")
-        .about("Draws each block of a source as it was written")
-        .after_help(CHART_ENDING)
-        .arg(profile_option(alloc))
+    described(
+        alloc,
+        "chart",
+        "Draws each block of a source as it was written",
+        "s66 chart [OPTIONS] < SOURCE",
+        CHART_ENDING,
+    )
+    .arg(profile_option(alloc))
 }
 
 /// A subcommand that searches.
@@ -212,13 +252,12 @@ fn search_command<'a>(
     alloc: Global,
     name: &'a str,
     about: &'a str,
+    usage: &'a str,
     ending: &'a str,
 ) -> Result<Command<'a>, AllocError>
     ensures { IfOk result (IsCommandOf (search_app name.entry.now)) }
 {
-    Command::new(alloc, name)
-        .about(about)
-        .after_help(ending)
+    described(alloc, name, about, usage, ending)
         .arg(workers_option(alloc))?
         .arg(nodes_option(alloc))?
         .arg(profile_option(alloc))
@@ -232,6 +271,7 @@ fn order_command<'a>(alloc: Global) -> Result<Command<'a>, AllocError>
         alloc,
         "order",
         "Writes each block of a source in the best order that was found",
+        "s66 order [OPTIONS] < SOURCE",
         ORDER_ENDING,
     )?
     .arg(trace_flag(alloc, "Tells the number of splits of each block"))
@@ -245,6 +285,7 @@ fn prove_command<'a>(alloc: Global) -> Result<Command<'a>, AllocError>
         alloc,
         "prove",
         "Writes a certificate for each block of a source: the best order that was found, and a bound with its proof",
+        "s66 prove [OPTIONS] < SOURCE",
         PROVE_ENDING,
     )
 }
@@ -253,18 +294,39 @@ fn prove_command<'a>(alloc: Global) -> Result<Command<'a>, AllocError>
 fn check_command<'a>(alloc: Global) -> Command<'a>
     ensures { IsCommandOf check_app result }
 {
-    Command::new(alloc, "check")
-        .about("Checks each certificate by itself")
-        .after_help(CHECK_ENDING)
+    described(
+        alloc,
+        "check",
+        "Checks each certificate by itself",
+        "s66 check < CERTIFICATES",
+        CHECK_ENDING,
+    )
 }
 
 /// The subcommand `lint`.
 fn lint_command<'a>(alloc: Global) -> Command<'a>
     ensures { IsCommandOf lint_app result }
 {
-    Command::new(alloc, "lint")
-        .about("Tells each line of a source that is refused, or that may not do what was meant")
-        .after_help(LINT_ENDING)
+    described(
+        alloc,
+        "lint",
+        "Tells each line of a source that is refused, or that may not do what was meant",
+        "s66 lint < SOURCE",
+        LINT_ENDING,
+    )
+}
+
+/// The subcommand `sum`.
+fn sum_command<'a>(alloc: Global) -> Result<Command<'a>, AllocError>
+    ensures { IfOk result (IsCommandOf sum_app) }
+{
+    search_command(
+        alloc,
+        "sum",
+        "Tells what each block of a source takes in the best order that was found, and all of them",
+        "s66 sum [OPTIONS] < SOURCE",
+        SUM_ENDING,
+    )
 }
 
 /// The command line of the program, which usage and help call s66 whatever the program's file is named.
@@ -284,7 +346,8 @@ fn program<'a>(alloc: Global) -> Result<Command<'a>, AllocError>
         .subcommand(order_command(alloc)?)?
         .subcommand(prove_command(alloc)?)?
         .subcommand(check_command(alloc))?
-        .subcommand(lint_command(alloc))
+        .subcommand(lint_command(alloc))?
+        .subcommand(sum_command(alloc)?)
 }
 
 /// How many workers search, as a subcommand that searches was told.
@@ -332,6 +395,11 @@ pub fn command_of<'a, S: AsStr>(alloc: Global, words: &'a [S]) -> Result<Asked<'
         }),
         Some(("check", _)) => Ok(Asked::Check),
         Some(("lint", _)) => Ok(Asked::Lint),
+        Some(("sum", sum)) => Ok(Asked::Sum {
+            workers: workers_in(sum),
+            nodes: nodes_in(sum),
+            profile: sum.get_str("profile"),
+        }),
         _ => unreachable!(),
     }
 }

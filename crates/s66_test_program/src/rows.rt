@@ -9,6 +9,7 @@ mod deps;
 mod lint;
 mod order;
 mod profile;
+mod sum;
 mod time;
 mod words;
 
@@ -129,6 +130,7 @@ fn runs_rows(rt: HostRuntime) {
     check_rows(&rt, chart::ROWS);
     check_rows(&rt, order::ROWS);
     check_rows(&rt, lint::ROWS);
+    check_rows(&rt, sum::ROWS);
     check_rows(&rt, profile::ROWS);
     check_rows(&rt, words::ROWS);
 }
@@ -137,7 +139,7 @@ fn runs_rows(rt: HostRuntime) {
 #[test]
 fn refuses_bad_profiles(rt: HostRuntime) {
     for text in profile::BAD {
-        for command in ["time", "chart", "order", "prove"] {
+        for command in ["time", "chart", "order", "prove", "sum"] {
             let words = ["s66", command, "--profile", *text];
             for input in [ONE_LOAD, "  SA1 *+2\n"] {
                 check(&rt, text, &words, input.as_bytes(), 3, "BAD PROFILE\n");

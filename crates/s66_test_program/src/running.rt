@@ -21,6 +21,8 @@ pub(crate) const LINT: &[&str] = &["s66", "lint"];
 
 pub(crate) const ORDER: &[&str] = &["s66", "order", "--workers", "1"];
 
+pub(crate) const SUM: &[&str] = &["s66", "sum", "--workers", "1"];
+
 pub(crate) const ORDER_TRACE: &[&str] = &["s66", "order", "--workers", "1", "--trace"];
 
 /// The status of a run, its output, and what went to standard error.

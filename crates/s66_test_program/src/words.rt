@@ -30,6 +30,8 @@ const NO_COMMANDS: &[(&[&str], u8)] = &[
     (&["s66", "prove", "--trace"], 2),
     (&["s66", "check", "--nodes", "5"], 2),
     (&["s66", "lint", "--trace"], 2),
+    (&["s66", "sum", "--trace"], 2),
+    (&["s66", "sum", "--workers", "0"], 2),
     (&["s66", "help"], 0),
     (&["s66", "--help"], 0),
     (&["s66", "time", "--help"], 0),
@@ -39,6 +41,7 @@ const NO_COMMANDS: &[(&[&str], u8)] = &[
     (&["s66", "prove", "--help"], 0),
     (&["s66", "check", "--help"], 0),
     (&["s66", "lint", "--help"], 0),
+    (&["s66", "sum", "--help"], 0),
 ];
 
 /// Words, and the command that they give.
@@ -77,6 +80,14 @@ const COMMANDS: &[(&[&str], Command)] = &[
             workers: 4,
             nodes: 7,
             profile: Some("no profile"),
+        },
+    ),
+    (
+        &["s66", "sum", "--workers", "16", "--profile", "{}"],
+        Command::Sum {
+            workers: 16,
+            nodes: 100_000,
+            profile: Some("{}"),
         },
     ),
     (

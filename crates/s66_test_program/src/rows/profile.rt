@@ -75,14 +75,14 @@ pub(crate) const ROWS: &[Row] = &[
         &["s66", "deps", "--profile", "{}"],
         ONE_LOAD,
         2,
-        "error: unexpected argument '--profile' found\n\nUsage: s66 deps\n\nFor more information, try '--help'.\n",
+        "error: unexpected argument '--profile' found\n\nUsage: s66 deps < SOURCE\n\nFor more information, try '--help'.\n",
     ),
     (
         "documents, whose profiles are their own",
         &["s66", "check", "--profile", "{}"],
         THREE_UNITS,
         2,
-        "error: unexpected argument '--profile' found\n\nUsage: s66 check\n\nFor more information, try '--help'.\n",
+        "error: unexpected argument '--profile' found\n\nUsage: s66 check < CERTIFICATES\n\nFor more information, try '--help'.\n",
     ),
 ];
 

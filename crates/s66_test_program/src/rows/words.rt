@@ -42,7 +42,7 @@ pub(crate) const ROWS: &[Row] = &[
         &["a/b", "time", "--nodes"],
         "  SA1 *+2\n",
         2,
-        "error: unexpected argument '--nodes' found\n\nUsage: s66 time [OPTIONS]\n\nFor more information, try '--help'.\n",
+        "error: unexpected argument '--nodes' found\n\nUsage: s66 time [OPTIONS] < SOURCE\n\nFor more information, try '--help'.\n",
     ),
     (
         "version",
@@ -56,6 +56,6 @@ pub(crate) const ROWS: &[Row] = &[
         &["a/b", "deps", "--help"],
         "",
         0,
-        "Tells on what each instruction of a block depends\n\nUsage: s66 deps\n\nOptions:\n  -h, --help  Print help\n\nExample: s66 deps < SOURCE\n\nStatus: 0 done, 2 usage, 3 the source was refused, 4 out of memory, 6 a read or write failed\n",
+        "Tells on what each instruction of a block depends\n\nUsage: s66 deps < SOURCE\n\nOptions:\n  -h, --help  Print help\n\nExample: s66 deps < SOURCE\n\nStatus: 0 done, 2 usage, 3 the source was refused, 4 out of memory, 6 a read or write failed\n",
     ),
 ];

@@ -1,15 +1,8 @@
-use Rattle.std.proofs.Common.{rules, OnOk, ℕ, List, ◌≡◌, ◌++◌, ◌∙◌, ap, ap₂, codes, decimal, append_assoc}
+use Rattle.std.proofs.Common.{rules, OnOk, ℕ, List, ◌≡◌, ◌++◌, ◌∙◌, ap, ap₂, codes, decimal}
 use Rattle.std.proofs.lemmas.Result.{IfOk-equal}
 use Rattle.s66_program.specs.BlockHead.{block_head}
+use Rattle.s66_program.proofs.Pieces.{regrouped}
 use Rattle.s66_program.proofs.deps_text.push_deps_line.Goals as goal
-
-regrouped : (out a b c d e f : List ℕ) → out ++ a ++ b ++ c ++ d ++ e ++ f ≡ out ++ (a ++ b ++ c ++ d ++ e ++ f)
-regrouped out a b c d e f =
-    let three = append_assoc out a b in
-    let four = ap (λ xs. xs ++ c) three ∙ append_assoc out (a ++ b) c in
-    let five = ap (λ xs. xs ++ d) four ∙ append_assoc out (a ++ b ++ c) d in
-    let six = ap (λ xs. xs ++ e) five ∙ append_assoc out (a ++ b ++ c ++ d) e in
-    ap (λ xs. xs ++ f) six ∙ append_assoc out (a ++ b ++ c ++ d ++ e) f
 
 pub returns : goal.returns
 returns c =

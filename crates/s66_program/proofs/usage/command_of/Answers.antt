@@ -20,7 +20,8 @@ unreachable-requires g c =
             | inr (inr (inr (inr (inl e)))) ↦ search rules
             | inr (inr (inr (inr (inr (inl e))))) ↦ search rules
             | inr (inr (inr (inr (inr (inr (inl e)))))) ↦ search rules
-            | inr (inr (inr (inr (inr (inr (inr none)))))) ↦ none
+            | inr (inr (inr (inr (inr (inr (inr (inl e))))))) ↦ search rules
+            | inr (inr (inr (inr (inr (inr (inr (inr none))))))) ↦ none
           ]
       | in_default-via-in_default w ↦ name-known m words _ is (ap (option_map (λ p. p.0.now)) (sym w.in_default.is) ∙ c.subcommand.ensures.name)
     ]
@@ -103,3 +104,17 @@ returns-in-Some-lint-default-clause-ok g c =
     let m = c.in-Ok.matches in
     let is = taken m (app_of c.in_ok-program.field-0) words c.in_ok-program.ensures c.in-Ok.ensures.kinds c.in-Ok.ensures.matches in
     asks-for m words c.in-Some-lint-default.field-0-0.now (codes "lint") is c.in-Some-lint-default.ensures.name c.in-Some-lint-default.is-lint
+
+pub returns-in-Some-sum-default-clause-ok : goal.returns-in-Some-sum-default-clause-ok
+returns-in-Some-sum-default-clause-ok g c =
+    let words = map g.S.AsStr.text c.args.words.now in
+    let m = c.in-Ok.matches in
+    let is = taken m (app_of c.in_ok-program.field-0) words c.in_ok-program.ensures c.in-Ok.ensures.kinds c.in-Ok.ensures.matches in
+    let asks = asks-for m words c.in-Some-sum-default.field-0-0.now (codes "sum") is c.in-Some-sum-default.ensures.name c.in-Some-sum-default.is-sum in
+    let found = found_of c.in-Some-sum-default.sum.now in
+    let here = matched m words found _ is asks.1 refl c.in-Some-sum-default.ensures.rows in (
+      asks,
+      search-of words found _ c.workers_in-in-Some-sum-default.result c.nodes_in-in-Some-sum-default.result here (inl refl, (inr refl, (inr refl, (inr refl, tt)))) (inr refl, (inl refl, (inr refl, (inr refl, tt))))
+          c.workers_in-in-Some-sum-default.ensures c.nodes_in-in-Some-sum-default.ensures,
+      profile-of words found _ c.get_str-in-Some-sum-default.result here c.get_str-in-Some-sum-default.ensures,
+    )

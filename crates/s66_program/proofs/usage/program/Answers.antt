@@ -14,4 +14,5 @@ returns c =
     let with-order = with-subcommand _ _ _ _ _ with-chart c.in_ok-order_command.ensures c.in_ok-subcommand-4.ensures in
     let with-prove = with-subcommand _ _ _ _ _ with-order c.in_ok-prove_command.ensures c.in_ok-subcommand-5.ensures in
     let with-check = with-subcommand _ _ _ _ _ with-prove c.check_command.ensures c.in_ok-subcommand-6.ensures in
-    IfOk-weaker c.subcommand-7.result _ _ (λ r adds. (with-subcommand _ _ _ _ _ with-check c.lint_command.ensures adds).0) c.subcommand-7.ensures
+    let with-lint = with-subcommand _ _ _ _ _ with-check c.lint_command.ensures c.in_ok-subcommand-7.ensures in
+    IfOk-weaker c.subcommand-8.result _ _ (λ r adds. (with-subcommand _ _ _ _ _ with-lint c.in_ok-sum_command.ensures adds).0) c.subcommand-8.ensures

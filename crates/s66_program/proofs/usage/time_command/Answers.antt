@@ -1,11 +1,10 @@
 use Rattle.std.proofs.lemmas.Result.{IfOk-weaker}
 use Rattle.s66_program.specs.Usage.{IsCommandOf, profile_rule, time_app, trace_rule}
-use Rattle.s66_program.proofs.CommandLine.{about, after-help, with-arg}
+use Rattle.s66_program.proofs.CommandLine.{with-arg}
 use Rattle.s66_program.proofs.usage.time_command.Goals as goal
 
 pub returns : goal.returns
 returns c =
-    let told = about _ c.new.result c.about.result _ (c.new.ensures.app, c.new.ensures.local) c.about.ensures in
-    let ended = after-help _ c.about.result c.after_help.result _ told c.after_help.ensures in
-    let with-profile = with-arg _ profile_rule c.after_help.result c.in_ok-arg.field-0 c.profile_option.result ended c.profile_option.ensures.0 c.profile_option.ensures.1 c.in_ok-arg.ensures in
+    let ended = c.described.ensures in
+    let with-profile = with-arg _ profile_rule c.described.result c.in_ok-arg.field-0 c.profile_option.result ended c.profile_option.ensures.0 c.profile_option.ensures.1 c.in_ok-arg.ensures in
     IfOk-weaker c.arg-2.result _ (IsCommandOf time_app) (λ r adds. with-arg _ trace_rule c.in_ok-arg.field-0 r c.trace_flag.result with-profile c.trace_flag.ensures.0 c.trace_flag.ensures.1 adds) c.arg-2.ensures

@@ -1,0 +1,10 @@
+-- A text that is appended piece by piece.
+use Rattle.std.proofs.Common.{ℕ, List, ◌≡◌, ◌++◌, ◌∙◌, ap, append_assoc}
+
+pub regrouped : (out a b c d e f : List ℕ) → out ++ a ++ b ++ c ++ d ++ e ++ f ≡ out ++ (a ++ b ++ c ++ d ++ e ++ f)
+regrouped out a b c d e f =
+    let three = append_assoc out a b in
+    let four = ap (λ xs. xs ++ c) three ∙ append_assoc out (a ++ b) c in
+    let five = ap (λ xs. xs ++ d) four ∙ append_assoc out (a ++ b ++ c) d in
+    let six = ap (λ xs. xs ++ e) five ∙ append_assoc out (a ++ b ++ c ++ d) e in
+    ap (λ xs. xs ++ f) six ∙ append_assoc out (a ++ b ++ c ++ d ++ e) f

@@ -1,0 +1,70 @@
+-- To be believed: what `sum` writes for a source, and how it ends: a row for each block, those first whose orders save most time, and what all
+-- blocks take, for answers of searches as those of `order`.
+use Rattle.std.specs.Prelude.{ℕ, ◌+◌, ◌-◌, ◌≡◌, ◌≤◌, ◌<◌, ◌⊎◌, ◌==◌, if◌then◌else◌, Bool, false, List, [], ◌∷◌, ◌++◌, Ok, IsPermutation, codes, decimal, length, slice_index_or}
+use Rattle.s66_isa.specs.Lists.{tally, weigh}
+use Rattle.s66_isa.specs.declared.profile.Profile.{Profile}
+use Rattle.s66_line.specs.Block.{instrs_of, line_of}
+use Rattle.s66_line.specs.Printed.{Placed}
+use Rattle.s66_line.specs.Source.{Block, source_of}
+use Rattle.s66_model.specs.Answer.{Answer}
+use Rattle.s66_program.specs.OrderText.{AreAnswers, all_placed, status_of}
+use Rattle.s66_program.specs.declared.outcome.Status.{Status}
+use Rattle.s66_program.specs.declared.sum_text.Row.{Row}
+
+-- ROWS
+
+-- of the n-th block, from 1, as `order` prints it
+abbrev pub row_of : ℕ → Block → Placed → Row
+row_of n block p =
+    record { number = n; line = line_of block 1; count = length (instrs_of block); source = p.source; time = p.time; saved = p.source - p.time; bound = p.bound }
+
+-- of these blocks, before which n stand
+abbrev pub rows_of : ℕ → List Block → List Placed → List Row
+rows_of n (block ∷ blocks) (p ∷ ps) = row_of (n + 1) block p ∷ rows_of (n + 1) blocks ps
+rows_of n blocks ps = []
+
+abbrev pub is_best : Row → Bool
+is_best r = r.bound == r.time
+
+-- the first saves more, or as much with a number that is no greater
+abbrev pub MayPrecede : Row → Row → Type 0
+MayPrecede r s = (s.saved < r.saved) ⊎ ((s.saved ≡ r.saved) × (r.number ≤ s.number))
+
+abbrev pub AreInOrder : List Row → Type 0
+AreInOrder rows = (k : ℕ) (d : Row) → k + 1 < length rows → MayPrecede (slice_index_or rows k d) (slice_index_or rows (k + 1) d)
+
+-- THE TEXT
+
+abbrev pub bound_text : Row → List ℕ
+bound_text r = if is_best r then codes " BEST\n" else (codes " AT LEAST " ++ decimal r.bound ++ codes "\n")
+
+abbrev pub row_line : Row → List ℕ
+row_line r =
+    codes "BLOCK " ++ decimal r.number ++ codes " LINE " ++ decimal r.line ++ codes " COUNT " ++ decimal r.count ++ codes " SOURCE "
+    ++ decimal r.source ++ codes " TIME " ++ decimal r.time ++ bound_text r
+
+abbrev pub row_lines : List Row → List ℕ
+row_lines [] = []
+row_lines (r ∷ rows) = row_line r ++ row_lines rows
+
+-- how many blocks there are, and what they take as written and as ordered
+abbrev pub total_times : (blocks source time : ℕ) → List ℕ
+total_times blocks source time = codes "TOTAL BLOCKS " ++ decimal blocks ++ codes " SOURCE " ++ decimal source ++ codes " TIME " ++ decimal time
+
+-- and how many orders are best
+abbrev pub total_text : (blocks source time best : ℕ) → List ℕ
+total_text blocks source time best = total_times blocks source time ++ codes " BEST " ++ decimal best ++ codes "\n"
+
+abbrev pub total_line : List Row → List ℕ
+total_line rows = total_text (length rows) (weigh (λ (r : Row). r.source) rows) (weigh (λ (r : Row). r.time) rows) (tally is_best rows)
+
+-- the rows in their order, and what they come to
+abbrev pub IsSumText : (rows : List Row) (text : List ℕ) → Type 0
+IsSumText rows text = (ordered : List Row) × IsPermutation rows ordered × AreInOrder ordered × (text ≡ row_lines ordered ++ total_line rows)
+
+-- for some answers, the rows of what `order` would print, and their status
+abbrev pub IsSumOutput : Profile → (nodes : ℕ) (input text : List ℕ) → Status → Type 0
+IsSumOutput p nodes input text status =
+    (blocks : List Block) × (source_of input ≡ Ok blocks)
+    × ((answers : List Answer) × AreAnswers p nodes blocks answers × IsSumText (rows_of 0 blocks (all_placed p false blocks answers)) text
+    × (status ≡ status_of answers))

@@ -1,0 +1,58 @@
+use crate::rows::{MIXED_SOURCE, Row, THREE_MULTIPLIES};
+use crate::running::SUM;
+
+/// Blocks that save 1, 4, 4 and 0 minor cycles.
+const FOUR_BLOCKS: &str =
+    "  NX1 B0,X2\n  SB0 5\n  SX3 B0\n  ZR X1,L\n  SA1 A1+B1\n  BX6 X1\n  BX7 X2\n  EQ L\n  BX7 X2\n  LX3 1\n  IX4 X5+X6\n  SA1 A1+100\n+ BX1 X2\n";
+
+pub(crate) const ROWS: &[Row] = &[
+    (
+        "empty input",
+        SUM,
+        "",
+        0,
+        "TOTAL BLOCKS 0 SOURCE 0 TIME 0 BEST 0\n",
+    ),
+    (
+        "no block",
+        &["s66", "sum"],
+        "* NOTE\n  NO\n",
+        0,
+        "TOTAL BLOCKS 0 SOURCE 0 TIME 0 BEST 0\n",
+    ),
+    (
+        "four blocks",
+        SUM,
+        FOUR_BLOCKS,
+        0,
+        "BLOCK 2 LINE 5 COUNT 3 SOURCE 16 TIME 12 BEST\nBLOCK 3 LINE 9 COUNT 4 SOURCE 12 TIME 8 BEST\nBLOCK 1 LINE 1 COUNT 3 SOURCE 7 TIME 6 BEST\nBLOCK 4 LINE 13 COUNT 1 SOURCE 4 TIME 4 BEST\nTOTAL BLOCKS 4 SOURCE 39 TIME 30 BEST 4\n",
+    ),
+    (
+        "mixed source",
+        SUM,
+        MIXED_SOURCE,
+        0,
+        "BLOCK 1 LINE 2 COUNT 2 SOURCE 12 TIME 12 BEST\nBLOCK 2 LINE 6 COUNT 1 SOURCE 4 TIME 4 BEST\nBLOCK 3 LINE 8 COUNT 1 SOURCE 4 TIME 4 BEST\nTOTAL BLOCKS 3 SOURCE 20 TIME 20 BEST 3\n",
+    ),
+    (
+        "three multiplies, one split short",
+        &["s66", "sum", "--workers", "1", "--nodes", "9"],
+        THREE_MULTIPLIES,
+        7,
+        "BLOCK 1 LINE 1 COUNT 3 SOURCE 22 TIME 22 AT LEAST 17\nTOTAL BLOCKS 1 SOURCE 22 TIME 22 BEST 0\n",
+    ),
+    (
+        "three multiplies in three units",
+        &["s66", "sum", "--profile", "{\"units_multiply\":3}"],
+        THREE_MULTIPLIES,
+        0,
+        "BLOCK 1 LINE 1 COUNT 3 SOURCE 13 TIME 13 BEST\nTOTAL BLOCKS 1 SOURCE 13 TIME 13 BEST 1\n",
+    ),
+    (
+        "a refused source",
+        SUM,
+        "  BX1 X2\n  SA1 *+2\n",
+        3,
+        "LINE 2 BAD OPERAND\n",
+    ),
+];
