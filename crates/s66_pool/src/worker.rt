@@ -266,7 +266,8 @@ impl<'b> Worker<'b> {
             piece,
             needs,
             &mut claimed,
-        ) else {
+        )
+        else {
             give_back_some(site, &mut member.seat, next);
             return give_back(site, &mut member.seat, ticket);
         };
