@@ -1,4 +1,4 @@
-//! Tests of orders, of the clock and its bounds.
+//! Tests of orders, of the clock and its marks and bounds.
 #![tactic(auto)]
 
 #[cfg(test)]
@@ -7,6 +7,8 @@ mod blocks;
 mod clock;
 #[cfg(test)]
 mod floors;
+#[cfg(test)]
+mod marks;
 #[cfg(test)]
 mod orders;
 #[cfg(test)]

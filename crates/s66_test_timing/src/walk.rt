@@ -18,7 +18,7 @@ pub struct Walk<'a> {
 }
 
 /// Pushes a number if it is ready, and tells whether it was.
-fn push_ready(clock: &mut Clock, n: u8) -> bool {
+pub fn push_ready(clock: &mut Clock, n: u8) -> bool {
     let is_ready = ready(clock.block(), &clock.pushed()).has(n);
     if is_ready {
         clock.push(n);
