@@ -1,12 +1,14 @@
--- What a tree with dominated leaves shows is a lower bound, by either rule; a tree of leaves shows the same by each.
+-- What a tree with dominated leaves shows is a lower bound, by any rule; a tree of leaves shows the same by each.
 use Rattle.std.proofs.Common.{ℕ, zero, suc, ◌+◌, ◌≤◌, ◌≡◌, ◌⊎◌, List, [], ◌∷◌, ◌++◌, length, ap, arith, inl, inr, subst, append_assoc, ◌∙◌}
 use Rattle.s66_isa.specs.declared.instr.Instr.{Instr}
+use Rattle.s66_model.specs.declared.rule.Rule.{Rule}
+use Rattle.s66_model.specs.declared.rule.Rule.TheVariants.{NoneNamed, WrittenEarlier, ClampedStanding}
 use Rattle.s66_model.specs.Timing.{Problem, total_of, points_of, next}
 use Rattle.s66_model.specs.LegalOrder.{IsLegal, Completes, IsBeginning, IsOrder}
 use Rattle.s66_model.specs.Leaves.{Leaf}
 use Rattle.s66_model.specs.Tree.{Kids, NoMore, Unsplit, Split, Tree, Alone, Parted, KidsHold, TreeHolds, LeafShows, Shows}
 use Rattle.s66_model.specs.Dominance.{IsNoWorse, clamp_at}
-use Rattle.s66_model.specs.DominatedLeaves.{Ending, Bounding, Dominated, Rule, WrittenEarlier, ClampedStanding, IsEarlier, EndingShows, ShowsBy, kids_bounding, tree_bounding}
+use Rattle.s66_model.specs.DominatedLeaves.{Ending, Bounding, Dominated, IsEarlier, EndingShows, ShowsBy, kids_bounding, tree_bounding}
 use Rattle.s66_model.proofs.LegalOrders.{GoesOn-join, order-legal, legal-order}
 use Rattle.s66_model.proofs.Remaining.{legal-parts}
 use Rattle.s66_model.proofs.Trees.{leaf-sound}
@@ -77,9 +79,19 @@ module _ (b : Problem) (low : ℕ) (prefix : List ℕ) (tree : Tree Ending) (sho
   root-low (Alone ending) rest holds begins whole = ending-low (length b.block) prefix ending rest (standing-low (length b.block)) (omega arith) holds begins whole
   root-low (Parted numbers kids) rest holds begins whole = standing-low (length b.block) prefix rest (omega arith) (inr (numbers, kids, holds.0, holds.1, holds.2)) begins whole
 
--- BY EITHER RULE
+-- WITHOUT NAMES
+
+module _ (b : Problem) (low : ℕ) (prefix : List ℕ) (tree : Tree Ending) where
+  unnamed-step : (at : List ℕ) (ending : Ending) (rest : List ℕ) → EndingShows NoneNamed b low prefix tree at ending → IsBeginning b.block at → Completes b.block at rest → low ≤ total_of b (at ++ rest)
+  unnamed-step at (Bounding leaf) rest h begins whole = omega (arith, leaf-sound b at rest leaf begins whole h.0, h.1)
+  unnamed-step at (Dominated name) rest h begins whole = absurd h.1
+
+-- BY ANY RULE
 
 pub shown-below : (rule : Rule) (b : Problem) (low : ℕ) (prefix rest : List ℕ) (tree : Tree Ending) → ShowsBy rule b low prefix tree → IsLegal b.block (prefix ++ rest) → low ≤ total_of b (prefix ++ rest)
+shown-below NoneNamed b low prefix rest tree shows legal =
+    (let (begins, whole) = legal-parts b.block prefix rest legal in
+    tree-find b (EndingShows NoneNamed b low prefix tree) (λ x. low ≤ total_of b x) (unnamed-step b low prefix tree) prefix tree shows begins rest whole)
 shown-below WrittenEarlier b low prefix rest tree shows legal =
     earlier-below b low prefix tree shows rest (legal-parts b.block prefix rest legal).0 (legal-order b.block (prefix ++ rest) legal)
 shown-below ClampedStanding b low prefix rest tree shows legal =

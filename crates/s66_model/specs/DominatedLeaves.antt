@@ -1,5 +1,7 @@
--- To be believed: trees with dominated leaves: which nodes such leaves may name, by one of two rules, and what a tree shows.
+-- To be believed: trees with dominated leaves: which nodes such leaves may name, by one of three rules, and what a tree shows.
 use Rattle.std.specs.Prelude.{ℕ, ◌≡◌, ◌<◌, ◌⊎◌, Bool, true, false, List, [], ◌∷◌, Option, Some, None}
+use Rattle.s66_model.specs.declared.rule.Rule.{Rule}
+use Rattle.s66_model.specs.declared.rule.Rule.TheVariants.{NoneNamed, WrittenEarlier, ClampedStanding}
 use Rattle.s66_model.specs.Timing.{Problem}
 use Rattle.s66_model.specs.LegalOrder.{IsIncomplete}
 use Rattle.s66_model.specs.Leaves.{Leaf}
@@ -13,12 +15,6 @@ pub data Ending : Type 0 where
   Dominated : (name : List ℕ) → Ending
 
 -- WHICH NODES MAY BE NAMED
-
-pub data Rule : Type 0 where
-  -- an earlier node, which dominates as written
-  WrittenEarlier : Rule
-  -- a node that is no dominated leaf itself, earlier or later, which dominates clamped at the next slot
-  ClampedStanding : Rule
 
 -- smaller at the first place where they differ
 abbrev pub IsEarlier : List ℕ → List ℕ → Type 0
@@ -35,6 +31,7 @@ is_standing (Some (AtTip (Dominated name))) = false
 
 -- a dominated leaf at this prefix may name this node
 abbrev pub MayName : Rule → Problem → List ℕ → Option (Knot Ending) → List ℕ → Type 0
+MayName NoneNamed b at node name = ⊥
 MayName WrittenEarlier b at node name = (is_node node ≡ true) × IsEarlier name at × Dominates b name at
 MayName ClampedStanding b at node name = (is_standing node ≡ true) × DominatesClamped b name at
 

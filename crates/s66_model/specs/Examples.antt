@@ -8,6 +8,8 @@ use Rattle.s66_isa.specs.declared.instr.Memory.{Memory}
 use Rattle.s66_isa.specs.declared.reg.Reg.{Reg}
 use Rattle.s66_isa.specs.declared.profile.Profile.{Profile}
 use Rattle.s66_isa.specs.Table.{instr, numbers, Row, Write, standard, a_reg, b_reg, all_kinds, reads_of, results_of, memory_of, memory_pair}
+use Rattle.s66_model.specs.declared.rule.Rule.{Rule}
+use Rattle.s66_model.specs.declared.rule.Rule.TheVariants.{WrittenEarlier, ClampedStanding}
 use Rattle.s66_model.specs.Packing.{parcels_from, fillers, len_at}
 use Rattle.s66_model.specs.Dependence.{share}
 use Rattle.s66_model.specs.Meaning.{Term, Initial, Computed, Terms, NoTerms, Then, Storage, meaning}
@@ -340,6 +342,10 @@ abbrev pub child_omitted : {M : Type 0} → M → Tree M
 child_omitted tip = Parted (1 ∷ 2 ∷ []) (children 2 tip)
 
 -- TREES WITH DOMINATED LEAVES
+
+-- it holds by either rule under which leaves may be dominated
+abbrev pub ByBoth : (Rule → Type 0) → Type 0
+ByBoth holds = holds WrittenEarlier × holds ClampedStanding
 
 -- of late_reader: 1 3 2 is dominated by the node of this name, and 1 4 is as given
 abbrev pub late_reader_tree : List ℕ → Kids Ending → Tree Ending

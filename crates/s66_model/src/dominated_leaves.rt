@@ -1,15 +1,17 @@
 //! Trees with dominated leaves: what they show.
 
 ghost use Rattle.std.specs.Prelude.{ℕ, List, ◌≤◌, ◌↔◌, [], ◌∷◌, ◌++◌};
+ghost use Rattle.s66_model.specs.declared.rule.Rule.{Rule};
+ghost use Rattle.s66_model.specs.declared.rule.Rule.TheVariants.{NoneNamed, WrittenEarlier, ClampedStanding};
 ghost use Rattle.s66_model.specs.Timing.{Problem, total_of};
 ghost use Rattle.s66_model.specs.LegalOrder.{IsLegal};
 ghost use Rattle.s66_model.specs.BestAndBound.{IsBound};
 ghost use Rattle.s66_model.specs.Leaves.{Leaf};
 ghost use Rattle.s66_model.specs.Tree.{Tree, Shows};
-ghost use Rattle.s66_model.specs.DominatedLeaves.{Ending, Dominated, Rule, WrittenEarlier, ClampedStanding, ShowsBy, tree_bounding};
-ghost use Rattle.s66_model.specs.Examples.{standard_problem, late_reader, three_increments, late_reader_tree, fourth_bounding, fourth_split, increments_load, increments_tree, first_unsplit, order_ending};
+ghost use Rattle.s66_model.specs.DominatedLeaves.{Ending, Dominated, ShowsBy, tree_bounding};
+ghost use Rattle.s66_model.specs.Examples.{standard_problem, ByBoth, late_reader, three_increments, late_reader_tree, fourth_bounding, fourth_split, increments_load, increments_tree, first_unsplit, order_ending};
 
-/// What a tree shows over a prefix, by either rule, is at most the total of every legal order that begins with it; over the
+/// What a tree shows over a prefix, by any rule, is at most the total of every legal order that begins with it; over the
 /// empty prefix it is a bound. A tree of leaves shows the same by each rule as without any.
 pub fn dominated_law()
     ensures below { (rule : Rule) (b : Problem) (low : ℕ) (prefix rest : List ℕ) (tree : Tree Ending) → ShowsBy rule b low prefix tree → IsLegal b.block (prefix ++ rest) → low ≤ total_of b (prefix ++ rest) }
@@ -19,11 +21,12 @@ pub fn dominated_law()
 
 /// What trees with dominated leaves show, by which rule.
 pub fn dominated_examples()
-    ensures one_order_for_two { (rule : Rule) → ShowsBy rule (standard_problem late_reader) 33 [] (late_reader_tree (1 ∷ 2 ∷ 3 ∷ []) fourth_bounding) }
+    ensures one_order_for_two { ByBoth (λ rule. ShowsBy rule (standard_problem late_reader) 33 [] (late_reader_tree (1 ∷ 2 ∷ 3 ∷ []) fourth_bounding)) }
+    ensures none_named { ¬ ShowsBy NoneNamed (standard_problem late_reader) 0 [] (late_reader_tree (1 ∷ 2 ∷ 3 ∷ []) fourth_bounding) }
     ensures no_more_than_the_least_leaf { (rule : Rule) → ¬ ShowsBy rule (standard_problem late_reader) 34 [] (late_reader_tree (1 ∷ 2 ∷ 3 ∷ []) fourth_bounding) }
     ensures another_set { (rule : Rule) → ¬ ShowsBy rule (standard_problem late_reader) 0 [] (late_reader_tree (1 ∷ 2 ∷ 4 ∷ []) fourth_bounding) }
     ensures not_dominated { (rule : Rule) → ¬ ShowsBy rule (standard_problem late_reader) 0 [] (late_reader_tree (1 ∷ 2 ∷ 3 ∷ []) fourth_split) }
-    ensures named_before { (rule : Rule) → ShowsBy rule (standard_problem three_increments) 7 [] (increments_tree increments_load (Dominated (1 ∷ 2 ∷ []))) }
+    ensures named_before { ByBoth (λ rule. ShowsBy rule (standard_problem three_increments) 7 [] (increments_tree increments_load (Dominated (1 ∷ 2 ∷ [])))) }
     ensures named_after { ShowsBy ClampedStanding (standard_problem three_increments) 7 [] (increments_tree (Dominated (2 ∷ 1 ∷ [])) increments_load) }
     ensures not_named_after { ¬ ShowsBy WrittenEarlier (standard_problem three_increments) 0 [] (increments_tree (Dominated (2 ∷ 1 ∷ [])) increments_load) }
     ensures each_by_the_other { (rule : Rule) → ¬ ShowsBy rule (standard_problem three_increments) 0 [] (increments_tree (Dominated (2 ∷ 1 ∷ [])) (Dominated (1 ∷ 2 ∷ []))) }
