@@ -6,6 +6,7 @@ use Rattle.std.proofs.lemmas.List.Elements.{filter-append}
 use Rattle.std.proofs.lemmas.List.Filters.{length-filter_both}
 use Rattle.s66_isa.specs.Lists.{weigh, rising}
 use Rattle.s66_isa.proofs.Lists.{weigh-append}
+use Rattle.s66_model.specs.declared.rule.Rule.{Rule}
 use Rattle.s66_model.specs.Timing.{Problem}
 use Rattle.s66_model.specs.Ledger.{Ledger, Event, Grant, Claim, Graft, Offer, Back, Retire, Reply, Granted, Claimed, Taken, NotOut, OtherPrefix, OverAllowance, Lower, NotLower, OtherBlock, Returned, Retired, worker, opening, best_time, Moves, Step, Run}
 use Rattle.s66_model.specs.Recorded.{spends, spent_by}
@@ -66,9 +67,9 @@ weigh-map g f [] = refl
 weigh-map g f (x ∷ xs) = ap (λ (n : ℕ). f (g x) + n) (weigh-map g f xs)
 
 -- their splits add up to what is spent
-pub accounts-spent : (b : Problem) (budget workers : ℕ) (h : List (Event × Reply)) (l : Ledger) → Run b (opening b budget workers) h l → weigh (λ a. a.splits) (summary_of b budget workers h l).accounts ≡ l.spent
-accounts-spent b budget workers h l r =
-    weigh-map (account_of h) (λ (a : Account). a.splits) (rising workers 1) ∙ history-spent b budget workers h l r
+pub accounts-spent : (rule : Rule) (b : Problem) (budget workers : ℕ) (h : List (Event × Reply)) (l : Ledger) → Run rule b (opening b budget workers) h l → weigh (λ a. a.splits) (summary_of b budget workers h l).accounts ≡ l.spent
+accounts-spent rule b budget workers h l r =
+    weigh-map (account_of h) (λ (a : Account). a.splits) (rising workers 1) ∙ history-spent rule b budget workers h l r
 
 rising-at : (k low i d : ℕ) → i < k → get_or (rising k low) i d ≡ low + i
 rising-at zero low i d lt = absurd (omega (arith, lt))
@@ -101,25 +102,25 @@ module _ (b : Problem) (budget workers : ℕ) (h : List (Event × Reply)) (l : L
 -- AN EVENT
 
 -- the best time after an event isn't above the least that the worker then knows
-best-known : (b : Problem) (old : Ledger) (event : Event) (reply : Reply) (new : Ledger) (least : ℕ) → Moves b old event reply new → best_time b old ≤ least → best_time b new ≤ least_after least event reply
-best-known b old (Grant w) (Granted n) new least h le = omega (arith, ap (best_time b) h.1, le)
-best-known b old (Claim w) (Claimed (Some i)) new least h le = omega (arith, ap (best_time b) h.2, le)
-best-known b old (Claim w) (Claimed None) new least h le = omega (arith, ap (best_time b) h.1, le)
-best-known b old (Graft w i own prefix count None) NotOut new least h le = omega (arith, ap (best_time b) h.1, le)
-best-known b old (Graft w i own prefix count None) OtherPrefix new least h le = omega (arith, ap (best_time b) h.2, le)
-best-known b old (Graft w i own prefix count None) OverAllowance new least h le = omega (arith, ap (best_time b) h.3, le)
-best-known b old (Graft w i own prefix count (Some tree)) Taken new least h le = omega (arith, ap (best_time b) h.5, le)
-best-known b old (Offer w own order time) OtherBlock new least h le = omega (arith, ap (best_time b) h.1, le)
-best-known b old (Offer w own order time) Lower new least h le =
+best-known : (rule : Rule) (b : Problem) (old : Ledger) (event : Event) (reply : Reply) (new : Ledger) (least : ℕ) → Moves rule b old event reply new → best_time b old ≤ least → best_time b new ≤ least_after least event reply
+best-known rule b old (Grant w) (Granted n) new least h le = omega (arith, ap (best_time b) h.1, le)
+best-known rule b old (Claim w) (Claimed (Some i)) new least h le = omega (arith, ap (best_time b) h.2, le)
+best-known rule b old (Claim w) (Claimed None) new least h le = omega (arith, ap (best_time b) h.1, le)
+best-known rule b old (Graft w i own prefix count None) NotOut new least h le = omega (arith, ap (best_time b) h.1, le)
+best-known rule b old (Graft w i own prefix count None) OtherPrefix new least h le = omega (arith, ap (best_time b) h.2, le)
+best-known rule b old (Graft w i own prefix count None) OverAllowance new least h le = omega (arith, ap (best_time b) h.3, le)
+best-known rule b old (Graft w i own prefix count (Some tree)) Taken new least h le = omega (arith, ap (best_time b) h.5, le)
+best-known rule b old (Offer w own order time) OtherBlock new least h le = omega (arith, ap (best_time b) h.1, le)
+best-known rule b old (Offer w own order time) Lower new least h le =
     omega (arith, ap (best_time b) h.2, h.0.2, h.1, le)
-best-known b old (Offer w own order time) (NotLower n) new least h le =
+best-known rule b old (Offer w own order time) (NotLower n) new least h le =
     omega (arith, ap (best_time b) h.3, h.1, h.2, le)
-best-known b old (Back w i) NotOut new least h le = omega (arith, ap (best_time b) h.1, le)
-best-known b old (Back w i) Returned new least h le = omega (arith, ap (best_time b) h.1, le)
-best-known b old (Retire w) Retired new least h le = omega (arith, ap (best_time b) h, le)
-best-known b old event reply new least h le = absurd h
+best-known rule b old (Back w i) NotOut new least h le = omega (arith, ap (best_time b) h.1, le)
+best-known rule b old (Back w i) Returned new least h le = omega (arith, ap (best_time b) h.1, le)
+best-known rule b old (Retire w) Retired new least h le = omega (arith, ap (best_time b) h, le)
+best-known rule b old event reply new least h le = absurd h
 
-module _ (b : Problem) (budget workers : ℕ) (h : List (Event × Reply)) (old : Ledger) (event : Event) (reply : Reply) (new : Ledger) (p : Passbook) where
+module _ (rule : Rule) (b : Problem) (budget workers : ℕ) (h : List (Event × Reply)) (old : Ledger) (event : Event) (reply : Reply) (new : Ledger) (p : Passbook) where
   abbrev before : Summary
   before = summary_of b budget workers h old
 
@@ -127,7 +128,7 @@ module _ (b : Problem) (budget workers : ℕ) (h : List (Event × Reply)) (old :
   after = summary_of b budget workers (h ++ (event, reply) ∷ []) new
 
   -- its own event
-  pub agrees-own : Step b old event reply new → Agrees before p → worker event ≡ p.who → Agrees after (after_event p event reply)
+  pub agrees-own : Step rule b old event reply new → Agrees before p → worker event ≡ p.who → Agrees after (after_event p event reply)
   agrees-own step is own =
       let high : p.who ≤ workers = omega (arith, is.worker.1, accounts-count b budget workers h old) in
       record {
@@ -137,11 +138,11 @@ module _ (b : Problem) (budget workers : ℕ) (h : List (Event × Reply)) (old :
         account =
             ap (λ a. counted a event reply) (is.account ∙ account-at b budget workers h old p.who is.worker.0 high)
             ∙ (sym (account-own h event reply p.who own) ∙ sym (account-at b budget workers (h ++ (event, reply) ∷ []) new p.who is.worker.0 high));
-        least = best-known b old event reply new p.least step.1 is.least;
+        least = best-known rule b old event reply new p.least step.1 is.least;
       }
 
   -- another worker's
-  pub agrees-other : Step b old event reply new → Agrees before p → worker event ≢ p.who → Agrees after p
+  pub agrees-other : Step rule b old event reply new → Agrees before p → worker event ≢ p.who → Agrees after p
   agrees-other step is other =
       let high : p.who ≤ workers = omega (arith, is.worker.1, accounts-count b budget workers h old) in
       record {
@@ -152,7 +153,7 @@ module _ (b : Problem) (budget workers : ℕ) (h : List (Event × Reply)) (old :
             is.account
             ∙ (account-at b budget workers h old p.who is.worker.0 high
             ∙ (sym (account-other h event reply p.who other) ∙ sym (account-at b budget workers (h ++ (event, reply) ∷ []) new p.who is.worker.0 high)));
-        least = omega (arith, is.least, step-falls b old new event reply step);
+        least = omega (arith, is.least, step-falls rule b old new event reply step);
       }
 
 -- a reading of the best time

@@ -32,9 +32,9 @@ module _ (b : Problem) (low : ℕ) (prefix : List ℕ) (tree : Tree Ending) (sho
   earlier-step : (at : List ℕ) (ending : Ending) (rest : List ℕ) → EndingShows WrittenEarlier b low prefix tree at ending → IsBeginning b.block at → Completes b.block at rest → (low ≤ total_of b (at ++ rest)) ⊎ HasBetter b prefix (at ++ rest)
   earlier-step at (Bounding leaf) rest h begins whole = inl (omega (arith, leaf-sound b at rest leaf begins whole h.0, h.1))
   earlier-step at (Dominated name) rest h begins whole =
-      (let (there, earlier, dominates) = h.1 in
+      (let (part, earlier, dominates) = h.0 in
       let after = after_other b name at rest (written-no-worse b name at dominates) begins whole in
-      let (path, is) = node-begins prefix tree name there in
+      let (path, is) = node-begins prefix tree name h.1 in
       let same : name ++ rest ≡ prefix ++ (path ++ rest) = ap (λ x. x ++ rest) is ∙ append_assoc prefix path rest in
       inr (
         path ++ rest,
@@ -62,9 +62,9 @@ module _ (b : Problem) (low : ℕ) (prefix : List ℕ) (tree : Tree Ending) (sho
   ending-low : (fuel : ℕ) (at : List ℕ) (ending : Ending) (rest : List ℕ) → AreLow fuel → length b.block ≤ length at + fuel → EndingShows ClampedStanding b low prefix tree at ending → IsBeginning b.block at → Completes b.block at rest → low ≤ total_of b (at ++ rest)
   ending-low fuel at (Bounding leaf) rest ih enough h begins whole = omega (arith, leaf-sound b at rest leaf begins whole h.0, h.1)
   ending-low fuel at (Dominated name) rest ih enough h begins whole =
-      (let (there, dominates) = h.1 in
+      (let (part, dominates) = h.0 in
       let after = after_other b name at rest (clamped-no-worse b name at dominates) begins whole in
-      let stands = node-stands b.block (EndingShows ClampedStanding b low prefix tree) prefix tree name shows there in
+      let stands = node-stands b.block (EndingShows ClampedStanding b low prefix tree) prefix tree name shows h.1 in
       let (goes, completes) = legal-parts b.block name rest (order-legal b.block (name ++ rest) after.0) in
       omega (arith, after.1, ih name rest (omega (arith, enough, length-same b (clamp_at (next (points_of b at))) name at dominates)) stands goes completes))
 
@@ -84,7 +84,7 @@ module _ (b : Problem) (low : ℕ) (prefix : List ℕ) (tree : Tree Ending) (sho
 module _ (b : Problem) (low : ℕ) (prefix : List ℕ) (tree : Tree Ending) where
   unnamed-step : (at : List ℕ) (ending : Ending) (rest : List ℕ) → EndingShows NoneNamed b low prefix tree at ending → IsBeginning b.block at → Completes b.block at rest → low ≤ total_of b (at ++ rest)
   unnamed-step at (Bounding leaf) rest h begins whole = omega (arith, leaf-sound b at rest leaf begins whole h.0, h.1)
-  unnamed-step at (Dominated name) rest h begins whole = absurd h.1
+  unnamed-step at (Dominated name) rest h begins whole = absurd h.0
 
 -- BY ANY RULE
 

@@ -2,30 +2,34 @@
 use Rattle.std.proofs.Common.{ℕ, zero, suc, ◌+◌, ◌-◌, ◌≤◌, ◌<◌, ◌≡◌, ◌≢◌, Bool, true, false, true≢false, cond, List, [], ◌∷◌, ◌++◌, length, refl, sym, ap, arith, inl, inr, leb, ◌∙◌, subst, set, replicate}
 use Rattle.std.proofs.lemmas.Bool.{leb-true}
 use Rattle.s66_isa.specs.Lists.{weigh, tally, Among}
+use Rattle.s66_model.specs.declared.rule.Rule.{Rule}
+use Rattle.s66_model.specs.declared.rule.Rule.TheVariants.{NoneNamed, WrittenEarlier, ClampedStanding}
 use Rattle.s66_model.specs.Timing.{Problem, total_of}
 use Rattle.s66_model.specs.LegalOrder.{IsLegal, IsBeginning, is_ready}
 use Rattle.s66_model.specs.Leaves.{Leaf, value, floor, floor_value}
-use Rattle.s66_model.specs.Tree.{Tree, Alone, Parted, Kids, NoMore, Unsplit, Split, KidsHold, splits}
-use Rattle.s66_model.specs.Piece.{Tip, Carries, Frontier, TipHolds, IsPiece}
-use Rattle.s66_model.specs.Ledger.{Ledger, Node, State, Open, Out, Cut, Closed, is_cut, is_cut_state, is_open_state, node_at, no_node, with_state, best_time, IsWorker, allowance, share_of, opening, after_grant, after_retire, after_move, after_offer, after_graft, state_of, root_state, kid_nodes, new_nodes, IsOut}
+use Rattle.s66_model.specs.Tree.{Tree, Alone, Parted, Kids, NoMore, Unsplit, Split, KidsHold, TreeHolds, splits}
+use Rattle.s66_model.specs.DominatedLeaves.{Ending, Bounding, Dominated, IsEarlier}
+use Rattle.s66_model.specs.Piece.{Tip, Carries, Frontier, Passed, TipHolds, IsPiece}
+use Rattle.s66_model.specs.Ledger.{Ledger, Node, State, Open, Out, Cut, Closed, is_cut, is_cut_state, is_open_state, node_at, no_node, with_state, best_time, IsWorker, allowance, share_of, opening, after_grant, after_retire, after_move, after_offer, after_graft, state_of, root_state, kid_nodes, new_nodes, may_name, HasNamed, TipIsNamed, AreNamed, IsOut}
 use Rattle.s66_model.specs.Coverage.{begins, covers, ClosedHolds, NodeHolds, NodesHold, Covers}
-use Rattle.s66_isa.proofs.Lists.{tally-append, tally-set, weigh-set}
+use Rattle.s66_isa.proofs.Lists.{tally-append, tally-set, weigh-set, among-front}
 use Rattle.s66_model.proofs.Beginnings.{source-legal}
 use Rattle.s66_model.proofs.Remaining.{ready-among, step-begins, legal-parts}
 use Rattle.s66_model.proofs.Floors.{floor-stands}
 use Rattle.s66_model.proofs.Trees.{leaf-sound}
 use Rattle.s66_model.proofs.OnceCovered.{begins-rest, tree-once, tree-cut}
+use Rattle.s66_model.proofs.StandingNodes.{node-begins}
 
 -- STATES
 
-pub open_closed : (leaf : Leaf) → Open ≢ Closed leaf
-open_closed leaf e = true≢false (ap is_open_state e)
+pub open_closed : (ending : Ending) → Open ≢ Closed ending
+open_closed ending e = true≢false (ap is_open_state e)
 
-pub out_closed : (leaf : Leaf) → Out ≢ Closed leaf
-out_closed leaf e = cc
+pub out_closed : (ending : Ending) → Out ≢ Closed ending
+out_closed ending e = cc
 
-pub cut_closed : (leaf : Leaf) → Cut ≢ Closed leaf
-cut_closed leaf e = true≢false (ap is_cut_state e)
+pub cut_closed : (ending : Ending) → Cut ≢ Closed ending
+cut_closed ending e = true≢false (ap is_cut_state e)
 
 -- THE OPENING
 
@@ -33,41 +37,67 @@ weigh-zeros : (k : ℕ) → weigh (λ n. n) (replicate k 0) ≡ 0
 weigh-zeros zero = refl
 weigh-zeros (suc k) = omega (arith, weigh-zeros k)
 
-pub opening-covers : (b : Problem) (budget workers : ℕ) → Covers b budget (opening b budget workers)
-opening-covers b budget workers =
+pub opening-covers : (rule : Rule) (b : Problem) (budget workers : ℕ) → Covers rule b budget (opening b budget workers)
+opening-covers rule b budget workers =
     record {
       once = λ order legal. refl;
-      nodes = ((tt, λ leaf e. absurd (open_closed leaf e)), tt);
+      nodes = ((tt, λ ending e. absurd (open_closed ending e)), tt);
       best = source-legal b.block;
       spent = refl;
       sum = omega (arith, weigh-zeros workers);
     }
 
+-- NODES THAT MAY BE NAMED
+
+-- a state that is not dominated may be named where the one before it might
+stays-named : (rule : Rule) (old new : State) → may_name ClampedStanding new ≡ true → may_name rule old ≡ true → may_name rule new ≡ true
+stays-named NoneNamed old new stands h = h
+stays-named WrittenEarlier old new stands h = refl
+stays-named ClampedStanding old new stands h = stands
+
+named-set : (rule : Rule) (nodes : List Node) (i : ℕ) (state : State) (name : List ℕ) → i < length nodes → may_name ClampedStanding state ≡ true → HasNamed rule nodes name → HasNamed rule (with_state nodes i state) name
+named-set rule [] i state name lt stands h = absurd (omega (arith, lt))
+named-set rule (x ∷ nodes) zero state name lt stands (node, inl here, is, may) =
+    (record { prefix = x.prefix; state = state }, inl refl, ap (λ (y : Node). y.prefix) (sym here) ∙ is, stays-named rule node.state state stands may)
+named-set rule (x ∷ nodes) zero state name lt stands (node, inr past, is, may) = (node, inr past, is, may)
+named-set rule (x ∷ nodes) (suc i) state name lt stands (node, inl here, is, may) = (node, inl here, is, may)
+named-set rule (x ∷ nodes) (suc i) state name lt stands (node, inr past, is, may) =
+    let (other, among, same, named) = named-set rule nodes i state name (omega (arith, lt)) stands (node, past, is, may) in
+    (other, inr among, same, named)
+
+named-front : (rule : Rule) (nodes others : List Node) (name : List ℕ) → HasNamed rule nodes name → HasNamed rule (nodes ++ others) name
+named-front rule nodes others name (node, among, is, may) = (node, among-front node nodes others among, is, may)
+
 -- WHAT HOLDS OF THE NODES
 
-holds-at : (b : Problem) (best : ℕ) (nodes : List Node) (i : ℕ) → i < length nodes → NodesHold b best nodes → NodeHolds b best (node_at nodes i)
-holds-at b best [] i lt h = absurd (omega arith)
-holds-at b best (node ∷ nodes) zero lt h = h.0
-holds-at b best (node ∷ nodes) (suc i) lt h = holds-at b best nodes i (omega arith) h.1
+module _ (rule : Rule) (b : Problem) where
+  pub holds-at : (best : ℕ) (all nodes : List Node) (i : ℕ) → i < length nodes → NodesHold rule b best all nodes → NodeHolds rule b best all (node_at nodes i)
+  holds-at best all [] i lt h = absurd (omega arith)
+  holds-at best all (node ∷ nodes) zero lt h = h.0
+  holds-at best all (node ∷ nodes) (suc i) lt h = holds-at best all nodes i (omega arith) h.1
 
-holds-set : (b : Problem) (best : ℕ) (nodes : List Node) (i : ℕ) (other : Node) → NodeHolds b best other → NodesHold b best nodes → NodesHold b best (set nodes i other)
-holds-set b best [] i other holds h = tt
-holds-set b best (node ∷ nodes) zero other holds h = (holds, h.1)
-holds-set b best (node ∷ nodes) (suc i) other holds h = (h.0, holds-set b best nodes i other holds h.1)
+  holds-set : (best : ℕ) (all nodes : List Node) (i : ℕ) (other : Node) → NodeHolds rule b best all other → NodesHold rule b best all nodes → NodesHold rule b best all (set nodes i other)
+  holds-set best all [] i other holds h = tt
+  holds-set best all (node ∷ nodes) zero other holds h = (holds, h.1)
+  holds-set best all (node ∷ nodes) (suc i) other holds h = (h.0, holds-set best all nodes i other holds h.1)
 
-holds-append : (b : Problem) (best : ℕ) (nodes others : List Node) → NodesHold b best nodes → NodesHold b best others → NodesHold b best (nodes ++ others)
-holds-append b best [] others h k = k
-holds-append b best (node ∷ nodes) others h k = (h.0, holds-append b best nodes others h.1 k)
+  holds-append : (best : ℕ) (all nodes others : List Node) → NodesHold rule b best all nodes → NodesHold rule b best all others → NodesHold rule b best all (nodes ++ others)
+  holds-append best all [] others h k = k
+  holds-append best all (node ∷ nodes) others h k = (h.0, holds-append best all nodes others h.1 k)
 
--- under a lower best time too
-holds-lower : (b : Problem) (best lower : ℕ) → lower ≤ best → (nodes : List Node) → NodesHold b best nodes → NodesHold b lower nodes
-holds-lower b best lower le [] h = tt
-holds-lower b best lower le (node ∷ nodes) h =
-    ((h.0.0, λ leaf e. (let k = h.0.1 leaf e in (k.0, omega (arith, k.1), k.2))), holds-lower b best lower le nodes h.1)
+  -- under a lower best time too, and where every node that may be named still may
+  closed-goes-on : (best lower : ℕ) (all more : List Node) → lower ≤ best → ((name : List ℕ) → HasNamed rule all name → HasNamed rule more name) → (at : List ℕ) (ending : Ending) → ClosedHolds rule b best all at ending → ClosedHolds rule b lower more at ending
+  closed-goes-on best lower all more le named at (Bounding leaf) h = (h.0, omega (arith, le, h.1), h.2)
+  closed-goes-on best lower all more le named at (Dominated name) h = (h.0, named name h.1)
 
--- a state that is no closing
-holds-plain : (b : Problem) (best : ℕ) (node : Node) (state : State) → ((leaf : Leaf) → state ≢ Closed leaf) → NodeHolds b best node → NodeHolds b best (record { prefix = node.prefix; state = state })
-holds-plain b best node state plain h = (h.0, λ leaf e. absurd (plain leaf e))
+  holds-on : (best lower : ℕ) (all more : List Node) → lower ≤ best → ((name : List ℕ) → HasNamed rule all name → HasNamed rule more name) → (nodes : List Node) → NodesHold rule b best all nodes → NodesHold rule b lower more nodes
+  holds-on best lower all more le named [] h = tt
+  holds-on best lower all more le named (node ∷ nodes) h =
+      ((h.0.0, λ ending e. closed-goes-on best lower all more le named node.prefix ending (h.0.1 ending e)), holds-on best lower all more le named nodes h.1)
+
+  -- a state that is no closing
+  holds-plain : (best : ℕ) (all : List Node) (node : Node) (state : State) → ((ending : Ending) → state ≢ Closed ending) → NodeHolds rule b best all node → NodeHolds rule b best all (record { prefix = node.prefix; state = state })
+  holds-plain best all node state plain h = (h.0, λ ending e. absurd (plain ending e))
 
 -- WHAT HOLDS OF A PIECE'S NODES
 
@@ -78,43 +108,69 @@ floor-sound b prefix order is legal h =
     let parts = legal-parts b.block prefix rest (subst (IsLegal b.block) e legal) in
     subst (λ x. floor_value b prefix ≤ total_of b x) (sym e) (leaf-sound b prefix rest (floor b prefix) is parts.1 (floor-stands b prefix is))
 
-closed-either : (b : Problem) (best : ℕ) (at : List ℕ) (leaf : Leaf) → IsBeginning b.block at → leaf ≡ floor b at → (t : Bool) → (t ≡ true → best ≤ value b at leaf) → (other : Leaf) → cond t (Closed leaf) Open ≡ Closed other → ClosedHolds b best at other
-closed-either b best at leaf begins is true le other e =
-    let same : leaf ≡ other = cc in
-    subst (ClosedHolds b best at) same (is, le refl, λ order legal h. subst (λ x. value b at x ≤ total_of b order) (sym is) (floor-sound b at order begins legal h))
-closed-either b best at leaf begins is false le other e = absurd (open_closed other e)
+-- no beginning is earlier than itself with more numbers
+never-earlier : (at more : List ℕ) → IsEarlier (at ++ more) at → ⊥
+never-earlier [] [] h = h
+never-earlier [] (n ∷ more) h = h
+never-earlier (n ∷ at) more (inl less) = omega (arith, less)
+never-earlier (n ∷ at) more (inr same) = never-earlier at more same.1
 
-module _ (b : Problem) where
-  tip-holds : (best : ℕ) (at : List ℕ) (tip : Tip) → IsBeginning b.block at → TipHolds b at tip → NodeHolds b best (record { prefix = at; state = state_of b best at tip })
-  tip-holds best at (Carries leaf) is holds =
-      (is, closed-either b best at leaf is holds (leb best (value b at leaf)) (leb-true best (value b at leaf)))
-  tip-holds best at Frontier is holds = (is, λ leaf e. absurd (open_closed leaf e))
+module _ (rule : Rule) (b : Problem) where
+  closed-either : (best : ℕ) (all : List Node) (at : List ℕ) (leaf : Leaf) → IsBeginning b.block at → leaf ≡ floor b at → (t : Bool) → (t ≡ true → best ≤ value b at leaf) → (other : Ending) → cond t (Closed (Bounding leaf)) Open ≡ Closed other → ClosedHolds rule b best all at other
+  closed-either best all at leaf begins is true le other e =
+      let same : Bounding leaf ≡ other = cc in
+      subst (ClosedHolds rule b best all at) same (is, le refl, λ order legal h. subst (λ x. value b at x ≤ total_of b order) (sym is) (floor-sound b at order begins legal h))
+  closed-either best all at leaf begins is false le other e = absurd (open_closed other e)
 
-  kids-hold : (best : ℕ) (kids : Kids Tip) (prefix ns : List ℕ) → IsBeginning b.block prefix → ((n : ℕ) → Among n ns → is_ready b.block prefix n ≡ true) → KidsHold b.block (TipHolds b) prefix ns kids → NodesHold b best (kid_nodes b best prefix ns kids)
-  kids-hold best NoMore prefix [] is each holds = tt
-  kids-hold best NoMore prefix (n ∷ ns) is each holds = absurd holds
-  kids-hold best (Unsplit tip kids) prefix [] is each holds = absurd holds
-  kids-hold best (Unsplit tip kids) prefix (n ∷ ns) is each holds =
-      (tip-holds best (prefix ++ n ∷ []) tip (step-begins b.block prefix n is (each n (inl refl))) holds.0, kids-hold best kids prefix ns is (λ m among. each m (inr among)) holds.1)
-  kids-hold best (Split numbers sub kids) prefix [] is each holds = absurd holds
-  kids-hold best (Split numbers sub kids) prefix (n ∷ ns) is each holds =
-      let at = prefix ++ n ∷ [] in
-      let is2 : IsBeginning b.block at = step-begins b.block prefix n is (each n (inl refl)) in
-      let below = kids-hold best sub at numbers is2 (λ m among. ready-among b.block at m (subst (Among m) holds.1 among)) holds.2 in
-      ((is2, λ leaf e. absurd (cut_closed leaf e)), holds-append b best (kid_nodes b best at numbers sub) (kid_nodes b best prefix ns kids) below (kids-hold best kids prefix ns is (λ m among. each m (inr among)) holds.3))
+  -- in a piece over this prefix, with this tree, whose names are those of nodes
+  module _ (best : ℕ) (all : List Node) (root : List ℕ) (whole : Tree Tip) where
+    tip-holds : (at : List ℕ) (tip : Tip) → IsBeginning b.block at → TipHolds rule b root whole at tip → TipIsNamed rule all at tip → NodeHolds rule b best all (record { prefix = at; state = state_of b best at tip })
+    tip-holds at (Carries leaf) is holds named =
+        (is, closed-either best all at leaf is holds (leb best (value b at leaf)) (leb-true best (value b at leaf)))
+    tip-holds at Frontier is holds named = (is, λ ending e. absurd (open_closed ending e))
+    tip-holds at (Passed name) is holds named =
+        (is, λ ending e. (let same : Dominated name ≡ ending = cc in subst (ClosedHolds rule b best all at) same (holds.0, named)))
 
-  root-holds : (best : ℕ) (prefix : List ℕ) (tree : Tree Tip) → IsBeginning b.block prefix → IsPiece b prefix tree → NodeHolds b best (record { prefix = prefix; state = root_state b best prefix tree })
-  root-holds best prefix (Alone tip) is holds = tip-holds best prefix tip is holds
-  root-holds best prefix (Parted numbers kids) is holds = (is, λ leaf e. absurd (cut_closed leaf e))
+    kids-hold : (kids : Kids Tip) (prefix ns : List ℕ) → IsBeginning b.block prefix → ((n : ℕ) → Among n ns → is_ready b.block prefix n ≡ true) → KidsHold b.block (TipHolds rule b root whole) prefix ns kids → KidsHold b.block (TipIsNamed rule all) prefix ns kids → NodesHold rule b best all (kid_nodes b best prefix ns kids)
+    kids-hold NoMore prefix [] is each holds named = tt
+    kids-hold NoMore prefix (n ∷ ns) is each holds named = absurd holds
+    kids-hold (Unsplit tip kids) prefix [] is each holds named = absurd holds
+    kids-hold (Unsplit tip kids) prefix (n ∷ ns) is each holds named =
+        (tip-holds (prefix ++ n ∷ []) tip (step-begins b.block prefix n is (each n (inl refl))) holds.0 named.0, kids-hold kids prefix ns is (λ m among. each m (inr among)) holds.1 named.1)
+    kids-hold (Split numbers sub kids) prefix [] is each holds named = absurd holds
+    kids-hold (Split numbers sub kids) prefix (n ∷ ns) is each holds named =
+        let at = prefix ++ n ∷ [] in
+        let is2 : IsBeginning b.block at = step-begins b.block prefix n is (each n (inl refl)) in
+        let below = kids-hold sub at numbers is2 (λ m among. ready-among b.block at m (subst (Among m) holds.1 among)) holds.2 named.2 in
+        ((is2, λ ending e. absurd (cut_closed ending e)), holds-append rule b best all (kid_nodes b best at numbers sub) (kid_nodes b best prefix ns kids) below (kids-hold kids prefix ns is (λ m among. each m (inr among)) holds.3 named.3))
 
-  new-hold : (best : ℕ) (prefix : List ℕ) (tree : Tree Tip) → IsBeginning b.block prefix → IsPiece b prefix tree → NodesHold b best (new_nodes b best prefix tree)
-  new-hold best prefix (Alone tip) is holds = tt
-  new-hold best prefix (Parted numbers kids) is holds =
-      kids-hold best kids prefix numbers is (λ n among. ready-among b.block prefix n (subst (Among n) holds.1 among)) holds.2
+  root-holds : (best : ℕ) (all : List Node) (prefix : List ℕ) (tree : Tree Tip) → IsBeginning b.block prefix → IsPiece rule b prefix tree → AreNamed rule b all prefix tree → NodeHolds rule b best all (record { prefix = prefix; state = root_state b best prefix tree })
+  root-holds best all prefix (Alone tip) is holds named = tip-holds best all prefix (Alone tip) prefix tip is holds named
+  root-holds best all prefix (Parted numbers kids) is holds named = (is, λ ending e. absurd (cut_closed ending e))
+
+  new-hold : (best : ℕ) (all : List Node) (prefix : List ℕ) (tree : Tree Tip) → IsBeginning b.block prefix → IsPiece rule b prefix tree → AreNamed rule b all prefix tree → NodesHold rule b best all (new_nodes b best prefix tree)
+  new-hold best all prefix (Alone tip) is holds named = tt
+  new-hold best all prefix (Parted numbers kids) is holds named =
+      kids-hold best all prefix (Parted numbers kids) kids prefix numbers is (λ n among. ready-among b.block prefix n (subst (Among n) holds.1 among)) holds.2 named.2
+
+carries-stands : (leaf : Leaf) (t : Bool) → may_name ClampedStanding (cond t (Closed (Bounding leaf)) Open) ≡ true
+carries-stands leaf true = refl
+carries-stands leaf false = refl
+
+-- a piece's root isn't dominated
+root-stands : (rule : Rule) (b : Problem) (best : ℕ) (prefix : List ℕ) (tree : Tree Tip) → IsPiece rule b prefix tree → may_name ClampedStanding (root_state b best prefix tree) ≡ true
+root-stands rule b best prefix (Alone (Carries leaf)) h = carries-stands leaf (leb best (value b prefix leaf))
+root-stands rule b best prefix (Alone Frontier) h = refl
+root-stands NoneNamed b best prefix (Alone (Passed name)) h = absurd h.1
+root-stands WrittenEarlier b best prefix (Alone (Passed name)) h =
+    let (path, is) = node-begins prefix (Alone (Passed name)) name h.1 in
+    absurd (never-earlier prefix path (subst (λ x. IsEarlier x prefix) is h.0.1))
+root-stands ClampedStanding b best prefix (Alone (Passed name)) h = absurd (omega (arith, h.1))
+root-stands rule b best prefix (Parted numbers kids) h = refl
 
 -- CLAIM AND BACK, which change one node's state
 
-module _ (b : Problem) (budget : ℕ) where
+module _ (rule : Rule) (b : Problem) (budget : ℕ) where
   after_move-once : (l : Ledger) (i : ℕ) (state : State) (order : List ℕ) → i < length l.nodes → is_cut (node_at l.nodes i) ≡ false → is_cut_state state ≡ false → tally (covers order) l.nodes ≡ 1 → tally (covers order) (with_state l.nodes i state) ≡ 1
   after_move-once l i state order lt was is h =
       let node : Node = record { prefix = (node_at l.nodes i).prefix; state = state } in
@@ -127,11 +183,13 @@ module _ (b : Problem) (budget : ℕ) where
       let node : Node = record { prefix = (node_at l.nodes i).prefix; state = state } in
       omega (arith, tally-set is_cut l.nodes i node no_node lt, ap (λ t. cond {A = ℕ} t 1 0) was, ap (λ t. cond {A = ℕ} t 1 0) is)
 
-  pub after_move-covers : (l : Ledger) (i : ℕ) (state : State) → i < length l.nodes → is_cut (node_at l.nodes i) ≡ false → is_cut_state state ≡ false → ((leaf : Leaf) → state ≢ Closed leaf) → Covers b budget l → Covers b budget (after_move l i state)
-  after_move-covers l i state lt was is plain c =
+  pub after_move-covers : (l : Ledger) (i : ℕ) (state : State) → i < length l.nodes → is_cut (node_at l.nodes i) ≡ false → is_cut_state state ≡ false → may_name ClampedStanding state ≡ true → ((ending : Ending) → state ≢ Closed ending) → Covers rule b budget l → Covers rule b budget (after_move l i state)
+  after_move-covers l i state lt was is stands plain c =
+      let all = with_state l.nodes i state in
+      let kept = holds-on rule b (best_time b l) (best_time b l) l.nodes all (omega arith) (λ name. named-set rule l.nodes i state name lt stands) l.nodes c.nodes in
       record {
         once = λ order legal. after_move-once l i state order lt was is (c.once order legal);
-        nodes = holds-set b (best_time b l) l.nodes i (record { prefix = (node_at l.nodes i).prefix; state = state }) (holds-plain b (best_time b l) (node_at l.nodes i) state plain (holds-at b (best_time b l) l.nodes i lt c.nodes)) c.nodes;
+        nodes = holds-set rule b (best_time b l) all l.nodes i (record { prefix = (node_at l.nodes i).prefix; state = state }) (holds-plain rule b (best_time b l) all (node_at l.nodes i) state plain (holds-at rule b (best_time b l) all l.nodes i lt kept)) kept;
         best = c.best;
         spent = after_move-spent l i state lt was is c.spent;
         sum = c.sum;
@@ -139,7 +197,7 @@ module _ (b : Problem) (budget : ℕ) where
 
   -- GRANT AND RETIRE, which change one allowance
 
-  pub after_grant-covers : (l : Ledger) (w : ℕ) → IsWorker l w → Covers b budget l → Covers b budget (after_grant l w)
+  pub after_grant-covers : (l : Ledger) (w : ℕ) → IsWorker l w → Covers rule b budget l → Covers rule b budget (after_grant l w)
   after_grant-covers l w is c =
       record {
         once = c.once;
@@ -149,7 +207,7 @@ module _ (b : Problem) (budget : ℕ) where
         sum = omega (arith, c.sum, weigh-set (λ n. n) l.allowances (w - 1) (allowance l w + share_of l) 0 (omega (arith, is.0, is.1)));
       }
 
-  pub after_retire-covers : (l : Ledger) (w : ℕ) → IsWorker l w → Covers b budget l → Covers b budget (after_retire l w)
+  pub after_retire-covers : (l : Ledger) (w : ℕ) → IsWorker l w → Covers rule b budget l → Covers rule b budget (after_retire l w)
   after_retire-covers l w is c =
       record {
         once = c.once;
@@ -161,11 +219,11 @@ module _ (b : Problem) (budget : ℕ) where
 
   -- OFFER, which lowers the best time
 
-  pub after_offer-covers : (l : Ledger) (order : List ℕ) → IsLegal b.block order → total_of b order < best_time b l → Covers b budget l → Covers b budget (after_offer l order)
+  pub after_offer-covers : (l : Ledger) (order : List ℕ) → IsLegal b.block order → total_of b order < best_time b l → Covers rule b budget l → Covers rule b budget (after_offer l order)
   after_offer-covers l order legal lt c =
       record {
         once = c.once;
-        nodes = holds-lower b (best_time b l) (total_of b order) (omega (arith, lt)) l.nodes c.nodes;
+        nodes = holds-on rule b (best_time b l) (total_of b order) l.nodes l.nodes (omega (arith, lt)) (λ name h. h) l.nodes c.nodes;
         best = legal;
         spent = c.spent;
         sum = c.sum;
@@ -173,30 +231,33 @@ module _ (b : Problem) (budget : ℕ) where
 
   -- GRAFT, which puts a piece's nodes in place of one
 
-  after_graft-once : (l : Ledger) (i : ℕ) (tree : Tree Tip) (order : List ℕ) → IsLegal b.block order → IsOut l i → IsPiece b (node_at l.nodes i).prefix tree → tally (covers order) l.nodes ≡ 1 → tally (covers order) (with_state l.nodes i (root_state b (best_time b l) (node_at l.nodes i).prefix tree) ++ new_nodes b (best_time b l) (node_at l.nodes i).prefix tree) ≡ 1
+  after_graft-once : (l : Ledger) (i : ℕ) (tree : Tree Tip) (order : List ℕ) → IsLegal b.block order → IsOut l i → IsPiece rule b (node_at l.nodes i).prefix tree → tally (covers order) l.nodes ≡ 1 → tally (covers order) (with_state l.nodes i (root_state b (best_time b l) (node_at l.nodes i).prefix tree) ++ new_nodes b (best_time b l) (node_at l.nodes i).prefix tree) ≡ 1
   after_graft-once l i tree order legal out piece h =
       let at = (node_at l.nodes i).prefix in
       let best = best_time b l in
       let node : Node = record { prefix = at; state = root_state b best at tree } in
       let before : covers order (node_at l.nodes i) ≡ begins at order = rw (ap is_cut_state out.1) refl in
-      omega (arith, tally-append (covers order) (set l.nodes i node) (new_nodes b best at tree), tally-set (covers order) l.nodes i node no_node out.0, ap (λ t. cond {A = ℕ} t 1 0) before, tree-once b order legal best (TipHolds b) at tree piece)
+      omega (arith, tally-append (covers order) (set l.nodes i node) (new_nodes b best at tree), tally-set (covers order) l.nodes i node no_node out.0, ap (λ t. cond {A = ℕ} t 1 0) before, tree-once b order legal best (TipHolds rule b at tree) at tree piece)
 
-  after_graft-spent : (l : Ledger) (i : ℕ) (tree : Tree Tip) → IsOut l i → IsPiece b (node_at l.nodes i).prefix tree → l.spent ≡ tally is_cut l.nodes → l.spent + splits tree ≡ tally is_cut (with_state l.nodes i (root_state b (best_time b l) (node_at l.nodes i).prefix tree) ++ new_nodes b (best_time b l) (node_at l.nodes i).prefix tree)
+  after_graft-spent : (l : Ledger) (i : ℕ) (tree : Tree Tip) → IsOut l i → IsPiece rule b (node_at l.nodes i).prefix tree → l.spent ≡ tally is_cut l.nodes → l.spent + splits tree ≡ tally is_cut (with_state l.nodes i (root_state b (best_time b l) (node_at l.nodes i).prefix tree) ++ new_nodes b (best_time b l) (node_at l.nodes i).prefix tree)
   after_graft-spent l i tree out piece h =
       let at = (node_at l.nodes i).prefix in
       let best = best_time b l in
       let node : Node = record { prefix = at; state = root_state b best at tree } in
       let before : is_cut (node_at l.nodes i) ≡ false = ap is_cut_state out.1 in
-      omega (arith, tally-append is_cut (set l.nodes i node) (new_nodes b best at tree), tally-set is_cut l.nodes i node no_node out.0, ap (λ t. cond {A = ℕ} t 1 0) before, tree-cut b best (TipHolds b) at tree piece)
+      omega (arith, tally-append is_cut (set l.nodes i node) (new_nodes b best at tree), tally-set is_cut l.nodes i node no_node out.0, ap (λ t. cond {A = ℕ} t 1 0) before, tree-cut b best (TipHolds rule b at tree) at tree piece)
 
-  pub after_graft-covers : (l : Ledger) (w i : ℕ) (tree : Tree Tip) → IsWorker l w → IsOut l i → splits tree ≤ allowance l w → IsPiece b (node_at l.nodes i).prefix tree → Covers b budget l → Covers b budget (after_graft b l w i (node_at l.nodes i).prefix tree)
-  after_graft-covers l w i tree worker out le piece c =
+  pub after_graft-covers : (l : Ledger) (w i : ℕ) (tree : Tree Tip) → IsWorker l w → IsOut l i → splits tree ≤ allowance l w → IsPiece rule b (node_at l.nodes i).prefix tree → AreNamed rule b (after_graft b l w i (node_at l.nodes i).prefix tree).nodes (node_at l.nodes i).prefix tree → Covers rule b budget l → Covers rule b budget (after_graft b l w i (node_at l.nodes i).prefix tree)
+  after_graft-covers l w i tree worker out le piece named c =
       let at = (node_at l.nodes i).prefix in
       let best = best_time b l in
-      let is : IsBeginning b.block at = (holds-at b best l.nodes i out.0 c.nodes).0 in
+      let all = (after_graft b l w i at tree).nodes in
+      let is : IsBeginning b.block at = (holds-at rule b best l.nodes l.nodes i out.0 c.nodes).0 in
+      let others = new_nodes b best at tree in
+      let kept = holds-on rule b best best l.nodes all (omega arith) (λ name h. named-front rule (with_state l.nodes i (root_state b best at tree)) others name (named-set rule l.nodes i (root_state b best at tree) name out.0 (root-stands rule b best at tree piece) h)) l.nodes c.nodes in
       record {
         once = λ order legal. after_graft-once l i tree order legal out piece (c.once order legal);
-        nodes = holds-append b best (with_state l.nodes i (root_state b best at tree)) (new_nodes b best at tree) (holds-set b best l.nodes i (record { prefix = at; state = root_state b best at tree }) (root-holds b best at tree is piece) c.nodes) (new-hold b best at tree is piece);
+        nodes = holds-append rule b best all (with_state l.nodes i (root_state b best at tree)) others (holds-set rule b best all l.nodes i (record { prefix = at; state = root_state b best at tree }) (root-holds rule b best all at tree is piece named) kept) (new-hold rule b best all at tree is piece named);
         best = c.best;
         spent = after_graft-spent l i tree out piece c.spent;
         sum = omega (arith, c.sum, weigh-set (λ n. n) l.allowances (w - 1) (allowance l w - splits tree) 0 (omega (arith, worker.0, worker.1)));

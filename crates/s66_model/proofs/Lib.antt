@@ -38,6 +38,7 @@ pub mod OneTree
 pub mod Histories
 pub mod GrownTrees
 pub mod NodeTrees
+pub mod NamedNodes
 pub mod EndedLedgers
 pub mod TreeLines
 pub mod WrittenOrders

@@ -1,16 +1,18 @@
--- The tree of a ledger's nodes has each split of theirs, as many splits as they have, and the floor of every other node.
+-- The tree of a ledger's nodes has each split of theirs, as many splits as they have, and the floor or the name of every other node.
 use Rattle.std.proofs.Common.{ℕ, zero, suc, ◌+◌, ◌≤◌, ◌<◌, ◌≡◌, ◌⊎◌, Bool, true, false, cond, ◌&&◌, List, [], ◌∷◌, ◌++◌, length, refl, sym, ap, arith, inl, inr, eqb, ◌∙◌, subst, append_assoc}
 use Rattle.std.proofs.lemmas.Bool.{cases_Bool, cases_eq, and_left, and_parts, and_from, eq-eqb, ne_eqb, ltb-true, ltb-false}
 use Rattle.std.proofs.lemmas.List.{append-nil}
 use Rattle.s66_isa.specs.Lists.{tally, weigh, Among}
 use Rattle.s66_model.specs.Timing.{Problem}
 use Rattle.s66_model.specs.LegalOrder.{is_ready, ready, GoesOn, IsBeginning, IsIncomplete}
-use Rattle.s66_model.specs.Leaves.{Leaf, floor, floor_value, leaf_values}
+use Rattle.s66_model.specs.Leaves.{floor, floor_value}
 use Rattle.s66_model.specs.Tree.{Kids, NoMore, Unsplit, Split, Tree, Alone, Parted, KidsHold, TreeHolds, kid_splits, splits, kids_split_at, split_at, kid_values, tree_values}
+use Rattle.s66_model.specs.DominatedLeaves.{Ending, Bounding, Dominated}
+use Rattle.s66_model.specs.Answer.{ending_values}
 use Rattle.s66_model.specs.Ledger.{Ledger, Node, State, Open, Out, Cut, Closed, is_cut, is_cut_state}
 use Rattle.s66_model.specs.Coverage.{begins}
 use Rattle.s66_model.specs.NodeTable.{same_numbers, stands_at, is_cut_at, IsTable}
-use Rattle.s66_model.specs.NodeTree.{is_split_at, node_tree}
+use Rattle.s66_model.specs.NodeTree.{is_split_at, state_ending, ending_at, node_tree}
 use Rattle.s66_isa.proofs.Lists.{tally-none, tally-same, among-front, among-rest}
 use Rattle.s66_model.proofs.LegalOrders.{GoesOn-append, ready-parts}
 use Rattle.s66_model.proofs.Remaining.{among-ready, ready-among}
@@ -110,7 +112,20 @@ cut-state : (state : State) → is_cut_state state ≡ true → state ≡ Cut
 cut-state Open h = absurd cc
 cut-state Out h = absurd cc
 cut-state Cut h = refl
-cut-state (Closed leaf) h = absurd cc
+cut-state (Closed ending) h = absurd cc
+
+-- where one node at most stands at its prefix, that prefix has its ending
+ending-found : (b : Problem) (node : Node) (nodes : List Node) → Among node nodes → tally (stands_at node.prefix) nodes ≤ 1 → ending_at b nodes node.prefix ≡ state_ending b node.prefix node.state
+ending-found b node [] among one = absurd among
+ending-found b node (x ∷ nodes) (inl here) one =
+    let it : stands_at node.prefix x ≡ true = subst (λ (y : Node). stands_at node.prefix y ≡ true) here (is-same node.prefix) in
+    rw it (ap (λ (y : Node). state_ending b node.prefix y.state) (sym here))
+ending-found b node (x ∷ nodes) (inr past) one =
+    let more = passes-some (stands_at node.prefix) node nodes past (is-same node.prefix) in
+    elim (cases_Bool (stands_at node.prefix x)) [
+      | inl is ↦ absurd (omega (arith, one, more, ap (λ t. cond {A = ℕ} t 1 0) is))
+      | inr off ↦ rw off (ending-found b node nodes past (omega (arith, one)))
+    ]
 
 -- THE NODES OF ONE TREE
 
@@ -127,7 +142,7 @@ module _ (b : Problem) (l : Ledger) (table : IsTable b l) (beginnings : (node : 
   abbrev standing : List ℕ → ℕ
   standing at = tally (stands_at at) l.nodes
 
-  uncut : (at : List ℕ) → IsUnsplit at → cuts at ≡ 0
+  pub uncut : (at : List ℕ) → IsUnsplit at → cuts at ≡ 0
   uncut at off = omega (arith, ltb-false 0 (cuts at) off)
 
   -- where some node is split
@@ -138,8 +153,8 @@ module _ (b : Problem) (l : Ledger) (table : IsTable b l) (beginnings : (node : 
       let e : node.prefix ≡ at = same-is node.prefix at both.1 in
       (subst (IsIncomplete b.block) e (table.splits node among (cut-state node.state both.0)), subst (IsBeginning b.block) e (beginnings node among))
 
-  pub fits : TreeFits b (is_split_at l.nodes) (node_tree b l.nodes)
-  fits = tree-fits b (is_split_at l.nodes) (λ at is. (split-part at is).0)
+  pub fits : TreeFits b (is_split_at l.nodes) (ending_at b l.nodes) (node_tree b l.nodes)
+  fits = tree-fits b (is_split_at l.nodes) (ending_at b l.nodes) (λ at is. (split-part at is).0)
 
   -- no prefix has two nodes
   one-along : (more at : List ℕ) → GoesOn b.block at more → standing at ≤ 1 → standing (at ++ more) ≤ 1
@@ -152,7 +167,7 @@ module _ (b : Problem) (l : Ledger) (table : IsTable b l) (beginnings : (node : 
   one-node at is = one-along at [] is (omega (arith, table.root))
 
   -- below a prefix that isn't split no node stands
-  none-along : (more at : List ℕ) (n : ℕ) → GoesOn b.block at (n ∷ more) → cuts at ≡ 0 → standing (at ++ n ∷ more) ≡ 0
+  pub none-along : (more at : List ℕ) (n : ℕ) → GoesOn b.block at (n ∷ more) → cuts at ≡ 0 → standing (at ++ n ∷ more) ≡ 0
   none-along [] at n goes h = table.children at n goes.0 ∙ h
   none-along (m ∷ more) at n goes h =
       let none : cuts (at ++ n ∷ []) ≡ 0 = omega (arith, table.children at n goes.0, cut-stands (at ++ n ∷ []) l.nodes, h) in
@@ -203,7 +218,7 @@ module _ (b : Problem) (l : Ledger) (table : IsTable b l) (beginnings : (node : 
 
   -- AS MANY SPLITS
 
-  kids-count : (kids : Kids Leaf) (prefix ns : List ℕ) → KidsFit b (is_split_at l.nodes) prefix ns kids → kid_splits kids ≡ weigh (λ n. below l.nodes (prefix ++ n ∷ [])) ns
+  kids-count : (kids : Kids Ending) (prefix ns : List ℕ) → KidsFit b (is_split_at l.nodes) (ending_at b l.nodes) prefix ns kids → kid_splits kids ≡ weigh (λ n. below l.nodes (prefix ++ n ∷ [])) ns
   kids-count NoMore prefix [] h = refl
   kids-count NoMore prefix (n ∷ ns) h = absurd h
   kids-count (Unsplit leaf kids) prefix [] h = absurd h
@@ -215,7 +230,7 @@ module _ (b : Problem) (l : Ledger) (table : IsTable b l) (beginnings : (node : 
       let inner : kid_splits sub ≡ weigh (λ m. below l.nodes (at ++ m ∷ [])) (ready b.block at) = kids-count sub at numbers h.2 ∙ ap (λ ms. weigh (λ m. below l.nodes (at ++ m ∷ [])) ms) h.1 in
       omega (arith, kids-count kids prefix ns h.3, inner, split-below at h.0)
 
-  tree-count : (tree : Tree Leaf) → TreeFits b (is_split_at l.nodes) tree → splits tree ≡ below l.nodes []
+  tree-count : (tree : Tree Ending) → TreeFits b (is_split_at l.nodes) (ending_at b l.nodes) tree → splits tree ≡ below l.nodes []
   tree-count (Alone leaf) h = sym (none-below [] (uncut [] h.0))
   tree-count (Parted numbers kids) h =
       omega (arith, kids-count kids [] numbers h.2, ap (λ ms. weigh (λ m. below l.nodes (m ∷ [])) ms) h.1, split-below [] h.0)
@@ -226,12 +241,12 @@ module _ (b : Problem) (l : Ledger) (table : IsTable b l) (beginnings : (node : 
 
   -- WHAT HOLDS OF EACH NODE THAT ISN'T SPLIT holds at each leaf
 
-  module _ (Q : List ℕ → Leaf → Type 0) (each : (node : Node) → Among node l.nodes → is_cut node ≡ false → Q node.prefix (floor b node.prefix)) where
-    leaf-holds : (at : List ℕ) (leaf : Leaf) → 0 < standing at → IsUnsplit at → leaf ≡ floor b at → Q at leaf
+  module _ (Q : List ℕ → Ending → Type 0) (each : (node : Node) → Among node l.nodes → is_cut node ≡ false → Q node.prefix (ending_at b l.nodes node.prefix)) where
+    leaf-holds : (at : List ℕ) (leaf : Ending) → 0 < standing at → IsUnsplit at → leaf ≡ ending_at b l.nodes at → Q at leaf
     leaf-holds at leaf some off is =
         let (node, among, stands) = some-passes (stands_at at) l.nodes some in
         let e : node.prefix ≡ at = same-is node.prefix at stands in
-        subst (λ x. Q at x) (sym is) (subst (λ x. Q x (floor b x)) e (each node among (by node among e (cases_Bool (is_cut node)))))
+        subst (λ x. Q at x) (sym is) (subst (λ x. Q x (ending_at b l.nodes x)) e (each node among (by node among e (cases_Bool (is_cut node)))))
       where
         by : (node : Node) → Among node l.nodes → node.prefix ≡ at → ((is_cut node ≡ true) ⊎ (is_cut node ≡ false)) → is_cut node ≡ false
         by node among e (inr not_cut) = not_cut
@@ -243,7 +258,7 @@ module _ (b : Problem) (l : Ledger) (table : IsTable b l) (beginnings : (node : 
     children-stand at ns is e n among =
         omega (arith, ltb-true 0 (cuts at) is, table.children at n (ready-among b.block at n (subst (λ ms. Among n ms) e among)))
 
-    kids-hold : (kids : Kids Leaf) (prefix ns : List ℕ) → ((n : ℕ) → Among n ns → 0 < standing (prefix ++ n ∷ [])) → KidsFit b (is_split_at l.nodes) prefix ns kids → KidsHold b.block Q prefix ns kids
+    kids-hold : (kids : Kids Ending) (prefix ns : List ℕ) → ((n : ℕ) → Among n ns → 0 < standing (prefix ++ n ∷ [])) → KidsFit b (is_split_at l.nodes) (ending_at b l.nodes) prefix ns kids → KidsHold b.block Q prefix ns kids
     kids-hold NoMore prefix [] stand h = tt
     kids-hold NoMore prefix (n ∷ ns) stand h = absurd h
     kids-hold (Unsplit leaf kids) prefix [] stand h = absurd h
@@ -254,7 +269,7 @@ module _ (b : Problem) (l : Ledger) (table : IsTable b l) (beginnings : (node : 
         let at = prefix ++ n ∷ [] in
         ((split-part at h.0).0, h.1, kids-hold sub at numbers (children-stand at numbers h.0 h.1) h.2, kids-hold kids prefix ns (λ m among. stand m (inr among)) h.3)
 
-    tree-hold : (tree : Tree Leaf) → TreeFits b (is_split_at l.nodes) tree → TreeHolds b.block Q [] tree
+    tree-hold : (tree : Tree Ending) → TreeFits b (is_split_at l.nodes) (ending_at b l.nodes) tree → TreeHolds b.block Q [] tree
     tree-hold (Alone leaf) h = leaf-holds [] leaf (omega (arith, table.root)) h.0 h.1
     tree-hold (Parted numbers kids) h = ((split-part [] h.0).0, h.1, kids-hold kids [] numbers (children-stand [] numbers h.0 h.1) h.2)
 
@@ -263,40 +278,45 @@ module _ (b : Problem) (l : Ledger) (table : IsTable b l) (beginnings : (node : 
 
   -- EACH NODE IS A SPLIT OR A LEAF
 
-  abbrev IsInKids : List ℕ → List ℕ → List ℕ → Kids Leaf → Type 0
+  -- what the tree has at a prefix that isn't split
+  abbrev values_at : List ℕ → List ℕ
+  values_at x = ending_values b x (ending_at b l.nodes x)
+
+  abbrev IsInKids : List ℕ → List ℕ → List ℕ → Kids Ending → Type 0
   IsInKids x prefix ns kids =
-      (IsSplit x × Among x (kids_split_at prefix ns kids)) ⊎ (IsUnsplit x × Among (floor_value b x) (kid_values (leaf_values b) prefix ns kids))
+      (IsSplit x × Among x (kids_split_at prefix ns kids)) ⊎ (IsUnsplit x × ((v : ℕ) → Among v (values_at x) → Among v (kid_values (ending_values b) prefix ns kids)))
 
   -- so it is in the kids with more before them
-  behind-unsplit : (x prefix ns : List ℕ) (n : ℕ) (leaf : Leaf) (kids : Kids Leaf) → IsInKids x prefix ns kids → IsInKids x prefix (n ∷ ns) (Unsplit leaf kids)
+  behind-unsplit : (x prefix ns : List ℕ) (n : ℕ) (leaf : Ending) (kids : Kids Ending) → IsInKids x prefix ns kids → IsInKids x prefix (n ∷ ns) (Unsplit leaf kids)
   behind-unsplit x prefix ns n leaf kids (inl (is, among)) = inl (is, among)
-  behind-unsplit x prefix ns n leaf kids (inr (off, among)) = inr (off, inr among)
+  behind-unsplit x prefix ns n leaf kids (inr (off, among)) =
+      inr (off, λ v is. among-rest v (ending_values b (prefix ++ n ∷ []) leaf) (kid_values (ending_values b) prefix ns kids) (among v is))
 
-  behind-split : (x prefix ns : List ℕ) (n : ℕ) (numbers : List ℕ) (sub kids : Kids Leaf) → IsInKids x prefix ns kids → IsInKids x prefix (n ∷ ns) (Split numbers sub kids)
+  behind-split : (x prefix ns : List ℕ) (n : ℕ) (numbers : List ℕ) (sub kids : Kids Ending) → IsInKids x prefix ns kids → IsInKids x prefix (n ∷ ns) (Split numbers sub kids)
   behind-split x prefix ns n numbers sub kids (inl (is, among)) =
       inl (is, inr (among-rest x (kids_split_at (prefix ++ n ∷ []) numbers sub) (kids_split_at prefix ns kids) among))
   behind-split x prefix ns n numbers sub kids (inr (off, among)) =
-      inr (off, among-rest (floor_value b x) (kid_values (leaf_values b) (prefix ++ n ∷ []) numbers sub) (kid_values (leaf_values b) prefix ns kids) among)
+      inr (off, λ v is. among-rest v (kid_values (ending_values b) (prefix ++ n ∷ []) numbers sub) (kid_values (ending_values b) prefix ns kids) (among v is))
 
-  within-split : (x prefix ns : List ℕ) (n : ℕ) (numbers : List ℕ) (sub kids : Kids Leaf) → IsInKids x (prefix ++ n ∷ []) numbers sub → IsInKids x prefix (n ∷ ns) (Split numbers sub kids)
+  within-split : (x prefix ns : List ℕ) (n : ℕ) (numbers : List ℕ) (sub kids : Kids Ending) → IsInKids x (prefix ++ n ∷ []) numbers sub → IsInKids x prefix (n ∷ ns) (Split numbers sub kids)
   within-split x prefix ns n numbers sub kids (inl (is, among)) =
       inl (is, inr (among-front x (kids_split_at (prefix ++ n ∷ []) numbers sub) (kids_split_at prefix ns kids) among))
   within-split x prefix ns n numbers sub kids (inr (off, among)) =
-      inr (off, among-front (floor_value b x) (kid_values (leaf_values b) (prefix ++ n ∷ []) numbers sub) (kid_values (leaf_values b) prefix ns kids) among)
+      inr (off, λ v is. among-front v (kid_values (ending_values b) (prefix ++ n ∷ []) numbers sub) (kid_values (ending_values b) prefix ns kids) (among v is))
 
-  at-unsplit : (prefix ns : List ℕ) (n : ℕ) (leaf : Leaf) (kids : Kids Leaf) (ms : List ℕ) → IsUnsplit (prefix ++ n ∷ []) → leaf ≡ floor b (prefix ++ n ∷ []) → GoesOn b.block (prefix ++ n ∷ []) ms → 0 < standing ((prefix ++ n ∷ []) ++ ms) → IsInKids ((prefix ++ n ∷ []) ++ ms) prefix (n ∷ ns) (Unsplit leaf kids)
+  at-unsplit : (prefix ns : List ℕ) (n : ℕ) (leaf : Ending) (kids : Kids Ending) (ms : List ℕ) → IsUnsplit (prefix ++ n ∷ []) → leaf ≡ ending_at b l.nodes (prefix ++ n ∷ []) → GoesOn b.block (prefix ++ n ∷ []) ms → 0 < standing ((prefix ++ n ∷ []) ++ ms) → IsInKids ((prefix ++ n ∷ []) ++ ms) prefix (n ∷ ns) (Unsplit leaf kids)
   at-unsplit prefix ns n leaf kids [] off is goes some =
       let at = prefix ++ n ∷ [] in
-      subst (λ x. IsInKids x prefix (n ∷ ns) (Unsplit leaf kids)) (sym (append-nil at)) (subst (λ f. IsInKids at prefix (n ∷ ns) (Unsplit f kids)) (sym is) (inr (off, inl refl)))
+      subst (λ x. IsInKids x prefix (n ∷ ns) (Unsplit leaf kids)) (sym (append-nil at)) (subst (λ f. IsInKids at prefix (n ∷ ns) (Unsplit f kids)) (sym is) (inr (off, λ v there. among-front v (values_at at) (kid_values (ending_values b) prefix ns kids) there)))
   at-unsplit prefix ns n leaf kids (m ∷ ms) off is goes some =
       absurd (omega (arith, some, none-along ms (prefix ++ n ∷ []) m goes (uncut (prefix ++ n ∷ []) off)))
 
-  kids-reach : (kids : Kids Leaf) (prefix ns : List ℕ) → KidsFit b (is_split_at l.nodes) prefix ns kids → (n : ℕ) (ms : List ℕ) → Among n ns → GoesOn b.block (prefix ++ n ∷ []) ms → 0 < standing ((prefix ++ n ∷ []) ++ ms) → IsInKids ((prefix ++ n ∷ []) ++ ms) prefix ns kids
+  kids-reach : (kids : Kids Ending) (prefix ns : List ℕ) → KidsFit b (is_split_at l.nodes) (ending_at b l.nodes) prefix ns kids → (n : ℕ) (ms : List ℕ) → Among n ns → GoesOn b.block (prefix ++ n ∷ []) ms → 0 < standing ((prefix ++ n ∷ []) ++ ms) → IsInKids ((prefix ++ n ∷ []) ++ ms) prefix ns kids
   kids-reach kids prefix [] h n ms among goes some = absurd among
   kids-reach NoMore prefix (k ∷ ns) h n ms among goes some = absurd h
   kids-reach (Unsplit leaf kids) prefix (k ∷ ns) h n ms (inl e) goes some =
       subst (λ j. IsInKids ((prefix ++ n ∷ []) ++ ms) prefix (j ∷ ns) (Unsplit leaf kids)) e
-      (at-unsplit prefix ns n leaf kids ms (subst (λ j. IsUnsplit (prefix ++ j ∷ [])) (sym e) h.0) (subst (λ j. leaf ≡ floor b (prefix ++ j ∷ [])) (sym e) h.1) goes some)
+      (at-unsplit prefix ns n leaf kids ms (subst (λ j. IsUnsplit (prefix ++ j ∷ [])) (sym e) h.0) (subst (λ j. leaf ≡ ending_at b l.nodes (prefix ++ j ∷ [])) (sym e) h.1) goes some)
   kids-reach (Unsplit leaf kids) prefix (k ∷ ns) h n ms (inr past) goes some =
       behind-unsplit ((prefix ++ n ∷ []) ++ ms) prefix ns k leaf kids (kids-reach kids prefix ns h.2 n ms past goes some)
   kids-reach (Split numbers sub kids) prefix (k ∷ ns) h n [] (inl e) goes some =
@@ -313,16 +333,16 @@ module _ (b : Problem) (l : Ledger) (table : IsTable b l) (beginnings : (node : 
   kids-reach (Split numbers sub kids) prefix (k ∷ ns) h n ms (inr past) goes some =
       behind-split ((prefix ++ n ∷ []) ++ ms) prefix ns k numbers sub kids (kids-reach kids prefix ns h.3 n ms past goes some)
 
-  abbrev IsInTree : List ℕ → Tree Leaf → Type 0
+  abbrev IsInTree : List ℕ → Tree Ending → Type 0
   IsInTree x tree =
-      (IsSplit x × Among x (split_at [] tree)) ⊎ (IsUnsplit x × Among (floor_value b x) (tree_values (leaf_values b) [] tree))
+      (IsSplit x × Among x (split_at [] tree)) ⊎ (IsUnsplit x × ((v : ℕ) → Among v (values_at x) → Among v (tree_values (ending_values b) [] tree)))
 
-  behind-root : (x numbers : List ℕ) (kids : Kids Leaf) → IsInKids x [] numbers kids → IsInTree x (Parted numbers kids)
+  behind-root : (x numbers : List ℕ) (kids : Kids Ending) → IsInKids x [] numbers kids → IsInTree x (Parted numbers kids)
   behind-root x numbers kids (inl (is, among)) = inl (is, inr among)
   behind-root x numbers kids (inr (off, among)) = inr (off, among)
 
-  tree-reach : (tree : Tree Leaf) → TreeFits b (is_split_at l.nodes) tree → (x : List ℕ) → IsBeginning b.block x → 0 < standing x → IsInTree x tree
-  tree-reach (Alone leaf) h [] goes some = subst (λ f. IsInTree [] (Alone f)) (sym h.1) (inr (h.0, inl refl))
+  tree-reach : (tree : Tree Ending) → TreeFits b (is_split_at l.nodes) (ending_at b l.nodes) tree → (x : List ℕ) → IsBeginning b.block x → 0 < standing x → IsInTree x tree
+  tree-reach (Alone leaf) h [] goes some = subst (λ f. IsInTree [] (Alone f)) (sym h.1) (inr (h.0, λ v is. is))
   tree-reach (Alone leaf) h (n ∷ ns) goes some = absurd (omega (arith, some, none-along ns [] n goes (uncut [] h.0)))
   tree-reach (Parted numbers kids) h [] goes some = inl (h.0, inl refl)
   tree-reach (Parted numbers kids) h (n ∷ ns) goes some =
@@ -336,13 +356,18 @@ module _ (b : Problem) (l : Ledger) (table : IsTable b l) (beginnings : (node : 
       by (inl (is, among)) = among
       by (inr (off, among)) = absurd (omega (arith, some, uncut x off))
 
-  -- the floor of each node that isn't split is the value of a leaf
-  pub node_tree-values : (node : Node) → Among node l.nodes → is_cut node ≡ false → Among (floor_value b node.prefix) (tree_values (leaf_values b) [] (node_tree b l.nodes))
-  node_tree-values node among not_cut = by (tree-reach (node_tree b l.nodes) fits node.prefix (beginnings node among) (omega (arith, beside)))
+  -- what each node that isn't split has
+  pub ending-is : (node : Node) → Among node l.nodes → ending_at b l.nodes node.prefix ≡ state_ending b node.prefix node.state
+  ending-is node among = ending-found b node l.nodes among (one-node node.prefix (beginnings node among))
+
+  -- where that is its floor, the floor is the value of a leaf
+  pub node_tree-values : (node : Node) → Among node l.nodes → is_cut node ≡ false → state_ending b node.prefix node.state ≡ Bounding (floor b node.prefix) → Among (floor_value b node.prefix) (tree_values (ending_values b) [] (node_tree b l.nodes))
+  node_tree-values node among not_cut bounds = by (tree-reach (node_tree b l.nodes) fits node.prefix (beginnings node among) (omega (arith, beside)))
     where
       beside : cuts node.prefix < standing node.prefix
       beside = uncut-stands node l.nodes among not_cut
 
-      by : IsInTree node.prefix (node_tree b l.nodes) → Among (floor_value b node.prefix) (tree_values (leaf_values b) [] (node_tree b l.nodes))
-      by (inr (off, there)) = there
+      by : IsInTree node.prefix (node_tree b l.nodes) → Among (floor_value b node.prefix) (tree_values (ending_values b) [] (node_tree b l.nodes))
+      by (inr (off, there)) =
+          there (floor_value b node.prefix) (subst (λ ending. Among (floor_value b node.prefix) (ending_values b node.prefix ending)) (sym (ending-is node among ∙ bounds)) (inl refl))
       by (inl (is, there)) = absurd (omega (arith, beside, one-node node.prefix (beginnings node among), ltb-true 0 (cuts node.prefix) is))

@@ -6,7 +6,8 @@ use Rattle.s66_model.specs.Timing.{Problem}
 use Rattle.s66_model.specs.LegalOrder.{IsLegal, IsIncomplete, is_ready, ready, GoesOn}
 use Rattle.s66_model.specs.Leaves.{Leaf, value}
 use Rattle.s66_model.specs.Tree.{Tree, Alone, Parted, Kids, NoMore, Unsplit, Split, KidsHold, TreeHolds, kid_splits, splits}
-use Rattle.s66_model.specs.Piece.{Tip, Carries, Frontier}
+use Rattle.s66_model.specs.DominatedLeaves.{Bounding}
+use Rattle.s66_model.specs.Piece.{Tip, Carries, Frontier, Passed}
 use Rattle.s66_model.specs.Ledger.{Open, Closed, is_cut, state_of, kid_nodes, root_state, new_nodes}
 use Rattle.s66_model.specs.Coverage.{begins, covers}
 use Rattle.s66_isa.proofs.Lists.{tally-append, tally-none, tally-same}
@@ -67,7 +68,7 @@ rising-once test m (suc k) low passes h1 h2 =
 -- ONCE
 
 -- a node that is open or closed
-uncut_either : (order at : List ℕ) (leaf : Leaf) (t : Bool) → covers order (record { prefix = at; state = cond t (Closed leaf) Open }) ≡ begins at order
+uncut_either : (order at : List ℕ) (leaf : Leaf) (t : Bool) → covers order (record { prefix = at; state = cond t (Closed (Bounding leaf)) Open }) ≡ begins at order
 uncut_either order at leaf true = refl
 uncut_either order at leaf false = refl
 
@@ -94,6 +95,7 @@ module _ (b : Problem) (order : List ℕ) (legal : IsLegal b.block order) where
   uncut : (best : ℕ) (at : List ℕ) (tip : Tip) → covers order (record { prefix = at; state = state_of b best at tip }) ≡ begins at order
   uncut best at (Carries leaf) = uncut_either order at leaf (leb best (value b at leaf))
   uncut best at Frontier = refl
+  uncut best at (Passed name) = refl
 
   kids-once : (best : ℕ) (Q : List ℕ → Tip → Type 0) (kids : Kids Tip) (prefix ns : List ℕ) → KidsHold b.block Q prefix ns kids → tally (covers order) (kid_nodes b best prefix ns kids) ≡ tally (λ n. begins (prefix ++ n ∷ []) order) ns
   kids-once best Q NoMore prefix [] holds = refl
@@ -117,13 +119,14 @@ module _ (b : Problem) (order : List ℕ) (legal : IsLegal b.block order) where
 
 -- THE SPLIT NODES ARE THE SPLITS
 
-cut_either : (at : List ℕ) (leaf : Leaf) (t : Bool) → is_cut (record { prefix = at; state = cond t (Closed leaf) Open }) ≡ false
+cut_either : (at : List ℕ) (leaf : Leaf) (t : Bool) → is_cut (record { prefix = at; state = cond t (Closed (Bounding leaf)) Open }) ≡ false
 cut_either at leaf true = refl
 cut_either at leaf false = refl
 
 pub cut_none : (b : Problem) (best : ℕ) (at : List ℕ) (tip : Tip) → is_cut (record { prefix = at; state = state_of b best at tip }) ≡ false
 cut_none b best at (Carries leaf) = cut_either at leaf (leb best (value b at leaf))
 cut_none b best at Frontier = refl
+cut_none b best at (Passed name) = refl
 
 kids-cut : (b : Problem) (best : ℕ) (Q : List ℕ → Tip → Type 0) (kids : Kids Tip) (prefix ns : List ℕ) → KidsHold b.block Q prefix ns kids → tally is_cut (kid_nodes b best prefix ns kids) ≡ kid_splits kids
 kids-cut b best Q NoMore prefix [] holds = refl

@@ -3,9 +3,10 @@ use Rattle.std.proofs.Common.{ℕ, zero, suc, ◌+◌, ◌<◌, ◌≡◌, ◌�
 use Rattle.std.proofs.lemmas.Bool.{and_left, and_right, and_parts, eqb-true, cases_Bool}
 use Rattle.s66_isa.specs.Lists.{tally, Among}
 use Rattle.s66_isa.specs.Table.{numbers}
+use Rattle.s66_model.specs.declared.rule.Rule.{Rule}
 use Rattle.s66_model.specs.Timing.{Problem, total_of}
 use Rattle.s66_model.specs.LegalOrder.{is_ready, ready, IsBeginning, IsIncomplete}
-use Rattle.s66_model.specs.Tree.{Kids, NoMore, Unsplit, Split, Tree, Alone, Parted, KidsHold}
+use Rattle.s66_model.specs.Tree.{Kids, NoMore, Unsplit, Split, Tree, Alone, Parted, KidsHold, TreeHolds}
 use Rattle.s66_model.specs.Piece.{Tip, TipHolds, IsPiece}
 use Rattle.s66_model.specs.Answer.{source_time}
 use Rattle.s66_model.specs.Ledger.{Ledger, Node, State, Open, Out, Cut, is_cut, is_cut_state, node_at, no_node, with_state, state_of, root_state, kid_nodes, new_nodes, best_time, after_move, after_graft, opening, IsOut, Event, Grant, Claim, Graft, Offer, Back, Retire, Reply, Granted, Claimed, Taken, NotOut, OtherPrefix, OverAllowance, Lower, NotLower, OtherBlock, Returned, Retired, Moves, Run}
@@ -60,30 +61,30 @@ module _ (b : Problem) (at : List ℕ) (m : ℕ) (now : is_ready b.block at m �
       tally-same (λ n. same_numbers (prefix ++ n ∷ []) (at ++ m ∷ [])) (λ n. same_numbers prefix at && eqb n m) (λ n. same-push prefix at n m) (ready b.block prefix)
       ∙ ready-same_by prefix (same_numbers prefix at) (λ e. sym (same-is prefix at e))
 
-  kids-table : (best : ℕ) (kids : Kids Tip) (prefix ns : List ℕ) → KidsHold b.block (TipHolds b) prefix ns kids → tally (stands_at (at ++ m ∷ [])) (kid_nodes b best prefix ns kids) ≡ tally (is_cut_at at) (kid_nodes b best prefix ns kids) + tally (λ n. same_numbers (prefix ++ n ∷ []) (at ++ m ∷ [])) ns
-  kids-table best NoMore prefix [] holds = refl
-  kids-table best NoMore prefix (n ∷ ns) holds = absurd holds
-  kids-table best (Unsplit tip kids) prefix [] holds = absurd holds
-  kids-table best (Unsplit tip kids) prefix (n ∷ ns) holds =
-      rw (cut_none b best (prefix ++ n ∷ []) tip) (omega (arith, kids-table best kids prefix ns holds.1))
-  kids-table best (Split numbers sub kids) prefix [] holds = absurd holds
-  kids-table best (Split numbers sub kids) prefix (n ∷ ns) holds =
+  kids-table : (best : ℕ) (Q : List ℕ → Tip → Type 0) (kids : Kids Tip) (prefix ns : List ℕ) → KidsHold b.block Q prefix ns kids → tally (stands_at (at ++ m ∷ [])) (kid_nodes b best prefix ns kids) ≡ tally (is_cut_at at) (kid_nodes b best prefix ns kids) + tally (λ n. same_numbers (prefix ++ n ∷ []) (at ++ m ∷ [])) ns
+  kids-table best Q NoMore prefix [] holds = refl
+  kids-table best Q NoMore prefix (n ∷ ns) holds = absurd holds
+  kids-table best Q (Unsplit tip kids) prefix [] holds = absurd holds
+  kids-table best Q (Unsplit tip kids) prefix (n ∷ ns) holds =
+      rw (cut_none b best (prefix ++ n ∷ []) tip) (omega (arith, kids-table best Q kids prefix ns holds.1))
+  kids-table best Q (Split numbers sub kids) prefix [] holds = absurd holds
+  kids-table best Q (Split numbers sub kids) prefix (n ∷ ns) holds =
       let here = prefix ++ n ∷ [] in
       let one : tally (λ k. same_numbers (here ++ k ∷ []) (at ++ m ∷ [])) numbers ≡ cond (same_numbers here at) 1 0 = rw holds.1 (ready-same here) in
-      omega (arith, one, kids-table best sub here numbers holds.2, kids-table best kids prefix ns holds.3, tally-append (stands_at (at ++ m ∷ [])) (kid_nodes b best here numbers sub) (kid_nodes b best prefix ns kids), tally-append (is_cut_at at) (kid_nodes b best here numbers sub) (kid_nodes b best prefix ns kids))
+      omega (arith, one, kids-table best Q sub here numbers holds.2, kids-table best Q kids prefix ns holds.3, tally-append (stands_at (at ++ m ∷ [])) (kid_nodes b best here numbers sub) (kid_nodes b best prefix ns kids), tally-append (is_cut_at at) (kid_nodes b best here numbers sub) (kid_nodes b best prefix ns kids))
 
-  new-table : (best : ℕ) (prefix : List ℕ) (tree : Tree Tip) → IsPiece b prefix tree → tally (stands_at (at ++ m ∷ [])) (new_nodes b best prefix tree) ≡ tally (is_cut_at at) (new_nodes b best prefix tree) + cond (is_cut_at at (record { prefix = prefix; state = root_state b best prefix tree })) 1 0
-  new-table best prefix (Alone tip) holds = rw (cut_none b best prefix tip) refl
-  new-table best prefix (Parted numbers kids) holds =
+  new-table : (best : ℕ) (Q : List ℕ → Tip → Type 0) (prefix : List ℕ) (tree : Tree Tip) → TreeHolds b.block Q prefix tree → tally (stands_at (at ++ m ∷ [])) (new_nodes b best prefix tree) ≡ tally (is_cut_at at) (new_nodes b best prefix tree) + cond (is_cut_at at (record { prefix = prefix; state = root_state b best prefix tree })) 1 0
+  new-table best Q prefix (Alone tip) holds = rw (cut_none b best prefix tip) refl
+  new-table best Q prefix (Parted numbers kids) holds =
       let one : tally (λ k. same_numbers (prefix ++ k ∷ []) (at ++ m ∷ [])) numbers ≡ cond (same_numbers prefix at) 1 0 = rw holds.1 (ready-same prefix) in
-      omega (arith, one, kids-table best kids prefix numbers holds.2)
+      omega (arith, one, kids-table best Q kids prefix numbers holds.2)
 
-  graft-children : (best : ℕ) (nodes : List Node) (i : ℕ) (tree : Tree Tip) → i < length nodes → (node_at nodes i).state ≡ Out → IsPiece b (node_at nodes i).prefix tree → tally (stands_at (at ++ m ∷ [])) nodes ≡ tally (is_cut_at at) nodes → tally (stands_at (at ++ m ∷ [])) (with_state nodes i (root_state b best (node_at nodes i).prefix tree) ++ new_nodes b best (node_at nodes i).prefix tree) ≡ tally (is_cut_at at) (with_state nodes i (root_state b best (node_at nodes i).prefix tree) ++ new_nodes b best (node_at nodes i).prefix tree)
-  graft-children best nodes i tree lt out piece h =
+  graft-children : (best : ℕ) (Q : List ℕ → Tip → Type 0) (nodes : List Node) (i : ℕ) (tree : Tree Tip) → i < length nodes → (node_at nodes i).state ≡ Out → TreeHolds b.block Q (node_at nodes i).prefix tree → tally (stands_at (at ++ m ∷ [])) nodes ≡ tally (is_cut_at at) nodes → tally (stands_at (at ++ m ∷ [])) (with_state nodes i (root_state b best (node_at nodes i).prefix tree) ++ new_nodes b best (node_at nodes i).prefix tree) ≡ tally (is_cut_at at) (with_state nodes i (root_state b best (node_at nodes i).prefix tree) ++ new_nodes b best (node_at nodes i).prefix tree)
+  graft-children best Q nodes i tree lt out piece h =
       let prefix = (node_at nodes i).prefix in
       let y : Node = record { prefix = prefix; state = root_state b best prefix tree } in
       let was : is_cut_at at (node_at nodes i) ≡ false = and_left (is_cut (node_at nodes i)) (same_numbers prefix at) (ap is_cut_state out) in
-      omega (arith, h, tally-append (stands_at (at ++ m ∷ [])) (set nodes i y) (new_nodes b best prefix tree), tally-append (is_cut_at at) (set nodes i y) (new_nodes b best prefix tree), tally-set (stands_at (at ++ m ∷ [])) nodes i y no_node lt, tally-set (is_cut_at at) nodes i y no_node lt, ap (λ t. cond {A = ℕ} t 1 0) was, new-table best prefix tree piece)
+      omega (arith, h, tally-append (stands_at (at ++ m ∷ [])) (set nodes i y) (new_nodes b best prefix tree), tally-append (is_cut_at at) (set nodes i y) (new_nodes b best prefix tree), tally-set (stands_at (at ++ m ∷ [])) nodes i y no_node lt, tally-set (is_cut_at at) nodes i y no_node lt, ap (λ t. cond {A = ℕ} t 1 0) was, new-table best Q prefix tree piece)
 
 -- THE ROOT
 
@@ -126,33 +127,33 @@ cuts-append b (x ∷ nodes) others h k = (h.0, cuts-append b nodes others h.1 k)
 uncut : (b : Problem) (best : ℕ) (at : List ℕ) (tip : Tip) → state_of b best at tip ≢ Cut
 uncut b best at tip e = true≢false (sym (ap is_cut_state e) ∙ cut_none b best at tip)
 
-kids-cuts : (b : Problem) (best : ℕ) (kids : Kids Tip) (prefix ns : List ℕ) → KidsHold b.block (TipHolds b) prefix ns kids → CutsHold b (kid_nodes b best prefix ns kids)
-kids-cuts b best NoMore prefix [] h = tt
-kids-cuts b best NoMore prefix (n ∷ ns) h = absurd h
-kids-cuts b best (Unsplit tip kids) prefix [] h = absurd h
-kids-cuts b best (Unsplit tip kids) prefix (n ∷ ns) h = (λ e. absurd (uncut b best (prefix ++ n ∷ []) tip e), kids-cuts b best kids prefix ns h.1)
-kids-cuts b best (Split numbers sub kids) prefix [] h = absurd h
-kids-cuts b best (Split numbers sub kids) prefix (n ∷ ns) h =
-    (λ e. h.0, cuts-append b (kid_nodes b best (prefix ++ n ∷ []) numbers sub) (kid_nodes b best prefix ns kids) (kids-cuts b best sub (prefix ++ n ∷ []) numbers h.2) (kids-cuts b best kids prefix ns h.3))
+kids-cuts : (b : Problem) (best : ℕ) (Q : List ℕ → Tip → Type 0) (kids : Kids Tip) (prefix ns : List ℕ) → KidsHold b.block Q prefix ns kids → CutsHold b (kid_nodes b best prefix ns kids)
+kids-cuts b best Q NoMore prefix [] h = tt
+kids-cuts b best Q NoMore prefix (n ∷ ns) h = absurd h
+kids-cuts b best Q (Unsplit tip kids) prefix [] h = absurd h
+kids-cuts b best Q (Unsplit tip kids) prefix (n ∷ ns) h = (λ e. absurd (uncut b best (prefix ++ n ∷ []) tip e), kids-cuts b best Q kids prefix ns h.1)
+kids-cuts b best Q (Split numbers sub kids) prefix [] h = absurd h
+kids-cuts b best Q (Split numbers sub kids) prefix (n ∷ ns) h =
+    (λ e. h.0, cuts-append b (kid_nodes b best (prefix ++ n ∷ []) numbers sub) (kid_nodes b best prefix ns kids) (kids-cuts b best Q sub (prefix ++ n ∷ []) numbers h.2) (kids-cuts b best Q kids prefix ns h.3))
 
-new-cuts : (b : Problem) (best : ℕ) (prefix : List ℕ) (tree : Tree Tip) → IsPiece b prefix tree → CutsHold b (new_nodes b best prefix tree)
-new-cuts b best prefix (Alone tip) h = tt
-new-cuts b best prefix (Parted numbers kids) h = kids-cuts b best kids prefix numbers h.2
+new-cuts : (b : Problem) (best : ℕ) (Q : List ℕ → Tip → Type 0) (prefix : List ℕ) (tree : Tree Tip) → TreeHolds b.block Q prefix tree → CutsHold b (new_nodes b best prefix tree)
+new-cuts b best Q prefix (Alone tip) h = tt
+new-cuts b best Q prefix (Parted numbers kids) h = kids-cuts b best Q kids prefix numbers h.2
 
-root-cuts : (b : Problem) (best : ℕ) (prefix : List ℕ) (tree : Tree Tip) → IsPiece b prefix tree → root_state b best prefix tree ≡ Cut → IsIncomplete b.block prefix
-root-cuts b best prefix (Alone tip) h e = absurd (uncut b best prefix tip e)
-root-cuts b best prefix (Parted numbers kids) h e = h.0
+root-cuts : (b : Problem) (best : ℕ) (Q : List ℕ → Tip → Type 0) (prefix : List ℕ) (tree : Tree Tip) → TreeHolds b.block Q prefix tree → root_state b best prefix tree ≡ Cut → IsIncomplete b.block prefix
+root-cuts b best Q prefix (Alone tip) h e = absurd (uncut b best prefix tip e)
+root-cuts b best Q prefix (Parted numbers kids) h e = h.0
 
 -- NO NODE STANDS AT A PREFIX THAT IS NO BEGINNING
 
-none-stands : (b : Problem) (best : ℕ) (at : List ℕ) (n : ℕ) → is_ready b.block at n ≡ false → (nodes : List Node) → NodesHold b best nodes → tally (stands_at (at ++ n ∷ [])) nodes ≡ 0
-none-stands b best at n never [] h = refl
-none-stands b best at n never (node ∷ nodes) h =
+none-stands : (rule : Rule) (b : Problem) (best : ℕ) (all : List Node) (at : List ℕ) (n : ℕ) → is_ready b.block at n ≡ false → (nodes : List Node) → NodesHold rule b best all nodes → tally (stands_at (at ++ n ∷ [])) nodes ≡ 0
+none-stands rule b best all at n never [] h = refl
+none-stands rule b best all at n never (node ∷ nodes) h =
     elim (cases_Bool (stands_at (at ++ n ∷ []) node)) [
       | inl is ↦
           let begins = subst (IsBeginning b.block) (same-is node.prefix (at ++ n ∷ []) is) h.0.0 in
           absurd (true≢false (sym (GoesOn-append b.block [] at (n ∷ []) begins).1.0 ∙ never))
-      | inr is ↦ rw (is) (omega (arith, none-stands b best at n never nodes h.1))
+      | inr is ↦ rw (is) (omega (arith, none-stands rule b best all at n never nodes h.1))
     ]
 
 -- THE STEPS
@@ -171,7 +172,7 @@ lower-first : (b : Problem) (best order : List ℕ) → total_of b order < total
 lower-first b best order lt (inl e) = inr (omega (arith, lt, ap (total_of b) e))
 lower-first b best order lt (inr h) = inr (omega (arith, lt, h))
 
-module _ (b : Problem) where
+module _ (rule : Rule) (b : Problem) where
   opening-keeps : (budget workers : ℕ) → Keeps b (opening b budget workers)
   opening-keeps budget workers =
       record {
@@ -201,16 +202,17 @@ module _ (b : Problem) where
         first = h.first;
       }
 
-  after_graft-keeps : (l : Ledger) (w i : ℕ) (tree : Tree Tip) → IsOut l i → IsPiece b (node_at l.nodes i).prefix tree → Keeps b l → Keeps b (after_graft b l w i (node_at l.nodes i).prefix tree)
+  after_graft-keeps : (l : Ledger) (w i : ℕ) (tree : Tree Tip) → IsOut l i → IsPiece rule b (node_at l.nodes i).prefix tree → Keeps b l → Keeps b (after_graft b l w i (node_at l.nodes i).prefix tree)
   after_graft-keeps l w i tree out piece h =
       let prefix = (node_at l.nodes i).prefix in
       let best = best_time b l in
+      let Q = TipHolds rule b prefix tree in
       let state = root_state b best prefix tree in
       let node : Node = record { prefix = prefix; state = state } in
       record {
         root = omega (arith, tally-append (stands_at []) (with_state l.nodes i state) (new_nodes b best prefix tree), state-stands [] l.nodes i state out.0, h.root, new-no_root b best prefix tree);
-        children = λ at n now. graft-children b at n now best l.nodes i tree out.0 out.1 piece (h.children at n now);
-        cuts = cuts-append b (with_state l.nodes i state) (new_nodes b best prefix tree) (cuts-set b l.nodes i node (root-cuts b best prefix tree piece) h.cuts) (new-cuts b best prefix tree piece);
+        children = λ at n now. graft-children b at n now best Q l.nodes i tree out.0 out.1 piece (h.children at n now);
+        cuts = cuts-append b (with_state l.nodes i state) (new_nodes b best prefix tree) (cuts-set b l.nodes i node (root-cuts b best Q prefix tree piece) h.cuts) (new-cuts b best Q prefix tree piece);
         first = h.first;
       }
 
@@ -224,7 +226,7 @@ module _ (b : Problem) where
         first = subst (IsFirst b) (sym best) h.first;
       }
 
-  moves-keep : (old : Ledger) (event : Event) (reply : Reply) (new : Ledger) → Moves b old event reply new → Keeps b old → Keeps b new
+  moves-keep : (old : Ledger) (event : Event) (reply : Reply) (new : Ledger) → Moves rule b old event reply new → Keeps b old → Keeps b new
   moves-keep old (Grant w) (Granted n) new h t = same-keeps old new (ap (λ (l : Ledger). l.nodes) h.1) (ap (λ (l : Ledger). l.best) h.1) t
   moves-keep old (Claim w) (Claimed (Some i)) new h t = subst (Keeps b) (sym h.2) (after_move-keeps old i Out h.0 (ap is_cut_state h.1) refl t)
   moves-keep old (Claim w) (Claimed None) new h t = subst (Keeps b) (sym h.1) t
@@ -233,7 +235,7 @@ module _ (b : Problem) where
   moves-keep old (Graft w i own prefix count None) OverAllowance new h t = subst (Keeps b) (sym h.3) t
   moves-keep old (Graft w i own prefix count (Some tree)) Taken new h t =
       let e : prefix ≡ (node_at old.nodes i).prefix = h.1.1 in
-      let whole = after_graft-keeps old w i tree h.0 (subst (λ p. IsPiece b p tree) e h.4) t in
+      let whole = after_graft-keeps old w i tree h.0 (subst (λ p. IsPiece rule b p tree) e h.4) t in
       subst (Keeps b) (sym h.5) (subst (λ p. Keeps b (after_graft b old w i p tree)) (sym e) whole)
   moves-keep old (Offer w own order time) OtherBlock new h t = subst (Keeps b) (sym h.1) t
   moves-keep old (Offer w own order time) Lower new h t =
@@ -244,19 +246,19 @@ module _ (b : Problem) where
   moves-keep old (Retire w) Retired new h t = same-keeps old new (ap (λ (l : Ledger). l.nodes) h) (ap (λ (l : Ledger). l.best) h) t
   moves-keep old event reply new h t = absurd h
 
-  run-keeps : (history : List (Event × Reply)) (old new : Ledger) → Run b old history new → Keeps b old → Keeps b new
+  run-keeps : (history : List (Event × Reply)) (old new : Ledger) → Run rule b old history new → Keeps b old → Keeps b new
   run-keeps [] old new h t = subst (Keeps b) (sym h) t
   run-keeps (entry ∷ entries) old new h t = run-keeps entries h.0 new h.2 (moves-keep old entry.0 entry.1 h.0 h.1.1 t)
 
   -- however the steps fall
-  pub history-table : (budget workers : ℕ) (history : List (Event × Reply)) (new : Ledger) → Run b (opening b budget workers) history new → IsTable b new
+  pub history-table : (budget workers : ℕ) (history : List (Event × Reply)) (new : Ledger) → Run rule b (opening b budget workers) history new → IsTable b new
   history-table budget workers history new h =
       let keeps = run-keeps history (opening b budget workers) new h (opening-keeps budget workers) in
-      let covers = history-covers b budget workers history new h in
+      let covers = history-covers rule b budget workers history new h in
       record {
         root = keeps.root;
         children = keeps.children;
-        others = λ at n never. none-stands b (best_time b new) at n never new.nodes covers.nodes;
+        others = λ at n never. none-stands rule b (best_time b new) new.nodes at n never new.nodes covers.nodes;
         splits = cuts-each b new.nodes keeps.cuts;
         best = keeps.first;
       }

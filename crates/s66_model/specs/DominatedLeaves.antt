@@ -29,15 +29,21 @@ is_standing (Some (AtSplit numbers)) = true
 is_standing (Some (AtTip (Bounding leaf))) = true
 is_standing (Some (AtTip (Dominated name))) = false
 
--- a dominated leaf at this prefix may name this node
-abbrev pub MayName : Rule → Problem → List ℕ → Option (Knot Ending) → List ℕ → Type 0
-MayName NoneNamed b at node name = ⊥
-MayName WrittenEarlier b at node name = (is_node node ≡ true) × IsEarlier name at × Dominates b name at
-MayName ClampedStanding b at node name = (is_standing node ≡ true) × DominatesClamped b name at
+-- what may be named where this is found
+abbrev pub may_be_named : Rule → Option (Knot Ending) → Bool
+may_be_named NoneNamed knot = false
+may_be_named WrittenEarlier knot = is_node knot
+may_be_named ClampedStanding knot = is_standing knot
+
+-- the name dominates an incomplete prefix, as the rule asks
+abbrev pub DominatesByRule : Rule → Problem → List ℕ → List ℕ → Type 0
+DominatesByRule NoneNamed b name at = ⊥
+DominatesByRule WrittenEarlier b name at = IsIncomplete b.block at × IsEarlier name at × Dominates b name at
+DominatesByRule ClampedStanding b name at = IsIncomplete b.block at × DominatesClamped b name at
 
 -- a dominated leaf with this name may stand there, in a tree over the prefix
 abbrev pub MayBeDominated : Rule → Problem → List ℕ → Tree Ending → List ℕ → List ℕ → Type 0
-MayBeDominated rule b prefix tree at name = IsIncomplete b.block at × MayName rule b at (node_at prefix tree name) name
+MayBeDominated rule b prefix tree at name = DominatesByRule rule b name at × (may_be_named rule (node_at prefix tree name) ≡ true)
 
 -- WHAT A TREE SHOWS over a prefix: dominated leaves are passed over
 

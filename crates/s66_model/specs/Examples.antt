@@ -9,7 +9,7 @@ use Rattle.s66_isa.specs.declared.reg.Reg.{Reg}
 use Rattle.s66_isa.specs.declared.profile.Profile.{Profile}
 use Rattle.s66_isa.specs.Table.{instr, numbers, Row, Write, standard, a_reg, b_reg, all_kinds, reads_of, results_of, memory_of, memory_pair}
 use Rattle.s66_model.specs.declared.rule.Rule.{Rule}
-use Rattle.s66_model.specs.declared.rule.Rule.TheVariants.{WrittenEarlier, ClampedStanding}
+use Rattle.s66_model.specs.declared.rule.Rule.TheVariants.{NoneNamed, WrittenEarlier, ClampedStanding}
 use Rattle.s66_model.specs.Packing.{parcels_from, fillers, len_at}
 use Rattle.s66_model.specs.Dependence.{share}
 use Rattle.s66_model.specs.Meaning.{Term, Initial, Computed, Terms, NoTerms, Then, Storage, meaning}
@@ -18,7 +18,7 @@ use Rattle.s66_model.specs.Leaves.{Leaf, Whole, Chain, Load, link, load, chain, 
 use Rattle.s66_model.specs.Tails.{longest_tail}
 use Rattle.s66_model.specs.Tree.{Tree, Parted, Kids, NoMore, Unsplit, Split}
 use Rattle.s66_model.specs.Answer.{Answer}
-use Rattle.s66_model.specs.DominatedLeaves.{Ending, Bounding, Dominated}
+use Rattle.s66_model.specs.DominatedLeaves.{Ending, Bounding, Dominated, tree_bounding}
 use Rattle.s66_model.specs.Piece.{Tip, Carries, Frontier}
 use Rattle.s66_model.specs.Ledger.{State, Open, Out, Cut, Closed, Node, Ledger, Event, Grant, Claim, Graft, Offer, Reply, Granted, Claimed, Taken, NotOut, NotLower, Step, Run}
 
@@ -290,10 +290,10 @@ load_problem = standard_problem one_load
 abbrev pub multiply_problem : Problem
 multiply_problem = standard_problem three_multiplies
 
--- an answer's order, time, bound, number of splits and tree
+-- an answer's order, time, bound, number of splits and tree, which has no dominated leaves
 abbrev pub answer : List ℕ → ℕ → ℕ → ℕ → Tree Leaf → Answer
 answer order time bound splits tree =
-    record { order = order; time = time; bound = bound; splits = splits; tree = tree }
+    record { order = order; time = time; bound = bound; splits = splits; tree = tree_bounding tree }
 
 -- both orders of the last two numbers
 abbrev pub both_orders : {M : Type 0} → M → ℕ → ℕ → Kids M
@@ -427,7 +427,7 @@ load_out best = ledger (node [] Out ∷ []) best 7 (0 ∷ 3 ∷ []) 0
 -- load_piece is grafted there, and its whole order takes this state
 abbrev pub load_grafted : List ℕ → State → Ledger
 load_grafted best whole =
-    ledger (node [] Cut ∷ node (1 ∷ []) Cut ∷ node (1 ∷ 2 ∷ []) (Closed (Load Boolean)) ∷ node (1 ∷ 3 ∷ []) Cut ∷ node (1 ∷ 3 ∷ 2 ∷ []) whole ∷ node (3 ∷ []) Open ∷ []) best 7 (0 ∷ 0 ∷ []) 3
+    ledger (node [] Cut ∷ node (1 ∷ []) Cut ∷ node (1 ∷ 2 ∷ []) (Closed (Bounding (Load Boolean))) ∷ node (1 ∷ 3 ∷ []) Cut ∷ node (1 ∷ 3 ∷ 2 ∷ []) whole ∷ node (3 ∷ []) Open ∷ []) best 7 (0 ∷ 0 ∷ []) 3
 
 -- one_load with a budget of 1 that was spent on a split at 1, below node 0, which is open
 abbrev pub loose_split : Ledger
@@ -435,11 +435,11 @@ loose_split = ledger (node [] Open ∷ node (1 ∷ []) Cut ∷ []) (1 ∷ 2 ∷ 
 
 -- the event doesn't get this reply, whatever it leads to
 abbrev pub NeverAnswers : Problem → Ledger → Event → Reply → Type 0
-NeverAnswers b old event reply = (new : Ledger) → ¬ Step b old event reply new
+NeverAnswers b old event reply = (new : Ledger) → ¬ Step NoneNamed b old event reply new
 
 -- there is no such history, whatever it leads to
 abbrev pub NeverRuns : Problem → Ledger → List (Event × Reply) → Type 0
-NeverRuns b old history = (new : Ledger) → ¬ Run b old history new
+NeverRuns b old history = (new : Ledger) → ¬ Run NoneNamed b old history new
 
 -- WHAT ORDERS MEAN
 

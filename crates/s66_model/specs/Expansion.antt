@@ -1,22 +1,25 @@
 -- To be believed: what an expansion of a prefix is: a tree over it, grown while a best time is in hand, and the best of its whole orders.
 use Rattle.std.specs.Prelude.{ℕ, ◌≡◌, ◌≤◌, ◌<◌, ◌⊎◌, List, [], ◌∷◌, Option, Some, None}
 use Rattle.s66_isa.specs.Lists.{Among}
+use Rattle.s66_model.specs.declared.rule.Rule.{Rule}
 use Rattle.s66_model.specs.Timing.{Problem, total_of}
 use Rattle.s66_model.specs.LegalOrder.{IsComplete, IsIncomplete}
 use Rattle.s66_model.specs.Leaves.{Whole, Chain, Load, Parcels, value, floor, floor_value}
 use Rattle.s66_model.specs.Tree.{Tree, TreeHolds, splits, split_at, tree_values}
-use Rattle.s66_model.specs.Piece.{Tip, Carries, Frontier}
+use Rattle.s66_model.specs.DominatedLeaves.{DominatesByRule}
+use Rattle.s66_model.specs.Piece.{Tip, Carries, Frontier, Passed, IsNamedIn}
 
 -- The best time may fall while the tree is grown, from high to low. Where it doesn't, low is high.
 
--- a leaf is the floor, of a complete prefix or of a value that is at least low; in the frontier stands an incomplete prefix whose floor is below high
-abbrev pub TipHoldsWhile : Problem → ℕ → ℕ → List ℕ → Tip → Type 0
-TipHoldsWhile b high low prefix (Carries leaf) = (leaf ≡ floor b prefix) × (IsComplete b.block prefix ⊎ (low ≤ value b prefix leaf))
-TipHoldsWhile b high low prefix Frontier = IsIncomplete b.block prefix × (floor_value b prefix < high)
+-- a leaf is the floor, of a complete prefix or of a value that is at least low; in the frontier stands an incomplete prefix whose floor is below high, and so is that of a dominated one, which has a name as the rule asks
+abbrev pub TipHoldsWhile : Rule → Problem → ℕ → ℕ → List ℕ → Tree Tip → List ℕ → Tip → Type 0
+TipHoldsWhile rule b high low prefix tree at (Carries leaf) = (leaf ≡ floor b at) × (IsComplete b.block at ⊎ (low ≤ value b at leaf))
+TipHoldsWhile rule b high low prefix tree at Frontier = IsIncomplete b.block at × (floor_value b at < high)
+TipHoldsWhile rule b high low prefix tree at (Passed name) = (DominatesByRule rule b name at × IsNamedIn rule prefix tree at name) × (floor_value b at < high)
 
-pub record IsExpansion (b : Problem) (high low allowance : ℕ) (prefix : List ℕ) (tree : Tree Tip) : Type 0 where
+pub record IsExpansion (rule : Rule) (b : Problem) (high low allowance : ℕ) (prefix : List ℕ) (tree : Tree Tip) : Type 0 where
   -- a tree over the prefix whose splits have exactly the ready children
-  pub piece : TreeHolds b.block (TipHoldsWhile b high low) prefix tree
+  pub piece : TreeHolds b.block (TipHoldsWhile rule b high low prefix tree) prefix tree
   -- of at most so many splits
   pub within : splits tree ≤ allowance
   -- a prefix whose floor is at least the best time isn't split
@@ -32,6 +35,7 @@ whole_at prefix (Carries (Chain numbers)) = []
 whole_at prefix (Carries (Load kind)) = []
 whole_at prefix (Carries Parcels) = []
 whole_at prefix Frontier = []
+whole_at prefix (Passed name) = []
 
 -- the prefixes of a tree that carry a leaf T, in preorder
 abbrev pub whole_orders : List ℕ → Tree Tip → List (List ℕ)

@@ -1,21 +1,24 @@
 -- To be believed: the ledger of a search as a machine: nodes, events, replies, steps and runs.
 use Rattle.std.specs.Prelude.{ℕ, ◌+◌, ◌-◌, ◌≡◌, ◌<◌, ◌≤◌, Bool, true, false, if◌then◌else◌, min, List, [], ◌∷◌, ◌++◌, length, get_or, set, nat_le, Option, Some, None, replicate}
-use Rattle.s66_isa.specs.Lists.{tally}
+use Rattle.s66_isa.specs.Lists.{tally, Among}
 use Rattle.s66_isa.specs.Table.{numbers}
+use Rattle.s66_model.specs.declared.rule.Rule.{Rule}
+use Rattle.s66_model.specs.declared.rule.Rule.TheVariants.{NoneNamed, WrittenEarlier, ClampedStanding}
 use Rattle.s66_model.specs.Timing.{Problem, total_of}
 use Rattle.s66_model.specs.LegalOrder.{IsLegal}
-use Rattle.s66_model.specs.Leaves.{Leaf, value}
-use Rattle.s66_model.specs.Tree.{Tree, Alone, Parted, Kids, NoMore, Unsplit, Split, splits}
-use Rattle.s66_model.specs.Piece.{Tip, Carries, Frontier, IsPiece}
+use Rattle.s66_model.specs.Leaves.{value}
+use Rattle.s66_model.specs.Tree.{Tree, Alone, Parted, Kids, NoMore, Unsplit, Split, splits, TreeHolds}
+use Rattle.s66_model.specs.DominatedLeaves.{Ending, Bounding, Dominated}
+use Rattle.s66_model.specs.Piece.{Tip, Carries, Frontier, Passed, IsPiece}
 
 -- NODES
 
--- a node can be claimed, is handed out, is split, or is closed with a leaf
+-- a node can be claimed, is handed out, is split, or is closed with a leaf or as dominated
 pub data State : Type 0 where
   Open : State
   Out : State
   Cut : State
-  Closed : Leaf → State
+  Closed : Ending → State
 
 pub record Node : Type 0 where
   pub prefix : List ℕ
@@ -25,25 +28,25 @@ abbrev pub is_cut_state : State → Bool
 is_cut_state Open = false
 is_cut_state Out = false
 is_cut_state Cut = true
-is_cut_state (Closed leaf) = false
+is_cut_state (Closed ending) = false
 
 abbrev pub is_open_state : State → Bool
 is_open_state Open = true
 is_open_state Out = false
 is_open_state Cut = false
-is_open_state (Closed leaf) = false
+is_open_state (Closed ending) = false
 
 abbrev pub is_live_state : State → Bool
 is_live_state Open = true
 is_live_state Out = true
 is_live_state Cut = false
-is_live_state (Closed leaf) = false
+is_live_state (Closed ending) = false
 
 abbrev pub is_out_state : State → Bool
 is_out_state Open = false
 is_out_state Out = true
 is_out_state Cut = false
-is_out_state (Closed leaf) = false
+is_out_state (Closed ending) = false
 
 abbrev pub is_cut : Node → Bool
 is_cut node = is_cut_state node.state
@@ -156,10 +159,11 @@ after_move l i state = record l { nodes = with_state l.nodes i state }
 abbrev pub after_offer : Ledger → List ℕ → Ledger
 after_offer l order = record l { best = order }
 
--- an unsplit prefix is closed if it carries a leaf of value at least the best time, else open
+-- an unsplit prefix is closed if it carries a leaf of value at least the best time or is dominated, else open
 abbrev pub state_of : Problem → ℕ → List ℕ → Tip → State
-state_of b best prefix (Carries leaf) = if nat_le best (value b prefix leaf) then Closed leaf else Open
+state_of b best prefix (Carries leaf) = if nat_le best (value b prefix leaf) then Closed (Bounding leaf) else Open
 state_of b best prefix Frontier = Open
+state_of b best prefix (Passed name) = Closed (Dominated name)
 
 abbrev pub root_state : Problem → ℕ → List ℕ → Tree Tip → State
 root_state b best prefix (Alone tip) = state_of b best prefix tip
@@ -187,6 +191,30 @@ after_graft b l w i prefix tree =
       spent = l.spent + splits tree;
     }
 
+-- NODES THAT ARE NAMED
+
+-- by the rule a node in this state may be named
+abbrev pub may_name : Rule → State → Bool
+may_name NoneNamed state = false
+may_name WrittenEarlier state = true
+may_name ClampedStanding Open = true
+may_name ClampedStanding Out = true
+may_name ClampedStanding Cut = true
+may_name ClampedStanding (Closed (Bounding leaf)) = true
+may_name ClampedStanding (Closed (Dominated name)) = false
+
+abbrev pub HasNamed : Rule → List Node → List ℕ → Type 0
+HasNamed rule nodes name = (node : Node) × Among node nodes × (node.prefix ≡ name) × (may_name rule node.state ≡ true)
+
+abbrev pub TipIsNamed : Rule → List Node → List ℕ → Tip → Type 0
+TipIsNamed rule nodes at (Carries leaf) = Unit {0}
+TipIsNamed rule nodes at Frontier = Unit {0}
+TipIsNamed rule nodes at (Passed name) = HasNamed rule nodes name
+
+-- each name in the piece is that of one of these nodes
+abbrev pub AreNamed : Rule → Problem → List Node → List ℕ → Tree Tip → Type 0
+AreNamed rule b nodes prefix tree = TreeHolds b.block (TipIsNamed rule nodes) prefix tree
+
 -- STEPS
 
 abbrev pub IsOut : Ledger → ℕ → Type 0
@@ -200,32 +228,33 @@ IsOver l i own prefix = (own ≡ true) × (prefix ≡ (node_at l.nodes i).prefix
 abbrev pub IsTimed : Problem → Bool → List ℕ → ℕ → Type 0
 IsTimed b own order time = (own ≡ true) × IsLegal b.block order × (time ≡ total_of b order)
 
--- from old, the event may have this reply and lead to new; of a piece or an order that is refused nothing more is asked
-abbrev pub Moves : Problem → Ledger → Event → Reply → Ledger → Type 0
-Moves b old (Grant w) (Granted n) new = (n ≡ share_of old) × (new ≡ after_grant old w)
-Moves b old (Claim w) (Claimed (Some i)) new =
+-- from old, by the rule, the event may have this reply and lead to new; of a piece or an order that is refused nothing more is asked
+abbrev pub Moves : Rule → Problem → Ledger → Event → Reply → Ledger → Type 0
+Moves rule b old (Grant w) (Granted n) new = (n ≡ share_of old) × (new ≡ after_grant old w)
+Moves rule b old (Claim w) (Claimed (Some i)) new =
     (i < length old.nodes) × ((node_at old.nodes i).state ≡ Open) × (new ≡ after_move old i Out)
-Moves b old (Claim w) (Claimed None) new = (tally is_open old.nodes ≡ 0) × (new ≡ old)
-Moves b old (Graft w i own prefix count None) NotOut new = ¬ IsOut old i × (new ≡ old)
-Moves b old (Graft w i own prefix count None) OtherPrefix new = IsOut old i × ¬ IsOver old i own prefix × (new ≡ old)
-Moves b old (Graft w i own prefix count None) OverAllowance new =
+Moves rule b old (Claim w) (Claimed None) new = (tally is_open old.nodes ≡ 0) × (new ≡ old)
+Moves rule b old (Graft w i own prefix count None) NotOut new = ¬ IsOut old i × (new ≡ old)
+Moves rule b old (Graft w i own prefix count None) OtherPrefix new = IsOut old i × ¬ IsOver old i own prefix × (new ≡ old)
+Moves rule b old (Graft w i own prefix count None) OverAllowance new =
     IsOut old i × IsOver old i own prefix × (allowance old w < count) × (new ≡ old)
-Moves b old (Graft w i own prefix count (Some tree)) Taken new =
-    IsOut old i × IsOver old i own prefix × (count ≤ allowance old w) × (count ≡ splits tree) × IsPiece b prefix tree × (new ≡ after_graft b old w i prefix tree)
-Moves b old (Offer w own order time) OtherBlock new = (own ≡ false) × (new ≡ old)
-Moves b old (Offer w own order time) Lower new =
+Moves rule b old (Graft w i own prefix count (Some tree)) Taken new =
+    IsOut old i × IsOver old i own prefix × (count ≤ allowance old w) × (count ≡ splits tree) × IsPiece rule b prefix tree
+    × (new ≡ after_graft b old w i prefix tree) × AreNamed rule b new.nodes prefix tree
+Moves rule b old (Offer w own order time) OtherBlock new = (own ≡ false) × (new ≡ old)
+Moves rule b old (Offer w own order time) Lower new =
     IsTimed b own order time × (time < best_time b old) × (new ≡ after_offer old order)
-Moves b old (Offer w own order time) (NotLower least) new =
+Moves rule b old (Offer w own order time) (NotLower least) new =
     IsTimed b own order time × (best_time b old ≤ time) × (least ≡ best_time b old) × (new ≡ old)
-Moves b old (Back w i) NotOut new = ¬ IsOut old i × (new ≡ old)
-Moves b old (Back w i) Returned new = IsOut old i × (new ≡ after_move old i Open)
-Moves b old (Retire w) Retired new = new ≡ after_retire old w
-Moves b old event reply new = ⊥
+Moves rule b old (Back w i) NotOut new = ¬ IsOut old i × (new ≡ old)
+Moves rule b old (Back w i) Returned new = IsOut old i × (new ≡ after_move old i Open)
+Moves rule b old (Retire w) Retired new = new ≡ after_retire old w
+Moves rule b old event reply new = ⊥
 
-abbrev pub Step : Problem → Ledger → Event → Reply → Ledger → Type 0
-Step b old event reply new = IsWorker old (worker event) × Moves b old event reply new
+abbrev pub Step : Rule → Problem → Ledger → Event → Reply → Ledger → Type 0
+Step rule b old event reply new = IsWorker old (worker event) × Moves rule b old event reply new
 
 -- each entry is a step from the state before
-abbrev pub Run : Problem → Ledger → List (Event × Reply) → Ledger → Type 0
-Run b old [] new = new ≡ old
-Run b old (entry ∷ entries) new = (mid : Ledger) × Step b old entry.0 entry.1 mid × Run b mid entries new
+abbrev pub Run : Rule → Problem → Ledger → List (Event × Reply) → Ledger → Type 0
+Run rule b old [] new = new ≡ old
+Run rule b old (entry ∷ entries) new = (mid : Ledger) × Step rule b old entry.0 entry.1 mid × Run rule b mid entries new

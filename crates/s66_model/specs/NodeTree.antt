@@ -1,32 +1,46 @@
--- Used by contracts of the ledger: the tree of its nodes, split where a node is split, with floors elsewhere.
+-- Used by contracts of the ledger: the tree of its nodes, split where a node is split, with floors and dominated leaves elsewhere.
 use Rattle.std.specs.Prelude.{ℕ, zero, suc, Bool, if◌then◌else◌, List, [], ◌∷◌, ◌++◌, length, nat_lt}
 use Rattle.s66_isa.specs.declared.instr.Instr.{Instr}
 use Rattle.s66_isa.specs.Lists.{tally}
 use Rattle.s66_model.specs.Timing.{Problem}
 use Rattle.s66_model.specs.LegalOrder.{ready}
-use Rattle.s66_model.specs.Leaves.{Leaf, floor}
+use Rattle.s66_model.specs.Leaves.{floor}
 use Rattle.s66_model.specs.Tree.{Kids, NoMore, Unsplit, Split, Tree, Alone, Parted}
-use Rattle.s66_model.specs.Ledger.{Node}
-use Rattle.s66_model.specs.NodeTable.{is_cut_at}
+use Rattle.s66_model.specs.DominatedLeaves.{Ending, Bounding, Dominated}
+use Rattle.s66_model.specs.Ledger.{State, Open, Out, Cut, Closed, Node}
+use Rattle.s66_model.specs.NodeTable.{stands_at, is_cut_at}
 
 -- each of these numbers after the prefix, in front of its later siblings
-abbrev pub each_kid : (List ℕ → Kids Leaf → Kids Leaf) → List ℕ → List ℕ → Kids Leaf
+abbrev pub each_kid : {M : Type 0} → (List ℕ → Kids M → Kids M) → List ℕ → List ℕ → Kids M
 each_kid kid prefix [] = NoMore
 each_kid kid prefix (n ∷ ns) = kid (prefix ++ n ∷ []) (each_kid kid prefix ns)
 
--- a prefix in front of its later siblings: split where the test says so, down to so many numbers more, and else with its leaf
-abbrev pub grown_kid : List Instr → (List ℕ → Bool) → (List ℕ → Leaf) → ℕ → List ℕ → Kids Leaf → Kids Leaf
-grown_kid block is_split leaf zero at later = Unsplit (leaf at) later
-grown_kid block is_split leaf (suc more) at later =
-    if is_split at then Split (ready block at) (each_kid (grown_kid block is_split leaf more) at (ready block at)) later else Unsplit (leaf at) later
+-- a prefix in front of its later siblings: split where the test says so, down to so many numbers more, and else with its tip
+abbrev pub grown_kid : {M : Type 0} → List Instr → (List ℕ → Bool) → (List ℕ → M) → ℕ → List ℕ → Kids M → Kids M
+grown_kid block is_split tip zero at later = Unsplit (tip at) later
+grown_kid block is_split tip (suc more) at later =
+    if is_split at then Split (ready block at) (each_kid (grown_kid block is_split tip more) at (ready block at)) later else Unsplit (tip at) later
 
-abbrev pub grown_tree : List Instr → (List ℕ → Bool) → (List ℕ → Leaf) → Tree Leaf
-grown_tree block is_split leaf =
-    if is_split [] then Parted (ready block []) (each_kid (grown_kid block is_split leaf (length block)) [] (ready block [])) else Alone (leaf [])
+abbrev pub grown_tree : {M : Type 0} → List Instr → (List ℕ → Bool) → (List ℕ → M) → Tree M
+grown_tree block is_split tip =
+    if is_split [] then Parted (ready block []) (each_kid (grown_kid block is_split tip (length block)) [] (ready block [])) else Alone (tip [])
 
 -- some node is split there
 abbrev pub is_split_at : List Node → List ℕ → Bool
 is_split_at nodes at = nat_lt 0 (tally (is_cut_at at) nodes)
 
-abbrev pub node_tree : Problem → List Node → Tree Leaf
-node_tree b nodes = grown_tree b.block (is_split_at nodes) (floor b)
+-- what a prefix has whose node is in this state and isn't split: its name if it is dominated, else its floor
+abbrev pub state_ending : Problem → List ℕ → State → Ending
+state_ending b at Open = Bounding (floor b at)
+state_ending b at Out = Bounding (floor b at)
+state_ending b at Cut = Bounding (floor b at)
+state_ending b at (Closed (Bounding leaf)) = Bounding (floor b at)
+state_ending b at (Closed (Dominated name)) = Dominated name
+
+-- by the first node that stands there
+abbrev pub ending_at : Problem → List Node → List ℕ → Ending
+ending_at b [] at = Bounding (floor b at)
+ending_at b (node ∷ nodes) at = if stands_at at node then state_ending b at node.state else ending_at b nodes at
+
+abbrev pub node_tree : Problem → List Node → Tree Ending
+node_tree b nodes = grown_tree b.block (is_split_at nodes) (ending_at b nodes)

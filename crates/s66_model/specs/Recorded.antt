@@ -1,9 +1,9 @@
 -- To be believed: what a ledger records of a graft and of an offer, whatever it answers, and what its entries spend.
-use Rattle.std.specs.Prelude.{ℕ, ◌≡◌, ◌↔◌, ◌==◌, Bool, true, if◌then◌else◌, List, Some, None}
+use Rattle.std.specs.Prelude.{ℕ, ◌≡◌, ◌↔◌, ◌⊎◌, ◌==◌, Bool, true, if◌then◌else◌, List, Some, None}
 use Rattle.s66_isa.specs.Lists.{weigh}
 use Rattle.s66_model.specs.Timing.{Problem, total_of}
-use Rattle.s66_model.specs.Tree.{Tree, splits}
-use Rattle.s66_model.specs.Piece.{Tip}
+use Rattle.s66_model.specs.Tree.{Tree, Alone, Parted, Kids, NoMore, Unsplit, Split, splits}
+use Rattle.s66_model.specs.Piece.{Tip, Carries, Frontier, Passed}
 use Rattle.s66_model.specs.Ledger.{Event, Graft, Offer, Reply, Taken, worker}
 
 -- own tells whether p, which a piece or an order is of, is the ledger's block and profile
@@ -15,9 +15,27 @@ abbrev pub graft_event : (w node : ℕ) (own : Bool) (prefix : List ℕ) → Tre
 graft_event w node own prefix tree Taken = Graft w node own prefix (splits tree) (Some tree)
 graft_event w node own prefix tree reply = Graft w node own prefix (splits tree) None
 
+-- a ledger may put dominated prefixes of a piece into the frontier, and takes all else as it is
+abbrev pub TipOpens : Tip → Tip → Type 0
+TipOpens (Carries leaf) taken = taken ≡ Carries leaf
+TipOpens Frontier taken = taken ≡ Frontier
+TipOpens (Passed name) taken = (taken ≡ Passed name) ⊎ (taken ≡ Frontier)
+
+abbrev pub KidsOpen : Kids Tip → Kids Tip → Type 0
+KidsOpen NoMore NoMore = Unit {0}
+KidsOpen (Unsplit tip kids) (Unsplit taken others) = TipOpens tip taken × KidsOpen kids others
+KidsOpen (Split numbers sub kids) (Split ns under others) = (numbers ≡ ns) × KidsOpen sub under × KidsOpen kids others
+KidsOpen kids others = ⊥
+
+abbrev pub TreeOpens : Tree Tip → Tree Tip → Type 0
+TreeOpens (Alone tip) (Alone taken) = TipOpens tip taken
+TreeOpens (Parted numbers kids) (Parted ns others) = (numbers ≡ ns) × KidsOpen kids others
+TreeOpens tree taken = ⊥
+
 -- the event of worker w's graft at a node, of a piece of p over this prefix
 abbrev pub IsGraftOf : (b : Problem) (w node : ℕ) (p : Problem) (prefix : List ℕ) → Tree Tip → Reply → Event → Type 0
-IsGraftOf b w node p prefix tree reply event = (own : Bool) × IsOwn b p own × (event ≡ graft_event w node own prefix tree reply)
+IsGraftOf b w node p prefix tree reply event =
+    (own : Bool) × (taken : Tree Tip) × IsOwn b p own × TreeOpens tree taken × (event ≡ graft_event w node own prefix taken reply)
 
 -- the event of worker w's offer of an order of p, with its total
 abbrev pub IsOfferOf : (b : Problem) (w : ℕ) (p : Problem) (order : List ℕ) → Event → Type 0

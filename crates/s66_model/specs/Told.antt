@@ -1,10 +1,12 @@
--- Used by contracts of pieces and answers: trees that tell of each unsplit prefix only its floor's value, as code keeps them, and the trees that they stand for.
+-- Used by contracts of pieces and answers: trees that tell of each unsplit prefix only its floor's value or the name that it has, as code keeps them, and the trees that they stand for.
 use Rattle.std.specs.Prelude.{ℕ, ◌≡◌, List, [], ◌∷◌, ◌++◌}
+use Rattle.s66_model.specs.declared.rule.Rule.{Rule}
 use Rattle.s66_model.specs.Timing.{Problem}
 use Rattle.s66_model.specs.LegalOrder.{IsIncomplete}
 use Rattle.s66_model.specs.Leaves.{floor, floor_value}
-use Rattle.s66_model.specs.Tree.{Tree, Alone, Parted, Kids, NoMore, Unsplit, Split}
-use Rattle.s66_model.specs.Piece.{Tip, Carries, Frontier}
+use Rattle.s66_model.specs.Tree.{Tree, Alone, Parted, Kids, NoMore, Unsplit, Split, TreeHolds}
+use Rattle.s66_model.specs.DominatedLeaves.{DominatesByRule}
+use Rattle.s66_model.specs.Piece.{Tip, Carries, Frontier, Passed, IsNamedIn}
 
 -- A TREE SEEN WITH OTHER TIPS: at each prefix that isn't split, what f makes of it and of its tip
 
@@ -21,24 +23,38 @@ tree_seen f prefix (Parted numbers kids) = Parted numbers (kids_seen f prefix nu
 
 -- VALUES IN PLACE OF LEAVES
 
--- the value of a prefix that carries its floor, and of one in the frontier
+-- the value of a prefix that carries its floor, and of one in the frontier; the name of one that is dominated
 pub data Told : Type 0 where
   ToldLeaf : ℕ → Told
   ToldFrontier : ℕ → Told
+  ToldPassed : (name : List ℕ) → Told
 
--- it is the floor's, and no complete prefix is in the frontier
-abbrev pub ToldHolds : Problem → List ℕ → Told → Type 0
-ToldHolds b prefix (ToldLeaf value) = value ≡ floor_value b prefix
-ToldHolds b prefix (ToldFrontier value) = (value ≡ floor_value b prefix) × IsIncomplete b.block prefix
+-- it is the floor's, no complete prefix is in the frontier, and in this tree over the prefix the name is as the rule asks
+abbrev pub ToldHolds : Rule → Problem → List ℕ → Tree Tip → List ℕ → Told → Type 0
+ToldHolds rule b prefix tree at (ToldLeaf value) = value ≡ floor_value b at
+ToldHolds rule b prefix tree at (ToldFrontier value) = (value ≡ floor_value b at) × IsIncomplete b.block at
+ToldHolds rule b prefix tree at (ToldPassed name) = DominatesByRule rule b name at × IsNamedIn rule prefix tree at name
 
-abbrev pub told_value : Told → ℕ
-told_value (ToldLeaf value) = value
-told_value (ToldFrontier value) = value
+-- a dominated prefix has no value
+abbrev pub told_values : Told → List ℕ
+told_values (ToldLeaf value) = value ∷ []
+told_values (ToldFrontier value) = value ∷ []
+told_values (ToldPassed name) = []
+
+abbrev pub tip_floors : Problem → List ℕ → Tip → List ℕ
+tip_floors b at (Carries leaf) = floor_value b at ∷ []
+tip_floors b at Frontier = floor_value b at ∷ []
+tip_floors b at (Passed name) = []
 
 abbrev pub tip_of : Problem → List ℕ → Told → Tip
-tip_of b prefix (ToldLeaf value) = Carries (floor b prefix)
-tip_of b prefix (ToldFrontier value) = Frontier
+tip_of b at (ToldLeaf value) = Carries (floor b at)
+tip_of b at (ToldFrontier value) = Frontier
+tip_of b at (ToldPassed name) = Passed name
 
 -- the piece's tree of which the values are told
 abbrev pub tree_told : Problem → List ℕ → Tree Told → Tree Tip
 tree_told b prefix told = tree_seen (tip_of b) prefix told
+
+-- a tree of true values, and of names as the rule asks
+abbrev pub IsTold : Rule → Problem → List ℕ → Tree Told → Type 0
+IsTold rule b prefix told = TreeHolds b.block (ToldHolds rule b prefix (tree_told b prefix told)) prefix told

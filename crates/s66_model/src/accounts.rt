@@ -2,6 +2,7 @@
 
 ghost use Rattle.std.specs.Prelude.{ℕ, List, ◌≡◌, ◌≢◌, ◌≤◌, [], ◌∷◌, ◌++◌, length, true, false, Some, None};
 ghost use Rattle.s66_isa.specs.Lists.{weigh};
+ghost use Rattle.s66_model.specs.declared.rule.Rule.{Rule};
 ghost use Rattle.s66_model.specs.Timing.{Problem};
 ghost use Rattle.s66_model.specs.Ledger.{Ledger, Event, Reply, Step, Run, worker, Open, Out, Grant, Claim, Graft, Offer, Back, Granted, Claimed, Taken, NotOut, Lower, NotLower, OtherBlock, Returned, opening};
 ghost use Rattle.s66_model.specs.Accounts.{Grants, Claims, Grafts, Offers, GivesBack, Retires, brief, account_of, counted, no_account, Account, Summary, summary_of, account_at, Passbook, Agrees, opened, after_event, after_reading};
@@ -13,15 +14,15 @@ pub fn account_law()
     ensures own { (history : List (Event × Reply)) (event : Event) (reply : Reply) → account_of (history ++ (event, reply) ∷ []) (worker event) ≡ counted (account_of history (worker event)) event reply }
     ensures other { (history : List (Event × Reply)) (event : Event) (reply : Reply) (w : ℕ) → worker event ≢ w → account_of (history ++ (event, reply) ∷ []) w ≡ account_of history w }
     ensures few { (history : List (Event × Reply)) (w : ℕ) → (account_of history w).events ≤ length history }
-    ensures splits { (b : Problem) (budget workers : ℕ) (history : List (Event × Reply)) (l : Ledger) → Run b (opening b budget workers) history l → weigh (λ account. account.splits) (summary_of b budget workers history l).accounts ≡ l.spent }
+    ensures splits { (rule : Rule) (b : Problem) (budget workers : ℕ) (history : List (Event × Reply)) (l : Ledger) → Run rule b (opening b budget workers) history l → weigh (λ account. account.splits) (summary_of b budget workers history l).accounts ≡ l.spent }
 {}
 
 /// A seat agrees with the ledger as it opens, and goes on to: after each event of its worker, after those of others, and after
 /// it read the best time.
 pub fn passbook_law()
     ensures opened { (b : Problem) (budget workers : ℕ) (history : List (Event × Reply)) (l : Ledger) (w : ℕ) → 1 ≤ w → w ≤ workers → Agrees (summary_of b budget workers history l) (opened (summary_of b budget workers history l) w) }
-    ensures own { (b : Problem) (budget workers : ℕ) (history : List (Event × Reply)) (old new : Ledger) (event : Event) (reply : Reply) (p : Passbook) → Step b old event reply new → Agrees (summary_of b budget workers history old) p → worker event ≡ p.who → Agrees (summary_of b budget workers (history ++ (event, reply) ∷ []) new) (after_event p event reply) }
-    ensures other { (b : Problem) (budget workers : ℕ) (history : List (Event × Reply)) (old new : Ledger) (event : Event) (reply : Reply) (p : Passbook) → Step b old event reply new → Agrees (summary_of b budget workers history old) p → worker event ≢ p.who → Agrees (summary_of b budget workers (history ++ (event, reply) ∷ []) new) p }
+    ensures own { (rule : Rule) (b : Problem) (budget workers : ℕ) (history : List (Event × Reply)) (old new : Ledger) (event : Event) (reply : Reply) (p : Passbook) → Step rule b old event reply new → Agrees (summary_of b budget workers history old) p → worker event ≡ p.who → Agrees (summary_of b budget workers (history ++ (event, reply) ∷ []) new) (after_event p event reply) }
+    ensures other { (rule : Rule) (b : Problem) (budget workers : ℕ) (history : List (Event × Reply)) (old new : Ledger) (event : Event) (reply : Reply) (p : Passbook) → Step rule b old event reply new → Agrees (summary_of b budget workers history old) p → worker event ≢ p.who → Agrees (summary_of b budget workers (history ++ (event, reply) ∷ []) new) p }
     ensures read { (s : Summary) (p : Passbook) → Agrees s p → Agrees s (after_reading p s.best) }
 {}
 

@@ -2,6 +2,8 @@
 
 ghost use Rattle.std.specs.Prelude.{ℕ, List, ◌≡◌, [], ◌∷◌, Some, None};
 ghost use Rattle.s66_isa.specs.declared.instr.Kind.TheVariants.{Multiply};
+ghost use Rattle.s66_model.specs.declared.rule.Rule.{Rule};
+ghost use Rattle.s66_model.specs.declared.rule.Rule.TheVariants.{NoneNamed};
 ghost use Rattle.s66_model.specs.Timing.{Problem};
 ghost use Rattle.s66_model.specs.Leaves.{Whole, Chain, Load, Parcels};
 ghost use Rattle.s66_model.specs.Tree.{Tree, Alone, Parted, NoMore, Unsplit};
@@ -11,31 +13,31 @@ ghost use Rattle.s66_model.specs.Examples.{load_problem, multiply_problem, load_
 
 /// An expansion is a piece, whatever the best time does meanwhile.
 pub fn expansion_law()
-    ensures { (b : Problem) (high low allowance : ℕ) (prefix : List ℕ) (tree : Tree Tip) → IsExpansion b high low allowance prefix tree → IsPiece b prefix tree }
+    ensures { (rule : Rule) (b : Problem) (high low allowance : ℕ) (prefix : List ℕ) (tree : Tree Tip) → IsExpansion rule b high low allowance prefix tree → IsPiece rule b prefix tree }
 {}
 
 /// What expansions of a prefix are: by best times before and after, and by the number of splits.
 pub fn expansion_examples()
-    ensures one_split_below_22 { IsExpansion multiply_problem 22 22 1 [] (one_split Frontier) }
-    ensures nothing_else_below_22 { (tree : Tree Tip) → IsExpansion multiply_problem 22 22 1 [] tree → tree ≡ one_split Frontier }
-    ensures floor_at_17 { IsExpansion multiply_problem 17 17 1 [] (Alone (Carries (Load Multiply))) }
-    ensures nothing_else_at_17 { (tree : Tree Tip) → IsExpansion multiply_problem 17 17 1 [] tree → tree ≡ Alone (Carries (Load Multiply)) }
-    ensures whole_order { IsExpansion multiply_problem 22 22 0 (1 ∷ 2 ∷ 3 ∷ []) (Alone (Carries Whole)) }
-    ensures nothing_else_of_a_whole_order { (tree : Tree Tip) → IsExpansion multiply_problem 22 22 0 (1 ∷ 2 ∷ 3 ∷ []) tree → tree ≡ Alone (Carries Whole) }
-    ensures whole_order_below_the_best { IsExpansion load_problem 16 16 0 (1 ∷ 3 ∷ 2 ∷ []) (Alone (Carries Whole)) }
-    ensures three_splits { IsExpansion load_problem 16 16 3 [] load_piece }
-    ensures no_allowance { IsExpansion multiply_problem 22 22 0 [] (Alone Frontier) }
-    ensures fell_to_the_floor { IsExpansion multiply_problem 22 17 1 [] (Alone (Carries (Load Multiply))) }
-    ensures not_seen_to_fall { IsExpansion multiply_problem 22 17 1 [] (Alone Frontier) }
-    ensures no_split_where_one_is_due { ¬ IsExpansion multiply_problem 22 22 1 [] (Alone Frontier) }
-    ensures one_split_too_many { ¬ IsExpansion load_problem 16 16 2 [] load_piece }
-    ensures split_at_the_best { ¬ IsExpansion multiply_problem 17 17 1 [] (one_split (Carries (Load Multiply))) }
-    ensures frontier_at_the_best { ¬ IsExpansion load_problem 13 13 3 [] load_piece }
-    ensures leaf_below_the_best { ¬ IsExpansion load_problem 17 17 3 [] load_piece }
-    ensures leaf_below_both { ¬ IsExpansion load_problem 20 17 3 [] load_piece }
-    ensures leaf_that_is_no_floor { ¬ IsExpansion multiply_problem 13 13 1 [] (Alone (Carries Parcels)) }
-    ensures child_left_out { ¬ IsExpansion multiply_problem 22 22 1 [] (child_omitted Frontier) }
-    ensures whole_order_to_go_on { ¬ IsExpansion load_problem 16 16 0 (1 ∷ 3 ∷ 2 ∷ []) (Alone Frontier) }
+    ensures one_split_below_22 { IsExpansion NoneNamed multiply_problem 22 22 1 [] (one_split Frontier) }
+    ensures nothing_else_below_22 { (tree : Tree Tip) → IsExpansion NoneNamed multiply_problem 22 22 1 [] tree → tree ≡ one_split Frontier }
+    ensures floor_at_17 { IsExpansion NoneNamed multiply_problem 17 17 1 [] (Alone (Carries (Load Multiply))) }
+    ensures nothing_else_at_17 { (tree : Tree Tip) → IsExpansion NoneNamed multiply_problem 17 17 1 [] tree → tree ≡ Alone (Carries (Load Multiply)) }
+    ensures whole_order { IsExpansion NoneNamed multiply_problem 22 22 0 (1 ∷ 2 ∷ 3 ∷ []) (Alone (Carries Whole)) }
+    ensures nothing_else_of_a_whole_order { (tree : Tree Tip) → IsExpansion NoneNamed multiply_problem 22 22 0 (1 ∷ 2 ∷ 3 ∷ []) tree → tree ≡ Alone (Carries Whole) }
+    ensures whole_order_below_the_best { IsExpansion NoneNamed load_problem 16 16 0 (1 ∷ 3 ∷ 2 ∷ []) (Alone (Carries Whole)) }
+    ensures three_splits { IsExpansion NoneNamed load_problem 16 16 3 [] load_piece }
+    ensures no_allowance { IsExpansion NoneNamed multiply_problem 22 22 0 [] (Alone Frontier) }
+    ensures fell_to_the_floor { IsExpansion NoneNamed multiply_problem 22 17 1 [] (Alone (Carries (Load Multiply))) }
+    ensures not_seen_to_fall { IsExpansion NoneNamed multiply_problem 22 17 1 [] (Alone Frontier) }
+    ensures no_split_where_one_is_due { ¬ IsExpansion NoneNamed multiply_problem 22 22 1 [] (Alone Frontier) }
+    ensures one_split_too_many { ¬ IsExpansion NoneNamed load_problem 16 16 2 [] load_piece }
+    ensures split_at_the_best { ¬ IsExpansion NoneNamed multiply_problem 17 17 1 [] (one_split (Carries (Load Multiply))) }
+    ensures frontier_at_the_best { ¬ IsExpansion NoneNamed load_problem 13 13 3 [] load_piece }
+    ensures leaf_below_the_best { ¬ IsExpansion NoneNamed load_problem 17 17 3 [] load_piece }
+    ensures leaf_below_both { ¬ IsExpansion NoneNamed load_problem 20 17 3 [] load_piece }
+    ensures leaf_that_is_no_floor { ¬ IsExpansion NoneNamed multiply_problem 13 13 1 [] (Alone (Carries Parcels)) }
+    ensures child_left_out { ¬ IsExpansion NoneNamed multiply_problem 22 22 1 [] (child_omitted Frontier) }
+    ensures whole_order_to_go_on { ¬ IsExpansion NoneNamed load_problem 16 16 0 (1 ∷ 3 ∷ 2 ∷ []) (Alone Frontier) }
 {}
 
 /// Which whole order comes with a tree.

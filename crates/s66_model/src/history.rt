@@ -2,39 +2,43 @@
 
 ghost use Rattle.std.specs.Prelude.{ℕ, List, ◌≡◌, ◌≤◌, [], ◌∷◌, ◌++◌, true, false, Some, None};
 ghost use Rattle.s66_isa.specs.Lists.{weigh, rising};
+ghost use Rattle.s66_model.specs.declared.rule.Rule.{Rule};
 ghost use Rattle.s66_model.specs.Timing.{Problem};
-ghost use Rattle.s66_model.specs.Tree.{Tree};
+ghost use Rattle.s66_model.specs.Tree.{Tree, splits};
 ghost use Rattle.s66_model.specs.Piece.{Tip, Frontier};
 ghost use Rattle.s66_model.specs.Answer.{source_time};
 ghost use Rattle.s66_model.specs.Ledger.{Ledger, Event, Reply, Step, Run, opening, best_time, Graft, Offer, Taken, NotOut, OtherPrefix, OverAllowance};
 ghost use Rattle.s66_model.specs.Coverage.{Covers, NeverRises};
 ghost use Rattle.s66_model.specs.NodeTable.{IsTable};
 ghost use Rattle.s66_model.specs.Reached.{IsReached};
-ghost use Rattle.s66_model.specs.Recorded.{IsGraftOf, IsOfferOf, spent_by};
+ghost use Rattle.s66_model.specs.Accounts.{Grafts, brief};
+ghost use Rattle.s66_model.specs.Recorded.{IsGraftOf, IsOfferOf, spends, spent_by};
 ghost use Rattle.s66_model.specs.Examples.{load_problem, multiply_problem, one_split, ledger_events};
 
 /// The front of a history is one, histories that follow each other are one, and a history leads to one state. What the workers'
 /// entries spend adds up to what was spent.
 pub fn history_law()
-    ensures front { (b : Problem) (front rest : List (Event × Reply)) (old new : Ledger) → Run b old (front ++ rest) new → (mid : Ledger) × Run b old front mid × Run b mid rest new }
-    ensures joined { (b : Problem) (front rest : List (Event × Reply)) (old mid new : Ledger) → Run b old front mid → Run b mid rest new → Run b old (front ++ rest) new }
-    ensures one_state { (b : Problem) (history : List (Event × Reply)) (old new other : Ledger) → Run b old history new → Run b old history other → new ≡ other }
-    ensures spent { (b : Problem) (budget workers : ℕ) (history : List (Event × Reply)) (l : Ledger) → Run b (opening b budget workers) history l → weigh (λ w. spent_by w history) (rising workers 1) ≡ l.spent }
+    ensures front { (rule : Rule) (b : Problem) (front rest : List (Event × Reply)) (old new : Ledger) → Run rule b old (front ++ rest) new → (mid : Ledger) × Run rule b old front mid × Run rule b mid rest new }
+    ensures joined { (rule : Rule) (b : Problem) (front rest : List (Event × Reply)) (old mid new : Ledger) → Run rule b old front mid → Run rule b mid rest new → Run rule b old (front ++ rest) new }
+    ensures one_state { (rule : Rule) (b : Problem) (history : List (Event × Reply)) (old new other : Ledger) → Run rule b old history new → Run rule b old history other → new ≡ other }
+    ensures spent { (rule : Rule) (b : Problem) (budget workers : ℕ) (history : List (Event × Reply)) (l : Ledger) → Run rule b (opening b budget workers) history l → weigh (λ w. spent_by w history) (rising workers 1) ≡ l.spent }
 {}
 
 /// A ledger that was only opened is reached, and so is what a step makes of one that is. Whatever is reached covers every
 /// legal order, has the nodes of one tree, and is no slower than the source order.
 pub fn reached_law()
-    ensures opening { (b : Problem) (budget workers : ℕ) → IsReached b budget workers (opening b budget workers) }
-    ensures step { (b : Problem) (budget workers : ℕ) (old new : Ledger) (event : Event) (reply : Reply) → IsReached b budget workers old → Step b old event reply new → IsReached b budget workers new }
-    ensures covers { (b : Problem) (budget workers : ℕ) (l : Ledger) → IsReached b budget workers l → Covers b budget l }
-    ensures table { (b : Problem) (budget workers : ℕ) (l : Ledger) → IsReached b budget workers l → IsTable b l }
-    ensures source { (b : Problem) (budget workers : ℕ) (l : Ledger) → IsReached b budget workers l → best_time b l ≤ source_time b }
+    ensures opening { (rule : Rule) (b : Problem) (budget workers : ℕ) → IsReached rule b budget workers (opening b budget workers) }
+    ensures step { (rule : Rule) (b : Problem) (budget workers : ℕ) (old new : Ledger) (event : Event) (reply : Reply) → IsReached rule b budget workers old → Step rule b old event reply new → IsReached rule b budget workers new }
+    ensures covers { (rule : Rule) (b : Problem) (budget workers : ℕ) (l : Ledger) → IsReached rule b budget workers l → Covers rule b budget l }
+    ensures table { (rule : Rule) (b : Problem) (budget workers : ℕ) (l : Ledger) → IsReached rule b budget workers l → IsTable b l }
+    ensures source { (rule : Rule) (b : Problem) (budget workers : ℕ) (l : Ledger) → IsReached rule b budget workers l → best_time b l ≤ source_time b }
 {}
 
-/// A graft and an offer have one event each: it tells of this piece or order, also where that is refused.
+/// The event of a graft tells of its node and of its piece's splits, also if it is refused, and spends these splits if it is taken;
+/// an offer has one event.
 pub fn recorded_law()
-    ensures graft { (b : Problem) (w node : ℕ) (p : Problem) (prefix : List ℕ) (tree : Tree Tip) (reply : Reply) (event other : Event) → IsGraftOf b w node p prefix tree reply event → IsGraftOf b w node p prefix tree reply other → event ≡ other }
+    ensures graft { (b : Problem) (w node : ℕ) (p : Problem) (prefix : List ℕ) (tree : Tree Tip) (reply : Reply) (event : Event) → IsGraftOf b w node p prefix tree reply event → brief event ≡ Grafts node (splits tree) }
+    ensures spends { (b : Problem) (w node : ℕ) (p : Problem) (prefix : List ℕ) (tree : Tree Tip) (event : Event) → IsGraftOf b w node p prefix tree Taken event → spends event Taken ≡ splits tree }
     ensures offer { (b : Problem) (w : ℕ) (p : Problem) (order : List ℕ) (event other : Event) → IsOfferOf b w p order event → IsOfferOf b w p order other → event ≡ other }
 {}
 

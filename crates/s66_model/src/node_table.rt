@@ -1,6 +1,8 @@
 //! The nodes of the ledger as those of one tree.
 
 ghost use Rattle.std.specs.Prelude.{ℕ, List, [], ◌∷◌};
+ghost use Rattle.s66_model.specs.declared.rule.Rule.{Rule};
+ghost use Rattle.s66_model.specs.declared.rule.Rule.TheVariants.{NoneNamed};
 ghost use Rattle.s66_model.specs.Timing.{Problem};
 ghost use Rattle.s66_model.specs.Answer.{Answer};
 ghost use Rattle.s66_model.specs.Ledger.{Ledger, Event, Reply, Run, opening, Open, Out, Cut};
@@ -10,13 +12,13 @@ ghost use Rattle.s66_model.specs.Examples.{standard_problem, one_boolean, zero_r
 
 /// However the steps of the workers fall, the nodes are those of one tree, and the best order is the source order or faster.
 pub fn node_table_law()
-    ensures { (b : Problem) (budget workers : ℕ) (history : List (Event × Reply)) (new : Ledger) → Run b (opening b budget workers) history new → IsTable b new }
+    ensures { (rule : Rule) (b : Problem) (budget workers : ℕ) (history : List (Event × Reply)) (new : Ledger) → Run rule b (opening b budget workers) history new → IsTable b new }
 {}
 
 /// A ledger that covers every legal order and that no answer ends, since its nodes aren't those of one tree.
 pub fn loose_split_law()
-    ensures covers { Covers load_problem 1 loose_split }
-    ensures never_finished { (a : Answer) → ¬ IsFinished load_problem 1 loose_split a }
+    ensures covers { Covers NoneNamed load_problem 1 loose_split }
+    ensures never_finished { (a : Answer) → ¬ IsFinished NoneNamed load_problem 1 loose_split a }
     ensures no_table { ¬ IsTable load_problem loose_split }
 {}
 

@@ -2,6 +2,7 @@
 
 ghost use Rattle.std.specs.Prelude.{[], ◌∷◌};
 ghost use Rattle.s66_isa.specs.declared.instr.Kind.TheVariants.{Multiply};
+ghost use Rattle.s66_model.specs.declared.rule.Rule.TheVariants.{NoneNamed};
 ghost use Rattle.s66_model.specs.Leaves.{Load, Parcels};
 ghost use Rattle.s66_model.specs.Tree.{Alone};
 ghost use Rattle.s66_model.specs.Piece.{Carries, Frontier, IsPiece};
@@ -9,10 +10,10 @@ ghost use Rattle.s66_model.specs.Examples.{load_problem, multiply_problem, load_
 
 /// What pieces of a prefix are.
 pub fn piece_examples()
-    ensures piece_of_one_split { IsPiece multiply_problem [] (one_split Frontier) }
-    ensures piece_of_three_splits { IsPiece load_problem [] load_piece }
-    ensures piece_of_a_floor { IsPiece multiply_problem [] (Alone (Carries (Load Multiply))) }
-    ensures no_piece_of_another_leaf { ¬ IsPiece multiply_problem [] (Alone (Carries Parcels)) }
-    ensures no_piece_without_a_child { ¬ IsPiece multiply_problem [] (child_omitted Frontier) }
-    ensures no_piece_with_a_whole_order_to_go_on { ¬ IsPiece multiply_problem (1 ∷ 2 ∷ 3 ∷ []) (Alone Frontier) }
+    ensures piece_of_one_split { IsPiece NoneNamed multiply_problem [] (one_split Frontier) }
+    ensures piece_of_three_splits { IsPiece NoneNamed load_problem [] load_piece }
+    ensures piece_of_a_floor { IsPiece NoneNamed multiply_problem [] (Alone (Carries (Load Multiply))) }
+    ensures no_piece_of_another_leaf { ¬ IsPiece NoneNamed multiply_problem [] (Alone (Carries Parcels)) }
+    ensures no_piece_without_a_child { ¬ IsPiece NoneNamed multiply_problem [] (child_omitted Frontier) }
+    ensures no_piece_with_a_whole_order_to_go_on { ¬ IsPiece NoneNamed multiply_problem (1 ∷ 2 ∷ 3 ∷ []) (Alone Frontier) }
 {}

@@ -2,9 +2,11 @@
 
 ghost use Rattle.std.specs.Prelude.{ℕ, List, ◌≡◌, [], ◌∷◌};
 ghost use Rattle.s66_isa.specs.declared.instr.Kind.TheVariants.{Boolean};
+ghost use Rattle.s66_model.specs.declared.rule.Rule.{Rule};
 ghost use Rattle.s66_model.specs.Timing.{Problem};
-ghost use Rattle.s66_model.specs.Leaves.{Leaf, Whole, Chain, Load};
-ghost use Rattle.s66_model.specs.Tree.{Tree, Alone, Parted, NoMore, Unsplit, Split, Shows, Knot, AtTip, AtSplit, flat_kids, flat};
+ghost use Rattle.s66_model.specs.Leaves.{Whole, Chain, Load};
+ghost use Rattle.s66_model.specs.Tree.{Tree, Alone, Parted, NoMore, Unsplit, Split, Knot, AtTip, AtSplit, flat_kids, flat};
+ghost use Rattle.s66_model.specs.DominatedLeaves.{Ending, ShowsBy};
 ghost use Rattle.s66_model.specs.Piece.{Tip, IsPiece};
 ghost use Rattle.s66_model.specs.Answer.{Answer, IsAnswer};
 ghost use Rattle.s66_model.specs.Preorder.{forest, read_tree, TreeMatches};
@@ -13,12 +15,12 @@ ghost use Rattle.s66_model.specs.Examples.{load_tree};
 /// Every list of knots is that of the trees that it is read as. A tree whose splits have a child for each number is read again
 /// from its knots, and no other such tree has them. Trees of pieces and answers, and trees that show a bound, are such.
 pub fn preorder_law()
-    ensures knots { (knots : List (Knot Leaf)) → flat_kids (forest knots) ≡ knots }
-    ensures tree { (other : Leaf) (tree : Tree Leaf) → TreeMatches tree → read_tree other (flat tree) ≡ tree }
-    ensures once { (tree other : Tree Leaf) → TreeMatches tree → TreeMatches other → flat tree ≡ flat other → tree ≡ other }
-    ensures piece { (b : Problem) (prefix : List ℕ) (tree : Tree Tip) → IsPiece b prefix tree → TreeMatches tree }
-    ensures answer { (b : Problem) (budget : ℕ) (a : Answer) → IsAnswer b budget a → TreeMatches a.tree }
-    ensures shows { (b : Problem) (low : ℕ) (prefix : List ℕ) (tree : Tree Leaf) → Shows b low prefix tree → TreeMatches tree }
+    ensures knots { (knots : List (Knot Ending)) → flat_kids (forest knots) ≡ knots }
+    ensures tree { (other : Ending) (tree : Tree Ending) → TreeMatches tree → read_tree other (flat tree) ≡ tree }
+    ensures once { (tree other : Tree Ending) → TreeMatches tree → TreeMatches other → flat tree ≡ flat other → tree ≡ other }
+    ensures piece { (rule : Rule) (b : Problem) (prefix : List ℕ) (tree : Tree Tip) → IsPiece rule b prefix tree → TreeMatches tree }
+    ensures answer { (rule : Rule) (b : Problem) (budget : ℕ) (a : Answer) → IsAnswer rule b budget a → TreeMatches a.tree }
+    ensures shows { (rule : Rule) (b : Problem) (low : ℕ) (prefix : List ℕ) (tree : Tree Ending) → ShowsBy rule b low prefix tree → TreeMatches tree }
 {}
 
 /// Which trees some lists of knots are.

@@ -3,19 +3,21 @@ use Rattle.s66_isa.specs.Lists.{least}
 use Rattle.s66_isa.specs.Table.{row}
 use Rattle.s66_model.specs.Timing.{issue_of, start_of, point}
 use Rattle.s66_model.specs.Dependence.{conflict}
-use Rattle.s66_model.specs.Leaves.{Leaf, Whole, Chain, value, leaf_values, floor}
+use Rattle.s66_model.specs.Leaves.{Leaf, Whole, Chain, value}
 use Rattle.s66_model.specs.Tree.{Tree, Alone, TreeHolds, splits, tree_values}
-use Rattle.s66_model.specs.Answer.{IsAnswer}
+use Rattle.s66_model.specs.declared.rule.Rule.TheVariants.{NoneNamed}
+use Rattle.s66_model.specs.DominatedLeaves.{Bounding, tree_bounding}
+use Rattle.s66_model.specs.Answer.{MayEnd, ending_values, IsAnswer}
 use Rattle.s66_model.specs.Examples.{one_load, load_problem, answer, load_tree, load_orders}
 use Rattle.s66_model.proofs.LegalOrders.{order-legal}
 use Rattle.s66_model.proofs.answer.answer_examples.Goals as goal
 
 -- the order that takes 12, with a tree whose splits the budget allows
-best-answer : (budget : ℕ) (tree : Tree Leaf) → TreeHolds one_load (λ at leaf. leaf ≡ Whole → 12 ≤ value load_problem at leaf) [] tree →
-    TreeHolds one_load (λ at leaf. leaf ≡ floor load_problem at) [] tree → 12 ≡ least (λ v. v) (12 ∷ tree_values (leaf_values load_problem) [] tree) → splits tree ≤ budget →
-    IsAnswer load_problem budget (answer (1 ∷ 3 ∷ 2 ∷ []) 12 12 (splits tree) tree)
+best-answer : (budget : ℕ) (tree : Tree Leaf) → TreeHolds one_load (λ at ending. ending ≡ Bounding Whole → 12 ≤ value load_problem at Whole) [] (tree_bounding tree) →
+    TreeHolds one_load (MayEnd NoneNamed load_problem (tree_bounding tree)) [] (tree_bounding tree) → 12 ≡ least (λ v. v) (12 ∷ tree_values (ending_values load_problem) [] (tree_bounding tree)) → splits tree ≡ splits (tree_bounding tree) → splits tree ≤ budget →
+    IsAnswer NoneNamed load_problem budget (answer (1 ∷ 3 ∷ 2 ∷ []) 12 12 (splits tree) tree)
 unfolding row issue_of start_of point conflict
-best-answer budget tree wholes floors bound within =
+best-answer budget tree wholes floors bound same within =
     record {
       legal = order-legal one_load (1 ∷ 3 ∷ 2 ∷ []) (search rules);
       time = refl;
@@ -23,7 +25,7 @@ best-answer budget tree wholes floors bound within =
       wholes = wholes;
       tree = floors;
       bound = bound;
-      splits = refl;
+      splits = same;
       within = within;
       spent = λ lower. absurd (omega (arith, lower));
       first = λ same. absurd (omega (arith, same));
@@ -31,15 +33,15 @@ best-answer budget tree wholes floors bound within =
 
 pub returns-clause-one_load : goal.returns-clause-one_load
 unfolding row issue_of start_of point conflict
-returns-clause-one_load c = best-answer 100000 (Alone (Chain (1 ∷ 2 ∷ []))) (search rules) refl refl (omega arith)
+returns-clause-one_load c = best-answer 100000 (Alone (Chain (1 ∷ 2 ∷ []))) (search rules) refl refl refl (omega arith)
 
 pub returns-clause-one_load_split : goal.returns-clause-one_load_split
 unfolding row issue_of start_of point conflict
-returns-clause-one_load_split c = best-answer 100000 load_tree (search rules) (search rules) refl (omega arith)
+returns-clause-one_load_split c = best-answer 100000 load_tree (search rules) (search rules) refl refl (omega arith)
 
 pub returns-clause-one_load_split_down : goal.returns-clause-one_load_split_down
 unfolding row issue_of start_of point conflict
-returns-clause-one_load_split_down c = best-answer 6 (load_orders Whole) (search rules) (search rules) refl (omega arith)
+returns-clause-one_load_split_down c = best-answer 6 (load_orders Whole) (search rules) (search rules) refl refl (omega arith)
 
 pub returns-clause-one_load_cut : goal.returns-clause-one_load_cut
 unfolding row issue_of start_of point conflict

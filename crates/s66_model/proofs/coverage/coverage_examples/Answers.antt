@@ -4,6 +4,7 @@ use Rattle.s66_isa.specs.declared.instr.Kind.TheVariants.{Boolean, Multiply}
 use Rattle.s66_model.specs.Dependence.{conflict}
 use Rattle.s66_model.specs.Examples.{three_multiplies, node}
 use Rattle.s66_model.specs.Leaves.{Chain, Load}
+use Rattle.s66_model.specs.DominatedLeaves.{Bounding}
 use Rattle.s66_model.specs.Ledger.{Cut}
 use Rattle.s66_model.specs.Timing.{issue_of, start_of, point}
 use Rattle.s66_model.proofs.LegalOrders.{order-legal}
@@ -19,11 +20,11 @@ returns-clause-covered_twice c = λ covers. absurd (omega (arith, covers.once (1
 
 pub returns-clause-closed_below_the_best : goal.returns-clause-closed_below_the_best
 unfolding row issue_of start_of point conflict
-returns-clause-closed_below_the_best c = λ covers. (let (is_floor, above, below) = covers.nodes.0.1 (Load Multiply) refl in absurd (omega (arith, above)))
+returns-clause-closed_below_the_best c = λ covers. (let (is_floor, above, below) = covers.nodes.0.1 (Bounding (Load Multiply)) refl in absurd (omega (arith, above)))
 
 pub returns-clause-closed_by_another_leaf : goal.returns-clause-closed_by_another_leaf
 unfolding row issue_of start_of point conflict
-returns-clause-closed_by_another_leaf c = λ covers. (let (is_floor, above, below) = covers.nodes.0.1 (Load Boolean) refl in let same : Load Boolean ≡ Chain (1 ∷ []) = is_floor in absurd (cc))
+returns-clause-closed_by_another_leaf c = λ covers. (let (is_floor, above, below) = covers.nodes.0.1 (Bounding (Load Boolean)) refl in let same : Load Boolean ≡ Chain (1 ∷ []) = is_floor in absurd (cc))
 
 pub returns-clause-best_not_legal : goal.returns-clause-best_not_legal
 unfolding row issue_of start_of point conflict

@@ -1,4 +1,4 @@
-use Rattle.s66_model.proofs.LedgerRuns.{covers-bound}
+use Rattle.s66_model.proofs.EndedLedgers.{covers-bound}
 use Rattle.s66_model.proofs.coverage.ledger_bound_law.Goals as goal
 
 pub returns : goal.returns

@@ -6,6 +6,7 @@ use Rattle.s66_model.specs.Timing.{Problem, issue_of, start_of, point}
 use Rattle.s66_model.specs.LegalOrder.{IsIncomplete}
 use Rattle.s66_model.specs.Leaves.{Whole, floor_value}
 use Rattle.s66_model.specs.Piece.{Carries}
+use Rattle.s66_model.specs.DominatedLeaves.{Bounding}
 use Rattle.s66_model.specs.Ledger.{Ledger, Node, Open, Out, Closed, is_live, opening, best_time, after_graft}
 use Rattle.s66_model.specs.Ended.{IsEnded}
 use Rattle.s66_model.specs.Examples.{boolean_problem, load_problem, multiply_problem, every_order, node, ledger, first_node, root_split, without_grants, load_grafted}
@@ -49,7 +50,7 @@ returns-clause-ended_by_a_floor_as_high_as_the_best c =
 pub returns-clause-ended_with_splits_left : goal.returns-clause-ended_with_splits_left
 unfolding row issue_of start_of point conflict
 returns-clause-ended_with_splits_left c =
-    ended load_problem 10 (load_grafted (1 ∷ 3 ∷ 2 ∷ []) (Closed Whole))
+    ended load_problem 10 (load_grafted (1 ∷ 3 ∷ 2 ∷ []) (Closed (Bounding Whole)))
     (λ live. absurd cc, (λ live. absurd cc, (λ live. absurd cc, (λ live. absurd cc, (λ live. absurd cc, (λ live. inl (omega arith), tt))))))
 
 pub returns-clause-ended_by_every_order : goal.returns-clause-ended_by_every_order

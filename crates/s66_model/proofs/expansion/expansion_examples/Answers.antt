@@ -2,11 +2,12 @@ use Rattle.std.proofs.Common.{rules, ℕ, ◌<◌, ◌≡◌, List, [], ◌∷�
 use Rattle.s66_isa.specs.Lists.{Among}
 use Rattle.s66_isa.specs.Table.{row}
 use Rattle.s66_isa.specs.declared.instr.Kind.TheVariants.{Multiply}
+use Rattle.s66_model.specs.declared.rule.Rule.TheVariants.{NoneNamed}
 use Rattle.s66_model.specs.Timing.{issue_of, start_of, point}
 use Rattle.s66_model.specs.Dependence.{conflict}
 use Rattle.s66_model.specs.Leaves.{Load, floor_value}
 use Rattle.s66_model.specs.Tree.{Tree, Alone, Parted}
-use Rattle.s66_model.specs.Piece.{Tip, Carries, Frontier}
+use Rattle.s66_model.specs.Piece.{Tip, Carries, Frontier, Passed}
 use Rattle.s66_model.specs.Expansion.{IsExpansion}
 use Rattle.s66_model.specs.Examples.{load_problem, multiply_problem}
 use Rattle.s66_model.proofs.expansion.expansion_examples.Goals as goal
@@ -22,10 +23,11 @@ unfolding row issue_of start_of point conflict
 returns-clause-one_split_below_22 c =
     record { piece = search rules; within = omega arith; below = below_22; due = λ some part low. omega arith }
 
-floor_only : (tree : Tree Tip) → IsExpansion multiply_problem 17 17 1 [] tree → tree ≡ Alone (Carries (Load Multiply))
+floor_only : (tree : Tree Tip) → IsExpansion NoneNamed multiply_problem 17 17 1 [] tree → tree ≡ Alone (Carries (Load Multiply))
 unfolding row issue_of start_of point conflict
 floor_only (Alone (Carries leaf)) is = ap (λ l. Alone (Carries l)) is.piece.0
 floor_only (Alone Frontier) is = absurd (omega (arith, is.piece.1))
+floor_only (Alone (Passed name)) is = absurd is.piece.0.0
 floor_only (Parted numbers kids) is = absurd (omega (arith, is.below [] (inl refl)))
 
 pub returns-clause-nothing_else_at_17 : goal.returns-clause-nothing_else_at_17

@@ -3,7 +3,7 @@ use Rattle.s66_model.proofs.Histories.{reached-step, reached-covers, reached-tab
 use Rattle.s66_model.proofs.history.reached_law.Goals as goal
 
 pub returns-clause-opening : goal.returns-clause-opening
-returns-clause-opening c = λ b budget workers. ([], refl)
+returns-clause-opening c = λ rule b budget workers. ([], refl)
 
 pub returns-clause-step : goal.returns-clause-step
 returns-clause-step c = reached-step

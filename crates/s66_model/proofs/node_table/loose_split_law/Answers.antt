@@ -3,7 +3,7 @@ use Rattle.s66_isa.specs.Lists.{Among}
 use Rattle.s66_isa.specs.Table.{row}
 use Rattle.s66_model.specs.Timing.{issue_of, start_of, point}
 use Rattle.s66_model.specs.Dependence.{conflict}
-use Rattle.s66_model.specs.Leaves.{Leaf}
+use Rattle.s66_model.specs.DominatedLeaves.{Ending}
 use Rattle.s66_model.specs.Tree.{Tree, Alone, Parted, Kids, NoMore, Unsplit, Split, splits, kid_splits, split_at, kids_split_at}
 use Rattle.s66_model.specs.Ledger.{Cut}
 use Rattle.s66_model.specs.Examples.{load_problem, node}
@@ -16,20 +16,20 @@ unfolding row issue_of start_of point conflict
 returns-clause-covers c =
     record {
       once = λ order legal. refl;
-      nodes = ((tt, λ leaf e. absurd (open_closed leaf e)), (((refl, tt), λ leaf e. absurd (cut_closed leaf e)), tt));
+      nodes = ((tt, λ ending e. absurd (open_closed ending e)), (((refl, tt), λ ending e. absurd (cut_closed ending e)), tt));
       best = source-legal load_problem.block;
       spent = refl;
       sum = refl;
     }
 
 -- where a child of the empty prefix is split, the empty prefix is too
-some-split : (ns : List ℕ) (kids : Kids Leaf) → Among (1 ∷ []) (kids_split_at [] ns kids) → 1 ≤ kid_splits kids
+some-split : (ns : List ℕ) (kids : Kids Ending) → Among (1 ∷ []) (kids_split_at [] ns kids) → 1 ≤ kid_splits kids
 some-split [] kids h = absurd h
 some-split (n ∷ ns) NoMore h = absurd h
 some-split (n ∷ ns) (Unsplit leaf kids) h = some-split ns kids h
 some-split (n ∷ ns) (Split numbers sub kids) h = omega arith
 
-two-splits : (tree : Tree Leaf) → Among (1 ∷ []) (split_at [] tree) → 2 ≤ splits tree
+two-splits : (tree : Tree Ending) → Among (1 ∷ []) (split_at [] tree) → 2 ≤ splits tree
 two-splits (Alone leaf) h = absurd h
 two-splits (Parted numbers kids) (inl e) = absurd cc
 two-splits (Parted numbers kids) (inr past) = omega (arith, some-split numbers kids past)

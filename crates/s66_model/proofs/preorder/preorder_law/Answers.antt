@@ -1,6 +1,6 @@
 use Rattle.std.proofs.Common.{[], ◌≡◌}
-use Rattle.s66_model.specs.Leaves.{floor}
-use Rattle.s66_model.specs.Tree.{LeafShows}
+use Rattle.s66_model.specs.DominatedLeaves.{EndingShows}
+use Rattle.s66_model.specs.Answer.{MayEnd}
 use Rattle.s66_model.specs.Piece.{TipHolds}
 use Rattle.s66_model.proofs.Forests.{flat-forest, read-flat, flat-once, tree-match}
 use Rattle.s66_model.proofs.preorder.preorder_law.Goals as goal
@@ -15,10 +15,10 @@ pub returns-clause-once : goal.returns-clause-once
 returns-clause-once c = flat-once
 
 pub returns-clause-piece : goal.returns-clause-piece
-returns-clause-piece c = λ b prefix tree is. tree-match b.block (TipHolds b) tree prefix is
+returns-clause-piece c = λ rule b prefix tree is. tree-match b.block (TipHolds rule b prefix tree) tree prefix is
 
 pub returns-clause-answer : goal.returns-clause-answer
-returns-clause-answer c = λ b budget a is. tree-match b.block (λ at leaf. leaf ≡ floor b at) a.tree [] is.tree
+returns-clause-answer c = λ rule b budget a is. tree-match b.block (MayEnd rule b a.tree) a.tree [] is.tree
 
 pub returns-clause-shows : goal.returns-clause-shows
-returns-clause-shows c = λ b low prefix tree is. tree-match b.block (LeafShows b low) tree prefix is
+returns-clause-shows c = λ rule b low prefix tree is. tree-match b.block (EndingShows rule b low prefix tree) tree prefix is
