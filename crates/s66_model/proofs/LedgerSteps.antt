@@ -7,7 +7,7 @@ use Rattle.s66_model.specs.declared.rule.Rule.TheVariants.{NoneNamed, WrittenEar
 use Rattle.s66_model.specs.Timing.{Problem, total_of}
 use Rattle.s66_model.specs.LegalOrder.{IsLegal, IsBeginning, is_ready}
 use Rattle.s66_model.specs.Leaves.{Leaf, value, floor, floor_value}
-use Rattle.s66_model.specs.Tree.{Tree, Alone, Parted, Kids, NoMore, Unsplit, Split, KidsHold, TreeHolds, splits}
+use Rattle.s66_model.specs.Tree.{Tree, Alone, Parted, Kids, NoMore, Unsplit, Split, KidsHold, splits}
 use Rattle.s66_model.specs.DominatedLeaves.{Ending, Bounding, Dominated, IsEarlier}
 use Rattle.s66_model.specs.Piece.{Tip, Carries, Frontier, Passed, TipHolds, IsPiece}
 use Rattle.s66_model.specs.Ledger.{Ledger, Node, State, Open, Out, Cut, Closed, is_cut, is_cut_state, is_open_state, node_at, no_node, with_state, best_time, IsWorker, allowance, share_of, opening, after_grant, after_retire, after_move, after_offer, after_graft, state_of, root_state, kid_nodes, new_nodes, may_name, HasNamed, TipIsNamed, AreNamed, IsOut}

@@ -1,5 +1,5 @@
 -- In the tree of a ledger's nodes the prefix of each node leads to it.
-use Rattle.std.proofs.Common.{ℕ, ◌+◌, ◌<◌, ◌≡◌, Bool, true, false, cond, List, [], ◌∷◌, ◌++◌, refl, sym, ap, arith, inl, inr, eqb, ◌∙◌, subst, append_assoc, Option, Some, None}
+use Rattle.std.proofs.Common.{ℕ, ◌<◌, ◌≡◌, Bool, true, false, cond, List, [], ◌∷◌, ◌++◌, refl, sym, ap, arith, inl, inr, eqb, ◌∙◌, subst, append_assoc, Some}
 use Rattle.std.proofs.lemmas.Bool.{cases_Bool, eqb-true, eq-eqb}
 use Rattle.std.proofs.lemmas.List.{append-nil}
 use Rattle.s66_isa.specs.Lists.{tally, Among}
@@ -98,5 +98,5 @@ module _ (b : Problem) (l : Ledger) (table : IsTable b l) (beginnings : (node : 
       let some : 0 < standing node.prefix = passes-some (stands_at node.prefix) node l.nodes among (is-same node.prefix) in
       let leads : node_at [] (node_tree b l.nodes) node.prefix ≡ Some (knot_at node.prefix) = tree-leads (node_tree b l.nodes) (fits b l table beginnings) node.prefix (beginnings node among) some in
       let knot : may_be_named rule (Some (knot_at node.prefix)) ≡ true =
-          subst (λ e. may_be_named rule (Some (cond (is_split node.prefix) (AtSplit (ready b.block node.prefix)) (AtTip e))) ≡ true) (sym (ending-is b l table beginnings node among)) (named-knot rule node.state node.prefix (is_split node.prefix) may) in
+      subst (λ e. may_be_named rule (Some (cond (is_split node.prefix) (AtSplit (ready b.block node.prefix)) (AtTip e))) ≡ true) (sym (ending-is b l table beginnings node among)) (named-knot rule node.state node.prefix (is_split node.prefix) may) in
       subst (λ x. may_be_named rule (node_at [] (node_tree b l.nodes) x) ≡ true) is (ap (may_be_named rule) leads ∙ knot)

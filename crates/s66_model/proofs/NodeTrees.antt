@@ -7,7 +7,7 @@ use Rattle.s66_model.specs.Timing.{Problem}
 use Rattle.s66_model.specs.LegalOrder.{is_ready, ready, GoesOn, IsBeginning, IsIncomplete}
 use Rattle.s66_model.specs.Leaves.{floor, floor_value}
 use Rattle.s66_model.specs.Tree.{Kids, NoMore, Unsplit, Split, Tree, Alone, Parted, KidsHold, TreeHolds, kid_splits, splits, kids_split_at, split_at, kid_values, tree_values}
-use Rattle.s66_model.specs.DominatedLeaves.{Ending, Bounding, Dominated}
+use Rattle.s66_model.specs.DominatedLeaves.{Ending, Bounding}
 use Rattle.s66_model.specs.Answer.{ending_values}
 use Rattle.s66_model.specs.Ledger.{Ledger, Node, State, Open, Out, Cut, Closed, is_cut, is_cut_state}
 use Rattle.s66_model.specs.Coverage.{begins}

@@ -23,23 +23,23 @@ tree_seen f prefix (Parted numbers kids) = Parted numbers (kids_seen f prefix nu
 
 -- VALUES IN PLACE OF LEAVES
 
--- the value of a prefix that carries its floor, and of one in the frontier; the name of one that is dominated
+-- the value of a prefix that carries its floor, of one in the frontier, and of one that is dominated, with its name
 pub data Told : Type 0 where
   ToldLeaf : ℕ → Told
   ToldFrontier : ℕ → Told
-  ToldPassed : (name : List ℕ) → Told
+  ToldPassed : ℕ → (name : List ℕ) → Told
 
 -- it is the floor's, no complete prefix is in the frontier, and in this tree over the prefix the name is as the rule asks
 abbrev pub ToldHolds : Rule → Problem → List ℕ → Tree Tip → List ℕ → Told → Type 0
 ToldHolds rule b prefix tree at (ToldLeaf value) = value ≡ floor_value b at
 ToldHolds rule b prefix tree at (ToldFrontier value) = (value ≡ floor_value b at) × IsIncomplete b.block at
-ToldHolds rule b prefix tree at (ToldPassed name) = DominatesByRule rule b name at × IsNamedIn rule prefix tree at name
+ToldHolds rule b prefix tree at (ToldPassed value name) = (value ≡ floor_value b at) × DominatesByRule rule b name at × IsNamedIn rule prefix tree at name
 
--- a dominated prefix has no value
+-- what counts for the bound: a dominated prefix is passed over
 abbrev pub told_values : Told → List ℕ
 told_values (ToldLeaf value) = value ∷ []
 told_values (ToldFrontier value) = value ∷ []
-told_values (ToldPassed name) = []
+told_values (ToldPassed value name) = []
 
 abbrev pub tip_floors : Problem → List ℕ → Tip → List ℕ
 tip_floors b at (Carries leaf) = floor_value b at ∷ []
@@ -49,12 +49,12 @@ tip_floors b at (Passed name) = []
 abbrev pub tip_of : Problem → List ℕ → Told → Tip
 tip_of b at (ToldLeaf value) = Carries (floor b at)
 tip_of b at (ToldFrontier value) = Frontier
-tip_of b at (ToldPassed name) = Passed name
+tip_of b at (ToldPassed value name) = Passed name
 
 -- the piece's tree of which the values are told
 abbrev pub tree_told : Problem → List ℕ → Tree Told → Tree Tip
 tree_told b prefix told = tree_seen (tip_of b) prefix told
 
 -- a tree of true values, and of names as the rule asks
-abbrev pub IsTold : Rule → Problem → List ℕ → Tree Told → Type 0
-IsTold rule b prefix told = TreeHolds b.block (ToldHolds rule b prefix (tree_told b prefix told)) prefix told
+abbrev pub IsToldTree : Rule → Problem → List ℕ → Tree Told → Type 0
+IsToldTree rule b prefix told = TreeHolds b.block (ToldHolds rule b prefix (tree_told b prefix told)) prefix told

@@ -1,4 +1,4 @@
-use Rattle.std.proofs.Common.{[], ◌≡◌}
+use Rattle.std.proofs.Common.{[]}
 use Rattle.s66_model.specs.DominatedLeaves.{EndingShows}
 use Rattle.s66_model.specs.Answer.{MayEnd}
 use Rattle.s66_model.specs.Piece.{TipHolds}

@@ -11,12 +11,12 @@ module _ (rule : Rule) (b : Problem) (prefix : List ℕ) (tree : Tree Tip) where
   tip-holds : (at : List ℕ) (tip : Told) → ToldHolds rule b prefix tree at tip → TipHolds rule b prefix tree at (tip_of b at tip)
   tip-holds at (ToldLeaf value) h = refl
   tip-holds at (ToldFrontier value) h = h.1
-  tip-holds at (ToldPassed name) h = h
+  tip-holds at (ToldPassed value name) h = (h.1, h.2)
 
   true-values : (at : List ℕ) (tip : Told) → ToldHolds rule b prefix tree at tip → told_values tip ≡ tip_floors b at (tip_of b at tip)
   true-values at (ToldLeaf value) h = ap (λ v. v ∷ []) h
   true-values at (ToldFrontier value) h = ap (λ v. v ∷ []) h.0
-  true-values at (ToldPassed name) h = refl
+  true-values at (ToldPassed value name) h = refl
 
 pub returns-clause-piece : goal.returns-clause-piece
 returns-clause-piece c = λ rule b prefix told h.
