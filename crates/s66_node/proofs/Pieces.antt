@@ -1,12 +1,13 @@
 -- A piece from the tree that was grown.
 use Rattle.std.proofs.Common.{ℕ, ◌≡◌, List, refl, sym, ap, arith, ◌∙◌, subst}
 use Rattle.s66_isa.specs.Lists.{Among}
+use Rattle.s66_model.specs.declared.rule.Rule.{Rule}
 use Rattle.s66_model.specs.Timing.{Problem}
 use Rattle.s66_model.specs.Tree.{Tree, TreeHolds, flat, splits}
 use Rattle.s66_model.specs.Piece.{TipHolds, IsPiece}
 use Rattle.s66_model.specs.Expansion.{TipHoldsWhile, IsExpansion, whole_at, whole_orders}
 use Rattle.s66_model.specs.Preorder.{read_tree, TreeMatches}
-use Rattle.s66_model.specs.Told.{Told, ToldFrontier, ToldHolds, tip_of, tree_told}
+use Rattle.s66_model.specs.Told.{Told, ToldFrontier, ToldHolds, tip_of, tree_told, IsToldTree}
 use Rattle.s66_model.proofs.Forests.{read-flat, tree-match}
 use Rattle.s66_model.proofs.TreesHold.{tree-weaken, seen-holds, seen-splits, seen-split_at, seen-values}
 use Rattle.s66_node.specs.declared.grow.Grown.{Grown}
@@ -16,7 +17,7 @@ use Rattle.s66_node.specs.Walking.{Span, IsDue, IsTold, IsLeast, IsGrown}
 use Rattle.s66_node.proofs.Growing.{tree-holds, tree-splits}
 use Rattle.s66_node.proofs.Tips.{told-true, told-tip, holds-tip}
 
-module _ (b : Problem) (best : Span) (allowance : ℕ) (root : List ℕ) (grown : Grown) (tree : Tree Told) (h : IsGrown b best allowance root grown tree) where
+module _ (rule : Rule) (b : Problem) (best : Span) (allowance : ℕ) (root : List ℕ) (grown : Grown) (tree : Tree Told) (h : IsGrown b best allowance root grown tree) where
   grown-told : TreeHolds b.block (IsTold b best) root tree
   grown-told = tree-holds b.block (IsDue b best.high) (IsTold b best) (λ at due. due.0) root tree h.grows
 
@@ -32,16 +33,18 @@ module _ (b : Problem) (best : Span) (allowance : ℕ) (root : List ℕ) (grown 
   pub grown-least : IsLeast b (whole_orders root (tree_told b root tree)) grown.least
   grown-least = subst (λ xs. IsLeast b xs grown.least) (sym (seen-values (tip_of b) whole_at tree root)) h.least
 
-  expansion : IsExpansion b best.high best.low allowance root (tree_told b root tree)
+  expansion : IsExpansion rule b best.high best.low allowance root (tree_told b root tree)
   expansion =
       record {
-        piece = seen-holds (tip_of b) b.block (TipHoldsWhile b best.high best.low) tree root (tree-weaken b.block (IsTold b best) (λ at told. TipHoldsWhile b best.high best.low at (tip_of b at told)) (told-tip b best) tree root grown-told);
+        piece =
+          (let whole = tree_told b root tree in
+          seen-holds (tip_of b) b.block (TipHoldsWhile rule b best.high best.low root whole) tree root (tree-weaken b.block (IsTold b best) (λ at told. TipHoldsWhile rule b best.high best.low root whole at (tip_of b at told)) (told-tip rule b root whole best) tree root grown-told));
         within = omega (arith, grown-splits, h.within);
         below = λ at among. (tree-splits b.block (IsDue b best.high) (IsTold b best) root tree h.grows at (subst (Among at) (seen-split_at (tip_of b) tree root) among)).1;
         due = λ some part lt. omega (arith, grown-splits, h.due some (part, lt));
       }
 
-  module _ (p : PieceOf) (own : p.problem ≡ b) (over : p.prefix ≡ root) (knots : p.knots ≡ seen grown.knots.items) where
+  module _ (p : PieceOf) (by : p.rule ≡ rule) (own : p.problem ≡ b) (over : p.prefix ≡ root) (knots : p.knots ≡ seen grown.knots.items) where
     piece-told : told_tree p ≡ tree
     piece-told = ap (read_tree (ToldFrontier 0)) knots ∙ grown-read
 
@@ -49,20 +52,31 @@ module _ (b : Problem) (best : Span) (allowance : ℕ) (root : List ℕ) (grown 
     pub piece-tree : tree_of p ≡ tree_told b root tree
     piece-tree = rw (own, over, piece-told) refl
 
-    pub piece-expansion : IsExpansion b best.high best.low allowance root (tree_of p)
-    piece-expansion = subst (IsExpansion b best.high best.low allowance root) (sym piece-tree) expansion
+    pub piece-expansion : IsExpansion rule b best.high best.low allowance root (tree_of p)
+    piece-expansion = subst (IsExpansion rule b best.high best.low allowance root) (sym piece-tree) expansion
 
     pub piece-kept : IsBestTimed b root (tree_told b root tree) p.timed → IsKept p grown.splits
     piece-kept timed =
-        let told : TreeHolds b.block (ToldHolds b) root tree = tree-weaken b.block (IsTold b best) (ToldHolds b) (told-true b best) tree root grown-told in
+        let whole = tree_told b root tree in
+        let told : IsToldTree rule b root tree = tree-weaken b.block (IsTold b best) (ToldHolds rule b root whole) (told-true rule b root whole best) tree root grown-told in
         record {
-          told = rw (own, over, piece-told) told;
+          told = rw (by, own, over, piece-told) told;
           knots = ap flat piece-told ∙ (h.knots ∙ sym knots);
           splits = ap splits piece-tree ∙ grown-splits;
           timed = rw (piece-tree, own, over) timed;
         }
 
-pub kept-piece : (p q : PieceOf) (count : ℕ) → IsKept p count → p ≡ q → IsPiece q.problem q.prefix (tree_of q)
+pub kept-piece : (p q : PieceOf) (count : ℕ) → IsKept p count → p ≡ q → IsPiece q.rule q.problem q.prefix (tree_of q)
 kept-piece p q count kept is =
-    subst (λ (r : PieceOf). IsPiece r.problem r.prefix (tree_of r)) is
-    (seen-holds (tip_of p.problem) p.problem.block (TipHolds p.problem) (told_tree p) p.prefix (tree-weaken p.problem.block (ToldHolds p.problem) (λ at told. TipHolds p.problem at (tip_of p.problem at told)) (holds-tip p.problem) (told_tree p) p.prefix kept.told))
+    subst (λ (r : PieceOf). IsPiece r.rule r.problem r.prefix (tree_of r)) is
+    (seen-holds (tip_of p.problem) p.problem.block (TipHolds p.rule p.problem p.prefix (tree_of p)) (told_tree p) p.prefix (tree-weaken p.problem.block (ToldHolds p.rule p.problem p.prefix (tree_of p)) (λ at told. TipHolds p.rule p.problem p.prefix (tree_of p) at (tip_of p.problem at told)) (holds-tip p.rule p.problem p.prefix (tree_of p)) (told_tree p) p.prefix kept.told))
+
+-- and of what is seen of it the rest holds too
+pub kept-told : (p q : PieceOf) (count : ℕ) → IsKept p count → p ≡ q → IsToldTree q.rule q.problem q.prefix (told_tree q)
+kept-told p q count kept is = subst (λ (r : PieceOf). IsToldTree r.rule r.problem r.prefix (told_tree r)) is kept.told
+
+pub kept-splits : (p q : PieceOf) (count : ℕ) → IsKept p count → p ≡ q → count ≡ splits (tree_of q)
+kept-splits p q count kept is = subst (λ (r : PieceOf). count ≡ splits (tree_of r)) is (sym kept.splits)
+
+pub kept-timed : (p q : PieceOf) (count : ℕ) → IsKept p count → p ≡ q → IsBestTimed q.problem q.prefix (tree_of q) q.timed
+kept-timed p q count kept is = subst (λ (r : PieceOf). IsBestTimed r.problem r.prefix (tree_of r) r.timed) is kept.timed

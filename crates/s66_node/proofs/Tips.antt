@@ -3,18 +3,19 @@ use Rattle.std.proofs.Common.{ℕ, ◌≤◌, ◌≡◌, ◌≢◌, Bool, true, 
 use Rattle.std.proofs.lemmas.Bool.{eq-eqb, cases_Bool}
 use Rattle.std.proofs.lemmas.List.{append-nil}
 use Rattle.s66_isa.specs.Lists.{every}
+use Rattle.s66_model.specs.declared.rule.Rule.{Rule}
 use Rattle.s66_model.specs.Timing.{Problem, total_of}
 use Rattle.s66_model.specs.LegalOrder.{IsBeginning, IsComplete, IsLegal}
 use Rattle.s66_model.specs.Leaves.{Leaf, Whole, Chain, Load, Parcels, value, longest_chain, first_greatest, after_chain, floor}
-use Rattle.s66_model.specs.Piece.{Carries, TipHolds}
+use Rattle.s66_model.specs.Piece.{Tip, Carries, TipHolds}
 use Rattle.s66_model.specs.Expansion.{TipHoldsWhile, whole_at}
-use Rattle.s66_model.specs.Tree.{AtTip}
+use Rattle.s66_model.specs.Tree.{Tree, AtTip}
 use Rattle.s66_model.proofs.LegalOrders.{order-legal}
 use Rattle.s66_model.proofs.Floors.{floor-part}
 use Rattle.s66_node.specs.declared.knot.Knot as code
 use Rattle.s66_node.specs.declared.knot.Knot.TheVariants as line
 use Rattle.s66_node.specs.declared.whole_order.WholeOrder.{WholeOrder}
-use Rattle.s66_model.specs.Told.{Told, ToldLeaf, ToldFrontier, ToldHolds, tip_of}
+use Rattle.s66_model.specs.Told.{Told, ToldLeaf, ToldFrontier, ToldPassed, ToldHolds, tip_of}
 use Rattle.s66_node.specs.SeenKnots.{seen_knot}
 use Rattle.s66_node.specs.Walking.{Span, span, IsTold, IsLeast, whole_told}
 
@@ -57,6 +58,7 @@ part-none b at ne =
 pub told-none : (b : Problem) (best : Span) (at : List ℕ) (told : Told) → IsTold b best at told → ((v : ℕ) → told ≡ ToldLeaf v → length at ≢ length b.block) → whole_told b at told ≡ []
 told-none b best at (ToldLeaf v) h part = part-none b at (part v refl)
 told-none b best at (ToldFrontier v) h part = refl
+told-none b best at (ToldPassed v name) h part = refl
 
 pub told-order : (b : Problem) (at : List ℕ) (v : ℕ) → IsComplete b.block at → whole_told b at (ToldLeaf v) ≡ at ∷ []
 told-order b at v h = ap (λ leaf. whole_at at (Carries leaf)) (complete-whole b at h)
@@ -75,17 +77,22 @@ leaf-told knot v told is seen = let e : seen_knot (line.Leaf v) ≡ AtTip told =
 
 -- WHAT IS TOLD IS TRUE
 
-pub told-true : (b : Problem) (best : Span) (at : List ℕ) (told : Told) → IsTold b best at told → ToldHolds b at told
-told-true b best at (ToldLeaf v) h = h.0
-told-true b best at (ToldFrontier v) h = (h.0, h.1.0)
+-- in a piece over this prefix, with this tree
+module _ (rule : Rule) (b : Problem) (prefix : List ℕ) (tree : Tree Tip) where
+  pub told-true : (best : Span) (at : List ℕ) (told : Told) → IsTold b best at told → ToldHolds rule b prefix tree at told
+  told-true best at (ToldLeaf v) h = h.0
+  told-true best at (ToldFrontier v) h = (h.0, h.1.0)
+  told-true best at (ToldPassed v name) h = absurd h
 
-pub told-tip : (b : Problem) (best : Span) (at : List ℕ) (told : Told) → IsTold b best at told → TipHoldsWhile b best.high best.low at (tip_of b at told)
-told-tip b best at (ToldLeaf v) h = (refl, elim h.1 [ inl whole ↦ inl whole | inr le ↦ inr (omega (arith, le, h.0)) ])
-told-tip b best at (ToldFrontier v) h = h.1
+  pub told-tip : (best : Span) (at : List ℕ) (told : Told) → IsTold b best at told → TipHoldsWhile rule b best.high best.low prefix tree at (tip_of b at told)
+  told-tip best at (ToldLeaf v) h = (refl, elim h.1 [ inl whole ↦ inl whole | inr le ↦ inr (omega (arith, le, h.0)) ])
+  told-tip best at (ToldFrontier v) h = h.1
+  told-tip best at (ToldPassed v name) h = absurd h
 
-pub holds-tip : (b : Problem) (at : List ℕ) (told : Told) → ToldHolds b at told → TipHolds b at (tip_of b at told)
-holds-tip b at (ToldLeaf v) h = refl
-holds-tip b at (ToldFrontier v) h = h.1
+  pub holds-tip : (at : List ℕ) (told : Told) → ToldHolds rule b prefix tree at told → TipHolds rule b prefix tree at (tip_of b at told)
+  holds-tip at (ToldLeaf v) h = refl
+  holds-tip at (ToldFrontier v) h = h.1
+  holds-tip at (ToldPassed v name) h = (h.1, h.2)
 
 -- WHILE THE BEST TIME FALLS
 
@@ -93,6 +100,7 @@ holds-tip b at (ToldFrontier v) h = h.1
 pub told-wider : (b : Problem) (high low more less : ℕ) (at : List ℕ) (told : Told) → high ≤ more → less ≤ low → IsTold b (span high low) at told → IsTold b (span more less) at told
 told-wider b high low more less at (ToldLeaf v) up down h = (h.0, elim h.1 [ inl whole ↦ inl whole | inr le ↦ inr (omega arith) ])
 told-wider b high low more less at (ToldFrontier v) up down h = (h.0, (h.1.0, omega (arith, h.1.1)))
+told-wider b high low more less at (ToldPassed v name) up down h = absurd h
 
 -- what is told by the low one is told of both
 pub told-since : (b : Problem) (high low : ℕ) (at : List ℕ) (knot : Option code.Knot) → low ≤ high → IfSome knot (λ k. (told : Told) × (seen_knot k ≡ AtTip told) × IsTold b (span low low) at told) → IfSome knot (λ k. (told : Told) × (seen_knot k ≡ AtTip told) × IsTold b (span high low) at told)

@@ -1,21 +1,24 @@
 -- Used by contracts: what they see of a piece.
 use Rattle.std.specs.Prelude.{ℕ, ◌≡◌, List, Option, None, Some}
+use Rattle.s66_model.specs.declared.rule.Rule.{Rule}
 use Rattle.s66_model.specs.Timing.{Problem}
-use Rattle.s66_model.specs.Tree.{Tree, TreeHolds, Knot, flat, splits}
+use Rattle.s66_model.specs.Tree.{Tree, Knot, flat, splits}
 use Rattle.s66_model.specs.Preorder.{read_tree}
 use Rattle.s66_model.specs.Piece.{Tip}
-use Rattle.s66_model.specs.Told.{Told, ToldFrontier, ToldHolds, tree_told}
+use Rattle.s66_model.specs.Told.{Told, ToldFrontier, tree_told, IsToldTree}
 use Rattle.s66_model.specs.Expansion.{IsBestWhole}
 use Rattle.s66_time.specs.TimedOrder.{TimedOrder}
 
 pub record PieceOf : Type 0 where
+  -- of its dominated leaves
+  pub rule : Rule
   pub problem : Problem
   pub prefix : List ℕ
   -- its tree's lines in preorder
   pub knots : List (Knot Told)
   pub timed : Option TimedOrder
 
--- its tree with the values that its tips tell
+-- its tree with the values and names that its tips tell
 abbrev pub told_tree : PieceOf → Tree Told
 told_tree p = read_tree (ToldFrontier 0) p.knots
 
@@ -30,7 +33,7 @@ IsBestTimed b prefix tree (Some timed) = (timed.problem ≡ b) × IsBestWhole b 
 
 -- what is true of every piece with so many splits
 pub record IsKept (p : PieceOf) (count : ℕ) : Type 0 where
-  pub told : TreeHolds p.problem.block (ToldHolds p.problem) p.prefix (told_tree p)
+  pub told : IsToldTree p.rule p.problem p.prefix (told_tree p)
   pub knots : flat (told_tree p) ≡ p.knots
   pub splits : splits (tree_of p) ≡ count
   pub timed : IsBestTimed p.problem p.prefix (tree_of p) p.timed

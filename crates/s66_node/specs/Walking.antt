@@ -6,7 +6,7 @@ use Rattle.s66_model.specs.Timing.{Problem, total_of}
 use Rattle.s66_model.specs.LegalOrder.{IsBeginning, IsComplete, IsIncomplete, IsLegal, is_ready}
 use Rattle.s66_model.specs.Leaves.{floor_value}
 use Rattle.s66_model.specs.Tree.{Tree, Knot, flat, splits, tree_values}
-use Rattle.s66_model.specs.Told.{Told, ToldLeaf, ToldFrontier, tip_of}
+use Rattle.s66_model.specs.Told.{Told, ToldLeaf, ToldFrontier, ToldPassed, tip_of}
 use Rattle.s66_model.specs.Expansion.{whole_at}
 use Rattle.s66_dep.specs.declared.set.Set.{Set}
 use Rattle.s66_dep.specs.Members.{numbers_in}
@@ -32,6 +32,7 @@ IsDue b best at = IsIncomplete b.block at × (floor_value b at < best)
 abbrev pub IsTold : Problem → Span → List ℕ → Told → Type 0
 IsTold b best at (ToldLeaf value) = (value ≡ floor_value b at) × (IsComplete b.block at ⊎ (best.low ≤ value))
 IsTold b best at (ToldFrontier value) = (value ≡ floor_value b at) × IsDue b best.high at
+IsTold b best at (ToldPassed value name) = ⊥
 
 -- the whole order that is told of, if one is
 abbrev pub whole_told : Problem → List ℕ → Told → List (List ℕ)

@@ -1,6 +1,7 @@
 ghost use Rattle.std.specs.Prelude.{◌≡◌, ◌≤◌, ℕ, List, IfOk};
 ghost use Rattle.std.specs.Option.{option_map};
 ghost use Rattle.s66_line.specs.Block.{instrs_of};
+ghost use Rattle.s66_model.specs.declared.rule.Rule.TheVariants.{NoneNamed};
 ghost use Rattle.s66_model.specs.Timing.{Problem};
 ghost use Rattle.s66_model.specs.LegalOrder.{IsBeginning};
 ghost use Rattle.s66_model.specs.Tree.{Tree};
@@ -17,6 +18,7 @@ use crate::whole_order::{WholeOrder, copy_of};
 use s66_dep::Order;
 use s66_isa::Profile;
 use s66_line::Block;
+use s66_model::Rule;
 use s66_time::{Timed, time_of};
 use std::alloc::{AllocError, Global};
 use std::boxed::Box;
@@ -58,8 +60,9 @@ pub fn expand(
 ) -> Result<Piece, AllocError>
     requires { IsBeginning (instrs_of block.now) prefix.now }
     ensures problem { IfOk result (λ p. p.problem ≡ record { block = instrs_of block.now; profile = profile.now }) }
+    ensures rule { IfOk result (λ p. p.rule ≡ NoneNamed) }
     ensures prefix { IfOk result (λ p. p.prefix ≡ prefix.now) }
-    ensures expansion { IfOk result (λ p. IsExpansion (record { block = instrs_of block.now; profile = profile.now }) best best allowance prefix.now (tree_of p)) }
+    ensures expansion { IfOk result (λ p. IsExpansion NoneNamed (record { block = instrs_of block.now; profile = profile.now }) best best allowance prefix.now (tree_of p)) }
     ensures timed { IfOk result (λ p. IsBestTimed (record { block = instrs_of block.now; profile = profile.now }) prefix.now (tree_of p) p.timed) }
 {
     Walk::new(block, profile).expand(alloc, prefix, best, allowance)
@@ -83,8 +86,9 @@ pub fn expand_with<L: Least>(
     ensures falls { L.kept incumbent.new ≤ L.kept incumbent.old }
     ensures lowest { (L.lowest incumbent.new ≡ L.lowest incumbent.old) × (L.lowest incumbent.old ≤ L.kept incumbent.new) }
     ensures problem { IfOk result (λ p. p.problem ≡ record { block = instrs_of block.now; profile = profile.now }) }
+    ensures rule { IfOk result (λ p. p.rule ≡ NoneNamed) }
     ensures prefix { IfOk result (λ p. p.prefix ≡ prefix.now) }
-    ensures expansion { IfOk result (λ p. IsExpansion (record { block = instrs_of block.now; profile = profile.now }) (L.kept incumbent.old) (L.kept incumbent.new) allowance prefix.now (tree_of p)) }
+    ensures expansion { IfOk result (λ p. IsExpansion NoneNamed (record { block = instrs_of block.now; profile = profile.now }) (L.kept incumbent.old) (L.kept incumbent.new) allowance prefix.now (tree_of p)) }
     ensures timed { IfOk result (λ p. IsBestTimed (record { block = instrs_of block.now; profile = profile.now }) prefix.now (tree_of p) p.timed) }
 {
     Walk::new(block, profile).expand_with(alloc, prefix, incumbent, allowance)
@@ -92,6 +96,7 @@ pub fn expand_with<L: Least>(
 
 impl Walk<'_> {
     ghost use Rattle.std.specs.Prelude.{◌≡◌, ◌≤◌, IfOk};
+    ghost use Rattle.s66_model.specs.declared.rule.Rule.TheVariants.{NoneNamed};
     ghost use Rattle.s66_model.specs.LegalOrder.{IsBeginning};
     ghost use Rattle.s66_model.specs.Expansion.{IsExpansion};
     ghost use Rattle.s66_node.specs.Pieces.{tree_of, IsBestTimed};
@@ -108,8 +113,9 @@ impl Walk<'_> {
         requires { IsBeginning self.old.problem.block prefix.now }
         ensures same { self.new.problem ≡ self.old.problem }
         ensures problem { IfOk result (λ p. p.problem ≡ self.old.problem) }
-        ensures prefix { IfOk result (λ p. p.prefix ≡ prefix.now) }
-        ensures expansion { IfOk result (λ p. IsExpansion self.old.problem best best allowance prefix.now (tree_of p)) }
+        ensures rule { IfOk result (λ p. p.rule ≡ NoneNamed) }
+    ensures prefix { IfOk result (λ p. p.prefix ≡ prefix.now) }
+        ensures expansion { IfOk result (λ p. IsExpansion NoneNamed self.old.problem best best allowance prefix.now (tree_of p)) }
         ensures timed { IfOk result (λ p. IsBestTimed self.old.problem prefix.now (tree_of p) p.timed) }
     {
         self.expand_with(alloc, prefix, &mut Constant(best), allowance)
@@ -129,8 +135,9 @@ impl Walk<'_> {
         ensures falls { L.kept incumbent.new ≤ L.kept incumbent.old }
         ensures lowest { (L.lowest incumbent.new ≡ L.lowest incumbent.old) × (L.lowest incumbent.old ≤ L.kept incumbent.new) }
         ensures problem { IfOk result (λ p. p.problem ≡ self.old.problem) }
-        ensures prefix { IfOk result (λ p. p.prefix ≡ prefix.now) }
-        ensures expansion { IfOk result (λ p. IsExpansion self.old.problem (L.kept incumbent.old) (L.kept incumbent.new) allowance prefix.now (tree_of p)) }
+        ensures rule { IfOk result (λ p. p.rule ≡ NoneNamed) }
+    ensures prefix { IfOk result (λ p. p.prefix ≡ prefix.now) }
+        ensures expansion { IfOk result (λ p. IsExpansion NoneNamed self.old.problem (L.kept incumbent.old) (L.kept incumbent.new) allowance prefix.now (tree_of p)) }
         ensures timed { IfOk result (λ p. IsBestTimed self.old.problem prefix.now (tree_of p) p.timed) }
     {
         self.go_to(prefix);
@@ -142,6 +149,7 @@ impl Walk<'_> {
         let block = self.clock.block();
         let profile = self.clock.profile();
         Ok(Piece {
+            rule: Rule::NoneNamed,
             source: Order::source(block),
             profile: *profile,
             prefix: copy_of(prefix),

@@ -1,4 +1,7 @@
+use arrayvec::ArrayVec;
 use s66_dep::Set;
+use s66_isa::BLOCK_LIMIT;
+use std::boxed::Box;
 
 /// The byte of a line whose prefix carries its floor as leaf.
 pub const LEAF: u8 = 0;
@@ -6,11 +9,32 @@ pub const LEAF: u8 = 0;
 /// The byte of a line whose prefix stays open.
 pub const FRONTIER: u8 = 1;
 
+/// The byte of a line whose prefix is dominated.
+pub const PASSED: u8 = 2;
+
 /// The byte of a line whose prefix is split is this and how many numbers it goes on with, which are the ready ones.
-pub const SPLIT: u8 = 2;
+pub const SPLIT: u8 = 3;
+
+/// Where the node of a name may be found: a guess, which whoever follows it has to test.
+#[derive(Clone, Copy, Debug, PartialEq, Eq)]
+pub enum Place {
+    /// The node of this line of the same piece; its root's is line 0.
+    Line(u32),
+    /// The node of this number of a ledger.
+    Node(u32),
+}
+
+/// A node that dominates a prefix.
+#[derive(Debug, Drop)]
+pub struct Name {
+    /// Its numbers.
+    pub numbers: ArrayVec<u8, BLOCK_LIMIT>,
+    /// Where it may be found.
+    pub place: Place,
+}
 
 /// A line of a piece's tree, which stands in preorder. A value is that of the prefix's floor, in minor cycles.
-#[derive(Clone, Copy, Debug, PartialEq, Eq)]
+#[derive(Debug, Drop)]
 pub enum Knot {
     /// The prefix is split, and goes on with each of these numbers.
     Split(Set),
@@ -18,6 +42,8 @@ pub enum Knot {
     Leaf { value: u32 },
     /// The prefix isn't split, and stays open.
     Frontier { value: u32 },
+    /// The prefix isn't split: this node dominates it.
+    Passed { value: u32, name: Box<Name> },
 }
 
 impl Knot {
@@ -33,6 +59,7 @@ impl Knot {
             Knot::Split(numbers) => SPLIT + numbers.count() as u8,
             Knot::Leaf { .. } => LEAF,
             Knot::Frontier { .. } => FRONTIER,
+            Knot::Passed { .. } => PASSED,
         }
     }
 }

@@ -11,7 +11,7 @@ mod walk;
 mod whole_order;
 
 pub use expansion::{expand, expand_with};
-pub use knot::{FRONTIER, Knot, LEAF, SPLIT};
+pub use knot::{FRONTIER, Knot, LEAF, Name, PASSED, Place, SPLIT};
 pub use least::{Constant, Least};
 pub use piece::Piece;
 pub use schedule::{Priority, schedule_below, schedule_rest};

@@ -3,13 +3,16 @@ use arrayvec::ArrayVec;
 use s66_dep::Order;
 use s66_isa::{BLOCK_LIMIT, Profile, is_same_profile};
 use s66_line::Block;
+use s66_model::Rule;
 use s66_time::Timed;
 use std::boxed::Box;
 use std::marker::Model;
 
-/// A tree over a prefix of a block's legal orders: splits with exactly the ready numbers, leaves that are floors, and a frontier.
+/// A tree over a prefix of a block's legal orders: splits with exactly the ready numbers, leaves that are floors, dominated leaves
+/// with names as its rule asks, and a frontier.
 #[derive(Debug, Drop)]
 pub struct Piece {
+    pub(crate) rule: Rule,
     pub(crate) source: Order,
     pub(crate) profile: Profile,
     pub(crate) prefix: ArrayVec<u8, BLOCK_LIMIT>,
@@ -26,9 +29,9 @@ impl Model for Piece {
 
     ghost Value = { PieceOf };
 
-    ghost view = { λ p. record { problem = record { block = p.source.block; profile = p.profile }; prefix = p.prefix.items; knots = seen p.knots.items; timed = option_map (λ t. t.value) p.timed } };
+    ghost view = { λ p. record { rule = p.rule; problem = record { block = p.source.block; profile = p.profile }; prefix = p.prefix.items; knots = seen p.knots.items; timed = option_map (λ t. t.value) p.timed } };
 
-    ghost invariant = { λ p. IsKept (record { problem = record { block = p.source.block; profile = p.profile }; prefix = p.prefix.items; knots = seen p.knots.items; timed = option_map (λ t. t.value) p.timed }) p.splits };
+    ghost invariant = { λ p. IsKept (record { rule = p.rule; problem = record { block = p.source.block; profile = p.profile }; prefix = p.prefix.items; knots = seen p.knots.items; timed = option_map (λ t. t.value) p.timed }) p.splits };
 }
 
 impl Piece {
@@ -36,18 +39,25 @@ impl Piece {
     ghost use Rattle.s66_isa.specs.declared.limits.TheConstants.{BLOCK_LIMIT};
     ghost use Rattle.std.specs.Option.{option_copied};
     ghost use Rattle.s66_line.specs.Block.{instrs_of};
-    ghost use Rattle.s66_model.specs.Tree.{TreeHolds, flat, splits};
+    ghost use Rattle.s66_model.specs.Tree.{flat, splits};
     ghost use Rattle.s66_model.specs.Piece.{IsPiece};
     ghost use Rattle.s66_node.specs.Pieces.{told_tree, tree_of, IsBestTimed};
-    ghost use Rattle.s66_model.specs.Told.{ToldHolds};
+    ghost use Rattle.s66_model.specs.Told.{IsToldTree};
     ghost use Rattle.s66_node.specs.SeenKnots.{seen};
-    ghost use Rattle.s66_node.specs.Outlines.{outline_of, IsOutlineOf};
+    ghost use Rattle.s66_node.specs.Outlines.{outline_of, names_of, IsOutlineOf};
 
     /// Whether it is of this block under this profile, in time linear in the block's length.
     pub fn is_of(&self, block: &Block, profile: &Profile) -> bool
         ensures { IsTrue result ↔ (self.now.problem ≡ record { block = instrs_of block.now; profile = profile.now }) }
     {
         self.source.is_of(block) && is_same_profile(&self.profile, profile)
+    }
+
+    /// The rule of its dominated leaves.
+    pub fn rule(&self) -> Rule
+        ensures { result ≡ self.now.rule }
+    {
+        self.rule
     }
 
     /// The prefix, by its numbers.
@@ -65,14 +75,14 @@ impl Piece {
         self.splits
     }
 
-    /// The lines of the tree in preorder, with the value of each floor in minor cycles. Behind the prefix, their bytes alone tell the
-    /// tree: that is the piece's outline.
+    /// The lines of the tree in preorder, with the value of each floor in minor cycles. Behind the prefix, their bytes tell the tree,
+    /// with the names of its dominated leaves: that is the piece's outline.
     pub fn knots(&self) -> &[Knot]
         ensures value { seen result.now ≡ self.now.knots }
         ensures preorder { flat (told_tree self.now) ≡ self.now.knots }
-        ensures told { TreeHolds self.now.problem.block (ToldHolds self.now.problem) self.now.prefix (told_tree self.now) }
-        ensures piece { IsPiece self.now.problem self.now.prefix (tree_of self.now) }
-        ensures outline { IsOutlineOf self.now (outline_of self.now) }
+        ensures told { IsToldTree self.now.rule self.now.problem self.now.prefix (told_tree self.now) }
+        ensures piece { IsPiece self.now.rule self.now.problem self.now.prefix (tree_of self.now) }
+        ensures outline { IsOutlineOf self.now (outline_of self.now) (names_of self.now) }
         ensures few { length self.now.problem.block ≤ BLOCK_LIMIT }
     {
         // proof only: a number for each instruction

@@ -2,6 +2,7 @@ use Rattle.std.proofs.Common.{◌≡◌, List, Option, arith, length, sym, ◌�
 use Rattle.std.specs.Option.{option_map}
 use Rattle.s66_isa.specs.declared.instr.Instr.{Instr}
 use Rattle.s66_line.specs.Block.{instrs_of}
+use Rattle.s66_model.specs.declared.rule.Rule.TheVariants.{NoneNamed}
 use Rattle.s66_model.specs.Timing.{Problem}
 use Rattle.s66_model.specs.Tree.{Tree}
 use Rattle.s66_model.specs.Told.{Told, tree_told}
@@ -44,20 +45,20 @@ module _ (g : Over) (c : In_ok-timed_of g) where
   timed tree h =
       let ns = c.args.prefix.now in
       let all = tree_told b ns tree in
-      subst (λ (p : Problem). IsLeast p (whole_orders ns all) c.in_ok-knots.field-0.least → IsBestTimed p ns all shown) asked (c.in_ok-timed_of.ensures ns all) (grown-least b (span (g.L.Least.kept c.args.incumbent.now) (g.L.Least.kept c.grow.new.incumbent)) c.args.allowance ns c.in_ok-knots.field-0 tree h)
+      subst (λ (p : Problem). IsLeast p (whole_orders ns all) c.in_ok-knots.field-0.least → IsBestTimed p ns all shown) asked (c.in_ok-timed_of.ensures ns all) (grown-least NoneNamed b (span (g.L.Least.kept c.args.incumbent.now) (g.L.Least.kept c.grow.new.incumbent)) c.args.allowance ns c.in_ok-knots.field-0 tree h)
 
 pub invariant_of-result : goal.invariant_of-result
 invariant_of-result g c =
     let (tree, h) = grown g c in
-    piece-kept (b g c) (span (g.L.Least.kept c.args.incumbent.now) (g.L.Least.kept c.grow.new.incumbent)) c.args.allowance c.args.prefix.now c.in_ok-knots.field-0 tree h (record { problem = _; prefix = _; knots = _; timed = shown g c }) (own g c) c.copy_of.ensures refl (timed g c tree h)
+    piece-kept NoneNamed (b g c) (span (g.L.Least.kept c.args.incumbent.now) (g.L.Least.kept c.grow.new.incumbent)) c.args.allowance c.args.prefix.now c.in_ok-knots.field-0 tree h (record { rule = NoneNamed; problem = _; prefix = _; knots = _; timed = shown g c }) refl (own g c) c.copy_of.ensures refl (timed g c tree h)
 
 pub returns-clause-expansion : goal.returns-clause-expansion
 returns-clause-expansion g c =
     let (tree, h) = grown g c in
-    piece-expansion (b g c) (span (g.L.Least.kept c.args.incumbent.now) (g.L.Least.kept c.grow.new.incumbent)) c.args.allowance c.args.prefix.now c.in_ok-knots.field-0 tree h (record { problem = _; prefix = _; knots = _; timed = shown g c }) (own g c) c.copy_of.ensures refl
+    piece-expansion NoneNamed (b g c) (span (g.L.Least.kept c.args.incumbent.now) (g.L.Least.kept c.grow.new.incumbent)) c.args.allowance c.args.prefix.now c.in_ok-knots.field-0 tree h (record { rule = NoneNamed; problem = _; prefix = _; knots = _; timed = shown g c }) refl (own g c) c.copy_of.ensures refl
 
 pub returns-clause-timed : goal.returns-clause-timed
 returns-clause-timed g c =
     let (tree, h) = grown g c in
-    let is = piece-tree (b g c) (span (g.L.Least.kept c.args.incumbent.now) (g.L.Least.kept c.grow.new.incumbent)) c.args.allowance c.args.prefix.now c.in_ok-knots.field-0 tree h (record { problem = _; prefix = _; knots = _; timed = shown g c }) (own g c) c.copy_of.ensures refl in
+    let is = piece-tree NoneNamed (b g c) (span (g.L.Least.kept c.args.incumbent.now) (g.L.Least.kept c.grow.new.incumbent)) c.args.allowance c.args.prefix.now c.in_ok-knots.field-0 tree h (record { rule = NoneNamed; problem = _; prefix = _; knots = _; timed = shown g c }) refl (own g c) c.copy_of.ensures refl in
     subst (λ t. IsBestTimed (b g c) c.args.prefix.now t (shown g c)) (sym is) (timed g c tree h)
