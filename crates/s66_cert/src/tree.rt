@@ -1,3 +1,7 @@
+ghost use Rattle.std.specs.Prelude.{◌≡◌};
+ghost use Rattle.s66_isa.specs.Lists.{some_of};
+ghost use Rattle.s66_cert.specs.Marks.{is_dominated};
+
 use s66_isa::Kind;
 use std::alloc::{AllocError, Global};
 use std::marker::Model;
@@ -15,6 +19,8 @@ pub enum TreeLine<'a> {
     Load(Kind),
     /// The parcels that remain.
     Parcels,
+    /// The node of this name dominates the prefix.
+    Dominated(&'a [u8]),
 }
 
 /// What a line of a tree says but its numbers, of which it has so many.
@@ -25,21 +31,28 @@ pub(crate) enum Mark {
     Chain(u8),
     Load(Kind),
     Parcels,
+    Dominated(u8),
 }
 
 impl Mark {
     ghost use Rattle.std.specs.Prelude.{◌≡◌, length};
     ghost use Rattle.s66_cert.specs.DocumentParts.{knot_of};
-    ghost use Rattle.s66_cert.specs.Marks.{number_count, marked};
+    ghost use Rattle.s66_cert.specs.Marks.{number_count, is_dominated, marked};
 
     /// How many numbers its line has.
     fn number_count(self) -> usize
         ensures { result ≡ number_count self }
     {
         match self {
-            Mark::Split(count) | Mark::Chain(count) => count as usize,
+            Mark::Split(count) | Mark::Chain(count) | Mark::Dominated(count) => count as usize,
             Mark::Whole | Mark::Load(_) | Mark::Parcels => 0,
         }
+    }
+
+    fn is_dominated(self) -> bool
+        ensures { result ≡ is_dominated self }
+    {
+        matches!(self, Mark::Dominated(_))
     }
 
     /// Its line with these numbers.
@@ -53,8 +66,21 @@ impl Mark {
             Mark::Chain(_) => TreeLine::Chain(numbers),
             Mark::Load(kind) => TreeLine::Load(kind),
             Mark::Parcels => TreeLine::Parcels,
+            Mark::Dominated(_) => TreeLine::Dominated(numbers),
         }
     }
+}
+
+/// Whether one of these is of a dominated leaf.
+fn some_dominated(marks: &[Mark]) -> bool
+    ensures { result ≡ some_of is_dominated marks.now }
+{
+    for mark in marks {
+        if mark.is_dominated() {
+            return true;
+        }
+    }
+    false
 }
 
 /// The lines of a tree in preorder, in two bytes a line and one a number.
@@ -66,11 +92,11 @@ pub struct Tree {
 
 impl Model for Tree {
     ghost use Rattle.std.specs.Prelude.{List};
-    ghost use Rattle.s66_model.specs.Leaves.{Leaf};
     ghost use Rattle.s66_model.specs.Tree.{Knot};
+    ghost use Rattle.s66_model.specs.DominatedLeaves.{Ending};
     ghost use Rattle.s66_cert.specs.Marks.{knots_of, AreCounted};
 
-    ghost Value = { List (Knot Leaf) };
+    ghost Value = { List (Knot Ending) };
 
     ghost view = { λ t. knots_of t.marks.items t.numbers.items };
 
@@ -80,6 +106,7 @@ impl Model for Tree {
 impl Tree {
     ghost use Rattle.std.specs.Prelude.{◌≡◌, ◌++◌, [], ◌∷◌, length, OnOk, OnErr};
     ghost use Rattle.s66_cert.specs.Marks.{number_count, marked};
+    ghost use Rattle.s66_cert.specs.Document.{has_dominated_line};
     ghost use Rattle.s66_cert.specs.DocumentParts.{knot_of, IsShort};
 
     /// No lines.
@@ -116,7 +143,18 @@ impl Tree {
             TreeLine::Chain(numbers) => self.append(Mark::Chain(numbers.len() as u8), numbers),
             TreeLine::Load(kind) => self.append(Mark::Load(kind), &[]),
             TreeLine::Parcels => self.append(Mark::Parcels, &[]),
+            TreeLine::Dominated(numbers) => {
+                self.append(Mark::Dominated(numbers.len() as u8), numbers)
+            }
         }
+    }
+
+    /// Whether a leaf is dominated, in time linear in the lines.
+    #[tactic(auto, using(crate::proofs::Marks::dominated_marks))]
+    pub fn has_dominated(&self) -> bool
+        ensures { result ≡ has_dominated_line self.now }
+    {
+        some_dominated(self.marks.as_slice())
     }
 
     /// The lines, from the first on.
@@ -139,11 +177,11 @@ pub struct TreeLines<'a> {
 
 impl<'a> Model for TreeLines<'a> {
     ghost use Rattle.std.specs.Prelude.{List};
-    ghost use Rattle.s66_model.specs.Leaves.{Leaf};
     ghost use Rattle.s66_model.specs.Tree.{Knot};
+    ghost use Rattle.s66_model.specs.DominatedLeaves.{Ending};
     ghost use Rattle.s66_cert.specs.Marks.{knots_of, AreCounted};
 
-    ghost Value = { List (Knot Leaf) };
+    ghost Value = { List (Knot Ending) };
 
     ghost view = { λ t. knots_of t.marks.now t.numbers.now };
 

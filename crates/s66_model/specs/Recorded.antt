@@ -1,16 +1,17 @@
 -- To be believed: what a ledger records of a graft and of an offer, whatever it answers, and what its entries spend.
 use Rattle.std.specs.Prelude.{ℕ, ◌≡◌, ◌↔◌, ◌⊎◌, ◌==◌, Bool, true, if◌then◌else◌, List, Some, None}
 use Rattle.s66_isa.specs.Lists.{weigh}
+use Rattle.s66_model.specs.declared.rule.Rule.{Rule}
 use Rattle.s66_model.specs.Timing.{Problem, total_of}
 use Rattle.s66_model.specs.Tree.{Tree, Alone, Parted, Kids, NoMore, Unsplit, Split, splits}
 use Rattle.s66_model.specs.Piece.{Tip, Carries, Frontier, Passed}
 use Rattle.s66_model.specs.Ledger.{Event, Graft, Offer, Reply, Taken, worker}
 
--- own tells whether p, which a piece or an order is of, is the ledger's block and profile
+-- own tells whether p, which an order is of, is the ledger's block and profile
 abbrev pub IsOwn : (b p : Problem) → Bool → Type 0
 IsOwn b p own = (own ≡ true) ↔ (p ≡ b)
 
--- a piece's splits are recorded in any case, and its tree where it is taken
+-- a piece's splits are recorded in any case, and what is taken of its tree
 abbrev pub graft_event : (w node : ℕ) (own : Bool) (prefix : List ℕ) → Tree Tip → Reply → Event
 graft_event w node own prefix tree Taken = Graft w node own prefix (splits tree) (Some tree)
 graft_event w node own prefix tree reply = Graft w node own prefix (splits tree) None
@@ -32,10 +33,14 @@ TreeOpens (Alone tip) (Alone taken) = TipOpens tip taken
 TreeOpens (Parted numbers kids) (Parted ns others) = (numbers ≡ ns) × KidsOpen kids others
 TreeOpens tree taken = ⊥
 
--- the event of worker w's graft at a node, of a piece of p over this prefix
-abbrev pub IsGraftOf : (b : Problem) (w node : ℕ) (p : Problem) (prefix : List ℕ) → Tree Tip → Reply → Event → Type 0
-IsGraftOf b w node p prefix tree reply event =
-    (own : Bool) × (taken : Tree Tip) × IsOwn b p own × TreeOpens tree taken × (event ≡ graft_event w node own prefix taken reply)
+-- and whether that and the rule of its dominated leaves are those of a piece
+abbrev pub IsOwnPiece : (rule : Rule) (b : Problem) (r : Rule) (p : Problem) → Bool → Type 0
+IsOwnPiece rule b r p own = (own ≡ true) ↔ ((r ≡ rule) × (p ≡ b))
+
+-- the event of worker w's graft at a node, of a piece of p over this prefix, by the rule r
+abbrev pub IsGraftOf : (rule : Rule) (b : Problem) (w node : ℕ) (r : Rule) (p : Problem) (prefix : List ℕ) → Tree Tip → Reply → Event → Type 0
+IsGraftOf rule b w node r p prefix tree reply event =
+    (own : Bool) × (taken : Tree Tip) × IsOwnPiece rule b r p own × TreeOpens tree taken × (event ≡ graft_event w node own prefix taken reply)
 
 -- the event of worker w's offer of an order of p, with its total
 abbrev pub IsOfferOf : (b : Problem) (w : ℕ) (p : Problem) (order : List ℕ) → Event → Type 0

@@ -3,6 +3,7 @@
 ghost use Rattle.std.specs.Prelude.{ℕ, List, ◌≡◌, ◌≤◌, [], ◌∷◌, ◌++◌, true, false, Some, None};
 ghost use Rattle.s66_isa.specs.Lists.{weigh, rising};
 ghost use Rattle.s66_model.specs.declared.rule.Rule.{Rule};
+ghost use Rattle.s66_model.specs.declared.rule.Rule.TheVariants.{NoneNamed, WrittenEarlier};
 ghost use Rattle.s66_model.specs.Timing.{Problem};
 ghost use Rattle.s66_model.specs.Tree.{Tree, splits};
 ghost use Rattle.s66_model.specs.Piece.{Tip, Frontier};
@@ -37,24 +38,26 @@ pub fn reached_law()
 /// The event of a graft tells of its node and of its piece's splits, also if it is refused, and spends these splits if it is taken;
 /// an offer has one event.
 pub fn recorded_law()
-    ensures graft { (b : Problem) (w node : ℕ) (p : Problem) (prefix : List ℕ) (tree : Tree Tip) (reply : Reply) (event : Event) → IsGraftOf b w node p prefix tree reply event → brief event ≡ Grafts node (splits tree) }
-    ensures spends { (b : Problem) (w node : ℕ) (p : Problem) (prefix : List ℕ) (tree : Tree Tip) (event : Event) → IsGraftOf b w node p prefix tree Taken event → spends event Taken ≡ splits tree }
+    ensures graft { (rule : Rule) (b : Problem) (w node : ℕ) (r : Rule) (p : Problem) (prefix : List ℕ) (tree : Tree Tip) (reply : Reply) (event : Event) → IsGraftOf rule b w node r p prefix tree reply event → brief event ≡ Grafts node (splits tree) }
+    ensures spends { (rule : Rule) (b : Problem) (w node : ℕ) (r : Rule) (p : Problem) (prefix : List ℕ) (tree : Tree Tip) (event : Event) → IsGraftOf rule b w node r p prefix tree Taken event → spends event Taken ≡ splits tree }
     ensures offer { (b : Problem) (w : ℕ) (p : Problem) (order : List ℕ) (event other : Event) → IsOfferOf b w p order event → IsOfferOf b w p order other → event ≡ other }
 {}
 
 /// What is recorded of pieces and orders, and what it spends.
 pub fn recorded_examples()
-    ensures taken { IsGraftOf multiply_problem 1 0 multiply_problem [] (one_split Frontier) Taken (Graft 1 0 true [] 1 (Some (one_split Frontier))) }
-    ensures refused { IsGraftOf multiply_problem 1 0 multiply_problem [] (one_split Frontier) NotOut (Graft 1 0 true [] 1 None) }
-    ensures refused_at_another_prefix { IsGraftOf multiply_problem 1 0 multiply_problem (2 ∷ []) (one_split Frontier) OtherPrefix (Graft 1 0 true (2 ∷ []) 1 None) }
-    ensures refused_for_another_block { IsGraftOf multiply_problem 1 0 load_problem [] (one_split Frontier) OtherPrefix (Graft 1 0 false [] 1 None) }
-    ensures refused_without_its_splits { ¬ IsGraftOf multiply_problem 1 0 multiply_problem [] (one_split Frontier) OverAllowance (Graft 1 0 true [] 0 None) }
-    ensures refused_with_another_prefix { ¬ IsGraftOf multiply_problem 1 0 multiply_problem [] (one_split Frontier) OtherPrefix (Graft 1 0 true (2 ∷ []) 1 None) }
-    ensures refused_as_of_another_block { ¬ IsGraftOf multiply_problem 1 0 multiply_problem [] (one_split Frontier) OtherPrefix (Graft 1 0 false [] 1 None) }
-    ensures refused_as_of_this_block { ¬ IsGraftOf multiply_problem 1 0 load_problem [] (one_split Frontier) OtherPrefix (Graft 1 0 true [] 1 None) }
-    ensures refused_with_its_tree { ¬ IsGraftOf multiply_problem 1 0 multiply_problem [] (one_split Frontier) NotOut (Graft 1 0 true [] 1 (Some (one_split Frontier))) }
-    ensures taken_without_its_tree { ¬ IsGraftOf multiply_problem 1 0 multiply_problem [] (one_split Frontier) Taken (Graft 1 0 true [] 1 None) }
-    ensures graft_of_another_worker { ¬ IsGraftOf multiply_problem 1 0 multiply_problem [] (one_split Frontier) NotOut (Graft 2 0 true [] 1 None) }
+    ensures taken { IsGraftOf NoneNamed multiply_problem 1 0 NoneNamed multiply_problem [] (one_split Frontier) Taken (Graft 1 0 true [] 1 (Some (one_split Frontier))) }
+    ensures refused { IsGraftOf NoneNamed multiply_problem 1 0 NoneNamed multiply_problem [] (one_split Frontier) NotOut (Graft 1 0 true [] 1 None) }
+    ensures refused_at_another_prefix { IsGraftOf NoneNamed multiply_problem 1 0 NoneNamed multiply_problem (2 ∷ []) (one_split Frontier) OtherPrefix (Graft 1 0 true (2 ∷ []) 1 None) }
+    ensures refused_for_another_block { IsGraftOf NoneNamed multiply_problem 1 0 NoneNamed load_problem [] (one_split Frontier) OtherPrefix (Graft 1 0 false [] 1 None) }
+    ensures refused_without_its_splits { ¬ IsGraftOf NoneNamed multiply_problem 1 0 NoneNamed multiply_problem [] (one_split Frontier) OverAllowance (Graft 1 0 true [] 0 None) }
+    ensures refused_with_another_prefix { ¬ IsGraftOf NoneNamed multiply_problem 1 0 NoneNamed multiply_problem [] (one_split Frontier) OtherPrefix (Graft 1 0 true (2 ∷ []) 1 None) }
+    ensures refused_for_another_rule { IsGraftOf WrittenEarlier multiply_problem 1 0 NoneNamed multiply_problem [] (one_split Frontier) OtherPrefix (Graft 1 0 false [] 1 None) }
+    ensures refused_as_of_this_rule { ¬ IsGraftOf WrittenEarlier multiply_problem 1 0 NoneNamed multiply_problem [] (one_split Frontier) OtherPrefix (Graft 1 0 true [] 1 None) }
+    ensures refused_as_of_another_block { ¬ IsGraftOf NoneNamed multiply_problem 1 0 NoneNamed multiply_problem [] (one_split Frontier) OtherPrefix (Graft 1 0 false [] 1 None) }
+    ensures refused_as_of_this_block { ¬ IsGraftOf NoneNamed multiply_problem 1 0 NoneNamed load_problem [] (one_split Frontier) OtherPrefix (Graft 1 0 true [] 1 None) }
+    ensures refused_with_its_tree { ¬ IsGraftOf NoneNamed multiply_problem 1 0 NoneNamed multiply_problem [] (one_split Frontier) NotOut (Graft 1 0 true [] 1 (Some (one_split Frontier))) }
+    ensures taken_without_its_tree { ¬ IsGraftOf NoneNamed multiply_problem 1 0 NoneNamed multiply_problem [] (one_split Frontier) Taken (Graft 1 0 true [] 1 None) }
+    ensures graft_of_another_worker { ¬ IsGraftOf NoneNamed multiply_problem 1 0 NoneNamed multiply_problem [] (one_split Frontier) NotOut (Graft 2 0 true [] 1 None) }
     ensures offered { IsOfferOf load_problem 1 load_problem (1 ∷ 3 ∷ 2 ∷ []) (Offer 1 true (1 ∷ 3 ∷ 2 ∷ []) 12) }
     ensures offered_of_another_block { IsOfferOf load_problem 1 multiply_problem (2 ∷ 1 ∷ 3 ∷ []) (Offer 1 false (2 ∷ 1 ∷ 3 ∷ []) 22) }
     ensures offered_with_another_time { ¬ IsOfferOf load_problem 1 load_problem (1 ∷ 3 ∷ 2 ∷ []) (Offer 1 true (1 ∷ 3 ∷ 2 ∷ []) 11) }

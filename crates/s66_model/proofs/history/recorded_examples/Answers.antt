@@ -11,3 +11,6 @@ returns-clause-refused_at_another_prefix c = (true, one_split Frontier, search r
 
 pub returns-clause-refused_for_another_block : goal.returns-clause-refused_for_another_block
 returns-clause-refused_for_another_block c = (false, one_split Frontier, search rules, search rules, refl)
+
+pub returns-clause-refused_for_another_rule : goal.returns-clause-refused_for_another_rule
+returns-clause-refused_for_another_rule c = (false, one_split Frontier, search rules, search rules, refl)

@@ -31,11 +31,11 @@ graft-brief w node own prefix tree Taken = refl
 graft-brief w node own prefix tree reply = refl
 
 pub returns-clause-graft : goal.returns-clause-graft
-returns-clause-graft c = λ b w node p prefix tree reply event (own, taken, is, opens, e).
+returns-clause-graft c = λ rule b w node r p prefix tree reply event (own, taken, is, opens, e).
     (ap brief e ∙ (graft-brief w node own prefix taken reply ∙ ap (λ n. Grafts node n) (sym (tree-opened tree taken opens))))
 
 pub returns-clause-spends : goal.returns-clause-spends
-returns-clause-spends c = λ b w node p prefix tree event (own, taken, is, opens, e).
+returns-clause-spends c = λ rule b w node r p prefix tree event (own, taken, is, opens, e).
     ap (λ x. spends x Taken) e ∙ sym (tree-opened tree taken opens)
 
 pub returns-clause-offer : goal.returns-clause-offer
