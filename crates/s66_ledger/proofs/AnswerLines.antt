@@ -10,11 +10,12 @@ use Rattle.s66_model.specs.Leaves.{Leaf, floor}
 use Rattle.s66_model.specs.Tree.{AtTip, AtSplit, flat}
 use Rattle.s66_model.specs.Later.{children, later}
 use Rattle.s66_model.proofs.TreeLines.{lines-unsplit, lines-split, lines-tree, lines-both}
+use Rattle.s66_model.specs.DominatedLeaves.{Bounding}
 use Rattle.s66_model.specs.Ledger as model
 use Rattle.s66_model.specs.NodeTable.{stands_at, is_cut_at, IsTable}
-use Rattle.s66_model.specs.NodeTree.{is_split_at, node_tree}
+use Rattle.s66_model.specs.NodeTree.{is_split_at, state_ending, ending_at, node_tree}
 use Rattle.s66_model.proofs.LegalOrders.{GoesOn-append}
-use Rattle.s66_model.proofs.NodeTrees.{some-passes, passes-some, is-same, uncut-stands, cut-counts, split-part, one-node}
+use Rattle.s66_model.proofs.NodeTrees.{some-passes, passes-some, is-same, uncut-stands, cut-counts, split-part, one-node, ending-is}
 use Rattle.s66_model.proofs.OneTree.{same-is}
 use Rattle.s66_node.specs.Walked.{front}
 use Rattle.s66_node.proofs.Growing.{front-push}
@@ -63,6 +64,13 @@ uncut b at state.Out other = refl
 uncut b at state.Closed other = refl
 uncut b at state.Split other = absurd (other refl)
 
+-- what a state as code keeps it has in the tree
+plain-ending : (b : Problem) (at : List ℕ) (s : State) → state_ending b at (seen_state b at s) ≡ Bounding (floor b at)
+plain-ending b at state.Open = refl
+plain-ending b at state.Out = refl
+plain-ending b at state.Closed = refl
+plain-ending b at state.Split = refl
+
 parent-before : (xs : List Node) (j : ℕ) → 0 < j → parent_of xs j < j
 parent-before xs j some =
     elim (cases_le j (node_at xs j).parent) [
@@ -109,6 +117,11 @@ module _ (b : Problem) (xs : List Node) (tree : AreOneTree b xs) where
   unsplit-here i at stands other =
       let less = uncut-stands (seen_at at i) seen (stands-among i at stands) (uncut b at (node_at xs i).state other) in
       le-ltb 0 (cuts at) (omega (arith, less, one-node b ledger tree.table tree.begins at (stands-begins i at stands)))
+
+  -- no node is dominated: each that isn't split has its floor
+  pub floor-here : (i : ℕ) (at : List ℕ) → StandsAt xs i at → ending_at b seen at ≡ Bounding (floor b at)
+  floor-here i at stands =
+      subst (λ x. ending_at b seen x ≡ Bounding (floor b x)) refl (ending-is b ledger tree.table tree.begins (seen_at at i) (stands-among i at stands) ∙ plain-ending b at (node_at xs i).state)
 
   pub split-incomplete : (at : List ℕ) → is_split_at seen at ≡ true → IsIncomplete b.block at
   split-incomplete at is = (split-part b ledger tree.table tree.begins at is).0
@@ -187,15 +200,15 @@ module _ (b : Problem) (xs : List Node) (tree : AreOneTree b xs) (i : ℕ) (at :
   split-line numbers split all next =
       let is : cut_there at ≡ true = split-here b xs tree i at stands split in
       let part : length at ≤ length b.block = omega (arith, split-incomplete b xs tree at is) in
-      ap (λ knots. knots ++ lines_from b xs (later b.block [] at)) (lines-split b.block cut_there (floor b) at is part)
+      ap (λ knots. knots ++ lines_from b xs (later b.block [] at)) (lines-split b.block cut_there (ending_at b (nodes_of b xs)) at is part)
       ∙ (ap (λ ns. AtSplit ns ∷ (lines_from b xs (children at ns) ++ lines_from b xs (later b.block [] at))) (sym all)
-      ∙ ap (λ knots. AtSplit numbers ∷ knots) (sym (lines-both b.block cut_there (floor b) (children at numbers) (later b.block [] at)) ∙ ap (lines_from b xs) (sym next)))
+      ∙ ap (λ knots. AtSplit numbers ∷ knots) (sym (lines-both b.block cut_there (ending_at b (nodes_of b xs)) (children at numbers) (later b.block [] at)) ∙ ap (lines_from b xs) (sym next)))
 
   pub leaf-line : (leaf : Leaf) → (node_at xs i).state ≢ state.Split → leaf ≡ floor b at → to ≡ later b.block [] at →
-      lines_from b xs (at ∷ later b.block [] at) ≡ AtTip leaf ∷ lines_from b xs to
+      lines_from b xs (at ∷ later b.block [] at) ≡ AtTip (Bounding leaf) ∷ lines_from b xs to
   leaf-line leaf other is next =
-      ap (λ knots. knots ++ lines_from b xs (later b.block [] at)) (lines-unsplit b.block cut_there (floor b) at (unsplit-here b xs tree i at stands other))
-      ∙ (ap (λ l. AtTip l ∷ lines_from b xs (later b.block [] at)) (sym is) ∙ ap (λ ats. AtTip leaf ∷ lines_from b xs ats) (sym next))
+      ap (λ knots. knots ++ lines_from b xs (later b.block [] at)) (lines-unsplit b.block cut_there (ending_at b (nodes_of b xs)) at (unsplit-here b xs tree i at stands other))
+      ∙ (ap (λ l. AtTip l ∷ lines_from b xs (later b.block [] at)) (floor-here b xs tree i at stands ∙ ap Bounding (sym is)) ∙ ap (λ ats. AtTip (Bounding leaf) ∷ lines_from b xs ats) (sym next))
 
 -- where it is appended, these follow
 pub line-appended : {K : Type 0} (old new : List K) (k : K) (all rest : List K) → new ≡ old ++ k ∷ [] → all ≡ k ∷ rest → new ++ rest ≡ old ++ all
@@ -221,4 +234,4 @@ pub root-there : (b : Problem) (xs : List Node) → AreOneTree b xs → StandsAt
 root-there b xs tree = record { within = some-node b xs tree; over = prefix-none xs (some-node b xs tree) }
 
 pub lines-whole : (b : Problem) (xs : List Node) → lines_from b xs ([] ∷ []) ≡ flat (node_tree b (nodes_of b xs))
-lines-whole b xs = sym (lines-tree b.block (is_split_at (nodes_of b xs)) (floor b))
+lines-whole b xs = sym (lines-tree b.block (is_split_at (nodes_of b xs)) (ending_at b (nodes_of b xs)))

@@ -2,6 +2,7 @@
 use Rattle.std.proofs.Common.{ℕ, ◌≡◌, ◌≢◌, true, List, [], ◌∷◌, ◌++◌, length, refl, sym, ap, arith, inl, inr, ◌∙◌, subst}
 use Rattle.std.proofs.lemmas.Bool.{cases_eq}
 use Rattle.s66_isa.specs.Lists.{Among}
+use Rattle.s66_model.specs.declared.rule.Rule.{Rule}
 use Rattle.s66_model.specs.Timing.{Problem}
 use Rattle.s66_model.specs.LegalOrder.{IsBeginning}
 use Rattle.s66_model.specs.Ledger.{Node, Open, Out, Cut, Closed, State, is_open_state, is_live_state, best_time}
@@ -21,18 +22,19 @@ use Rattle.s66_ledger.proofs.SeenNodes.{length-nodes}
 
 -- WHAT LEADS
 
-pub leads-reached : (old new : MachineOf) → IsReached old.problem old.budget old.workers old.state → Leads old new → IsReached new.problem new.budget new.workers new.state
-leads-reached old new (h, r) (problem, budget, workers, (k, s)) =
-    subst (λ b. IsReached b new.budget new.workers new.state) (sym problem)
-    (subst (λ n. IsReached old.problem n new.workers new.state) (sym budget)
-    (subst (λ n. IsReached old.problem old.budget n new.state) (sym workers) (h ++ k, run-join old.problem h k _ old.state new.state r s)))
+pub leads-reached : (old new : MachineOf) → IsReached old.rule old.problem old.budget old.workers old.state → Leads old new → IsReached new.rule new.problem new.budget new.workers new.state
+leads-reached old new (h, r) (problem, budget, workers, (k, s), by) =
+    subst (λ q. IsReached q new.problem new.budget new.workers new.state) (sym by)
+    (subst (λ b. IsReached old.rule b new.budget new.workers new.state) (sym problem)
+    (subst (λ n. IsReached old.rule old.problem n new.workers new.state) (sym budget)
+    (subst (λ n. IsReached old.rule old.problem old.budget n new.state) (sym workers) (h ++ k, run-join old.rule old.problem h k _ old.state new.state r s))))
 
 -- THE END
 
-begin-among : (b : Problem) (best : ℕ) (nodes : List Node) (node : Node) → NodesHold b best nodes → Among node nodes → IsBeginning b.block node.prefix
-begin-among b best [] node h among = absurd among
-begin-among b best (x ∷ nodes) node h (inl e) = subst (λ (y : Node). IsBeginning b.block y.prefix) (sym e) h.0.0
-begin-among b best (x ∷ nodes) node h (inr past) = begin-among b best nodes node h.1 past
+begin-among : (rule : Rule) (b : Problem) (best : ℕ) (all nodes : List Node) (node : Node) → NodesHold rule b best all nodes → Among node nodes → IsBeginning b.block node.prefix
+begin-among rule b best all [] node h among = absurd among
+begin-among rule b best all (x ∷ nodes) node h (inl e) = subst (λ (y : Node). IsBeginning b.block y.prefix) (sym e) h.0.0
+begin-among rule b best all (x ∷ nodes) node h (inr past) = begin-among rule b best all nodes node h.1 past
 
 live-open : (state : State) → is_live_state state ≡ true → state ≢ Out → is_open_state state ≡ true
 live-open Open live not = refl
@@ -41,10 +43,10 @@ live-open Cut live not = live
 live-open (Closed leaf) live not = live
 
 -- where nothing more is to be expanded, and no whole order that is open is below the best time, the steps have ended
-pub has-ended : (l : MachineOf) → Covers l.problem l.budget l.state → IsSearched l.problem l.budget l.state → IsEnded l.problem l.budget l.state
+pub has-ended : (l : MachineOf) → Covers l.rule l.problem l.budget l.state → IsSearched l.problem l.budget l.state → IsEnded l.problem l.budget l.state
 has-ended l covers searched node among live =
     let b = l.problem in
-    let begins = begin-among b (best_time b l.state) l.state.nodes node covers.nodes among in
+    let begins = begin-among l.rule b (best_time b l.state) l.state.nodes l.state.nodes node covers.nodes among in
     elim searched.open_or_spent [
       | inl below ↦ inl (below node among (live-open node.state live (searched.none_out node among)))
       | inr all ↦
@@ -54,36 +56,36 @@ has-ended l covers searched node among live =
           ]
     ]
 
-pub finishes : (old new : MachineOf) → IsReached old.problem old.budget old.workers old.state → Leads old new → IsEnded new.problem new.budget new.state → IsFinished old.problem old.budget old.state (ended_answer new.problem new.state)
-finishes old new reached (problem, budget, workers, (h, r)) ended =
-    subst (λ (p : Problem). IsFinished old.problem old.budget old.state (ended_answer p new.state)) (sym problem)
-    (ended-finishes old.problem old.budget old.workers old.state new.state h reached r
+pub finishes : (old new : MachineOf) → IsReached old.rule old.problem old.budget old.workers old.state → Leads old new → IsEnded new.problem new.budget new.state → IsFinished old.rule old.problem old.budget old.state (ended_answer new.problem new.state)
+finishes old new reached (problem, budget, workers, (h, r), by) ended =
+    subst (λ (p : Problem). IsFinished old.rule old.problem old.budget old.state (ended_answer p new.state)) (sym problem)
+    (ended-finishes old.rule old.problem old.budget old.workers old.state new.state h reached r
     (subst (λ (p : Problem). IsEnded p old.budget new.state) problem (subst (λ n. IsEnded new.problem n new.state) budget ended)))
 
 -- THE ANSWER of a ledger that has ended
 
-pub kept-answer : (b : Problem) (budget : ℕ) (nodes : List declared.Node) (best : TimedOrder) (left : ℕ) (allowances : List ℕ) (spent : ℕ) (l : MachineOf) (low : ℕ) → IsKept b budget nodes best left allowances spent → machine_of b budget nodes best.numbers left allowances spent ≡ l → IsEnded l.problem l.budget l.state → low ≡ bound_of l.problem l.state → IsKeptAnswer (ended_of best.problem budget nodes best.numbers spent) nodes low
-kept-answer b budget nodes best left allowances spent l low kept view ended bound =
+pub kept-answer : (rule : Rule) (b : Problem) (budget : ℕ) (nodes : List declared.Node) (best : TimedOrder) (left : ℕ) (allowances : List ℕ) (spent : ℕ) (l : MachineOf) (low : ℕ) → IsKept rule b budget nodes best left allowances spent → machine_of rule b budget nodes best.numbers left allowances spent ≡ l → IsEnded l.problem l.budget l.state → low ≡ bound_of l.problem l.state → IsKeptAnswer (ended_of rule best.problem budget nodes best.numbers spent) nodes low
+kept-answer rule b budget nodes best left allowances spent l low kept view ended bound =
     let state = state_of b nodes best.numbers left allowances spent in
     let ends : IsEnded b budget state = subst (λ (m : MachineOf). IsEnded m.problem m.budget m.state) (sym view) ended in
-    let table = reached-table b budget (length allowances) state kept.reached in
-    let done = ended-finishes b budget (length allowances) state state [] kept.reached refl ends in
-    subst (λ (p : Problem). IsKeptAnswer (ended_of p budget nodes best.numbers spent) nodes low) (sym kept.own)
+    let table = reached-table rule b budget (length allowances) state kept.reached in
+    let done = ended-finishes rule b budget (length allowances) state state [] kept.reached refl ends in
+    subst (λ (p : Problem). IsKeptAnswer (ended_of rule p budget nodes best.numbers spent) nodes low) (sym kept.own)
     (record {
       answer = done.answer;
       bound = sym (bound ∙ ap (λ (m : MachineOf). bound_of m.problem m.state) (sym view));
       few = kept.few;
       table = record { root = table.root; children = table.children; others = table.others; splits = table.splits; best = table.best };
-      begins = λ node among. begin-among b (best_time b state) state.nodes node (kept-covers b budget nodes best left allowances spent kept).nodes among;
+      begins = λ node among. begin-among rule b (best_time b state) state.nodes state.nodes node (kept-covers rule b budget nodes best left allowances spent kept).nodes among;
       floors = kept.floors;
-      room = omega (arith, length-nodes b nodes, kept.room, kept.few, kept-room b budget nodes best left allowances spent kept 0);
+      room = omega (arith, length-nodes b nodes, kept.room, kept.few, kept-room rule b budget nodes best left allowances spent kept 0);
     })
 
-pub kept-reached : (b : Problem) (budget : ℕ) (nodes : List declared.Node) (best : TimedOrder) (left : ℕ) (allowances : List ℕ) (spent : ℕ) (l : MachineOf) → IsKept b budget nodes best left allowances spent → machine_of b budget nodes best.numbers left allowances spent ≡ l → IsReached l.problem l.budget l.workers l.state
-kept-reached b budget nodes best left allowances spent l kept view =
-    subst (λ (m : MachineOf). IsReached m.problem m.budget m.workers m.state) view kept.reached
+pub kept-reached : (rule : Rule) (b : Problem) (budget : ℕ) (nodes : List declared.Node) (best : TimedOrder) (left : ℕ) (allowances : List ℕ) (spent : ℕ) (l : MachineOf) → IsKept rule b budget nodes best left allowances spent → machine_of rule b budget nodes best.numbers left allowances spent ≡ l → IsReached l.rule l.problem l.budget l.workers l.state
+kept-reached rule b budget nodes best left allowances spent l kept view =
+    subst (λ (m : MachineOf). IsReached m.rule m.problem m.budget m.workers m.state) view kept.reached
 
 -- where the events went on from a ledger that was reached
-pub reached-end : (first last : MachineOf) → IsReached first.problem first.budget first.workers first.state → Leads first last → IsSearched last.problem last.budget last.state → IsEnded last.problem last.budget last.state
+pub reached-end : (first last : MachineOf) → IsReached first.rule first.problem first.budget first.workers first.state → Leads first last → IsSearched last.problem last.budget last.state → IsEnded last.problem last.budget last.state
 reached-end first last reached leads searched =
-    has-ended last (reached-covers last.problem last.budget last.workers last.state (leads-reached first last reached leads)) searched
+    has-ended last (reached-covers last.rule last.problem last.budget last.workers last.state (leads-reached first last reached leads)) searched

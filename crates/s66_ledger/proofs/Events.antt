@@ -4,6 +4,7 @@ use Rattle.std.proofs.lemmas.List.{length-set, length-replicate}
 use Rattle.s66_isa.specs.Lists.{tally, weigh}
 use Rattle.s66_isa.specs.Table.{numbers}
 use Rattle.s66_isa.specs.declared.limits.TheConstants.{BLOCK_LIMIT}
+use Rattle.s66_model.specs.declared.rule.Rule.{Rule}
 use Rattle.s66_model.specs.Timing.{Problem, total_of}
 use Rattle.s66_model.specs.LegalOrder.{IsLegal, IsBeginning}
 use Rattle.s66_model.specs.Leaves.{floor_value}
@@ -45,17 +46,17 @@ at-most-all [] i = omega arith
 at-most-all (x ∷ xs) zero = omega arith
 at-most-all (x ∷ xs) (suc i) = omega (arith, at-most-all xs i)
 
-pub holds-at : (b : Problem) (best : ℕ) (nodes : List model.Node) (i : ℕ) → NodesHold b best nodes → i < length nodes → IsBeginning b.block (model.node_at nodes i).prefix
-holds-at b best [] i h lt = absurd (omega arith)
-holds-at b best (node ∷ nodes) zero h lt = h.0.0
-holds-at b best (node ∷ nodes) (suc i) h lt = holds-at b best nodes i h.1 (omega (arith, lt))
+pub holds-at : (rule : Rule) (b : Problem) (best : ℕ) (all nodes : List model.Node) (i : ℕ) → NodesHold rule b best all nodes → i < length nodes → IsBeginning b.block (model.node_at nodes i).prefix
+holds-at rule b best all [] i h lt = absurd (omega arith)
+holds-at rule b best all (node ∷ nodes) zero h lt = h.0.0
+holds-at rule b best all (node ∷ nodes) (suc i) h lt = holds-at rule b best all nodes i h.1 (omega (arith, lt))
 
-module _ (b : Problem) (budget : ℕ) (nodes : List Node) (best : TimedOrder) (left : ℕ) (allowances : List ℕ) (spent : ℕ) (h : IsKept b budget nodes best left allowances spent) where
+module _ (rule : Rule) (b : Problem) (budget : ℕ) (nodes : List Node) (best : TimedOrder) (left : ℕ) (allowances : List ℕ) (spent : ℕ) (h : IsKept rule b budget nodes best left allowances spent) where
   abbrev old : Ledger
   old = state_of b nodes best.numbers left allowances spent
 
-  pub kept-covers : Covers b budget old
-  kept-covers = reached-covers b budget (length allowances) old h.reached
+  pub kept-covers : Covers rule b budget old
+  kept-covers = reached-covers rule b budget (length allowances) old h.reached
 
   -- what is left, allowed to a worker and spent is within the budget
   pub kept-room : (i : ℕ) → left + get_or allowances i 0 + spent ≤ budget
@@ -63,7 +64,7 @@ module _ (b : Problem) (budget : ℕ) (nodes : List Node) (best : TimedOrder) (l
 
   pub kept-beginning : (i : ℕ) → i < length nodes → IsBeginning b.block (get_or (prefixes nodes) i [])
   kept-beginning i lt =
-      subst (λ (n : model.Node). IsBeginning b.block n.prefix) (at-nodes b nodes i lt) (holds-at b (best_time b old) (nodes_of b nodes) i kept-covers.nodes (omega (arith, lt, length-nodes b nodes)))
+      subst (λ (n : model.Node). IsBeginning b.block n.prefix) (at-nodes b nodes i lt) (holds-at rule b (best_time b old) (nodes_of b nodes) (nodes_of b nodes) i kept-covers.nodes (omega (arith, lt, length-nodes b nodes)))
 
   pub kept-short : (i : ℕ) → i < length nodes → length (get_or (prefixes nodes) i []) ≤ length b.block
   kept-short i lt =
@@ -71,11 +72,11 @@ module _ (b : Problem) (budget : ℕ) (nodes : List Node) (best : TimedOrder) (l
       omega (arith, legal.whole, length-append (get_or (prefixes nodes) i []) rest)
 
   -- after a step
-  pub kept-next : (nodes2 : List Node) (best2 : TimedOrder) (left2 : ℕ) (allowances2 : List ℕ) (spent2 : ℕ) (event : Event) (reply : Reply) → best2.problem ≡ b → HaveFloors b nodes2 → length nodes2 ≤ 1 + BLOCK_LIMIT * spent2 → length allowances2 ≡ length allowances → Step b old event reply (state_of b nodes2 best2.numbers left2 allowances2 spent2) → IsKept b budget nodes2 best2 left2 allowances2 spent2
+  pub kept-next : (nodes2 : List Node) (best2 : TimedOrder) (left2 : ℕ) (allowances2 : List ℕ) (spent2 : ℕ) (event : Event) (reply : Reply) → best2.problem ≡ b → HaveFloors b nodes2 → length nodes2 ≤ 1 + BLOCK_LIMIT * spent2 → length allowances2 ≡ length allowances → Step rule b old event reply (state_of b nodes2 best2.numbers left2 allowances2 spent2) → IsKept rule b budget nodes2 best2 left2 allowances2 spent2
   kept-next nodes2 best2 left2 allowances2 spent2 event reply own floors room same step =
       let new = state_of b nodes2 best2.numbers left2 allowances2 spent2 in
       record {
-        reached = subst (λ n. IsReached b budget n new) (sym same) (reached-step b budget (length allowances) old new event reply h.reached step);
+        reached = subst (λ n. IsReached rule b budget n new) (sym same) (reached-step rule b budget (length allowances) old new event reply h.reached step);
         own = own;
         floors = floors;
         room = room;
@@ -83,12 +84,12 @@ module _ (b : Problem) (budget : ℕ) (nodes : List Node) (best : TimedOrder) (l
         workers = omega (arith, h.workers, same);
       }
 
-  pub kept-grant : (w share : ℕ) → 1 ≤ w → w ≤ length allowances → share ≡ min 64 left → IsKept b budget nodes best (left - share) (set allowances (w - 1) (get_or allowances (w - 1) 0 + share)) spent
+  pub kept-grant : (w share : ℕ) → 1 ≤ w → w ≤ length allowances → share ≡ min 64 left → IsKept rule b budget nodes best (left - share) (set allowances (w - 1) (get_or allowances (w - 1) 0 + share)) spent
   kept-grant w share one le is =
-      subst (λ n. IsKept b budget nodes best (left - n) (set allowances (w - 1) (get_or allowances (w - 1) 0 + n)) spent) (sym is)
+      subst (λ n. IsKept rule b budget nodes best (left - n) (set allowances (w - 1) (get_or allowances (w - 1) 0 + n)) spent) (sym is)
       (kept-next nodes best (left - min 64 left) (set allowances (w - 1) (get_or allowances (w - 1) 0 + min 64 left)) spent (Grant w) (Granted (min 64 left)) h.own h.floors h.room (length-set allowances (w - 1) (get_or allowances (w - 1) 0 + min 64 left)) ((one, le), (refl, refl)))
 
-  pub kept-retire : (w : ℕ) → 1 ≤ w → w ≤ length allowances → IsKept b budget nodes best (left + get_or allowances (w - 1) 0) (set allowances (w - 1) 0) spent
+  pub kept-retire : (w : ℕ) → 1 ≤ w → w ≤ length allowances → IsKept rule b budget nodes best (left + get_or allowances (w - 1) 0) (set allowances (w - 1) 0) spent
   kept-retire w one le =
       kept-next nodes best (left + get_or allowances (w - 1) 0) (set allowances (w - 1) 0) spent (Retire w) Retired h.own h.floors h.room (length-set allowances (w - 1) 0) ((one, le), refl)
 
@@ -100,24 +101,24 @@ module _ (b : Problem) (budget : ℕ) (nodes : List Node) (best : TimedOrder) (l
   moved : (i : ℕ) (s : State) (seen : model.State) → i < length nodes → ((at : List ℕ) → seen_state b at s ≡ seen) → state_of b (with_state nodes i s) best.numbers left allowances spent ≡ model.after_move old i seen
   moved i s seen lt is = ap (λ (ns : List model.Node). record { nodes = ns; best = best.numbers; left = left; allowances = allowances; spent = spent }) (nodes-state b nodes i s seen lt is)
 
-  claim-moves : (w i : ℕ) → i < length nodes → (node_at nodes i).state ≡ state.Open → Moves b old (Claim w) (Claimed (Some i)) (state_of b (with_state nodes i state.Out) best.numbers left allowances spent)
+  claim-moves : (w i : ℕ) → i < length nodes → (node_at nodes i).state ≡ state.Open → Moves rule b old (Claim w) (Claimed (Some i)) (state_of b (with_state nodes i state.Out) best.numbers left allowances spent)
   claim-moves w i within was =
       (omega (arith, within, length-nodes b nodes), ap (λ (n : model.Node). n.state) (at-nodes b nodes i within) ∙ ap (seen_state b (get_or (prefixes nodes) i [])) was, moved i state.Out model.Out within (λ at. refl))
 
-  pub kept-claim : (w i : ℕ) → 1 ≤ w → w ≤ length allowances → i < length nodes → (node_at nodes i).state ≡ state.Open → IsKept b budget (with_state nodes i state.Out) best left allowances spent
+  pub kept-claim : (w i : ℕ) → 1 ≤ w → w ≤ length allowances → i < length nodes → (node_at nodes i).state ≡ state.Open → IsKept rule b budget (with_state nodes i state.Out) best left allowances spent
   kept-claim w i one le within was =
       kept-next (with_state nodes i state.Out) best left allowances spent (Claim w) (Claimed (Some i)) h.own (floors-state b nodes i state.Out within (λ e. open-split (sym was ∙ e)) h.floors) (moved-room i state.Out) refl ((one, le), claim-moves w i within was)
     where
       open-split : state.Open ≡ state.Split → ⊥
       open-split e = absurd cc
 
-  pub event-claim : (l : MachineOf) (w i : ℕ) → machine_of b budget nodes best.numbers left allowances spent ≡ l → 1 ≤ w → w ≤ length allowances → i < length nodes → (node_at nodes i).state ≡ state.Open → IsMove l (Claim w) (Claimed (Some i)) (machine_of b budget (with_state nodes i state.Out) best.numbers left allowances spent)
+  pub event-claim : (l : MachineOf) (w i : ℕ) → machine_of rule b budget nodes best.numbers left allowances spent ≡ l → 1 ≤ w → w ≤ length allowances → i < length nodes → (node_at nodes i).state ≡ state.Open → IsMove l (Claim w) (Claimed (Some i)) (machine_of rule b budget (with_state nodes i state.Out) best.numbers left allowances spent)
   event-claim l w i is one le within was =
-      subst (λ (l : MachineOf). IsMove l (Claim w) (Claimed (Some i)) (machine_of b budget (with_state nodes i state.Out) best.numbers left allowances spent)) is (refl, refl, refl, ((one, le), claim-moves w i within was))
+      subst (λ (l : MachineOf). IsMove l (Claim w) (Claimed (Some i)) (machine_of rule b budget (with_state nodes i state.Out) best.numbers left allowances spent)) is (refl, refl, refl, ((one, le), claim-moves w i within was), refl)
 
-  pub event-none : (l : MachineOf) (w : ℕ) → machine_of b budget nodes best.numbers left allowances spent ≡ l → 1 ≤ w → w ≤ length allowances → tally is_open nodes ≡ 0 → IsMove l (Claim w) (Claimed None) l
+  pub event-none : (l : MachineOf) (w : ℕ) → machine_of rule b budget nodes best.numbers left allowances spent ≡ l → 1 ≤ w → w ≤ length allowances → tally is_open nodes ≡ 0 → IsMove l (Claim w) (Claimed None) l
   event-none l w is one le none =
-      subst (λ (l : MachineOf). IsMove l (Claim w) (Claimed None) l) is (refl, refl, refl, ((one, le), (open-nodes b nodes ∙ none, refl)))
+      subst (λ (l : MachineOf). IsMove l (Claim w) (Claimed None) l) is (refl, refl, refl, ((one, le), (open-nodes b nodes ∙ none, refl)), refl)
 
   -- floors are far below the limit up to which they are ranked
   ranked-floor : length b.block ≤ BLOCK_LIMIT → (i : ℕ) → i < length nodes → (node_at nodes i).state ≢ state.Split → ranked (node_at nodes i).value ≡ floor_value b (get_or (prefixes nodes) i [])
@@ -142,61 +143,61 @@ module _ (b : Problem) (budget : ℕ) (nodes : List Node) (best : TimedOrder) (l
       open-within (n ∷ ns) zero e = omega arith
       open-within (n ∷ ns) (suc k) e = omega (arith, open-within ns k e)
 
-  back-moves : (w i : ℕ) → IsOut nodes i → Moves b old (Back w i) Returned (state_of b (with_state nodes i state.Open) best.numbers left allowances spent)
+  back-moves : (w i : ℕ) → IsOut nodes i → Moves rule b old (Back w i) Returned (state_of b (with_state nodes i state.Open) best.numbers left allowances spent)
   back-moves w i out = (is-out b nodes best.numbers left allowances spent i out, moved i state.Open model.Open out.0 (λ at. refl))
 
-  pub kept-back : (w i : ℕ) → 1 ≤ w → w ≤ length allowances → IsOut nodes i → IsKept b budget (with_state nodes i state.Open) best left allowances spent
+  pub kept-back : (w i : ℕ) → 1 ≤ w → w ≤ length allowances → IsOut nodes i → IsKept rule b budget (with_state nodes i state.Open) best left allowances spent
   kept-back w i one le out =
       kept-next (with_state nodes i state.Open) best left allowances spent (Back w i) Returned h.own (floors-state b nodes i state.Open out.0 (λ e. out-split (sym out.1 ∙ e)) h.floors) (moved-room i state.Open) refl ((one, le), back-moves w i out)
     where
       out-split : state.Out ≡ state.Split → ⊥
       out-split e = absurd cc
 
-  pub event-back : (l : MachineOf) (w i : ℕ) → machine_of b budget nodes best.numbers left allowances spent ≡ l → 1 ≤ w → w ≤ length allowances → IsOut nodes i → IsMove l (Back w i) Returned (machine_of b budget (with_state nodes i state.Open) best.numbers left allowances spent)
+  pub event-back : (l : MachineOf) (w i : ℕ) → machine_of rule b budget nodes best.numbers left allowances spent ≡ l → 1 ≤ w → w ≤ length allowances → IsOut nodes i → IsMove l (Back w i) Returned (machine_of rule b budget (with_state nodes i state.Open) best.numbers left allowances spent)
   event-back l w i is one le out =
-      subst (λ (l : MachineOf). IsMove l (Back w i) Returned (machine_of b budget (with_state nodes i state.Open) best.numbers left allowances spent)) is (refl, refl, refl, ((one, le), back-moves w i out))
+      subst (λ (l : MachineOf). IsMove l (Back w i) Returned (machine_of rule b budget (with_state nodes i state.Open) best.numbers left allowances spent)) is (refl, refl, refl, ((one, le), back-moves w i out), refl)
 
-  pub event-not-out : (l : MachineOf) (w i : ℕ) → machine_of b budget nodes best.numbers left allowances spent ≡ l → 1 ≤ w → w ≤ length allowances → ¬ IsOut nodes i → IsMove l (Back w i) NotOut l
+  pub event-not-out : (l : MachineOf) (w i : ℕ) → machine_of rule b budget nodes best.numbers left allowances spent ≡ l → 1 ≤ w → w ≤ length allowances → ¬ IsOut nodes i → IsMove l (Back w i) NotOut l
   event-not-out l w i is one le never =
-      subst (λ (l : MachineOf). IsMove l (Back w i) NotOut l) is (refl, refl, refl, ((one, le), (not-out b nodes best.numbers left allowances spent i never, refl)))
+      subst (λ (l : MachineOf). IsMove l (Back w i) NotOut l) is (refl, refl, refl, ((one, le), (not-out b nodes best.numbers left allowances spent i never, refl)), refl)
 
   -- ORDERS THAT ARE OFFERED
 
-  lower-moves : (w : ℕ) (timed : TimedOrder) → timed.problem ≡ b → IsLegal b.block timed.numbers → total_of b timed.numbers < total_of b best.numbers → Moves b old (Offer w true timed.numbers (total_of timed.problem timed.numbers)) Lower (state_of b nodes timed.numbers left allowances spent)
+  lower-moves : (w : ℕ) (timed : TimedOrder) → timed.problem ≡ b → IsLegal b.block timed.numbers → total_of b timed.numbers < total_of b best.numbers → Moves rule b old (Offer w true timed.numbers (total_of timed.problem timed.numbers)) Lower (state_of b nodes timed.numbers left allowances spent)
   lower-moves w timed own legal lt =
       let same : total_of timed.problem timed.numbers ≡ total_of b timed.numbers = ap (λ p. total_of p timed.numbers) own in
       ((refl, legal, same), omega (arith, same, lt), refl)
 
-  pub kept-lower : (w : ℕ) (timed : TimedOrder) → 1 ≤ w → w ≤ length allowances → timed.problem ≡ b → IsLegal b.block timed.numbers → total_of b timed.numbers < total_of b best.numbers → IsKept b budget nodes timed left allowances spent
+  pub kept-lower : (w : ℕ) (timed : TimedOrder) → 1 ≤ w → w ≤ length allowances → timed.problem ≡ b → IsLegal b.block timed.numbers → total_of b timed.numbers < total_of b best.numbers → IsKept rule b budget nodes timed left allowances spent
   kept-lower w timed one le own legal lt =
       kept-next nodes timed left allowances spent (Offer w true timed.numbers (total_of timed.problem timed.numbers)) Lower own h.floors h.room refl ((one, le), lower-moves w timed own legal lt)
 
   abbrev OfferedAs : MachineOf → ℕ → TimedOrder → Reply → MachineOf → Type 0
   OfferedAs l w timed reply new = (event : Event) × IsOfferOf l.problem w timed.problem timed.numbers event × IsMove l event reply new
 
-  pub event-lower : (l : MachineOf) (w : ℕ) (timed : TimedOrder) → machine_of b budget nodes best.numbers left allowances spent ≡ l → 1 ≤ w → w ≤ length allowances → timed.problem ≡ b → IsLegal b.block timed.numbers → total_of b timed.numbers < total_of b best.numbers → OfferedAs l w timed Lower (machine_of b budget nodes timed.numbers left allowances spent)
+  pub event-lower : (l : MachineOf) (w : ℕ) (timed : TimedOrder) → machine_of rule b budget nodes best.numbers left allowances spent ≡ l → 1 ≤ w → w ≤ length allowances → timed.problem ≡ b → IsLegal b.block timed.numbers → total_of b timed.numbers < total_of b best.numbers → OfferedAs l w timed Lower (machine_of rule b budget nodes timed.numbers left allowances spent)
   event-lower l w timed is one le own legal lt =
-      subst (λ (l : MachineOf). OfferedAs l w timed Lower (machine_of b budget nodes timed.numbers left allowances spent)) is
-      (Offer w true timed.numbers (total_of timed.problem timed.numbers), (true, ((λ e. own), (λ e. refl)), refl), (refl, refl, refl, ((one, le), lower-moves w timed own legal lt)))
+      subst (λ (l : MachineOf). OfferedAs l w timed Lower (machine_of rule b budget nodes timed.numbers left allowances spent)) is
+      (Offer w true timed.numbers (total_of timed.problem timed.numbers), (true, ((λ e. own), (λ e. refl)), refl), (refl, refl, refl, ((one, le), lower-moves w timed own legal lt), refl))
 
-  pub event-not-lower : (l : MachineOf) (w : ℕ) (timed : TimedOrder) (least : ℕ) → machine_of b budget nodes best.numbers left allowances spent ≡ l → 1 ≤ w → w ≤ length allowances → timed.problem ≡ b → IsLegal b.block timed.numbers → least ≡ total_of b best.numbers → total_of b best.numbers ≤ total_of b timed.numbers → OfferedAs l w timed (NotLower least) l
+  pub event-not-lower : (l : MachineOf) (w : ℕ) (timed : TimedOrder) (least : ℕ) → machine_of rule b budget nodes best.numbers left allowances spent ≡ l → 1 ≤ w → w ≤ length allowances → timed.problem ≡ b → IsLegal b.block timed.numbers → least ≡ total_of b best.numbers → total_of b best.numbers ≤ total_of b timed.numbers → OfferedAs l w timed (NotLower least) l
   event-not-lower l w timed least is one le own legal total ge =
       let same : total_of timed.problem timed.numbers ≡ total_of b timed.numbers = ap (λ p. total_of p timed.numbers) own in
       subst (λ (l : MachineOf). OfferedAs l w timed (NotLower least) l) is
-      (Offer w true timed.numbers (total_of timed.problem timed.numbers), (true, ((λ e. own), (λ e. refl)), refl), (refl, refl, refl, ((one, le), ((refl, legal, same), omega (arith, ge, same), total, refl))))
+      (Offer w true timed.numbers (total_of timed.problem timed.numbers), (true, ((λ e. own), (λ e. refl)), refl), (refl, refl, refl, ((one, le), ((refl, legal, same), omega (arith, ge, same), total, refl)), refl))
 
-  pub event-other : (l : MachineOf) (w : ℕ) (timed : TimedOrder) → machine_of b budget nodes best.numbers left allowances spent ≡ l → 1 ≤ w → w ≤ length allowances → (own : Bool) → IsTrue own ↔ (timed.problem ≡ b) → own ≡ false → OfferedAs l w timed OtherBlock l
+  pub event-other : (l : MachineOf) (w : ℕ) (timed : TimedOrder) → machine_of rule b budget nodes best.numbers left allowances spent ≡ l → 1 ≤ w → w ≤ length allowances → (own : Bool) → IsTrue own ↔ (timed.problem ≡ b) → own ≡ false → OfferedAs l w timed OtherBlock l
   event-other l w timed is one le own iff not =
       subst (λ (l : MachineOf). OfferedAs l w timed OtherBlock l) is
-      (Offer w own timed.numbers (total_of timed.problem timed.numbers), (own, iff, refl), (refl, refl, refl, ((one, le), (not, refl))))
+      (Offer w own timed.numbers (total_of timed.problem timed.numbers), (own, iff, refl), (refl, refl, refl, ((one, le), (not, refl)), refl))
 
 -- THE OPENING
 
-pub kept-opening : (b : Problem) (budget workers : ℕ) (best : TimedOrder) (nodes : List Node) (root : Node) (allowances : List ℕ) → best ≡ record { problem = b; numbers = numbers b.block } → nodes ≡ root ∷ [] → root.state ≡ state.Open → root.value ≡ floor_value b [] → allowances ≡ replicate workers 0 → budget ≤ BUDGET_LIMIT → workers ≤ 255 → IsKept b budget nodes best budget allowances 0
-kept-opening b budget workers best nodes root allowances is one open-root value all few at_most =
+pub kept-opening : (rule : Rule) (b : Problem) (budget workers : ℕ) (best : TimedOrder) (nodes : List Node) (root : Node) (allowances : List ℕ) → best ≡ record { problem = b; numbers = numbers b.block } → nodes ≡ root ∷ [] → root.state ≡ state.Open → root.value ≡ floor_value b [] → allowances ≡ replicate workers 0 → budget ≤ BUDGET_LIMIT → workers ≤ 255 → IsKept rule b budget nodes best budget allowances 0
+kept-opening rule b budget workers best nodes root allowances is one open-root value all few at_most =
     rw (is, all, one)
     (record {
-      reached = subst (λ n. IsReached b budget n (state_of b (root ∷ []) (numbers b.block) budget (replicate workers 0) 0)) (sym (length-replicate workers 0)) ([], ap (λ s. record { nodes = record { prefix = []; state = s } ∷ []; best = numbers b.block; left = budget; allowances = replicate workers 0; spent = 0 }) (ap (seen_state b []) open-root));
+      reached = subst (λ n. IsReached rule b budget n (state_of b (root ∷ []) (numbers b.block) budget (replicate workers 0) 0)) (sym (length-replicate workers 0)) ([], ap (λ s. record { nodes = record { prefix = []; state = s } ∷ []; best = numbers b.block; left = budget; allowances = replicate workers 0; spent = 0 }) (ap (seen_state b []) open-root));
       own = refl;
       floors = first;
       room = omega arith;

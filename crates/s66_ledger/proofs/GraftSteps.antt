@@ -6,15 +6,16 @@ use Rattle.s66_isa.specs.Lists.{weigh}
 use Rattle.s66_isa.proofs.Lists.{ones, weigh-filter}
 use Rattle.s66_isa.specs.declared.instr.Instr.{Instr}
 use Rattle.s66_isa.specs.Table.{numbers}
+use Rattle.s66_model.specs.declared.rule.Rule.{Rule}
 use Rattle.s66_model.specs.Timing.{Problem, total_of}
 use Rattle.s66_model.specs.LegalOrder.{ready, is_ready}
 use Rattle.s66_model.specs.Tree.{Tree, Alone, Parted, Kids, NoMore, Unsplit, Split, KidsHold, TreeHolds, flat_kids, flat, kid_splits, splits}
-use Rattle.s66_model.specs.Piece.{IsPiece}
+use Rattle.s66_model.specs.Piece.{Tip, IsPiece}
 use Rattle.s66_model.specs.Ledger as model
-use Rattle.s66_model.specs.Ledger.{Graft, Taken, NotOut, OtherPrefix, OverAllowance, Moves, root_state, new_nodes}
+use Rattle.s66_model.specs.Ledger.{Graft, Taken, NotOut, OtherPrefix, OverAllowance, Moves, root_state, new_nodes, AreNamed}
 use Rattle.s66_model.proofs.Beginnings.{length-rising}
 use Rattle.s66_time.specs.TimedOrder.{TimedOrder}
-use Rattle.s66_model.specs.Told.{Told, ToldHolds, tip_of}
+use Rattle.s66_model.specs.Told.{Told, tip_of}
 use Rattle.s66_node.specs.Pieces.{PieceOf, told_tree, tree_of}
 use Rattle.s66_model.proofs.TreesHold.{seen-splits}
 use Rattle.s66_model.proofs.Forests.{tree-match}
@@ -22,8 +23,10 @@ use Rattle.s66_ledger.specs.declared.node.Node.{Node}
 use Rattle.s66_ledger.specs.Nodes.{prefixes, nodes_of, HaveFloors}
 use Rattle.s66_ledger.specs.OpenNodes.{IsOut}
 use Rattle.s66_ledger.specs.LedgerMachine.{MachineOf, state_of, machine_of, IsKept}
-use Rattle.s66_ledger.specs.GraftMoves.{IsGraftMove}
+use Rattle.s66_ledger.specs.Opened.{opened, PlainHolds, IsPlain}
+use Rattle.s66_ledger.specs.GraftMoves.{IsGraftMove, taken_event, IsTakenMove}
 use Rattle.s66_ledger.proofs.SeenNodes.{at-nodes}
+use Rattle.s66_ledger.proofs.Opened.{same-splits, opened-opens, plain-piece, plain-are-named}
 use Rattle.s66_ledger.proofs.Events.{is-out, not-out, kept-next}
 
 -- HOW MANY LINES
@@ -55,15 +58,19 @@ module _ (block : List Instr) (Q : List ℕ → Told → Type 0) (few : length b
   tree-lines prefix (Parted numbers kids) h = omega (arith, kids-lines prefix numbers kids h.2, ap length h.1, ready-few block prefix, few)
 
 -- a piece has at most a line for its root and one for each child of a split
-pub piece-lines : (p : PieceOf) → TreeHolds p.problem.block (ToldHolds p.problem) p.prefix (told_tree p) → flat (told_tree p) ≡ p.knots → length p.problem.block ≤ BLOCK_LIMIT → length p.knots ≤ 1 + BLOCK_LIMIT * splits (tree_of p)
+pub piece-lines : (p : PieceOf) → IsPlain p → flat (told_tree p) ≡ p.knots → length p.problem.block ≤ BLOCK_LIMIT → length p.knots ≤ 1 + BLOCK_LIMIT * splits (tree_of p)
 piece-lines p told lines few =
-    omega (arith, ap length lines, tree-lines p.problem.block (ToldHolds p.problem) few p.prefix (told_tree p) told, seen-splits (tip_of p.problem) (told_tree p) p.prefix (tree-match p.problem.block (ToldHolds p.problem) (told_tree p) p.prefix told))
+    omega (arith, ap length lines, tree-lines p.problem.block (PlainHolds p.problem) few p.prefix (told_tree p) told, seen-splits (tip_of p.problem) (told_tree p) p.prefix (tree-match p.problem.block (PlainHolds p.problem) (told_tree p) p.prefix told))
 
 -- REPLIES
 
-module _ (b : Problem) (budget : ℕ) (nodes : List Node) (best : TimedOrder) (left : ℕ) (allowances : List ℕ) (spent : ℕ) (h : IsKept b budget nodes best left allowances spent) (w i : ℕ) (p : PieceOf) (one : 1 ≤ w) (le : w ≤ length allowances) (own : Bool) (owns : IsTrue own ↔ (p.problem ≡ b)) where
+module _ (rule : Rule) (b : Problem) (budget : ℕ) (nodes : List Node) (best : TimedOrder) (left : ℕ) (allowances : List ℕ) (spent : ℕ) (h : IsKept rule b budget nodes best left allowances spent) (w i : ℕ) (p : PieceOf) (one : 1 ≤ w) (le : w ≤ length allowances) (own : Bool) (owns : IsTrue own ↔ ((p.rule ≡ rule) × (p.problem ≡ b))) where
   abbrev here : MachineOf
-  here = machine_of b budget nodes best.numbers left allowances spent
+  here = machine_of rule b budget nodes best.numbers left allowances spent
+
+  -- what is taken of it
+  abbrev whole : Tree Tip
+  whole = tree_of (opened p)
 
   prefix-is : i < length nodes → (model.node_at (nodes_of b nodes) i).prefix ≡ get_or (prefixes nodes) i []
   prefix-is lt = ap (λ (n : model.Node). n.prefix) (at-nodes b nodes i lt)
@@ -71,50 +78,54 @@ module _ (b : Problem) (budget : ℕ) (nodes : List Node) (best : TimedOrder) (l
   pub graft-not-out : (l : MachineOf) → here ≡ l → ¬ IsOut nodes i → IsGraftMove l w i p NotOut l
   graft-not-out l is never =
       subst (λ (l : MachineOf). IsGraftMove l w i p NotOut l) is
-      (Graft w i own p.prefix (splits (tree_of p)) None, (own, owns, refl), (refl, refl, refl, ((one, le), (not-out b nodes best.numbers left allowances spent i never, refl))))
+      (Graft w i own p.prefix (splits whole) None, (own, whole, owns, opened-opens p, refl), (refl, refl, refl, ((one, le), (not-out b nodes best.numbers left allowances spent i never, refl)), refl))
 
   pub graft-other : (l : MachineOf) → here ≡ l → IsOut nodes i → own ≡ false → IsGraftMove l w i p OtherPrefix l
   graft-other l is out other =
       subst (λ (l : MachineOf). IsGraftMove l w i p OtherPrefix l) is
-      (Graft w i own p.prefix (splits (tree_of p)) None, (own, owns, refl), (refl, refl, refl, ((one, le), (is-out b nodes best.numbers left allowances spent i out, (λ over. true≢false (sym over.0 ∙ other)), refl))))
+      (Graft w i own p.prefix (splits whole) None, (own, whole, owns, opened-opens p, refl), (refl, refl, refl, ((one, le), (is-out b nodes best.numbers left allowances spent i out, (λ over. true≢false (sym over.0 ∙ other)), refl)), refl))
 
   pub graft-other-prefix : (l : MachineOf) → here ≡ l → IsOut nodes i → ¬ (get_or (prefixes nodes) i [] ≡ p.prefix) → IsGraftMove l w i p OtherPrefix l
   graft-other-prefix l is out other =
       subst (λ (l : MachineOf). IsGraftMove l w i p OtherPrefix l) is
-      (Graft w i own p.prefix (splits (tree_of p)) None, (own, owns, refl), (refl, refl, refl, ((one, le), (is-out b nodes best.numbers left allowances spent i out, (λ over. other (sym (over.1 ∙ prefix-is out.0))), refl))))
+      (Graft w i own p.prefix (splits whole) None, (own, whole, owns, opened-opens p, refl), (refl, refl, refl, ((one, le), (is-out b nodes best.numbers left allowances spent i out, (λ over. other (sym (over.1 ∙ prefix-is out.0))), refl)), refl))
 
   pub graft-over : (l : MachineOf) → here ≡ l → IsOut nodes i → own ≡ true → get_or (prefixes nodes) i [] ≡ p.prefix → get_or allowances (w - 1) 0 < splits (tree_of p) → IsGraftMove l w i p OverAllowance l
   graft-over l is out mine over lt =
       subst (λ (l : MachineOf). IsGraftMove l w i p OverAllowance l) is
-      (Graft w i own p.prefix (splits (tree_of p)) None, (own, owns, refl), (refl, refl, refl, ((one, le), (is-out b nodes best.numbers left allowances spent i out, (mine, sym over ∙ sym (prefix-is out.0)), lt, refl))))
+      (Graft w i own p.prefix (splits whole) None, (own, whole, owns, opened-opens p, refl), (refl, refl, refl, ((one, le), (is-out b nodes best.numbers left allowances spent i out, (mine, sym over ∙ sym (prefix-is out.0)), omega (arith, lt, same-splits (tree_of p) whole (opened-opens p)), refl)), refl))
 
   module _ (mine : own ≡ true) where
     abbrev same : p.problem ≡ b
-    same = owns.0 mine
+    same = (owns.0 mine).1
 
     pub piece-floors : HaveFloors p.problem nodes
     piece-floors = subst (λ (q : Problem). HaveFloors q nodes) (sym same) h.floors
 
-    module _ (new : List Node) (count : ℕ) (out : IsOut nodes i) (over : get_or (prefixes nodes) i [] ≡ p.prefix) (counts : count ≡ splits (tree_of p)) (within : count ≤ get_or allowances (w - 1) 0) (piece : IsPiece p.problem p.prefix (tree_of p)) (planted : nodes_of p.problem new ≡ model.with_state (nodes_of p.problem nodes) i (root_state p.problem (total_of best.problem best.numbers) p.prefix (tree_of p)) ++ new_nodes p.problem (total_of best.problem best.numbers) p.prefix (tree_of p)) where
+    module _ (new : List Node) (count : ℕ) (out : IsOut nodes i) (over : get_or (prefixes nodes) i [] ≡ p.prefix) (counts : count ≡ splits whole) (within : count ≤ get_or allowances (w - 1) 0) (plain : IsPlain (opened p)) (planted : nodes_of p.problem new ≡ model.with_state (nodes_of p.problem nodes) i (root_state p.problem (total_of best.problem best.numbers) p.prefix whole) ++ new_nodes p.problem (total_of best.problem best.numbers) p.prefix whole) where
       abbrev after : MachineOf
-      after = machine_of b budget new best.numbers left (set allowances (w - 1) (get_or allowances (w - 1) 0 - count)) (spent + count)
+      after = machine_of rule b budget new best.numbers left (set allowances (w - 1) (get_or allowances (w - 1) 0 - count)) (spent + count)
 
-      taken-moves : Moves b (state_of b nodes best.numbers left allowances spent) (Graft w i true p.prefix (splits (tree_of p)) (Some (tree_of p))) Taken after.state
+      taken-moves : Moves rule b (state_of b nodes best.numbers left allowances spent) (Graft w i true p.prefix (splits whole) (Some whole)) Taken after.state
       taken-moves =
-          let made : nodes_of b new ≡ model.with_state (nodes_of b nodes) i (root_state b (total_of b best.numbers) p.prefix (tree_of p)) ++ new_nodes b (total_of b best.numbers) p.prefix (tree_of p) =
-          subst (λ (q : Problem). nodes_of b new ≡ model.with_state (nodes_of b nodes) i (root_state b (total_of q best.numbers) p.prefix (tree_of p)) ++ new_nodes b (total_of q best.numbers) p.prefix (tree_of p)) h.own
-          (subst (λ (q : Problem). nodes_of q new ≡ model.with_state (nodes_of q nodes) i (root_state q (total_of best.problem best.numbers) p.prefix (tree_of p)) ++ new_nodes q (total_of best.problem best.numbers) p.prefix (tree_of p)) same planted) in
-          let state : after.state ≡ model.after_graft b (state_of b nodes best.numbers left allowances spent) w i p.prefix (tree_of p) =
+          let made : nodes_of b new ≡ model.with_state (nodes_of b nodes) i (root_state b (total_of b best.numbers) p.prefix whole) ++ new_nodes b (total_of b best.numbers) p.prefix whole =
+          subst (λ (q : Problem). nodes_of b new ≡ model.with_state (nodes_of b nodes) i (root_state b (total_of q best.numbers) p.prefix whole) ++ new_nodes b (total_of q best.numbers) p.prefix whole) h.own
+          (subst (λ (q : Problem). nodes_of q new ≡ model.with_state (nodes_of q nodes) i (root_state q (total_of best.problem best.numbers) p.prefix whole) ++ new_nodes q (total_of best.problem best.numbers) p.prefix whole) same planted) in
+          let state : after.state ≡ model.after_graft b (state_of b nodes best.numbers left allowances spent) w i p.prefix whole =
           ap (λ n. record { nodes = nodes_of b new; best = best.numbers; left = left; allowances = set allowances (w - 1) (get_or allowances (w - 1) 0 - n); spent = spent + n }) counts
-          ∙ ap (λ (ns : List model.Node). record { nodes = ns; best = best.numbers; left = left; allowances = set allowances (w - 1) (get_or allowances (w - 1) 0 - splits (tree_of p)); spent = spent + splits (tree_of p) }) made in
-          (is-out b nodes best.numbers left allowances spent i out, (refl, sym over ∙ sym (prefix-is out.0)), omega (arith, counts, within), refl, subst (λ (q : Problem). IsPiece q p.prefix (tree_of p)) same piece, state)
+          ∙ ap (λ (ns : List model.Node). record { nodes = ns; best = best.numbers; left = left; allowances = set allowances (w - 1) (get_or allowances (w - 1) 0 - splits whole); spent = spent + splits whole }) made in
+          (is-out b nodes best.numbers left allowances spent i out, (refl, sym over ∙ sym (prefix-is out.0)), omega (arith, counts, within), refl, subst (λ (q : Problem). IsPiece rule q p.prefix whole) same (plain-piece rule (opened p) plain), state, subst (λ (q : Problem). AreNamed rule q after.state.nodes p.prefix whole) same (plain-are-named rule (opened p) after.state.nodes plain))
 
-      pub graft-taken : (l : MachineOf) → here ≡ l → IsGraftMove l w i p Taken after
+      pub graft-taken : (l : MachineOf) → here ≡ l → IsTakenMove l w i p after
       graft-taken l is =
-          subst (λ (l : MachineOf). IsGraftMove l w i p Taken after) is
-          (Graft w i true p.prefix (splits (tree_of p)) (Some (tree_of p)), (true, ((λ e. same), (λ e. refl)), refl), (refl, refl, length-set allowances (w - 1) (get_or allowances (w - 1) 0 - count), ((one, le), taken-moves)))
+          subst (λ (l : MachineOf). IsTakenMove l w i p after) is
+          (record {
+            rule = (owns.0 mine).0;
+            problem = same;
+            move = (refl, refl, length-set allowances (w - 1) (get_or allowances (w - 1) 0 - count), ((one, le), taken-moves), refl);
+          })
 
-      pub kept-taken : HaveFloors p.problem new → length new + 1 ≡ length nodes + length p.knots → length p.knots ≤ 1 + BLOCK_LIMIT * splits (tree_of p) → IsKept b budget new best left (set allowances (w - 1) (get_or allowances (w - 1) 0 - count)) (spent + count)
+      pub kept-taken : HaveFloors p.problem new → length new + 1 ≡ length nodes + length (opened p).knots → length (opened p).knots ≤ 1 + BLOCK_LIMIT * splits whole → IsKept rule b budget new best left (set allowances (w - 1) (get_or allowances (w - 1) 0 - count)) (spent + count)
       kept-taken floors made lines =
-          kept-next b budget nodes best left allowances spent h new best left (set allowances (w - 1) (get_or allowances (w - 1) 0 - count)) (spent + count) (Graft w i true p.prefix (splits (tree_of p)) (Some (tree_of p))) Taken h.own
+          kept-next rule b budget nodes best left allowances spent h new best left (set allowances (w - 1) (get_or allowances (w - 1) 0 - count)) (spent + count) (Graft w i true p.prefix (splits whole) (Some whole)) Taken h.own
           (subst (λ (q : Problem). HaveFloors q new) same floors) (omega (arith, made, lines, counts, h.room)) (length-set allowances (w - 1) (get_or allowances (w - 1) 0 - count)) ((one, le), taken-moves)

@@ -9,20 +9,21 @@ use Rattle.s66_ledger.specs.Finishing.{Leads}
 use Rattle.s66_ledger.specs.LedgerMachine.{MachineOf, IsMove}
 
 pub leads-nowhere : (l : MachineOf) → Leads l l
-leads-nowhere l = (refl, refl, refl, ([], refl))
+leads-nowhere l = (refl, refl, refl, ([], refl), refl)
 
 pub event-leads : (old new : MachineOf) (event : Event) (reply : Reply) → IsMove old event reply new → Leads old new
-event-leads old new event reply h = (h.0, h.1, h.2, ((event, reply) ∷ [], (new.state, h.3, refl)))
+event-leads old new event reply h = (h.0, h.1, h.2, ((event, reply) ∷ [], (new.state, h.3, refl)), h.4)
 
 pub leads-on : (old mid new : MachineOf) → Leads old mid → Leads mid new → Leads old new
-leads-on old mid new (p, q, r, (h, go)) (p2, q2, r2, (k, on)) =
-    (p2 ∙ p, q2 ∙ q, r2 ∙ r, (h ++ k, run-join old.problem h k old.state mid.state new.state go (subst (λ (b : Problem). Run b mid.state k new.state) p on)))
+leads-on old mid new (p, q, r, (h, go), by) (p2, q2, r2, (k, on), by2) =
+    let on_old : Run old.rule old.problem mid.state k new.state = subst (λ (b : Problem). Run old.rule b mid.state k new.state) p (subst (λ x. Run x mid.problem mid.state k new.state) by on) in
+    (p2 ∙ p, q2 ∙ q, r2 ∙ r, (h ++ k, run-join old.rule old.problem h k old.state mid.state new.state go on_old), by2 ∙ by)
 
 pub leads-far : (first second third fourth last : MachineOf) → Leads first second → Leads second third → Leads third fourth → Leads fourth last → Leads first last
 leads-far first second third fourth last a b c d = leads-on first third last (leads-on first second third a b) (leads-on third fourth last c d)
 
 pub leads-fall : (old new : MachineOf) → Leads old new → best_time new.problem new.state ≤ best_time new.problem old.state
-leads-fall old new (p, q, r, (h, go)) = run-falls new.problem h old.state new.state (subst (λ (b : Problem). Run b old.state h new.state) (sym p) go)
+leads-fall old new (p, q, r, (h, go), by) = run-falls old.rule new.problem h old.state new.state (subst (λ (b : Problem). Run old.rule b old.state h new.state) (sym p) go)
 
 -- LISTS
 

@@ -10,6 +10,7 @@ pub mod Leading
 pub mod LiveCounts
 pub mod LiveFloors
 pub mod OpenHeap
+pub mod Opened
 pub mod Planted
 pub mod PlantedNodes
 pub mod NodePrefixes

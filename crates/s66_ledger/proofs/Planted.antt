@@ -6,11 +6,12 @@ use Rattle.s66_model.specs.Tree.{Tree, Alone, Parted, Knot, AtTip, AtSplit, Tree
 use Rattle.s66_model.specs.Ledger as model
 use Rattle.s66_model.specs.Ledger.{kid_nodes, root_state, new_nodes}
 use Rattle.s66_node.specs.declared.knot.Knot as code
-use Rattle.s66_model.specs.Told.{Told, ToldLeaf, ToldFrontier, ToldHolds, tip_of, tree_seen}
+use Rattle.s66_model.specs.Told.{Told, ToldLeaf, ToldFrontier, ToldPassed, tip_of, tree_seen}
 use Rattle.s66_node.specs.SeenKnots.{seen_knot, seen}
 use Rattle.s66_ledger.specs.declared.node.Node.{Node}
 use Rattle.s66_ledger.specs.declared.node.State.{State}
 use Rattle.s66_ledger.specs.declared.node.State.TheVariants as state
+use Rattle.s66_ledger.specs.Opened.{open_told, open_line, opened, PlainHolds, open_knot, open_lines}
 use Rattle.s66_ledger.specs.Nodes.{prefixes, seen_state, nodes_of, node_at, no_node, with_state, is_open_state}
 use Rattle.s66_ledger.specs.Planting.{kids_of, told_state}
 use Rattle.s66_ledger.proofs.SeenNodes.{nodes-set, nodes-state, length-nodes, at-nodes}
@@ -37,18 +38,18 @@ some-flat : (tree : Tree Told) → 0 < length (flat tree)
 some-flat (Alone u) = omega arith
 some-flat (Parted ns kids) = omega arith
 
-module _ (tree : Tree Told) (knots : List code.Knot) (lines : List (Knot Told)) (preorder : flat tree ≡ lines) (seen-is : seen knots ≡ lines) where
+module _ (tree : Tree Told) (knots : List code.Knot) (lines : List (Knot Told)) (preorder : flat tree ≡ lines) (seen-is : open_lines knots ≡ lines) where
   pub some-knots : 0 < length knots
   some-knots = omega (arith, some-flat tree, ap length preorder, ap length seen-is, length-seen knots)
 
-  first-line : (k d : code.Knot) → k ≡ get_or knots 0 d → flat tree ≡ seen_knot k ∷ drop 1 (seen knots)
+  first-line : (k d : code.Knot) → k ≡ get_or knots 0 d → flat tree ≡ open_knot k ∷ drop 1 (open_lines knots)
   first-line k d is = preorder ∙ (sym seen-is ∙ line-at knots 0 k d some-knots is)
 
-  pub split-root : (k d : code.Knot) (numbers : List ℕ) → k ≡ get_or knots 0 d → seen_knot k ≡ AtSplit numbers → tree ≡ Parted numbers (kids_of tree)
-  split-root k d numbers is h = parted tree numbers (drop 1 (seen knots)) (first-line k d is ∙ ap (λ (x : Knot Told). x ∷ drop 1 (seen knots)) h)
+  pub split-root : (k d : code.Knot) (numbers : List ℕ) → k ≡ get_or knots 0 d → open_knot k ≡ AtSplit numbers → tree ≡ Parted numbers (kids_of tree)
+  split-root k d numbers is h = parted tree numbers (drop 1 (open_lines knots)) (first-line k d is ∙ ap (λ (x : Knot Told). x ∷ drop 1 (open_lines knots)) h)
 
-  pub tip-root : (k d : code.Knot) (t : Told) → k ≡ get_or knots 0 d → seen_knot k ≡ AtTip t → tree ≡ Alone t
-  tip-root k d t is h = alone tree t (drop 1 (seen knots)) (first-line k d is ∙ ap (λ (x : Knot Told). x ∷ drop 1 (seen knots)) h)
+  pub tip-root : (k d : code.Knot) (t : Told) → k ≡ get_or knots 0 d → open_knot k ≡ AtTip t → tree ≡ Alone t
+  tip-root k d t is h = alone tree t (drop 1 (open_lines knots)) (first-line k d is ∙ ap (λ (x : Knot Told). x ∷ drop 1 (open_lines knots)) h)
 
   pub tip-lines : (t : Told) → tree ≡ Alone t → length lines ≡ 1
   tip-lines t is = ap length (sym preorder ∙ ap flat is)
@@ -70,9 +71,9 @@ module _ (b : Problem) (best root : ℕ) (at : List ℕ) (tree : Tree Told) wher
       ∙ ap (λ (s : model.State). model.with_state (nodes_of b made) root s ++ new_nodes b best at seen) (sym cut)))
 
   -- only the root takes another state
-  pub alone-nodes : (old : List Node) (s : State) (t : Told) → root < length old → s ≡ told_state best t → get_or (prefixes old) root [] ≡ at → TreeHolds b.block (ToldHolds b) at tree → tree ≡ Alone t → Planted old (with_state old root s) tree
+  pub alone-nodes : (old : List Node) (s : State) (t : Told) → root < length old → s ≡ told_state best t → get_or (prefixes old) root [] ≡ at → TreeHolds b.block (PlainHolds b) at tree → tree ≡ Alone t → Planted old (with_state old root s) tree
   alone-nodes old s t lt g over holds is =
-      let told : ToldHolds b at t = subst (TreeHolds b.block (ToldHolds b) at) is holds in
+      let told : PlainHolds b at t = subst (TreeHolds b.block (PlainHolds b) at) is holds in
       let path : (model.node_at (nodes_of b old) root).prefix ≡ at = ap (λ (n : model.Node). n.prefix) (at-nodes b old root lt) ∙ over in
       let one : nodes_of b (with_state old root s) ≡ model.with_state (nodes_of b old) root (model.state_of b best at (tip_of b at t)) ++ [] =
       nodes-set b old root (record (node_at old root) { state = s }) no_node lt refl refl
@@ -90,3 +91,4 @@ told-closed best (ToldLeaf v) h = by-test (leb best v) h
     by-test true h = refl
     by-test false h = absurd cc
 told-closed best (ToldFrontier v) h = absurd cc
+told-closed best (ToldPassed v name) h = absurd cc

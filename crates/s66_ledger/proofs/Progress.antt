@@ -1,10 +1,11 @@
 -- Each round of a search has less to go, and where it stops no open node's floor is below the best time or the budget is spent.
 use Rattle.std.proofs.Common.{ℕ, suc, ◌+◌, ◌≤◌, ◌<◌, ◌≡◌, ◌⊎◌, true, cond, List, [], ◌∷◌, refl, sym, ap, arith, subst, ◌∙◌, inl, inr, Option, Some, None}
 use Rattle.s66_isa.specs.Lists.{tally, Among}
+use Rattle.s66_model.specs.declared.rule.Rule.{Rule}
 use Rattle.s66_model.specs.Timing.{Problem, total_of}
 use Rattle.s66_model.specs.Leaves.{Whole, value, floor_value}
 use Rattle.s66_model.specs.Tree.{Tree, Alone, Parted, splits}
-use Rattle.s66_model.specs.Piece.{Tip, Carries, Frontier}
+use Rattle.s66_model.specs.Piece.{Tip, Carries, Frontier, Passed}
 use Rattle.s66_model.specs.Expansion.{IsExpansion}
 use Rattle.s66_model.specs.Ledger.{Ledger, Node, Claim, Back, Claimed, Returned, Taken, best_time, allowance, is_open, node_at}
 use Rattle.s66_model.specs.Coverage.{Covers}
@@ -15,7 +16,10 @@ use Rattle.s66_node.specs.Pieces.{PieceOf, tree_of, IsBestTimed}
 use Rattle.s66_ledger.specs.Tickets.{TicketOf}
 use Rattle.s66_ledger.specs.ClaimedNodes.{IsLeastOpen}
 use Rattle.s66_ledger.specs.LedgerMachine.{MachineOf, IsMove}
-use Rattle.s66_ledger.specs.GraftMoves.{IsGraftMove}
+use Rattle.s66_model.proofs.LedgerSteps.{root-stands}
+use Rattle.s66_ledger.specs.Opened.{opened}
+use Rattle.s66_ledger.proofs.Opened.{same-splits, opened-opens}
+use Rattle.s66_ledger.specs.GraftMoves.{IsTakenMove}
 use Rattle.s66_ledger.specs.Finishing.{IsSearched, IsBetween, IsOffering, still_to_go}
 use Rattle.s66_ledger.proofs.Events.{at-most-all}
 use Rattle.s66_ledger.proofs.Rounds.{leads-graft, claim-within, claim-back, graft-step}
@@ -30,10 +34,12 @@ whole-gains b best prefix None below is = absurd cc
 whole-gains b best prefix (Some t) below (own, (inl same, least)) = inr (t, refl, omega (arith, below, ap (total_of b) same))
 whole-gains b best prefix (Some t) below (own, (inr past, least)) = absurd past
 
-pub expansion-gains : (b : Problem) (best allowance : ℕ) (prefix : List ℕ) (tree : Tree Tip) (timed : Option TimedOrder) → IsExpansion b best best allowance prefix tree → 1 ≤ allowance → floor_value b prefix < best → IsBestTimed b prefix tree timed → Gains b best tree timed
-expansion-gains b best allowance prefix (Parted numbers kids) timed h some below is = inl (omega arith)
-expansion-gains b best allowance prefix (Alone Frontier) timed h some below is = absurd (omega (arith, h.due some h.piece.0 below))
-expansion-gains b best allowance prefix (Alone (Carries leaf)) timed h some below is =
+pub expansion-gains : (rule : Rule) (b : Problem) (best allowance : ℕ) (prefix : List ℕ) (tree : Tree Tip) (timed : Option TimedOrder) → IsExpansion rule b best best allowance prefix tree → 1 ≤ allowance → floor_value b prefix < best → IsBestTimed b prefix tree timed → Gains b best tree timed
+expansion-gains rule b best allowance prefix (Parted numbers kids) timed h some below is = inl (omega arith)
+expansion-gains rule b best allowance prefix (Alone Frontier) timed h some below is = absurd (omega (arith, h.due some h.piece.0 below))
+expansion-gains rule b best allowance prefix (Alone (Passed name)) timed h some below is =
+    (let stands = root-stands rule b best prefix (Alone (Passed name)) h.piece.0 in absurd cc)
+expansion-gains rule b best allowance prefix (Alone (Carries leaf)) timed h some below is =
     elim h.piece.1 [
       | inl complete ↦
           let whole : leaf ≡ Whole = h.piece.0 ∙ floor-whole b prefix complete in
@@ -47,22 +53,22 @@ expansion-gains b best allowance prefix (Alone (Carries leaf)) timed h some belo
 
 -- the offer first, and then the graft
 pub taken-less : (old mid new : MachineOf) (ticket : TicketOf) (piece : PieceOf) →
-    Covers old.problem old.budget old.state →
+    Covers old.rule old.problem old.budget old.state →
     IsOffering old mid →
     ((t : TimedOrder) → piece.timed ≡ Some t → best_time mid.problem mid.state ≤ total_of mid.problem t.numbers) →
-    IsGraftMove mid 1 ticket.node piece Taken new →
+    IsTakenMove mid 1 ticket.node piece new →
     Gains old.problem (best_time old.problem old.state) (tree_of piece) piece.timed →
     still_to_go new < still_to_go old
 taken-less old mid new ticket piece covers offers at_most grafts gains =
-    let (problem, budget, workers, (history, run)) = offers.leads in
-    let (problem2, budget2, workers2, run2) = leads-graft mid new ticket piece grafts in
+    let (problem, budget, workers, (history, run), by) = offers.leads in
+    let (problem2, budget2, workers2, run2, by2) = leads-graft mid new ticket piece grafts in
     let (some, fits, holds, is) = graft-step mid new ticket piece grafts in
-    let falls : best_time old.problem mid.state ≤ best_time old.problem old.state = run-falls old.problem history old.state mid.state run in
+    let falls : best_time old.problem mid.state ≤ best_time old.problem old.state = run-falls old.rule old.problem history old.state mid.state run in
     let best : best_time new.problem new.state ≡ best_time old.problem mid.state = ap (λ p. best_time p new.state) (problem2 ∙ problem) ∙ ap (best_time old.problem) is in
-    let spent : new.state.spent ≡ old.state.spent + splits (tree_of piece) = omega (arith, ap (λ (l : Ledger). l.spent) is, ap (λ (l : Ledger). l.spent) offers.same) in
-    let room : old.state.spent + splits (tree_of piece) ≤ old.budget = omega (arith, covers.sum, fits, at-most-all old.state.allowances 0, ap (λ (l : Ledger). allowance l 1) offers.same) in
+    let spent : new.state.spent ≡ old.state.spent + splits (tree_of (opened piece)) = omega (arith, ap (λ (l : Ledger). l.spent) is, ap (λ (l : Ledger). l.spent) offers.same) in
+    let room : old.state.spent + splits (tree_of (opened piece)) ≤ old.budget = omega (arith, covers.sum, fits, at-most-all old.state.allowances 0, ap (λ (l : Ledger). allowance l 1) offers.same) in
     elim gains [
-      | inl split ↦ omega (arith, split, falls, best, spent, room, budget, budget2)
+      | inl split ↦ omega (arith, split, same-splits (tree_of piece) (tree_of (opened piece)) (opened-opens piece), falls, best, spent, room, budget, budget2)
       | inr lower ↦
           omega (
             arith,

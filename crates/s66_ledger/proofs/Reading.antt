@@ -5,13 +5,14 @@ use Rattle.s66_model.specs.Timing.{Problem}
 use Rattle.s66_model.specs.Leaves.{floor, floor_value}
 use Rattle.s66_model.specs.LegalOrder.{IsIncomplete}
 use Rattle.s66_model.specs.Tree.{Tree, Parted, Kids, NoMore, Unsplit, Split, Knot, AtTip, AtSplit, KidsHold, flat_kids, flat}
+use Rattle.s66_model.specs.DominatedLeaves.{Bounding}
 use Rattle.s66_model.specs.Ledger as model
 use Rattle.s66_model.specs.Ledger.{kid_nodes}
 use Rattle.s66_dep.specs.declared.set.Set.{Set}
 use Rattle.s66_dep.specs.Members.{numbers_in}
 use Rattle.s66_node.specs.declared.knot.Knot as code
 use Rattle.s66_node.specs.declared.knot.Knot.TheVariants as line
-use Rattle.s66_model.specs.Told.{Told, ToldLeaf, ToldFrontier, ToldHolds, tip_of, kids_seen, told_value}
+use Rattle.s66_model.specs.Told.{Told, ToldLeaf, ToldFrontier, ToldPassed, tip_of, kids_seen}
 use Rattle.s66_node.specs.SeenKnots.{seen_knot, seen}
 use Rattle.s66_node.specs.Walked.{front}
 use Rattle.s66_node.specs.Growing.{flat_rests}
@@ -20,8 +21,9 @@ use Rattle.s66_ledger.specs.declared.node.Node.{Node}
 use Rattle.s66_ledger.specs.declared.node.State.{State}
 use Rattle.s66_ledger.specs.declared.node.State.TheVariants as state
 use Rattle.s66_ledger.specs.declared.subtree.Place.{Place}
+use Rattle.s66_ledger.specs.Opened.{open_told, open_line, opened, PlainHolds, open_knot, open_lines}
 use Rattle.s66_ledger.specs.Nodes.{prefixes, seen_state, nodes_of, HaveFloors}
-use Rattle.s66_ledger.specs.Planting.{kids_of, knot_value, made_state, told_state, RestsHold, rest_nodes, place_lefts, PlacesStand, IsReading}
+use Rattle.s66_ledger.specs.Planting.{kids_of, knot_value, made_state, told_state, told_value, RestsHold, rest_nodes, place_lefts, PlacesStand, IsReading}
 use Rattle.s66_ledger.specs.Subtrees.{settled_state}
 use Rattle.s66_ledger.proofs.NodePrefixes.{get_or-front, get_or-last, length-prefixes, prefixes-push}
 use Rattle.s66_ledger.proofs.NodeFloors.{floors-push}
@@ -40,13 +42,13 @@ place-new made at = (omega (arith, length-append made (at ∷ [])), get_or-last 
 -- ONE KNOT of the list is read
 
 -- where a number is left there is a knot, of the child with this number
-pub read-tip : (b : Problem) (best : ℕ) (at ns : List ℕ) (n : ℕ) (above : List (List ℕ)) (rests : List (Kids Told)) (t : Told) (later : List (Knot Told)) → RestsHold b at ((n ∷ ns) ∷ above) rests → flat_rests rests ≡ AtTip t ∷ later → (rests2 : List (Kids Told)) × RestsHold b at (ns ∷ above) rests2 × (flat_rests rests2 ≡ later) × ToldHolds b (at ++ n ∷ []) t × (rest_nodes b best at ((n ∷ ns) ∷ above) rests ≡ record { prefix = at ++ n ∷ []; state = model.state_of b best (at ++ n ∷ []) (tip_of b (at ++ n ∷ []) t) } ∷ rest_nodes b best at (ns ∷ above) rests2)
+pub read-tip : (b : Problem) (best : ℕ) (at ns : List ℕ) (n : ℕ) (above : List (List ℕ)) (rests : List (Kids Told)) (t : Told) (later : List (Knot Told)) → RestsHold b at ((n ∷ ns) ∷ above) rests → flat_rests rests ≡ AtTip t ∷ later → (rests2 : List (Kids Told)) × RestsHold b at (ns ∷ above) rests2 × (flat_rests rests2 ≡ later) × PlainHolds b (at ++ n ∷ []) t × (rest_nodes b best at ((n ∷ ns) ∷ above) rests ≡ record { prefix = at ++ n ∷ []; state = model.state_of b best (at ++ n ∷ []) (tip_of b (at ++ n ∷ []) t) } ∷ rest_nodes b best at (ns ∷ above) rests2)
 read-tip b best at ns n above [] t later h e = absurd h
 read-tip b best at ns n above (NoMore ∷ rests) t later h e = absurd h.0
 read-tip b best at ns n above (Unsplit u kids ∷ rests) t later h e =
     let same : u ≡ t = cc in
     let rest : flat_rests (kids ∷ rests) ≡ later = cc in
-    (kids ∷ rests, (h.0.1, h.1), rest, subst (ToldHolds b (at ++ n ∷ [])) same h.0.0, ap (λ (v : Told). record { prefix = at ++ n ∷ []; state = model.state_of b best (at ++ n ∷ []) (tip_of b (at ++ n ∷ []) v) } ∷ rest_nodes b best at (ns ∷ above) (kids ∷ rests)) same)
+    (kids ∷ rests, (h.0.1, h.1), rest, subst (PlainHolds b (at ++ n ∷ [])) same h.0.0, ap (λ (v : Told). record { prefix = at ++ n ∷ []; state = model.state_of b best (at ++ n ∷ []) (tip_of b (at ++ n ∷ []) v) } ∷ rest_nodes b best at (ns ∷ above) (kids ∷ rests)) same)
 read-tip b best at ns n above (Split numbers sub kids ∷ rests) t later h e = absurd cc
 
 pub read-split : (b : Problem) (best : ℕ) (at ns numbers : List ℕ) (n : ℕ) (above : List (List ℕ)) (rests : List (Kids Told)) (later : List (Knot Told)) → RestsHold b at ((n ∷ ns) ∷ above) rests → flat_rests rests ≡ AtSplit numbers ∷ later → (rests2 : List (Kids Told)) × RestsHold b (at ++ n ∷ []) (numbers ∷ (ns ∷ above)) rests2 × (flat_rests rests2 ≡ later) × IsIncomplete b.block (at ++ n ∷ []) × (rest_nodes b best at ((n ∷ ns) ∷ above) rests ≡ record { prefix = at ++ n ∷ []; state = model.Cut } ∷ rest_nodes b best (at ++ n ∷ []) (numbers ∷ (ns ∷ above)) rests2)
@@ -58,8 +60,8 @@ read-split b best at ns numbers n above (Split ms sub kids ∷ rests) later h e 
     let rest : (flat_kids sub ++ flat_kids kids) ++ flat_rests rests ≡ later = cc in
     let there = at ++ n ∷ [] in
     let back = sym (front-push at n) in
-    let sub_holds : KidsHold b.block (ToldHolds b) there numbers sub = subst (λ ks. KidsHold b.block (ToldHolds b) there ks sub) first h.0.2 in
-    let kids_hold : KidsHold b.block (ToldHolds b) (front there) ns kids = subst (λ x. KidsHold b.block (ToldHolds b) x ns kids) back h.0.3 in
+    let sub_holds : KidsHold b.block (PlainHolds b) there numbers sub = subst (λ ks. KidsHold b.block (PlainHolds b) there ks sub) first h.0.2 in
+    let kids_hold : KidsHold b.block (PlainHolds b) (front there) ns kids = subst (λ x. KidsHold b.block (PlainHolds b) x ns kids) back h.0.3 in
     let rests_hold : RestsHold b (front (front there)) above rests = subst (λ x. RestsHold b (front x) above rests) back h.1 in (
       sub ∷ (kids ∷ rests),
       (sub_holds, (kids_hold, rests_hold)),
@@ -73,17 +75,19 @@ read-split b best at ns numbers n above (Split ms sub kids ∷ rests) later h e 
 
 -- THE TURNS of the reading
 
-told-either : (b : Problem) (at : List ℕ) (t : Bool) → seen_state b at (cond t state.Closed state.Open) ≡ cond t (model.Closed (floor b at)) model.Open
+told-either : (b : Problem) (at : List ℕ) (t : Bool) → seen_state b at (cond t state.Closed state.Open) ≡ cond t (model.Closed (Bounding (floor b at))) model.Open
 told-either b at true = refl
 told-either b at false = refl
 
-pub told-seen : (b : Problem) (best : ℕ) (at : List ℕ) (t : Told) → ToldHolds b at t → seen_state b at (told_state best t) ≡ model.state_of b best at (tip_of b at t)
+pub told-seen : (b : Problem) (best : ℕ) (at : List ℕ) (t : Told) → PlainHolds b at t → seen_state b at (told_state best t) ≡ model.state_of b best at (tip_of b at t)
 told-seen b best at (ToldLeaf v) h = ap (λ v. seen_state b at (cond (leb best v) state.Closed state.Open)) h ∙ told-either b at (leb best (floor_value b at))
 told-seen b best at (ToldFrontier v) h = refl
+told-seen b best at (ToldPassed v name) h = absurd h
 
-pub told-floor : (b : Problem) (at : List ℕ) (t : Told) → ToldHolds b at t → told_value t ≡ floor_value b at
+pub told-floor : (b : Problem) (at : List ℕ) (t : Told) → PlainHolds b at t → told_value t ≡ floor_value b at
 told-floor b at (ToldLeaf v) h = h
 told-floor b at (ToldFrontier v) h = h.0
+told-floor b at (ToldPassed v name) h = absurd h
 
 pub place_lefts-push : (places : List Place) (p : Place) → place_lefts (places ++ p ∷ []) ≡ numbers_in p.left ∷ place_lefts places
 place_lefts-push places p = ap (map (λ (q : Place). numbers_in q.left)) (reverse-append places (p ∷ []))
@@ -233,7 +237,7 @@ reading-none b best total at places made later none reading =
     ends ([], h, e, t) = ap length (sym e)
     ends ((kids ∷ rests), h, e, t) = absurd h
 
-pub reading-start : (b : Problem) (best : ℕ) (at : List ℕ) (numbers : List ℕ) (kids : Kids Told) (place : Place) (made : List Node) → IsIncomplete b.block at → HaveFloors b made → KidsHold b.block (ToldHolds b) at numbers kids → numbers_in place.left ≡ numbers → place.node < length made → get_or (prefixes made) place.node [] ≡ at → IsReading b best (nodes_of b made ++ kid_nodes b best at numbers (kids_seen (tip_of b) at numbers kids)) at (place ∷ []) made (flat_kids kids)
+pub reading-start : (b : Problem) (best : ℕ) (at : List ℕ) (numbers : List ℕ) (kids : Kids Told) (place : Place) (made : List Node) → IsIncomplete b.block at → HaveFloors b made → KidsHold b.block (PlainHolds b) at numbers kids → numbers_in place.left ≡ numbers → place.node < length made → get_or (prefixes made) place.node [] ≡ at → IsReading b best (nodes_of b made ++ kid_nodes b best at numbers (kids_seen (tip_of b) at numbers kids)) at (place ∷ []) made (flat_kids kids)
 reading-start b best at numbers kids place made part floors holds left lt is =
     let frames : place_lefts (place ∷ []) ≡ numbers ∷ [] = ap (λ ns. ns ∷ []) left in
     record {
@@ -248,31 +252,32 @@ reading-start b best at numbers kids place made part floors holds left lt is =
 -- LINES
 
 -- the line at a place
-pub line-at : (knots : List code.Knot) (i : ℕ) (k d : code.Knot) → i < length knots → k ≡ get_or knots i d → drop i (seen knots) ≡ seen_knot k ∷ drop (i + 1) (seen knots)
+pub line-at : (knots : List code.Knot) (i : ℕ) (k d : code.Knot) → i < length knots → k ≡ get_or knots i d → drop i (open_lines knots) ≡ open_knot k ∷ drop (i + 1) (open_lines knots)
 line-at [] i k d lt is = absurd (omega arith)
-line-at (x ∷ knots) zero k d lt is = ap (λ y. seen_knot y ∷ seen knots) (sym is)
+line-at (x ∷ knots) zero k d lt is = ap (λ y. open_knot y ∷ open_lines knots) (sym is)
 line-at (x ∷ knots) (suc i) k d lt is =
     let e : suc i + 1 ≡ suc (i + 1) = omega arith in
-    line-at knots i k d (omega (arith, lt)) is ∙ ap (λ j. seen_knot k ∷ drop j (seen (x ∷ knots))) (sym e)
+    line-at knots i k d (omega (arith, lt)) is ∙ ap (λ j. open_knot k ∷ drop j (open_lines (x ∷ knots))) (sym e)
 
 -- the state of its node for this best time
 abbrev pub knot_state : ℕ → code.Knot → State
 knot_state best k = settled_state best (knot_value k) (made_state k)
 
-pub line-told : (best : ℕ) (k : code.Knot) → ((numbers : Set) → k ≢ line.Split numbers) → (t : Told) × (seen_knot k ≡ AtTip t) × (knot_state best k ≡ told_state best t) × (knot_value k ≡ told_value t)
+pub line-told : (best : ℕ) (k : code.Knot) → ((numbers : Set) → k ≢ line.Split numbers) → (t : Told) × (open_knot k ≡ AtTip t) × (knot_state best k ≡ told_state best t) × (knot_value k ≡ told_value t)
 line-told best (line.Split numbers) h = absurd (h numbers refl)
 line-told best (line.Leaf v) h = (ToldLeaf v, refl, refl, refl)
 line-told best (line.Frontier v) h = (ToldFrontier v, refl, refl, refl)
+line-told best (line.Passed v name) h = (ToldFrontier v, refl, refl, refl)
 
 pub settled-told : (best value : ℕ) (s r : State) (k : code.Knot) → ((numbers : Set) → k ≢ line.Split numbers) → r ≡ settled_state best value s → s ≡ made_state k → value ≡ knot_value k →
-    (t : Told) × (seen_knot k ≡ AtTip t) × (r ≡ told_state best t) × (knot_value k ≡ told_value t)
+    (t : Told) × (open_knot k ≡ AtTip t) × (r ≡ told_state best t) × (knot_value k ≡ told_value t)
 settled-told best value s r k h is made same =
     let (t, seen_is, state_is, value_is) = line-told best k h in
     (t, seen_is, is ∙ (ap (λ v. settled_state best v s) same ∙ (ap (settled_state best (knot_value k)) made ∙ state_is)), value_is)
 
 -- the lines behind the root's are those of its children
-pub lines-below : (tree : Tree Told) (numbers : List ℕ) (knots : List code.Knot) (lines : List (Knot Told)) → tree ≡ Parted numbers (kids_of tree) → flat tree ≡ lines → seen knots ≡ lines → drop 1 (seen knots) ≡ flat_kids (kids_of tree)
+pub lines-below : (tree : Tree Told) (numbers : List ℕ) (knots : List code.Knot) (lines : List (Knot Told)) → tree ≡ Parted numbers (kids_of tree) → flat tree ≡ lines → open_lines knots ≡ lines → drop 1 (open_lines knots) ≡ flat_kids (kids_of tree)
 lines-below tree numbers knots lines is e f = ap (drop 1) (f ∙ (sym e ∙ ap flat is))
 
-pub length-seen : (knots : List code.Knot) → length (seen knots) ≡ length knots
-length-seen knots = length-map knots seen_knot
+pub length-seen : (knots : List code.Knot) → length (open_lines knots) ≡ length knots
+length-seen knots = length-map knots open_knot

@@ -6,10 +6,12 @@ use Rattle.s66_isa.specs.declared.instr.Instr.{Instr}
 use Rattle.s66_isa.specs.declared.profile.Profile.{Profile}
 use Rattle.s66_isa.specs.Lists.{weigh, rising}
 use Rattle.s66_isa.proofs.Lists.{weigh-append}
+use Rattle.s66_model.specs.declared.rule.Rule.{Rule}
 use Rattle.s66_model.specs.Timing.{Problem, total_of}
-use Rattle.s66_model.specs.Tree.{splits}
+use Rattle.s66_model.specs.Tree.{Tree, splits}
+use Rattle.s66_model.specs.Piece.{Tip}
 use Rattle.s66_model.specs.Ledger.{Ledger, Event, Graft, Offer, Reply, Taken, Moves, Run, opening}
-use Rattle.s66_model.specs.Recorded.{IsOwn, IsOfferOf, graft_event}
+use Rattle.s66_model.specs.Recorded.{IsOwn, IsOwnPiece, IsOfferOf, graft_event}
 use Rattle.s66_model.specs.Accounts.{Account, account_of}
 use Rattle.s66_model.proofs.Histories.{run-next, history-spent}
 use Rattle.s66_node.specs.Outlines.{line_byte, outline_of, outline_prefix, outline_tree, IsOutlineOf}
@@ -24,8 +26,10 @@ use Rattle.s66_ledger.specs.HistoryEntries.{byte_count, line_count, entry_of, en
 use Rattle.s66_ledger.specs.LedgerMachine.{MachineOf, IsMove}
 use Rattle.s66_ledger.specs.declared.node.Node.{Node}
 use Rattle.s66_ledger.specs.Subtrees.{IsSubtreeOf, lines_below, root_bytes}
-use Rattle.s66_ledger.specs.GraftMoves.{IsGraftMove, IsRefusedMove}
+use Rattle.s66_ledger.specs.Opened.{opened}
+use Rattle.s66_ledger.specs.GraftMoves.{IsGraftMove, IsRefusedMove, taken_event, IsTakenMove}
 use Rattle.s66_ledger.specs.Grafts.{IsGraftAt, IsRefusedGraftAt}
+use Rattle.s66_ledger.proofs.Opened.{same-splits, opened-opens}
 use Rattle.s66_ledger.specs.Ledgers.{LedgerOf, IsEvent, IsRecorded, events_of, account_summary, with_history}
 
 -- the next entry comes with its own bytes, and those of its lines
@@ -52,14 +56,15 @@ module _ (m next : MachineOf) (before reserved after : List Entry) (bytes all : 
   pub recorded : IsRecorded (with_history next after all)
   recorded =
       let old = events_of (with_history m before bytes) in
-      let run : Run m.problem (opening m.problem m.budget m.workers) (old ++ (event, reply) ∷ []) next.state =
-      run-next m.problem old (opening m.problem m.budget m.workers) m.state next.state event reply kept.run moved.3 in
+      let run : Run m.rule m.problem (opening m.problem m.budget m.workers) (old ++ (event, reply) ∷ []) next.state =
+      run-next m.rule m.problem old (opening m.problem m.budget m.workers) m.state next.state event reply kept.run moved.3 in
       record {
         run =
-            subst (λ (es : List (Event × Reply)). Run next.problem (opening next.problem next.budget next.workers) es next.state) (sym events-on)
-            (subst (λ (p : Problem). Run p (opening p next.budget next.workers) (old ++ (event, reply) ∷ []) next.state) (sym moved.0)
-            (subst (λ n. Run m.problem (opening m.problem n next.workers) (old ++ (event, reply) ∷ []) next.state) (sym moved.1)
-            (subst (λ n. Run m.problem (opening m.problem m.budget n) (old ++ (event, reply) ∷ []) next.state) (sym moved.2) run)));
+            subst (λ x. Run x next.problem (opening next.problem next.budget next.workers) (events_of (with_history next after all)) next.state) (sym moved.4)
+            (subst (λ (es : List (Event × Reply)). Run m.rule next.problem (opening next.problem next.budget next.workers) es next.state) (sym events-on)
+            (subst (λ (p : Problem). Run m.rule p (opening p next.budget next.workers) (old ++ (event, reply) ∷ []) next.state) (sym moved.0)
+            (subst (λ n. Run m.rule m.problem (opening m.problem n next.workers) (old ++ (event, reply) ∷ []) next.state) (sym moved.1)
+            (subst (λ n. Run m.rule m.problem (opening m.problem m.budget n) (old ++ (event, reply) ∷ []) next.state) (sym moved.2) run))));
         bytes =
             omega (arith, ap (weigh byte_count) pushed, ap (λ es. weigh byte_count (es ++ entry ∷ [])) same, weigh-append byte_count before (entry ∷ []), ap length put, length-append bytes own, kept.bytes, counted);
         lines =
@@ -67,7 +72,7 @@ module _ (m next : MachineOf) (before reserved after : List Entry) (bytes all : 
       }
 
   pub recorded-event : IsEvent (with_history m before bytes) event reply (with_history next after all)
-  recorded-event = (moved.0, moved.1, moved.2, moved.3, events-on)
+  recorded-event = (moved.0, moved.1, moved.2, moved.3, events-on, moved.4)
 
 -- an entry without lines
 module _ (m next : MachineOf) (before reserved after : List Entry) (bytes all : List ℕ) (entry : Entry) (own : List ℕ) (event : Event) (reply : Reply) (moved : IsMove m event reply next) (still : next.lines ≡ m.lines) (is : entry_of m.problem entry own [] ≡ (event, reply)) (same : reserved ≡ before) (pushed : after ≡ reserved ++ entry ∷ []) (put : all ≡ bytes ++ own) (counted : byte_count entry ≡ length own) (none : line_count entry ≡ 0) (kept : IsRecorded (with_history m before bytes)) where
@@ -93,10 +98,11 @@ own-same b p true false h k = absurd (true≢false (sym (k.1 (h.0 refl))))
 own-same b p false true h k = absurd (true≢false (sym (h.1 (k.0 refl))))
 own-same b p false false h k = refl
 
-pub is-own : (b p : Problem) (own : Bool) (block : List Instr) (profile : Profile) → block ≡ b.block → profile ≡ b.profile → IsTrue own ↔ (p ≡ record { block = block; profile = profile }) → IsOwn b p own
-is-own b p own block profile blocks profiles h =
-    subst (λ (q : Profile). IsTrue own ↔ (p ≡ record { block = b.block; profile = q })) profiles
-    (subst (λ (is : List Instr). IsTrue own ↔ (p ≡ record { block = is; profile = profile })) blocks h)
+own-piece_same : (rule : Rule) (b : Problem) (q : Rule) (p : Problem) (own other : Bool) → IsOwnPiece rule b q p own → IsOwnPiece rule b q p other → own ≡ other
+own-piece_same rule b q p true true h k = refl
+own-piece_same rule b q p true false h k = absurd (true≢false (sym (k.1 (h.0 refl))))
+own-piece_same rule b q p false true h k = absurd (true≢false (sym (h.1 (k.0 refl))))
+own-piece_same rule b q p false false h k = refl
 
 abbrev is-other : Offered → Bool
 is-other offered.OtherBlock = true
@@ -104,12 +110,12 @@ is-other offered.Lower = false
 is-other (offered.NotLower least) = false
 
 -- what is answered to an offer tells it
-pub offered-own : (b p : Problem) (old new : Ledger) (w : ℕ) (order : List ℕ) (event : Event) (answer : Offered) (own : Bool) → IsOfferOf b w p order event → Moves b old event (offered_reply answer) new → (answer ≡ offered.OtherBlock → own ≡ false) → (answer ≢ offered.OtherBlock → own ≡ true) → IsOwn b p own
-offered-own b p old new w order event answer own (other, owns, is) moves foreign ours =
-    let told : Moves b old (Offer w other order (total_of p order)) (offered_reply answer) new = subst (λ e. Moves b old e (offered_reply answer) new) is moves in
+pub offered-own : (rule : Rule) (b p : Problem) (old new : Ledger) (w : ℕ) (order : List ℕ) (event : Event) (answer : Offered) (own : Bool) → IsOfferOf b w p order event → Moves rule b old event (offered_reply answer) new → (answer ≡ offered.OtherBlock → own ≡ false) → (answer ≢ offered.OtherBlock → own ≡ true) → IsOwn b p own
+offered-own rule b p old new w order event answer own (other, owns, is) moves foreign ours =
+    let told : Moves rule b old (Offer w other order (total_of p order)) (offered_reply answer) new = subst (λ e. Moves rule b old e (offered_reply answer) new) is moves in
     subst (IsOwn b p) (sym (same answer told foreign ours)) owns
   where
-    same : (a : Offered) → Moves b old (Offer w other order (total_of p order)) (offered_reply a) new → (a ≡ offered.OtherBlock → own ≡ false) → (a ≢ offered.OtherBlock → own ≡ true) → own ≡ other
+    same : (a : Offered) → Moves rule b old (Offer w other order (total_of p order)) (offered_reply a) new → (a ≡ offered.OtherBlock → own ≡ false) → (a ≢ offered.OtherBlock → own ≡ true) → own ≡ other
     same offered.Lower h foreign ours = ours (λ e. true≢false (sym (ap is-other e))) ∙ sym h.0.0
     same (offered.NotLower least) h foreign ours = ours (λ e. true≢false (sym (ap is-other e))) ∙ sym h.0.0
     same offered.OtherBlock h foreign ours = foreign refl ∙ sym h.0
@@ -127,31 +133,33 @@ offer-entry b p w order numbers own time reply event owns same total (other, oth
     ∙ ap (λ e. told e reply) (sym is)))
 
 module _ (m next : MachineOf) (w i : ℕ) (p : PieceOf) (count : ℕ) (counts : count ≡ splits (tree_of p)) where
-  -- the bytes of the root and of the lines below it tell the piece
-  pub taken-entry : (outline : List ℕ) (depth : ℕ) → outline ≡ outline_of p → depth ≡ length p.prefix → IsOutlineOf p (outline_of p) → (h : IsGraftMove m w i p Taken next) → told (Graft w i true (outline_prefix depth outline) count (Some (outline_tree m.problem depth outline))) Taken ≡ told h.0 Taken
-  taken-entry outline depth whole deep of (event, (own, owns, is), move) =
-      let k : IsMove m (Graft w i own p.prefix (splits (tree_of p)) (Some (tree_of p))) Taken next = subst (λ e. IsMove m e Taken next) is move in
-      let mine : own ≡ true = k.3.1.1.0 in
-      let prefix : outline_prefix depth outline ≡ p.prefix = rw (whole, deep) of.0 in
-      let tree : outline_tree m.problem depth outline ≡ tree_of p = ap (λ b. outline_tree b depth outline) (sym (owns.0 mine)) ∙ rw (whole, deep) of.1 in
+  abbrev whole : Tree Tip
+  whole = tree_of (opened p)
+
+  same-count : count ≡ splits whole
+  same-count = counts ∙ same-splits (tree_of p) whole (opened-opens p)
+
+  -- the bytes of the root and of the lines below it tell what is taken of the piece
+  pub taken-entry : (outline : List ℕ) (depth : ℕ) → outline ≡ outline_of (opened p) → depth ≡ length p.prefix → IsOutlineOf (opened p) (outline_of (opened p)) [] → IsTakenMove m w i p next → told (Graft w i true (outline_prefix depth outline) count (Some (outline_tree m.problem depth outline []))) Taken ≡ told (taken_event w i p) Taken
+  taken-entry outline depth all deep of h =
+      let prefix : outline_prefix depth outline ≡ p.prefix = rw (all, deep) of.0 in
+      let tree : outline_tree m.problem depth outline [] ≡ whole = ap (λ b. outline_tree b depth outline []) (sym h.problem) ∙ rw (all, deep) of.1 in
       ap (λ t. told (Graft w i true (outline_prefix depth outline) count (Some t)) Taken) tree
-      ∙ (ap (λ n. told (Graft w i true (outline_prefix depth outline) n (Some (tree_of p))) Taken) counts
-      ∙ (ap (λ at. told (Graft w i true at (splits (tree_of p)) (Some (tree_of p))) Taken) prefix
-      ∙ (ap (λ o. told (Graft w i o p.prefix (splits (tree_of p)) (Some (tree_of p))) Taken) (sym mine)
-      ∙ ap (λ e. told e Taken) (sym is))))
+      ∙ (ap (λ n. told (Graft w i true (outline_prefix depth outline) n (Some whole)) Taken) same-count
+      ∙ ap (λ at. told (Graft w i true at (splits whole) (Some whole)) Taken) prefix)
 
   pub refused-move : (why : Refusal) → IsRefusedMove m w i p (error_of why) next → IsGraftMove m w i p (refusal_reply why) next
   refused-move refusal.NotOut h = h
   refused-move refusal.OtherPrefix h = h
   refused-move refusal.OverAllowance h = h
 
-  pub refused-entry : (own : Bool) (why : Refusal) → IsOwn m.problem p.problem own → (h : IsGraftMove m w i p (refusal_reply why) next) → told (Graft w i own p.prefix count None) (refusal_reply why) ≡ told h.0 (refusal_reply why)
-  refused-entry own why owned (event, (other, owns, is), move) =
-      ap (λ n. told (Graft w i own p.prefix n None) (refusal_reply why)) counts
-      ∙ (ap (λ o. told (Graft w i o p.prefix (splits (tree_of p)) None) (refusal_reply why)) (own-same m.problem p.problem own other owned owns)
+  pub refused-entry : (own : Bool) (why : Refusal) → IsOwnPiece m.rule m.problem p.rule p.problem own → (h : IsGraftMove m w i p (refusal_reply why) next) → told (Graft w i own p.prefix count None) (refusal_reply why) ≡ told h.0 (refusal_reply why)
+  refused-entry own why owned (event, (other, taken, owns, opens, is), move) =
+      ap (λ n. told (Graft w i own p.prefix n None) (refusal_reply why)) (counts ∙ same-splits (tree_of p) taken opens)
+      ∙ (ap (λ o. told (Graft w i o p.prefix (splits taken) None) (refusal_reply why)) (own-piece_same m.rule m.problem p.rule p.problem own other owned owns)
       ∙ ap (λ e. told e (refusal_reply why)) (sym (is ∙ without-tree why)))
     where
-      without-tree : (r : Refusal) → graft_event w i other p.prefix (tree_of p) (refusal_reply r) ≡ Graft w i other p.prefix (splits (tree_of p)) None
+      without-tree : (r : Refusal) → graft_event w i other p.prefix taken (refusal_reply r) ≡ Graft w i other p.prefix (splits taken) None
       without-tree refusal.NotOut = refl
       without-tree refusal.OtherPrefix = refl
       without-tree refusal.OverAllowance = refl
@@ -189,4 +197,4 @@ weigh-map f g (x ∷ xs) = ap (λ n. f (g x) + n) (weigh-map f g xs)
 pub accounts-spent : (l : LedgerOf) → IsRecorded l → weigh (λ (a : Account). a.splits) (account_summary l).accounts ≡ l.state.spent
 accounts-spent l kept =
     weigh-map (λ (a : Account). a.splits) (account_of (events_of l)) (rising l.workers 1)
-    ∙ history-spent l.problem l.budget l.workers (events_of l) l.state kept.run
+    ∙ history-spent l.rule l.problem l.budget l.workers (events_of l) l.state kept.run

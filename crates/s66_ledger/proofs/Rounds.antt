@@ -4,6 +4,7 @@ use Rattle.std.specs.Prelude.{nat_le}
 use Rattle.std.proofs.lemmas.List.{length-set, get_or-set_same, set-set, set-get_or}
 use Rattle.s66_isa.specs.Lists.{tally, weigh, Among}
 use Rattle.s66_isa.proofs.Lists.{tally-append, tally-set, weigh-set}
+use Rattle.s66_model.specs.declared.rule.Rule.{Rule}
 use Rattle.s66_model.specs.Timing.{Problem, total_of}
 use Rattle.s66_model.specs.Recorded.{IsOfferOf}
 use Rattle.s66_time.specs.TimedOrder.{TimedOrder}
@@ -12,14 +13,17 @@ use Rattle.s66_ledger.specs.declared.reply.Offered.TheVariants as offered
 use Rattle.s66_ledger.specs.Replies.{offered_reply}
 use Rattle.s66_model.specs.Leaves.{value}
 use Rattle.s66_model.specs.Tree.{Tree, Alone, Parted, Kids, NoMore, Unsplit, Split, splits}
-use Rattle.s66_model.specs.Piece.{Tip, Carries, Frontier, IsPiece}
+use Rattle.s66_model.specs.Piece.{Tip, Carries, Frontier, Passed, IsPiece}
 use Rattle.s66_model.specs.Expansion.{whole_orders}
+use Rattle.s66_model.specs.DominatedLeaves.{Bounding}
 use Rattle.s66_model.specs.Ledger.{Ledger, Node, State, Open, Out, Cut, Closed, Grant, Claim, Graft, Back, Granted, Claimed, Taken, Returned, no_node, node_at, with_state, is_out_state, is_out, is_live_state, best_time, allowance, share_of, state_of, root_state, kid_nodes, new_nodes, after_offer, after_graft, Offer, Moves, Event}
 use Rattle.s66_model.specs.Coverage.{Covers}
 use Rattle.s66_node.specs.Pieces.{PieceOf, tree_of}
 use Rattle.s66_ledger.specs.Tickets.{TicketOf}
 use Rattle.s66_ledger.specs.LedgerMachine.{MachineOf, IsMove}
-use Rattle.s66_ledger.specs.GraftMoves.{IsGraftMove}
+use Rattle.s66_ledger.specs.Opened.{opened}
+use Rattle.s66_ledger.specs.GraftMoves.{taken_event, IsTakenMove}
+use Rattle.s66_ledger.proofs.Opened.{same-wholes, opened-opens}
 use Rattle.s66_ledger.specs.Finishing.{Leads, NoneOut, IsIdle, IsBetween, IsWithin, IsOffering, still_to_go}
 use Rattle.s66_ledger.proofs.Leading.{event-leads, leads-on, leads-nowhere, leads-fall}
 use Rattle.s66_ledger.proofs.TimedWholes.{wholes-offered, wholes-moved, wholes-grafted}
@@ -49,10 +53,11 @@ none-among (x ∷ nodes) none node (inr later) = none-among nodes (omega (arith,
 tip-not-out : (b : Problem) (best : ℕ) (at : List ℕ) (tip : Tip) → is_out_state (state_of b best at tip) ≡ false
 tip-not-out b best at (Carries leaf) = closed-or-open (nat_le best (value b at leaf))
   where
-    closed-or-open : (t : Bool) → is_out_state (cond t (Closed leaf) Open) ≡ false
+    closed-or-open : (t : Bool) → is_out_state (cond t (Closed (Bounding leaf)) Open) ≡ false
     closed-or-open true = refl
     closed-or-open false = refl
 tip-not-out b best at Frontier = refl
+tip-not-out b best at (Passed name) = refl
 
 root-not-out : (b : Problem) (best : ℕ) (at : List ℕ) (tree : Tree Tip) → is_out_state (root_state b best at tree) ≡ false
 root-not-out b best at (Alone tip) = tip-not-out b best at tip
@@ -95,7 +100,7 @@ module _ (old new : MachineOf) (n : ℕ) (h : IsMove old (Grant 1) (Granted n) n
       }))
 
   -- nothing more is granted where all is spent
-  pub grant-spent : Covers old.problem old.budget old.state → IsBetween old.problem old.state → allowance old.state 1 ≡ 0 → n ≡ 0 → new.state.spent ≡ new.budget
+  pub grant-spent : Covers old.rule old.problem old.budget old.state → IsBetween old.problem old.state → allowance old.state 1 ≡ 0 → n ≡ 0 → new.state.spent ≡ new.budget
   grant-spent covers between none nothing =
       omega (arith, covers.sum, between.alone, none, nothing, h.3.1.0, h.1, ap (λ (l : Ledger). l.spent) h.3.1.1)
 
@@ -177,16 +182,16 @@ module _ (old new : MachineOf) (offers : IsOffering old new) where
   offer-between between =
       record { none_out = still-none-out between.none_out; alone = still-alone between.alone; wholes = wholes-offered old new offers between.wholes }
 
-offer-moved : (b : Problem) (old new : Ledger) (w : ℕ) (own : Bool) (order : List ℕ) (time : ℕ) (answer : Offered) → Moves b old (Offer w own order time) (offered_reply answer) new → new ≡ after_offer old new.best
-offer-moved b old new w own order time offered.Lower h = h.2 ∙ ap (after_offer old) (sym (ap (λ (l : Ledger). l.best) h.2))
-offer-moved b old new w own order time (offered.NotLower least) h = h.3 ∙ ap (after_offer old) (sym (ap (λ (l : Ledger). l.best) h.3))
-offer-moved b old new w own order time offered.OtherBlock h = h.1 ∙ ap (after_offer old) (sym (ap (λ (l : Ledger). l.best) h.1))
+offer-moved : (rule : Rule) (b : Problem) (old new : Ledger) (w : ℕ) (own : Bool) (order : List ℕ) (time : ℕ) (answer : Offered) → Moves rule b old (Offer w own order time) (offered_reply answer) new → new ≡ after_offer old new.best
+offer-moved rule b old new w own order time offered.Lower h = h.2 ∙ ap (after_offer old) (sym (ap (λ (l : Ledger). l.best) h.2))
+offer-moved rule b old new w own order time (offered.NotLower least) h = h.3 ∙ ap (after_offer old) (sym (ap (λ (l : Ledger). l.best) h.3))
+offer-moved rule b old new w own order time offered.OtherBlock h = h.1 ∙ ap (after_offer old) (sym (ap (λ (l : Ledger). l.best) h.1))
 
 pub offer-offers : (old new : MachineOf) (w : ℕ) (timed : TimedOrder) (answer : Offered) → ((event : Event) × IsOfferOf old.problem w timed.problem timed.numbers event × IsMove old event (offered_reply answer) new) → IsOffering old new
 offer-offers old new w timed answer (event, (own, iff, told), h) =
     record {
       leads = event-leads old new event (offered_reply answer) h;
-      same = offer-moved old.problem old.state new.state w own timed.numbers (total_of timed.problem timed.numbers) answer (subst (λ (e : Event). Moves old.problem old.state e (offered_reply answer) new.state) told h.3.1);
+      same = offer-moved old.rule old.problem old.state new.state w own timed.numbers (total_of timed.problem timed.numbers) answer (subst (λ (e : Event). Moves old.rule old.problem old.state e (offered_reply answer) new.state) told h.3.1);
     }
 
 pub offer-nowhere : (l : MachineOf) → IsOffering l l
@@ -202,28 +207,27 @@ offer-on old mid new first second =
 -- less is left to do, or as much
 pub offer-to-go : (old new : MachineOf) → IsOffering old new → still_to_go new ≤ still_to_go old
 offer-to-go old new offers =
-    let (problem, budget, workers, run) = offers.leads in
+    let (problem, budget, workers, run, by) = offers.leads in
     let falls = leads-fall old new offers.leads in
     let before = ap (λ (b : Problem). best_time b old.state) problem in
     omega (arith, falls, before, budget, ap (λ (l : Ledger). l.spent) offers.same)
 
 -- A GRAFT
 
-pub graft-step : (old new : MachineOf) (ticket : TicketOf) (piece : PieceOf) → IsGraftMove old 1 ticket.node piece Taken new → (1 ≤ length old.state.allowances) × (splits (tree_of piece) ≤ allowance old.state 1) × IsPiece old.problem piece.prefix (tree_of piece) × (new.state ≡ after_graft old.problem old.state 1 ticket.node piece.prefix (tree_of piece))
-graft-step old new ticket piece (event, (own, owns, is), h) =
-    let k : IsMove old (Graft 1 ticket.node own piece.prefix (splits (tree_of piece)) (Some (tree_of piece))) Taken new = subst (λ e. IsMove old e Taken new) is h in
-    (k.3.0.1, k.3.1.2, k.3.1.4, k.3.1.5)
+pub graft-step : (old new : MachineOf) (ticket : TicketOf) (piece : PieceOf) → IsTakenMove old 1 ticket.node piece new → (1 ≤ length old.state.allowances) × (splits (tree_of (opened piece)) ≤ allowance old.state 1) × IsPiece old.rule old.problem piece.prefix (tree_of (opened piece)) × (new.state ≡ after_graft old.problem old.state 1 ticket.node piece.prefix (tree_of (opened piece)))
+graft-step old new ticket piece h = (h.move.3.0.1, h.move.3.1.2, h.move.3.1.4, h.move.3.1.5)
 
-pub leads-graft : (old new : MachineOf) (ticket : TicketOf) (piece : PieceOf) → IsGraftMove old 1 ticket.node piece Taken new → Leads old new
-leads-graft old new ticket piece (event, own, h) = event-leads old new event Taken h
+pub leads-graft : (old new : MachineOf) (ticket : TicketOf) (piece : PieceOf) → IsTakenMove old 1 ticket.node piece new → Leads old new
+leads-graft old new ticket piece h = event-leads old new (taken_event 1 ticket.node piece) Taken h.move
 
 -- of a piece whose whole orders aren't below the best time
-pub graft-between : (old new : MachineOf) (ticket : TicketOf) (piece : PieceOf) → IsWithin old.problem old.state ticket → ((order : List ℕ) → Among order (whole_orders piece.prefix (tree_of piece)) → best_time old.problem old.state ≤ total_of old.problem order) → IsGraftMove old 1 ticket.node piece Taken new → IsBetween new.problem new.state
+pub graft-between : (old new : MachineOf) (ticket : TicketOf) (piece : PieceOf) → IsWithin old.problem old.state ticket → ((order : List ℕ) → Among order (whole_orders piece.prefix (tree_of piece)) → best_time old.problem old.state ≤ total_of old.problem order) → IsTakenMove old 1 ticket.node piece new → IsBetween new.problem new.state
 graft-between old new ticket piece within each h =
     let b = old.problem in
     let l = old.state in
     let i = ticket.node in
-    let tree = tree_of piece in
+    let tree = tree_of (opened piece) in
+    let same : whole_orders piece.prefix (tree_of piece) ≡ whole_orders piece.prefix tree = same-wholes piece.prefix (tree_of piece) tree (opened-opens piece) in
     let best = best_time b l in
     let taken = graft-step old new ticket piece h in
     let root : Node = record { prefix = (node_at l.nodes i).prefix; state = root_state b best piece.prefix tree } in
@@ -243,5 +247,5 @@ graft-between old new ticket piece within each h =
     (record {
       none_out = none-among (with_state l.nodes i (root_state b best piece.prefix tree) ++ made) none;
       alone = alone-set l.allowances (allowance l 1 - splits tree) taken.0 within.alone;
-      wholes = wholes-grafted b l 1 i piece.prefix tree within.out taken.2 each within.wholes;
+      wholes = wholes-grafted old.rule b l 1 i piece.prefix tree within.out taken.2 (λ order among. each order (subst (Among order) (sym same) among)) within.wholes;
     }))

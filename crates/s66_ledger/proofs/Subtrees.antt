@@ -4,7 +4,7 @@ use Rattle.std.proofs.lemmas.List.{append-nil, length-map, length-take, map-appe
 use Rattle.s66_model.specs.Tree.{Tree, Alone, Parted, Knot, AtTip, AtSplit, TreeHolds, flat_kids}
 use Rattle.s66_model.specs.Ledger as model
 use Rattle.s66_model.specs.Ledger.{kid_nodes, new_nodes}
-use Rattle.s66_model.specs.Told.{Told, ToldLeaf, ToldFrontier, ToldHolds, tip_of, kids_seen, tree_told, told_value}
+use Rattle.s66_model.specs.Told.{Told, ToldLeaf, ToldFrontier, ToldPassed, tip_of, kids_seen, tree_told}
 use Rattle.s66_dep.specs.declared.set.Set.{Set}
 use Rattle.s66_dep.specs.Members.{numbers_in}
 use Rattle.s66_node.specs.declared.knot.Knot as code
@@ -15,8 +15,9 @@ use Rattle.s66_node.specs.SeenKnots.{seen_knot}
 use Rattle.s66_node.specs.Walked.{front}
 use Rattle.s66_ledger.specs.declared.node.Node.{Node}
 use Rattle.s66_ledger.specs.declared.subtree.Place.{Place}
+use Rattle.s66_ledger.specs.Opened.{open_told, open_line, opened, PlainHolds, open_knot, open_lines}
 use Rattle.s66_ledger.specs.Nodes.{prefixes, nodes_of, node_at, lines_of, HaveDepths}
-use Rattle.s66_ledger.specs.Planting.{kids_of, knot_value, made_state, told_state, IsReading}
+use Rattle.s66_ledger.specs.Planting.{kids_of, knot_value, made_state, told_state, told_value, IsReading}
 use Rattle.s66_ledger.specs.Subtrees.{placed_parent, placed, settled_state, settled, planted, lines_below, CanBeOver, IsPlanted, IsSubtreeOf}
 use Rattle.s66_ledger.proofs.Chains.{chain-of}
 use Rattle.s66_ledger.proofs.Depths.{depths-push}
@@ -52,10 +53,11 @@ lines-planted best root made nodes =
     lines-placed root first best [] = refl
     lines-placed root first best (x ∷ xs) = ap (λ lines. x.line ∷ lines) (lines-placed root first best xs)
 
-tip-told : (best : ℕ) (k : code.Knot) (t : Told) → seen_knot k ≡ AtTip t → (knot_state best k ≡ told_state best t) × (knot_value k ≡ told_value t)
+tip-told : (best : ℕ) (k : code.Knot) (t : Told) → open_knot k ≡ AtTip t → (knot_state best k ≡ told_state best t) × (knot_value k ≡ told_value t)
 tip-told best (line.Split numbers) t e = absurd cc
 tip-told best (line.Leaf value) t e = let same : ToldLeaf value ≡ t = cc in (ap (told_state best) same, ap told_value same)
 tip-told best (line.Frontier value) t e = let same : ToldFrontier value ≡ t = cc in (ap (told_state best) same, ap told_value same)
+tip-told best (line.Passed value name) t e = let same : ToldFrontier value ≡ t = cc in (ap (told_state best) same, ap told_value same)
 
 -- NODES that a piece can be over
 
@@ -81,10 +83,10 @@ pub record IsGrowing (p : PieceOf) (numbers : List ℕ) (places : List Place) (n
 abbrev pub AreGrowing : (p : PieceOf) (numbers : List ℕ) (places : List Place) (nodes : List Node) (later : List (Knot Told)) → Type 0
 AreGrowing p numbers places nodes later = (best root : ℕ) (made : List Node) → CanBeOver p root made → IsGrowing p numbers places nodes later best root made
 
-pub growing-start : (p : PieceOf) (left : Set) → told_tree p ≡ Parted (numbers_in left) (kids_of (told_tree p)) → TreeHolds p.problem.block (ToldHolds p.problem) p.prefix (told_tree p) → AreGrowing p (numbers_in left) (record { node = 0; left = left } ∷ []) [] (flat_kids (kids_of (told_tree p)))
+pub growing-start : (p : PieceOf) (left : Set) → told_tree p ≡ Parted (numbers_in left) (kids_of (told_tree p)) → TreeHolds p.problem.block (PlainHolds p.problem) p.prefix (told_tree p) → AreGrowing p (numbers_in left) (record { node = 0; left = left } ∷ []) [] (flat_kids (kids_of (told_tree p)))
 growing-start p left split told best root made over =
     let kids = kids_of (told_tree p) in
-    let holds : TreeHolds p.problem.block (ToldHolds p.problem) p.prefix (Parted (numbers_in left) kids) = subst (TreeHolds p.problem.block (ToldHolds p.problem) p.prefix) split told in
+    let holds : TreeHolds p.problem.block (PlainHolds p.problem) p.prefix (Parted (numbers_in left) kids) = subst (TreeHolds p.problem.block (PlainHolds p.problem) p.prefix) split told in
     let place : Place = record { node = root; left = left } in
     record {
       at = p.prefix;
@@ -133,7 +135,7 @@ module _ (p : PieceOf) (numbers : List ℕ) (places ps : List Place) (q : Place)
         let within : y.parent < length xs = omega (arith, same, before) in
         subst HaveDepths (sym (ap (planted best root made) put ∙ planted-push best root made nodes x)) (depths-push xs y within own g.depths)
 
-    pub growing-tip : (q2 : Place) (new : List Place) (more : List Node) (t : Told) (after : List (Knot Told)) → numbers_in q.left ≡ n ∷ numbers_in q2.left → q2.node ≡ q.node → new ≡ ps ++ q2 ∷ [] → more ≡ nodes ++ x ∷ [] → seen_knot k ≡ AtTip t → later ≡ AtTip t ∷ after → AreGrowing p numbers new more after
+    pub growing-tip : (q2 : Place) (new : List Place) (more : List Node) (t : Told) (after : List (Knot Told)) → numbers_in q.left ≡ n ∷ numbers_in q2.left → q2.node ≡ q.node → new ≡ ps ++ q2 ∷ [] → more ≡ nodes ++ x ∷ [] → open_knot k ≡ AtTip t → later ≡ AtTip t ∷ after → AreGrowing p numbers new more after
     growing-tip q2 new more t after left same_node pushed put tip first best root made over =
         let g = growing best root made over in
         let s = shifted root (length made) in

@@ -3,11 +3,12 @@ use Rattle.std.proofs.Common.{ℕ, ◌≤◌, ◌<◌, ◌≡◌, true, true≢f
 use Rattle.s66_isa.specs.Lists.{Among}
 use Rattle.s66_isa.proofs.Lists.{among-front, among-rest}
 use Rattle.s66_line.proofs.OperationLaw.{among-at}
+use Rattle.s66_model.specs.declared.rule.Rule.{Rule}
 use Rattle.s66_model.specs.Timing.{Problem, total_of}
 use Rattle.s66_model.specs.LegalOrder.{IsComplete}
 use Rattle.s66_model.specs.Leaves.{value, floor_value}
 use Rattle.s66_model.specs.Tree.{Tree, Alone, Parted, Kids, NoMore, Unsplit, Split, KidsHold, kid_values}
-use Rattle.s66_model.specs.Piece.{Tip, Carries, Frontier, TipHolds, IsPiece}
+use Rattle.s66_model.specs.Piece.{Tip, Carries, Frontier, Passed, TipHolds, IsPiece}
 use Rattle.s66_model.specs.Expansion.{whole_at, whole_orders}
 use Rattle.s66_model.specs.Ledger.{Ledger, Node, State, no_node, node_at, is_live_state, is_live, with_state, best_time, IsOut, root_state, kid_nodes, new_nodes, after_graft}
 use Rattle.s66_model.proofs.Floors.{floor-whole}
@@ -15,6 +16,7 @@ use Rattle.s66_time.specs.TimedOrder.{TimedOrder}
 use Rattle.s66_node.specs.Pieces.{IsBestTimed}
 use Rattle.s66_node.proofs.Leasts.{among-either}
 use Rattle.s66_ledger.specs.LedgerMachine.{MachineOf}
+use Rattle.s66_ledger.proofs.Opened.{dominated-part}
 use Rattle.s66_ledger.specs.Finishing.{WholesAreTimed, IsOffering}
 use Rattle.s66_ledger.proofs.Leading.{each-set, leads-fall}
 
@@ -43,47 +45,49 @@ pub least-timed : (b : Problem) (time : ℕ) (prefix : List ℕ) (tree : Tree Ti
 least-timed b time prefix tree None none at_most order among = absurd (subst (Among order) none among)
 least-timed b time prefix tree (Some t) least at_most order among = omega (arith, at_most t refl, least.1.1 order among)
 
-tip-timed : (b : Problem) (time : ℕ) (at : List ℕ) (tip : Tip) → TipHolds b at tip → ((order : List ℕ) → Among order (whole_at at tip) → time ≤ total_of b order) → IsComplete b.block at → time ≤ floor_value b at
-tip-timed b time at (Carries leaf) is each whole =
+tip-timed : (rule : Rule) (b : Problem) (time : ℕ) (prefix : List ℕ) (tree : Tree Tip) (at : List ℕ) (tip : Tip) → TipHolds rule b prefix tree at tip → ((order : List ℕ) → Among order (whole_at at tip) → time ≤ total_of b order) → IsComplete b.block at → time ≤ floor_value b at
+tip-timed rule b time prefix tree at (Carries leaf) is each whole =
     let same = floor-whole b at whole in
     omega (arith, ap (value b at) same, subst (λ t. (order : List ℕ) → Among order (whole_at at (Carries t)) → time ≤ total_of b order) (is ∙ same) each at (inl refl))
-tip-timed b time at Frontier part each whole = absurd (omega (arith, part, whole))
+tip-timed rule b time prefix tree at Frontier part each whole = absurd (omega (arith, part, whole))
+tip-timed rule b time prefix tree at (Passed name) holds each whole = absurd (omega (arith, dominated-part rule b name at holds.0, whole))
 
-module _ (b : Problem) (time best : ℕ) where
+module _ (rule : Rule) (b : Problem) (time best : ℕ) where
   abbrev AreTimed : List (List ℕ) → Type 0
   AreTimed orders = (order : List ℕ) → Among order orders → time ≤ total_of b order
 
-  kids-timed : (kids : Kids Tip) (at ns : List ℕ) → KidsHold b.block (TipHolds b) at ns kids → AreTimed (kid_values whole_at at ns kids) → (node : Node) → Among node (kid_nodes b best at ns kids) → IsTimedNode b time node
-  kids-timed kids at [] holds each node among = absurd among
-  kids-timed NoMore at (n ∷ ns) holds each node among = absurd among
-  kids-timed (Unsplit tip kids) at (n ∷ ns) holds each node (inl e) = λ live whole.
+  -- of a piece over this prefix, with this tree
+  kids-timed : (prefix : List ℕ) (tree : Tree Tip) (kids : Kids Tip) (at ns : List ℕ) → KidsHold b.block (TipHolds rule b prefix tree) at ns kids → AreTimed (kid_values whole_at at ns kids) → (node : Node) → Among node (kid_nodes b best at ns kids) → IsTimedNode b time node
+  kids-timed prefix tree kids at [] holds each node among = absurd among
+  kids-timed prefix tree NoMore at (n ∷ ns) holds each node among = absurd among
+  kids-timed prefix tree (Unsplit tip kids) at (n ∷ ns) holds each node (inl e) = λ live whole.
       let longer = at ++ n ∷ [] in
       let same = ap (λ (x : Node). x.prefix) e in
       let first : AreTimed (whole_at longer tip) = λ order among. each order (among-front order (whole_at longer tip) (kid_values whole_at at ns kids) among) in
-      subst (λ p. time ≤ floor_value b p) (sym same) (tip-timed b time longer tip holds.0 first (subst (IsComplete b.block) same whole))
-  kids-timed (Unsplit tip kids) at (n ∷ ns) holds each node (inr later) =
-      kids-timed kids at ns holds.1 (λ order among. each order (among-rest order (whole_at (at ++ n ∷ []) tip) (kid_values whole_at at ns kids) among)) node later
-  kids-timed (Split numbers sub kids) at (n ∷ ns) holds each node (inl e) = λ live. absurd (true≢false (sym live ∙ ap is_live e))
-  kids-timed (Split numbers sub kids) at (n ∷ ns) holds each node (inr later) =
+      subst (λ p. time ≤ floor_value b p) (sym same) (tip-timed rule b time prefix tree longer tip holds.0 first (subst (IsComplete b.block) same whole))
+  kids-timed prefix tree (Unsplit tip kids) at (n ∷ ns) holds each node (inr later) =
+      kids-timed prefix tree kids at ns holds.1 (λ order among. each order (among-rest order (whole_at (at ++ n ∷ []) tip) (kid_values whole_at at ns kids) among)) node later
+  kids-timed prefix tree (Split numbers sub kids) at (n ∷ ns) holds each node (inl e) = λ live. absurd (true≢false (sym live ∙ ap is_live e))
+  kids-timed prefix tree (Split numbers sub kids) at (n ∷ ns) holds each node (inr later) =
       let longer = at ++ n ∷ [] in
       let below = kid_values whole_at longer numbers sub in
       let beside = kid_values whole_at at ns kids in
       among-either node (kid_nodes b best longer numbers sub) (kid_nodes b best at ns kids) (IsTimedNode b time node)
-      (kids-timed sub longer numbers holds.2 (λ order among. each order (among-front order below beside among)) node)
-      (kids-timed kids at ns holds.3 (λ order among. each order (among-rest order below beside among)) node)
+      (kids-timed prefix tree sub longer numbers holds.2 (λ order among. each order (among-front order below beside among)) node)
+      (kids-timed prefix tree kids at ns holds.3 (λ order among. each order (among-rest order below beside among)) node)
       later
 
-  new-timed : (prefix : List ℕ) (tree : Tree Tip) → IsPiece b prefix tree → AreTimed (whole_orders prefix tree) → (node : Node) → Among node (new_nodes b best prefix tree) → IsTimedNode b time node
+  new-timed : (prefix : List ℕ) (tree : Tree Tip) → IsPiece rule b prefix tree → AreTimed (whole_orders prefix tree) → (node : Node) → Among node (new_nodes b best prefix tree) → IsTimedNode b time node
   new-timed prefix (Alone tip) piece each node among = absurd among
-  new-timed prefix (Parted numbers kids) piece each node among = kids-timed kids prefix numbers piece.2 each node among
+  new-timed prefix (Parted numbers kids) piece each node among = kids-timed prefix (Parted numbers kids) kids prefix numbers piece.2 each node among
 
 -- A GRAFT of a piece whose whole orders aren't below the best time
 
-pub wholes-grafted : (b : Problem) (l : Ledger) (w i : ℕ) (prefix : List ℕ) (tree : Tree Tip) → IsOut l i → IsPiece b prefix tree → ((order : List ℕ) → Among order (whole_orders prefix tree) → best_time b l ≤ total_of b order) → WholesAreTimed b l → WholesAreTimed b (after_graft b l w i prefix tree)
-wholes-grafted b l w i prefix tree out piece each wholes node among =
+pub wholes-grafted : (rule : Rule) (b : Problem) (l : Ledger) (w i : ℕ) (prefix : List ℕ) (tree : Tree Tip) → IsOut l i → IsPiece rule b prefix tree → ((order : List ℕ) → Among order (whole_orders prefix tree) → best_time b l ≤ total_of b order) → WholesAreTimed b l → WholesAreTimed b (after_graft b l w i prefix tree)
+wholes-grafted rule b l w i prefix tree out piece each wholes node among =
     let best = best_time b l in
     let root = root_state b best prefix tree in
     among-either node (with_state l.nodes i root) (new_nodes b best prefix tree) (IsTimedNode b best node)
     (wholes-moved b best l.nodes i root out.0 (ap is_live_state out.1) wholes node)
-    (new-timed b best best prefix tree piece each node)
+    (new-timed rule b best best prefix tree piece each node)
     among

@@ -3,6 +3,7 @@ use Rattle.std.proofs.Common.{ℕ, ◌+◌, ◌≤◌, ◌<◌, ◌≡◌, ◌�
 use Rattle.std.proofs.lemmas.Bool.{cases_eq}
 use Rattle.s66_isa.specs.declared.instr.Instr.{Instr}
 use Rattle.s66_isa.proofs.Lists.{cases_le}
+use Rattle.s66_model.specs.declared.rule.Rule.{Rule}
 use Rattle.s66_model.specs.Timing.{Problem, total_of}
 use Rattle.s66_model.specs.LegalOrder.{IsLegal, IsBeginning, IsComplete}
 use Rattle.s66_model.specs.Leaves.{floor_value, value}
@@ -47,10 +48,10 @@ pub whole-legal : (block : List Instr) (prefix : List ℕ) → IsBeginning block
 whole-legal block prefix begins whole = order-legal block prefix (begins, whole)
 
 -- the best order takes no more time than what is offered
-at-most : (b : Problem) (old new : Ledger) (w : ℕ) (own : Bool) (order : List ℕ) (time : ℕ) (answer : Offered) → own ≡ true → time ≡ total_of b order → Moves b old (Offer w own order time) (offered_reply answer) new → best_time b new ≤ total_of b order
-at-most b old new w own order time offered.Lower is same h = omega (arith, ap (best_time b) h.2)
-at-most b old new w own order time (offered.NotLower least) is same h = omega (arith, ap (best_time b) h.3, h.1, same)
-at-most b old new w own order time offered.OtherBlock is same h = absurd (true≢false (sym is ∙ h.0))
+at-most : (rule : Rule) (b : Problem) (old new : Ledger) (w : ℕ) (own : Bool) (order : List ℕ) (time : ℕ) (answer : Offered) → own ≡ true → time ≡ total_of b order → Moves rule b old (Offer w own order time) (offered_reply answer) new → best_time b new ≤ total_of b order
+at-most rule b old new w own order time offered.Lower is same h = omega (arith, ap (best_time b) h.2)
+at-most rule b old new w own order time (offered.NotLower least) is same h = omega (arith, ap (best_time b) h.3, h.1, same)
+at-most rule b old new w own order time offered.OtherBlock is same h = absurd (true≢false (sym is ∙ h.0))
 
 -- the order of a complete prefix is offered
 pub timed-now : (old new : MachineOf) (w i : ℕ) (timed : TimedOrder) (answer : Offered) → timed ≡ record { problem = old.problem; numbers = (model.node_at old.state.nodes i).prefix } → ((event : Event) × IsOfferOf old.problem w timed.problem timed.numbers event × IsMove old event (offered_reply answer) new) → IsTiming old i new
@@ -59,8 +60,8 @@ timed-now old new w i timed answer is (event, (own, iff, told), h) =
     let at = (model.node_at old.state.nodes i).prefix in
     let problem : timed.problem ≡ b = ap (λ (t : TimedOrder). t.problem) is in
     let numbers : timed.numbers ≡ at = ap (λ (t : TimedOrder). t.numbers) is in
-    let step : Moves b old.state (Offer w own timed.numbers (total_of timed.problem timed.numbers)) (offered_reply answer) new.state = subst (λ (e : Event). Moves b old.state e (offered_reply answer) new.state) told h.3.1 in
-    let fast = at-most b old.state new.state w own timed.numbers (total_of timed.problem timed.numbers) answer (iff.1 problem) (ap (λ p. total_of p timed.numbers) problem) step in
+    let step : Moves old.rule b old.state (Offer w own timed.numbers (total_of timed.problem timed.numbers)) (offered_reply answer) new.state = subst (λ (e : Event). Moves old.rule b old.state e (offered_reply answer) new.state) told h.3.1 in
+    let fast = at-most old.rule b old.state new.state w own timed.numbers (total_of timed.problem timed.numbers) answer (iff.1 problem) (ap (λ p. total_of p timed.numbers) problem) step in
     let offers = offer-offers old new w timed answer (event, (own, iff, told), h) in
     record {
       offers = offers;
@@ -82,8 +83,8 @@ live-uncut : (s : State) → is_live_state s ≡ true → s ≢ state.Split
 live-uncut s live cut = true≢false (sym live ∙ ap is_live_state cut)
 
 -- a node that is open or out, and isn't below the best
-pub not-below : (b : Problem) (budget : ℕ) (nodes : List Node) (best : TimedOrder) (left : ℕ) (allowances : List ℕ) (spent : ℕ) → IsKept b budget nodes best left allowances spent → (l : MachineOf) → machine_of b budget nodes best.numbers left allowances spent ≡ l → (i time : ℕ) → i < length nodes → time ≡ total_of best.problem best.numbers → ¬ ((is_live_state (node_at nodes i).state ≡ true) × ((node_at nodes i).value < time)) → is_live (model.node_at l.state.nodes i) ≡ true → best_time l.problem l.state ≤ floor_value l.problem (model.node_at l.state.nodes i).prefix
-not-below b budget nodes best left allowances spent h l is i time lt total never =
+pub not-below : (rule : Rule) (b : Problem) (budget : ℕ) (nodes : List Node) (best : TimedOrder) (left : ℕ) (allowances : List ℕ) (spent : ℕ) → IsKept rule b budget nodes best left allowances spent → (l : MachineOf) → machine_of rule b budget nodes best.numbers left allowances spent ≡ l → (i time : ℕ) → i < length nodes → time ≡ total_of best.problem best.numbers → ¬ ((is_live_state (node_at nodes i).state ≡ true) × ((node_at nodes i).value < time)) → is_live (model.node_at l.state.nodes i) ≡ true → best_time l.problem l.state ≤ floor_value l.problem (model.node_at l.state.nodes i).prefix
+not-below rule b budget nodes best left allowances spent h l is i time lt total never =
     let at = get_or (prefixes nodes) i [] in
     let s = (node_at nodes i).state in
     subst (λ (l : MachineOf). is_live (model.node_at l.state.nodes i) ≡ true → best_time l.problem l.state ≤ floor_value l.problem (model.node_at l.state.nodes i).prefix) is

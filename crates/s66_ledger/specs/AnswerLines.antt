@@ -4,20 +4,20 @@ use Rattle.s66_isa.specs.declared.instr.Instr.{Instr}
 use Rattle.s66_isa.specs.Lists.{Among}
 use Rattle.s66_model.specs.Timing.{Problem}
 use Rattle.s66_model.specs.LegalOrder.{IsBeginning}
-use Rattle.s66_model.specs.Leaves.{Leaf, floor}
+use Rattle.s66_model.specs.DominatedLeaves.{Ending}
 use Rattle.s66_model.specs.Tree.{Knot}
 use Rattle.s66_model.specs.Ledger as model
 use Rattle.s66_model.specs.Later.{later}
 use Rattle.s66_model.specs.NodeTable.{IsTable}
-use Rattle.s66_model.specs.NodeTree.{is_split_at}
+use Rattle.s66_model.specs.NodeTree.{is_split_at, ending_at}
 use Rattle.s66_model.specs.TreeLines.{lines_of}
 use Rattle.s66_ledger.specs.declared.node.Node.{Node}
 use Rattle.s66_ledger.specs.LedgerMachine.{state_of}
 use Rattle.s66_ledger.specs.Nodes.{nodes_of, prefixes}
 
 -- of the trees that the nodes have at these prefixes
-abbrev pub lines_from : Problem → List Node → List (List ℕ) → List (Knot Leaf)
-lines_from b nodes ats = lines_of b.block (is_split_at (nodes_of b nodes)) (floor b) ats
+abbrev pub lines_from : Problem → List Node → List (List ℕ) → List (Knot Ending)
+lines_from b nodes ats = lines_of b.block (is_split_at (nodes_of b nodes)) (ending_at b (nodes_of b nodes)) ats
 
 -- the prefix and those after it, if there is more; else none
 abbrev pub to_come : List Instr → Bool → List ℕ → List (List ℕ)
@@ -25,7 +25,7 @@ to_come block true prefix = prefix ∷ later block [] prefix
 to_come block false prefix = []
 
 -- their lines
-abbrev pub lines_left : Problem → List Node → Bool → List ℕ → List (Knot Leaf)
+abbrev pub lines_left : Problem → List Node → Bool → List ℕ → List (Knot Ending)
 lines_left b nodes more prefix = lines_from b nodes (to_come b.block more prefix)
 
 -- THE NODES

@@ -1,6 +1,7 @@
 -- Used by contracts: what they see of an answer: of which problem it is one, for which budget, and how its ledger ended. Used by an invariant: what is true of every answer.
 use Rattle.std.specs.Prelude.{ℕ, ◌≡◌, ◌≤◌, ◌<◌, ◌^◌, List, [], length}
 use Rattle.s66_isa.specs.Lists.{Among}
+use Rattle.s66_model.specs.declared.rule.Rule.{Rule}
 use Rattle.s66_model.specs.Timing.{Problem}
 use Rattle.s66_model.specs.Answer.{Answer, IsAnswer}
 use Rattle.s66_model.specs.LegalOrder.{IsBeginning}
@@ -13,6 +14,8 @@ use Rattle.s66_ledger.specs.LedgerMachine.{state_of}
 use Rattle.s66_ledger.specs.Nodes.{HaveFloors}
 
 pub record AnswerOf : Type 0 where
+  -- of its dominated leaves
+  pub rule : Rule
   pub problem : Problem
   pub budget : ℕ
   -- the last state of the ledger
@@ -23,11 +26,11 @@ abbrev pub answer_of : AnswerOf → Answer
 answer_of a = ended_answer a.problem a.state
 
 -- of a ledger that ended with these nodes, this best order and so many splits
-abbrev pub ended_of : Problem → ℕ → List declared.Node → List ℕ → ℕ → AnswerOf
-ended_of b budget nodes best spent = record { problem = b; budget = budget; state = state_of b nodes best 0 [] spent }
+abbrev pub ended_of : Rule → Problem → ℕ → List declared.Node → List ℕ → ℕ → AnswerOf
+ended_of rule b budget nodes best spent = record { rule = rule; problem = b; budget = budget; state = state_of b nodes best 0 [] spent }
 
 pub record IsKeptAnswer (a : AnswerOf) (nodes : List declared.Node) (low : ℕ) : Type 0 where
-  pub answer : IsAnswer a.problem a.budget (answer_of a)
+  pub answer : IsAnswer a.rule a.problem a.budget (answer_of a)
   pub bound : (answer_of a).bound ≡ low
   pub few : a.budget ≤ BUDGET_LIMIT
   -- its nodes are those of one tree

@@ -12,7 +12,8 @@ use Rattle.s66_ledger.specs.LedgerMachine.{MachineOf}
 abbrev pub Leads : MachineOf → MachineOf → Type 0
 Leads old new =
     (new.problem ≡ old.problem) × (new.budget ≡ old.budget) × (new.workers ≡ old.workers)
-    × ((events : List (Event × Reply)) × Run old.problem old.state events new.state)
+    × ((events : List (Event × Reply)) × Run old.rule old.problem old.state events new.state)
+    × (new.rule ≡ old.rule)
 
 abbrev pub NoneOut : Ledger → Type 0
 NoneOut l = (node : Node) → Among node l.nodes → node.state ≢ Out

@@ -12,7 +12,7 @@ use Rattle.s66_ledger.specs.Ledgers.{LedgerOf, IsEvent}
 -- the event of worker w's graft of this piece at a node, with this reply
 abbrev pub IsGraftAt : LedgerOf → (w node : ℕ) → PieceOf → Reply → LedgerOf → Type 0
 IsGraftAt old w node piece reply new =
-    (event : Event) × IsGraftOf old.problem w node piece.problem piece.prefix (tree_of piece) reply event × IsEvent old event reply new
+    (event : Event) × IsGraftOf old.rule old.problem w node piece.rule piece.problem piece.prefix (tree_of piece) reply event × IsEvent old event reply new
 
 -- at the ticket's node
 abbrev pub IsGraft : LedgerOf → ℕ → TicketOf → PieceOf → Reply → LedgerOf → Type 0

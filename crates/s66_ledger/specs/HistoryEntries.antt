@@ -48,7 +48,7 @@ entry_of b (entry.Grant w splits) own_bytes own_lines = (model.Grant w, Granted 
 entry_of b (entry.Claim w node) own_bytes own_lines = (model.Claim w, Claimed node)
 entry_of b (entry.Taken w node depth lines splits) own_bytes own_lines =
     let outline = own_bytes ++ own_lines in
-    (model.Graft w node true (outline_prefix depth outline) splits (Some (outline_tree b depth outline)), Taken)
+    (model.Graft w node true (outline_prefix depth outline) splits (Some (outline_tree b depth outline [])), Taken)
 entry_of b (entry.Refused w node own depth splits why) own_bytes own_lines = (model.Graft w node own own_bytes splits None, refusal_reply why)
 entry_of b (entry.Offer w own count time offered) own_bytes own_lines = (model.Offer w own own_bytes time, offered_reply offered)
 entry_of b (entry.Back w node returned) own_bytes own_lines = (model.Back w node, if returned then Returned else NotOut)

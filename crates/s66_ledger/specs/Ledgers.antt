@@ -1,6 +1,7 @@
 -- Used by contracts: what they see of a ledger with its history, and what one call of it is. Used by an invariant: what is true of every ledger.
 use Rattle.std.specs.Prelude.{ℕ, ◌≡◌, List, [], ◌∷◌, ◌++◌, ◌+◌, length, drop}
 use Rattle.s66_isa.specs.Lists.{weigh}
+use Rattle.s66_model.specs.declared.rule.Rule.{Rule}
 use Rattle.s66_model.specs.Timing.{Problem}
 use Rattle.s66_model.specs.Ledger.{Ledger, Event, Reply, Step, Run, opening}
 use Rattle.s66_model.specs.Accounts.{Summary, summary_of}
@@ -10,6 +11,8 @@ use Rattle.s66_ledger.specs.LedgerMachine.{MachineOf}
 
 -- a problem's ledger, for a budget and so many workers
 pub record LedgerOf : Type 0 where
+  -- of its dominated leaves
+  pub rule : Rule
   pub problem : Problem
   pub budget : ℕ
   pub workers : ℕ
@@ -29,11 +32,11 @@ events_of l = entries_of l.problem l.entries l.bytes (drop 1 l.lines)
 abbrev pub IsEvent : LedgerOf → Event → Reply → LedgerOf → Type 0
 IsEvent old event reply new =
     (new.problem ≡ old.problem) × (new.budget ≡ old.budget) × (new.workers ≡ old.workers)
-    × Step old.problem old.state event reply new.state × (events_of new ≡ events_of old ++ (event, reply) ∷ [])
+    × Step old.rule old.problem old.state event reply new.state × (events_of new ≡ events_of old ++ (event, reply) ∷ []) × (new.rule ≡ old.rule)
 
 -- its history leads from the opening to its state, and each of its bytes is some entry's, as is each line but the first
 pub record IsRecorded (l : LedgerOf) : Type 0 where
-  pub run : Run l.problem (opening l.problem l.budget l.workers) (events_of l) l.state
+  pub run : Run l.rule l.problem (opening l.problem l.budget l.workers) (events_of l) l.state
   pub bytes : weigh byte_count l.entries ≡ length l.bytes
   pub lines : weigh line_count l.entries + 1 ≡ length l.lines
 
@@ -43,4 +46,4 @@ account_summary l = summary_of l.problem l.budget l.workers (events_of l) l.stat
 
 abbrev pub with_history : MachineOf → List Entry → List ℕ → LedgerOf
 with_history m entries bytes =
-    record { problem = m.problem; budget = m.budget; workers = m.workers; state = m.state; entries = entries; bytes = bytes; lines = m.lines }
+    record { rule = m.rule; problem = m.problem; budget = m.budget; workers = m.workers; state = m.state; entries = entries; bytes = bytes; lines = m.lines }

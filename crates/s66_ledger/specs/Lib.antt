@@ -12,6 +12,7 @@ pub mod Links
 pub mod LiveNodes
 pub mod Nodes
 pub mod OpenNodes
+pub mod Opened
 pub mod Planting
 pub mod Replies
 pub mod Steps

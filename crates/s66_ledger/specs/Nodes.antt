@@ -2,6 +2,7 @@
 use Rattle.std.specs.Prelude.{ℕ, ◌≡◌, ◌≢◌, ◌<◌, min, Bool, true, false, List, [], ◌∷◌, ◌++◌, length, get_or, set, map}
 use Rattle.s66_model.specs.Timing.{Problem}
 use Rattle.s66_model.specs.Leaves.{floor, floor_value}
+use Rattle.s66_model.specs.DominatedLeaves.{Bounding}
 use Rattle.s66_model.specs.Ledger as model
 use Rattle.s66_ledger.specs.declared.node.Node.{Node}
 use Rattle.s66_ledger.specs.declared.node.State.{State}
@@ -67,7 +68,7 @@ is_out node = is_out_state node.state
 abbrev pub seen_state : Problem → List ℕ → State → model.State
 seen_state b prefix state.Open = model.Open
 seen_state b prefix state.Out = model.Out
-seen_state b prefix state.Closed = model.Closed (floor b prefix)
+seen_state b prefix state.Closed = model.Closed (Bounding (floor b prefix))
 seen_state b prefix state.Split = model.Cut
 
 abbrev pub nodes_at : Problem → List (List ℕ) → List Node → List model.Node

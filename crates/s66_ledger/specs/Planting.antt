@@ -7,13 +7,14 @@ use Rattle.s66_model.specs.Ledger.{kid_nodes}
 use Rattle.s66_dep.specs.Members.{numbers_in}
 use Rattle.s66_node.specs.declared.knot.Knot as code
 use Rattle.s66_node.specs.declared.knot.Knot.TheVariants as line
-use Rattle.s66_model.specs.Told.{Told, ToldLeaf, ToldFrontier, ToldHolds, tip_of, kids_seen}
+use Rattle.s66_model.specs.Told.{Told, ToldLeaf, ToldFrontier, ToldPassed, tip_of, kids_seen}
 use Rattle.s66_node.specs.Walked.{front}
 use Rattle.s66_node.specs.Growing.{flat_rests}
 use Rattle.s66_ledger.specs.declared.node.Node.{Node}
 use Rattle.s66_ledger.specs.declared.node.State.{State}
 use Rattle.s66_ledger.specs.declared.node.State.TheVariants as state
 use Rattle.s66_ledger.specs.declared.subtree.Place.{Place}
+use Rattle.s66_ledger.specs.Opened.{PlainHolds}
 use Rattle.s66_ledger.specs.Nodes.{prefixes, nodes_of, HaveFloors}
 
 -- the children of a tree's root
@@ -28,21 +29,29 @@ abbrev pub made_state : code.Knot → State
 made_state (line.Split numbers) = state.Split
 made_state (line.Leaf value) = state.Closed
 made_state (line.Frontier value) = state.Open
+made_state (line.Passed value name) = state.Open
 
 abbrev pub knot_value : code.Knot → ℕ
 knot_value (line.Split numbers) = 0
 knot_value (line.Leaf value) = value
 knot_value (line.Frontier value) = value
+knot_value (line.Passed value name) = value
 
 abbrev pub told_state : ℕ → Told → State
 told_state best (ToldLeaf value) = if nat_le best value then state.Closed else state.Open
 told_state best (ToldFrontier value) = state.Open
+told_state best (ToldPassed value name) = state.Open
+
+abbrev pub told_value : Told → ℕ
+told_value (ToldLeaf value) = value
+told_value (ToldFrontier value) = value
+told_value (ToldPassed value name) = value
 
 -- IN PREORDER: of a prefix and of each above it, nearest first, these children are still to come
 
 abbrev pub RestsHold : Problem → List ℕ → List (List ℕ) → List (Kids Told) → Type 0
 RestsHold b at [] [] = Unit {0}
-RestsHold b at (ns ∷ above) (kids ∷ rests) = KidsHold b.block (ToldHolds b) at ns kids × RestsHold b (front at) above rests
+RestsHold b at (ns ∷ above) (kids ∷ rests) = KidsHold b.block (PlainHolds b) at ns kids × RestsHold b (front at) above rests
 RestsHold b at [] (kids ∷ rests) = ⊥
 RestsHold b at (ns ∷ above) [] = ⊥
 

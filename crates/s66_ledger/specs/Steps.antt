@@ -1,5 +1,6 @@
 -- Used by contracts: which event of the machine an event is that is handed to a ledger, and which reply of it a reply is.
 use Rattle.std.specs.Prelude.{ℕ, ◌≡◌}
+use Rattle.s66_model.specs.declared.rule.Rule.{Rule}
 use Rattle.s66_model.specs.Timing.{Problem}
 use Rattle.s66_model.specs.Ledger as model
 use Rattle.s66_model.specs.Recorded.{IsGraftOf, IsOfferOf}
@@ -30,11 +31,11 @@ reply_of reply.OtherBlock = model.OtherBlock
 reply_of reply.Returned = model.Returned
 reply_of reply.Retired = model.Retired
 
--- in a ledger of this problem, with this reply
-abbrev pub IsEventOf : Problem → Event → model.Reply → model.Event → Type 0
-IsEventOf b (event.Grant w) reply e = e ≡ model.Grant w
-IsEventOf b (event.Claim w) reply e = e ≡ model.Claim w
-IsEventOf b (event.Graft w node piece) reply e = IsGraftOf b w node piece.problem piece.prefix (tree_of piece) reply e
-IsEventOf b (event.Offer w timed) reply e = IsOfferOf b w timed.problem timed.numbers e
-IsEventOf b (event.Back w node) reply e = e ≡ model.Back w node
-IsEventOf b (event.Retire w) reply e = e ≡ model.Retire w
+-- in a ledger of this problem by this rule, with this reply
+abbrev pub IsEventOf : Rule → Problem → Event → model.Reply → model.Event → Type 0
+IsEventOf rule b (event.Grant w) reply e = e ≡ model.Grant w
+IsEventOf rule b (event.Claim w) reply e = e ≡ model.Claim w
+IsEventOf rule b (event.Graft w node piece) reply e = IsGraftOf rule b w node piece.rule piece.problem piece.prefix (tree_of piece) reply e
+IsEventOf rule b (event.Offer w timed) reply e = IsOfferOf b w timed.problem timed.numbers e
+IsEventOf rule b (event.Back w node) reply e = e ≡ model.Back w node
+IsEventOf rule b (event.Retire w) reply e = e ≡ model.Retire w

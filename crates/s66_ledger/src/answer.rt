@@ -4,6 +4,7 @@ use crate::node::Node;
 use s66_cert::Tree;
 use s66_dep::Order;
 use s66_line::Block;
+use s66_model::Rule;
 use s66_node::Walk;
 use s66_time::Timed;
 use std::alloc::{AllocError, Global};
@@ -13,6 +14,7 @@ use std::marker::Model;
 /// legal orders, and a tree that shows the bound: the nodes of a ledger that has come to its end.
 #[derive(Drop)]
 pub struct Answer {
+    pub(crate) rule: Rule,
     pub(crate) best: Timed,
     pub(crate) budget: u32,
     pub(crate) nodes: Vec<Node>,
@@ -25,9 +27,9 @@ impl Model for Answer {
 
     ghost Value = { AnswerOf };
 
-    ghost view = { λ a. ended_of a.best.problem a.budget a.nodes.items a.best.numbers a.splits };
+    ghost view = { λ a. ended_of a.rule a.best.problem a.budget a.nodes.items a.best.numbers a.splits };
 
-    ghost invariant = { λ a. IsKeptAnswer (ended_of a.best.problem a.budget a.nodes.items a.best.numbers a.splits) a.nodes.items a.bound };
+    ghost invariant = { λ a. IsKeptAnswer (ended_of a.rule a.best.problem a.budget a.nodes.items a.best.numbers a.splits) a.nodes.items a.bound };
 }
 
 impl Answer {
@@ -46,10 +48,17 @@ impl Answer {
         self.best.order()
     }
 
+    /// The rule of its dominated leaves.
+    pub fn rule(&self) -> Rule
+        ensures { result ≡ self.now.rule }
+    {
+        self.rule
+    }
+
     /// The total of the order, in minor cycles.
     pub fn time(&self) -> u32
         ensures value { result ≡ (answer_of self.now).time }
-        ensures answer { IsAnswer self.now.problem self.now.budget (answer_of self.now) }
+        ensures answer { IsAnswer self.now.rule self.now.problem self.now.budget (answer_of self.now) }
     {
         self.best.total()
     }
@@ -74,7 +83,7 @@ impl Answer {
     /// budget allows.
     pub fn is_best(&self) -> bool
         ensures value { IsTrue result ↔ IsBestAnswer (answer_of self.now) }
-        ensures answer { IsAnswer self.now.problem self.now.budget (answer_of self.now) }
+        ensures answer { IsAnswer self.now.rule self.now.problem self.now.budget (answer_of self.now) }
     {
         self.bound == self.best.total()
     }

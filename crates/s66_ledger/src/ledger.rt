@@ -1,5 +1,6 @@
-ghost use Rattle.std.specs.Prelude.{◌≡◌, ◌++◌, OnOk, OnErr};
+ghost use Rattle.std.specs.Prelude.{[], ◌≡◌, ◌++◌, OnOk, OnErr};
 ghost use Rattle.s66_node.specs.Outlines.{outline_of, IsOutlineOf};
+ghost use Rattle.s66_ledger.specs.Opened.{opened};
 ghost use Rattle.s66_ledger.specs.Subtrees.{root_bytes};
 
 use crate::answer::Answer;
@@ -8,10 +9,11 @@ use crate::history::History;
 use crate::limits::BUDGET_LIMIT;
 use crate::machine::Machine;
 use crate::reply::{BackError, GraftError, Offered};
-use crate::subtree::Subtree;
+use crate::subtree::{Subtree, byte_of};
 use crate::ticket::{Ticket, node_of};
 use s66_isa::Profile;
 use s66_line::Block;
+use s66_model::Rule;
 use s66_node::Piece;
 use s66_time::Timed;
 use std::alloc::{AllocError, Global};
@@ -37,12 +39,12 @@ impl<'a> Model for Ledger<'a> {
 
 /// Puts the bytes of a piece's root behind those that are kept: its prefix and the byte of its line. `Err` is want of memory.
 fn keep_root(bytes: &mut Vec<u8>, piece: &Piece) -> Result<(), AllocError>
-    ensures outline { IsOutlineOf piece.now (outline_of piece.now) }
-    ensures ok { OnOk result (bytes.new.items ≡ bytes.old.items ++ root_bytes piece.now) }
+    ensures outline { IsOutlineOf (opened piece.now) (outline_of (opened piece.now)) [] }
+    ensures ok { OnOk result (bytes.new.items ≡ bytes.old.items ++ root_bytes (opened piece.now)) }
     ensures err { OnErr result (bytes.new.items ≡ bytes.old.items) }
 {
     let prefix = piece.prefix();
-    let line = piece.knots()[0].byte();
+    let line = byte_of(&piece.knots()[0]);
     bytes.reserve(prefix.len() + 1)?;
     bytes.extend_from_slice(prefix)?;
     bytes.push_reserved(line);
@@ -53,6 +55,7 @@ impl<'a> Ledger<'a> {
     ghost use Rattle.std.specs.Prelude.{ℕ, [], ◌≡◌, ◌≤◌, length, slice_get, IfOk, IfErr, OnOk, OnErr};
     ghost use Rattle.s66_line.specs.Block.{instrs_of};
     ghost use Rattle.s66_isa.specs.Lists.{tally, weigh};
+    ghost use Rattle.s66_model.specs.declared.rule.Rule.TheVariants.{NoneNamed};
     ghost use Rattle.s66_model.specs.Accounts.{Account};
     ghost use Rattle.s66_model.specs.Ledger.{Event, Run, opening, best_time, is_open, Grant, Granted, Claim, Claimed, Back, Returned, NotOut, Retire, Retired, Taken};
     ghost use Rattle.s66_model.specs.Recorded.{IsOfferOf};
@@ -62,6 +65,7 @@ impl<'a> Ledger<'a> {
     ghost use Rattle.s66_ledger.specs.Ledgers.{IsEvent, IsRecorded, events_of, account_summary};
     ghost use Rattle.s66_ledger.specs.Answers.{answer_of};
     ghost use Rattle.s66_ledger.specs.Grafts.{IsGraft, IsRefusedGraft, IsGraftAt, IsRefusedGraftAt};
+    ghost use Rattle.s66_ledger.specs.Opened.{opened};
     ghost use Rattle.s66_ledger.specs.Subtrees.{IsSubtreeOf};
     ghost use Rattle.s66_ledger.specs.ClaimedNodes.{claimed_node, IsTicketOf, IsLeastOpen};
     ghost use Rattle.s66_ledger.specs.Replies.{offered_reply};
@@ -69,7 +73,7 @@ impl<'a> Ledger<'a> {
     ghost use Rattle.s66_ledger.specs.declared.reply.BackError.TheVariants as refused;
 
     /// A ledger of one open node, the empty prefix, whose best order is the source order, and whose history is empty; the workers
-    /// count from 1.
+    /// count from 1. No leaf is dominated.
     pub fn new(
         alloc: Global,
         block: &'a Block<'a>,
@@ -78,6 +82,27 @@ impl<'a> Ledger<'a> {
         workers: u8,
     ) -> Result<Ledger<'a>, AllocError>
         requires { budget ≤ BUDGET_LIMIT }
+        ensures rule { IfOk result (λ l. l.rule ≡ NoneNamed) }
+        ensures problem { IfOk result (λ l. l.problem ≡ record { block = instrs_of block.now; profile = profile.now }) }
+        ensures budget { IfOk result (λ l. l.budget ≡ budget) }
+        ensures workers { IfOk result (λ l. l.workers ≡ workers) }
+        ensures state { IfOk result (λ l. l.state ≡ opening l.problem budget workers) }
+        ensures history { IfOk result (λ l. (l.entries ≡ []) × (l.bytes ≡ [])) }
+    {
+        Ledger::by_rule(alloc, block, profile, Rule::NoneNamed, budget, workers)
+    }
+
+    /// A ledger as `new` makes one, whose pieces may have dominated leaves by this rule.
+    pub fn by_rule(
+        alloc: Global,
+        block: &'a Block<'a>,
+        profile: &Profile,
+        rule: Rule,
+        budget: u32,
+        workers: u8,
+    ) -> Result<Ledger<'a>, AllocError>
+        requires { budget ≤ BUDGET_LIMIT }
+        ensures rule { IfOk result (λ l. l.rule ≡ rule) }
         ensures problem { IfOk result (λ l. l.problem ≡ record { block = instrs_of block.now; profile = profile.now }) }
         ensures budget { IfOk result (λ l. l.budget ≡ budget) }
         ensures workers { IfOk result (λ l. l.workers ≡ workers) }
@@ -85,7 +110,7 @@ impl<'a> Ledger<'a> {
         ensures history { IfOk result (λ l. (l.entries ≡ []) × (l.bytes ≡ [])) }
     {
         Ok(Ledger {
-            machine: Machine::new(alloc, block, profile, budget, workers)?,
+            machine: Machine::new(alloc, block, profile, rule, budget, workers)?,
             history: History::new(alloc),
             alloc,
         })
@@ -96,6 +121,13 @@ impl<'a> Ledger<'a> {
         ensures { instrs_of result.now ≡ self.now.problem.block }
     {
         self.machine.block()
+    }
+
+    /// The rule of dominated leaves.
+    pub fn rule(&self) -> Rule
+        ensures { result ≡ self.now.rule }
+    {
+        self.machine.rule()
     }
 
     /// The profile.
@@ -124,7 +156,7 @@ impl<'a> Ledger<'a> {
     pub fn history(&self) -> &History
         ensures entries { result.now.entries.items ≡ self.now.entries }
         ensures bytes { result.now.bytes.items ≡ self.now.bytes }
-        ensures run { Run self.now.problem (opening self.now.problem self.now.budget self.now.workers) (events_of self.now) self.now.state }
+        ensures run { Run self.now.rule self.now.problem (opening self.now.problem self.now.budget self.now.workers) (events_of self.now) self.now.state }
     {
         &self.history
     }
@@ -157,7 +189,7 @@ impl<'a> Ledger<'a> {
     /// its nodes that aren't split, and its nodes are those of one tree.
     pub fn best(&self) -> u32
         ensures value { result ≡ best_time self.now.problem self.now.state }
-        ensures covers { Covers self.now.problem self.now.budget self.now.state }
+        ensures covers { Covers self.now.rule self.now.problem self.now.budget self.now.state }
         ensures table { IsTable self.now.problem self.now.state }
     {
         self.machine.best()
@@ -319,7 +351,7 @@ impl<'a> Ledger<'a> {
         subtree: &Subtree,
     ) -> Result<(), GraftError>
         requires worker { (1 ≤ w) × (w ≤ self.old.workers) }
-        requires subtree { IsSubtreeOf piece.now subtree.now }
+        requires subtree { IsSubtreeOf (opened piece.now) subtree.now }
         ensures ok { OnOk result (IsGraftAt self.old w node piece.now Taken self.new) }
         ensures refused { IfErr result (λ why. IsRefusedGraftAt self.old w node piece.now why self.new) }
         ensures err { OnErr result (self.new.state ≡ self.old.state) }
@@ -351,7 +383,7 @@ impl<'a> Ledger<'a> {
             self.history.bytes.truncate(kept);
             return Err(error);
         };
-        let own = piece.is_of(self.machine.block(), self.machine.profile());
+        let own = self.machine.is_own(piece);
         self.history.bytes.truncate(kept + depth as usize);
         self.history.entries.push_reserved(Entry::Refused {
             w,
@@ -371,9 +403,10 @@ impl<'a> Ledger<'a> {
     /// The time is that of expanding what it claims, and linear in the number of nodes. `Err` is want of memory.
     pub fn finish(self, alloc: Global) -> Result<Answer, AllocError>
         requires { 1 ≤ self.workers }
+        ensures rule { IfOk result (λ a. a.rule ≡ self.entry.rule) }
         ensures problem { IfOk result (λ a. a.problem ≡ self.entry.problem) }
         ensures budget { IfOk result (λ a. a.budget ≡ self.entry.budget) }
-        ensures finished { IfOk result (λ a. IsFinished self.entry.problem self.entry.budget self.entry.state (answer_of a)) }
+        ensures finished { IfOk result (λ a. IsFinished self.entry.rule self.entry.problem self.entry.budget self.entry.state (answer_of a)) }
     {
         let Ledger {
             machine,

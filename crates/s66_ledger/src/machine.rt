@@ -9,6 +9,7 @@ use s66_bound::Bounds;
 use s66_dep::Order;
 use s66_isa::{BLOCK_LIMIT, Profile};
 use s66_line::Block;
+use s66_model::Rule;
 use s66_node::{Piece, Priority, Walk};
 use s66_time::{Clock, Timed, time_of};
 use std::alloc::{AllocError, Global};
@@ -17,6 +18,7 @@ use std::marker::Model;
 /// The ledger of a search without its history: what its events make of the table; it borrows the block.
 #[derive(Drop)]
 pub(crate) struct Machine<'a> {
+    rule: Rule,
     block: &'a Block<'a>,
     profile: Profile,
     budget: u32,
@@ -33,9 +35,9 @@ impl<'a> Model for Machine<'a> {
 
     ghost Value = { MachineOf };
 
-    ghost view = { λ l. machine_of (record { block = instrs_of l.block.now; profile = l.profile }) l.budget l.table l.best.numbers l.left l.allowances.items l.spent };
+    ghost view = { λ l. machine_of l.rule (record { block = instrs_of l.block.now; profile = l.profile }) l.budget l.table l.best.numbers l.left l.allowances.items l.spent };
 
-    ghost invariant = { λ l. IsKept (record { block = instrs_of l.block.now; profile = l.profile }) l.budget l.table l.best l.left l.allowances.items l.spent };
+    ghost invariant = { λ l. IsKept l.rule (record { block = instrs_of l.block.now; profile = l.profile }) l.budget l.table l.best l.left l.allowances.items l.spent };
 }
 
 impl<'a> Machine<'a> {
@@ -45,7 +47,7 @@ impl<'a> Machine<'a> {
     ghost use Rattle.s66_model.specs.Timing.{total_of};
     ghost use Rattle.s66_model.specs.LegalOrder.{IsBeginning};
     ghost use Rattle.s66_model.specs.Leaves.{floor_value};
-    ghost use Rattle.s66_model.specs.Ledger.{Event, opening, best_time, is_open, is_live, node_at, Grant, Granted, Claim, Claimed, Back, Returned, NotOut, Retire, Retired, Offer, Taken};
+    ghost use Rattle.s66_model.specs.Ledger.{Event, opening, best_time, is_open, is_live, node_at, Grant, Granted, Claim, Claimed, Back, Returned, NotOut, Retire, Retired, Offer};
     ghost use Rattle.s66_model.specs.Recorded.{IsOfferOf};
     ghost use Rattle.s66_model.specs.Coverage.{Covers, bound_of, IsFinished};
     ghost use Rattle.s66_model.specs.BestAndBound.{IsBound};
@@ -54,22 +56,26 @@ impl<'a> Machine<'a> {
     ghost use Rattle.s66_model.specs.Ended.{IsEnded, ended_answer};
     ghost use Rattle.s66_ledger.specs.Answers.{answer_of};
     ghost use Rattle.s66_ledger.specs.Finishing.{IsReopening, NoneOut, WholesAreTimed};
-    ghost use Rattle.s66_ledger.specs.GraftMoves.{IsGraftMove, IsRefusedMove};
+    ghost use Rattle.s66_ledger.specs.GraftMoves.{IsTakenMove, IsRefusedMove};
     ghost use Rattle.s66_ledger.specs.ClaimedNodes.{claimed_node, IsTicketOf, IsLeastOpen};
     ghost use Rattle.s66_ledger.specs.Replies.{offered_reply};
+    ghost use Rattle.s66_ledger.specs.Opened.{opened};
     ghost use Rattle.s66_ledger.specs.Subtrees.{IsSubtreeOf, lines_below};
     ghost use Rattle.s66_ledger.specs.declared.limits.TheConstants.{BUDGET_LIMIT};
     ghost use Rattle.s66_ledger.specs.declared.reply.BackError.TheVariants as refused;
 
-    /// A machine of one open node, the empty prefix, whose best order is the source order; the workers count from 1.
+    /// A machine of one open node, the empty prefix, whose best order is the source order; the workers count from 1, and the rule is
+    /// that of dominated leaves.
     pub fn new(
         alloc: Global,
         block: &'a Block<'a>,
         profile: &Profile,
+        rule: Rule,
         budget: u32,
         workers: u8,
     ) -> Result<Machine<'a>, AllocError>
         requires { budget ≤ BUDGET_LIMIT }
+        ensures rule { IfOk result (λ l. l.rule ≡ rule) }
         ensures problem { IfOk result (λ l. l.problem ≡ record { block = instrs_of block.now; profile = profile.now }) }
         ensures budget { IfOk result (λ l. l.budget ≡ budget) }
         ensures workers { IfOk result (λ l. l.workers ≡ workers) }
@@ -84,6 +90,7 @@ impl<'a> Machine<'a> {
         let table = NodeTable::new(alloc, floor)?;
         let source = Order::source(block);
         Ok(Machine {
+            rule,
             block,
             profile: *profile,
             budget,
@@ -100,6 +107,13 @@ impl<'a> Machine<'a> {
         ensures { instrs_of result.now ≡ self.now.problem.block }
     {
         self.block
+    }
+
+    /// The rule of dominated leaves.
+    pub fn rule(&self) -> Rule
+        ensures { result ≡ self.now.rule }
+    {
+        self.rule
     }
 
     /// The profile.
@@ -136,7 +150,7 @@ impl<'a> Machine<'a> {
     /// its nodes that aren't split, and its nodes are those of one tree.
     pub fn best(&self) -> u32
         ensures value { result ≡ best_time self.now.problem self.now.state }
-        ensures covers { Covers self.now.problem self.now.budget self.now.state }
+        ensures covers { Covers self.now.rule self.now.problem self.now.budget self.now.state }
         ensures table { IsTable self.now.problem self.now.state }
     {
         self.best.total()
@@ -305,8 +319,16 @@ impl<'a> Machine<'a> {
         }
     }
 
+    /// Whether a piece is of the block and the profile, and by the rule.
+    pub fn is_own(&self, piece: &Piece) -> bool
+        ensures { IsTrue result ↔ ((piece.now.rule ≡ self.now.rule) × (piece.now.problem ≡ self.now.problem)) }
+    {
+        piece.rule() == self.rule && piece.is_of(self.block, &self.profile)
+    }
+
     /// Puts a piece, whose subtree comes with it, in the place of a node that was handed out, and spends its splits: the node takes
-    /// the state of the piece's root, and the piece's other prefixes become nodes. A leaf that is below the best time is kept open.
+    /// the state of the piece's root, and the piece's other prefixes become nodes. A leaf that is below the best time is kept open, and so
+    /// is a dominated prefix.
     ///
     /// In time linear in the piece's lines, with a logarithm of the number of open nodes for each that is open; all room is made
     /// before anything changes.
@@ -318,15 +340,15 @@ impl<'a> Machine<'a> {
         subtree: &Subtree,
     ) -> Result<(), GraftError>
         requires worker { (1 ≤ w) × (w ≤ self.old.workers) }
-        requires subtree { IsSubtreeOf piece.now subtree.now }
-        ensures ok { OnOk result (IsGraftMove self.old w node piece.now Taken self.new) }
-        ensures lines { OnOk result (self.new.lines ≡ self.old.lines ++ lines_below piece.now) }
+        requires subtree { IsSubtreeOf (opened piece.now) subtree.now }
+        ensures ok { OnOk result (IsTakenMove self.old w node piece.now self.new) }
+        ensures lines { OnOk result (self.new.lines ≡ self.old.lines ++ lines_below (opened piece.now)) }
         ensures refused { IfErr result (λ e. IsRefusedMove self.old w node piece.now e self.new) }
         ensures err { OnErr result (self.new ≡ self.old) }
     {
         // so the numbers of its nodes fit
         prove!(self.block.count() <= BLOCK_LIMIT);
-        let own = piece.is_of(self.block, &self.profile);
+        let own = self.is_own(piece);
         // proof only: its lines are those of a piece's tree
         let _lines = piece.knots();
         if !self.table.is_out(node) {
@@ -359,9 +381,10 @@ impl<'a> Machine<'a> {
     /// The time is that of expanding what it claims, and linear in the number of nodes. `Err` is want of memory.
     pub fn finish(mut self, alloc: Global) -> Result<Answer, AllocError>
         requires { 1 ≤ self.workers }
+        ensures rule { IfOk result (λ a. a.rule ≡ self.entry.rule) }
         ensures problem { IfOk result (λ a. a.problem ≡ self.entry.problem) }
         ensures budget { IfOk result (λ a. a.budget ≡ self.entry.budget) }
-        ensures finished { IfOk result (λ a. IsFinished self.entry.problem self.entry.budget self.entry.state (answer_of a)) }
+        ensures finished { IfOk result (λ a. IsFinished self.entry.rule self.entry.problem self.entry.budget self.entry.state (answer_of a)) }
     {
         let mut walk = Walk::new(self.block, &self.profile);
         self.offer_schedule(&mut walk, Priority::Start);
@@ -376,12 +399,14 @@ impl<'a> Machine<'a> {
     /// The answer that the ledger is where its steps have ended.
     fn into_answer(self) -> Answer
         requires { IsEnded self.problem self.budget self.state }
+        ensures rule { result.rule ≡ self.entry.rule }
         ensures problem { result.problem ≡ self.entry.problem }
         ensures budget { result.budget ≡ self.entry.budget }
         ensures answer { answer_of result ≡ ended_answer self.entry.problem self.entry.state }
     {
         let bound = self.bound();
         let Machine {
+            rule,
             budget,
             table,
             best,
@@ -389,6 +414,7 @@ impl<'a> Machine<'a> {
             ..
         } = self;
         Answer {
+            rule,
             best,
             budget,
             nodes: table.into_nodes(),

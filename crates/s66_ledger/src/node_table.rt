@@ -47,6 +47,7 @@ impl NodeTable {
     ghost use Rattle.s66_model.specs.Ledger.{root_state, new_nodes};
     ghost use Rattle.s66_node.specs.Pieces.{tree_of};
     ghost use Rattle.s66_node.specs.declared.knot.TheConstants.{FRONTIER};
+    ghost use Rattle.s66_ledger.specs.Opened.{opened};
     ghost use Rattle.s66_ledger.specs.Subtrees.{IsSubtreeOf, planted, lines_below};
     ghost use Rattle.s66_ledger.specs.Nodes.{is_open, is_live_state, node_at, with_state, prefixes, nodes_of, lines_of, HaveFloors, HaveDepths};
     ghost use Rattle.s66_ledger.specs.OpenNodes.{IsOut, ranked};
@@ -214,12 +215,12 @@ impl NodeTable {
         requires over { get_or (prefixes self.old) root [] ≡ piece.now.prefix }
         requires floors { HaveFloors piece.now.problem self.old }
         requires room { length self.old + length piece.now.knots < 2 ^ 32 }
-        requires subtree { IsSubtreeOf piece.now subtree.now }
+        requires subtree { IsSubtreeOf (opened piece.now) subtree.now }
         ensures err { OnErr result (self.new ≡ self.old) }
         ensures count { OnOk result (length self.new + 1 ≡ length self.old + length piece.now.knots) }
         ensures floors { OnOk result (HaveFloors piece.now.problem self.new) }
-        ensures lines { OnOk result (lines_of self.new ≡ lines_of self.old ++ lines_below piece.now) }
-        ensures ok { OnOk result (nodes_of piece.now.problem self.new ≡ model.with_state (nodes_of piece.now.problem self.old) root (root_state piece.now.problem best piece.now.prefix (tree_of piece.now)) ++ new_nodes piece.now.problem best piece.now.prefix (tree_of piece.now)) }
+        ensures lines { OnOk result (lines_of self.new ≡ lines_of self.old ++ lines_below (opened piece.now)) }
+        ensures ok { OnOk result (nodes_of piece.now.problem self.new ≡ model.with_state (nodes_of piece.now.problem self.old) root (root_state piece.now.problem best piece.now.prefix (tree_of (opened piece.now))) ++ new_nodes piece.now.problem best piece.now.prefix (tree_of (opened piece.now))) }
     {
         // proof only: the nodes have depths
         let _ = &self.nodes;

@@ -64,7 +64,7 @@ impl<'a> Machine<'a> {
             };
         }
         let piece = walk.expand(alloc, ticket.prefix(), best, allowance)?;
-        self.take_in(alloc, ticket, piece)?;
+        self.take_in(alloc, ticket, piece.by_rule(self.rule()))?;
         Ok(true)
     }
 
@@ -118,11 +118,12 @@ impl<'a> Machine<'a> {
     /// Offers the best of the piece's whole orders, and puts the piece in the place of the ticket's node.
     fn take_in(&mut self, alloc: Global, ticket: Ticket, piece: Piece) -> Result<(), AllocError>
         requires workers { 1 ≤ self.old.workers }
-        requires covers { Covers self.old.problem self.old.budget self.old.state }
+        requires covers { Covers self.old.rule self.old.problem self.old.budget self.old.state }
         requires within { IsWithin self.old.problem self.old.state ticket }
+        requires rule { piece.rule ≡ self.old.rule }
         requires problem { piece.problem ≡ self.old.problem }
         requires prefix { piece.prefix ≡ ticket.prefix }
-        requires expansion { IsExpansion self.old.problem (best_time self.old.problem self.old.state) (best_time self.old.problem self.old.state) (allowance self.old.state 1) piece.prefix (tree_of piece) }
+        requires expansion { IsExpansion self.old.rule self.old.problem (best_time self.old.problem self.old.state) (best_time self.old.problem self.old.state) (allowance self.old.state 1) piece.prefix (tree_of piece) }
         requires timed { IsBestTimed self.old.problem piece.prefix (tree_of piece) piece.timed }
         requires some { 1 ≤ allowance self.old.state 1 }
         requires below { floor_value self.old.problem piece.prefix < best_time self.old.problem self.old.state }

@@ -1,7 +1,10 @@
 ghost use Rattle.std.specs.Prelude.{◌≡◌, ◌<◌, length, IfOk};
 ghost use Rattle.s66_dep.specs.Members.{numbers_in};
 ghost use Rattle.s66_model.specs.Tree.{Parted};
+ghost use Rattle.s66_node.specs.Outlines.{line_byte};
 ghost use Rattle.s66_node.specs.Pieces.{told_tree};
+ghost use Rattle.s66_node.specs.SeenKnots.{seen_knot};
+ghost use Rattle.s66_ledger.specs.Opened.{open_line, opened};
 ghost use Rattle.s66_ledger.specs.Planting.{kids_of, knot_value, made_state};
 ghost use Rattle.s66_ledger.specs.Subtrees.{IsSubtreeOf};
 ghost use Rattle.s66_ledger.specs.declared.limits.TheConstants.{PIECE_LINES_LIMIT};
@@ -11,12 +14,12 @@ use crate::node::{Node, State};
 use arrayvec::ArrayVec;
 use s66_dep::Set;
 use s66_isa::BLOCK_LIMIT;
-use s66_node::{Knot, Piece};
+use s66_node::{FRONTIER, Knot, Piece};
 use std::alloc::{AllocError, Global};
 use std::marker::Model;
 
 /// The nodes of a piece below its root, in preorder, before they have their place in a ledger: each names its parent by the place
-/// among them, counted from 1, and by 0 the root. What carries its floor is closed.
+/// among them, counted from 1, and by 0 the root. What carries its floor is closed, and what is dominated is open.
 #[derive(Debug, Drop)]
 pub struct Subtree {
     nodes: Vec<Node>,
@@ -48,7 +51,17 @@ pub fn state_of(knot: &Knot) -> State
     match knot {
         Knot::Split(_) => State::Split,
         Knot::Leaf { .. } => State::Closed,
-        Knot::Frontier { .. } => State::Open,
+        Knot::Frontier { .. } | Knot::Passed { .. } => State::Open,
+    }
+}
+
+/// The byte of a piece's line, and of one in the frontier if its prefix is dominated.
+pub fn byte_of(knot: &Knot) -> u8
+    ensures { result ≡ line_byte (open_line (seen_knot knot.now)) }
+{
+    match knot {
+        Knot::Passed { .. } => FRONTIER,
+        Knot::Split(_) | Knot::Leaf { .. } | Knot::Frontier { .. } => knot.byte(),
     }
 }
 
@@ -59,15 +72,15 @@ pub fn value_of(knot: &Knot) -> u32
     match knot {
         Knot::Split(_) => 0,
         Knot::Leaf { value } => *value,
-        Knot::Frontier { value } => *value,
+        Knot::Frontier { value } | Knot::Passed { value, .. } => *value,
     }
 }
 
 /// The nodes below a root that is split into these numbers, in time linear in the piece's lines.
 fn nodes_below(alloc: Global, numbers: Set, piece: &Piece) -> Result<Vec<Node>, AllocError>
-    requires split { told_tree piece.now ≡ Parted (numbers_in numbers) (kids_of (told_tree piece.now)) }
+    requires split { told_tree (opened piece.now) ≡ Parted (numbers_in numbers) (kids_of (told_tree (opened piece.now))) }
     requires few { length piece.now.knots < PIECE_LINES_LIMIT }
-    ensures { IfOk result (λ nodes. IsSubtreeOf piece.now nodes.items) }
+    ensures { IfOk result (λ nodes. IsSubtreeOf (opened piece.now) nodes.items) }
 {
     let knots = piece.knots();
     let above = piece.prefix().len() as u8;
@@ -86,7 +99,7 @@ fn nodes_below(alloc: Global, numbers: Set, piece: &Piece) -> Result<Vec<Node>, 
                 value: value_of(knot),
                 number,
                 depth: above + places.len() as u8,
-                line: knot.byte(),
+                line: byte_of(knot),
                 state: state_of(knot),
             });
             if let Knot::Split(numbers) = knot {
@@ -104,7 +117,7 @@ impl Subtree {
     /// Of this piece, in time linear in its lines. `Err` is want of memory; a piece of `PIECE_LINES_LIMIT` lines or more gets it in
     /// any case.
     pub fn of(alloc: Global, piece: &Piece) -> Result<Subtree, AllocError>
-        ensures { IfOk result (IsSubtreeOf piece.now) }
+        ensures { IfOk result (IsSubtreeOf (opened piece.now)) }
     {
         let knots = piece.knots();
         if PIECE_LINES_LIMIT <= knots.len() {
@@ -112,7 +125,7 @@ impl Subtree {
         }
         let nodes = match &knots[0] {
             Knot::Split(numbers) => nodes_below(alloc, *numbers, piece)?,
-            Knot::Leaf { .. } | Knot::Frontier { .. } => Vec::new(alloc),
+            Knot::Leaf { .. } | Knot::Frontier { .. } | Knot::Passed { .. } => Vec::new(alloc),
         };
         Ok(Subtree { nodes })
     }

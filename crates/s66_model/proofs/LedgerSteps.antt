@@ -158,7 +158,7 @@ carries-stands leaf true = refl
 carries-stands leaf false = refl
 
 -- a piece's root isn't dominated
-root-stands : (rule : Rule) (b : Problem) (best : ℕ) (prefix : List ℕ) (tree : Tree Tip) → IsPiece rule b prefix tree → may_name ClampedStanding (root_state b best prefix tree) ≡ true
+pub root-stands : (rule : Rule) (b : Problem) (best : ℕ) (prefix : List ℕ) (tree : Tree Tip) → IsPiece rule b prefix tree → may_name ClampedStanding (root_state b best prefix tree) ≡ true
 root-stands rule b best prefix (Alone (Carries leaf)) h = carries-stands leaf (leb best (value b prefix leaf))
 root-stands rule b best prefix (Alone Frontier) h = refl
 root-stands NoneNamed b best prefix (Alone (Passed name)) h = absurd h.1

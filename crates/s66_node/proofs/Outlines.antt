@@ -5,7 +5,7 @@ use Rattle.std.proofs.Math.Seq.{take-append_seam, drop-append_seam}
 use Rattle.s66_model.specs.Timing.{Problem}
 use Rattle.s66_model.specs.Tree.{Tree, TreeHolds, Kids, KidsHold, NoMore, Unsplit, Split, Alone, Parted, Knot, AtTip, AtSplit}
 use Rattle.s66_model.specs.Preorder.{first_kids, later_kids, forest, first_tree, read_tree}
-use Rattle.s66_model.specs.Told.{Told, ToldLeaf, ToldFrontier, ToldPassed, ToldHolds, tip_of, kids_seen, tree_seen, IsToldTree}
+use Rattle.s66_model.specs.Told.{Told, ToldLeaf, ToldFrontier, ToldPassed, ToldHolds, tip_of, kids_seen, tree_seen}
 use Rattle.s66_node.specs.Pieces.{PieceOf, IsKept, told_tree, tree_of}
 use Rattle.s66_node.specs.declared.knot.TheConstants.{LEAF, FRONTIER, PASSED, SPLIT}
 use Rattle.s66_node.specs.Outlines.{line_byte, line_name, names_of, Outlined, CarriesFloor, StaysOpen, IsPassed, told_line, told_lines, outline_of, outline_prefix, outline_lines, outline_tip, outline_kids, with_ready, outline_tree, IsOutlineOf}
@@ -94,8 +94,8 @@ module _ (b : Problem) (Q : List ℕ → Told → Type 0) where
   tree-untold (Parted numbers kids) prefix (incomplete, are, holds) = rw (sym are, kids-untold kids prefix numbers holds) refl
 
 -- a piece's prefix, lines and names tell its tree
-outline-of : (p : PieceOf) → IsToldTree p.rule p.problem p.prefix (told_tree p) → IsOutlineOf p (outline_of p) (names_of p)
-outline-of p holds =
+pub outline-holds : (p : PieceOf) (Q : List ℕ → Told → Type 0) → TreeHolds p.problem.block Q p.prefix (told_tree p) → IsOutlineOf p (outline_of p) (names_of p)
+outline-holds p Q holds =
     let depth = length p.prefix in
     let prefix : outline_prefix depth (outline_of p) ≡ p.prefix = take-append_seam p.prefix (map line_byte p.knots) in
     let read : read_tree StaysOpen (outline_lines depth (outline_of p) (names_of p)) ≡ untold (told_tree p) =
@@ -104,8 +104,8 @@ outline-of p holds =
     let tree : outline_tree p.problem depth (outline_of p) (names_of p) ≡ tree_of p =
     ap (λ at. with_ready p.problem at (read_tree StaysOpen (outline_lines depth (outline_of p) (names_of p)))) prefix
     ∙ (ap (with_ready p.problem p.prefix) read
-    ∙ tree-untold p.problem (ToldHolds p.rule p.problem p.prefix (tree_of p)) (told_tree p) p.prefix holds) in
+    ∙ tree-untold p.problem Q (told_tree p) p.prefix holds) in
     (prefix, tree)
 
 pub kept-outline : (p v : PieceOf) (count : ℕ) → IsKept p count → p ≡ v → IsOutlineOf v (outline_of v) (names_of v)
-kept-outline p v count kept is = subst (λ (q : PieceOf). IsOutlineOf q (outline_of q) (names_of q)) is (outline-of p kept.told)
+kept-outline p v count kept is = subst (λ (q : PieceOf). IsOutlineOf q (outline_of q) (names_of q)) is (outline-holds p (ToldHolds p.rule p.problem p.prefix (tree_of p)) kept.told)

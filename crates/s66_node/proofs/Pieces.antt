@@ -2,12 +2,13 @@
 use Rattle.std.proofs.Common.{ℕ, ◌≡◌, List, refl, sym, ap, arith, ◌∙◌, subst}
 use Rattle.s66_isa.specs.Lists.{Among}
 use Rattle.s66_model.specs.declared.rule.Rule.{Rule}
+use Rattle.s66_model.specs.declared.rule.Rule.TheVariants.{NoneNamed}
 use Rattle.s66_model.specs.Timing.{Problem}
 use Rattle.s66_model.specs.Tree.{Tree, TreeHolds, flat, splits}
-use Rattle.s66_model.specs.Piece.{TipHolds, IsPiece}
+use Rattle.s66_model.specs.Piece.{Tip, Carries, Frontier, Passed, TipHolds, IsPiece}
 use Rattle.s66_model.specs.Expansion.{TipHoldsWhile, IsExpansion, whole_at, whole_orders}
 use Rattle.s66_model.specs.Preorder.{read_tree, TreeMatches}
-use Rattle.s66_model.specs.Told.{Told, ToldFrontier, ToldHolds, tip_of, tree_told, IsToldTree}
+use Rattle.s66_model.specs.Told.{Told, ToldLeaf, ToldFrontier, ToldPassed, ToldHolds, tip_of, tree_told, IsToldTree}
 use Rattle.s66_model.proofs.Forests.{read-flat, tree-match}
 use Rattle.s66_model.proofs.TreesHold.{tree-weaken, seen-holds, seen-splits, seen-split_at, seen-values}
 use Rattle.s66_node.specs.declared.grow.Grown.{Grown}
@@ -80,3 +81,34 @@ kept-splits p q count kept is = subst (λ (r : PieceOf). count ≡ splits (tree_
 
 pub kept-timed : (p q : PieceOf) (count : ℕ) → IsKept p count → p ≡ q → IsBestTimed q.problem q.prefix (tree_of q) q.timed
 kept-timed p q count kept is = subst (λ (r : PieceOf). IsBestTimed r.problem r.prefix (tree_of r) r.timed) is kept.timed
+
+-- without dominated leaves it is a piece by any rule
+any-tip : (rule : Rule) (b : Problem) (prefix : List ℕ) (tree : Tree Tip) (at : List ℕ) (told : Told) → ToldHolds NoneNamed b prefix tree at told → ToldHolds rule b prefix tree at told
+any-tip rule b prefix tree at (ToldLeaf value) h = h
+any-tip rule b prefix tree at (ToldFrontier value) h = h
+any-tip rule b prefix tree at (ToldPassed value name) h = absurd h.1
+
+pub any-rule : (rule : Rule) (p : PieceOf) (count : ℕ) → IsKept p count → p.rule ≡ NoneNamed → IsKept (record p { rule = rule }) count
+any-rule rule p count kept none =
+    let told : IsToldTree NoneNamed p.problem p.prefix (told_tree p) = subst (λ r. IsToldTree r p.problem p.prefix (told_tree p)) none kept.told in
+    record {
+      told = tree-weaken p.problem.block (ToldHolds NoneNamed p.problem p.prefix (tree_of p)) (ToldHolds rule p.problem p.prefix (tree_of p)) (any-tip rule p.problem p.prefix (tree_of p)) (told_tree p) p.prefix told;
+      knots = kept.knots;
+      splits = kept.splits;
+      timed = kept.timed;
+    }
+
+-- and so an expansion is one
+any-tip_while : (rule : Rule) (b : Problem) (high low : ℕ) (prefix : List ℕ) (tree : Tree Tip) (at : List ℕ) (tip : Tip) → TipHoldsWhile NoneNamed b high low prefix tree at tip → TipHoldsWhile rule b high low prefix tree at tip
+any-tip_while rule b high low prefix tree at (Carries leaf) h = h
+any-tip_while rule b high low prefix tree at Frontier h = h
+any-tip_while rule b high low prefix tree at (Passed name) h = absurd h.0.0
+
+pub any-expansion : (rule : Rule) (b : Problem) (high low allowance : ℕ) (prefix : List ℕ) (tree : Tree Tip) → IsExpansion NoneNamed b high low allowance prefix tree → IsExpansion rule b high low allowance prefix tree
+any-expansion rule b high low allowance prefix tree is =
+    record {
+      piece = tree-weaken b.block (TipHoldsWhile NoneNamed b high low prefix tree) (TipHoldsWhile rule b high low prefix tree) (any-tip_while rule b high low prefix tree) tree prefix is.piece;
+      within = is.within;
+      below = is.below;
+      due = is.due;
+    }

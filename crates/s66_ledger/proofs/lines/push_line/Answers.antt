@@ -1,5 +1,6 @@
 use Rattle.std.proofs.Common.{◌≡◌, ◌++◌, ◌∷◌, [], ℕ, List, ap, ◌∙◌}
-use Rattle.s66_model.specs.Leaves.{Leaf, floor_value}
+use Rattle.s66_model.specs.Leaves.{floor_value}
+use Rattle.s66_model.specs.DominatedLeaves.{Ending}
 use Rattle.s66_model.specs.Tree.{Knot, AtSplit}
 use Rattle.s66_ledger.specs.declared.node.Node.{Node}
 use Rattle.s66_ledger.specs.Nodes.{no_node}
@@ -13,7 +14,7 @@ go_below-requires-clause-split c =
     let stands = c.requires.stands in
     split-here w.problem c.args.nodes.now c.requires.tree c.args.node.now w.numbers stands (get_or-any c.args.nodes.now c.args.node.now no_node _ (λ (x : Node). x.state) stands.within ∙ c.in-Split.is)
 
-split-pushed : (old new : List (Knot Leaf)) (said ns : List ℕ) → new ≡ old ++ AtSplit said ∷ [] → said ≡ ns → new ≡ old ++ AtSplit ns ∷ []
+split-pushed : (old new : List (Knot Ending)) (said ns : List ℕ) → new ≡ old ++ AtSplit said ∷ [] → said ≡ ns → new ≡ old ++ AtSplit ns ∷ []
 split-pushed old new said ns pushed is = pushed ∙ ap (λ (numbers : List ℕ). old ++ AtSplit numbers ∷ []) is
 
 pub returns-in-Split-clause-one : goal.returns-in-Split-clause-one

@@ -1,7 +1,7 @@
 use Rattle.std.proofs.Common.{◌+◌, ◌-◌, ◌*◌, ◌≤◌, length, drop}
 use Rattle.std.specs.Vec.{vec_capacity}
 use Rattle.s66_dep.specs.Members.{numbers_in}
-use Rattle.s66_node.specs.SeenKnots.{seen}
+use Rattle.s66_ledger.specs.Opened.{opened, open_lines}
 use Rattle.s66_ledger.proofs.Subtrees.{AreGrowing, AreLined}
 use Rattle.s66_ledger.proofs.subtree.nodes_below.Given as goal
 
@@ -10,8 +10,8 @@ invariant-loop-place l =
     record {
       within : length l.nodes.items + 1 ≤ length l.knots;
       room : length l.knots ≤ vec_capacity l.nodes;
-      lined : AreLined (seen l.knots) l.nodes.items;
-      growing : AreGrowing l.fn.piece (numbers_in l.fn.numbers) l.places.items l.nodes.items (drop (length l.nodes.items + 1) (seen l.knots));
+      lined : AreLined (open_lines l.knots) l.nodes.items;
+      growing : AreGrowing (opened l.fn.piece) (numbers_in l.fn.numbers) l.places.items l.nodes.items (drop (length l.nodes.items + 1) (open_lines l.knots));
     }
 
 abbrev pub decreases-loop-place : goal.decreases-loop-place

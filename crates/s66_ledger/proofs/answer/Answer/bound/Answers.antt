@@ -9,4 +9,4 @@ pub returns-clause-bound : goal.returns-clause-bound
 returns-clause-bound c =
     let s = c.self.inside in
     subst (λ (a : AnswerOf). IsBound a.problem s.bound) c.self.view_is
-    (subst (λ low. IsBound s.best.problem low) c.self.invariant.bound (answer-bound floor-stands s.best.problem s.budget _ c.self.invariant.answer))
+    (subst (λ low. IsBound s.best.problem low) c.self.invariant.bound (answer-bound floor-stands s.rule s.best.problem s.budget _ c.self.invariant.answer))

@@ -4,4 +4,4 @@ use Rattle.s66_ledger.specs.Answers.{AnswerOf, answer_of}
 use Rattle.s66_ledger.proofs.answer.Answer.time.Goals as goal
 
 pub returns-clause-answer : goal.returns-clause-answer
-returns-clause-answer c = subst (λ (a : AnswerOf). IsAnswer a.problem a.budget (answer_of a)) c.self.view_is c.self.invariant.answer
+returns-clause-answer c = subst (λ (a : AnswerOf). IsAnswer a.rule a.problem a.budget (answer_of a)) c.self.view_is c.self.invariant.answer

@@ -2,7 +2,7 @@ use Rattle.std.proofs.Common.{◌≡◌, ◌∙◌, [], ◌∷◌, ◌++◌, ℕ
 use Rattle.s66_isa.specs.declared.instr.Instr.{Instr}
 use Rattle.s66_isa.specs.declared.profile.Profile.{Profile}
 use Rattle.s66_model.specs.Timing.{Problem}
-use Rattle.s66_model.specs.Leaves.{Leaf}
+use Rattle.s66_model.specs.DominatedLeaves.{Ending}
 use Rattle.s66_model.specs.Tree.{Knot, flat}
 use Rattle.s66_model.specs.Later.{later}
 use Rattle.s66_model.specs.NodeTree.{node_tree}
@@ -46,7 +46,7 @@ loop-more-init c =
       problem = problem ∙ ap (λ (a : AnswerOf). a.problem) c.self.view_is;
       stands = λ more. subst (λ (at : List ℕ). StandsAt xs 0 at) (sym numbers) (root-there walked.problem xs kept);
       rest =
-          ap (λ (knots : List (Knot Leaf)). knots ++ lines_from walked.problem xs (walked.numbers ∷ later walked.problem.block [] walked.numbers)) c.new-tree.ensures
+          ap (λ (knots : List (Knot Ending)). knots ++ lines_from walked.problem xs (walked.numbers ∷ later walked.problem.block [] walked.numbers)) c.new-tree.ensures
           ∙ (ap (λ (at : List ℕ). lines_from walked.problem xs (at ∷ later walked.problem.block [] at)) numbers
           ∙ (lines-whole walked.problem xs
           ∙ (ap (λ (p : Problem). flat (node_tree p (nodes_of p xs))) problem

@@ -1,45 +1,48 @@
-use Rattle.std.proofs.Common.{◌≡◌, ◌∙◌, ◌<◌, ◌++◌, refl, ap, sym, subst, length, arith}
-use Rattle.s66_line.specs.Block.{instrs_of}
-use Rattle.s66_model.specs.Timing.{Problem}
+use Rattle.std.proofs.Common.{true, ◌≡◌, ◌∙◌, ◌<◌, ◌++◌, refl, ap, sym, subst, length, arith}
 use Rattle.s66_model.specs.Ledger.{Taken}
-use Rattle.s66_model.specs.Recorded.{IsOwn}
+use Rattle.s66_model.specs.Recorded.{IsOwnPiece}
 use Rattle.s66_ledger.specs.declared.reply.GraftError.{GraftError}
 use Rattle.s66_ledger.specs.HistoryEntries.{refusal_reply}
 use Rattle.s66_ledger.specs.LedgerMachine.{MachineOf}
-use Rattle.s66_ledger.specs.GraftMoves.{IsGraftMove, IsRefusedMove}
+use Rattle.s66_node.specs.Pieces.{tree_of}
+use Rattle.s66_ledger.specs.Opened.{opened}
+use Rattle.s66_ledger.proofs.Opened.{opened-opens}
+use Rattle.s66_ledger.specs.GraftMoves.{IsGraftMove, IsRefusedMove, taken_event, IsTakenMove}
 use Rattle.s66_ledger.specs.Grafts.{IsGraftAt, IsRefusedGraftAt}
 use Rattle.s66_ledger.specs.Ledgers.{LedgerOf, with_history}
 use Rattle.s66_ledger.specs.Subtrees.{lines_below, root_bytes}
-use Rattle.s66_ledger.proofs.Recording.{recorded, recorded-event, recorded-lineless, event-lineless, is-own, taken-entry, refused-move, refused-entry, refused-at, prefix-kept, root-counted, root-outline, lines-counted}
+use Rattle.s66_ledger.proofs.Recording.{recorded, recorded-event, recorded-lineless, event-lineless, taken-entry, refused-move, refused-entry, refused-at, prefix-kept, root-counted, root-outline, lines-counted}
 use Rattle.s66_ledger.proofs.ledger.Ledger.graft_at.Goals as goal
 
 pub invariant_of-self-in-Ok-graft : goal.invariant_of-self-in-Ok-graft
 invariant_of-self-in-Ok-graft c =
     let m = c.self.inside.machine in
-    let p = c.args.piece.now in
+    let q = c.args.piece.now in
+    let p = opened q in
     let depth = length c.prefix-prefix.result.now in
-    let h : IsGraftMove m c.args.w c.args.node p Taken c.graft.new.self = c.in-Ok-graft.ensures.ok in
+    let h : IsTakenMove m c.args.w c.args.node q c.graft.new.self = c.in-Ok-graft.ensures.ok in
     let deep : depth ≡ length p.prefix = ap length c.prefix-prefix.ensures.value in
     let some : 0 < length p.knots = omega (arith, c.requires.subtree.count) in
     let below : c.count.result ≡ length (lines_below p) = omega (arith, c.count.ensures, lines-counted p c.args.subtree.now c.requires.subtree) in
-    recorded m c.graft.new.self c.self.inside.history.entries.items c.reserve.new.self.items c.push_reserved.new.self.items c.self.inside.history.bytes.items c.keep_root.new.bytes.items _ (root_bytes p) (lines_below p) h.0 Taken h.2 c.in-Ok-graft.ensures.lines
-    (taken-entry m c.graft.new.self c.args.w c.args.node p c.splits-splits.result c.splits-splits.ensures (root_bytes p ++ lines_below p) depth (root-outline p) deep c.in-Ok-keep_root.ensures.outline h)
+    recorded m c.graft.new.self c.self.inside.history.entries.items c.reserve.new.self.items c.push_reserved.new.self.items c.self.inside.history.bytes.items c.keep_root.new.bytes.items _ (root_bytes p) (lines_below p) (taken_event c.args.w c.args.node q) Taken h.move c.in-Ok-graft.ensures.lines
+    (taken-entry m c.graft.new.self c.args.w c.args.node q c.splits-splits.result c.splits-splits.ensures (root_bytes p ++ lines_below p) depth (root-outline p) deep c.in-Ok-keep_root.ensures.outline h)
     c.reserve.ensures.items c.push_reserved.ensures.items c.in-Ok-keep_root.ensures.ok (omega (arith, deep, root-counted p some)) below c.self.invariant
 
 pub returns-in-Ok-graft-clause-ok : goal.returns-in-Ok-graft-clause-ok
 returns-in-Ok-graft-clause-ok c =
     let m = c.self.inside.machine in
-    let p = c.args.piece.now in
+    let q = c.args.piece.now in
+    let p = opened q in
     let depth = length c.prefix-prefix.result.now in
-    let h : IsGraftMove m c.args.w c.args.node p Taken c.graft.new.self = c.in-Ok-graft.ensures.ok in
+    let h : IsTakenMove m c.args.w c.args.node q c.graft.new.self = c.in-Ok-graft.ensures.ok in
     let deep : depth ≡ length p.prefix = ap length c.prefix-prefix.ensures.value in
     let some : 0 < length p.knots = omega (arith, c.requires.subtree.count) in
     let below : c.count.result ≡ length (lines_below p) = omega (arith, c.count.ensures, lines-counted p c.args.subtree.now c.requires.subtree) in
-    subst (λ (l : LedgerOf). IsGraftAt l c.args.w c.args.node p Taken (with_history c.graft.new.self c.push_reserved.new.self.items c.keep_root.new.bytes.items)) c.self.view_is (
-      h.0,
-      h.1,
-      recorded-event m c.graft.new.self c.self.inside.history.entries.items c.reserve.new.self.items c.push_reserved.new.self.items c.self.inside.history.bytes.items c.keep_root.new.bytes.items _ (root_bytes p) (lines_below p) h.0 Taken h.2 c.in-Ok-graft.ensures.lines
-          (taken-entry m c.graft.new.self c.args.w c.args.node p c.splits-splits.result c.splits-splits.ensures (root_bytes p ++ lines_below p) depth (root-outline p) deep c.in-Ok-keep_root.ensures.outline h)
+    subst (λ (l : LedgerOf). IsGraftAt l c.args.w c.args.node q Taken (with_history c.graft.new.self c.push_reserved.new.self.items c.keep_root.new.bytes.items)) c.self.view_is (
+      taken_event c.args.w c.args.node q,
+      (true, tree_of p, ((λ e. (h.rule, h.problem)), (λ e. refl)), opened-opens q, refl),
+      recorded-event m c.graft.new.self c.self.inside.history.entries.items c.reserve.new.self.items c.push_reserved.new.self.items c.self.inside.history.bytes.items c.keep_root.new.bytes.items _ (root_bytes p) (lines_below p) (taken_event c.args.w c.args.node q) Taken h.move c.in-Ok-graft.ensures.lines
+          (taken-entry m c.graft.new.self c.args.w c.args.node q c.splits-splits.result c.splits-splits.ensures (root_bytes p ++ lines_below p) depth (root-outline p) deep c.in-Ok-keep_root.ensures.outline h)
           c.reserve.ensures.items c.push_reserved.ensures.items c.in-Ok-keep_root.ensures.ok (omega (arith, deep, root-counted p some)) below c.self.invariant,
     )
 
@@ -52,10 +55,10 @@ invariant_of-self-2 c =
     let h : IsGraftMove m c.args.w c.args.node p (refusal_reply why) c.graft.new.self =
     refused-move m c.graft.new.self c.args.w c.args.node p c.splits-splits.result c.splits-splits.ensures why
     (subst (λ (e : GraftError). IsRefusedMove m c.args.w c.args.node p e c.graft.new.self) c.in-Some.ensures.some c.in-Err.ensures.refused) in
-    let own : IsOwn m.problem p.problem c.is_of-own.result = is-own m.problem p.problem c.is_of-own.result (instrs_of c.block.result.now) c.profile.result.now (c.block.ensures ∙ ap (λ (b : Problem). b.block) h.2.0) (c.profile.ensures ∙ ap (λ (b : Problem). b.profile) h.2.0) c.is_of-own.ensures in
+    let own : IsOwnPiece m.rule m.problem p.rule p.problem c.is_own-own.result = subst (λ (n : MachineOf). IsOwnPiece n.rule n.problem p.rule p.problem c.is_own-own.result) c.in-Err.ensures.err c.is_own-own.ensures in
     recorded-lineless m c.graft.new.self c.self.inside.history.entries.items c.reserve.new.self.items c.push_reserved-2.new.self.items c.self.inside.history.bytes.items c.truncate-2.new.self.items _ p.prefix h.0 (refusal_reply why) h.2 (ap (λ (n : MachineOf). n.lines) c.in-Err.ensures.err)
-    (refused-entry m c.graft.new.self c.args.w c.args.node p c.splits-splits.result c.splits-splits.ensures c.is_of-own.result why own h)
-    c.reserve.ensures.items c.push_reserved-2.ensures.items (prefix-kept p c.self.inside.history.bytes.items c.keep_root.new.bytes.items c.truncate-2.new.self.items c.len-kept.result (length c.prefix-prefix.result.now) c.in-Ok-keep_root.ensures.ok (omega (arith, c.len-kept.ensures)) (ap length over) c.truncate-2.ensures.items) (ap length over) refl c.self.invariant
+    (refused-entry m c.graft.new.self c.args.w c.args.node p c.splits-splits.result c.splits-splits.ensures c.is_own-own.result why own h)
+    c.reserve.ensures.items c.push_reserved-2.ensures.items (prefix-kept (opened p) c.self.inside.history.bytes.items c.keep_root.new.bytes.items c.truncate-2.new.self.items c.len-kept.result (length c.prefix-prefix.result.now) c.in-Ok-keep_root.ensures.ok (omega (arith, c.len-kept.ensures)) (ap length over) c.truncate-2.ensures.items) (ap length over) refl c.self.invariant
 
 pub returns-clause-refused : goal.returns-clause-refused
 returns-clause-refused c =
@@ -66,7 +69,7 @@ returns-clause-refused c =
     let h : IsGraftMove m c.args.w c.args.node p (refusal_reply why) c.graft.new.self =
     refused-move m c.graft.new.self c.args.w c.args.node p c.splits-splits.result c.splits-splits.ensures why
     (subst (λ (e : GraftError). IsRefusedMove m c.args.w c.args.node p e c.graft.new.self) c.in-Some.ensures.some c.in-Err.ensures.refused) in
-    let own : IsOwn m.problem p.problem c.is_of-own.result = is-own m.problem p.problem c.is_of-own.result (instrs_of c.block.result.now) c.profile.result.now (c.block.ensures ∙ ap (λ (b : Problem). b.block) h.2.0) (c.profile.ensures ∙ ap (λ (b : Problem). b.profile) h.2.0) c.is_of-own.ensures in
+    let own : IsOwnPiece m.rule m.problem p.rule p.problem c.is_own-own.result = subst (λ (n : MachineOf). IsOwnPiece n.rule n.problem p.rule p.problem c.is_own-own.result) c.in-Err.ensures.err c.is_own-own.ensures in
     let new = with_history c.graft.new.self c.push_reserved-2.new.self.items c.truncate-2.new.self.items in
     subst (λ (e : GraftError). IsRefusedGraftAt c.args.self.now c.args.w c.args.node p e new) (sym c.in-Some.ensures.some)
     (refused-at c.args.self.now new c.args.w c.args.node p why
@@ -74,6 +77,6 @@ returns-clause-refused c =
       h.0,
       h.1,
       event-lineless m c.graft.new.self c.self.inside.history.entries.items c.reserve.new.self.items c.push_reserved-2.new.self.items c.self.inside.history.bytes.items c.truncate-2.new.self.items _ p.prefix h.0 (refusal_reply why) h.2 (ap (λ (n : MachineOf). n.lines) c.in-Err.ensures.err)
-          (refused-entry m c.graft.new.self c.args.w c.args.node p c.splits-splits.result c.splits-splits.ensures c.is_of-own.result why own h)
-          c.reserve.ensures.items c.push_reserved-2.ensures.items (prefix-kept p c.self.inside.history.bytes.items c.keep_root.new.bytes.items c.truncate-2.new.self.items c.len-kept.result (length c.prefix-prefix.result.now) c.in-Ok-keep_root.ensures.ok (omega (arith, c.len-kept.ensures)) (ap length over) c.truncate-2.ensures.items) (ap length over) refl c.self.invariant,
+          (refused-entry m c.graft.new.self c.args.w c.args.node p c.splits-splits.result c.splits-splits.ensures c.is_own-own.result why own h)
+          c.reserve.ensures.items c.push_reserved-2.ensures.items (prefix-kept (opened p) c.self.inside.history.bytes.items c.keep_root.new.bytes.items c.truncate-2.new.self.items c.len-kept.result (length c.prefix-prefix.result.now) c.in-Ok-keep_root.ensures.ok (omega (arith, c.len-kept.ensures)) (ap length over) c.truncate-2.ensures.items) (ap length over) refl c.self.invariant,
     )))

@@ -22,6 +22,6 @@ returns-clause-spent c =
     let some : 1 ≤ length s.allowances.items = omega (arith, c.requires.workers, ap (λ (l : MachineOf). l.workers) c.self.view_is) in
     let none : allowance c.args.self.now.state 1 ≡ 0 =
     omega (arith, c.if-allowance-gt0.false, c.index-allowance.ensures ∙ get_or-any s.allowances.items 0 c.index-allowance.result.now 0 (λ n. n) (omega (arith, some)), ap (λ (l : MachineOf). allowance l.state 1) c.self.view_is) in
-    let covers : Covers c.args.self.now.problem c.args.self.now.budget c.args.self.now.state =
-    subst (λ (l : MachineOf). Covers l.problem l.budget l.state) c.self.view_is (reached-covers _ s.budget (length s.allowances.items) _ c.self.invariant.reached) in
+    let covers : Covers c.args.self.now.rule c.args.self.now.problem c.args.self.now.budget c.args.self.now.state =
+    subst (λ (l : MachineOf). Covers l.rule l.problem l.budget l.state) c.self.view_is (reached-covers _ _ s.budget (length s.allowances.items) _ c.self.invariant.reached) in
     grant-spent c.args.self.now c.grant.new.self c.grant.result c.grant.ensures.granted covers c.requires.between none

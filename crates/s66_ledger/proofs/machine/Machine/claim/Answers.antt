@@ -19,32 +19,32 @@ returns-in_default-clause-ok c =
     let s = c.self.inside in
     let b : Problem = record { block = instrs_of s.block.now; profile = s.profile } in
     let le : c.args.w ≤ length s.allowances.items = omega (arith, c.requires.1, ap (λ (l : MachineOf). l.workers) c.self.view_is) in
-    subst (λ (ns : List Node). IsMove c.args.self.now (model.Claim c.args.w) (model.Claimed None) (machine_of b s.budget ns s.best.numbers s.left s.allowances.items s.spent)) (sym c.in_default.ensures.same)
+    subst (λ (ns : List Node). IsMove c.args.self.now (model.Claim c.args.w) (model.Claimed None) (machine_of s.rule b s.budget ns s.best.numbers s.left s.allowances.items s.spent)) (sym c.in_default.ensures.same)
     (subst (λ (l : MachineOf). IsMove c.args.self.now (model.Claim c.args.w) (model.Claimed None) l) (sym c.self.view_is)
-    (event-none b s.budget s.table s.best s.left s.allowances.items s.spent c.self.invariant c.args.self.now c.args.w c.self.view_is c.requires.0 le c.in_default.ensures.none))
+    (event-none _ b s.budget s.table s.best s.left s.allowances.items s.spent c.self.invariant c.args.self.now c.args.w c.self.view_is c.requires.0 le c.in_default.ensures.none))
 
 pub prefix_of-prefix-requires-clause-few : goal.prefix_of-prefix-requires-clause-few
 prefix_of-prefix-requires-clause-few c =
     let s = c.self.inside in
     let same = ap prefixes c.in-Some.ensures.moved ∙ prefixes-set s.table c.in-Some.node (record (node_at s.table c.in-Some.node) { state = state.Out }) no_node refl refl in
-    omega (arith, ap (λ ats. length (get_or ats c.in-Some.node [])) same, kept-short _ s.budget s.table s.best s.left s.allowances.items s.spent c.self.invariant c.in-Some.node c.in-Some.ensures.within, c.count.ensures.value, c.count.ensures.few)
+    omega (arith, ap (λ ats. length (get_or ats c.in-Some.node [])) same, kept-short _ _ s.budget s.table s.best s.left s.allowances.items s.spent c.self.invariant c.in-Some.node c.in-Some.ensures.within, c.count.ensures.value, c.count.ensures.few)
 
 pub invariant_of-self-2 : goal.invariant_of-self-2
 invariant_of-self-2 c =
     let s = c.self.inside in
     let b : Problem = record { block = instrs_of s.block.now; profile = s.profile } in
     let le : c.args.w ≤ length s.allowances.items = omega (arith, c.requires.1, ap (λ (l : MachineOf). l.workers) c.self.view_is) in
-    subst (λ ns. IsKept b s.budget ns s.best s.left s.allowances.items s.spent) (sym c.in-Some.ensures.moved)
-    (kept-claim b s.budget s.table s.best s.left s.allowances.items s.spent c.self.invariant c.args.w c.in-Some.node c.requires.0 le c.in-Some.ensures.within c.in-Some.ensures.was)
+    subst (λ ns. IsKept s.rule b s.budget ns s.best s.left s.allowances.items s.spent) (sym c.in-Some.ensures.moved)
+    (kept-claim _ b s.budget s.table s.best s.left s.allowances.items s.spent c.self.invariant c.args.w c.in-Some.node c.requires.0 le c.in-Some.ensures.within c.in-Some.ensures.was)
 
 pub returns-clause-ok : goal.returns-clause-ok
 returns-clause-ok c =
     let s = c.self.inside in
     let b : Problem = record { block = instrs_of s.block.now; profile = s.profile } in
     let le : c.args.w ≤ length s.allowances.items = omega (arith, c.requires.1, ap (λ (l : MachineOf). l.workers) c.self.view_is) in
-    subst (λ (t : TicketOf). IsMove c.args.self.now (model.Claim c.args.w) (model.Claimed (Some t.node)) (machine_of b s.budget c.claim.new.self s.best.numbers s.left s.allowances.items s.spent)) (sym c.new.ensures)
-    (subst (λ ns. IsMove c.args.self.now (model.Claim c.args.w) (model.Claimed (Some c.in-Some.node)) (machine_of b s.budget ns s.best.numbers s.left s.allowances.items s.spent)) (sym c.in-Some.ensures.moved)
-    (event-claim b s.budget s.table s.best s.left s.allowances.items s.spent c.self.invariant c.args.self.now c.args.w c.in-Some.node c.self.view_is c.requires.0 le c.in-Some.ensures.within c.in-Some.ensures.was))
+    subst (λ (t : TicketOf). IsMove c.args.self.now (model.Claim c.args.w) (model.Claimed (Some t.node)) (machine_of s.rule b s.budget c.claim.new.self s.best.numbers s.left s.allowances.items s.spent)) (sym c.new.ensures)
+    (subst (λ ns. IsMove c.args.self.now (model.Claim c.args.w) (model.Claimed (Some c.in-Some.node)) (machine_of s.rule b s.budget ns s.best.numbers s.left s.allowances.items s.spent)) (sym c.in-Some.ensures.moved)
+    (event-claim _ b s.budget s.table s.best s.left s.allowances.items s.spent c.self.invariant c.args.self.now c.args.w c.in-Some.node c.self.view_is c.requires.0 le c.in-Some.ensures.within c.in-Some.ensures.was))
 
 pub returns-clause-lines : goal.returns-clause-lines
 returns-clause-lines c = ap lines_of c.in-Some.ensures.moved ∙ (lines-state c.self.inside.table c.in-Some.node state.Out ∙ ap (λ (l : MachineOf). l.lines) c.self.view_is)
@@ -70,4 +70,4 @@ returns-clause-least c =
     let few : length b.block ≤ BLOCK_LIMIT = omega (arith, c.count.ensures.value, c.count.ensures.few) in
     subst (λ at. (j : ℕ) → model.is_open (model.node_at c.args.self.now.state.nodes j) ≡ true → floor_value c.args.self.now.problem at ≤ floor_value c.args.self.now.problem (model.node_at c.args.self.now.state.nodes j).prefix) (sym prefix)
     (subst (λ (l : MachineOf). (j : ℕ) → model.is_open (model.node_at l.state.nodes j) ≡ true → floor_value l.problem (get_or (prefixes s.table) i []) ≤ floor_value l.problem (model.node_at l.state.nodes j).prefix) c.self.view_is
-    (claimed-least b s.budget s.table s.best s.left s.allowances.items s.spent c.self.invariant few i c.in-Some.ensures.within c.in-Some.ensures.was c.in-Some.ensures.least))
+    (claimed-least _ b s.budget s.table s.best s.left s.allowances.items s.spent c.self.invariant few i c.in-Some.ensures.within c.in-Some.ensures.was c.in-Some.ensures.least))

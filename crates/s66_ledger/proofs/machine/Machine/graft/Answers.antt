@@ -1,14 +1,16 @@
-use Rattle.std.proofs.Common.{◌≡◌, ◌++◌, ◌≤◌, ◌-◌, ◌+◌, ◌∙◌, arith, [], length, get_or, set, true≢false, ap, sym, subst}
+use Rattle.std.proofs.Common.{◌≡◌, ◌++◌, ◌≤◌, ◌-◌, ◌+◌, ◌∙◌, ◌↔◌, IsTrue, arith, [], length, get_or, set, true≢false, ap, sym, subst}
 use Rattle.s66_isa.specs.declared.limits.TheConstants.{BLOCK_LIMIT}
 use Rattle.s66_line.specs.Block.{instrs_of}
 use Rattle.s66_model.specs.Timing.{Problem, total_of}
 use Rattle.s66_model.specs.Ledger as model
-use Rattle.s66_model.specs.Ledger.{Taken, root_state, new_nodes}
+use Rattle.s66_model.specs.Ledger.{root_state, new_nodes}
 use Rattle.s66_node.specs.Pieces.{tree_of}
 use Rattle.s66_ledger.specs.OpenNodes.{IsOut}
 use Rattle.s66_ledger.specs.Nodes.{prefixes, nodes_of}
 use Rattle.s66_ledger.specs.LedgerMachine.{MachineOf, IsKept, machine_of}
-use Rattle.s66_ledger.specs.GraftMoves.{IsGraftMove}
+use Rattle.s66_ledger.specs.Opened.{opened}
+use Rattle.s66_ledger.specs.GraftMoves.{IsTakenMove}
+use Rattle.s66_ledger.proofs.Opened.{same-splits, opened-opens, opened-plain, opened-preorder, opened-length}
 use Rattle.s66_ledger.proofs.NodePrefixes.{get_or-any}
 use Rattle.s66_ledger.proofs.Events.{kept-room}
 use Rattle.s66_ledger.proofs.GraftSteps.{piece-lines, graft-not-out, graft-other, graft-other-prefix, graft-over, piece-floors, graft-taken, kept-taken}
@@ -19,75 +21,82 @@ returns-then-not-is_out-clause-refused c =
     let s = c.self.inside in
     let b : Problem = record { block = instrs_of s.block.now; profile = s.profile } in
     let p = c.args.piece.now in
+    let owned = subst (λ (l : MachineOf). IsTrue c.is_own-own.result ↔ ((p.rule ≡ l.rule) × (p.problem ≡ l.problem))) (sym c.self.view_is) c.is_own-own.ensures in
     let i = c.args.node in
     let le : c.args.w ≤ length s.allowances.items = omega (arith, c.requires.worker.1, ap (λ (l : MachineOf). l.workers) c.self.view_is) in
-    graft-not-out b s.budget s.table s.best s.left s.allowances.items s.spent c.self.invariant c.args.w i p c.requires.worker.0 le c.is_of-own.result c.is_of-own.ensures c.args.self.now c.self.view_is (λ out. true≢false (sym (c.is_out.ensures.1 out) ∙ c.if-not-is_out.true))
+    graft-not-out _ b s.budget s.table s.best s.left s.allowances.items s.spent c.self.invariant c.args.w i p c.requires.worker.0 le c.is_own-own.result owned c.args.self.now c.self.view_is (λ out. true≢false (sym (c.is_out.ensures.1 out) ∙ c.if-not-is_out.true))
 
 pub returns-then-not-own-clause-refused : goal.returns-then-not-own-clause-refused
 returns-then-not-own-clause-refused c =
     let s = c.self.inside in
     let b : Problem = record { block = instrs_of s.block.now; profile = s.profile } in
     let p = c.args.piece.now in
+    let owned = subst (λ (l : MachineOf). IsTrue c.is_own-own.result ↔ ((p.rule ≡ l.rule) × (p.problem ≡ l.problem))) (sym c.self.view_is) c.is_own-own.ensures in
     let i = c.args.node in
     let le : c.args.w ≤ length s.allowances.items = omega (arith, c.requires.worker.1, ap (λ (l : MachineOf). l.workers) c.self.view_is) in
     let out : IsOut s.table i = c.is_out.ensures.0 c.if-not-is_out.false in
-    graft-other b s.budget s.table s.best s.left s.allowances.items s.spent c.self.invariant c.args.w i p c.requires.worker.0 le c.is_of-own.result c.is_of-own.ensures c.args.self.now c.self.view_is out c.if-not-own.true
+    graft-other _ b s.budget s.table s.best s.left s.allowances.items s.spent c.self.invariant c.args.w i p c.requires.worker.0 le c.is_own-own.result owned c.args.self.now c.self.view_is out c.if-not-own.true
 
 pub returns-then-not-is_over-clause-refused : goal.returns-then-not-is_over-clause-refused
 returns-then-not-is_over-clause-refused c =
     let s = c.self.inside in
     let b : Problem = record { block = instrs_of s.block.now; profile = s.profile } in
     let p = c.args.piece.now in
+    let owned = subst (λ (l : MachineOf). IsTrue c.is_own-own.result ↔ ((p.rule ≡ l.rule) × (p.problem ≡ l.problem))) (sym c.self.view_is) c.is_own-own.ensures in
     let i = c.args.node in
     let le : c.args.w ≤ length s.allowances.items = omega (arith, c.requires.worker.1, ap (λ (l : MachineOf). l.workers) c.self.view_is) in
     let out : IsOut s.table i = c.is_out.ensures.0 c.if-not-is_out.false in
-    graft-other-prefix b s.budget s.table s.best s.left s.allowances.items s.spent c.self.invariant c.args.w i p c.requires.worker.0 le c.is_of-own.result c.is_of-own.ensures c.args.self.now c.self.view_is out (λ over. true≢false (sym (c.is_over.ensures.1 (over ∙ sym c.prefix.ensures.value)) ∙ c.if-not-is_over.true))
+    graft-other-prefix _ b s.budget s.table s.best s.left s.allowances.items s.spent c.self.invariant c.args.w i p c.requires.worker.0 le c.is_own-own.result owned c.args.self.now c.self.view_is out (λ over. true≢false (sym (c.is_over.ensures.1 (over ∙ sym c.prefix.ensures.value)) ∙ c.if-not-is_over.true))
 
 pub returns-then-index-splits-clause-refused : goal.returns-then-index-splits-clause-refused
 returns-then-index-splits-clause-refused c =
     let s = c.self.inside in
     let b : Problem = record { block = instrs_of s.block.now; profile = s.profile } in
     let p = c.args.piece.now in
+    let owned = subst (λ (l : MachineOf). IsTrue c.is_own-own.result ↔ ((p.rule ≡ l.rule) × (p.problem ≡ l.problem))) (sym c.self.view_is) c.is_own-own.ensures in
     let i = c.args.node in
     let le : c.args.w ≤ length s.allowances.items = omega (arith, c.requires.worker.1, ap (λ (l : MachineOf). l.workers) c.self.view_is) in
     let out : IsOut s.table i = c.is_out.ensures.0 c.if-not-is_out.false in
     let over : get_or (prefixes s.table) i [] ≡ p.prefix = c.is_over.ensures.0 c.if-not-is_over.false ∙ c.prefix.ensures.value in
     let was = c.index.ensures ∙ get_or-any s.allowances.items (c.args.w - 1) c.index.result.now 0 (λ n. n) (omega (arith, c.requires.worker.0, le)) in
-    graft-over b s.budget s.table s.best s.left s.allowances.items s.spent c.self.invariant c.args.w i p c.requires.worker.0 le c.is_of-own.result c.is_of-own.ensures c.args.self.now c.self.view_is out c.if-not-own.false over (omega (arith, was, c.if-index-splits.true, c.splits-splits.ensures))
+    graft-over _ b s.budget s.table s.best s.left s.allowances.items s.spent c.self.invariant c.args.w i p c.requires.worker.0 le c.is_own-own.result owned c.args.self.now c.self.view_is out c.if-not-own.false over (omega (arith, was, c.if-index-splits.true, c.splits-splits.ensures))
 
 pub plant-requires-clause-floors : goal.plant-requires-clause-floors
 plant-requires-clause-floors c =
     let s = c.self.inside in
     let b : Problem = record { block = instrs_of s.block.now; profile = s.profile } in
     let p = c.args.piece.now in
+    let owned = subst (λ (l : MachineOf). IsTrue c.is_own-own.result ↔ ((p.rule ≡ l.rule) × (p.problem ≡ l.problem))) (sym c.self.view_is) c.is_own-own.ensures in
     let i = c.args.node in
     let le : c.args.w ≤ length s.allowances.items = omega (arith, c.requires.worker.1, ap (λ (l : MachineOf). l.workers) c.self.view_is) in
-    piece-floors b s.budget s.table s.best s.left s.allowances.items s.spent c.self.invariant c.args.w i p c.requires.worker.0 le c.is_of-own.result c.is_of-own.ensures c.if-not-own.false
+    piece-floors _ b s.budget s.table s.best s.left s.allowances.items s.spent c.self.invariant c.args.w i p c.requires.worker.0 le c.is_own-own.result owned c.if-not-own.false
 
 pub plant-requires-clause-room : goal.plant-requires-clause-room
 plant-requires-clause-room c =
     let s = c.self.inside in
     let b : Problem = record { block = instrs_of s.block.now; profile = s.profile } in
     let p = c.args.piece.now in
+    let owned = subst (λ (l : MachineOf). IsTrue c.is_own-own.result ↔ ((p.rule ≡ l.rule) × (p.problem ≡ l.problem))) (sym c.self.view_is) c.is_own-own.ensures in
     let i = c.args.node in
     let le : c.args.w ≤ length s.allowances.items = omega (arith, c.requires.worker.1, ap (λ (l : MachineOf). l.workers) c.self.view_is) in
-    let few : length p.problem.block ≤ BLOCK_LIMIT = omega (arith, c.count.ensures.value, c.count.ensures.few, ap (λ (q : Problem). length q.block) (c.is_of-own.ensures.0 c.if-not-own.false)) in
-    let lines = piece-lines p c.knots-lines.ensures.told c.knots-lines.ensures.preorder few in
+    let few : length p.problem.block ≤ BLOCK_LIMIT = omega (arith, c.count.ensures.value, c.count.ensures.few, ap (λ (q : Problem). length q.block) ((owned.0 c.if-not-own.false).1)) in
+    let lines = piece-lines (opened p) (opened-plain p c.knots-lines.ensures.told) (opened-preorder p c.knots-lines.ensures.preorder) few in
     let was = c.index.ensures ∙ get_or-any s.allowances.items (c.args.w - 1) c.index.result.now 0 (λ n. n) (omega (arith, c.requires.worker.0, le)) in
-    let room = kept-room b s.budget s.table s.best s.left s.allowances.items s.spent c.self.invariant (c.args.w - 1) in
-    omega (arith, lines, was, room, c.if-index-splits.false, c.splits-splits.ensures, c.self.invariant.room, c.self.invariant.few)
+    let room = kept-room _ b s.budget s.table s.best s.left s.allowances.items s.spent c.self.invariant (c.args.w - 1) in
+    omega (arith, lines, opened-length p, same-splits (tree_of p) (tree_of (opened p)) (opened-opens p), was, room, c.if-index-splits.false, c.splits-splits.ensures, c.self.invariant.room, c.self.invariant.few)
 
 pub overflow_add-self : goal.overflow_add-self
 overflow_add-self c =
     let s = c.self.inside in
     let b : Problem = record { block = instrs_of s.block.now; profile = s.profile } in
     let p = c.args.piece.now in
+    let owned = subst (λ (l : MachineOf). IsTrue c.is_own-own.result ↔ ((p.rule ≡ l.rule) × (p.problem ≡ l.problem))) (sym c.self.view_is) c.is_own-own.ensures in
     let i = c.args.node in
     let le : c.args.w ≤ length s.allowances.items = omega (arith, c.requires.worker.1, ap (λ (l : MachineOf). l.workers) c.self.view_is) in
-    let few : length p.problem.block ≤ BLOCK_LIMIT = omega (arith, c.count.ensures.value, c.count.ensures.few, ap (λ (q : Problem). length q.block) (c.is_of-own.ensures.0 c.if-not-own.false)) in
-    let lines = piece-lines p c.knots-lines.ensures.told c.knots-lines.ensures.preorder few in
+    let few : length p.problem.block ≤ BLOCK_LIMIT = omega (arith, c.count.ensures.value, c.count.ensures.few, ap (λ (q : Problem). length q.block) ((owned.0 c.if-not-own.false).1)) in
+    let lines = piece-lines (opened p) (opened-plain p c.knots-lines.ensures.told) (opened-preorder p c.knots-lines.ensures.preorder) few in
     let was = c.index.ensures ∙ get_or-any s.allowances.items (c.args.w - 1) c.index.result.now 0 (λ n. n) (omega (arith, c.requires.worker.0, le)) in
-    let room = kept-room b s.budget s.table s.best s.left s.allowances.items s.spent c.self.invariant (c.args.w - 1) in
+    let room = kept-room _ b s.budget s.table s.best s.left s.allowances.items s.spent c.self.invariant (c.args.w - 1) in
     omega (arith, was, room, c.if-index-splits.false, c.self.invariant.few)
 
 pub invariant_of-self-2 : goal.invariant_of-self-2
@@ -95,39 +104,43 @@ invariant_of-self-2 c =
     let s = c.self.inside in
     let b : Problem = record { block = instrs_of s.block.now; profile = s.profile } in
     let p = c.args.piece.now in
+    let owned = subst (λ (l : MachineOf). IsTrue c.is_own-own.result ↔ ((p.rule ≡ l.rule) × (p.problem ≡ l.problem))) (sym c.self.view_is) c.is_own-own.ensures in
     let i = c.args.node in
     let le : c.args.w ≤ length s.allowances.items = omega (arith, c.requires.worker.1, ap (λ (l : MachineOf). l.workers) c.self.view_is) in
     let out : IsOut s.table i = c.is_out.ensures.0 c.if-not-is_out.false in
     let over : get_or (prefixes s.table) i [] ≡ p.prefix = c.is_over.ensures.0 c.if-not-is_over.false ∙ c.prefix.ensures.value in
-    let few : length p.problem.block ≤ BLOCK_LIMIT = omega (arith, c.count.ensures.value, c.count.ensures.few, ap (λ (q : Problem). length q.block) (c.is_of-own.ensures.0 c.if-not-own.false)) in
-    let lines = piece-lines p c.knots-lines.ensures.told c.knots-lines.ensures.preorder few in
+    let few : length p.problem.block ≤ BLOCK_LIMIT = omega (arith, c.count.ensures.value, c.count.ensures.few, ap (λ (q : Problem). length q.block) ((owned.0 c.if-not-own.false).1)) in
+    let lines = piece-lines (opened p) (opened-plain p c.knots-lines.ensures.told) (opened-preorder p c.knots-lines.ensures.preorder) few in
     let was = c.index.ensures ∙ get_or-any s.allowances.items (c.args.w - 1) c.index.result.now 0 (λ n. n) (omega (arith, c.requires.worker.0, le)) in
-    let room = kept-room b s.budget s.table s.best s.left s.allowances.items s.spent c.self.invariant (c.args.w - 1) in
+    let room = kept-room _ b s.budget s.table s.best s.left s.allowances.items s.spent c.self.invariant (c.args.w - 1) in
     let now = c.index_mut.ensures.value ∙ get_or-any s.allowances.items (c.args.w - 1) c.index_mut.result.now 0 (λ n. n) (omega (arith, c.requires.worker.0, le)) in
     let best = total_of s.best.problem s.best.numbers in
-    let planted : nodes_of p.problem c.plant.new.self ≡ model.with_state (nodes_of p.problem s.table) i (root_state p.problem best p.prefix (tree_of p)) ++ new_nodes p.problem best p.prefix (tree_of p) =
-    (subst (λ k. nodes_of p.problem c.plant.new.self ≡ model.with_state (nodes_of p.problem s.table) i (root_state p.problem k p.prefix (tree_of p)) ++ new_nodes p.problem k p.prefix (tree_of p)) c.total-best.ensures.value c.in-Ok.ensures.ok) in
-    let piece = c.knots-lines.ensures.piece in
-    subst (λ n. IsKept b s.budget c.plant.new.self s.best s.left (set s.allowances.items (c.args.w - 1) (n - c.splits-splits.result)) (s.spent + c.splits-splits.result)) (sym now)
-    (kept-taken b s.budget s.table s.best s.left s.allowances.items s.spent c.self.invariant c.args.w i p c.requires.worker.0 le c.is_of-own.result c.is_of-own.ensures c.if-not-own.false c.plant.new.self c.splits-splits.result out over c.splits-splits.ensures (omega (arith, was, c.if-index-splits.false)) piece planted c.in-Ok.ensures.floors c.in-Ok.ensures.count lines)
+    let planted : nodes_of p.problem c.plant.new.self ≡ model.with_state (nodes_of p.problem s.table) i (root_state p.problem best p.prefix (tree_of (opened p))) ++ new_nodes p.problem best p.prefix (tree_of (opened p)) =
+    (subst (λ k. nodes_of p.problem c.plant.new.self ≡ model.with_state (nodes_of p.problem s.table) i (root_state p.problem k p.prefix (tree_of (opened p))) ++ new_nodes p.problem k p.prefix (tree_of (opened p))) c.total-best.ensures.value c.in-Ok.ensures.ok) in
+    let plain = opened-plain p c.knots-lines.ensures.told in
+    let same = same-splits (tree_of p) (tree_of (opened p)) (opened-opens p) in
+    subst (λ n. IsKept s.rule b s.budget c.plant.new.self s.best s.left (set s.allowances.items (c.args.w - 1) (n - c.splits-splits.result)) (s.spent + c.splits-splits.result)) (sym now)
+    (kept-taken s.rule b s.budget s.table s.best s.left s.allowances.items s.spent c.self.invariant c.args.w i p c.requires.worker.0 le c.is_own-own.result owned c.if-not-own.false c.plant.new.self c.splits-splits.result out over (c.splits-splits.ensures ∙ same) (omega (arith, was, c.if-index-splits.false)) plain planted c.in-Ok.ensures.floors (omega (arith, c.in-Ok.ensures.count, opened-length p)) lines)
 
 pub returns-clause-ok : goal.returns-clause-ok
 returns-clause-ok c =
     let s = c.self.inside in
     let b : Problem = record { block = instrs_of s.block.now; profile = s.profile } in
     let p = c.args.piece.now in
+    let owned = subst (λ (l : MachineOf). IsTrue c.is_own-own.result ↔ ((p.rule ≡ l.rule) × (p.problem ≡ l.problem))) (sym c.self.view_is) c.is_own-own.ensures in
     let i = c.args.node in
     let le : c.args.w ≤ length s.allowances.items = omega (arith, c.requires.worker.1, ap (λ (l : MachineOf). l.workers) c.self.view_is) in
     let out : IsOut s.table i = c.is_out.ensures.0 c.if-not-is_out.false in
     let over : get_or (prefixes s.table) i [] ≡ p.prefix = c.is_over.ensures.0 c.if-not-is_over.false ∙ c.prefix.ensures.value in
-    let few : length p.problem.block ≤ BLOCK_LIMIT = omega (arith, c.count.ensures.value, c.count.ensures.few, ap (λ (q : Problem). length q.block) (c.is_of-own.ensures.0 c.if-not-own.false)) in
-    let lines = piece-lines p c.knots-lines.ensures.told c.knots-lines.ensures.preorder few in
+    let few : length p.problem.block ≤ BLOCK_LIMIT = omega (arith, c.count.ensures.value, c.count.ensures.few, ap (λ (q : Problem). length q.block) ((owned.0 c.if-not-own.false).1)) in
+    let lines = piece-lines (opened p) (opened-plain p c.knots-lines.ensures.told) (opened-preorder p c.knots-lines.ensures.preorder) few in
     let was = c.index.ensures ∙ get_or-any s.allowances.items (c.args.w - 1) c.index.result.now 0 (λ n. n) (omega (arith, c.requires.worker.0, le)) in
-    let room = kept-room b s.budget s.table s.best s.left s.allowances.items s.spent c.self.invariant (c.args.w - 1) in
+    let room = kept-room _ b s.budget s.table s.best s.left s.allowances.items s.spent c.self.invariant (c.args.w - 1) in
     let now = c.index_mut.ensures.value ∙ get_or-any s.allowances.items (c.args.w - 1) c.index_mut.result.now 0 (λ n. n) (omega (arith, c.requires.worker.0, le)) in
     let best = total_of s.best.problem s.best.numbers in
-    let planted : nodes_of p.problem c.plant.new.self ≡ model.with_state (nodes_of p.problem s.table) i (root_state p.problem best p.prefix (tree_of p)) ++ new_nodes p.problem best p.prefix (tree_of p) =
-    (subst (λ k. nodes_of p.problem c.plant.new.self ≡ model.with_state (nodes_of p.problem s.table) i (root_state p.problem k p.prefix (tree_of p)) ++ new_nodes p.problem k p.prefix (tree_of p)) c.total-best.ensures.value c.in-Ok.ensures.ok) in
-    let piece = c.knots-lines.ensures.piece in
-    subst (λ n. IsGraftMove c.args.self.now c.args.w i p Taken (machine_of b s.budget c.plant.new.self s.best.numbers s.left (set s.allowances.items (c.args.w - 1) (n - c.splits-splits.result)) (s.spent + c.splits-splits.result))) (sym now)
-    (graft-taken b s.budget s.table s.best s.left s.allowances.items s.spent c.self.invariant c.args.w i p c.requires.worker.0 le c.is_of-own.result c.is_of-own.ensures c.if-not-own.false c.plant.new.self c.splits-splits.result out over c.splits-splits.ensures (omega (arith, was, c.if-index-splits.false)) piece planted c.args.self.now c.self.view_is)
+    let planted : nodes_of p.problem c.plant.new.self ≡ model.with_state (nodes_of p.problem s.table) i (root_state p.problem best p.prefix (tree_of (opened p))) ++ new_nodes p.problem best p.prefix (tree_of (opened p)) =
+    (subst (λ k. nodes_of p.problem c.plant.new.self ≡ model.with_state (nodes_of p.problem s.table) i (root_state p.problem k p.prefix (tree_of (opened p))) ++ new_nodes p.problem k p.prefix (tree_of (opened p))) c.total-best.ensures.value c.in-Ok.ensures.ok) in
+    let plain = opened-plain p c.knots-lines.ensures.told in
+    let same = same-splits (tree_of p) (tree_of (opened p)) (opened-opens p) in
+    subst (λ n. IsTakenMove c.args.self.now c.args.w i p (machine_of s.rule b s.budget c.plant.new.self s.best.numbers s.left (set s.allowances.items (c.args.w - 1) (n - c.splits-splits.result)) (s.spent + c.splits-splits.result))) (sym now)
+    (graft-taken s.rule b s.budget s.table s.best s.left s.allowances.items s.spent c.self.invariant c.args.w i p c.requires.worker.0 le c.is_own-own.result owned c.if-not-own.false c.plant.new.self c.splits-splits.result out over (c.splits-splits.ensures ∙ same) (omega (arith, was, c.if-index-splits.false)) plain planted c.args.self.now c.self.view_is)

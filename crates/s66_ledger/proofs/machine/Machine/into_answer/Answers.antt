@@ -11,8 +11,8 @@ pub invariant_of-result : goal.invariant_of-result
 invariant_of-result c =
     let s = c.self.inside in
     let b : Problem = record { block = instrs_of s.block.now; profile = s.profile } in
-    subst (λ nodes. IsKeptAnswer (ended_of s.best.problem s.budget nodes s.best.numbers s.spent) nodes c.bound-bound.result) (sym c.into_nodes.ensures)
-    (kept-answer b s.budget s.table s.best s.left s.allowances.items s.spent c.args.self c.bound-bound.result c.self.invariant c.self.view_is c.requires c.bound-bound.ensures.value)
+    subst (λ nodes. IsKeptAnswer (ended_of s.rule s.best.problem s.budget nodes s.best.numbers s.spent) nodes c.bound-bound.result) (sym c.into_nodes.ensures)
+    (kept-answer _ b s.budget s.table s.best s.left s.allowances.items s.spent c.args.self c.bound-bound.result c.self.invariant c.self.view_is c.requires c.bound-bound.ensures.value)
 
 pub returns-clause-answer : goal.returns-clause-answer
 returns-clause-answer c =

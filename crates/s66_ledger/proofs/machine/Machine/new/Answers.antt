@@ -12,4 +12,4 @@ invariant_of-result c =
     let b : Problem = record { block = instrs_of c.args.block.now; profile = c.args.profile.now } in
     let best : c.time_of.result ≡ record { problem = b; numbers = numbers b.block } = c.time_of.ensures ∙ ap (λ ns. record { problem = b; numbers = ns }) c.source-source.ensures.numbers in
     let floor : c.floor_value-floor.result ≡ floor_value b [] = c.floor_value-floor.ensures.value ∙ (ap (λ p. floor_value p c.new.result.numbers) c.of.ensures ∙ ap (λ (k : Ticking). floor_value b k.numbers) c.new.ensures) in
-    kept-opening b c.args.budget c.loop.counter c.time_of.result c.in_ok-table.table _ c.loop.allowances.items best c.in_ok-table.ensures refl floor c.loop.invariant c.requires (omega (arith, c.ranges.workers))
+    kept-opening _ b c.args.budget c.loop.counter c.time_of.result c.in_ok-table.table _ c.loop.allowances.items best c.in_ok-table.ensures refl floor c.loop.invariant c.requires (omega (arith, c.ranges.workers))

@@ -9,7 +9,7 @@ use Rattle.s66_ledger.proofs.machine.Machine.node_count.Goals as goal
 pub overflow_cast-result : goal.overflow_cast-result
 overflow_cast-result c =
     let s = c.self.inside in
-    omega (arith, c.count.ensures, c.self.invariant.room, c.self.invariant.few, kept-room _ s.budget s.table s.best s.left s.allowances.items s.spent c.self.invariant 0)
+    omega (arith, c.count.ensures, c.self.invariant.room, c.self.invariant.few, kept-room _ _ s.budget s.table s.best s.left s.allowances.items s.spent c.self.invariant 0)
 
 pub returns : goal.returns
 returns c =

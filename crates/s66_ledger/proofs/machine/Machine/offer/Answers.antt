@@ -13,7 +13,7 @@ returns-then-not-is_of c =
     let le : c.args.w ≤ length s.allowances.items = omega (arith, c.requires.1, ap (λ (l : MachineOf). l.workers) c.self.view_is) in
     record {
       offered =
-          (event-other b s.budget s.table s.best s.left s.allowances.items s.spent c.self.invariant c.args.self.now c.args.w c.args.timed c.self.view_is c.requires.0 le _ c.is_of.ensures c.if-not-is_of.true);
+          (event-other _ b s.budget s.table s.best s.left s.allowances.items s.spent c.self.invariant c.args.self.now c.args.w c.args.timed c.self.view_is c.requires.0 le _ c.is_of.ensures c.if-not-is_of.true);
       lines = refl;
     }
 
@@ -24,7 +24,7 @@ invariant_of-self c =
     let le : c.args.w ≤ length s.allowances.items = omega (arith, c.requires.1, ap (λ (l : MachineOf). l.workers) c.self.view_is) in
     let own : c.args.timed.problem ≡ b = c.is_of.ensures.0 c.if-not-is_of.false in
     let legal : IsLegal b.block c.args.timed.numbers = subst (λ (p : Problem). IsLegal p.block c.args.timed.numbers) own c.order-legal.ensures.legal in
-    kept-lower b s.budget s.table s.best s.left s.allowances.items s.spent c.self.invariant c.args.w c.args.timed c.requires.0 le own legal
+    kept-lower _ b s.budget s.table s.best s.left s.allowances.items s.spent c.self.invariant c.args.w c.args.timed c.requires.0 le own legal
     (omega (arith, c.if-total-least.true, c.total.ensures.value, c.total-least.ensures.value, ap (λ p. total_of p c.args.timed.numbers) own, ap (λ p. total_of p s.best.numbers) c.self.invariant.own))
 
 pub returns-then-total-least : goal.returns-then-total-least
@@ -36,7 +36,7 @@ returns-then-total-least c =
     let legal : IsLegal b.block c.args.timed.numbers = subst (λ (p : Problem). IsLegal p.block c.args.timed.numbers) own c.order-legal.ensures.legal in
     record {
       offered =
-          (event-lower b s.budget s.table s.best s.left s.allowances.items s.spent c.self.invariant c.args.self.now c.args.w c.args.timed c.self.view_is c.requires.0 le own legal
+          (event-lower _ b s.budget s.table s.best s.left s.allowances.items s.spent c.self.invariant c.args.self.now c.args.w c.args.timed c.self.view_is c.requires.0 le own legal
           (omega (arith, c.if-total-least.true, c.total.ensures.value, c.total-least.ensures.value, ap (λ p. total_of p c.args.timed.numbers) own, ap (λ p. total_of p s.best.numbers) c.self.invariant.own)));
       lines = ap (λ (l : MachineOf). l.lines) c.self.view_is;
     }
@@ -51,7 +51,7 @@ returns-else-total-least c =
     let least = c.total-least.ensures.value ∙ ap (λ p. total_of p s.best.numbers) c.self.invariant.own in
     record {
       offered =
-          (event-not-lower b s.budget s.table s.best s.left s.allowances.items s.spent c.self.invariant c.args.self.now c.args.w c.args.timed c.total-least.result c.self.view_is c.requires.0 le own legal least
+          (event-not-lower _ b s.budget s.table s.best s.left s.allowances.items s.spent c.self.invariant c.args.self.now c.args.w c.args.timed c.total-least.result c.self.view_is c.requires.0 le own legal least
           (omega (arith, c.if-total-least.false, c.total.ensures.value, least, ap (λ p. total_of p c.args.timed.numbers) own)));
       lines = refl;
     }

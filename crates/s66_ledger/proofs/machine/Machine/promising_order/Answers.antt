@@ -22,7 +22,7 @@ prefix_of-requires-clause-few c =
     let s = c.self.inside in
     let b : Problem = record { block = instrs_of s.block.now; profile = s.profile } in
     let lt : c.args.node < length s.table = omega (arith, c.requires, length-nodes b s.table, ap (λ (l : MachineOf). length l.state.nodes) c.self.view_is) in
-    omega (arith, kept-short b s.budget s.table s.best s.left s.allowances.items s.spent c.self.invariant c.args.node lt, c.count.ensures.value, c.count.ensures.few)
+    omega (arith, kept-short _ b s.budget s.table s.best s.left s.allowances.items s.spent c.self.invariant c.args.node lt, c.count.ensures.value, c.count.ensures.few)
 
 pub returns-then-has_length-clause-prefix : goal.returns-then-has_length-clause-prefix
 returns-then-has_length-clause-prefix c =
@@ -40,7 +40,7 @@ returns-then-has_length-clause-begins c =
     let lt : c.args.node < length s.table = omega (arith, c.requires, length-nodes b s.table, ap (λ (l : MachineOf). length l.state.nodes) c.self.view_is) in
     subst (λ at. IsBeginning c.args.self.now.problem.block at) (sym c.prefix_of.ensures)
     (subst (λ (l : MachineOf). IsBeginning l.problem.block (get_or (prefixes s.table) c.args.node [])) c.self.view_is
-    (kept-beginning b s.budget s.table s.best s.left s.allowances.items s.spent c.self.invariant c.args.node lt))
+    (kept-beginning _ b s.budget s.table s.best s.left s.allowances.items s.spent c.self.invariant c.args.node lt))
 
 pub returns-then-has_length-clause-whole : goal.returns-then-has_length-clause-whole
 returns-then-has_length-clause-whole c =
@@ -58,11 +58,11 @@ returns-else-is_live_below-clause-none c =
       | else-is_live_below-via-then-is_live_below+else-has_length w ↦
           (let other : length (get_or (prefixes s.table) c.args.node []) ≢ w.count-then-is_live_below.result = λ same. true≢false (sym (w.has_length.ensures.1 same) ∙ w.if-has_length.false) in
           let part : length (get_or (prefixes s.table) c.args.node []) < length b.block =
-          omega (arith, kept-short b s.budget s.table s.best s.left s.allowances.items s.spent c.self.invariant c.args.node lt, w.count-then-is_live_below.ensures.value, other) in
+          omega (arith, kept-short _ b s.budget s.table s.best s.left s.allowances.items s.spent c.self.invariant c.args.node lt, w.count-then-is_live_below.ensures.value, other) in
           λ live. inl (omega (arith, part, ap (λ (n : model.Node). length n.prefix) (at-nodes b s.table c.args.node lt), ap (λ (l : MachineOf). length (model.node_at l.state.nodes c.args.node).prefix) c.self.view_is, ap (λ (l : MachineOf). length l.problem.block) c.self.view_is)))
       | else-is_live_below-via-else-is_live_below w ↦
           λ live.
           inr
-          (not-below b s.budget s.table s.best s.left s.allowances.items s.spent c.self.invariant c.args.self.now c.self.view_is c.args.node c.total.result lt c.total.ensures.value
+          (not-below _ b s.budget s.table s.best s.left s.allowances.items s.spent c.self.invariant c.args.self.now c.self.view_is c.args.node c.total.result lt c.total.ensures.value
           (λ below. true≢false (sym (c.is_live_below.ensures.1 below) ∙ w.if-is_live_below.false)) live)
     ]

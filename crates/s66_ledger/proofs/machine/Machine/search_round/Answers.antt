@@ -52,8 +52,8 @@ expand-requires c =
     let claimed = subst (λ (t : Option TicketOf). IsMove old (Claim 1) (Claimed (claimed_node t)) mid) c.in-Some.is c.claim.ensures.ok in
     let prefix = subst (λ (t : Option TicketOf). IsTicketOf old.state t) c.in-Some.is c.claim.ensures.ticket in
     let within = claim-within old mid ticket claimed prefix c.allowance_or_grant-allowance.ensures.between in
-    let begins : IsBeginning mid.problem.block (node_at mid.state.nodes ticket.node).prefix = holds-at mid.problem (best_time mid.problem mid.state) mid.state.nodes ticket.node c.best-best.ensures.covers.nodes within.out.0 in
-    let (problem, budget, workers, run) = c.allowance_or_grant-allowance.ensures.leads in
+    let begins : IsBeginning mid.problem.block (node_at mid.state.nodes ticket.node).prefix = holds-at mid.rule mid.problem (best_time mid.problem mid.state) mid.state.nodes mid.state.nodes ticket.node c.best-best.ensures.covers.nodes within.out.0 in
+    let (problem, budget, workers, run, by) = c.allowance_or_grant-allowance.ensures.leads in
     subst (λ at. IsBeginning c.args.walk.now.problem.block at) (sym (c.prefix.ensures ∙ within.prefix))
     (subst (λ (p : Problem). IsBeginning p.block (node_at mid.state.nodes ticket.node).prefix) (claimed.0 ∙ (problem ∙ sym c.requires.walk)) begins)
 

@@ -6,4 +6,4 @@ use Rattle.s66_ledger.proofs.machine.Machine.splits.Goals as goal
 pub returns-clause-within : goal.returns-clause-within
 returns-clause-within c =
     let s = c.self.inside in
-    omega (arith, kept-room _ s.budget s.table s.best s.left s.allowances.items s.spent c.self.invariant 0, ap (λ (l : MachineOf). l.budget) c.self.view_is)
+    omega (arith, kept-room _ _ s.budget s.table s.best s.left s.allowances.items s.spent c.self.invariant 0, ap (λ (l : MachineOf). l.budget) c.self.view_is)

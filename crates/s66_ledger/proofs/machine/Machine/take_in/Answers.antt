@@ -1,8 +1,8 @@
 use Rattle.std.proofs.Common.{subst, sym}
 use Rattle.s66_model.specs.Timing.{Problem}
-use Rattle.s66_model.specs.Ledger.{Taken, best_time, allowance}
+use Rattle.s66_model.specs.Ledger.{best_time, allowance}
 use Rattle.s66_node.specs.Pieces.{tree_of, IsBestTimed}
-use Rattle.s66_ledger.specs.GraftMoves.{IsGraftMove}
+use Rattle.s66_ledger.specs.GraftMoves.{IsTakenMove}
 use Rattle.s66_ledger.specs.Finishing.{IsWithin}
 use Rattle.s66_ledger.proofs.Leading.{leads-on}
 use Rattle.s66_ledger.proofs.Rounds.{leads-graft, offer-within, graft-between}
@@ -15,7 +15,7 @@ returns-in-Ok-clause-leads c =
     let mid = c.offer_best.new.self in
     let new = c.graft.new.self in
     let p = c.args.piece in
-    let taken = subst (λ i. IsGraftMove mid 1 i p Taken new) c.node.ensures c.in-Ok.ensures.ok in
+    let taken = subst (λ i. IsTakenMove mid 1 i p new) c.node.ensures c.in-Ok.ensures.ok in
     leads-on c.args.self.now mid new c.offer_best.ensures.offers.leads (leads-graft mid new c.args.ticket p taken)
 
 pub returns-in-Ok-clause-between : goal.returns-in-Ok-clause-between
@@ -27,7 +27,7 @@ returns-in-Ok-clause-between c =
     let within : IsWithin mid.problem mid.state c.args.ticket = offer-within old mid c.offer_best.ensures.offers c.args.ticket c.requires.within in
     let timed = subst (λ (b : Problem). IsBestTimed b p.prefix (tree_of p) p.timed) (sym c.offer_best.ensures.offers.leads.0) c.requires.timed in
     let each = least-timed mid.problem (best_time mid.problem mid.state) p.prefix (tree_of p) p.timed timed c.offer_best.ensures.at_most in
-    graft-between mid new c.args.ticket p within each (subst (λ i. IsGraftMove mid 1 i p Taken new) c.node.ensures c.in-Ok.ensures.ok)
+    graft-between mid new c.args.ticket p within each (subst (λ i. IsTakenMove mid 1 i p new) c.node.ensures c.in-Ok.ensures.ok)
 
 pub returns-in-Ok-clause-less : goal.returns-in-Ok-clause-less
 returns-in-Ok-clause-less c =
@@ -35,5 +35,5 @@ returns-in-Ok-clause-less c =
     let mid = c.offer_best.new.self in
     let new = c.graft.new.self in
     let p = c.args.piece in
-    let gains = expansion-gains old.problem (best_time old.problem old.state) (allowance old.state 1) p.prefix (tree_of p) p.timed c.requires.expansion c.requires.some c.requires.below c.requires.timed in
-    taken-less old mid new c.args.ticket p c.requires.covers c.offer_best.ensures.offers c.offer_best.ensures.at_most (subst (λ i. IsGraftMove mid 1 i p Taken new) c.node.ensures c.in-Ok.ensures.ok) gains
+    let gains = expansion-gains _ old.problem (best_time old.problem old.state) (allowance old.state 1) p.prefix (tree_of p) p.timed c.requires.expansion c.requires.some c.requires.below c.requires.timed in
+    taken-less old mid new c.args.ticket p c.requires.covers c.offer_best.ensures.offers c.offer_best.ensures.at_most (subst (λ i. IsTakenMove mid 1 i p new) c.node.ensures c.in-Ok.ensures.ok) gains

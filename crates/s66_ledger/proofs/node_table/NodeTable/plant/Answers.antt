@@ -5,15 +5,16 @@ use Rattle.s66_dep.specs.Members.{numbers_in}
 use Rattle.s66_model.specs.Ledger as model
 use Rattle.s66_model.specs.Ledger.{root_state, new_nodes}
 use Rattle.s66_model.specs.Tree.{Alone, Parted, TreeHolds, flat}
-use Rattle.s66_model.specs.Told.{Told, ToldHolds}
+use Rattle.s66_model.specs.Told.{Told}
 use Rattle.s66_node.specs.Pieces.{PieceOf, told_tree, tree_of}
-use Rattle.s66_node.specs.SeenKnots.{seen_knot}
 use Rattle.s66_ledger.specs.declared.node.Node.{Node}
 use Rattle.s66_ledger.specs.declared.node.State.{State}
 use Rattle.s66_ledger.specs.declared.node.State.TheVariants as state
 use Rattle.s66_ledger.specs.OpenNodes.{IsOut, AreOpenNodes}
 use Rattle.s66_ledger.specs.LiveNodes.{AreCounted}
 use Rattle.s66_ledger.specs.Nodes.{no_node, node_at, with_state, nodes_of, lines_of, prefixes, HaveFloors, HaveDepths, is_open_state, is_out_state}
+use Rattle.s66_ledger.specs.Opened.{opened, IsPlain, open_knot}
+use Rattle.s66_ledger.proofs.Opened.{opened-plain, opened-preorder, opened-lines, opened-length}
 use Rattle.s66_ledger.specs.Planting.{kids_of, told_state}
 use Rattle.s66_ledger.specs.Subtrees.{placed, settled, planted, lines_below, IsPlanted}
 use Rattle.s66_ledger.proofs.Depths.{depths-state}
@@ -48,7 +49,7 @@ module _ (p : PieceOf) (best i : ℕ) (s : State) (told : Told) (old new : List 
   alone-floors : HaveFloors p.problem old → HaveFloors p.problem new
   alone-floors floors = subst (HaveFloors p.problem) (sym moved) (floors-state p.problem old i s out.0 (out-split (node_at old i).state out.1) floors)
 
-  alone-stands : get_or (prefixes old) i [] ≡ p.prefix → TreeHolds p.problem.block (ToldHolds p.problem) p.prefix (told_tree p) → Stands p best i old new
+  alone-stands : get_or (prefixes old) i [] ≡ p.prefix → IsPlain p → Stands p best i old new
   alone-stands over holds =
       subst (Stands p best i old) (sym moved)
       (alone-nodes p.problem best i p.prefix (told_tree p) old s told out.0 is over holds alone)
@@ -74,55 +75,59 @@ module _ (p : PieceOf) (best i : ℕ) (old subtree new : List Node) (out : IsOut
 
 pub returns-in-Split-clause-floors : goal.returns-in-Split-clause-floors
 returns-in-Split-clause-floors c =
-    let p = c.args.piece.now in
+    let q = c.args.piece.now in
+    let p = opened q in
     let old = c.args.self.now in
     let new = c.plant_split.new.self in
     let i = c.args.root in
-    let whole = c.requires.subtree.anywhere c.args.best i old (record { within = c.requires.out.0; over = c.requires.over; floors = c.requires.floors; depths = subst HaveDepths c.self.view_is c.self.invariant.2; room = c.requires.room }) in
+    let whole = c.requires.subtree.anywhere c.args.best i old (record { within = c.requires.out.0; over = c.requires.over; floors = c.requires.floors; depths = subst HaveDepths c.self.view_is c.self.invariant.2; room = omega (arith, c.requires.room, opened-length q) }) in
     let split : new ≡ with_state (planted c.args.best i old c.args.subtree.now) i state.Split → HaveFloors p.problem new = split-floors p c.args.best i old c.args.subtree.now new c.requires.out whole in
     on_ok_weaker c.plant_split.result split c.plant_split.ensures.ok
 
 pub returns-in-Split-clause-lines : goal.returns-in-Split-clause-lines
 returns-in-Split-clause-lines c =
-    let p = c.args.piece.now in
+    let q = c.args.piece.now in
+    let p = opened q in
     let old = c.args.self.now in
     let new = c.plant_split.new.self in
     let i = c.args.root in
-    let whole = c.requires.subtree.anywhere c.args.best i old (record { within = c.requires.out.0; over = c.requires.over; floors = c.requires.floors; depths = subst HaveDepths c.self.view_is c.self.invariant.2; room = c.requires.room }) in
+    let whole = c.requires.subtree.anywhere c.args.best i old (record { within = c.requires.out.0; over = c.requires.over; floors = c.requires.floors; depths = subst HaveDepths c.self.view_is c.self.invariant.2; room = omega (arith, c.requires.room, opened-length q) }) in
     let split : new ≡ with_state (planted c.args.best i old c.args.subtree.now) i state.Split → lines_of new ≡ lines_of old ++ lines_below p =
     λ moved. split-lines p c.args.best i old c.args.subtree.now new c.requires.out whole moved c.requires.subtree.lines in
     on_ok_weaker c.plant_split.result split c.plant_split.ensures.ok
 
 pub returns-in-Split-clause-ok : goal.returns-in-Split-clause-ok
 returns-in-Split-clause-ok c =
-    let p = c.args.piece.now in
+    let q = c.args.piece.now in
+    let p = opened q in
     let old = c.args.self.now in
     let new = c.plant_split.new.self in
     let i = c.args.root in
     let knots = c.knots.result.now in
-    let whole = c.requires.subtree.anywhere c.args.best i old (record { within = c.requires.out.0; over = c.requires.over; floors = c.requires.floors; depths = subst HaveDepths c.self.view_is c.self.invariant.2; room = c.requires.room }) in
+    let whole = c.requires.subtree.anywhere c.args.best i old (record { within = c.requires.out.0; over = c.requires.over; floors = c.requires.floors; depths = subst HaveDepths c.self.view_is c.self.invariant.2; room = omega (arith, c.requires.room, opened-length q) }) in
     let numbers = numbers_in c.in-Split.field-0 in
-    let parted = split-root (told_tree p) knots p.knots c.knots.ensures.preorder c.knots.ensures.value _ _ numbers refl (ap seen_knot c.in-Split.is) in
+    let parted = split-root (told_tree p) knots p.knots (opened-preorder q c.knots.ensures.preorder) (opened-lines knots q c.knots.ensures.value) c.index-knots-0.result c.index-knots-0.result numbers c.index-knots-0.is (ap open_knot c.in-Split.is) in
     let split : new ≡ with_state (planted c.args.best i old c.args.subtree.now) i state.Split → Stands p c.args.best i old new =
     λ moved. split-stands p c.args.best i old c.args.subtree.now new c.requires.out whole moved numbers parted in
     on_ok_weaker c.plant_split.result split c.plant_split.ensures.ok
 
 pub returns-then-is_open : goal.returns-then-is_open
 returns-then-is_open c =
-    let p = c.args.piece.now in
+    let q = c.args.piece.now in
+    let p = opened q in
     let old = c.args.self.now in
     let i = c.args.root in
     let knots = c.knots.result.now in
     let (told, seen_is, told_is, value_is) = settled-told c.args.best _ _ _ _ c.in_default.not-Split c.settled_state.ensures c.state_of.ensures c.value_of.ensures in
-    let alone = tip-root (told_tree p) knots p.knots c.knots.ensures.preorder c.knots.ensures.value _ _ told refl seen_is in
+    let alone = tip-root (told_tree p) knots p.knots (opened-preorder q c.knots.ensures.preorder) (opened-lines knots q c.knots.ensures.value) c.index-knots-0.result c.index-knots-0.result told c.index-knots-0.is seen_is in
     let now : state.Open ≡ told_state c.args.best told = sym (is-open c.settled_state.result (sym c.is_open.ensures ∙ c.if-is_open.true)) ∙ told_is in
     let moved = c.in_ok-give_back.ensures.ok in
     record {
       err = tt;
-      count = alone-count p c.args.best i state.Open told old c.give_back.new.self c.requires.out alone now moved c.knots.ensures.preorder;
+      count = omega (arith, alone-count p c.args.best i state.Open told old c.give_back.new.self c.requires.out alone now moved (opened-preorder q c.knots.ensures.preorder), opened-length q);
       floors = alone-floors p c.args.best i state.Open told old c.give_back.new.self c.requires.out alone now moved c.requires.floors;
-      lines = alone-lines p c.args.best i state.Open told old c.give_back.new.self c.requires.out alone now moved c.knots.ensures.preorder;
-      ok = alone-stands p c.args.best i state.Open told old c.give_back.new.self c.requires.out alone now moved c.requires.over c.knots.ensures.told;
+      lines = alone-lines p c.args.best i state.Open told old c.give_back.new.self c.requires.out alone now moved (opened-preorder q c.knots.ensures.preorder);
+      ok = alone-stands p c.args.best i state.Open told old c.give_back.new.self c.requires.out alone now moved c.requires.over (opened-plain q c.knots.ensures.told);
     }
 
 pub invariant_of-self : goal.invariant_of-self
@@ -143,20 +148,21 @@ invariant_of-self c =
 
 pub returns : goal.returns
 returns c =
-    let p = c.args.piece.now in
+    let q = c.args.piece.now in
+    let p = opened q in
     let old = c.args.self.now in
     let i = c.args.root in
     let knots = c.knots.result.now in
     let (told, seen_is, told_is, value_is) = settled-told c.args.best _ _ _ _ c.in_default.not-Split c.settled_state.ensures c.state_of.ensures c.value_of.ensures in
-    let alone = tip-root (told_tree p) knots p.knots c.knots.ensures.preorder c.knots.ensures.value _ _ told refl seen_is in
+    let alone = tip-root (told_tree p) knots p.knots (opened-preorder q c.knots.ensures.preorder) (opened-lines knots q c.knots.ensures.value) c.index-knots-0.result c.index-knots-0.result told c.index-knots-0.is seen_is in
     let now : state.Closed ≡ told_state c.args.best told = sym (told-closed c.args.best told (ap is_open_state (sym told_is) ∙ (sym c.is_open.ensures ∙ c.if-is_open.false))) in
     let moved = c.set_state.ensures ∙ ap (λ (ns : List Node). with_state ns i state.Closed) c.self.view_is in
     record {
       err = tt;
-      count = alone-count p c.args.best i state.Closed told old _ c.requires.out alone now moved c.knots.ensures.preorder;
+      count = omega (arith, alone-count p c.args.best i state.Closed told old _ c.requires.out alone now moved (opened-preorder q c.knots.ensures.preorder), opened-length q);
       floors = alone-floors p c.args.best i state.Closed told old _ c.requires.out alone now moved c.requires.floors;
-      lines = alone-lines p c.args.best i state.Closed told old _ c.requires.out alone now moved c.knots.ensures.preorder;
-      ok = alone-stands p c.args.best i state.Closed told old _ c.requires.out alone now moved c.requires.over c.knots.ensures.told;
+      lines = alone-lines p c.args.best i state.Closed told old _ c.requires.out alone now moved (opened-preorder q c.knots.ensures.preorder);
+      ok = alone-stands p c.args.best i state.Closed told old _ c.requires.out alone now moved c.requires.over (opened-plain q c.knots.ensures.told);
     }
 
 pub overflow_sub-self : goal.overflow_sub-self

@@ -1,0 +1,5 @@
+use Rattle.s66_ledger.proofs.Opened.{opened-plain, opened-outline}
+use Rattle.s66_ledger.proofs.ledger.keep_root.Goals as goal
+
+pub returns-clause-outline : goal.returns-clause-outline
+returns-clause-outline c = opened-outline c.args.piece.now (opened-plain c.args.piece.now c.knots.ensures.told)
