@@ -7,7 +7,7 @@ use Rattle.s66_model.specs.Tree.{AtTip, AtSplit}
 use Rattle.s66_cert.specs.Document.{Document, IsTextWithin}
 use Rattle.s66_cert.specs.Faults.{IsLine, AreLines, with_newlines, BeginsWithin, Begins, HasLine, IsBadLine, IsSplitTooMany, IsCut, IsFault}
 use Rattle.s66_cert.specs.Lines.{Line, Header, Profile, Block, Instruction, Time, Bound, Order, OfTree, End, line_of}
-use Rattle.s66_cert.specs.Reading.{State, start, place_of_tree, with_knot, step_at, step_if, step, and_then, steps, ended, is_header, read_within, whole_lines, last_bytes}
+use Rattle.s66_cert.specs.Reading.{State, start, place_of_tree, with_knot, is_allowed, wants_dominated, step_at, step_if, step, and_then, steps, ended, is_header, read_within, whole_lines, last_bytes}
 use Rattle.s66_cert.specs.declared.limits.TheConstants.{SPLIT_LIMIT}
 use Rattle.s66_cert.specs.declared.error.CertError.{CertError}
 use Rattle.s66_cert.specs.declared.error.CertError.TheVariants.{BadLine, Truncated, TooManyNodes, OutOfMemory}
@@ -25,18 +25,28 @@ data Outcome (s : State) (f : ℕ → Result State CertError) : Type 0 where
   IsGood : (t : State) → t.count ≡ suc s.count → ((most : ℕ) → f most ≡ Ok t) → Outcome s f
   IsSplit : (t : State) → t.count ≡ suc s.count → ((most : ℕ) → f most ≡ cond (leb most s.splits) (Err TooManyNodes) (Ok t)) → Outcome s f
 
+-- a step that a test allows
+outcome-test : (s t : State) (test : Bool) → t.count ≡ suc s.count → Outcome s (λ most. cond test (Ok t) (Err (BadLine (suc s.count))))
+outcome-test s t true counted = IsGood t counted (λ most. refl)
+outcome-test s t false counted = IsBad (λ most. refl)
+
+-- or that it forbids
+outcome-unless : (s t : State) (test : Bool) → t.count ≡ suc s.count → Outcome s (λ most. cond test (Err (BadLine (suc s.count))) (Ok t))
+outcome-unless s t true counted = IsBad (λ most. refl)
+outcome-unless s t false counted = IsGood t counted (λ most. refl)
+
 outcome-at : (s : State) (place : Place) (l : Line) → Outcome s (λ most. step_at most s place l)
-outcome-at s AtHeader Header = IsGood _ refl (λ most. refl)
+outcome-at s AtHeader (Header rule) = IsGood _ refl (λ most. refl)
 outcome-at s AtProfile (Profile numbers) = IsGood _ refl (λ most. refl)
 outcome-at s AtBlock (Block count) = IsGood _ refl (λ most. refl)
 outcome-at s AtInstruction (Instruction text) = IsGood _ refl (λ most. refl)
 outcome-at s AtTime (Time time) = IsGood _ refl (λ most. refl)
 outcome-at s AtBound (Bound bound) = IsGood _ refl (λ most. refl)
 outcome-at s AtOrder (Order numbers) = IsGood _ refl (λ most. refl)
-outcome-at s AtTree (OfTree (AtTip leaf)) = IsGood _ refl (λ most. refl)
+outcome-at s AtTree (OfTree (AtTip ending)) = outcome-test s _ (is_allowed s.part.rule (AtTip ending)) refl
 outcome-at s AtTree (OfTree (AtSplit numbers)) =
     IsSplit (record { count = suc s.count; documents = s.documents; place = place_of_tree (s.left - 1 + length numbers); part = with_knot s.part (AtSplit numbers); left = s.left - 1 + length numbers; splits = suc s.splits }) refl (λ most. refl)
-outcome-at s AtEnd End = IsGood _ refl (λ most. refl)
+outcome-at s AtEnd End = outcome-unless s _ (wants_dominated s.part) refl
 outcome-at s place l = IsBad (λ most. refl)
 
 outcome-if : (s : State) (o : Option Line) → Outcome s (λ most. step_if most s o)

@@ -6,6 +6,7 @@ pub mod Short
 pub mod Spelled
 pub mod LineTexts
 pub mod DocumentLines
+pub mod DominatedLines
 pub mod LineBytes
 pub mod TextLines
 pub mod States

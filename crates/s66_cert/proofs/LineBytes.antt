@@ -6,12 +6,15 @@ use Rattle.s66_isa.specs.declared.instr.Kind.{Kind}
 use Rattle.s66_isa.specs.declared.instr.Kind.TheVariants.{Boolean, Shift, Add, LongAdd, Multiply, Divide, Increment}
 use Rattle.s66_line.proofs.NoLineEnds.{one-line}
 use Rattle.s66_line.proofs.Wholes.{every-append}
-use Rattle.s66_model.specs.Leaves.{Leaf, Whole, Chain, Load, Parcels}
+use Rattle.s66_model.specs.declared.rule.Rule.{Rule}
+use Rattle.s66_model.specs.declared.rule.Rule.TheVariants.{NoneNamed, WrittenEarlier, ClampedStanding}
+use Rattle.s66_model.specs.Leaves.{Whole, Chain, Load, Parcels}
 use Rattle.s66_model.specs.Tree.{Tree, Alone, Parted, Kids, NoMore, Unsplit, Split, Knot, AtTip, AtSplit, flat, flat_kids}
-use Rattle.s66_cert.specs.Document.{Document, IsDocumentWithin, AreDocumentsWithin, AreIn, AreInstructions, KidsFit, TreeFits, kind_name}
+use Rattle.s66_model.specs.DominatedLeaves.{Ending, Bounding, Dominated}
+use Rattle.s66_cert.specs.Document.{Document, IsDocumentWithin, AreDocumentsWithin, AreIn, AreInstructions, KidsFit, TreeFits, kind_name, version}
 use Rattle.s66_cert.specs.Faults.{IsLine, AreLines}
 use Rattle.s66_cert.specs.Lines.{Line, Header, Profile, Block, Instruction, Time, Bound, Order, OfTree, End, bytes_of, IsInRange}
-use Rattle.s66_cert.proofs.DocumentLines.{documents_lines, document_lines, instructions_of, knots_of}
+use Rattle.s66_cert.proofs.DocumentLines.{documents_lines, document_lines, open_lines, instructions_of, knots_of}
 use Rattle.s66_cert.proofs.NumberTexts.{decimal-clear}
 
 decimal-line : (n : ℕ) → n < 2 ^ 64 → IsLine (decimal n)
@@ -30,18 +33,24 @@ kind-line Multiply = refl
 kind-line Divide = refl
 kind-line Increment = refl
 
+version-narrow : (rule : Rule) → version rule < 2 ^ 64
+version-narrow NoneNamed = omega arith
+version-narrow WrittenEarlier = omega arith
+version-narrow ClampedStanding = omega arith
+
 pub is-line : (limit : ℕ) (l : Line) → limit < 2 ^ 64 → IsInRange limit l → IsLine (bytes_of l)
-is-line limit Header narrow is = refl
+is-line limit (Header rule) narrow is = decimal-line (version rule) (version-narrow rule)
 is-line limit (Profile numbers) narrow is = after_blanks-line 1 100 numbers (omega arith) is.1
 is-line limit (Block count) narrow is = decimal-line count (omega (arith, narrow, is.1))
 is-line limit (Instruction text) narrow is = one-line text is
 is-line limit (Time time) narrow is = decimal-line time (omega (arith, is))
 is-line limit (Bound bound) narrow is = decimal-line bound (omega (arith, is))
 is-line limit (Order numbers) narrow is = after_blanks-line 1 limit numbers narrow is.2
-is-line limit (OfTree (AtTip Whole)) narrow is = refl
-is-line limit (OfTree (AtTip (Chain numbers))) narrow is = after_blanks-line 1 limit numbers narrow is.2
-is-line limit (OfTree (AtTip (Load kind))) narrow is = kind-line kind
-is-line limit (OfTree (AtTip Parcels)) narrow is = refl
+is-line limit (OfTree (AtTip (Bounding Whole))) narrow is = refl
+is-line limit (OfTree (AtTip (Bounding (Chain numbers)))) narrow is = after_blanks-line 1 limit numbers narrow is.2
+is-line limit (OfTree (AtTip (Bounding (Load kind)))) narrow is = kind-line kind
+is-line limit (OfTree (AtTip (Bounding Parcels))) narrow is = refl
+is-line limit (OfTree (AtTip (Dominated name))) narrow is = after_blanks-line 1 limit name narrow is.2
 is-line limit (OfTree (AtSplit numbers)) narrow is = after_blanks-line 1 limit numbers narrow is.2
 is-line limit End narrow is = refl
 
@@ -59,11 +68,11 @@ instructions-range : (limit : ℕ) (texts : List (List ℕ)) → AreInstructions
 instructions-range limit [] are = tt
 instructions-range limit (text ∷ texts) are = (are.0, instructions-range limit texts are.1)
 
-knots-append : (limit : ℕ) (xs ys : List (Knot Leaf)) → AreInRange limit (knots_of xs) → AreInRange limit (knots_of ys) → AreInRange limit (knots_of (xs ++ ys))
+knots-append : (limit : ℕ) (xs ys : List (Knot Ending)) → AreInRange limit (knots_of xs) → AreInRange limit (knots_of ys) → AreInRange limit (knots_of (xs ++ ys))
 knots-append limit [] ys h k = k
 knots-append limit (x ∷ xs) ys h k = (h.0, knots-append limit xs ys h.1 k)
 
-kids-range : (limit : ℕ) (ns : List ℕ) (kids : Kids Leaf) → KidsFit limit ns kids → AreInRange limit (knots_of (flat_kids kids))
+kids-range : (limit : ℕ) (ns : List ℕ) (kids : Kids Ending) → KidsFit limit ns kids → AreInRange limit (knots_of (flat_kids kids))
 kids-range limit [] NoMore fits = tt
 kids-range limit [] (Unsplit leaf kids) fits = absurd fits
 kids-range limit [] (Split numbers sub kids) fits = absurd fits
@@ -71,13 +80,17 @@ kids-range limit (n ∷ ns) NoMore fits = absurd fits
 kids-range limit (n ∷ ns) (Unsplit leaf kids) fits = (fits.0, kids-range limit ns kids fits.1)
 kids-range limit (n ∷ ns) (Split numbers sub kids) fits = (fits.0, knots-append limit (flat_kids sub) (flat_kids kids) (kids-range limit numbers sub fits.1) (kids-range limit ns kids fits.2))
 
-tree-range : (limit : ℕ) (tree : Tree Leaf) → TreeFits limit tree → AreInRange limit (knots_of (flat tree))
+tree-range : (limit : ℕ) (tree : Tree Ending) → TreeFits limit tree → AreInRange limit (knots_of (flat tree))
 tree-range limit (Alone leaf) fits = (fits, tt)
 tree-range limit (Parted numbers kids) fits = (fits.0, kids-range limit numbers kids fits.1)
 
+-- whatever the rule
+open-range : (limit most : ℕ) (d : Document) (other : Rule) → IsDocumentWithin limit most (record d { rule = other }) → AreInRange limit (open_lines d)
+open-range limit most d other is =
+    (tt, (is.profile, ((is.block.0, is.block.1), range-append limit (instructions_of d.block) _ (instructions-range limit d.block is.block.2) (is.time, (is.bound, (is.numbers, tree-range limit d.tree is.tree))))))
+
 document-range : (limit most : ℕ) (d : Document) → IsDocumentWithin limit most d → AreInRange limit (document_lines d)
-document-range limit most d is =
-    (tt, (is.profile, ((is.block.0, is.block.1), range-append limit (instructions_of d.block) _ (instructions-range limit d.block is.block.2) (is.time, (is.bound, (is.numbers, range-append limit (knots_of (flat d.tree)) (End ∷ []) (tree-range limit d.tree is.tree) (tt, tt)))))))
+document-range limit most d is = range-append limit (open_lines d) (End ∷ []) (open-range limit most d d.rule is) (tt, tt)
 
 documents-range : (limit most : ℕ) (ds : List Document) → AreDocumentsWithin limit most ds → AreInRange limit (documents_lines ds)
 documents-range limit most [] are = tt
@@ -86,6 +99,9 @@ documents-range limit most (d ∷ ds) are = range-append limit (document_lines d
 range-lines : (limit : ℕ) (ls : List Line) → limit < 2 ^ 64 → AreInRange limit ls → AreLines (map bytes_of ls)
 range-lines limit [] narrow are = tt
 range-lines limit (l ∷ ls) narrow are = (is-line limit l narrow are.0, range-lines limit ls narrow are.1)
+
+pub lines-of-open : (limit most : ℕ) (d : Document) (other : Rule) → limit < 2 ^ 64 → IsDocumentWithin limit most (record d { rule = other }) → AreLines (map bytes_of (open_lines d))
+lines-of-open limit most d other narrow is = range-lines limit (open_lines d) narrow (open-range limit most d other is)
 
 pub lines-of-documents : (limit most : ℕ) (ds : List Document) → limit < 2 ^ 64 → AreDocumentsWithin limit most ds → AreLines (map bytes_of (documents_lines ds))
 lines-of-documents limit most ds narrow are = range-lines limit (documents_lines ds) narrow (documents-range limit most ds are)

@@ -1,6 +1,7 @@
 -- Each line is read as what it is written, and nothing else is read.
-use Rattle.std.proofs.Common.{◌≡◌, ◌≤◌, ◌<◌, ◌^◌, ◌&&◌, ℕ, Bool, true, false, List, [], ◌∷◌, ◌++◌, length, Option, None, Some, refl, sym, ap, ◌∙◌, arith, cond, leb, le-leb, leb-true}
+use Rattle.std.proofs.Common.{◌≡◌, ◌≤◌, ◌<◌, ◌+◌, ◌^◌, ◌&&◌, ℕ, Bool, true, false, List, [], ◌∷◌, ◌++◌, length, Option, None, Some, refl, sym, ap, ◌∙◌, arith, cond, leb, le-leb, leb-true}
 use Rattle.std.proofs.lemmas.Bool.{and_parts, and_from, cond-true}
+use Rattle.std.proofs.lemmas.Fmt.{decimal_digit}
 use Rattle.std.proofs.lemmas.Option.{cond_some}
 use Rattle.std.proofs.lemmas.List.{append-nil}
 use Rattle.std.proofs.lemmas.Slice.Eq.{bytes_eq-Decides}
@@ -10,9 +11,12 @@ use Rattle.std.specs.Str.{bytes_eq}
 use Rattle.s66_isa.specs.Lists.{after_blanks}
 use Rattle.s66_isa.specs.declared.instr.Kind.{Kind}
 use Rattle.s66_isa.specs.declared.instr.Kind.TheVariants.{Boolean, Shift, Add, LongAdd, Multiply, Divide, Increment}
+use Rattle.s66_model.specs.declared.rule.Rule.{Rule}
+use Rattle.s66_model.specs.declared.rule.Rule.TheVariants.{NoneNamed, WrittenEarlier, ClampedStanding}
 use Rattle.s66_model.specs.Leaves.{Whole, Chain, Load, Parcels}
 use Rattle.s66_model.specs.Tree.{AtTip, AtSplit}
-use Rattle.s66_cert.specs.Document.{AreIn, AreNumbers, kind_name}
+use Rattle.s66_model.specs.DominatedLeaves.{Bounding, Dominated}
+use Rattle.s66_cert.specs.Document.{AreIn, AreNumbers, kind_name, version}
 use Rattle.s66_isa.specs.declared.limits.TheConstants.{PROFILE_LENGTH, PROFILE_LIMIT}
 use Rattle.s66_cert.specs.declared.limits.TheConstants.{TIME_LIMIT}
 use Rattle.s66_cert.specs.Lines.{Line, Header, Profile, Block, Instruction, Time, Bound, Order, OfTree, End, bytes_of, IsInRange, first_word, after_word, words_in, numbers_in, number_in, if_count, block_numbers, one_number, is_instruction, instruction_in, kind_in, alone, header_in, line_with, line_of}
@@ -47,8 +51,19 @@ kind-again Multiply = refl
 kind-again Divide = refl
 kind-again Increment = refl
 
+-- a version has one digit
+version-digit : (rule : Rule) → decimal (version rule) ≡ (48 + version rule) ∷ []
+version-digit NoneNamed = decimal_digit 1 (omega arith)
+version-digit WrittenEarlier = decimal_digit 2 (omega arith)
+version-digit ClampedStanding = decimal_digit 3 (omega arith)
+
+header-again : (rule : Rule) → header_in (Some (codes "CERTIFICATE " ++ (48 + version rule) ∷ [])) ≡ Some (Header rule)
+header-again NoneNamed = refl
+header-again WrittenEarlier = refl
+header-again ClampedStanding = refl
+
 pub line-again : (limit : ℕ) (l : Line) → limit < 2 ^ 64 → IsInRange limit l → line_of limit (bytes_of l) ≡ Some l
-line-again limit Header narrow is = refl
+line-again limit (Header rule) narrow is = ap (λ (digit : List ℕ). line_of limit (codes "S66 CERTIFICATE " ++ digit)) (version-digit rule) ∙ header-again rule
 line-again limit (Profile []) narrow is = absurd (omega (arith, is.0))
 line-again limit (Profile (n ∷ ns)) narrow is = ap (option_map Profile) (list-again 1 PROFILE_LIMIT PROFILE_LENGTH PROFILE_LENGTH n ns (omega arith) is.1 (omega (arith, is.0)) (omega (arith, is.0)))
 line-again limit (Block count) narrow is = ap (option_map Block) (number-again 1 limit count (omega (arith, narrow, is.1)) is.0 is.1)
@@ -57,11 +72,13 @@ line-again limit (Time time) narrow is = ap (option_map Time) (number-again 0 TI
 line-again limit (Bound bound) narrow is = ap (option_map Bound) (number-again 0 TIME_LIMIT bound (omega (arith, is)) (omega arith) is)
 line-again limit (Order []) narrow is = absurd (omega (arith, is.0))
 line-again limit (Order (n ∷ ns)) narrow is = ap (option_map Order) (block_numbers-again limit n ns narrow is)
-line-again limit (OfTree (AtTip Whole)) narrow is = refl
-line-again limit (OfTree (AtTip (Chain []))) narrow is = absurd (omega (arith, is.0))
-line-again limit (OfTree (AtTip (Chain (n ∷ ns)))) narrow is = ap (option_map (λ ns. OfTree (AtTip (Chain ns)))) (block_numbers-again limit n ns narrow is)
-line-again limit (OfTree (AtTip (Load kind))) narrow is = ap (option_map (λ kind. OfTree (AtTip (Load kind)))) (kind-again kind)
-line-again limit (OfTree (AtTip Parcels)) narrow is = refl
+line-again limit (OfTree (AtTip (Bounding Whole))) narrow is = refl
+line-again limit (OfTree (AtTip (Bounding (Chain [])))) narrow is = absurd (omega (arith, is.0))
+line-again limit (OfTree (AtTip (Bounding (Chain (n ∷ ns))))) narrow is = ap (option_map (λ ns. OfTree (AtTip (Bounding (Chain ns))))) (block_numbers-again limit n ns narrow is)
+line-again limit (OfTree (AtTip (Bounding (Load kind)))) narrow is = ap (option_map (λ kind. OfTree (AtTip (Bounding (Load kind))))) (kind-again kind)
+line-again limit (OfTree (AtTip (Bounding Parcels))) narrow is = refl
+line-again limit (OfTree (AtTip (Dominated []))) narrow is = absurd (omega (arith, is.0))
+line-again limit (OfTree (AtTip (Dominated (n ∷ ns)))) narrow is = ap (option_map (λ ns. OfTree (AtTip (Dominated ns)))) (block_numbers-again limit n ns narrow is)
 line-again limit (OfTree (AtSplit [])) narrow is = absurd (omega (arith, is.0))
 line-again limit (OfTree (AtSplit (n ∷ ns))) narrow is = ap (option_map (λ ns. OfTree (AtSplit ns))) (block_numbers-again limit n ns narrow is)
 line-again limit End narrow is = refl
@@ -145,9 +162,9 @@ number-line limit low high name key (Some r) f l fits written range same h =
     let is = number-is low high n r fits read in
     rw (← e) (ap (λ x. x ++ 32 ∷ r) same ∙ ap (λ x. key ++ 32 ∷ x) is.0 ∙ sym (written n), range n is.1 is.2)
 
-load-line : (limit : ℕ) (name : List ℕ) (rest : Option (List ℕ)) (l : Line) → name ≡ codes "U" → option_map (λ kind. OfTree (AtTip (Load kind))) (kind_in rest) ≡ Some l → Spells limit (name ++ tail_of rest) l
+load-line : (limit : ℕ) (name : List ℕ) (rest : Option (List ℕ)) (l : Line) → name ≡ codes "U" → option_map (λ kind. OfTree (AtTip (Bounding (Load kind)))) (kind_in rest) ≡ Some l → Spells limit (name ++ tail_of rest) l
 load-line limit name rest l same h =
-    let (kind, read, e) = map-is (λ kind. OfTree (AtTip (Load kind))) (kind_in rest) l h in
+    let (kind, read, e) = map-is (λ kind. OfTree (AtTip (Bounding (Load kind)))) (kind_in rest) l h in
     rw (← e) (ap (λ x. x ++ tail_of rest) same ∙ ap (λ x. codes "U" ++ x) (kind-is rest kind read), tt)
 
 instruction-line : (limit : ℕ) (name : List ℕ) (rest : Option (List ℕ)) (l : Line) → name ≡ codes "I" → instruction_in rest ≡ Some l → Spells limit (name ++ tail_of rest) l
@@ -159,18 +176,25 @@ instruction-line limit name (Some text) l same h =
 header-line : (limit : ℕ) (name : List ℕ) (rest : Option (List ℕ)) (l : Line) → name ≡ codes "S66" → header_in rest ≡ Some l → Spells limit (name ++ tail_of rest) l
 header-line limit name None l same h = absurd (cc)
 header-line limit name (Some r) l same h =
-    let got = cond_some (bytes_eq r (codes "CERTIFICATE 1")) Header l h in
-    let is : r ≡ codes "CERTIFICATE 1" = (bytes_eq-Decides r (codes "CERTIFICATE 1")).0 got.0 in
-    rw (← got.1) (ap (λ x. x ++ 32 ∷ r) same ∙ ap (λ x. codes "S66 " ++ x) is, tt)
+    let P : Type 0 = Spells limit (name ++ 32 ∷ r) l in
+    named r (codes "CERTIFICATE 1") _ _ l P (one NoneNamed)
+    (named r (codes "CERTIFICATE 2") _ _ l P (one WrittenEarlier)
+    (named r (codes "CERTIFICATE 3") _ _ l P (one ClampedStanding) (λ no. absurd (cc)))) h
+  where
+    one : (rule : Rule) → r ≡ codes "CERTIFICATE " ++ (48 + version rule) ∷ [] → Some (Header rule) ≡ Some l → Spells limit (name ++ 32 ∷ r) l
+    one rule is read =
+        let e : Header rule ≡ l = (cc) in
+        rw (← e) (ap (λ x. x ++ 32 ∷ r) same ∙ ap (λ x. codes "S66 " ++ x) is ∙ sym (ap (λ digit. codes "S66 CERTIFICATE " ++ digit) (version-digit rule)), tt)
 
 with-is : (limit : ℕ) (name : List ℕ) (rest : Option (List ℕ)) (l : Line) → limit < 2 ^ 64 → line_with limit name rest ≡ Some l → Spells limit (name ++ tail_of rest) l
 with-is limit name rest l narrow h =
     let P : Type 0 = Spells limit (name ++ tail_of rest) l in
-    named name (codes "T") _ _ l P (word-line limit name (codes "T") rest (OfTree (AtTip Whole)) l refl tt)
+    named name (codes "T") _ _ l P (word-line limit name (codes "T") rest (OfTree (AtTip (Bounding Whole))) l refl tt)
     (named name (codes "S") _ _ l P (list-line limit 1 limit 1 limit name (codes "S") rest (λ ns. OfTree (AtSplit ns)) l narrow (λ ns. refl) (λ ns a b are. (a, b, are)))
-    (named name (codes "C") _ _ l P (list-line limit 1 limit 1 limit name (codes "C") rest (λ ns. OfTree (AtTip (Chain ns))) l narrow (λ ns. refl) (λ ns a b are. (a, b, are)))
+    (named name (codes "C") _ _ l P (list-line limit 1 limit 1 limit name (codes "C") rest (λ ns. OfTree (AtTip (Bounding (Chain ns)))) l narrow (λ ns. refl) (λ ns a b are. (a, b, are)))
+    (named name (codes "D") _ _ l P (list-line limit 1 limit 1 limit name (codes "D") rest (λ ns. OfTree (AtTip (Dominated ns))) l narrow (λ ns. refl) (λ ns a b are. (a, b, are)))
     (named name (codes "U") _ _ l P (load-line limit name rest l)
-    (named name (codes "P") _ _ l P (word-line limit name (codes "P") rest (OfTree (AtTip Parcels)) l refl tt)
+    (named name (codes "P") _ _ l P (word-line limit name (codes "P") rest (OfTree (AtTip (Bounding Parcels))) l refl tt)
     (named name (codes "I") _ _ l P (instruction-line limit name rest l)
     (named name (codes "S66") _ _ l P (header-line limit name rest l)
     (named name (codes "PROFILE") _ _ l P (list-line limit 1 PROFILE_LIMIT PROFILE_LENGTH PROFILE_LENGTH name (codes "PROFILE") rest Profile l (omega arith) (λ ns. refl) (λ ns a b are. (omega arith, are)))
@@ -178,7 +202,7 @@ with-is limit name rest l narrow h =
     (named name (codes "TIME") _ _ l P (number-line limit 0 TIME_LIMIT name (codes "TIME") rest Time l (omega arith) (λ n. refl) (λ n a b. b))
     (named name (codes "BOUND") _ _ l P (number-line limit 0 TIME_LIMIT name (codes "BOUND") rest Bound l (omega arith) (λ n. refl) (λ n a b. b))
     (named name (codes "ORDER") _ _ l P (list-line limit 1 limit 1 limit name (codes "ORDER") rest Order l narrow (λ ns. refl) (λ ns a b are. (a, b, are)))
-    (named name (codes "END") _ _ l P (word-line limit name (codes "END") rest End l refl tt) (λ no. absurd (cc)))))))))))))) h
+    (named name (codes "END") _ _ l P (word-line limit name (codes "END") rest End l refl tt) (λ no. absurd (cc))))))))))))))) h
 
 pub line-is : (limit : ℕ) (bytes : List ℕ) (l : Line) → limit < 2 ^ 64 → line_of limit bytes ≡ Some l → (bytes ≡ bytes_of l) × IsInRange limit l
 line-is limit bytes l narrow h = let is = with-is limit (first_word bytes) (after_word bytes) l narrow h in (sym (joined bytes) ∙ is.0, is.1)

@@ -13,6 +13,7 @@ marked-more mark.Whole numbers more h = refl
 marked-more (mark.Chain count) numbers more h = rw (take-append-le count numbers more h) refl
 marked-more (mark.Load kind) numbers more h = refl
 marked-more mark.Parcels numbers more h = refl
+marked-more (mark.Dominated count) numbers more h = rw (take-append-le count numbers more h) refl
 
 take-take : (n : ℕ) (xs : List ℕ) → take n (take n xs) ≡ take n xs
 take-take zero xs = refl
@@ -25,6 +26,7 @@ marked-taken mark.Whole numbers = refl
 marked-taken (mark.Chain count) numbers = rw (take-take count numbers) refl
 marked-taken (mark.Load kind) numbers = refl
 marked-taken mark.Parcels numbers = refl
+marked-taken (mark.Dominated count) numbers = rw (take-take count numbers) refl
 
 -- without the first line and its numbers
 pub counted-rest : (m : Mark) (ms : List Mark) (numbers : List ℕ) → AreCounted (m ∷ ms) numbers → AreCounted ms (drop (number_count m) numbers)

@@ -1,22 +1,23 @@
 -- A line at a place where it doesn't come, and what is known at the place where it does.
-use Rattle.std.proofs.Common.{◌≡◌, ◌≤◌, ◌+◌, ◌*◌, ◌^◌, ℕ, zero, suc, List, [], ◌∷◌, length, refl, arith, subst}
+use Rattle.std.proofs.Common.{◌≡◌, ◌≤◌, ◌+◌, ◌*◌, ◌^◌, ℕ, zero, suc, true, false, List, [], ◌∷◌, length, refl, arith, subst}
 use Rattle.std.specs.Prelude.{Err}
 use Rattle.s66_isa.specs.declared.limits.TheConstants.{BLOCK_LIMIT}
-use Rattle.s66_model.specs.Leaves.{Leaf}
+use Rattle.s66_model.specs.declared.rule.Rule.{Rule}
 use Rattle.s66_model.specs.Tree.{Knot, AtTip, AtSplit}
+use Rattle.s66_model.specs.DominatedLeaves.{Ending, Bounding, Dominated}
 use Rattle.s66_cert.specs.Fine.{Leave, split_count, IsPart, IsFine}
 use Rattle.s66_cert.specs.Lines.{Header, Profile, Block, Instruction, Time, Bound, Order, OfTree, End}
 use Rattle.s66_cert.specs.DocumentParts.{AreWhole}
-use Rattle.s66_cert.specs.Reading.{State, step_at}
+use Rattle.s66_cert.specs.Reading.{State, is_allowed, wants_dominated, step_at}
 use Rattle.s66_cert.specs.declared.limits.TheConstants.{SPLIT_LIMIT}
 use Rattle.s66_cert.specs.declared.error.CertError.TheVariants.{BadLine}
 use Rattle.s66_cert.specs.declared.place.Place.{Place}
 use Rattle.s66_cert.specs.declared.place.Place.TheVariants.{AtHeader, AtProfile, AtBlock, AtInstruction, AtTime, AtBound, AtOrder, AtTree, AtEnd}
 use Rattle.s66_cert.proofs.Sound.{whole-tree, whole-document}
 
-pub other_header : (most : ℕ) (s : State) (place : Place) → (place ≡ AtHeader → ⊥) → step_at most s place Header ≡ Err (BadLine (suc s.count))
-other_header most s AtHeader other = absurd (other refl)
-other_header most s place other = refl
+pub other_header : (most : ℕ) (s : State) (place : Place) (rule : Rule) → (place ≡ AtHeader → ⊥) → step_at most s place (Header rule) ≡ Err (BadLine (suc s.count))
+other_header most s AtHeader rule other = absurd (other refl)
+other_header most s place rule other = refl
 
 pub other_profile : (most : ℕ) (s : State) (place : Place) (numbers : List ℕ) → (place ≡ AtProfile → ⊥) → step_at most s place (Profile numbers) ≡ Err (BadLine (suc s.count))
 other_profile most s AtProfile numbers other = absurd (other refl)
@@ -42,13 +43,23 @@ pub other_order : (most : ℕ) (s : State) (place : Place) (numbers : List ℕ) 
 other_order most s AtOrder numbers other = absurd (other refl)
 other_order most s place numbers other = refl
 
-pub other_knot : (most : ℕ) (s : State) (place : Place) (knot : Knot Leaf) → (place ≡ AtTree → ⊥) → step_at most s place (OfTree knot) ≡ Err (BadLine (suc s.count))
+pub other_knot : (most : ℕ) (s : State) (place : Place) (knot : Knot Ending) → (place ≡ AtTree → ⊥) → step_at most s place (OfTree knot) ≡ Err (BadLine (suc s.count))
 other_knot most s AtTree knot other = absurd (other refl)
 other_knot most s place knot other = refl
 
 pub other_end : (most : ℕ) (s : State) (place : Place) → (place ≡ AtEnd → ⊥) → step_at most s place End ≡ Err (BadLine (suc s.count))
 other_end most s AtEnd other = absurd (other refl)
 other_end most s place other = refl
+
+-- a dominated leaf where the rule names no nodes
+pub refused_knot : (most : ℕ) (s : State) (knot : Knot Ending) → is_allowed s.part.rule knot ≡ false → step_at most s AtTree (OfTree knot) ≡ Err (BadLine (suc s.count))
+refused_knot most s (AtTip (Bounding leaf)) h = absurd (cc)
+refused_knot most s (AtTip (Dominated name)) h = rw h refl
+refused_knot most s (AtSplit numbers) h = absurd (cc)
+
+-- the last line where a dominated leaf is wanting
+pub wanting_end : (most : ℕ) (s : State) → wants_dominated s.part ≡ true → step_at most s AtEnd End ≡ Err (BadLine (suc s.count))
+wanting_end most s h = rw h refl
 
 -- WHERE IT COMES
 
@@ -62,11 +73,11 @@ pub some_tree : (most : ℕ) (s : State) → s.place ≡ AtTree → IsFine most 
 some_tree most s e fine = (part-at most s AtTree e fine).0
 
 -- each split leaves at most BLOCK_LIMIT trees
-leave-few : (n left : ℕ) (knots : List (Knot Leaf)) → Leave n knots left → left ≤ n + BLOCK_LIMIT * split_count knots
+leave-few : (n left : ℕ) (knots : List (Knot Ending)) → Leave n knots left → left ≤ n + BLOCK_LIMIT * split_count knots
 leave-few n left [] h = omega (arith, h)
-leave-few zero left (AtTip leaf ∷ knots) h = absurd h
+leave-few zero left (AtTip ending ∷ knots) h = absurd h
 leave-few zero left (AtSplit numbers ∷ knots) h = absurd h
-leave-few (suc n) left (AtTip leaf ∷ knots) h = omega (arith, leave-few n left knots h.1)
+leave-few (suc n) left (AtTip ending ∷ knots) h = omega (arith, leave-few n left knots h.1)
 leave-few (suc n) left (AtSplit numbers ∷ knots) h = omega (arith, leave-few (length numbers + n) left knots h.1, h.0.1)
 
 pub few_trees : (s : State) → s.place ≡ AtTree → IsFine SPLIT_LIMIT s → s.left ≤ 2 ^ 32
@@ -74,7 +85,7 @@ few_trees s e fine =
     let is = part-at SPLIT_LIMIT s AtTree e fine in
     omega (arith, leave-few 1 s.left s.part.knots is.1.4, is.1.5, is.1.6)
 
-pub whole_end : (s : State) → s.place ≡ AtEnd → IsFine SPLIT_LIMIT s → AreWhole s.part
-whole_end s e fine =
+pub whole_end : (s : State) → s.place ≡ AtEnd → IsFine SPLIT_LIMIT s → wants_dominated s.part ≡ false → AreWhole s.part
+whole_end s e fine none =
     let h = part-at SPLIT_LIMIT s AtEnd e fine in
-    record { document = whole-document SPLIT_LIMIT s.part s.splits h; preorder = (whole-tree s.part.knots h.4).0 }
+    record { document = whole-document SPLIT_LIMIT s.part s.splits h none; preorder = (whole-tree s.part.knots h.4).0 }

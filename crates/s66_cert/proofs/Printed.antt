@@ -3,26 +3,28 @@ use Rattle.std.proofs.Common.{◌≡◌, ℕ, List, [], ◌∷◌, ◌++◌, Opt
 use Rattle.std.proofs.lemmas.List.{append-nil}
 use Rattle.s66_isa.specs.Lists.{after_blanks}
 use Rattle.s66_isa.specs.declared.limits.TheConstants.{BLOCK_LIMIT}
-use Rattle.s66_model.specs.Leaves.{Leaf, Whole, Chain, Load, Parcels}
+use Rattle.s66_model.specs.Leaves.{Whole, Chain, Load, Parcels}
 use Rattle.s66_model.specs.Tree.{Tree, Alone, Parted, Kids, NoMore, Unsplit, Split, Knot, AtTip, AtSplit, flat, flat_kids}
-use Rattle.s66_cert.specs.Document.{IsLeafLine, KidsFit, TreeFits, document_text, leaf_line, instruction_lines, tree_lines}
+use Rattle.s66_model.specs.DominatedLeaves.{Ending, Bounding, Dominated}
+use Rattle.s66_cert.specs.Document.{IsLeafLine, KidsFit, TreeFits, version, document_text, leaf_line, instruction_lines, tree_lines}
 use Rattle.s66_cert.specs.Pages.{AreShort, IsPrinted, opening, claim_lines}
 use Rattle.s66_cert.proofs.Pages.{IsUnderway, printed-here, underway-more}
 use Rattle.s66_cert.specs.DocumentParts.{Parts, AreWhole, IsShort, document_of, tree_of}
 
 -- THE LINES OF A TREE HAVE FEW NUMBERS
 
-leaf-short : (leaf : Leaf) → IsLeafLine BLOCK_LIMIT leaf → IsShort (AtTip leaf)
-leaf-short Whole fits = tt
-leaf-short (Chain numbers) fits = fits.1
-leaf-short (Load kind) fits = tt
-leaf-short Parcels fits = tt
+leaf-short : (ending : Ending) → IsLeafLine BLOCK_LIMIT ending → IsShort (AtTip ending)
+leaf-short (Bounding Whole) fits = tt
+leaf-short (Bounding (Chain numbers)) fits = fits.1
+leaf-short (Bounding (Load kind)) fits = tt
+leaf-short (Bounding Parcels) fits = tt
+leaf-short (Dominated name) fits = fits.1
 
-short-both : (knots more : List (Knot Leaf)) → AreShort knots → AreShort more → AreShort (knots ++ more)
+short-both : (knots more : List (Knot Ending)) → AreShort knots → AreShort more → AreShort (knots ++ more)
 short-both [] more short others = others
 short-both (knot ∷ knots) more (short, shorts) others = (short, short-both knots more shorts others)
 
-kids-short : (numbers : List ℕ) (kids : Kids Leaf) → KidsFit BLOCK_LIMIT numbers kids → AreShort (flat_kids kids)
+kids-short : (numbers : List ℕ) (kids : Kids Ending) → KidsFit BLOCK_LIMIT numbers kids → AreShort (flat_kids kids)
 kids-short [] NoMore fit = tt
 kids-short (n ∷ ns) (Unsplit leaf kids) fit = (leaf-short leaf fit.0, kids-short ns kids fit.1)
 kids-short (n ∷ ns) (Split numbers sub kids) fit =
@@ -31,7 +33,7 @@ kids-short [] (Unsplit leaf kids) fit = absurd fit
 kids-short [] (Split numbers sub kids) fit = absurd fit
 kids-short (n ∷ ns) NoMore fit = absurd fit
 
-tree-short : (tree : Tree Leaf) → TreeFits BLOCK_LIMIT tree → AreShort (flat tree)
+tree-short : (tree : Tree Ending) → TreeFits BLOCK_LIMIT tree → AreShort (flat tree)
 tree-short (Alone leaf) fits = (leaf-short leaf fits, tt)
 tree-short (Parted numbers kids) fits = (fits.0.1, kids-short numbers kids fits.1)
 
@@ -43,7 +45,7 @@ lines-short p whole = subst AreShort whole.preorder (tree-short (tree_of p.knots
 apart : (line others : List ℕ) → line ++ others ≡ (line ++ []) ++ others
 apart line others = ap (λ t. t ++ others) (sym (append-nil line))
 
-pub first-tree-line : (knot : Knot Leaf) (knots : List (Knot Leaf)) → tree_lines (knot ∷ knots) ≡ tree_lines (knot ∷ []) ++ tree_lines knots
+pub first-tree-line : (knot : Knot Ending) (knots : List (Knot Ending)) → tree_lines (knot ∷ knots) ≡ tree_lines (knot ∷ []) ++ tree_lines knots
 first-tree-line (AtTip leaf) knots = apart (leaf_line leaf) (tree_lines knots)
 first-tree-line (AtSplit numbers) knots = apart (codes "S" ++ after_blanks numbers ++ codes "\n") (tree_lines knots)
 
@@ -58,14 +60,14 @@ after_claim p = tree_lines p.knots ++ codes "END\n"
 abbrev pub after_block : Parts → List ℕ
 after_block p = claim_lines p ++ after_claim p
 
-right-nested : (a profile b count c block d time e bound f numbers g tree h : List ℕ) →
-    a ++ profile ++ b ++ count ++ c ++ block ++ d ++ time ++ e ++ bound ++ f ++ numbers ++ g ++ tree ++ h
-    ≡ (a ++ profile ++ b ++ count ++ c) ++ (block ++ ((d ++ time ++ e ++ bound ++ f ++ numbers ++ g) ++ (tree ++ h)))
-right-nested a profile b count c block d time e bound f numbers g tree h = simp append_assoc
+right-nested : (a version r profile b count c block d time e bound f numbers g tree h : List ℕ) →
+    a ++ version ++ r ++ profile ++ b ++ count ++ c ++ block ++ d ++ time ++ e ++ bound ++ f ++ numbers ++ g ++ tree ++ h
+    ≡ (a ++ version ++ r ++ profile ++ b ++ count ++ c) ++ (block ++ ((d ++ time ++ e ++ bound ++ f ++ numbers ++ g) ++ (tree ++ h)))
+right-nested a version r profile b count c block d time e bound f numbers g tree h = simp append_assoc
 
 pub document-parts : (p : Parts) → AreWhole p → document_text (document_of p) ≡ opening p ++ (instruction_lines p.block ++ after_block p)
 document-parts p whole =
-    right-nested (codes "S66 CERTIFICATE 1\nPROFILE") (after_blanks p.profile) (codes "\nBLOCK ") (decimal (length p.block)) (codes "\n") (instruction_lines p.block) (codes "TIME ") (decimal p.time)
+    right-nested (codes "S66 CERTIFICATE ") (decimal (version p.rule)) (codes "\nPROFILE") (after_blanks p.profile) (codes "\nBLOCK ") (decimal (length p.block)) (codes "\n") (instruction_lines p.block) (codes "TIME ") (decimal p.time)
     (codes "\nBOUND ") (decimal p.bound) (codes "\nORDER") (after_blanks p.numbers) (codes "\n") (tree_lines (flat (tree_of p.knots))) (codes "END\n")
     ∙ ap (λ knots. opening p ++ (instruction_lines p.block ++ (claim_lines p ++ (tree_lines knots ++ codes "END\n")))) whole.preorder
 
@@ -88,7 +90,7 @@ pub claim-left : (p : Parts) {old mid new : Option (List ℕ)} {page next : List
     IsLeft p old new next (after_claim p)
 claim-left p {old} {mid} {new} {page} {next} left printed = underway-more old mid new [] page next (document_text (document_of p)) (claim_lines p) (after_claim p) left printed
 
-pub tree-left : (p : Parts) {old mid new : Option (List ℕ)} {page next : List ℕ} {knots : List (Knot Leaf)} → knots ≡ p.knots → IsLeft p old mid page (after_claim p) →
+pub tree-left : (p : Parts) {old mid new : Option (List ℕ)} {page next : List ℕ} {knots : List (Knot Ending)} → knots ≡ p.knots → IsLeft p old mid page (after_claim p) →
     IsPrinted mid new page next (tree_lines knots) → IsLeft p old new next (codes "END\n")
 tree-left p {old} {mid} {new} {page} {next} {knots} same left printed =
     underway-more old mid new [] page next (document_text (document_of p)) (tree_lines p.knots) (codes "END\n") left (rw (← same) printed)

@@ -1,36 +1,40 @@
 -- Whatever was read without a fault begins some text of documents, and what begins one is read without a fault.
-use Rattle.std.proofs.Common.{◌≡◌, ◌-◌, ℕ, zero, suc, true, List, [], ◌∷◌, ◌++◌, refl, sym, ap, ◌∙◌, arith, subst}
-use Rattle.std.proofs.lemmas.List.{append-nil}
+use Rattle.std.proofs.Common.{◌≡◌, ◌-◌, ℕ, zero, suc, true, List, [], ◌∷◌, ◌++◌, inl, inr, map, refl, sym, ap, ◌∙◌, arith, subst}
+use Rattle.std.proofs.lemmas.List.{append-nil, map-append}
 use Rattle.std.specs.Prelude.{Result, Ok, Err, codes}
 use Rattle.s66_isa.specs.declared.limits.TheConstants.{BLOCK_LIMIT}
+use Rattle.s66_model.specs.declared.rule.Rule.{Rule}
+use Rattle.s66_model.specs.declared.rule.Rule.TheVariants.{NoneNamed}
 use Rattle.s66_model.specs.Leaves.{Whole}
 use Rattle.s66_model.specs.Tree.{AtTip}
+use Rattle.s66_model.specs.DominatedLeaves.{Bounding}
 use Rattle.s66_line.specs.InstructionText.{IsInstruction}
 use Rattle.s66_line.proofs.InstructionTexts.{instruction}
-use Rattle.s66_cert.specs.Document.{Document, IsTextWithin}
+use Rattle.s66_cert.specs.Document.{Document, IsDocumentWithin, text_before_end, documents_text, has_dominated, names_nodes}
 use Rattle.s66_cert.specs.Examples.{standard_numbers}
-use Rattle.s66_cert.specs.Faults.{AreLines, with_newlines, BeginsWithin}
-use Rattle.s66_cert.specs.Lines.{Line, Profile, Block, Instruction, Time, Bound, Order, OfTree, End, bytes_of, IsInRange}
+use Rattle.s66_cert.specs.Faults.{AreLines, with_newlines, IsOpenWithin, BeginsWithin}
+use Rattle.s66_cert.specs.Fine.{HasTree, IsPart}
+use Rattle.s66_cert.specs.Lines.{Line, Header, Profile, Block, Instruction, Time, Bound, Order, OfTree, bytes_of, IsInRange}
 use Rattle.s66_cert.specs.DocumentParts.{Parts, document_of}
-use Rattle.s66_cert.specs.Reading.{nothing, State, start, place_of_instruction, place_of_tree, with_knot, step_at, step, and_then, steps, ended, is_header, read_within, whole_lines, last_bytes}
+use Rattle.s66_cert.specs.Reading.{nothing, State, start, place_of_instruction, place_of_tree, with_knot, step_at, step, and_then, steps, whole_lines}
 use Rattle.s66_cert.specs.declared.error.CertError.{CertError}
 use Rattle.s66_cert.specs.declared.place.Place.{Place}
 use Rattle.s66_cert.specs.declared.place.Place.TheVariants.{AtHeader, AtProfile, AtBlock, AtInstruction, AtTime, AtBound, AtOrder, AtTree, AtEnd}
-use Rattle.s66_cert.proofs.TextLines.{whole-of, whole-all, last-all, newlines-append}
-use Rattle.s66_cert.proofs.Grammar.{step-line}
-use Rattle.s66_cert.proofs.LineBytes.{is-line}
+use Rattle.s66_cert.proofs.DocumentLines.{documents_lines, open_lines}
+use Rattle.s66_cert.proofs.TextLines.{whole-of, whole-all, newlines-append, open-text, documents-text}
+use Rattle.s66_cert.proofs.Grammar.{step-line, documents-run, open-run}
+use Rattle.s66_cert.proofs.LineBytes.{is-line, lines-of-documents, lines-of-open}
 use Rattle.s66_cert.proofs.States.{at, place-instruction, place-tree}
-use Rattle.s66_cert.proofs.RoundTrip.{read-again}
-use Rattle.s66_cert.proofs.Sound.{read-sound, after-ok}
+use Rattle.s66_cert.proofs.Sound.{part_lines, open-is, open-document, steps-sound, after-ok}
 
--- AN END OF WHAT WAS READ
+-- AN END OF WHAT WAS READ: lines up to the last one of a document
 
 record Ends (most : ℕ) (s : State) : Type 0 where
   more : List (List ℕ)
   lines : AreLines more
   end : State
   run : steps BLOCK_LIMIT most s more ≡ Ok end
-  whole : is_header end.place ≡ true
+  whole : end.place ≡ AtEnd
 
 put : (most : ℕ) (s t : State) (l : Line) → IsInRange BLOCK_LIMIT l → step_at most s s.place l ≡ Ok t → Ends most t → Ends most s
 put most s t l is made e =
@@ -40,24 +44,20 @@ nx1 : IsInstruction (codes "NX1")
 nx1 = instruction (codes "NX1") refl refl (omega arith)
 
 module _ (most : ℕ) where
-  header-ends : (count : ℕ) (documents : List Document) (part : Parts) (left splits : ℕ) → Ends most (at count documents AtHeader part left splits)
-  header-ends count documents part left splits = record { more = []; lines = tt; end = at count documents AtHeader part left splits; run = refl; whole = refl }
-
   end-ends : (count : ℕ) (documents : List Document) (part : Parts) (left splits : ℕ) → Ends most (at count documents AtEnd part left splits)
-  end-ends count documents part left splits =
-      put most (at count documents AtEnd part left splits) (at (suc count) (documents ++ document_of part ∷ []) AtHeader nothing 0 0) End tt refl (header-ends (suc count) (documents ++ document_of part ∷ []) nothing 0 0)
+  end-ends count documents part left splits = record { more = []; lines = tt; end = at count documents AtEnd part left splits; run = refl; whole = refl }
 
   tree-ends : (left count : ℕ) (documents : List Document) (part : Parts) (splits : ℕ) → Ends most (at count documents AtTree part left splits)
   tree-ends zero count documents part splits =
       let less : 0 - 1 ≡ 0 = refl in
-      put most (at count documents AtTree part 0 splits) (at (suc count) documents AtEnd (with_knot part (AtTip Whole)) 0 splits) (OfTree (AtTip Whole)) tt refl (end-ends (suc count) documents (with_knot part (AtTip Whole)) 0 splits)
+      put most (at count documents AtTree part 0 splits) (at (suc count) documents AtEnd (with_knot part (AtTip (Bounding Whole))) 0 splits) (OfTree (AtTip (Bounding Whole))) tt refl (end-ends (suc count) documents (with_knot part (AtTip (Bounding Whole))) 0 splits)
   tree-ends (suc left) count documents part splits =
       let less : suc left - 1 ≡ left = omega arith in
-      put most (at count documents AtTree part (suc left) splits) (at (suc count) documents (place_of_tree left) (with_knot part (AtTip Whole)) left splits) (OfTree (AtTip Whole)) tt (rw less refl)
-      (by left (tree-ends left (suc count) documents (with_knot part (AtTip Whole)) splits))
+      put most (at count documents AtTree part (suc left) splits) (at (suc count) documents (place_of_tree left) (with_knot part (AtTip (Bounding Whole))) left splits) (OfTree (AtTip (Bounding Whole))) tt (rw less refl)
+      (by left (tree-ends left (suc count) documents (with_knot part (AtTip (Bounding Whole))) splits))
     where
-      by : (left : ℕ) → Ends most (at (suc count) documents AtTree (with_knot part (AtTip Whole)) left splits) → Ends most (at (suc count) documents (place_of_tree left) (with_knot part (AtTip Whole)) left splits)
-      by zero e = end-ends (suc count) documents (with_knot part (AtTip Whole)) 0 splits
+      by : (left : ℕ) → Ends most (at (suc count) documents AtTree (with_knot part (AtTip (Bounding Whole))) left splits) → Ends most (at (suc count) documents (place_of_tree left) (with_knot part (AtTip (Bounding Whole))) left splits)
+      by zero e = end-ends (suc count) documents (with_knot part (AtTip (Bounding Whole))) 0 splits
       by (suc left) e = rw (place-tree left) e
 
   order-ends : (count : ℕ) (documents : List Document) (part : Parts) (left splits : ℕ) → Ends most (at count documents AtOrder part left splits)
@@ -100,6 +100,10 @@ module _ (most : ℕ) where
       let next : Parts = record part { profile = standard_numbers } in
       put most (at count documents AtProfile part left splits) (at (suc count) documents AtBlock next 0 0) (Profile standard_numbers) (omega arith) refl (block-ends (suc count) documents next 0 0)
 
+  header-ends : (count : ℕ) (documents : List Document) (part : Parts) (left splits : ℕ) → Ends most (at count documents AtHeader part left splits)
+  header-ends count documents part left splits =
+      put most (at count documents AtHeader part left splits) (at (suc count) documents AtProfile nothing 0 0) (Header NoneNamed) tt refl (profile-ends (suc count) documents nothing 0 0)
+
   ends-at : (count : ℕ) (documents : List Document) (place : Place) (part : Parts) (left splits : ℕ) → Ends most (at count documents place part left splits)
   ends-at count documents AtHeader part left splits = header-ends count documents part left splits
   ends-at count documents AtProfile part left splits = profile-ends count documents part left splits
@@ -129,23 +133,45 @@ pub are-append : (xs ys : List (List ℕ)) → AreLines xs → AreLines ys → A
 are-append [] ys h k = k
 are-append (x ∷ xs) ys h k = (h.0, are-append xs ys h.1 k)
 
+-- the text of these lines of documents, and of one that is open
+open-cut : (ds : List Document) (d : Document) → documents_text ds ++ text_before_end d ≡ with_newlines (map bytes_of (documents_lines ds) ++ map bytes_of (open_lines d))
+open-cut ds d =
+    ap (λ x. x ++ text_before_end d) (documents-text ds) ∙ ap (λ x. with_newlines (map bytes_of (documents_lines ds)) ++ x) (open-text d)
+    ∙ sym (newlines-append (map bytes_of (documents_lines ds)) (map bytes_of (open_lines d)))
+
 pub begins : (most : ℕ) (before : List (List ℕ)) (s : State) → AreLines before → steps BLOCK_LIMIT most start before ≡ Ok s → BeginsWithin most (with_newlines before)
 begins most before s are run =
     let e = ends most s in
     let lines : List (List ℕ) = before ++ e.more in
-    let text : List ℕ = with_newlines lines ++ [] in
-    let whole : whole_lines [] text ≡ lines = whole-all lines [] (are-append before e.more are e.lines) refl in
-    let rest : last_bytes [] text ≡ [] = last-all lines [] (are-append before e.more are e.lines) refl in
     let all : steps BLOCK_LIMIT most start lines ≡ Ok e.end = steps-append most start before e.more ∙ ap (λ (r : Result State CertError). and_then r (λ t. steps BLOCK_LIMIT most t e.more)) run ∙ e.run in
-    let read : read_within BLOCK_LIMIT most text ≡ Ok e.end.documents = rw (whole, rest, all) (rw e.whole refl) in
-    let is = read-sound most text e.end.documents read in
-    let same : text ≡ with_newlines before ++ with_newlines e.more = append-nil (with_newlines lines) ∙ newlines-append before e.more in
-    (with_newlines e.more, e.end.documents, subst (λ (t : List ℕ). IsTextWithin BLOCK_LIMIT most t e.end.documents) same is)
+    let sound = steps-sound most start e.end lines (tt, tt) all in
+    let d : Document = document_of e.end.part in
+    let has : HasTree most e.end.part 0 e.end.splits = subst (λ (p : Place). IsPart most p e.end.part e.end.left e.end.splits) e.whole sound.0.1 in
+    let open_part : part_lines e.end.place e.end.part e.end.left ≡ open_lines d =
+    ap (λ (p : Place). part_lines p e.end.part e.end.left) e.whole ∙ open-is e.end.part e.end.left e.end.splits most has in
+    let read : map bytes_of (documents_lines e.end.documents) ++ map bytes_of (open_lines d) ≡ lines =
+    sym (map-append bytes_of (documents_lines e.end.documents) (open_lines d)) ∙ ap (λ (l : List Line). map bytes_of (documents_lines e.end.documents ++ l)) (sym open_part) ∙ sound.1 in
+    let same : with_newlines before ++ with_newlines e.more ≡ documents_text e.end.documents ++ text_before_end d =
+    sym (newlines-append before e.more) ∙ ap with_newlines (sym read) ∙ sym (open-cut e.end.documents d) in
+    (with_newlines e.more, e.end.documents, d, sound.0.0, open-document most e.end.part e.end.splits has, same)
+
+-- a rule by which an open document is a document, and what of its own rule
+open-parts : (most : ℕ) (d : Document) → IsOpenWithin BLOCK_LIMIT most d →
+    (other : Rule) × IsDocumentWithin BLOCK_LIMIT most (record d { rule = other }) × (has_dominated d.tree ≡ true → names_nodes d.rule ≡ true)
+open-parts most d (inl is) = (d.rule, is, λ has. is.rule ∙ has)
+open-parts most d (inr is) = (NoneNamed, is, λ has. absurd (let clash = is.rule ∙ has in (cc)))
 
 pub fronts : (most : ℕ) (before : List (List ℕ)) → AreLines before → BeginsWithin most (with_newlines before) → (s : State) × (steps BLOCK_LIMIT most start before ≡ Ok s)
-fronts most before are (more, ds, is) =
-    let read = read-again BLOCK_LIMIT most (with_newlines before ++ more) ds (omega arith) is in
-    let (t, run, end) = after-ok (steps BLOCK_LIMIT most start (whole_lines [] (with_newlines before ++ more))) (ended (last_bytes [] (with_newlines before ++ more))) ds read in
-    let cut : steps BLOCK_LIMIT most start (before ++ whole_lines [] more) ≡ Ok t = ap (steps BLOCK_LIMIT most start) (sym (whole-of before more are)) ∙ run in
-    let (s, front, rest) = after-ok (steps BLOCK_LIMIT most start before) (λ u. steps BLOCK_LIMIT most u (whole_lines [] more)) t (sym (steps-append most start before (whole_lines [] more)) ∙ cut) in
+fronts most before are (more, ds, d, within, open_is, same) =
+    let (other, is, named) = open-parts most d open_is in
+    let first : List (List ℕ) = map bytes_of (documents_lines ds) in
+    let last : List (List ℕ) = map bytes_of (open_lines d) in
+    let lines : AreLines (first ++ last) = are-append first last (lines-of-documents BLOCK_LIMIT most ds (omega arith) within) (lines-of-open BLOCK_LIMIT most d other (omega arith) is) in
+    let cut : before ++ whole_lines [] more ≡ first ++ last =
+    sym (whole-of before more are) ∙ ap (whole_lines []) (same ∙ open-cut ds d ∙ sym (append-nil (with_newlines (first ++ last)))) ∙ whole-all (first ++ last) [] lines refl in
+    let one = documents-run BLOCK_LIMIT most (omega arith) 0 [] ds last within in
+    let two = open-run BLOCK_LIMIT most (omega arith) one.0 ds d other [] is named in
+    let run : steps BLOCK_LIMIT most start (before ++ whole_lines [] more) ≡ Ok _ =
+    ap (steps BLOCK_LIMIT most start) cut ∙ one.1 ∙ ap (λ (l : List (List ℕ)). steps BLOCK_LIMIT most (at one.0 ds AtHeader nothing 0 0) l) (sym (append-nil last)) ∙ two.1 in
+    let (s, front, rest) = after-ok (steps BLOCK_LIMIT most start before) (λ u. steps BLOCK_LIMIT most u (whole_lines [] more)) _ (sym (steps-append most start before (whole_lines [] more)) ∙ run) in
     (s, front)

@@ -1,32 +1,36 @@
 -- What is read as documents is the text of these documents.
-use Rattle.std.proofs.Common.{◌≡◌, ◌≤◌, ◌<◌, ◌+◌, ◌-◌, ◌&&◌, ℕ, zero, suc, Bool, true, false, List, [], ◌∷◌, ◌++◌, length, map, Option, None, Some, refl, sym, ap, ◌∙◌, arith, cond, leb, eqb, append_assoc, subst, length-append}
+use Rattle.std.proofs.Common.{◌≡◌, ◌≤◌, ◌<◌, ◌+◌, ◌-◌, ◌&&◌, ℕ, zero, suc, Bool, true, false, List, [], ◌∷◌, ◌++◌, inl, inr, length, map, Option, None, Some, refl, sym, ap, ◌∙◌, arith, cond, leb, eqb, append_assoc, subst, length-append}
 use Rattle.std.proofs.lemmas.Bool.{eqb-true, leb-false, and_parts}
 use Rattle.std.proofs.lemmas.List.{append-nil, map-append}
 use Rattle.std.specs.Prelude.{Result, Ok, Err}
 use Rattle.s66_isa.specs.declared.limits.TheConstants.{BLOCK_LIMIT}
-use Rattle.s66_model.specs.Leaves.{Leaf, Whole}
+use Rattle.s66_model.specs.declared.rule.Rule.{Rule}
+use Rattle.s66_model.specs.declared.rule.Rule.TheVariants.{NoneNamed}
+use Rattle.s66_model.specs.Leaves.{Whole}
 use Rattle.s66_model.specs.Tree.{Tree, Alone, Parted, Kids, NoMore, Unsplit, Split, Knot, AtTip, AtSplit, flat_kids, flat, kid_splits, splits}
+use Rattle.s66_model.specs.DominatedLeaves.{Ending, Bounding}
 use Rattle.s66_line.specs.InstructionText.{IsInstruction}
-use Rattle.s66_cert.specs.Document.{Document, IsDocumentWithin, AreDocumentsWithin, AreNumbers, AreInstructions, IsLeafLine, KidsFit, TreeFits, IsTextWithin, documents_text}
-use Rattle.s66_cert.specs.Faults.{with_newlines}
+use Rattle.s66_cert.specs.Document.{Document, IsDocumentWithin, AreDocumentsWithin, AreNumbers, AreInstructions, IsLeafLine, KidsFit, TreeFits, IsTextWithin, documents_text, has_dominated_line, has_dominated, names_nodes}
+use Rattle.s66_cert.specs.Faults.{with_newlines, IsOpenWithin}
 use Rattle.s66_cert.specs.Lines.{Line, Header, Profile, Block, Instruction, Time, Bound, Order, OfTree, End, bytes_of, IsInRange, line_of}
 use Rattle.s66_cert.specs.DocumentParts.{Parts, document_of, tree_of}
 use Rattle.s66_model.specs.Preorder.{forest, first_tree, first_kids, later_kids}
-use Rattle.s66_cert.specs.Reading.{nothing, State, start, place_of_instruction, place_of_tree, with_knot, knot_step, step_at, step_if, step, and_then, steps, ended, is_header, read_within, whole_lines, last_bytes}
-use Rattle.s66_cert.specs.Fine.{Leave, split_count, HasTree, IsPart, IsFine}
-use Rattle.s66_cert.proofs.DocumentLines.{document_lines, documents_lines, instructions_of, knots_of}
+use Rattle.s66_cert.specs.Reading.{nothing, State, start, place_of_instruction, place_of_tree, with_knot, is_allowed, wants_dominated, knot_step, end_step, step_at, step_if, step, and_then, steps, ended, is_header, read_within, whole_lines, last_bytes}
+use Rattle.s66_cert.specs.Fine.{Leave, split_count, HasTree, IsAllowed, IsPart, IsFine}
+use Rattle.s66_cert.proofs.DocumentLines.{open_lines, document_lines, documents_lines, instructions_of, knots_of}
 use Rattle.s66_cert.specs.declared.error.CertError.{CertError}
-use Rattle.s66_cert.specs.declared.error.CertError.TheVariants.{Truncated, TooManyNodes}
+use Rattle.s66_cert.specs.declared.error.CertError.TheVariants.{BadLine, Truncated, TooManyNodes}
 use Rattle.s66_cert.specs.declared.place.Place.{Place}
 use Rattle.s66_cert.specs.declared.place.Place.TheVariants.{AtHeader, AtProfile, AtBlock, AtInstruction, AtTime, AtBound, AtOrder, AtTree, AtEnd}
 use Rattle.s66_cert.proofs.LineTexts.{line-is}
+use Rattle.s66_cert.proofs.DominatedLines.{allowed-more, names-exactly}
 use Rattle.s66_model.proofs.Forests.{flat-forest}
 use Rattle.s66_cert.proofs.TextLines.{cut, documents-text}
 use Rattle.s66_cert.proofs.States.{at, place-instruction, place-tree}
 
 -- TREES TO COME
 
-leave-tip : (n left : ℕ) (knots : List (Knot Leaf)) (leaf : Leaf) → IsLeafLine BLOCK_LIMIT leaf → Leave n knots (suc left) → Leave n (knots ++ AtTip leaf ∷ []) left
+leave-tip : (n left : ℕ) (knots : List (Knot Ending)) (leaf : Ending) → IsLeafLine BLOCK_LIMIT leaf → Leave n knots (suc left) → Leave n (knots ++ AtTip leaf ∷ []) left
 leave-tip zero left [] leaf is h = absurd (omega (arith, h))
 leave-tip (suc n) left [] leaf is h = (is, omega (arith, h))
 leave-tip zero left (AtTip other ∷ knots) leaf is h = absurd h
@@ -34,7 +38,7 @@ leave-tip zero left (AtSplit numbers ∷ knots) leaf is h = absurd h
 leave-tip (suc n) left (AtTip other ∷ knots) leaf is h = (h.0, leave-tip n left knots leaf is h.1)
 leave-tip (suc n) left (AtSplit numbers ∷ knots) leaf is h = (h.0, leave-tip (length numbers + n) left knots leaf is h.1)
 
-leave-split : (n left to : ℕ) (knots : List (Knot Leaf)) (numbers : List ℕ) → AreNumbers BLOCK_LIMIT numbers → Leave n knots (suc left) → to ≡ length numbers + left → Leave n (knots ++ AtSplit numbers ∷ []) to
+leave-split : (n left to : ℕ) (knots : List (Knot Ending)) (numbers : List ℕ) → AreNumbers BLOCK_LIMIT numbers → Leave n knots (suc left) → to ≡ length numbers + left → Leave n (knots ++ AtSplit numbers ∷ []) to
 leave-split zero left to [] numbers is h e = absurd (omega (arith, h))
 leave-split (suc n) left to [] numbers is h e = (is, omega (arith, h))
 leave-split zero left to (AtTip other ∷ knots) numbers is h e = absurd h
@@ -45,13 +49,13 @@ leave-split (suc n) left to (AtSplit others ∷ knots) numbers is h e = (h.0, le
 -- THE TREE OF ALL ITS LINES
 
 -- the front of trees that fit
-fit-cut : (ns ms : List ℕ) (kids : Kids Leaf) → KidsFit BLOCK_LIMIT (ns ++ ms) kids → KidsFit BLOCK_LIMIT ns (first_kids ns kids) × KidsFit BLOCK_LIMIT ms (later_kids ns kids)
+fit-cut : (ns ms : List ℕ) (kids : Kids Ending) → KidsFit BLOCK_LIMIT (ns ++ ms) kids → KidsFit BLOCK_LIMIT ns (first_kids ns kids) × KidsFit BLOCK_LIMIT ms (later_kids ns kids)
 fit-cut [] ms kids h = (tt, h)
 fit-cut (n ∷ ns) ms NoMore h = absurd h
 fit-cut (n ∷ ns) ms (Unsplit leaf kids) h = let rest = fit-cut ns ms kids h.1 in ((h.0, rest.0), rest.1)
 fit-cut (n ∷ ns) ms (Split numbers sub kids) h = let rest = fit-cut ns ms kids h.2 in ((h.0, h.1, rest.0), rest.1)
 
-forest-fits : (n : ℕ) (ms : List ℕ) (knots : List (Knot Leaf)) → Leave n knots 0 → length ms ≡ n → KidsFit BLOCK_LIMIT ms (forest knots)
+forest-fits : (n : ℕ) (ms : List ℕ) (knots : List (Knot Ending)) → Leave n knots 0 → length ms ≡ n → KidsFit BLOCK_LIMIT ms (forest knots)
 forest-fits n [] [] h e = tt
 forest-fits n (m ∷ ms) [] h e = absurd (omega (arith, h))
 forest-fits zero ms (AtTip leaf ∷ knots) h e = absurd h
@@ -64,22 +68,22 @@ forest-fits (suc n) (m ∷ ms) (AtSplit numbers ∷ knots) h e =
     let both = fit-cut numbers ms (forest knots) all in
     (h.0, both.0, both.1)
 
-count-append : (xs ys : List (Knot Leaf)) → split_count (xs ++ ys) ≡ split_count xs + split_count ys
+count-append : (xs ys : List (Knot Ending)) → split_count (xs ++ ys) ≡ split_count xs + split_count ys
 count-append [] ys = omega arith
 count-append (AtTip leaf ∷ xs) ys = count-append xs ys
 count-append (AtSplit numbers ∷ xs) ys = omega (arith, count-append xs ys)
 
-kids-count : (kids : Kids Leaf) → split_count (flat_kids kids) ≡ kid_splits kids
+kids-count : (kids : Kids Ending) → split_count (flat_kids kids) ≡ kid_splits kids
 kids-count NoMore = refl
 kids-count (Unsplit leaf kids) = kids-count kids
 kids-count (Split numbers sub kids) = omega (arith, count-append (flat_kids sub) (flat_kids kids), kids-count sub, kids-count kids)
 
-tree-count : (tree : Tree Leaf) → split_count (flat tree) ≡ splits tree
+tree-count : (tree : Tree Ending) → split_count (flat tree) ≡ splits tree
 tree-count (Alone leaf) = refl
 tree-count (Parted numbers kids) = omega (arith, kids-count kids)
 
 -- one tree
-one-tree : (kids : Kids Leaf) (m : ℕ) → KidsFit BLOCK_LIMIT (m ∷ []) kids → (flat (first_tree (Alone Whole) kids) ≡ flat_kids kids) × TreeFits BLOCK_LIMIT (first_tree (Alone Whole) kids)
+one-tree : (kids : Kids Ending) (m : ℕ) → KidsFit BLOCK_LIMIT (m ∷ []) kids → (flat (first_tree (Alone (Bounding Whole)) kids) ≡ flat_kids kids) × TreeFits BLOCK_LIMIT (first_tree (Alone (Bounding Whole)) kids)
 one-tree NoMore m h = absurd h
 one-tree (Unsplit leaf NoMore) m h = (refl, h.0)
 one-tree (Unsplit leaf (Unsplit other kids)) m h = absurd h.1
@@ -88,7 +92,7 @@ one-tree (Split numbers sub NoMore) m h = (ap (λ x. AtSplit numbers ∷ x) (sym
 one-tree (Split numbers sub (Unsplit other kids)) m h = absurd h.2
 one-tree (Split numbers sub (Split others more kids)) m h = absurd h.2
 
-pub whole-tree : (knots : List (Knot Leaf)) → Leave 1 knots 0 → (flat (tree_of knots) ≡ knots) × TreeFits BLOCK_LIMIT (tree_of knots) × (splits (tree_of knots) ≡ split_count knots)
+pub whole-tree : (knots : List (Knot Ending)) → Leave 1 knots 0 → (flat (tree_of knots) ≡ knots) × TreeFits BLOCK_LIMIT (tree_of knots) × (splits (tree_of knots) ≡ split_count knots)
 whole-tree knots h =
     let one = one-tree (forest knots) 0 (forest-fits 1 (0 ∷ []) knots h refl) in
     let flat-is : flat (tree_of knots) ≡ knots = one.0 ∙ flat-forest knots in
@@ -97,13 +101,13 @@ whole-tree knots h =
 -- WHAT WAS READ OF A DOCUMENT
 
 abbrev heading_lines : Parts → ℕ → List Line → List Line
-heading_lines o count more = Header ∷ Profile o.profile ∷ Block count ∷ (instructions_of o.block ++ more)
+heading_lines o count more = Header o.rule ∷ Profile o.profile ∷ Block count ∷ (instructions_of o.block ++ more)
 
 -- the lines of the open document
-abbrev part_lines : Place → Parts → ℕ → List Line
+abbrev pub part_lines : Place → Parts → ℕ → List Line
 part_lines AtHeader o left = []
-part_lines AtProfile o left = Header ∷ []
-part_lines AtBlock o left = Header ∷ Profile o.profile ∷ []
+part_lines AtProfile o left = Header o.rule ∷ []
+part_lines AtBlock o left = Header o.rule ∷ Profile o.profile ∷ []
 part_lines AtInstruction o left = heading_lines o (length o.block + left) []
 part_lines AtTime o left = heading_lines o (length o.block) []
 part_lines AtBound o left = heading_lines o (length o.block) (Time o.time ∷ [])
@@ -122,7 +126,7 @@ instructions-more : (texts : List (List ℕ)) (text : List ℕ) (more : List Lin
 instructions-more [] text more = refl
 instructions-more (other ∷ texts) text more = ap (λ x. Instruction other ∷ x) (instructions-more texts text more)
 
-knots-more : (knots : List (Knot Leaf)) (knot : Knot Leaf) → knots_of (knots ++ knot ∷ []) ≡ knots_of knots ++ OfTree knot ∷ []
+knots-more : (knots : List (Knot Ending)) (knot : Knot Ending) → knots_of (knots ++ knot ∷ []) ≡ knots_of knots ++ OfTree knot ∷ []
 knots-more [] knot = refl
 knots-more (other ∷ knots) knot = ap (λ x. OfTree other ∷ x) (knots-more knots knot)
 
@@ -132,7 +136,7 @@ texts-more (other ∷ texts) text are is = (are.0, texts-more texts text are.1 i
 
 -- the heading with one line more behind it
 heading-more : (o : Parts) (count : ℕ) (more : List Line) (l : Line) → heading_lines o count (more ++ l ∷ []) ≡ heading_lines o count more ++ l ∷ []
-heading-more o count more l = ap (λ x. Header ∷ Profile o.profile ∷ Block count ∷ x) (sym (append_assoc (instructions_of o.block) more (l ∷ [])))
+heading-more o count more l = ap (λ x. Header o.rule ∷ Profile o.profile ∷ Block count ∷ x) (sym (append_assoc (instructions_of o.block) more (l ∷ [])))
 
 -- the documents are the same
 same-documents : (most : ℕ) (s t : State) (l : Line) → AreDocumentsWithin BLOCK_LIMIT most s.documents → t.documents ≡ s.documents → IsPart most t.place t.part t.left t.splits →
@@ -154,24 +158,24 @@ instruction-sound most count documents part (suc zero) splits text is are h =
     let less : 1 - 1 ≡ 0 = refl in
     same-documents most (at count documents AtInstruction part 1 splits) (at (suc count) documents AtTime (record part { block = part.block ++ text ∷ [] }) 0 0) (Instruction text) are refl
     (h.0, omega (arith, counted), omega (arith, counted, h.2), texts-more part.block text h.3 is)
-    (ap (λ n. heading_lines (record part { block = part.block ++ text ∷ [] }) n []) counted ∙ ap (λ x. Header ∷ Profile part.profile ∷ Block (length part.block + 1) ∷ x) (instructions-more part.block text []) ∙ heading-more part (length part.block + 1) [] (Instruction text))
+    (ap (λ n. heading_lines (record part { block = part.block ++ text ∷ [] }) n []) counted ∙ ap (λ x. Header part.rule ∷ Profile part.profile ∷ Block (length part.block + 1) ∷ x) (instructions-more part.block text []) ∙ heading-more part (length part.block + 1) [] (Instruction text))
 instruction-sound most count documents part (suc (suc left)) splits text is are h =
     let counted : length (part.block ++ text ∷ []) ≡ length part.block + 1 = length-append part.block (text ∷ []) in
     let sum : length (part.block ++ text ∷ []) + suc left ≡ length part.block + suc (suc left) = omega (arith, counted) in
     let less : suc (suc left) - 1 ≡ suc left = omega arith in
     rw less (rw (place-instruction left) (same-documents most (at count documents AtInstruction part (suc (suc left)) splits) (at (suc count) documents AtInstruction (record part { block = part.block ++ text ∷ [] }) (suc left) 0) (Instruction text) are refl
     (h.0, omega arith, omega (arith, sum, h.2), texts-more part.block text h.3 is)
-    (ap (λ n. heading_lines (record part { block = part.block ++ text ∷ [] }) n []) sum ∙ ap (λ x. Header ∷ Profile part.profile ∷ Block (length part.block + suc (suc left)) ∷ x) (instructions-more part.block text []) ∙ heading-more part (length part.block + suc (suc left)) [] (Instruction text))))
+    (ap (λ n. heading_lines (record part { block = part.block ++ text ∷ [] }) n []) sum ∙ ap (λ x. Header part.rule ∷ Profile part.profile ∷ Block (length part.block + suc (suc left)) ∷ x) (instructions-more part.block text []) ∙ heading-more part (length part.block + suc (suc left)) [] (Instruction text))))
 
 -- a line of the tree, after which so many trees are to come
-tree-sound : (most count : ℕ) (documents : List Document) (part : Parts) (left to splits after : ℕ) (knot : Knot Leaf) → AreDocumentsWithin BLOCK_LIMIT most documents → IsPart most AtTree part left splits →
-    Leave 1 (part.knots ++ knot ∷ []) to → after ≡ split_count (part.knots ++ knot ∷ []) → after ≤ most →
+tree-sound : (most count : ℕ) (documents : List Document) (part : Parts) (left to splits after : ℕ) (knot : Knot Ending) → AreDocumentsWithin BLOCK_LIMIT most documents → IsPart most AtTree part left splits →
+    Leave 1 (part.knots ++ knot ∷ []) to → after ≡ split_count (part.knots ++ knot ∷ []) → after ≤ most → is_allowed part.rule knot ≡ true →
     Sounds most (at count documents AtTree part left splits) (at (suc count) documents (place_of_tree to) (with_knot part knot) to after) (OfTree knot)
-tree-sound most count documents part left to splits after knot are h leave counted few =
+tree-sound most count documents part left to splits after knot are h leave counted few allowed =
     let front : List Line = Time part.time ∷ Bound part.bound ∷ Order part.numbers ∷ knots_of part.knots in
     let more : heading_lines (with_knot part knot) (length part.block) (Time part.time ∷ Bound part.bound ∷ Order part.numbers ∷ knots_of (part.knots ++ knot ∷ [])) ≡ heading_lines part (length part.block) front ++ OfTree knot ∷ [] =
     ap (λ x. heading_lines part (length part.block) (Time part.time ∷ Bound part.bound ∷ Order part.numbers ∷ x)) (knots-more part.knots knot) ∙ heading-more part (length part.block) front (OfTree knot) in
-    let has : HasTree most (with_knot part knot) to after = (h.1.0, h.1.1, h.1.2, h.1.3, leave, counted, few) in
+    let has : HasTree most (with_knot part knot) to after = (h.1.0, h.1.1, h.1.2, h.1.3, leave, counted, few, allowed-more part.rule part.knots knot h.1.7 allowed) in
     by to has more
   where
     by : (to : ℕ) → HasTree most (with_knot part knot) to after → part_lines AtTree (with_knot part knot) to ≡ part_lines AtTree part left ++ OfTree knot ∷ [] →
@@ -180,25 +184,29 @@ tree-sound most count documents part left to splits after knot are h leave count
     by (suc to) has more =
         rw (place-tree to) (same-documents most (at count documents AtTree part left splits) (at (suc count) documents AtTree (with_knot part knot) (suc to) after) (OfTree knot) are refl (omega arith, has) more)
 
+chosen-true : {X : Type 0} (test : Bool) (e : CertError) (x y : X) → cond test (Ok x) (Err e) ≡ Ok y → (test ≡ true) × (x ≡ y)
+chosen-true true e x y h = (refl, (cc))
+chosen-true false e x y h = absurd (cc)
+
 chosen-false : {X : Type 0} (test : Bool) (e : CertError) (x y : X) → cond test (Err e) (Ok x) ≡ Ok y → (test ≡ false) × (x ≡ y)
 chosen-false true e x y h = absurd (cc)
 chosen-false false e x y h = (refl, (cc))
 
-knot-sound : (most count : ℕ) (documents : List Document) (part : Parts) (left splits : ℕ) (t : State) (knot : Knot Leaf) → IsInRange BLOCK_LIMIT (OfTree knot) → AreDocumentsWithin BLOCK_LIMIT most documents → IsPart most AtTree part left splits →
+knot-sound : (most count : ℕ) (documents : List Document) (part : Parts) (left splits : ℕ) (t : State) (knot : Knot Ending) → IsInRange BLOCK_LIMIT (OfTree knot) → AreDocumentsWithin BLOCK_LIMIT most documents → IsPart most AtTree part left splits →
     knot_step most (at count documents AtTree part left splits) knot ≡ Ok t → Sounds most (at count documents AtTree part left splits) t (OfTree knot)
 knot-sound most count documents part zero splits t knot is are h made = absurd (omega (arith, h.0))
 knot-sound most count documents part (suc left) splits t (AtTip leaf) is are h made =
     let less : suc left - 1 ≡ left = omega arith in
-    let e : at (suc count) documents (place_of_tree (suc left - 1)) (with_knot part (AtTip leaf)) (suc left - 1) splits ≡ t = (cc) in
+    let got = chosen-true (is_allowed part.rule (AtTip leaf)) (BadLine (suc count)) (at (suc count) documents (place_of_tree (suc left - 1)) (with_knot part (AtTip leaf)) (suc left - 1) splits) t made in
     let leave : Leave 1 (part.knots ++ AtTip leaf ∷ []) left = leave-tip 1 left part.knots leaf is h.1.4 in
-    subst (λ (u : State). Sounds most (at count documents AtTree part (suc left) splits) u (OfTree (AtTip leaf))) e
-    (rw less (tree-sound most count documents part (suc left) left splits splits (AtTip leaf) are h leave (omega (arith, count-append part.knots (AtTip leaf ∷ []), h.1.5)) h.1.6))
+    subst (λ (u : State). Sounds most (at count documents AtTree part (suc left) splits) u (OfTree (AtTip leaf))) got.1
+    (rw less (tree-sound most count documents part (suc left) left splits splits (AtTip leaf) are h leave (omega (arith, count-append part.knots (AtTip leaf ∷ []), h.1.5)) h.1.6 got.0))
 knot-sound most count documents part (suc left) splits t (AtSplit numbers) is are h made =
     let got = chosen-false (leb most splits) TooManyNodes (at (suc count) documents (place_of_tree (suc left - 1 + length numbers)) (with_knot part (AtSplit numbers)) (suc left - 1 + length numbers) (suc splits)) t made in
     let few : splits < most = leb-false most splits got.0 in
     let leave : Leave 1 (part.knots ++ AtSplit numbers ∷ []) (suc left - 1 + length numbers) = leave-split 1 left (suc left - 1 + length numbers) part.knots numbers is h.1.4 (omega arith) in
     subst (λ (u : State). Sounds most (at count documents AtTree part (suc left) splits) u (OfTree (AtSplit numbers))) got.1
-    (tree-sound most count documents part (suc left) (suc left - 1 + length numbers) splits (suc splits) (AtSplit numbers) are h leave (omega (arith, count-append part.knots (AtSplit numbers ∷ []), h.1.5)) (omega arith))
+    (tree-sound most count documents part (suc left) (suc left - 1 + length numbers) splits (suc splits) (AtSplit numbers) are h leave (omega (arith, count-append part.knots (AtSplit numbers ∷ []), h.1.5)) (omega arith) refl)
 
 within-more : (most : ℕ) (ds : List Document) (d : Document) → AreDocumentsWithin BLOCK_LIMIT most ds → IsDocumentWithin BLOCK_LIMIT most d → AreDocumentsWithin BLOCK_LIMIT most (ds ++ d ∷ [])
 within-more most [] d are is = (is, tt)
@@ -208,8 +216,9 @@ documents-more : (ds : List Document) (d : Document) → documents_lines (ds ++ 
 documents-more [] d = append-nil (document_lines d)
 documents-more (other ∷ ds) d = ap (λ x. document_lines other ++ x) (documents-more ds d) ∙ sym (append_assoc (document_lines other) (documents_lines ds) (document_lines d))
 
-pub whole-document : (most : ℕ) (part : Parts) (splits : ℕ) → HasTree most part 0 splits → IsDocumentWithin BLOCK_LIMIT most (document_of part)
-whole-document most part splits h =
+-- the parts by this rule are a document
+by-rule : (most : ℕ) (part : Parts) (splits : ℕ) (rule : Rule) → HasTree most part 0 splits → names_nodes rule ≡ has_dominated_line part.knots → IsDocumentWithin BLOCK_LIMIT most (record (document_of part) { rule = rule })
+by-rule most part splits rule h named =
     let tree = whole-tree part.knots h.4 in
     record {
       profile = h.0.0;
@@ -219,16 +228,30 @@ whole-document most part splits h =
       numbers = h.3;
       tree = tree.1;
       splits = omega (arith, tree.2, h.5, h.6);
+      rule = named ∙ sym (ap has_dominated_line tree.0);
     }
 
+pub whole-document : (most : ℕ) (part : Parts) (splits : ℕ) → HasTree most part 0 splits → wants_dominated part ≡ false → IsDocumentWithin BLOCK_LIMIT most (document_of part)
+whole-document most part splits h none = by-rule most part splits part.rule h (names-exactly (names_nodes part.rule) (has_dominated_line part.knots) h.7 none)
+
+pub open-document : (most : ℕ) (part : Parts) (splits : ℕ) → HasTree most part 0 splits → IsOpenWithin BLOCK_LIMIT most (document_of part)
+open-document most part splits h = by (has_dominated_line part.knots) refl
+  where
+    by : (has : Bool) → has_dominated_line part.knots ≡ has → IsOpenWithin BLOCK_LIMIT most (document_of part)
+    by true e = inl (by-rule most part splits part.rule h (h.7 e ∙ sym e))
+    by false e = inr (by-rule most part splits NoneNamed h (sym e))
+
+-- the lines of the open document, where only the last is to come
+pub open-is : (part : Parts) (left splits most : ℕ) → HasTree most part 0 splits → part_lines AtEnd part left ≡ open_lines (document_of part)
+open-is part left splits most h =
+    ap (λ (k : List (Knot Ending)). heading_lines part (length part.block) (Time part.time ∷ Bound part.bound ∷ Order part.numbers ∷ knots_of k)) (sym (whole-tree part.knots h.4).0)
+
 end-sound : (most count : ℕ) (documents : List Document) (part : Parts) (left splits : ℕ) → AreDocumentsWithin BLOCK_LIMIT most documents → IsPart most AtEnd part left splits →
+    wants_dominated part ≡ false →
     Sounds most (at count documents AtEnd part left splits) (at (suc count) (documents ++ document_of part ∷ []) AtHeader nothing 0 0) End
-end-sound most count documents part left splits are h =
-    let tree = whole-tree part.knots h.4 in
-    let is : IsDocumentWithin BLOCK_LIMIT most (document_of part) = whole-document most part splits h in
-    let front : List Line = Time part.time ∷ Bound part.bound ∷ Order part.numbers ∷ knots_of part.knots in
-    let lines : document_lines (document_of part) ≡ part_lines AtEnd part left ++ End ∷ [] =
-    ap (λ (k : List (Knot Leaf)). heading_lines part (length part.block) (Time part.time ∷ Bound part.bound ∷ Order part.numbers ∷ (knots_of k ++ End ∷ []))) tree.0 ∙ heading-more part (length part.block) front End in
+end-sound most count documents part left splits are h none =
+    let is : IsDocumentWithin BLOCK_LIMIT most (document_of part) = whole-document most part splits h none in
+    let lines : document_lines (document_of part) ≡ part_lines AtEnd part left ++ End ∷ [] = ap (λ (l : List Line). l ++ End ∷ []) (sym (open-is part left splits most h)) in
     record {
       documents = within-more most documents (document_of part) are is;
       part = tt;
@@ -238,10 +261,11 @@ end-sound most count documents part left splits are h =
 
 step-sound : (most count : ℕ) (documents : List Document) (place : Place) (part : Parts) (left splits : ℕ) (t : State) (l : Line) → IsInRange BLOCK_LIMIT l → AreDocumentsWithin BLOCK_LIMIT most documents → IsPart most place part left splits →
     step_at most (at count documents place part left splits) place l ≡ Ok t → Sounds most (at count documents place part left splits) t l
-step-sound most count documents AtHeader part left splits t Header is are h made =
-    let e : at (suc count) documents AtProfile nothing 0 0 ≡ t = (cc) in
-    subst (λ (u : State). Sounds most (at count documents AtHeader part left splits) u Header) e
-    (same-documents most (at count documents AtHeader part left splits) (at (suc count) documents AtProfile nothing 0 0) Header are refl tt refl)
+step-sound most count documents AtHeader part left splits t (Header rule) is are h made =
+    let begun : Parts = record nothing { rule = rule } in
+    let e : at (suc count) documents AtProfile begun 0 0 ≡ t = (cc) in
+    subst (λ (u : State). Sounds most (at count documents AtHeader part left splits) u (Header rule)) e
+    (same-documents most (at count documents AtHeader part left splits) (at (suc count) documents AtProfile begun 0 0) (Header rule) are refl tt refl)
 step-sound most count documents AtProfile part left splits t (Profile numbers) is are h made =
     let e : at (suc count) documents AtBlock (record part { profile = numbers }) 0 0 ≡ t = (cc) in
     subst (λ (u : State). Sounds most (at count documents AtProfile part left splits) u (Profile numbers)) e
@@ -250,7 +274,7 @@ step-sound most count documents AtBlock part left splits t (Block number) is are
     let e : at (suc count) documents AtInstruction (record part { block = [] }) number 0 ≡ t = (cc) in
     let sum : 0 + number ≡ number = omega arith in
     subst (λ (u : State). Sounds most (at count documents AtBlock part left splits) u (Block number)) e
-    (same-documents most (at count documents AtBlock part left splits) (at (suc count) documents AtInstruction (record part { block = [] }) number 0) (Block number) are refl (h, is.0, omega (arith, is.1), tt) (ap (λ n. Header ∷ Profile part.profile ∷ Block n ∷ []) sum))
+    (same-documents most (at count documents AtBlock part left splits) (at (suc count) documents AtInstruction (record part { block = [] }) number 0) (Block number) are refl (h, is.0, omega (arith, is.1), tt) (ap (λ n. Header part.rule ∷ Profile part.profile ∷ Block n ∷ []) sum))
 step-sound most count documents AtInstruction part left splits t (Instruction text) is are h made =
     let e : at (suc count) documents (place_of_instruction (left - 1)) (record part { block = part.block ++ text ∷ [] }) (left - 1) 0 ≡ t = (cc) in
     subst (λ (u : State). Sounds most (at count documents AtInstruction part left splits) u (Instruction text)) e (instruction-sound most count documents part left splits text is are h)
@@ -265,11 +289,11 @@ step-sound most count documents AtBound part left splits t (Bound bound) is are 
 step-sound most count documents AtOrder part left splits t (Order numbers) is are h made =
     let e : at (suc count) documents AtTree (record part { numbers = numbers; knots = [] }) 1 0 ≡ t = (cc) in
     subst (λ (u : State). Sounds most (at count documents AtOrder part left splits) u (Order numbers)) e
-    (same-documents most (at count documents AtOrder part left splits) (at (suc count) documents AtTree (record part { numbers = numbers; knots = [] }) 1 0) (Order numbers) are refl (omega arith, (h.0, h.1, h.2, is, refl, refl, omega arith)) (heading-more part (length part.block) (Time part.time ∷ Bound part.bound ∷ []) (Order numbers)))
+    (same-documents most (at count documents AtOrder part left splits) (at (suc count) documents AtTree (record part { numbers = numbers; knots = [] }) 1 0) (Order numbers) are refl (omega arith, (h.0, h.1, h.2, is, refl, refl, omega arith, λ has. absurd (cc))) (heading-more part (length part.block) (Time part.time ∷ Bound part.bound ∷ []) (Order numbers)))
 step-sound most count documents AtTree part left splits t (OfTree knot) is are h made = knot-sound most count documents part left splits t knot is are h made
 step-sound most count documents AtEnd part left splits t End is are h made =
-    let e : at (suc count) (documents ++ document_of part ∷ []) AtHeader nothing 0 0 ≡ t = (cc) in
-    subst (λ (u : State). Sounds most (at count documents AtEnd part left splits) u End) e (end-sound most count documents part left splits are h)
+    let got = chosen-false (wants_dominated part) (BadLine (suc count)) (at (suc count) (documents ++ document_of part ∷ []) AtHeader nothing 0 0) t made in
+    subst (λ (u : State). Sounds most (at count documents AtEnd part left splits) u End) got.1 (end-sound most count documents part left splits are h got.0)
 step-sound most count documents place part left splits t l is are h made = absurd (cc)
 
 -- ALL LINES

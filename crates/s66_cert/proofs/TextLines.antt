@@ -4,13 +4,14 @@ use Rattle.std.proofs.lemmas.Bool.{and_parts, and_from, not-true, eqb-true}
 use Rattle.std.proofs.lemmas.List.{append-nil, map-append}
 use Rattle.std.specs.Prelude.{codes, decimal}
 use Rattle.s66_isa.specs.Lists.{every, after_blanks}
-use Rattle.s66_model.specs.Leaves.{Leaf, Whole, Chain, Load, Parcels}
+use Rattle.s66_model.specs.Leaves.{Whole, Chain, Load, Parcels}
 use Rattle.s66_model.specs.Tree.{Knot, AtTip, AtSplit, flat}
-use Rattle.s66_cert.specs.Document.{Document, tree_lines, leaf_line, instruction_lines, document_text, documents_text}
+use Rattle.s66_model.specs.DominatedLeaves.{Ending, Bounding, Dominated}
+use Rattle.s66_cert.specs.Document.{Document, tree_lines, leaf_line, instruction_lines, version, text_before_end, document_text, documents_text}
 use Rattle.s66_cert.specs.Faults.{IsLine, AreLines, with_newlines}
-use Rattle.s66_cert.specs.Lines.{Line, bytes_of, leaf_bytes}
+use Rattle.s66_cert.specs.Lines.{Line, End, bytes_of, leaf_bytes}
 use Rattle.s66_cert.specs.Reading.{whole_lines, last_bytes}
-use Rattle.s66_cert.proofs.DocumentLines.{document_lines, documents_lines, instructions_of, knots_of}
+use Rattle.s66_cert.proofs.DocumentLines.{open_lines, document_lines, documents_lines, instructions_of, knots_of}
 
 line-parts : (b : ℕ) (line : List ℕ) → IsLine (b ∷ line) → (eqb b 10 ≡ false) × IsLine line
 line-parts b line h = let both = and_parts (not (eqb b 10)) (every (λ b. not (eqb b 10)) line) h in (not-true (eqb b 10) both.0, both.1)
@@ -93,29 +94,33 @@ instructions-text : (texts : List (List ℕ)) → instruction_lines texts ≡ wi
 instructions-text [] = refl
 instructions-text (text ∷ texts) = ap (λ x. codes "I " ++ text ++ codes "\n" ++ x) (instructions-text texts) ∙ simp append_assoc
 
-leaf-text : (leaf : Leaf) (more : List ℕ) → leaf_line leaf ++ more ≡ leaf_bytes leaf ++ 10 ∷ more
-leaf-text Whole more = refl
-leaf-text (Chain numbers) more = simp append_assoc
-leaf-text (Load kind) more = simp append_assoc
-leaf-text Parcels more = refl
+leaf-text : (ending : Ending) (more : List ℕ) → leaf_line ending ++ more ≡ leaf_bytes ending ++ 10 ∷ more
+leaf-text (Bounding Whole) more = refl
+leaf-text (Bounding (Chain numbers)) more = simp append_assoc
+leaf-text (Bounding (Load kind)) more = simp append_assoc
+leaf-text (Bounding Parcels) more = refl
+leaf-text (Dominated name) more = simp append_assoc
 
-tree-text : (knots : List (Knot Leaf)) → tree_lines knots ≡ with_newlines (map bytes_of (knots_of knots))
+tree-text : (knots : List (Knot Ending)) → tree_lines knots ≡ with_newlines (map bytes_of (knots_of knots))
 tree-text [] = refl
-tree-text (AtTip leaf ∷ knots) = ap (λ x. leaf_line leaf ++ x) (tree-text knots) ∙ leaf-text leaf (with_newlines (map bytes_of (knots_of knots)))
+tree-text (AtTip ending ∷ knots) = ap (λ x. leaf_line ending ++ x) (tree-text knots) ∙ leaf-text ending (with_newlines (map bytes_of (knots_of knots)))
 tree-text (AtSplit numbers ∷ knots) = ap (λ x. codes "S" ++ after_blanks numbers ++ codes "\n" ++ x) (tree-text knots) ∙ simp append_assoc
 
 lines-append : (xs ys : List Line) → with_newlines (map bytes_of (xs ++ ys)) ≡ with_newlines (map bytes_of xs) ++ with_newlines (map bytes_of ys)
 lines-append xs ys = ap with_newlines (map-append bytes_of xs ys) ∙ newlines-append (map bytes_of xs) (map bytes_of ys)
 
-right-nested : (s p c k l i t a u b v n w m e : List ℕ) →
-    s ++ p ++ c ++ k ++ l ++ i ++ t ++ a ++ u ++ b ++ v ++ n ++ w ++ m ++ e
-    ≡ s ++ (p ++ (c ++ (k ++ (l ++ (i ++ (t ++ (a ++ (u ++ (b ++ (v ++ (n ++ (w ++ (m ++ e)))))))))))))
-right-nested s p c k l i t a u b v n w m e = simp append_assoc
+right-nested : (s r q p c k l i t a u b v n w m : List ℕ) →
+    s ++ r ++ q ++ p ++ c ++ k ++ l ++ i ++ t ++ a ++ u ++ b ++ v ++ n ++ w ++ m
+    ≡ s ++ (r ++ (q ++ (p ++ (c ++ (k ++ (l ++ (i ++ (t ++ (a ++ (u ++ (b ++ (v ++ (n ++ (w ++ m))))))))))))))
+right-nested s r q p c k l i t a u b v n w m = simp append_assoc
+
+pub open-text : (d : Document) → text_before_end d ≡ with_newlines (map bytes_of (open_lines d))
+open-text d =
+    right-nested (codes "S66 CERTIFICATE ") (decimal (version d.rule)) (codes "\nPROFILE") (after_blanks d.profile) (codes "\nBLOCK ") (decimal (length d.block)) (codes "\n") (instruction_lines d.block) (codes "TIME ") (decimal d.time) (codes "\nBOUND ") (decimal d.bound) (codes "\nORDER") (after_blanks d.numbers) (codes "\n") (tree_lines (flat d.tree))
+    ∙ rw (instructions-text d.block, tree-text (flat d.tree), lines-append (instructions_of d.block) _) refl
 
 document-text : (d : Document) → document_text d ≡ with_newlines (map bytes_of (document_lines d))
-document-text d =
-    right-nested (codes "S66 CERTIFICATE 1\nPROFILE") (after_blanks d.profile) (codes "\nBLOCK ") (decimal (length d.block)) (codes "\n") (instruction_lines d.block) (codes "TIME ") (decimal d.time) (codes "\nBOUND ") (decimal d.bound) (codes "\nORDER") (after_blanks d.numbers) (codes "\n") (tree_lines (flat d.tree)) (codes "END\n")
-    ∙ rw (instructions-text d.block, tree-text (flat d.tree), lines-append (instructions_of d.block) _, lines-append (knots_of (flat d.tree)) _) refl
+document-text d = ap (λ x. x ++ codes "END\n") (open-text d) ∙ sym (lines-append (open_lines d) (End ∷ []))
 
 pub documents-text : (ds : List Document) → documents_text ds ≡ with_newlines (map bytes_of (documents_lines ds))
 documents-text [] = refl

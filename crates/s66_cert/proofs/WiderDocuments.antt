@@ -1,7 +1,8 @@
 -- Documents of blocks of a limit are documents of any greater limit.
 use Rattle.std.proofs.Common.{◌≤◌, ℕ, List, [], ◌∷◌, arith}
-use Rattle.s66_model.specs.Leaves.{Leaf, Whole, Chain, Load, Parcels}
+use Rattle.s66_model.specs.Leaves.{Whole, Chain, Load, Parcels}
 use Rattle.s66_model.specs.Tree.{Tree, Alone, Parted, Kids, NoMore, Unsplit, Split}
+use Rattle.s66_model.specs.DominatedLeaves.{Ending, Bounding, Dominated}
 use Rattle.s66_cert.specs.Document.{Document, AreIn, AreNumbers, IsLeafLine, KidsFit, TreeFits, IsDocumentWithin, AreDocumentsWithin, IsTextWithin}
 
 module _ (limit wide : ℕ) (wider : limit ≤ wide) where
@@ -12,13 +13,14 @@ module _ (limit wide : ℕ) (wider : limit ≤ wide) where
   wide-numbers : (ns : List ℕ) → AreNumbers limit ns → AreNumbers wide ns
   wide-numbers ns are = (are.0, omega (arith, are.1, wider), wide-in ns are.2)
 
-  wide-leaf : (leaf : Leaf) → IsLeafLine limit leaf → IsLeafLine wide leaf
-  wide-leaf Whole is = tt
-  wide-leaf (Chain numbers) is = wide-numbers numbers is
-  wide-leaf (Load kind) is = tt
-  wide-leaf Parcels is = tt
+  wide-leaf : (ending : Ending) → IsLeafLine limit ending → IsLeafLine wide ending
+  wide-leaf (Bounding Whole) is = tt
+  wide-leaf (Bounding (Chain numbers)) is = wide-numbers numbers is
+  wide-leaf (Bounding (Load kind)) is = tt
+  wide-leaf (Bounding Parcels) is = tt
+  wide-leaf (Dominated name) is = wide-numbers name is
 
-  wide-kids : (ns : List ℕ) (kids : Kids Leaf) → KidsFit limit ns kids → KidsFit wide ns kids
+  wide-kids : (ns : List ℕ) (kids : Kids Ending) → KidsFit limit ns kids → KidsFit wide ns kids
   wide-kids [] NoMore fits = tt
   wide-kids [] (Unsplit leaf kids) fits = fits
   wide-kids [] (Split numbers sub kids) fits = fits
@@ -26,7 +28,7 @@ module _ (limit wide : ℕ) (wider : limit ≤ wide) where
   wide-kids (n ∷ ns) (Unsplit leaf kids) fits = (wide-leaf leaf fits.0, wide-kids ns kids fits.1)
   wide-kids (n ∷ ns) (Split numbers sub kids) fits = (wide-numbers numbers fits.0, wide-kids numbers sub fits.1, wide-kids ns kids fits.2)
 
-  wide-tree : (tree : Tree Leaf) → TreeFits limit tree → TreeFits wide tree
+  wide-tree : (tree : Tree Ending) → TreeFits limit tree → TreeFits wide tree
   wide-tree (Alone leaf) fits = wide-leaf leaf fits
   wide-tree (Parted numbers kids) fits = (wide-numbers numbers fits.0, wide-kids numbers kids fits.1)
 
@@ -40,6 +42,7 @@ module _ (limit wide : ℕ) (wider : limit ≤ wide) where
         numbers = wide-numbers d.numbers is.numbers;
         tree = wide-tree d.tree is.tree;
         splits = omega (arith, is.splits, le);
+        rule = is.rule;
       }
 
   pub wide-documents : (most more : ℕ) (ds : List Document) → most ≤ more → AreDocumentsWithin limit most ds → AreDocumentsWithin wide more ds

@@ -2,7 +2,7 @@
 use Rattle.std.specs.Prelude.{ℕ, ◌-◌, ◌+◌, Bool, true, false, List, [], ◌∷◌, ◌++◌, codes, take, drop, replicate, Result, Ok, Err}
 use Rattle.s66_isa.specs.Lists.{every, after_blanks}
 use Rattle.s66_cert.specs.Document.{Document}
-use Rattle.s66_cert.specs.Examples.{three_multiplies_text}
+use Rattle.s66_cert.specs.Examples.{three_multiplies_text, late_reader_text}
 use Rattle.s66_cert.specs.Faults.{with_newlines}
 use Rattle.s66_cert.specs.Reading.{whole_lines, read_of}
 use Rattle.s66_cert.specs.declared.error.CertError.{CertError}
@@ -17,7 +17,11 @@ replaced line count lines text =
 abbrev pub with_line : ℕ → List ℕ → List ℕ
 with_line line bytes = replaced line 1 (bytes ∷ []) three_multiplies_text
 
--- and with another tree: a split of so many numbers, and so many whole orders
+-- the text of late reader with one line replaced, read by its version 2
+abbrev pub with_late_line : ℕ → List ℕ → List ℕ
+with_late_line line bytes = replaced line 1 (bytes ∷ []) (late_reader_text (codes "S66 CERTIFICATE 2"))
+
+-- the text of three multiplies with another tree: a split of so many numbers, and so many whole orders
 abbrev pub with_split_of : ℕ → ℕ → List ℕ
 with_split_of numbers trees = replaced 10 16 ((codes "S" ++ after_blanks (replicate numbers 1)) ∷ replicate trees (codes "T")) three_multiplies_text
 

@@ -1,22 +1,26 @@
 -- To be believed: certificates, and their texts.
-use Rattle.std.specs.Prelude.{◌≡◌, ℕ, List, [], ◌∷◌, ◌++◌, ◌≤◌, codes, decimal, length}
+use Rattle.std.specs.Prelude.{◌≡◌, ℕ, Bool, true, false, List, [], ◌∷◌, ◌++◌, ◌≤◌, codes, decimal, length}
 use Rattle.s66_isa.specs.declared.instr.Kind.{Kind}
 use Rattle.s66_isa.specs.declared.instr.Kind.TheVariants.{Boolean, Shift, Add, LongAdd, Multiply, Divide, Increment}
-use Rattle.s66_model.specs.Leaves.{Leaf, Whole, Chain, Load, Parcels}
+use Rattle.s66_model.specs.declared.rule.Rule.{Rule}
+use Rattle.s66_model.specs.declared.rule.Rule.TheVariants.{NoneNamed, WrittenEarlier, ClampedStanding}
+use Rattle.s66_model.specs.Leaves.{Whole, Chain, Load, Parcels}
 use Rattle.s66_model.specs.Tree.{Tree, Alone, Parted, Kids, NoMore, Unsplit, Split, Knot, AtTip, AtSplit, flat, splits}
+use Rattle.s66_model.specs.DominatedLeaves.{Ending, Bounding, Dominated}
 use Rattle.s66_isa.specs.Lists.{after_blanks}
 use Rattle.s66_line.specs.InstructionText.{IsInstruction}
 use Rattle.s66_isa.specs.declared.limits.TheConstants.{PROFILE_LENGTH, PROFILE_LIMIT}
 use Rattle.s66_cert.specs.declared.limits.TheConstants.{TIME_LIMIT, SPLIT_LIMIT}
 
--- what it claims: under this profile, the instructions of these texts, in this order, take this time, and none takes less than the bound, as the tree shows
+-- what it claims: under this profile, the instructions of these texts, in this order, take this time, and none takes less than the bound, as the tree shows by the rule
 pub record Document : Type 0 where
+  pub rule : Rule
   pub profile : List ℕ
   pub block : List (List ℕ)
   pub time : ℕ
   pub bound : ℕ
   pub numbers : List ℕ
-  pub tree : Tree Leaf
+  pub tree : Tree Ending
 
 -- RANGES
 
@@ -29,14 +33,15 @@ AreIn low high (n ∷ ns) = (low ≤ n) × (n ≤ high) × AreIn low high ns
 abbrev pub AreNumbers : ℕ → List ℕ → Type 0
 AreNumbers limit ns = (1 ≤ length ns) × (length ns ≤ limit) × AreIn 1 limit ns
 
-abbrev pub IsLeafLine : ℕ → Leaf → Type 0
-IsLeafLine limit Whole = Unit {0}
-IsLeafLine limit (Chain numbers) = AreNumbers limit numbers
-IsLeafLine limit (Load kind) = Unit {0}
-IsLeafLine limit Parcels = Unit {0}
+abbrev pub IsLeafLine : ℕ → Ending → Type 0
+IsLeafLine limit (Bounding Whole) = Unit {0}
+IsLeafLine limit (Bounding (Chain numbers)) = AreNumbers limit numbers
+IsLeafLine limit (Bounding (Load kind)) = Unit {0}
+IsLeafLine limit (Bounding Parcels) = Unit {0}
+IsLeafLine limit (Dominated name) = AreNumbers limit name
 
 -- a tree for each number of a split
-abbrev pub KidsFit : ℕ → List ℕ → Kids Leaf → Type 0
+abbrev pub KidsFit : ℕ → List ℕ → Kids Ending → Type 0
 KidsFit limit [] NoMore = Unit {0}
 KidsFit limit (n ∷ ns) (Unsplit leaf kids) = IsLeafLine limit leaf × KidsFit limit ns kids
 KidsFit limit (n ∷ ns) (Split numbers sub kids) = AreNumbers limit numbers × KidsFit limit numbers sub × KidsFit limit ns kids
@@ -44,9 +49,28 @@ KidsFit limit [] (Unsplit leaf kids) = ⊥
 KidsFit limit [] (Split numbers sub kids) = ⊥
 KidsFit limit (n ∷ ns) NoMore = ⊥
 
-abbrev pub TreeFits : ℕ → Tree Leaf → Type 0
+abbrev pub TreeFits : ℕ → Tree Ending → Type 0
 TreeFits limit (Alone leaf) = IsLeafLine limit leaf
 TreeFits limit (Parted numbers kids) = AreNumbers limit numbers × KidsFit limit numbers kids
+
+-- DOMINATED LEAVES
+
+-- whether one of these lines is a dominated leaf
+abbrev pub has_dominated_line : List (Knot Ending) → Bool
+has_dominated_line [] = false
+has_dominated_line (AtTip (Bounding leaf) ∷ knots) = has_dominated_line knots
+has_dominated_line (AtTip (Dominated name) ∷ knots) = true
+has_dominated_line (AtSplit numbers ∷ knots) = has_dominated_line knots
+
+-- whether a leaf of the tree is dominated
+abbrev pub has_dominated : Tree Ending → Bool
+has_dominated tree = has_dominated_line (flat tree)
+
+-- whether dominated leaves name nodes by this rule
+abbrev pub names_nodes : Rule → Bool
+names_nodes NoneNamed = false
+names_nodes WrittenEarlier = true
+names_nodes ClampedStanding = true
 
 -- INSTRUCTIONS
 
@@ -63,6 +87,8 @@ pub record IsDocumentWithin (limit most : ℕ) (d : Document) : Type 0 where
   pub numbers : AreNumbers limit d.numbers
   pub tree : TreeFits limit d.tree
   pub splits : splits d.tree ≤ most
+  -- a rule by which nodes are named exactly where a leaf is dominated
+  pub rule : names_nodes d.rule ≡ has_dominated d.tree
 
 abbrev pub IsDocument : ℕ → Document → Type 0
 IsDocument limit d = IsDocumentWithin limit SPLIT_LIMIT d
@@ -78,13 +104,14 @@ kind_name Multiply = codes "MULTIPLY"
 kind_name Divide = codes "DIVIDE"
 kind_name Increment = codes "INCREMENT"
 
-abbrev pub leaf_line : Leaf → List ℕ
-leaf_line Whole = codes "T\n"
-leaf_line (Chain numbers) = codes "C" ++ after_blanks numbers ++ codes "\n"
-leaf_line (Load kind) = codes "U " ++ kind_name kind ++ codes "\n"
-leaf_line Parcels = codes "P\n"
+abbrev pub leaf_line : Ending → List ℕ
+leaf_line (Bounding Whole) = codes "T\n"
+leaf_line (Bounding (Chain numbers)) = codes "C" ++ after_blanks numbers ++ codes "\n"
+leaf_line (Bounding (Load kind)) = codes "U " ++ kind_name kind ++ codes "\n"
+leaf_line (Bounding Parcels) = codes "P\n"
+leaf_line (Dominated name) = codes "D" ++ after_blanks name ++ codes "\n"
 
-abbrev pub tree_lines : List (Knot Leaf) → List ℕ
+abbrev pub tree_lines : List (Knot Ending) → List ℕ
 tree_lines [] = []
 tree_lines (AtTip leaf ∷ knots) = leaf_line leaf ++ tree_lines knots
 tree_lines (AtSplit numbers ∷ knots) = codes "S" ++ after_blanks numbers ++ codes "\n" ++ tree_lines knots
@@ -93,11 +120,21 @@ abbrev pub instruction_lines : List (List ℕ) → List ℕ
 instruction_lines [] = []
 instruction_lines (text ∷ texts) = codes "I " ++ text ++ codes "\n" ++ instruction_lines texts
 
-abbrev pub document_text : Document → List ℕ
-document_text d =
-    codes "S66 CERTIFICATE 1\nPROFILE" ++ after_blanks d.profile ++ codes "\nBLOCK " ++ decimal (length d.block) ++ codes "\n" ++ instruction_lines d.block
+-- the version of a document is its rule
+abbrev pub version : Rule → ℕ
+version NoneNamed = 1
+version WrittenEarlier = 2
+version ClampedStanding = 3
+
+-- up to its last line
+abbrev pub text_before_end : Document → List ℕ
+text_before_end d =
+    codes "S66 CERTIFICATE " ++ decimal (version d.rule) ++ codes "\nPROFILE" ++ after_blanks d.profile ++ codes "\nBLOCK " ++ decimal (length d.block) ++ codes "\n" ++ instruction_lines d.block
     ++ codes "TIME " ++ decimal d.time ++ codes "\nBOUND " ++ decimal d.bound ++ codes "\nORDER" ++ after_blanks d.numbers ++ codes "\n"
-    ++ tree_lines (flat d.tree) ++ codes "END\n"
+    ++ tree_lines (flat d.tree)
+
+abbrev pub document_text : Document → List ℕ
+document_text d = text_before_end d ++ codes "END\n"
 
 -- documents follow each other with nothing between
 abbrev pub documents_text : List Document → List ℕ

@@ -1,27 +1,30 @@
 -- Used by contracts: a document as code keeps it, its tree by its lines in preorder.
 use Rattle.std.specs.Prelude.{◌≡◌, ◌≤◌, ℕ, List, [], ◌∷◌, length, Option, None, Some}
 use Rattle.s66_isa.specs.declared.limits.TheConstants.{BLOCK_LIMIT}
-use Rattle.s66_model.specs.Leaves.{Leaf, Whole, Chain, Load, Parcels}
+use Rattle.s66_model.specs.declared.rule.Rule.{Rule}
+use Rattle.s66_model.specs.Leaves.{Whole, Chain, Load, Parcels}
 use Rattle.s66_model.specs.Tree.{Tree, Knot, AtTip, AtSplit, flat}
+use Rattle.s66_model.specs.DominatedLeaves.{Ending, Bounding, Dominated}
 use Rattle.s66_model.specs.Preorder.{read_tree}
 use Rattle.s66_cert.specs.Document.{Document, IsDocument}
 use Rattle.s66_cert.specs.declared.tree.TreeLine.{TreeLine}
 use Rattle.s66_cert.specs.declared.tree.TreeLine.TheVariants as line
 
 pub record Parts : Type 0 where
+  pub rule : Rule
   pub profile : List ℕ
   pub block : List (List ℕ)
   pub time : ℕ
   pub bound : ℕ
   pub numbers : List ℕ
-  pub knots : List (Knot Leaf)
+  pub knots : List (Knot Ending)
 
 -- the tree of which these are the lines
-abbrev pub tree_of : List (Knot Leaf) → Tree Leaf
-tree_of knots = read_tree Whole knots
+abbrev pub tree_of : List (Knot Ending) → Tree Ending
+tree_of knots = read_tree (Bounding Whole) knots
 
 abbrev pub document_of : Parts → Document
-document_of p = record { profile = p.profile; block = p.block; time = p.time; bound = p.bound; numbers = p.numbers; tree = tree_of p.knots }
+document_of p = record { rule = p.rule; profile = p.profile; block = p.block; time = p.time; bound = p.bound; numbers = p.numbers; tree = tree_of p.knots }
 
 -- the parts of a document: their lines are those of one whole tree
 pub record AreWhole (p : Parts) : Type 0 where
@@ -30,22 +33,24 @@ pub record AreWhole (p : Parts) : Type 0 where
 
 -- A LINE OF A TREE
 
-abbrev pub knot_of : TreeLine → Knot Leaf
+abbrev pub knot_of : TreeLine → Knot Ending
 knot_of (line.Split numbers) = AtSplit numbers.now
-knot_of line.Whole = AtTip Whole
-knot_of (line.Chain numbers) = AtTip (Chain numbers.now)
-knot_of (line.Load kind) = AtTip (Load kind)
-knot_of line.Parcels = AtTip Parcels
+knot_of line.Whole = AtTip (Bounding Whole)
+knot_of (line.Chain numbers) = AtTip (Bounding (Chain numbers.now))
+knot_of (line.Load kind) = AtTip (Bounding (Load kind))
+knot_of line.Parcels = AtTip (Bounding Parcels)
+knot_of (line.Dominated numbers) = AtTip (Dominated numbers.now)
 
 -- no more numbers than a block has instructions
-abbrev pub IsShort : Knot Leaf → Type 0
+abbrev pub IsShort : Knot Ending → Type 0
 IsShort (AtSplit numbers) = length numbers ≤ BLOCK_LIMIT
-IsShort (AtTip Whole) = Unit {0}
-IsShort (AtTip (Chain numbers)) = length numbers ≤ BLOCK_LIMIT
-IsShort (AtTip (Load kind)) = Unit {0}
-IsShort (AtTip Parcels) = Unit {0}
+IsShort (AtTip (Bounding Whole)) = Unit {0}
+IsShort (AtTip (Bounding (Chain numbers))) = length numbers ≤ BLOCK_LIMIT
+IsShort (AtTip (Bounding (Load kind))) = Unit {0}
+IsShort (AtTip (Bounding Parcels)) = Unit {0}
+IsShort (AtTip (Dominated name)) = length name ≤ BLOCK_LIMIT
 
 -- the next of these lines is answered, and those behind it are left; none only where there is none
-abbrev pub IsNextLine : List (Knot Leaf) → Option TreeLine → List (Knot Leaf) → Type 0
+abbrev pub IsNextLine : List (Knot Ending) → Option TreeLine → List (Knot Ending) → Type 0
 IsNextLine old None new = (old ≡ []) × (new ≡ [])
 IsNextLine old (Some line) new = old ≡ knot_of line ∷ new

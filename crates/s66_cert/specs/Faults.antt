@@ -1,8 +1,9 @@
 -- To be believed: the first fault of a text that is no text of documents, in reading order.
-use Rattle.std.specs.Prelude.{◌≡◌, ◌+◌, ◌==◌, ℕ, true, not, List, [], ◌∷◌, ◌++◌, length}
+use Rattle.std.specs.Prelude.{◌≡◌, ◌⊎◌, ◌+◌, ◌==◌, ℕ, true, not, List, [], ◌∷◌, ◌++◌, length}
 use Rattle.s66_isa.specs.Lists.{every}
 use Rattle.s66_isa.specs.declared.limits.TheConstants.{BLOCK_LIMIT}
-use Rattle.s66_cert.specs.Document.{Document, IsText, IsTextWithin}
+use Rattle.s66_model.specs.declared.rule.Rule.TheVariants.{NoneNamed}
+use Rattle.s66_cert.specs.Document.{Document, IsDocumentWithin, AreDocumentsWithin, IsText, text_before_end, documents_text}
 use Rattle.s66_cert.specs.declared.limits.TheConstants.{SPLIT_LIMIT}
 use Rattle.s66_cert.specs.declared.error.CertError.{CertError}
 use Rattle.s66_cert.specs.declared.error.CertError.TheVariants.{BadLine, Truncated, TooManyNodes, OutOfMemory}
@@ -20,9 +21,15 @@ abbrev pub with_newlines : List (List ℕ) → List ℕ
 with_newlines [] = []
 with_newlines (line ∷ lines) = line ++ 10 ∷ with_newlines lines
 
--- some text of documents begins so, whose trees have at most so many splits
+-- a document whose last line is still to come: until then the dominated leaf that its rule asks for may be wanting
+abbrev pub IsOpenWithin : ℕ → ℕ → Document → Type 0
+IsOpenWithin limit most d = IsDocumentWithin limit most d ⊎ IsDocumentWithin limit most (record d { rule = NoneNamed })
+
+-- some text of documents, with one behind them up to its last line, begins so; their trees have at most so many splits
 abbrev pub BeginsWithin : ℕ → List ℕ → Type 0
-BeginsWithin most text = (more : List ℕ) × (ds : List Document) × IsTextWithin BLOCK_LIMIT most (text ++ more) ds
+BeginsWithin most text =
+    (more : List ℕ) × (ds : List Document) × (d : Document) × AreDocumentsWithin BLOCK_LIMIT most ds × IsOpenWithin BLOCK_LIMIT most d
+    × (text ++ more ≡ documents_text ds ++ text_before_end d)
 
 -- some text of documents begins so
 abbrev pub Begins : List ℕ → Type 0

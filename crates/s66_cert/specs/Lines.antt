@@ -5,40 +5,44 @@ use Rattle.std.specs.Str.{bytes_eq}
 use Rattle.s66_isa.specs.declared.instr.Kind.{Kind}
 use Rattle.s66_isa.specs.declared.instr.Kind.TheVariants.{Boolean, Shift, Add, LongAdd, Multiply, Divide, Increment}
 use Rattle.s66_isa.specs.Lists.{every, after_blanks}
-use Rattle.s66_model.specs.Leaves.{Leaf, Whole, Chain, Load, Parcels}
+use Rattle.s66_model.specs.declared.rule.Rule.{Rule}
+use Rattle.s66_model.specs.declared.rule.Rule.TheVariants.{NoneNamed, WrittenEarlier, ClampedStanding}
+use Rattle.s66_model.specs.Leaves.{Whole, Chain, Load, Parcels}
 use Rattle.s66_model.specs.Tree.{Knot, AtTip, AtSplit}
+use Rattle.s66_model.specs.DominatedLeaves.{Ending, Bounding, Dominated}
 use Rattle.s66_line.specs.InstructionText.{spelling, operation_in, operand_in, IsInstruction}
 use Rattle.s66_line.specs.Operand.{instr_of}
 use Rattle.s66_line.specs.declared.limits.TheConstants.{TEXT_LIMIT}
-use Rattle.s66_cert.specs.Document.{AreIn, AreNumbers, IsLeafLine, kind_name}
+use Rattle.s66_cert.specs.Document.{AreIn, AreNumbers, IsLeafLine, kind_name, version}
 use Rattle.s66_isa.specs.declared.limits.TheConstants.{PROFILE_LENGTH, PROFILE_LIMIT}
 use Rattle.s66_cert.specs.declared.limits.TheConstants.{TIME_LIMIT}
 
 pub data Line : Type 0 where
-  Header : Line
+  Header : (rule : Rule) → Line
   Profile : (numbers : List ℕ) → Line
   Block : (count : ℕ) → Line
   Instruction : (text : List ℕ) → Line
   Time : (time : ℕ) → Line
   Bound : (bound : ℕ) → Line
   Order : (numbers : List ℕ) → Line
-  OfTree : (knot : Knot Leaf) → Line
+  OfTree : (knot : Knot Ending) → Line
   End : Line
 
 -- ITS BYTES, without the newline
 
-abbrev pub leaf_bytes : Leaf → List ℕ
-leaf_bytes Whole = codes "T"
-leaf_bytes (Chain numbers) = codes "C" ++ after_blanks numbers
-leaf_bytes (Load kind) = codes "U " ++ kind_name kind
-leaf_bytes Parcels = codes "P"
+abbrev pub leaf_bytes : Ending → List ℕ
+leaf_bytes (Bounding Whole) = codes "T"
+leaf_bytes (Bounding (Chain numbers)) = codes "C" ++ after_blanks numbers
+leaf_bytes (Bounding (Load kind)) = codes "U " ++ kind_name kind
+leaf_bytes (Bounding Parcels) = codes "P"
+leaf_bytes (Dominated name) = codes "D" ++ after_blanks name
 
-abbrev pub knot_bytes : Knot Leaf → List ℕ
+abbrev pub knot_bytes : Knot Ending → List ℕ
 knot_bytes (AtTip leaf) = leaf_bytes leaf
 knot_bytes (AtSplit numbers) = codes "S" ++ after_blanks numbers
 
 abbrev pub bytes_of : Line → List ℕ
-bytes_of Header = codes "S66 CERTIFICATE 1"
+bytes_of (Header rule) = codes "S66 CERTIFICATE " ++ decimal (version rule)
 bytes_of (Profile numbers) = codes "PROFILE" ++ after_blanks numbers
 bytes_of (Block count) = codes "BLOCK " ++ decimal count
 bytes_of (Instruction text) = codes "I " ++ text
@@ -50,12 +54,12 @@ bytes_of End = codes "END"
 
 -- ITS RANGES
 
-abbrev pub IsKnot : ℕ → Knot Leaf → Type 0
+abbrev pub IsKnot : ℕ → Knot Ending → Type 0
 IsKnot limit (AtTip leaf) = IsLeafLine limit leaf
 IsKnot limit (AtSplit numbers) = AreNumbers limit numbers
 
 abbrev pub IsInRange : ℕ → Line → Type 0
-IsInRange limit Header = Unit {0}
+IsInRange limit (Header rule) = Unit {0}
 IsInRange limit (Profile numbers) = (length numbers ≡ PROFILE_LENGTH) × AreIn 1 PROFILE_LIMIT numbers
 IsInRange limit (Block count) = (1 ≤ count) × (count ≤ limit)
 IsInRange limit (Instruction text) = IsInstruction text
@@ -173,16 +177,21 @@ alone line (Some rest) = None
 
 abbrev pub header_in : Option (List ℕ) → Option Line
 header_in None = None
-header_in (Some rest) = if bytes_eq rest (codes "CERTIFICATE 1") then Some Header else None
+header_in (Some rest) =
+    if bytes_eq rest (codes "CERTIFICATE 1") then Some (Header NoneNamed)
+    else (if bytes_eq rest (codes "CERTIFICATE 2") then Some (Header WrittenEarlier)
+    else (if bytes_eq rest (codes "CERTIFICATE 3") then Some (Header ClampedStanding)
+    else None))
 
 -- what a line says whose first word is this, and what stands after its blank
 abbrev pub line_with : ℕ → List ℕ → Option (List ℕ) → Option Line
 line_with limit name rest =
-    if bytes_eq name (codes "T") then alone (OfTree (AtTip Whole)) rest
+    if bytes_eq name (codes "T") then alone (OfTree (AtTip (Bounding Whole))) rest
     else (if bytes_eq name (codes "S") then option_map (λ ns. OfTree (AtSplit ns)) (block_numbers limit rest)
-    else (if bytes_eq name (codes "C") then option_map (λ ns. OfTree (AtTip (Chain ns))) (block_numbers limit rest)
-    else (if bytes_eq name (codes "U") then option_map (λ kind. OfTree (AtTip (Load kind))) (kind_in rest)
-    else (if bytes_eq name (codes "P") then alone (OfTree (AtTip Parcels)) rest
+    else (if bytes_eq name (codes "C") then option_map (λ ns. OfTree (AtTip (Bounding (Chain ns)))) (block_numbers limit rest)
+    else (if bytes_eq name (codes "D") then option_map (λ ns. OfTree (AtTip (Dominated ns))) (block_numbers limit rest)
+    else (if bytes_eq name (codes "U") then option_map (λ kind. OfTree (AtTip (Bounding (Load kind)))) (kind_in rest)
+    else (if bytes_eq name (codes "P") then alone (OfTree (AtTip (Bounding Parcels))) rest
     else (if bytes_eq name (codes "I") then instruction_in rest
     else (if bytes_eq name (codes "S66") then header_in rest
     else (if bytes_eq name (codes "PROFILE") then option_map Profile (profile_in rest)
@@ -191,7 +200,7 @@ line_with limit name rest =
     else (if bytes_eq name (codes "BOUND") then option_map Bound (one_number 0 TIME_LIMIT rest)
     else (if bytes_eq name (codes "ORDER") then option_map Order (block_numbers limit rest)
     else (if bytes_eq name (codes "END") then alone End rest
-    else None))))))))))))
+    else None)))))))))))))
 
 -- what a line says, or that it's no line of a document
 abbrev pub line_of : ℕ → List ℕ → Option Line

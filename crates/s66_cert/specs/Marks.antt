@@ -1,8 +1,9 @@
 -- Used by contracts: the lines of a tree that its marks and its numbers keep.
 use Rattle.std.specs.Prelude.{◌≡◌, ℕ, List, [], ◌∷◌, length, take, drop}
 use Rattle.s66_isa.specs.Lists.{weigh}
-use Rattle.s66_model.specs.Leaves.{Leaf, Whole, Chain, Load, Parcels}
+use Rattle.s66_model.specs.Leaves.{Whole, Chain, Load, Parcels}
 use Rattle.s66_model.specs.Tree.{Knot, AtTip, AtSplit}
+use Rattle.s66_model.specs.DominatedLeaves.{Ending, Bounding, Dominated}
 use Rattle.s66_cert.specs.declared.tree.Mark.{Mark}
 use Rattle.s66_cert.specs.declared.tree.Mark.TheVariants as mark
 
@@ -13,17 +14,19 @@ number_count mark.Whole = 0
 number_count (mark.Chain count) = count
 number_count (mark.Load kind) = 0
 number_count mark.Parcels = 0
+number_count (mark.Dominated count) = count
 
 -- with its numbers, the first of these
-abbrev pub marked : Mark → List ℕ → Knot Leaf
+abbrev pub marked : Mark → List ℕ → Knot Ending
 marked (mark.Split count) numbers = AtSplit (take count numbers)
-marked mark.Whole numbers = AtTip Whole
-marked (mark.Chain count) numbers = AtTip (Chain (take count numbers))
-marked (mark.Load kind) numbers = AtTip (Load kind)
-marked mark.Parcels numbers = AtTip Parcels
+marked mark.Whole numbers = AtTip (Bounding Whole)
+marked (mark.Chain count) numbers = AtTip (Bounding (Chain (take count numbers)))
+marked (mark.Load kind) numbers = AtTip (Bounding (Load kind))
+marked mark.Parcels numbers = AtTip (Bounding Parcels)
+marked (mark.Dominated count) numbers = AtTip (Dominated (take count numbers))
 
 -- the numbers of the lines stand one after the other
-abbrev pub knots_of : List Mark → List ℕ → List (Knot Leaf)
+abbrev pub knots_of : List Mark → List ℕ → List (Knot Ending)
 knots_of [] numbers = []
 knots_of (mark ∷ marks) numbers = marked mark numbers ∷ knots_of marks (drop (number_count mark) numbers)
 

@@ -3,8 +3,9 @@ use Rattle.std.specs.Prelude.{◌≡◌, ℕ, List, [], ◌∷◌, ◌++◌, Opt
 use Rattle.std.specs.Io.KnownBytes.{Appends}
 use Rattle.s66_isa.specs.Lists.{after_blanks}
 use Rattle.s66_line.specs.Devices.{Writer, WriteFails}
-use Rattle.s66_model.specs.Leaves.{Leaf}
 use Rattle.s66_model.specs.Tree.{Knot}
+use Rattle.s66_model.specs.DominatedLeaves.{Ending}
+use Rattle.s66_cert.specs.Document.{version}
 use Rattle.s66_cert.specs.DocumentParts.{Parts, IsShort}
 
 -- of what stood on the page and of this text behind it a front was written, and the rest stands on the page
@@ -22,12 +23,12 @@ Printed old new before after text result =
 
 -- what a document has before its instructions
 abbrev pub opening : Parts → List ℕ
-opening p = codes "S66 CERTIFICATE 1\nPROFILE" ++ after_blanks p.profile ++ codes "\nBLOCK " ++ decimal (length p.block) ++ codes "\n"
+opening p = codes "S66 CERTIFICATE " ++ decimal (version p.rule) ++ codes "\nPROFILE" ++ after_blanks p.profile ++ codes "\nBLOCK " ++ decimal (length p.block) ++ codes "\n"
 
 -- and between these and its tree
 abbrev pub claim_lines : Parts → List ℕ
 claim_lines p = codes "TIME " ++ decimal p.time ++ codes "\nBOUND " ++ decimal p.bound ++ codes "\nORDER" ++ after_blanks p.numbers ++ codes "\n"
 
-abbrev pub AreShort : List (Knot Leaf) → Type 0
+abbrev pub AreShort : List (Knot Ending) → Type 0
 AreShort [] = Unit {0}
 AreShort (knot ∷ knots) = IsShort knot × AreShort knots

@@ -1,9 +1,11 @@
 -- Used by contracts: a text of documents read line by line. A block has at most limit instructions, and a tree most splits.
-use Rattle.std.specs.Prelude.{◌+◌, ◌-◌, ◌==◌, ◌&&◌, if◌then◌else◌, ℕ, suc, Bool, true, false, List, [], ◌∷◌, ◌++◌, Option, None, Some, Result, Ok, Err, nat_le, length}
+use Rattle.std.specs.Prelude.{◌+◌, ◌-◌, ◌==◌, ◌&&◌, if◌then◌else◌, ℕ, suc, Bool, true, false, not, List, [], ◌∷◌, ◌++◌, Option, None, Some, Result, Ok, Err, nat_le, length}
 use Rattle.s66_isa.specs.declared.limits.TheConstants.{BLOCK_LIMIT}
-use Rattle.s66_model.specs.Leaves.{Leaf}
+use Rattle.s66_model.specs.declared.rule.Rule.{Rule}
+use Rattle.s66_model.specs.declared.rule.Rule.TheVariants.{NoneNamed}
 use Rattle.s66_model.specs.Tree.{Knot, AtTip, AtSplit}
-use Rattle.s66_cert.specs.Document.{Document}
+use Rattle.s66_model.specs.DominatedLeaves.{Ending, Bounding, Dominated}
+use Rattle.s66_cert.specs.Document.{Document, has_dominated_line, names_nodes}
 use Rattle.s66_cert.specs.Lines.{Line, Header, Profile, Block, Instruction, Time, Bound, Order, OfTree, End, line_of}
 use Rattle.s66_cert.specs.DocumentParts.{Parts, document_of}
 use Rattle.s66_cert.specs.declared.limits.TheConstants.{SPLIT_LIMIT}
@@ -16,7 +18,7 @@ use Rattle.s66_cert.specs.declared.place.Place.TheVariants.{AtHeader, AtProfile,
 
 -- nothing of a document
 abbrev pub nothing : Parts
-nothing = record { profile = []; block = []; time = 0; bound = 0; numbers = []; knots = [] }
+nothing = record { rule = NoneNamed; profile = []; block = []; time = 0; bound = 0; numbers = []; knots = [] }
 
 pub record State : Type 0 where
   -- how many lines were read
@@ -47,18 +49,35 @@ place_of_instruction left = if left == 0 then AtTime else AtInstruction
 abbrev pub place_of_tree : ℕ → Place
 place_of_tree left = if left == 0 then AtEnd else AtTree
 
-abbrev pub with_knot : Parts → Knot Leaf → Parts
+abbrev pub with_knot : Parts → Knot Ending → Parts
 with_knot p knot = record p { knots = p.knots ++ knot ∷ [] }
 
-abbrev pub knot_step : ℕ → State → Knot Leaf → Result State CertError
-knot_step most s (AtTip leaf) = next s (place_of_tree (s.left - 1)) (with_knot s.part (AtTip leaf)) (s.left - 1) s.splits
+-- a dominated leaf comes only by a rule that names nodes
+abbrev pub is_allowed : Rule → Knot Ending → Bool
+is_allowed rule (AtTip (Bounding leaf)) = true
+is_allowed rule (AtTip (Dominated name)) = names_nodes rule
+is_allowed rule (AtSplit numbers) = true
+
+abbrev pub knot_step : ℕ → State → Knot Ending → Result State CertError
+knot_step most s (AtTip ending) =
+    if is_allowed s.part.rule (AtTip ending) then next s (place_of_tree (s.left - 1)) (with_knot s.part (AtTip ending)) (s.left - 1) s.splits
+    else bad s
 knot_step most s (AtSplit numbers) =
     if nat_le most s.splits then Err TooManyNodes
     else next s (place_of_tree (s.left - 1 + length numbers)) (with_knot s.part (AtSplit numbers)) (s.left - 1 + length numbers) (suc s.splits)
 
+-- nodes are named by the rule, and no leaf is dominated
+abbrev pub wants_dominated : Parts → Bool
+wants_dominated p = names_nodes p.rule && not (has_dominated_line p.knots)
+
+abbrev pub end_step : State → Result State CertError
+end_step s =
+    if wants_dominated s.part then bad s
+    else Ok (record { count = suc s.count; documents = s.documents ++ document_of s.part ∷ []; place = AtHeader; part = nothing; left = 0; splits = 0 })
+
 -- the line that comes at this place, and what it makes; any other is bad
 abbrev pub step_at : ℕ → State → Place → Line → Result State CertError
-step_at most s AtHeader Header = next s AtProfile nothing 0 0
+step_at most s AtHeader (Header rule) = next s AtProfile (record nothing { rule = rule }) 0 0
 step_at most s AtProfile (Profile numbers) = next s AtBlock (record s.part { profile = numbers }) 0 0
 step_at most s AtBlock (Block count) = next s AtInstruction (record s.part { block = [] }) count 0
 step_at most s AtInstruction (Instruction text) = next s (place_of_instruction (s.left - 1)) (record s.part { block = s.part.block ++ text ∷ [] }) (s.left - 1) 0
@@ -66,8 +85,7 @@ step_at most s AtTime (Time time) = next s AtBound (record s.part { time = time 
 step_at most s AtBound (Bound bound) = next s AtOrder (record s.part { bound = bound }) 0 0
 step_at most s AtOrder (Order numbers) = next s AtTree (record s.part { numbers = numbers; knots = [] }) 1 0
 step_at most s AtTree (OfTree knot) = knot_step most s knot
-step_at most s AtEnd End =
-    Ok (record { count = suc s.count; documents = s.documents ++ document_of s.part ∷ []; place = AtHeader; part = nothing; left = 0; splits = 0 })
+step_at most s AtEnd End = end_step s
 step_at most s place line = bad s
 
 abbrev pub step_if : ℕ → State → Option Line → Result State CertError

@@ -1,13 +1,14 @@
 -- Used by contracts: what a line says that code has read.
 use Rattle.s66_model.specs.Leaves.{Whole, Chain, Load, Parcels}
 use Rattle.s66_model.specs.Tree.{AtTip, AtSplit}
+use Rattle.s66_model.specs.DominatedLeaves.{Bounding, Dominated}
 use Rattle.s66_cert.specs.Lines.{Line}
 use Rattle.s66_cert.specs.Lines as line
 use Rattle.s66_cert.specs.declared.line.LineOf.{LineOf}
 use Rattle.s66_cert.specs.declared.line.LineOf.TheVariants as code
 
 abbrev pub said : LineOf → Line
-said code.Header = line.Header
+said (code.Header rule) = line.Header rule
 said (code.Profile numbers) = line.Profile numbers.items
 said (code.Block count) = line.Block count
 said (code.Instruction text) = line.Instruction text.bytes.now
@@ -15,8 +16,9 @@ said (code.Time time) = line.Time time
 said (code.Bound bound) = line.Bound bound
 said (code.Order numbers) = line.Order numbers.items
 said (code.Split numbers) = line.OfTree (AtSplit numbers.items)
-said code.Whole = line.OfTree (AtTip Whole)
-said (code.Chain numbers) = line.OfTree (AtTip (Chain numbers.items))
-said (code.Load kind) = line.OfTree (AtTip (Load kind))
-said code.Parcels = line.OfTree (AtTip Parcels)
+said code.Whole = line.OfTree (AtTip (Bounding Whole))
+said (code.Chain numbers) = line.OfTree (AtTip (Bounding (Chain numbers.items)))
+said (code.Dominated numbers) = line.OfTree (AtTip (Dominated numbers.items))
+said (code.Load kind) = line.OfTree (AtTip (Bounding (Load kind)))
+said code.Parcels = line.OfTree (AtTip (Bounding Parcels))
 said code.End = line.End

@@ -2,11 +2,14 @@ use crate::instruction::InstructionText;
 use crate::tree::{Tree, TreeLines};
 use arrayvec::ArrayVec;
 use s66_isa::{BLOCK_LIMIT, PROFILE_LENGTH};
+use s66_model::Rule;
 use std::marker::Model;
 
 /// What a document says.
 #[derive(Debug, Drop)]
 pub struct Claim {
+    /// Which nodes its dominated leaves name, which is its version: `NoneNamed` exactly where no leaf of the tree is dominated.
+    pub rule: Rule,
     /// The ten times of a profile, then its seven copies of units.
     pub profile: ArrayVec<u8, PROFILE_LENGTH>,
     /// The instructions with their texts.
@@ -26,7 +29,7 @@ impl Model for Claim {
 
     ghost Value = { Parts };
 
-    ghost view = { λ c. record { profile = c.profile.items; block = c.block.items; time = c.time; bound = c.bound; numbers = c.order.items; knots = c.tree } };
+    ghost view = { λ c. record { rule = c.rule; profile = c.profile.items; block = c.block.items; time = c.time; bound = c.bound; numbers = c.order.items; knots = c.tree } };
 }
 
 /// A certificate: what it claims of a block under a profile, and a tree that shows it. It is one whole tree of at most
@@ -51,12 +54,20 @@ impl Document {
     ghost use Rattle.s66_cert.specs.DocumentParts.{AreWhole};
 
     /// The document that says this. Its numbers have to be in their ranges, its texts those of instructions, and the lines of its
-    /// tree those of one whole tree of at most `SPLIT_LIMIT` splits.
+    /// tree those of one whole tree of at most `SPLIT_LIMIT` splits. Its rule names nodes exactly where a leaf is dominated.
     pub fn new(claim: Claim) -> Document
         requires { AreWhole claim }
         ensures { result ≡ claim }
     {
         Document { claim }
+    }
+
+    /// Which nodes its dominated leaves name; it is `NoneNamed` exactly where no leaf of the tree is dominated.
+    pub fn rule(&self) -> Rule
+        ensures value { result ≡ self.now.rule }
+        ensures whole { AreWhole self.now }
+    {
+        self.claim.rule
     }
 
     /// The ten times of the profile, then its seven copies of units; each 1 to 100.

@@ -1,11 +1,13 @@
 use crate::instruction::ReadText;
 use arrayvec::ArrayVec;
 use s66_isa::{BLOCK_LIMIT, Kind, PROFILE_LENGTH};
+use s66_model::Rule;
 
 /// What a line of a document says.
 #[derive(Debug, Drop)]
 pub(crate) enum LineOf<'a> {
-    Header,
+    /// The rule that the version is.
+    Header(Rule),
     Profile(ArrayVec<u8, PROFILE_LENGTH>),
     /// How many instructions the block has.
     Block(u32),
@@ -17,6 +19,7 @@ pub(crate) enum LineOf<'a> {
     Split(ArrayVec<u8, BLOCK_LIMIT>),
     Whole,
     Chain(ArrayVec<u8, BLOCK_LIMIT>),
+    Dominated(ArrayVec<u8, BLOCK_LIMIT>),
     Load(Kind),
     Parcels,
     End,

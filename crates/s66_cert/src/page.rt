@@ -146,6 +146,7 @@ impl Page {
                 self.text(b"\n");
             }
             TreeLine::Parcels => self.text(b"P\n"),
+            TreeLine::Dominated(numbers) => self.numbered_line(b"D", numbers),
         }
     }
 

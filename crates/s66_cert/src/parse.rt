@@ -4,6 +4,7 @@ ghost use Rattle.std.specs.Option.{option_map};
 ghost use Rattle.s66_isa.specs.declared.limits.TheConstants.{BLOCK_LIMIT};
 ghost use Rattle.s66_model.specs.Leaves.{Chain, Load};
 ghost use Rattle.s66_model.specs.Tree.{AtTip, AtSplit};
+ghost use Rattle.s66_model.specs.DominatedLeaves.{Bounding, Dominated};
 ghost use Rattle.s66_cert.specs.Lines.{line_of, block_numbers, profile_in, one_number, instruction_in, kind_in, header_in, alone, OfTree};
 ghost use Rattle.s66_cert.specs.Lines as line;
 ghost use Rattle.s66_cert.specs.Said.{said};
@@ -16,6 +17,7 @@ use crate::scan::{number_in, numbers_in, split_word};
 use arrayvec::ArrayVec;
 use s66_isa::{BLOCK_LIMIT, Kind, PROFILE_LENGTH, PROFILE_LIMIT};
 use s66_line::instruction_of_text;
+use s66_model::Rule;
 
 fn is_name(bytes: &[u8], name: &[u8]) -> bool
     ensures { result ≡ bytes_eq bytes.now name.now }
@@ -88,11 +90,17 @@ fn instruction_line(rest: Option<&[u8]>) -> Option<LineOf<'_>>
     Some(LineOf::Instruction(ReadText { bytes, instr }))
 }
 
+/// The first line of a document, of each version.
 fn header_line(rest: Option<&[u8]>) -> Option<LineOf<'_>>
     ensures { option_map said result ≡ header_in (option_map (λ r. r.now) rest.entry) }
 {
-    if is_name(rest?, b"CERTIFICATE 1") {
-        Some(LineOf::Header)
+    let name = rest?;
+    if is_name(name, b"CERTIFICATE 1") {
+        Some(LineOf::Header(Rule::NoneNamed))
+    } else if is_name(name, b"CERTIFICATE 2") {
+        Some(LineOf::Header(Rule::WrittenEarlier))
+    } else if is_name(name, b"CERTIFICATE 3") {
+        Some(LineOf::Header(Rule::ClampedStanding))
     } else {
         None
     }
@@ -115,9 +123,15 @@ fn split_line(rest: Option<&[u8]>) -> Option<LineOf<'_>>
 }
 
 fn chain_line(rest: Option<&[u8]>) -> Option<LineOf<'_>>
-    ensures { option_map said result ≡ option_map (λ ns. OfTree (AtTip (Chain ns))) (block_numbers BLOCK_LIMIT (option_map (λ r. r.now) rest.entry)) }
+    ensures { option_map said result ≡ option_map (λ ns. OfTree (AtTip (Bounding (Chain ns)))) (block_numbers BLOCK_LIMIT (option_map (λ r. r.now) rest.entry)) }
 {
     Some(LineOf::Chain(block_numbers(rest)?))
+}
+
+fn dominated_line(rest: Option<&[u8]>) -> Option<LineOf<'_>>
+    ensures { option_map said result ≡ option_map (λ ns. OfTree (AtTip (Dominated ns))) (block_numbers BLOCK_LIMIT (option_map (λ r. r.now) rest.entry)) }
+{
+    Some(LineOf::Dominated(block_numbers(rest)?))
 }
 
 fn order_line(rest: Option<&[u8]>) -> Option<LineOf<'_>>
@@ -133,7 +147,7 @@ fn profile_line(rest: Option<&[u8]>) -> Option<LineOf<'_>>
 }
 
 fn load_line(rest: Option<&[u8]>) -> Option<LineOf<'_>>
-    ensures { option_map said result ≡ option_map (λ kind. OfTree (AtTip (Load kind))) (kind_in (option_map (λ r. r.now) rest.entry)) }
+    ensures { option_map said result ≡ option_map (λ kind. OfTree (AtTip (Bounding (Load kind)))) (kind_in (option_map (λ r. r.now) rest.entry)) }
 {
     Some(LineOf::Load(kind_in(rest)?))
 }
@@ -169,6 +183,9 @@ pub(crate) fn line_of(bytes: &[u8]) -> Option<LineOf<'_>>
     }
     if is_name(name, b"C") {
         return chain_line(rest);
+    }
+    if is_name(name, b"D") {
+        return dominated_line(rest);
     }
     if is_name(name, b"U") {
         return load_line(rest);

@@ -1,6 +1,6 @@
 ghost use Rattle.std.specs.Prelude.{◌≡◌, ◌-◌, ◌^◌, ◌<◌, ◌++◌, ℕ, [], codes};
 ghost use Rattle.s66_line.specs.Devices.{Written};
-ghost use Rattle.s66_cert.specs.Document.{document_text, instruction_lines, tree_lines};
+ghost use Rattle.s66_cert.specs.Document.{document_text, instruction_lines, tree_lines, version};
 ghost use Rattle.s66_cert.specs.Pages.{Printed, AreShort, opening, claim_lines};
 ghost use Rattle.s66_cert.specs.DocumentParts.{document_of};
 
@@ -9,13 +9,27 @@ use crate::instruction::InstructionText;
 use crate::page::Page;
 use crate::tree::TreeLines;
 use s66_line::{Sink, WriteError};
+use s66_model::Rule;
+
+/// The version of a document by this rule.
+fn version(rule: Rule) -> u32
+    ensures { result ≡ version rule }
+{
+    match rule {
+        Rule::NoneNamed => 1,
+        Rule::WrittenEarlier => 2,
+        Rule::ClampedStanding => 3,
+    }
+}
 
 /// Prints what a document has before its instructions.
 fn print_opening(document: &Document, page: &mut Page)
     requires { page.old ≡ [] }
     ensures { page.new ≡ opening document.now }
 {
-    page.text(b"S66 CERTIFICATE 1\nPROFILE");
+    page.text(b"S66 CERTIFICATE ");
+    page.number(version(document.rule()));
+    page.text(b"\nPROFILE");
     page.numbers(document.profile());
     page.text(b"\nBLOCK ");
     page.number(document.block().len() as u32);

@@ -1,10 +1,11 @@
-ghost use Rattle.std.specs.Prelude.{suc, ◌≡◌, ◌≤◌, ◌<◌, ◌+◌, ◌-◌, ◌^◌, [], OnOk};
+ghost use Rattle.std.specs.Prelude.{suc, false, ◌≡◌, ◌≤◌, ◌<◌, ◌+◌, ◌-◌, ◌^◌, [], OnOk};
 ghost use Rattle.s66_isa.specs.declared.limits.TheConstants.{BLOCK_LIMIT};
+ghost use Rattle.s66_cert.specs.Document.{names_nodes};
 ghost use Rattle.s66_cert.specs.Fine.{IsFine};
 ghost use Rattle.s66_cert.specs.Lines.{IsInRange, IsKnot, Header, Profile, Block, Instruction, Time, Bound, Order, OfTree, End};
 ghost use Rattle.s66_cert.specs.DocumentParts.{AreWhole, knot_of};
 ghost use Rattle.s66_cert.specs.DocumentReader.{state, Steps, StepsEnd};
-ghost use Rattle.s66_cert.specs.Reading.{nothing, start, step_at, step, steps, whole_lines, last_bytes};
+ghost use Rattle.s66_cert.specs.Reading.{nothing, start, is_allowed, wants_dominated, step_at, step, steps, whole_lines, last_bytes};
 ghost use Rattle.s66_cert.specs.Said.{said};
 ghost use Rattle.s66_cert.specs.declared.error.CertError.TheVariants.{BadLine};
 ghost use Rattle.s66_cert.specs.declared.limits.TheConstants.{SPLIT_LIMIT};
@@ -20,6 +21,7 @@ use crate::place::Place;
 use crate::tree::{Tree, TreeLine};
 use arrayvec::ArrayVec;
 use s66_isa::{BLOCK_LIMIT, PROFILE_LENGTH};
+use s66_model::Rule;
 use std::alloc::Global;
 use std::mem;
 
@@ -28,12 +30,33 @@ fn nothing(alloc: Global) -> Claim
     ensures { result ≡ nothing }
 {
     Claim {
+        rule: Rule::NoneNamed,
         profile: ArrayVec::new(),
         block: Vec::new(alloc),
         time: 0,
         bound: 0,
         order: ArrayVec::new(),
         tree: Tree::new(alloc),
+    }
+}
+
+/// Whether dominated leaves name nodes by this rule.
+fn names_nodes(rule: Rule) -> bool
+    ensures { result ≡ names_nodes rule }
+{
+    match rule {
+        Rule::NoneNamed => false,
+        Rule::WrittenEarlier | Rule::ClampedStanding => true,
+    }
+}
+
+/// Whether the line may come by this rule.
+fn is_allowed(rule: Rule, line: TreeLine<'_>) -> bool
+    ensures { result ≡ is_allowed rule (knot_of line.entry) }
+{
+    match line {
+        TreeLine::Dominated(_) => names_nodes(rule),
+        _ => true,
     }
 }
 
@@ -109,6 +132,7 @@ impl Reader {
     }
 
     /// Reads a line of the tree where one comes.
+    #[tactic(auto, using(crate::proofs::Places::refused_knot))]
     fn take_knot(&mut self, knot: TreeLine<'_>) -> Result<(), CertError>
         requires lines { self.old.lines < 2 ^ 64 - 1 }
         requires some { 1 ≤ self.old.left }
@@ -116,6 +140,9 @@ impl Reader {
         requires numbers { IsKnot BLOCK_LIMIT (knot_of knot) }
         ensures { Steps (state self.new) result (step_at SPLIT_LIMIT (state self.old) AtTree (OfTree (knot_of knot.entry))) }
     {
+        if !is_allowed(self.claim.rule, knot) {
+            return Err(self.bad_line());
+        }
         let mut left = self.left - 1;
         let mut splits = self.splits;
         if let TreeLine::Split(numbers) = knot {
@@ -135,9 +162,17 @@ impl Reader {
         Ok(())
     }
 
+    /// Whether the rule names nodes and no leaf is dominated.
+    fn wants_dominated(&self) -> bool
+        ensures { result ≡ wants_dominated self.now.claim }
+    {
+        names_nodes(self.claim.rule) && !self.claim.tree.has_dominated()
+    }
+
     /// Reads the last line where it comes.
     fn take_end(&mut self, alloc: Global) -> Result<(), CertError>
         requires lines { self.old.lines < 2 ^ 64 - 1 }
+        requires named { wants_dominated self.old.claim ≡ false }
         requires whole { AreWhole self.old.claim }
         ensures { Steps (state self.new) result (step_at SPLIT_LIMIT (state self.old) AtEnd End) }
     {
@@ -148,13 +183,14 @@ impl Reader {
     }
 
     #[tactic(auto, using(crate::proofs::Places::other_header))]
-    fn header(&mut self, alloc: Global) -> Result<(), CertError>
+    fn header(&mut self, alloc: Global, rule: Rule) -> Result<(), CertError>
         requires lines { self.old.lines < 2 ^ 64 - 1 }
-        ensures { Steps (state self.new) result (step_at SPLIT_LIMIT (state self.old) self.old.place Header) }
+        ensures { Steps (state self.new) result (step_at SPLIT_LIMIT (state self.old) self.old.place (Header rule)) }
     {
         match self.place {
             Place::AtHeader => {
                 self.claim = nothing(alloc);
+                self.claim.rule = rule;
                 self.go_on(Place::AtProfile, 0, 0);
                 Ok(())
             }
@@ -263,14 +299,19 @@ impl Reader {
         }
     }
 
-    #[tactic(auto, using(crate::proofs::Places::other_end, crate::proofs::Places::whole_end))]
+    #[tactic(auto, using(crate::proofs::Places::other_end, crate::proofs::Places::wanting_end))]
     fn end(&mut self, alloc: Global) -> Result<(), CertError>
         requires lines { self.old.lines < 2 ^ 64 - 1 }
         requires fine { IsFine SPLIT_LIMIT (state self.old) }
         ensures { Steps (state self.new) result (step_at SPLIT_LIMIT (state self.old) self.old.place End) }
     {
         match self.place {
-            Place::AtEnd => self.take_end(alloc),
+            Place::AtEnd => {
+                if self.wants_dominated() {
+                    return Err(self.bad_line());
+                }
+                self.take_end(alloc)
+            }
             _ => Err(self.bad_line()),
         }
     }
@@ -283,7 +324,7 @@ impl Reader {
         ensures { Steps (state self.new) result (step_at SPLIT_LIMIT (state self.old) self.old.place (said line.entry)) }
     {
         match line {
-            LineOf::Header => self.header(alloc),
+            LineOf::Header(rule) => self.header(alloc, rule),
             LineOf::Profile(numbers) => self.profile(numbers),
             LineOf::Block(count) => self.block(alloc, count),
             LineOf::Instruction(text) => self.instruction(alloc, &text),
@@ -293,6 +334,7 @@ impl Reader {
             LineOf::Split(numbers) => self.knot(TreeLine::Split(numbers.as_slice())),
             LineOf::Whole => self.knot(TreeLine::Whole),
             LineOf::Chain(numbers) => self.knot(TreeLine::Chain(numbers.as_slice())),
+            LineOf::Dominated(numbers) => self.knot(TreeLine::Dominated(numbers.as_slice())),
             LineOf::Load(kind) => self.knot(TreeLine::Load(kind)),
             LineOf::Parcels => self.knot(TreeLine::Parcels),
             LineOf::End => self.end(alloc),

@@ -4,14 +4,16 @@ ghost use Rattle.std.specs.Prelude.{[], ◌∷◌, ◌++◌, ◌-◌, ◌≡◌,
 ghost use Rattle.s66_isa.specs.Lists.{rising};
 ghost use Rattle.s66_isa.specs.declared.instr.Kind.TheVariants.{Multiply};
 ghost use Rattle.s66_isa.specs.declared.limits.TheConstants.{BLOCK_LIMIT};
+ghost use Rattle.s66_model.specs.declared.rule.Rule.TheVariants.{WrittenEarlier, ClampedStanding};
 ghost use Rattle.s66_model.specs.Leaves.{Chain, Load};
 ghost use Rattle.s66_model.specs.Tree.{Alone, Parted};
+ghost use Rattle.s66_model.specs.DominatedLeaves.{Bounding, Dominated};
 ghost use Rattle.s66_cert.specs.declared.error.CertError.TheVariants.{BadLine, Truncated, TooManyNodes};
 ghost use Rattle.s66_cert.specs.declared.limits.TheConstants.{SPLIT_LIMIT};
 ghost use Rattle.s66_cert.specs.Reading.{read_of, read_within};
-ghost use Rattle.s66_cert.specs.Altered.{replaced, with_line, with_split_of, are_truncated};
+ghost use Rattle.s66_cert.specs.Altered.{replaced, with_line, with_late_line, with_split_of, are_truncated};
 ghost use Rattle.s66_cert.specs.Examples as examples;
-ghost use Rattle.s66_cert.specs.Examples.{three_multiplies, three_multiplies_text, one_load, one_load_text};
+ghost use Rattle.s66_cert.specs.Examples.{three_multiplies, three_multiplies_text, one_load, one_load_text, late_reader, late_reader_text};
 
 /// Texts that are read as documents.
 #[tactic(auto, unfolding(crate::specs::Examples::digits))]
@@ -23,9 +25,13 @@ pub fn reading_examples()
     ensures extremes_are_read { read_of examples.extremes_text ≡ Ok (examples.extremes ∷ []) }
     ensures other_profile { read_of (with_line 2 (codes "PROFILE 4 3 4 4 3 10 29 8 3 8 1 1 1 1 2 1 2")) ≡ Ok (record three_multiplies { profile = 4 ∷ 3 ∷ 4 ∷ 4 ∷ 3 ∷ 10 ∷ 29 ∷ 8 ∷ 3 ∷ 8 ∷ 1 ∷ 1 ∷ 1 ∷ 1 ∷ 2 ∷ 1 ∷ 2 ∷ [] } ∷ []) }
     ensures order_of_two { read_of (with_line 9 (codes "ORDER 1 2")) ≡ Ok (record three_multiplies { numbers = 1 ∷ 2 ∷ [] } ∷ []) }
-    ensures load_alone { read_of (replaced 10 16 (codes "U MULTIPLY" ∷ []) three_multiplies_text) ≡ Ok (record three_multiplies { tree = Alone (Load Multiply) } ∷ []) }
-    ensures chain_alone { read_of (replaced 10 16 (codes "C 3" ∷ []) three_multiplies_text) ≡ Ok (record three_multiplies { tree = Alone (Chain (3 ∷ [])) } ∷ []) }
+    ensures load_alone { read_of (replaced 10 16 (codes "U MULTIPLY" ∷ []) three_multiplies_text) ≡ Ok (record three_multiplies { tree = Alone (Bounding (Load Multiply)) } ∷ []) }
+    ensures chain_alone { read_of (replaced 10 16 (codes "C 3" ∷ []) three_multiplies_text) ≡ Ok (record three_multiplies { tree = Alone (Bounding (Chain (3 ∷ []))) } ∷ []) }
     ensures split_of_128 { read_of (with_split_of 128 128) ≡ Ok (record three_multiplies { tree = Parted (replicate 128 1) (examples.wholes 128) } ∷ []) }
+    ensures version_2 { read_of (late_reader_text (codes "S66 CERTIFICATE 2")) ≡ Ok (late_reader WrittenEarlier ∷ []) }
+    ensures version_3 { read_of (late_reader_text (codes "S66 CERTIFICATE 3")) ≡ Ok (late_reader ClampedStanding ∷ []) }
+    ensures dominated_alone { read_of (replaced 11 13 (codes "D 4 4 128" ∷ []) (late_reader_text (codes "S66 CERTIFICATE 2"))) ≡ Ok (record (late_reader WrittenEarlier) { tree = Alone (Dominated (4 ∷ 4 ∷ 128 ∷ [])) } ∷ []) }
+    ensures two_versions { read_of (late_reader_text (codes "S66 CERTIFICATE 3") ++ one_load_text) ≡ Ok (late_reader ClampedStanding ∷ one_load ∷ []) }
     ensures ten_splits { read_within BLOCK_LIMIT 10 three_multiplies_text ≡ Ok (three_multiplies ∷ []) }
     ensures splits_are_counted_anew { read_within BLOCK_LIMIT 10 (three_multiplies_text ++ three_multiplies_text) ≡ Ok (three_multiplies ∷ three_multiplies ∷ []) }
     ensures order_with_128 { read_of (with_line 9 (codes "ORDER 128")) ≡ Ok (record three_multiplies { numbers = 128 ∷ [] } ∷ []) }
@@ -42,7 +48,22 @@ pub fn fault_examples()
     ensures unfinished_line_after_the_end { read_of (three_multiplies_text ++ codes "T") ≡ Err Truncated }
     ensures bad_bound { read_of (replaced 8 1 (codes "BOUND 012" ∷ []) one_load_text) ≡ Err (BadLine 8) }
     ensures bad_bound_in_the_second { read_of (three_multiplies_text ++ replaced 8 1 (codes "BOUND 012" ∷ []) one_load_text) ≡ Err (BadLine 34) }
-    ensures version_2 { read_of (with_line 1 (codes "S66 CERTIFICATE 2")) ≡ Err (BadLine 1) }
+    ensures version_0 { read_of (with_line 1 (codes "S66 CERTIFICATE 0")) ≡ Err (BadLine 1) }
+    ensures version_4 { read_of (with_line 1 (codes "S66 CERTIFICATE 4")) ≡ Err (BadLine 1) }
+    ensures version_of_two_digits { read_of (with_line 1 (codes "S66 CERTIFICATE 02")) ≡ Err (BadLine 1) }
+    ensures blank_after_version { read_of (with_line 1 (codes "S66 CERTIFICATE 2 ")) ≡ Err (BadLine 1) }
+    ensures none_dominated_in_version_2 { read_of (with_line 1 (codes "S66 CERTIFICATE 2")) ≡ Err (BadLine 26) }
+    ensures none_dominated_in_version_3 { read_of (with_line 1 (codes "S66 CERTIFICATE 3")) ≡ Err (BadLine 26) }
+    ensures none_dominated_and_no_last_line { read_of (take (length three_multiplies_text - 4) (with_line 1 (codes "S66 CERTIFICATE 2"))) ≡ Err Truncated }
+    ensures dominated_in_version_1 { read_of (late_reader_text (codes "S66 CERTIFICATE 1")) ≡ Err (BadLine 18) }
+    ensures dominated_in_version_1_behind_version_2 { read_of (late_reader_text (codes "S66 CERTIFICATE 2") ++ late_reader_text (codes "S66 CERTIFICATE 1")) ≡ Err (BadLine 42) }
+    ensures dominated_by_no_numbers { read_of (with_late_line 18 (codes "D")) ≡ Err (BadLine 18) }
+    ensures dominated_by_0 { read_of (with_late_line 18 (codes "D 0")) ≡ Err (BadLine 18) }
+    ensures dominated_by_129 { read_of (with_late_line 18 (codes "D 1 129")) ≡ Err (BadLine 18) }
+    ensures dominated_by_65_at_64 { read_within 64 SPLIT_LIMIT (with_late_line 18 (codes "D 1 65")) ≡ Err (BadLine 18) }
+    ensures blank_after_a_name { read_of (with_late_line 18 (codes "D 1 2 3 ")) ≡ Err (BadLine 18) }
+    ensures tree_below_a_dominated_leaf { read_of (replaced 18 1 (codes "D 1 2 3" ∷ codes "T" ∷ []) (late_reader_text (codes "S66 CERTIFICATE 2"))) ≡ Err (BadLine 24) }
+    ensures dominated_after_the_tree { read_of (with_late_line 24 (codes "D 1")) ≡ Err (BadLine 24) }
     ensures profile_of_16 { read_of (with_line 2 (codes "PROFILE 3 3 4 4 3 10 29 8 3 8 1 1 1 1 2 1")) ≡ Err (BadLine 2) }
     ensures profile_of_18 { read_of (with_line 2 (codes "PROFILE 3 3 4 4 3 10 29 8 3 8 1 1 1 1 2 1 2 2")) ≡ Err (BadLine 2) }
     ensures profile_with_0 { read_of (with_line 2 (codes "PROFILE 0 3 4 4 3 10 29 8 3 8 1 1 1 1 2 1 2")) ≡ Err (BadLine 2) }

@@ -3,6 +3,7 @@
 ghost use Rattle.std.specs.Prelude.{ℕ, List, [], ◌∷◌, ◌++◌, ◌≡◌, codes};
 ghost use Rattle.s66_isa.specs.Table.{entries, standard};
 ghost use Rattle.s66_isa.specs.declared.limits.TheConstants.{BLOCK_LIMIT};
+ghost use Rattle.s66_model.specs.declared.rule.Rule.TheVariants.{WrittenEarlier, ClampedStanding};
 ghost use Rattle.s66_model.specs.Tree.{flat};
 ghost use Rattle.s66_model.specs.Examples.{uneven_profile};
 ghost use Rattle.s66_cert.specs.Document.{Document, IsText, document_text, tree_lines};
@@ -23,13 +24,17 @@ pub fn text_examples()
     ensures zero_register_is_read { IsText BLOCK_LIMIT examples.zero_register_text (examples.zero_register ∷ []) }
     ensures extremes_text { document_text examples.extremes ≡ examples.extremes_text }
     ensures extremes_is_read { IsText BLOCK_LIMIT examples.extremes_text (examples.extremes ∷ []) }
+    ensures late_reader_text { document_text (examples.late_reader WrittenEarlier) ≡ examples.late_reader_text (codes "S66 CERTIFICATE 2") }
+    ensures late_reader_is_read { IsText BLOCK_LIMIT (examples.late_reader_text (codes "S66 CERTIFICATE 2")) (examples.late_reader WrittenEarlier ∷ []) }
+    ensures standing_nodes_text { document_text (examples.late_reader ClampedStanding) ≡ examples.late_reader_text (codes "S66 CERTIFICATE 3") }
+    ensures standing_nodes_are_read { IsText BLOCK_LIMIT (examples.late_reader_text (codes "S66 CERTIFICATE 3")) (examples.late_reader ClampedStanding ∷ []) }
     ensures each_unit_load { tree_lines (flat examples.unit_loads) ≡ examples.unit_loads_lines }
     ensures standard_profile { entries standard ≡ examples.standard_numbers }
     ensures uneven_profile { entries uneven_profile ≡ 11 ∷ 12 ∷ 13 ∷ 14 ∷ 15 ∷ 16 ∷ 17 ∷ 18 ∷ 20 ∷ 19 ∷ 1 ∷ 2 ∷ 3 ∷ 4 ∷ 5 ∷ 6 ∷ 7 ∷ [] }
     ensures two_documents { IsText BLOCK_LIMIT (examples.three_multiplies_text ++ examples.one_load_text) (examples.three_multiplies ∷ examples.one_load ∷ []) }
     ensures no_document { IsText BLOCK_LIMIT [] [] }
     ensures nothing_is_read_of_no_text { (limit : ℕ) (ds : List Document) → IsText limit [] ds → ds ≡ [] }
-    ensures other_version { (limit : ℕ) (more : List ℕ) (ds : List Document) → ¬ IsText limit (codes "S66 CERTIFICATE 2\n" ++ more) ds }
+    ensures other_version { (limit : ℕ) (more : List ℕ) (ds : List Document) → ¬ IsText limit (codes "S66 CERTIFICATE 4\n" ++ more) ds }
     ensures unfinished_line { (limit : ℕ) (text : List ℕ) (ds : List Document) → ¬ IsText limit (text ++ codes "END") ds }
     ensures text_goes_on { ¬ IsText BLOCK_LIMIT (examples.one_load_text ++ codes "\n") (examples.one_load ∷ []) }
     ensures no_document_alone { ¬ IsText BLOCK_LIMIT (document_text (examples.with_order (129 ∷ []))) (examples.with_order (129 ∷ []) ∷ []) }

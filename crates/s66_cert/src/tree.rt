@@ -15,6 +15,8 @@ pub enum TreeLine<'a> {
     Load(Kind),
     /// The parcels that remain.
     Parcels,
+    /// The node of this name dominates the prefix.
+    Dominated(&'a [u8]),
 }
 
 /// What a line of a tree says but its numbers, of which it has so many.
@@ -25,6 +27,7 @@ pub(crate) enum Mark {
     Chain(u8),
     Load(Kind),
     Parcels,
+    Dominated(u8),
 }
 
 impl Mark {
@@ -37,7 +40,7 @@ impl Mark {
         ensures { result ≡ number_count self }
     {
         match self {
-            Mark::Split(count) | Mark::Chain(count) => count as usize,
+            Mark::Split(count) | Mark::Chain(count) | Mark::Dominated(count) => count as usize,
             Mark::Whole | Mark::Load(_) | Mark::Parcels => 0,
         }
     }
@@ -53,6 +56,7 @@ impl Mark {
             Mark::Chain(_) => TreeLine::Chain(numbers),
             Mark::Load(kind) => TreeLine::Load(kind),
             Mark::Parcels => TreeLine::Parcels,
+            Mark::Dominated(_) => TreeLine::Dominated(numbers),
         }
     }
 }
@@ -66,11 +70,11 @@ pub struct Tree {
 
 impl Model for Tree {
     ghost use Rattle.std.specs.Prelude.{List};
-    ghost use Rattle.s66_model.specs.Leaves.{Leaf};
     ghost use Rattle.s66_model.specs.Tree.{Knot};
+    ghost use Rattle.s66_model.specs.DominatedLeaves.{Ending};
     ghost use Rattle.s66_cert.specs.Marks.{knots_of, AreCounted};
 
-    ghost Value = { List (Knot Leaf) };
+    ghost Value = { List (Knot Ending) };
 
     ghost view = { λ t. knots_of t.marks.items t.numbers.items };
 
@@ -80,6 +84,7 @@ impl Model for Tree {
 impl Tree {
     ghost use Rattle.std.specs.Prelude.{◌≡◌, ◌++◌, [], ◌∷◌, length, OnOk, OnErr};
     ghost use Rattle.s66_cert.specs.Marks.{number_count, marked};
+    ghost use Rattle.s66_cert.specs.Document.{has_dominated_line};
     ghost use Rattle.s66_cert.specs.DocumentParts.{knot_of, IsShort};
 
     /// No lines.
@@ -116,7 +121,22 @@ impl Tree {
             TreeLine::Chain(numbers) => self.append(Mark::Chain(numbers.len() as u8), numbers),
             TreeLine::Load(kind) => self.append(Mark::Load(kind), &[]),
             TreeLine::Parcels => self.append(Mark::Parcels, &[]),
+            TreeLine::Dominated(numbers) => {
+                self.append(Mark::Dominated(numbers.len() as u8), numbers)
+            }
         }
+    }
+
+    /// Whether a leaf is dominated, in time linear in the lines.
+    pub fn has_dominated(&self) -> bool
+        ensures { result ≡ has_dominated_line self.now }
+    {
+        for mark in &self.marks {
+            if let Mark::Dominated(_) = mark {
+                return true;
+            }
+        }
+        false
     }
 
     /// The lines, from the first on.
@@ -139,11 +159,11 @@ pub struct TreeLines<'a> {
 
 impl<'a> Model for TreeLines<'a> {
     ghost use Rattle.std.specs.Prelude.{List};
-    ghost use Rattle.s66_model.specs.Leaves.{Leaf};
     ghost use Rattle.s66_model.specs.Tree.{Knot};
+    ghost use Rattle.s66_model.specs.DominatedLeaves.{Ending};
     ghost use Rattle.s66_cert.specs.Marks.{knots_of, AreCounted};
 
-    ghost Value = { List (Knot Leaf) };
+    ghost Value = { List (Knot Ending) };
 
     ghost view = { λ t. knots_of t.marks.now t.numbers.now };
 

@@ -41,5 +41,14 @@ returns-clause-block_of_128 c = search (rules, instruction)
 pub returns-clause-text_of_199 : goal.returns-clause-text_of_199
 returns-clause-text_of_199 c = search (rules, instruction)
 
+pub returns-clause-dominated_by_earlier_nodes : goal.returns-clause-dominated_by_earlier_nodes
+returns-clause-dominated_by_earlier_nodes c = search (rules, instruction)
+
+pub returns-clause-dominated_by_standing_nodes : goal.returns-clause-dominated_by_standing_nodes
+returns-clause-dominated_by_standing_nodes c = search (rules, instruction)
+
+pub returns-clause-name_of_128 : goal.returns-clause-name_of_128
+returns-clause-name_of_128 c = search (rules, instruction)
+
 pub returns-clause-order_at_64 : goal.returns-clause-order_at_64
 returns-clause-order_at_64 c = search (rules, instruction)

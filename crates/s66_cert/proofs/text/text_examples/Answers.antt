@@ -28,6 +28,14 @@ pub returns-clause-extremes_is_read : goal.returns-clause-extremes_is_read
 unfolding digits
 returns-clause-extremes_is_read c = search (rules, instruction)
 
+pub returns-clause-late_reader_is_read : goal.returns-clause-late_reader_is_read
+unfolding digits
+returns-clause-late_reader_is_read c = search (rules, instruction)
+
+pub returns-clause-standing_nodes_are_read : goal.returns-clause-standing_nodes_are_read
+unfolding digits
+returns-clause-standing_nodes_are_read c = search (rules, instruction)
+
 pub returns-clause-two_documents : goal.returns-clause-two_documents
 unfolding digits
 returns-clause-two_documents c = search (rules, instruction)
