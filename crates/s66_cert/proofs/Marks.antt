@@ -2,7 +2,9 @@
 use Rattle.std.proofs.Common.{◌≡◌, ℕ, zero, suc, ◌≤◌, List, [], ◌∷◌, ◌++◌, length, take, drop, refl, ap, arith, length-append}
 use Rattle.std.proofs.lemmas.List.{take-append-le, drop-append-le, length-drop}
 use Rattle.s66_isa.proofs.Lists.{weigh-append}
-use Rattle.s66_cert.specs.Marks.{number_count, marked, knots_of, AreCounted}
+use Rattle.s66_isa.specs.Lists.{some_of}
+use Rattle.s66_cert.specs.Document.{has_dominated_line}
+use Rattle.s66_cert.specs.Marks.{number_count, is_dominated, marked, knots_of, AreCounted}
 use Rattle.s66_cert.specs.declared.tree.Mark.{Mark}
 use Rattle.s66_cert.specs.declared.tree.Mark.TheVariants as mark
 
@@ -14,6 +16,16 @@ marked-more (mark.Chain count) numbers more h = rw (take-append-le count numbers
 marked-more (mark.Load kind) numbers more h = refl
 marked-more mark.Parcels numbers more h = refl
 marked-more (mark.Dominated count) numbers more h = rw (take-append-le count numbers more h) refl
+
+-- a leaf is dominated where a mark is
+pub dominated_marks : (ms : List Mark) (numbers : List ℕ) → has_dominated_line (knots_of ms numbers) ≡ some_of is_dominated ms
+dominated_marks [] numbers = refl
+dominated_marks (mark.Split count ∷ ms) numbers = dominated_marks ms (drop count numbers)
+dominated_marks (mark.Whole ∷ ms) numbers = dominated_marks ms (drop 0 numbers)
+dominated_marks (mark.Chain count ∷ ms) numbers = dominated_marks ms (drop count numbers)
+dominated_marks (mark.Load kind ∷ ms) numbers = dominated_marks ms (drop 0 numbers)
+dominated_marks (mark.Parcels ∷ ms) numbers = dominated_marks ms (drop 0 numbers)
+dominated_marks (mark.Dominated count ∷ ms) numbers = refl
 
 take-take : (n : ℕ) (xs : List ℕ) → take n (take n xs) ≡ take n xs
 take-take zero xs = refl

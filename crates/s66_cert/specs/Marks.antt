@@ -1,5 +1,5 @@
 -- Used by contracts: the lines of a tree that its marks and its numbers keep.
-use Rattle.std.specs.Prelude.{◌≡◌, ℕ, List, [], ◌∷◌, length, take, drop}
+use Rattle.std.specs.Prelude.{◌≡◌, ℕ, Bool, true, false, List, [], ◌∷◌, length, take, drop}
 use Rattle.s66_isa.specs.Lists.{weigh}
 use Rattle.s66_model.specs.Leaves.{Whole, Chain, Load, Parcels}
 use Rattle.s66_model.specs.Tree.{Knot, AtTip, AtSplit}
@@ -15,6 +15,14 @@ number_count (mark.Chain count) = count
 number_count (mark.Load kind) = 0
 number_count mark.Parcels = 0
 number_count (mark.Dominated count) = count
+
+abbrev pub is_dominated : Mark → Bool
+is_dominated (mark.Split count) = false
+is_dominated mark.Whole = false
+is_dominated (mark.Chain count) = false
+is_dominated (mark.Load kind) = false
+is_dominated mark.Parcels = false
+is_dominated (mark.Dominated count) = true
 
 -- with its numbers, the first of these
 abbrev pub marked : Mark → List ℕ → Knot Ending

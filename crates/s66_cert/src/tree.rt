@@ -1,3 +1,7 @@
+ghost use Rattle.std.specs.Prelude.{◌≡◌};
+ghost use Rattle.s66_isa.specs.Lists.{some_of};
+ghost use Rattle.s66_cert.specs.Marks.{is_dominated};
+
 use s66_isa::Kind;
 use std::alloc::{AllocError, Global};
 use std::marker::Model;
@@ -33,7 +37,7 @@ pub(crate) enum Mark {
 impl Mark {
     ghost use Rattle.std.specs.Prelude.{◌≡◌, length};
     ghost use Rattle.s66_cert.specs.DocumentParts.{knot_of};
-    ghost use Rattle.s66_cert.specs.Marks.{number_count, marked};
+    ghost use Rattle.s66_cert.specs.Marks.{number_count, is_dominated, marked};
 
     /// How many numbers its line has.
     fn number_count(self) -> usize
@@ -43,6 +47,12 @@ impl Mark {
             Mark::Split(count) | Mark::Chain(count) | Mark::Dominated(count) => count as usize,
             Mark::Whole | Mark::Load(_) | Mark::Parcels => 0,
         }
+    }
+
+    fn is_dominated(self) -> bool
+        ensures { result ≡ is_dominated self }
+    {
+        matches!(self, Mark::Dominated(_))
     }
 
     /// Its line with these numbers.
@@ -59,6 +69,18 @@ impl Mark {
             Mark::Dominated(_) => TreeLine::Dominated(numbers),
         }
     }
+}
+
+/// Whether one of these is of a dominated leaf.
+fn some_dominated(marks: &[Mark]) -> bool
+    ensures { result ≡ some_of is_dominated marks.now }
+{
+    for mark in marks {
+        if mark.is_dominated() {
+            return true;
+        }
+    }
+    false
 }
 
 /// The lines of a tree in preorder, in two bytes a line and one a number.
@@ -128,15 +150,11 @@ impl Tree {
     }
 
     /// Whether a leaf is dominated, in time linear in the lines.
+    #[tactic(auto, using(crate::proofs::Marks::dominated_marks))]
     pub fn has_dominated(&self) -> bool
         ensures { result ≡ has_dominated_line self.now }
     {
-        for mark in &self.marks {
-            if let Mark::Dominated(_) = mark {
-                return true;
-            }
-        }
-        false
+        some_dominated(self.marks.as_slice())
     }
 
     /// The lines, from the first on.

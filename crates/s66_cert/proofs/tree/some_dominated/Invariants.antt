@@ -1,0 +1,10 @@
+use Rattle.std.proofs.Common.{◌≡◌, drop}
+use Rattle.s66_isa.specs.Lists.{some_of}
+use Rattle.s66_cert.specs.Marks.{is_dominated}
+use Rattle.s66_cert.proofs.tree.some_dominated.Given as goal
+
+-- none so far
+abbrev pub invariant-loop-mark : goal.invariant-loop-mark
+invariant-loop-mark l = record {
+  rest : some_of is_dominated (drop l.mark-index l.marks) ≡ some_of is_dominated l.marks;
+}
