@@ -7,7 +7,8 @@ use Rattle.s66_line.proofs.OperationLaw.{among-at}
 use Rattle.s66_model.specs.Timing.{Problem}
 use Rattle.s66_model.specs.LegalOrder.{is_ready, ready, IsBeginning, IsIncomplete}
 use Rattle.s66_model.specs.Leaves.{Leaf, floor}
-use Rattle.s66_model.specs.Tree.{AtTip, AtSplit, flat}
+use Rattle.s66_model.specs.Tree.{Tree, Alone, Parted, Kids, NoMore, Unsplit, Split, Knot, AtTip, AtSplit, flat, flat_kids}
+use Rattle.s66_model.specs.DominatedLeaves.{Bounding, kids_bounding, tree_bounding}
 use Rattle.s66_model.specs.Later.{children, later}
 use Rattle.s66_model.proofs.TreeLines.{lines-unsplit, lines-split, lines-tree, lines-both}
 use Rattle.s66_model.specs.Ledger as model
@@ -21,7 +22,7 @@ use Rattle.s66_node.proofs.Growing.{front-push}
 use Rattle.s66_ledger.specs.declared.node.Node.{Node}
 use Rattle.s66_ledger.specs.declared.node.State.{State}
 use Rattle.s66_ledger.specs.declared.node.State.TheVariants as state
-use Rattle.s66_ledger.specs.AnswerLines.{AreOneTree, StandsAt, lines_from}
+use Rattle.s66_ledger.specs.AnswerLines.{AreOneTree, StandsAt, lines_from, knots_bounding}
 use Rattle.s66_ledger.specs.LedgerMachine.{state_of}
 use Rattle.s66_ledger.specs.Links.{parent_of, IsChild, HasChild}
 use Rattle.s66_ledger.specs.Nodes.{node_at, no_node, nodes_of, prefixes, seen_state}
@@ -196,6 +197,23 @@ module _ (b : Problem) (xs : List Node) (tree : AreOneTree b xs) (i : ℕ) (at :
   leaf-line leaf other is next =
       ap (λ knots. knots ++ lines_from b xs (later b.block [] at)) (lines-unsplit b.block cut_there (floor b) at (unsplit-here b xs tree i at stands other))
       ∙ (ap (λ l. AtTip l ∷ lines_from b xs (later b.block [] at)) (sym is) ∙ ap (λ ats. AtTip leaf ∷ lines_from b xs ats) (sym next))
+
+-- LINES OF LEAVES, none of them dominated
+
+both-bounding : (knots more : List (Knot Leaf)) → knots_bounding (knots ++ more) ≡ knots_bounding knots ++ knots_bounding more
+both-bounding [] more = refl
+both-bounding (AtTip leaf ∷ knots) more = ap (λ x. AtTip (Bounding leaf) ∷ x) (both-bounding knots more)
+both-bounding (AtSplit numbers ∷ knots) more = ap (λ x. AtSplit numbers ∷ x) (both-bounding knots more)
+
+kids-flat : (kids : Kids Leaf) → knots_bounding (flat_kids kids) ≡ flat_kids (kids_bounding kids)
+kids-flat NoMore = refl
+kids-flat (Unsplit leaf kids) = ap (λ x. AtTip (Bounding leaf) ∷ x) (kids-flat kids)
+kids-flat (Split numbers sub kids) =
+    ap (λ x. AtSplit numbers ∷ x) (both-bounding (flat_kids sub) (flat_kids kids) ∙ ap (λ x. x ++ knots_bounding (flat_kids kids)) (kids-flat sub) ∙ ap (λ x. flat_kids (kids_bounding sub) ++ x) (kids-flat kids))
+
+pub flat-bounding : (tree : Tree Leaf) → knots_bounding (flat tree) ≡ flat (tree_bounding tree)
+flat-bounding (Alone leaf) = refl
+flat-bounding (Parted numbers kids) = ap (λ x. AtSplit numbers ∷ x) (kids-flat kids)
 
 -- where it is appended, these follow
 pub line-appended : {K : Type 0} (old new : List K) (k : K) (all rest : List K) → new ≡ old ++ k ∷ [] → all ≡ k ∷ rest → new ++ rest ≡ old ++ all

@@ -5,7 +5,8 @@ use Rattle.s66_isa.specs.Lists.{Among}
 use Rattle.s66_model.specs.Timing.{Problem}
 use Rattle.s66_model.specs.LegalOrder.{IsBeginning}
 use Rattle.s66_model.specs.Leaves.{Leaf, floor}
-use Rattle.s66_model.specs.Tree.{Knot}
+use Rattle.s66_model.specs.Tree.{Knot, AtTip, AtSplit}
+use Rattle.s66_model.specs.DominatedLeaves.{Ending, Bounding}
 use Rattle.s66_model.specs.Ledger as model
 use Rattle.s66_model.specs.Later.{later}
 use Rattle.s66_model.specs.NodeTable.{IsTable}
@@ -24,9 +25,15 @@ abbrev pub to_come : List Instr → Bool → List ℕ → List (List ℕ)
 to_come block true prefix = prefix ∷ later block [] prefix
 to_come block false prefix = []
 
+-- the lines of leaves, as those of leaves of which none is dominated
+abbrev pub knots_bounding : List (Knot Leaf) → List (Knot Ending)
+knots_bounding [] = []
+knots_bounding (AtTip leaf ∷ knots) = AtTip (Bounding leaf) ∷ knots_bounding knots
+knots_bounding (AtSplit numbers ∷ knots) = AtSplit numbers ∷ knots_bounding knots
+
 -- their lines
-abbrev pub lines_left : Problem → List Node → Bool → List ℕ → List (Knot Leaf)
-lines_left b nodes more prefix = lines_from b nodes (to_come b.block more prefix)
+abbrev pub lines_left : Problem → List Node → Bool → List ℕ → List (Knot Ending)
+lines_left b nodes more prefix = knots_bounding (lines_from b nodes (to_come b.block more prefix))
 
 -- THE NODES
 

@@ -34,6 +34,7 @@ impl Answer {
     ghost use Rattle.std.specs.Prelude.{◌≡◌, ◌≤◌, ◌↔◌, IsTrue, IfOk};
     ghost use Rattle.s66_line.specs.Block.{instrs_of};
     ghost use Rattle.s66_model.specs.Tree.{flat};
+    ghost use Rattle.s66_model.specs.DominatedLeaves.{tree_bounding};
     ghost use Rattle.s66_model.specs.Answer.{IsAnswer, IsBestAnswer};
     ghost use Rattle.s66_model.specs.BestAndBound.{IsBound};
     ghost use Rattle.s66_ledger.specs.Answers.{answer_of};
@@ -83,7 +84,7 @@ impl Answer {
     /// node beside the tree. `Err` is out of memory.
     pub fn tree(&self, alloc: Global, block: &Block) -> Result<Tree, AllocError>
         requires { instrs_of block.now ≡ self.now.problem.block }
-        ensures { IfOk result (λ tree. tree ≡ flat (answer_of self.now).tree) }
+        ensures { IfOk result (λ tree. tree ≡ flat (tree_bounding (answer_of self.now).tree)) }
     {
         let nodes = self.nodes.as_slice();
         let links = Links::of(alloc, nodes)?;

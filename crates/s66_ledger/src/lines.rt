@@ -5,6 +5,7 @@ ghost use Rattle.s66_model.specs.Later.{children, later};
 ghost use Rattle.s66_model.specs.LegalOrder.{is_ready, ready};
 ghost use Rattle.s66_model.specs.NodeTree.{is_split_at};
 ghost use Rattle.s66_model.specs.Tree.{AtTip};
+ghost use Rattle.s66_model.specs.DominatedLeaves.{Bounding};
 ghost use Rattle.s66_ledger.specs.AnswerLines.{AreOneTree, StandsAt, lines_left, to_come};
 ghost use Rattle.s66_ledger.specs.Links.{AreLinks};
 ghost use Rattle.s66_ledger.specs.Nodes.{nodes_of, HaveFloors};
@@ -20,7 +21,7 @@ use std::alloc::AllocError;
 
 /// Appends the line of a leaf, which doesn't tell its value.
 fn push_leaf(tree: &mut Tree, leaf: &Leaf) -> Result<(), AllocError>
-    ensures { OnOk result (tree.new ≡ tree.old ++ AtTip (leaf_of leaf.now) ∷ []) }
+    ensures { OnOk result (tree.new ≡ tree.old ++ AtTip (Bounding (leaf_of leaf.now)) ∷ []) }
 {
     match leaf {
         Leaf::Whole { .. } => tree.push(TreeLine::Whole),

@@ -1,6 +1,8 @@
 use Rattle.std.proofs.Common.{◌≡◌, ◌++◌, ◌∷◌, [], ℕ, List, ap, ◌∙◌}
-use Rattle.s66_model.specs.Leaves.{Leaf, floor_value}
+use Rattle.s66_model.specs.Leaves.{floor_value}
 use Rattle.s66_model.specs.Tree.{Knot, AtSplit}
+use Rattle.s66_model.specs.DominatedLeaves.{Ending}
+use Rattle.s66_ledger.specs.AnswerLines.{knots_bounding}
 use Rattle.s66_ledger.specs.declared.node.Node.{Node}
 use Rattle.s66_ledger.specs.Nodes.{no_node}
 use Rattle.s66_ledger.proofs.AnswerLines.{split-here, split-line, leaf-line, line-appended, one-longer}
@@ -13,7 +15,7 @@ go_below-requires-clause-split c =
     let stands = c.requires.stands in
     split-here w.problem c.args.nodes.now c.requires.tree c.args.node.now w.numbers stands (get_or-any c.args.nodes.now c.args.node.now no_node _ (λ (x : Node). x.state) stands.within ∙ c.in-Split.is)
 
-split-pushed : (old new : List (Knot Leaf)) (said ns : List ℕ) → new ≡ old ++ AtSplit said ∷ [] → said ≡ ns → new ≡ old ++ AtSplit ns ∷ []
+split-pushed : (old new : List (Knot Ending)) (said ns : List ℕ) → new ≡ old ++ AtSplit said ∷ [] → said ≡ ns → new ≡ old ++ AtSplit ns ∷ []
 split-pushed old new said ns pushed is = pushed ∙ ap (λ (numbers : List ℕ). old ++ AtSplit numbers ∷ []) is
 
 pub returns-in-Split-clause-one : goal.returns-in-Split-clause-one
@@ -24,7 +26,7 @@ returns-in-Split-clause-rest c =
     let w = c.args.walk.now in
     let stands = c.requires.stands in
     line-appended _ _ _ _ _ (split-pushed _ _ _ _ c.in_ok-push.ensures.pushed (c.as_slice.ensures.value ∙ c.numbers.ensures))
-    (split-line w.problem c.args.nodes.now c.requires.tree c.args.node.now w.numbers stands _ _ (get_or-any c.args.nodes.now c.args.node.now no_node _ (λ (x : Node). x.state) stands.within ∙ c.in-Split.is) c.ready-numbers.ensures c.go_below.ensures.next)
+    (ap knots_bounding (split-line w.problem c.args.nodes.now c.requires.tree c.args.node.now w.numbers stands _ _ (get_or-any c.args.nodes.now c.args.node.now no_node _ (λ (x : Node). x.state) stands.within ∙ c.in-Split.is) c.ready-numbers.ensures c.go_below.ensures.next))
 
 pub floor_of_value-requires : goal.floor_of_value-requires
 floor_of_value-requires c =
@@ -43,5 +45,5 @@ returns-clause-rest c =
     let w = c.args.walk.now in
     let stands = c.requires.stands in
     line-appended _ _ _ _ _ c.in_ok-push_leaf.ensures
-    (leaf-line w.problem c.args.nodes.now c.requires.tree c.args.node.now w.numbers stands _ _
-    (λ split. c.in_default.not-Split (get_or-any c.args.nodes.now c.args.node.now _ no_node (λ (x : Node). x.state) stands.within ∙ split)) c.floor_of_value.ensures.leaf c.go_on.ensures.next)
+    (ap knots_bounding (leaf-line w.problem c.args.nodes.now c.requires.tree c.args.node.now w.numbers stands _ _
+    (λ split. c.in_default.not-Split (get_or-any c.args.nodes.now c.args.node.now _ no_node (λ (x : Node). x.state) stands.within ∙ split)) c.floor_of_value.ensures.leaf c.go_on.ensures.next))

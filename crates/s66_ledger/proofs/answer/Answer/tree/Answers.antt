@@ -2,17 +2,17 @@ use Rattle.std.proofs.Common.{◌≡◌, ◌∙◌, [], ◌∷◌, ◌++◌, ℕ
 use Rattle.s66_isa.specs.declared.instr.Instr.{Instr}
 use Rattle.s66_isa.specs.declared.profile.Profile.{Profile}
 use Rattle.s66_model.specs.Timing.{Problem}
-use Rattle.s66_model.specs.Leaves.{Leaf}
 use Rattle.s66_model.specs.Tree.{Knot, flat}
+use Rattle.s66_model.specs.DominatedLeaves.{Ending}
 use Rattle.s66_model.specs.Later.{later}
 use Rattle.s66_model.specs.NodeTree.{node_tree}
 use Rattle.s66_line.specs.Block.{instrs_of}
 use Rattle.s66_node.specs.Walked.{Walked}
 use Rattle.s66_ledger.specs.Answers.{AnswerOf, answer_of}
-use Rattle.s66_ledger.specs.AnswerLines.{AreOneTree, StandsAt, lines_from, lines_left}
+use Rattle.s66_ledger.specs.AnswerLines.{AreOneTree, StandsAt, lines_from, knots_bounding, lines_left}
 use Rattle.s66_ledger.specs.Nodes.{nodes_of, HaveFloors}
 use Rattle.s66_ledger.specs.declared.node.Node.{Node}
-use Rattle.s66_ledger.proofs.AnswerLines.{fewer-left, one-tree, root-there, lines-whole}
+use Rattle.s66_ledger.proofs.AnswerLines.{fewer-left, flat-bounding, one-tree, root-there, lines-whole}
 use Rattle.s66_ledger.proofs.SeenNodes.{length-nodes}
 use Rattle.s66_ledger.proofs.answer.Answer.tree.Goals as goal
 
@@ -46,12 +46,13 @@ loop-more-init c =
       problem = problem ∙ ap (λ (a : AnswerOf). a.problem) c.self.view_is;
       stands = λ more. subst (λ (at : List ℕ). StandsAt xs 0 at) (sym numbers) (root-there walked.problem xs kept);
       rest =
-          ap (λ (knots : List (Knot Leaf)). knots ++ lines_from walked.problem xs (walked.numbers ∷ later walked.problem.block [] walked.numbers)) c.new-tree.ensures
-          ∙ (ap (λ (at : List ℕ). lines_from walked.problem xs (at ∷ later walked.problem.block [] at)) numbers
+          ap (λ (knots : List (Knot Ending)). knots ++ knots_bounding (lines_from walked.problem xs (walked.numbers ∷ later walked.problem.block [] walked.numbers))) c.new-tree.ensures
+          ∙ (ap knots_bounding (ap (λ (at : List ℕ). lines_from walked.problem xs (at ∷ later walked.problem.block [] at)) numbers
           ∙ (lines-whole walked.problem xs
           ∙ (ap (λ (p : Problem). flat (node_tree p (nodes_of p xs))) problem
           ∙ (ap (λ (ys : List Node). flat (node_tree b (nodes_of b ys))) c.as_slice-nodes.ensures.value
-          ∙ ap (λ (a : AnswerOf). flat (answer_of a).tree) c.self.view_is))));
+          ∙ ap (λ (a : AnswerOf). flat (answer_of a).tree) c.self.view_is))))
+          ∙ flat-bounding (answer_of c.args.self.now).tree);
     }
 
 -- as many as there were, for another problem that is the same

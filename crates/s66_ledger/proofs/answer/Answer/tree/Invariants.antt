@@ -1,5 +1,6 @@
 use Rattle.std.proofs.Common.{◌≡◌, ◌++◌, true, length}
 use Rattle.s66_model.specs.Tree.{flat}
+use Rattle.s66_model.specs.DominatedLeaves.{tree_bounding}
 use Rattle.s66_ledger.specs.Answers.{answer_of}
 use Rattle.s66_ledger.specs.AnswerLines.{StandsAt, lines_left}
 use Rattle.s66_ledger.proofs.answer.Answer.tree.Given as goal
@@ -8,7 +9,7 @@ abbrev pub invariant-loop-more : goal.invariant-loop-more
 invariant-loop-more l = record {
   problem : l.walk.problem ≡ l.self.problem;
   stands : l.more ≡ true → StandsAt l.nodes l.node l.walk.numbers;
-  rest : l.tree ++ lines_left l.walk.problem l.nodes l.more l.walk.numbers ≡ flat (answer_of l.self).tree;
+  rest : l.tree ++ lines_left l.walk.problem l.nodes l.more l.walk.numbers ≡ flat (tree_bounding (answer_of l.self).tree);
 }
 
 abbrev pub decreases-loop-more : goal.decreases-loop-more
