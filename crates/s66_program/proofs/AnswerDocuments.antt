@@ -20,9 +20,11 @@ use Rattle.s66_model.specs.LegalOrder.{Completes, GoesOn, IsBeginning, IsIncompl
 use Rattle.s66_model.specs.Timing.{Problem, row_at}
 use Rattle.s66_model.specs.declared.rule.Rule.TheVariants.{NoneNamed}
 use Rattle.s66_model.specs.Tree.{Tree, Alone, Parted, Kids, NoMore, Unsplit, Split, KidsHold, TreeHolds, Knot, AtTip, AtSplit, flat, flat_kids, kid_splits, splits, tree_values}
-use Rattle.s66_model.specs.DominatedLeaves.{Ending, Bounding, Dominated, kids_bounding, tree_bounding}
+use Rattle.s66_model.specs.DominatedLeaves.{Ending, Bounding, Dominated, ShowsBy, kids_bounding, tree_bounding}
 use Rattle.s66_model.specs.Preorder.{KidsMatch, TreeMatches}
+use Rattle.s66_model.proofs.AnswerBound.{answer-shown}
 use Rattle.s66_model.proofs.Beginnings.{beginning-front, length-rising}
+use Rattle.s66_model.proofs.DominatedTrees.{tree-bounding}
 use Rattle.s66_model.proofs.Floors.{floor-stands}
 use Rattle.s66_model.proofs.Forests.{read-flat, tree-match}
 use Rattle.s66_model.proofs.Growth.{total-le}
@@ -174,6 +176,10 @@ none-dominated (Parted numbers kids) = kids-none kids
 -- the tree of an answer is that of its lines
 pub answer-lines : (b : Problem) (budget : ℕ) (a : Answer) → IsAnswer b budget a → tree_of (flat (tree_bounding a.tree)) ≡ tree_bounding a.tree
 answer-lines b budget a is = read-flat (Bounding Whole) (tree_bounding a.tree) (bounding-match a.tree (tree-match b.block (λ at leaf. leaf ≡ floor b at) a.tree [] is.tree))
+
+-- which shows its bound
+pub answer-shows : (b : Problem) (budget : ℕ) (a : Answer) → IsAnswer b budget a → ShowsBy NoneNamed b a.bound [] (tree_bounding a.tree)
+answer-shows b budget a is = tree-bounding NoneNamed b a.bound [] a.tree (answer-shown floor-stands b budget a is)
 
 -- TEXTS
 
