@@ -1,5 +1,7 @@
 pub mod Texts
 pub mod Marks
+pub mod NodePlaces
+pub mod FewLines
 pub mod NumberTexts
 pub mod Words
 pub mod Short

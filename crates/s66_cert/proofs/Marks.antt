@@ -1,10 +1,10 @@
 -- Lines of a tree that are appended, and that are read one by one.
-use Rattle.std.proofs.Common.{◌≡◌, ℕ, zero, suc, ◌≤◌, List, [], ◌∷◌, ◌++◌, length, take, drop, refl, ap, arith, length-append}
-use Rattle.std.proofs.lemmas.List.{take-append-le, drop-append-le, length-drop}
+use Rattle.std.proofs.Common.{◌≡◌, ℕ, zero, suc, ◌+◌, ◌≤◌, ◌<◌, List, [], ◌∷◌, ◌++◌, length, take, drop, get_or, refl, sym, ap, ◌∙◌, arith, length-append}
+use Rattle.std.proofs.lemmas.List.{take-append-le, drop-append-le, drop-drop, length-drop}
 use Rattle.s66_isa.proofs.Lists.{weigh-append}
-use Rattle.s66_isa.specs.Lists.{some_of}
+use Rattle.s66_isa.specs.Lists.{some_of, weigh}
 use Rattle.s66_cert.specs.Document.{has_dominated_line}
-use Rattle.s66_cert.specs.Marks.{number_count, is_dominated, marked, knots_of, AreCounted}
+use Rattle.s66_cert.specs.Marks.{number_count, is_dominated, marked, knots_of, begins_from, AreCounted, AreKept}
 use Rattle.s66_cert.specs.declared.tree.Mark.{Mark}
 use Rattle.s66_cert.specs.declared.tree.Mark.TheVariants as mark
 
@@ -54,3 +54,67 @@ knots-append (k ∷ ms) numbers m more h =
     let few : number_count k ≤ length numbers = omega (arith, h) in
     rw (marked-more k numbers more few) (rw (drop-append-le (number_count k) numbers more few)
     (ap (λ knots. marked k numbers ∷ knots) (knots-append ms (drop (number_count k) numbers) m more (counted-rest k ms numbers h))))
+
+-- WHERE THE NUMBERS BEGIN
+
+pub line_count : (ms : List Mark) (numbers : List ℕ) → length (knots_of ms numbers) ≡ length ms
+line_count [] numbers = refl
+line_count (m ∷ ms) numbers = omega (arith, line_count ms (drop (number_count m) numbers))
+
+begins-append : (n : ℕ) (ms : List Mark) (m : Mark) → begins_from n (ms ++ m ∷ []) ≡ begins_from n ms ++ (n + weigh number_count ms) ∷ []
+begins-append n [] m = let same : n ≡ n + 0 = omega arith in ap (λ k. k ∷ []) same
+begins-append n (k ∷ ms) m =
+    let sum : n + number_count k + weigh number_count ms ≡ n + weigh number_count (k ∷ ms) = omega arith in
+    ap (λ ks. n ∷ ks) (begins-append (n + number_count k) ms m ∙ ap (λ b. begins_from (n + number_count k) ms ++ b ∷ []) sum)
+
+pub kept-append : (ms : List Mark) (numbers begins : List ℕ) (m : Mark) (more : List ℕ) (begin : ℕ) → AreKept ms numbers begins → number_count m ≡ length more → begin ≡ length numbers →
+    AreKept (ms ++ m ∷ []) (numbers ++ more) (begins ++ begin ∷ [])
+kept-append ms numbers begins m more begin are e here =
+    let sum : 0 + weigh number_count ms ≡ begin = omega (arith, are.counted, here) in
+    record {
+      counted = counted-append ms numbers m more are.counted e;
+      placed = ap (λ bs. bs ++ begin ∷ []) are.placed ∙ sym (begins-append 0 ms m ∙ ap (λ b. begins_from 0 ms ++ b ∷ []) sum);
+    }
+
+begin-at : (n : ℕ) (ms : List Mark) (place : ℕ) → place < length ms → get_or (begins_from n ms) place 0 ≡ n + weigh number_count (take place ms)
+begin-at n [] place lt = absurd (omega arith)
+begin-at n (m ∷ ms) zero lt = omega arith
+begin-at n (m ∷ ms) (suc place) lt = omega (arith, begin-at (n + number_count m) ms place (omega arith))
+
+begins-count : (n : ℕ) (ms : List Mark) → length (begins_from n ms) ≡ length ms
+begins-count n [] = refl
+begins-count n (m ∷ ms) = omega (arith, begins-count (n + number_count m) ms)
+
+within-at : (ms : List Mark) (place : ℕ) (d : Mark) → place < length ms → weigh number_count (take place ms) + number_count (get_or ms place d) ≤ weigh number_count ms
+within-at [] place d lt = absurd (omega arith)
+within-at (m ∷ ms) zero d lt = omega arith
+within-at (m ∷ ms) (suc place) d lt = omega (arith, within-at ms place d (omega arith))
+
+-- the line at a place, and those behind it
+drop-at : (ms : List Mark) (numbers : List ℕ) (place : ℕ) (d : Mark) → place < length ms →
+    drop place (knots_of ms numbers) ≡ marked (get_or ms place d) (drop (weigh number_count (take place ms)) numbers) ∷ drop (suc place) (knots_of ms numbers)
+drop-at [] numbers place d lt = absurd (omega arith)
+drop-at (m ∷ ms) numbers zero d lt = refl
+drop-at (m ∷ ms) numbers (suc place) d lt =
+    drop-at ms (drop (number_count m) numbers) place d (omega arith)
+    ∙ ap (λ ns. marked (get_or ms place d) ns ∷ drop (suc place) (knots_of ms (drop (number_count m) numbers))) (drop-drop (weigh number_count (take place ms)) (number_count m) numbers)
+
+pub kept_count : (ms : List Mark) (numbers begins : List ℕ) → AreKept ms numbers begins → length begins ≡ length ms
+kept_count ms numbers begins are = ap length are.placed ∙ begins-count 0 ms
+
+-- the mark at a place, and where its numbers begin
+module _ (ms : List Mark) (numbers begins : List ℕ) (place : ℕ) (d : Mark) (are : AreKept ms numbers begins) (lt : place < length ms) where
+  begin-is : get_or begins place 0 ≡ weigh number_count (take place ms)
+  begin-is = omega (arith, ap (λ bs. get_or bs place 0) are.placed, begin-at 0 ms place lt)
+
+  pub begin-within : get_or begins place 0 ≤ length numbers
+  begin-within = omega (arith, begin-is, within-at ms place d lt, are.counted)
+
+  pub count-within : number_count (get_or ms place d) ≤ length (drop (get_or begins place 0) numbers)
+  count-within = omega (arith, begin-is, within-at ms place d lt, are.counted, length-drop (get_or begins place 0) numbers)
+
+  pub line-is : drop place (knots_of ms numbers) ≡ marked (get_or ms place d) (take (number_count (get_or ms place d)) (drop (get_or begins place 0) numbers)) ∷ drop (place + 1) (knots_of ms numbers)
+  line-is =
+      let next : suc place ≡ place + 1 = omega arith in
+      drop-at ms numbers place d lt
+      ∙ rw (← begin-is, next) (ap (λ k. k ∷ drop (place + 1) (knots_of ms numbers)) (sym (marked-taken (get_or ms place d) (drop (get_or begins place 0) numbers))))

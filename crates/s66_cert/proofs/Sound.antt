@@ -10,13 +10,13 @@ use Rattle.s66_model.specs.Leaves.{Whole}
 use Rattle.s66_model.specs.Tree.{Tree, Alone, Parted, Kids, NoMore, Unsplit, Split, Knot, AtTip, AtSplit, flat_kids, flat, kid_splits, splits}
 use Rattle.s66_model.specs.DominatedLeaves.{Ending, Bounding}
 use Rattle.s66_line.specs.InstructionText.{IsInstruction}
-use Rattle.s66_cert.specs.Document.{Document, IsDocumentWithin, AreDocumentsWithin, AreNumbers, AreInstructions, IsLeafLine, KidsFit, TreeFits, IsTextWithin, documents_text, has_dominated_line, has_dominated, names_nodes}
+use Rattle.s66_cert.specs.Document.{Document, IsDocumentWithin, AreDocumentsWithin, AreNumbers, AreInstructions, IsLeafLine, KidsFit, TreeFits, IsTextWithin, documents_text, has_dominated_line, names_nodes}
 use Rattle.s66_cert.specs.Faults.{with_newlines, IsOpenWithin}
 use Rattle.s66_cert.specs.Lines.{Line, Header, Profile, Block, Instruction, Time, Bound, Order, OfTree, End, bytes_of, IsInRange, line_of}
 use Rattle.s66_cert.specs.DocumentParts.{Parts, document_of, tree_of}
 use Rattle.s66_model.specs.Preorder.{forest, first_tree, first_kids, later_kids}
-use Rattle.s66_cert.specs.Reading.{nothing, State, start, place_of_instruction, place_of_tree, with_knot, is_allowed, wants_dominated, knot_step, end_step, step_at, step_if, step, and_then, steps, ended, is_header, read_within, whole_lines, last_bytes}
-use Rattle.s66_cert.specs.Fine.{Leave, split_count, HasTree, IsAllowed, IsPart, IsFine}
+use Rattle.s66_cert.specs.Reading.{nothing, State, start, place_of_instruction, place_of_tree, with_knot, is_allowed, wants_dominated, knot_step, step_at, step_if, step, and_then, steps, ended, is_header, read_within, whole_lines, last_bytes}
+use Rattle.s66_cert.specs.Fine.{Leave, split_count, HasTree, IsPart, IsFine}
 use Rattle.s66_cert.proofs.DocumentLines.{open_lines, document_lines, documents_lines, instructions_of, knots_of}
 use Rattle.s66_cert.specs.declared.error.CertError.{CertError}
 use Rattle.s66_cert.specs.declared.error.CertError.TheVariants.{BadLine, Truncated, TooManyNodes}

@@ -25,13 +25,13 @@ with_newlines (line ∷ lines) = line ++ 10 ∷ with_newlines lines
 abbrev pub IsOpenWithin : ℕ → ℕ → Document → Type 0
 IsOpenWithin limit most d = IsDocumentWithin limit most d ⊎ IsDocumentWithin limit most (record d { rule = NoneNamed })
 
--- some text of documents, with one behind them up to its last line, begins so; their trees have at most so many splits
+-- the text of documents, and of one more up to its last line, begins so; their trees have at most so many splits
 abbrev pub BeginsWithin : ℕ → List ℕ → Type 0
 BeginsWithin most text =
     (more : List ℕ) × (ds : List Document) × (d : Document) × AreDocumentsWithin BLOCK_LIMIT most ds × IsOpenWithin BLOCK_LIMIT most d
     × (text ++ more ≡ documents_text ds ++ text_before_end d)
 
--- some text of documents begins so
+-- some text of documents begins so, with one more up to its last line
 abbrev pub Begins : List ℕ → Type 0
 Begins text = BeginsWithin SPLIT_LIMIT text
 

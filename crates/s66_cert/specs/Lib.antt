@@ -5,6 +5,7 @@ pub mod Faults
 pub mod Fine
 pub mod Lines
 pub mod Marks
+pub mod NodePlaces
 pub mod Pages
 pub mod DocumentParts
 pub mod DocumentReader

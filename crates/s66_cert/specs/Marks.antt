@@ -1,5 +1,5 @@
 -- Used by contracts: the lines of a tree that its marks and its numbers keep.
-use Rattle.std.specs.Prelude.{◌≡◌, ℕ, Bool, true, false, List, [], ◌∷◌, length, take, drop}
+use Rattle.std.specs.Prelude.{◌≡◌, ◌+◌, ℕ, Bool, true, false, List, [], ◌∷◌, length, take, drop}
 use Rattle.s66_isa.specs.Lists.{weigh}
 use Rattle.s66_model.specs.Leaves.{Whole, Chain, Load, Parcels}
 use Rattle.s66_model.specs.Tree.{Knot, AtTip, AtSplit}
@@ -38,6 +38,16 @@ abbrev pub knots_of : List Mark → List ℕ → List (Knot Ending)
 knots_of [] numbers = []
 knots_of (mark ∷ marks) numbers = marked mark numbers ∷ knots_of marks (drop (number_count mark) numbers)
 
+-- where the numbers of each line begin, those of the first at n
+abbrev pub begins_from : ℕ → List Mark → List ℕ
+begins_from n [] = []
+begins_from n (mark ∷ marks) = n ∷ begins_from (n + number_count mark) marks
+
 -- as many numbers as the lines have
 abbrev pub AreCounted : List Mark → List ℕ → Type 0
 AreCounted marks numbers = weigh number_count marks ≡ length numbers
+
+-- marks and numbers of lines, and where the numbers of each begin
+pub record AreKept (marks : List Mark) (numbers begins : List ℕ) : Type 0 where
+  pub counted : AreCounted marks numbers
+  pub placed : begins ≡ begins_from 0 marks

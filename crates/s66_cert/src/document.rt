@@ -1,5 +1,6 @@
+use crate::indexed_tree::IndexedTree;
 use crate::instruction::InstructionText;
-use crate::tree::{Tree, TreeLines};
+use crate::tree::{Tree, TreeLine, TreeLines};
 use arrayvec::ArrayVec;
 use s66_isa::{BLOCK_LIMIT, PROFILE_LENGTH};
 use s66_model::Rule;
@@ -8,7 +9,7 @@ use std::marker::Model;
 /// What a document says.
 #[derive(Debug, Drop)]
 pub struct Claim {
-    /// Which nodes its dominated leaves name, which is its version: `NoneNamed` exactly where no leaf of the tree is dominated.
+    /// Which nodes its dominated leaves name; it is `NoneNamed` exactly where no leaf of the tree is dominated.
     pub rule: Rule,
     /// The ten times of a profile, then its seven copies of units.
     pub profile: ArrayVec<u8, PROFILE_LENGTH>,
@@ -36,7 +37,13 @@ impl Model for Claim {
 /// `SPLIT_LIMIT` splits, and every number is in its range; whether the claim is true is for a checker to say.
 #[derive(Debug, Drop)]
 pub struct Document {
-    claim: Claim,
+    rule: Rule,
+    profile: ArrayVec<u8, PROFILE_LENGTH>,
+    block: Vec<InstructionText>,
+    time: u32,
+    bound: u32,
+    order: ArrayVec<u8, BLOCK_LIMIT>,
+    tree: IndexedTree,
 }
 
 impl Model for Document {
@@ -44,22 +51,43 @@ impl Model for Document {
 
     ghost Value = { Parts };
 
-    ghost view = { λ d. d.claim };
+    ghost view = { λ d. record { rule = d.rule; profile = d.profile.items; block = d.block.items; time = d.time; bound = d.bound; numbers = d.order.items; knots = d.tree } };
 
-    ghost invariant = { λ d. AreWhole d.claim };
+    ghost invariant = { λ d. AreWhole (record { rule = d.rule; profile = d.profile.items; block = d.block.items; time = d.time; bound = d.bound; numbers = d.order.items; knots = d.tree }) };
 }
 
 impl Document {
-    ghost use Rattle.std.specs.Prelude.{◌≡◌};
-    ghost use Rattle.s66_cert.specs.DocumentParts.{AreWhole};
+    ghost use Rattle.std.specs.Prelude.{◌≡◌, []};
+    ghost use Rattle.std.specs.Option.{option_map};
+    ghost use Rattle.s66_model.specs.NodeNames.{node_at};
+    ghost use Rattle.s66_cert.specs.DocumentParts.{AreWhole, document_of, knot_of};
 
-    /// The document that says this. Its numbers have to be in their ranges, its texts those of instructions, and the lines of its
-    /// tree those of one whole tree of at most `SPLIT_LIMIT` splits. Its rule names nodes exactly where a leaf is dominated.
+    /// The document that says this. Its numbers have to be in their ranges, its texts those of instructions, and the
+    /// lines of its tree those of one whole tree of at most `SPLIT_LIMIT` splits. Its rule names nodes exactly where a leaf
+    /// is dominated. It takes time linear in the lines, and no memory.
+    #[tactic(auto, using(crate::proofs::FewLines::few_lines))]
     pub fn new(claim: Claim) -> Document
         requires { AreWhole claim }
         ensures { result ≡ claim }
     {
-        Document { claim }
+        let Claim {
+            rule,
+            profile,
+            block,
+            time,
+            bound,
+            order,
+            tree,
+        } = claim;
+        Document {
+            rule,
+            profile,
+            block,
+            time,
+            bound,
+            order,
+            tree: IndexedTree::new(tree),
+        }
     }
 
     /// Which nodes its dominated leaves name; it is `NoneNamed` exactly where no leaf of the tree is dominated.
@@ -67,7 +95,7 @@ impl Document {
         ensures value { result ≡ self.now.rule }
         ensures whole { AreWhole self.now }
     {
-        self.claim.rule
+        self.rule
     }
 
     /// The ten times of the profile, then its seven copies of units; each 1 to 100.
@@ -75,7 +103,7 @@ impl Document {
         ensures value { result.now ≡ self.now.profile }
         ensures whole { AreWhole self.now }
     {
-        self.claim.profile.as_slice()
+        self.profile.as_slice()
     }
 
     /// The instructions with their texts, 1 to `BLOCK_LIMIT`.
@@ -83,21 +111,21 @@ impl Document {
         ensures value { result.now ≡ self.now.block }
         ensures whole { AreWhole self.now }
     {
-        self.claim.block.as_slice()
+        self.block.as_slice()
     }
 
     /// What the order takes, in minor cycles.
     pub fn time(&self) -> u32
         ensures { result ≡ self.now.time }
     {
-        self.claim.time
+        self.time
     }
 
     /// What every order takes at least, in minor cycles.
     pub fn bound(&self) -> u32
         ensures { result ≡ self.now.bound }
     {
-        self.claim.bound
+        self.bound
     }
 
     /// The numbers of the order.
@@ -105,7 +133,7 @@ impl Document {
         ensures value { result.now ≡ self.now.numbers }
         ensures whole { AreWhole self.now }
     {
-        self.claim.order.as_slice()
+        self.order.as_slice()
     }
 
     /// The lines of the tree.
@@ -113,6 +141,15 @@ impl Document {
         ensures value { result ≡ self.now.knots }
         ensures whole { AreWhole self.now }
     {
-        self.claim.tree.lines()
+        self.tree.lines()
+    }
+
+    /// The line of the node of this name, which is the numbers of its prefix: at each split it is the first child of the
+    /// number that comes next. It is found by jumps over whole trees, one for each earlier sibling on the way.
+    #[tactic(auto, using(crate::proofs::FewLines::some_lines))]
+    pub fn node_at(&self, name: &[u8]) -> Option<TreeLine<'_>>
+        ensures { option_map knot_of result ≡ node_at [] (document_of self.now).tree name.now }
+    {
+        self.tree.node_at(name)
     }
 }

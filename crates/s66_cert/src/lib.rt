@@ -4,6 +4,7 @@
 mod document;
 mod error;
 mod examples;
+mod indexed_tree;
 mod instruction;
 mod laws;
 mod limits;

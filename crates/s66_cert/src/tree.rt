@@ -1,6 +1,7 @@
-ghost use Rattle.std.specs.Prelude.{◌≡◌};
+ghost use Rattle.std.specs.Prelude.{◌≡◌, ◌<◌, ◌+◌, ◌∷◌, drop, length};
 ghost use Rattle.s66_isa.specs.Lists.{some_of};
-ghost use Rattle.s66_cert.specs.Marks.{is_dominated};
+ghost use Rattle.s66_cert.specs.DocumentParts.{knot_of};
+ghost use Rattle.s66_cert.specs.Marks.{is_dominated, knots_of, AreKept};
 
 use s66_isa::Kind;
 use std::alloc::{AllocError, Global};
@@ -83,39 +84,56 @@ fn some_dominated(marks: &[Mark]) -> bool
     false
 }
 
-/// The lines of a tree in preorder, in two bytes a line and one a number.
-#[derive(Debug, Drop)]
-pub struct Tree {
-    marks: Vec<Mark>,
-    numbers: Vec<u8>,
+/// The line at a place.
+#[tactic(auto, using(crate::proofs::Marks::kept_count))]
+fn line_at<'a>(marks: &[Mark], numbers: &'a [u8], begins: &[usize], place: usize) -> TreeLine<'a>
+    requires kept { AreKept marks.now numbers.now begins.now }
+    requires within { place < length marks.now }
+    ensures { drop place (knots_of marks.now numbers.now) ≡ knot_of result ∷ drop (place + 1) (knots_of marks.now numbers.now) }
+{
+    let mark = marks[place];
+    let begin = begins[place];
+    let (_, later) = numbers.split_at(begin);
+    let (own, _) = later.split_at(mark.number_count());
+    mark.with(own)
 }
 
-impl Model for Tree {
+/// The lines of a tree in preorder, in ten bytes a line and one a number.
+#[derive(Debug, Drop)]
+pub(crate) struct KeptLines {
+    marks: Vec<Mark>,
+    numbers: Vec<u8>,
+    /// Where the numbers of each line begin.
+    begins: Vec<usize>,
+}
+
+impl Model for KeptLines {
     ghost use Rattle.std.specs.Prelude.{List};
     ghost use Rattle.s66_model.specs.Tree.{Knot};
     ghost use Rattle.s66_model.specs.DominatedLeaves.{Ending};
-    ghost use Rattle.s66_cert.specs.Marks.{knots_of, AreCounted};
+    ghost use Rattle.s66_cert.specs.Marks.{knots_of, AreKept};
 
     ghost Value = { List (Knot Ending) };
 
     ghost view = { λ t. knots_of t.marks.items t.numbers.items };
 
-    ghost invariant = { λ t. AreCounted t.marks.items t.numbers.items };
+    ghost invariant = { λ t. AreKept t.marks.items t.numbers.items t.begins.items };
 }
 
-impl Tree {
-    ghost use Rattle.std.specs.Prelude.{◌≡◌, ◌++◌, [], ◌∷◌, length, OnOk, OnErr};
-    ghost use Rattle.s66_cert.specs.Marks.{number_count, marked};
+impl KeptLines {
+    ghost use Rattle.std.specs.Prelude.{◌≡◌, ◌<◌, ◌+◌, ◌++◌, [], ◌∷◌, drop, length, OnOk, OnErr};
     ghost use Rattle.s66_cert.specs.Document.{has_dominated_line};
     ghost use Rattle.s66_cert.specs.DocumentParts.{knot_of, IsShort};
+    ghost use Rattle.s66_cert.specs.Marks.{number_count, marked};
 
     /// No lines.
-    pub fn new(alloc: Global) -> Tree
+    fn new(alloc: Global) -> KeptLines
         ensures { result ≡ [] }
     {
-        Tree {
+        KeptLines {
             marks: Vec::new(alloc),
             numbers: Vec::new(alloc),
+            begins: Vec::new(alloc),
         }
     }
 
@@ -126,13 +144,16 @@ impl Tree {
         ensures same { OnErr result (self.new ≡ self.old) }
     {
         self.marks.reserve(1)?;
+        self.begins.reserve(1)?;
+        let begin = self.numbers.len();
         self.numbers.extend_from_slice(numbers)?;
         self.marks.push_reserved(mark);
+        self.begins.push_reserved(begin);
         Ok(())
     }
 
     /// Appends a line of at most `BLOCK_LIMIT` numbers. Where memory is refused the lines are as before.
-    pub fn push(&mut self, line: TreeLine<'_>) -> Result<(), AllocError>
+    fn push(&mut self, line: TreeLine<'_>) -> Result<(), AllocError>
         requires { IsShort (knot_of line) }
         ensures pushed { OnOk result (self.new ≡ self.old ++ knot_of line.entry ∷ []) }
         ensures same { OnErr result (self.new ≡ self.old) }
@@ -149,22 +170,114 @@ impl Tree {
         }
     }
 
-    /// Whether a leaf is dominated, in time linear in the lines.
+    /// How many there are.
+    #[tactic(auto, using(crate::proofs::Marks::line_count))]
+    pub(crate) fn len(&self) -> usize
+        ensures { result ≡ length self.now }
+    {
+        self.marks.len()
+    }
+
+    /// The line at a place, from 0.
+    #[tactic(auto, using(crate::proofs::Marks::line_count))]
+    pub(crate) fn at(&self, place: usize) -> TreeLine<'_>
+        requires { place < length self.now }
+        ensures { drop place self.now ≡ knot_of result ∷ drop (place + 1) self.now }
+    {
+        line_at(
+            self.marks.as_slice(),
+            self.numbers.as_slice(),
+            self.begins.as_slice(),
+            place,
+        )
+    }
+
+    /// Whether a leaf is dominated.
     #[tactic(auto, using(crate::proofs::Marks::dominated_marks))]
-    pub fn has_dominated(&self) -> bool
+    fn has_dominated(&self) -> bool
         ensures { result ≡ has_dominated_line self.now }
     {
         some_dominated(self.marks.as_slice())
     }
 
     /// The lines, from the first on.
-    pub fn lines(&self) -> TreeLines<'_>
+    pub(crate) fn iter(&self) -> TreeLines<'_>
         ensures { result ≡ self.now }
     {
         TreeLines {
             marks: self.marks.as_slice(),
             numbers: self.numbers.as_slice(),
         }
+    }
+}
+
+/// The lines of a tree in preorder, in fourteen bytes a line and one a number.
+#[derive(Debug, Drop)]
+pub struct Tree {
+    lines: KeptLines,
+    /// Room to tell where the tree of each line ends.
+    room: Vec<u32>,
+}
+
+impl Model for Tree {
+    ghost use Rattle.std.specs.Prelude.{◌≡◌, List, length};
+    ghost use Rattle.s66_model.specs.Tree.{Knot};
+    ghost use Rattle.s66_model.specs.DominatedLeaves.{Ending};
+
+    ghost Value = { List (Knot Ending) };
+
+    ghost view = { λ t. t.lines };
+
+    ghost invariant = { λ t. length t.room.items ≡ length t.lines };
+}
+
+impl Tree {
+    ghost use Rattle.std.specs.Prelude.{◌≡◌, ◌++◌, [], ◌∷◌, length, OnOk, OnErr};
+    ghost use Rattle.s66_cert.specs.Document.{has_dominated_line};
+    ghost use Rattle.s66_cert.specs.DocumentParts.{knot_of, IsShort};
+
+    /// No lines.
+    pub fn new(alloc: Global) -> Tree
+        ensures { result ≡ [] }
+    {
+        Tree {
+            lines: KeptLines::new(alloc),
+            room: Vec::new(alloc),
+        }
+    }
+
+    /// Appends a line of at most `BLOCK_LIMIT` numbers. Where memory is refused the lines are as before.
+    pub fn push(&mut self, line: TreeLine<'_>) -> Result<(), AllocError>
+        requires { IsShort (knot_of line) }
+        ensures pushed { OnOk result (self.new ≡ self.old ++ knot_of line.entry ∷ []) }
+        ensures same { OnErr result (self.new ≡ self.old) }
+    {
+        self.room.reserve(1)?;
+        self.lines.push(line)?;
+        self.room.push_reserved(0);
+        Ok(())
+    }
+
+    /// Whether a leaf is dominated, in time linear in the lines.
+    pub fn has_dominated(&self) -> bool
+        ensures { result ≡ has_dominated_line self.now }
+    {
+        self.lines.has_dominated()
+    }
+
+    /// The lines, from the first on.
+    pub fn lines(&self) -> TreeLines<'_>
+        ensures { result ≡ self.now }
+    {
+        self.lines.iter()
+    }
+
+    /// The lines, and room for a place of each.
+    pub(crate) fn into_parts(self) -> (KeptLines, Vec<u32>)
+        ensures lines { result.0 ≡ self }
+        ensures room { length result.1.items ≡ length self }
+    {
+        (self.lines, self.room)
     }
 }
 

@@ -1,5 +1,5 @@
 -- The document of an answer is a document, whose tree its lines tell.
-use Rattle.std.proofs.Common.{ℕ, zero, suc, ◌+◌, ◌≤◌, ◌≡◌, true, not, List, [], ◌∷◌, ◌++◌, length, refl, sym, ap, arith, inl, inr, subst, ◌∙◌, map}
+use Rattle.std.proofs.Common.{ℕ, zero, suc, ◌+◌, ◌≤◌, ◌≡◌, true, false, not, List, [], ◌∷◌, ◌++◌, length, refl, sym, ap, arith, inl, inr, subst, ◌∙◌, map}
 use Rattle.std.proofs.lemmas.Bool.{and_parts, ltb-true}
 use Rattle.std.proofs.lemmas.List.{length-map}
 use Rattle.std.proofs.lemmas.List.Elements.{All-head, All-tail}
@@ -18,15 +18,20 @@ use Rattle.s66_model.specs.Answer.{Answer, IsAnswer}
 use Rattle.s66_model.specs.Leaves.{Leaf, Whole, Chain, Load, Parcels, MayStand, IsWalk, leaf_values, link, floor}
 use Rattle.s66_model.specs.LegalOrder.{Completes, GoesOn, IsBeginning, IsIncomplete, IsLegal, is_ready, ready}
 use Rattle.s66_model.specs.Timing.{Problem, row_at}
-use Rattle.s66_model.specs.Tree.{Tree, Alone, Parted, Kids, NoMore, Unsplit, Split, KidsHold, TreeHolds, flat, tree_values}
+use Rattle.s66_model.specs.declared.rule.Rule.TheVariants.{NoneNamed}
+use Rattle.s66_model.specs.Tree.{Tree, Alone, Parted, Kids, NoMore, Unsplit, Split, KidsHold, TreeHolds, Knot, AtTip, AtSplit, flat, flat_kids, kid_splits, splits, tree_values}
+use Rattle.s66_model.specs.DominatedLeaves.{Ending, Bounding, Dominated, ShowsBy, kids_bounding, tree_bounding}
+use Rattle.s66_model.specs.Preorder.{KidsMatch, TreeMatches}
+use Rattle.s66_model.proofs.AnswerBound.{answer-shown}
 use Rattle.s66_model.proofs.Beginnings.{beginning-front, length-rising}
+use Rattle.s66_model.proofs.DominatedTrees.{tree-bounding}
 use Rattle.s66_model.proofs.Floors.{floor-stands}
 use Rattle.s66_model.proofs.Forests.{read-flat, tree-match}
 use Rattle.s66_model.proofs.Growth.{total-le}
 use Rattle.s66_model.proofs.LegalOrders.{legal-order, ready-parts}
 use Rattle.s66_model.proofs.Remaining.{among-ready, legal-parts, ready-among, remaining-parts, rest-first, step-begins}
 use Rattle.s66_cert.specs.declared.limits.TheConstants.{SPLIT_LIMIT, TIME_LIMIT}
-use Rattle.s66_cert.specs.Document.{AreIn, AreInstructions, AreNumbers, IsDocument, IsLeafLine, KidsFit, TreeFits}
+use Rattle.s66_cert.specs.Document.{AreIn, AreInstructions, AreNumbers, IsDocument, IsLeafLine, KidsFit, TreeFits, has_dominated_line, has_dominated}
 use Rattle.s66_cert.specs.DocumentParts.{Parts, AreWhole, document_of, tree_of}
 use Rattle.s66_program.specs.ProvedAnswers.{IsSpelled}
 use Rattle.s66_program.specs.ProveText.{document_under, texts_of}
@@ -92,7 +97,7 @@ walk-in b prefix n (m ∷ ms) few h =
 
 -- LEAVES AND TREES
 
-leaf-line : (b : Problem) (prefix : List ℕ) (leaf : Leaf) → length b.block ≤ BLOCK_LIMIT → MayStand b prefix leaf → IsLeafLine BLOCK_LIMIT leaf
+leaf-line : (b : Problem) (prefix : List ℕ) (leaf : Leaf) → length b.block ≤ BLOCK_LIMIT → MayStand b prefix leaf → IsLeafLine BLOCK_LIMIT (Bounding leaf)
 leaf-line b prefix Whole few h = tt
 leaf-line b prefix (Chain []) few h = absurd h.1
 leaf-line b prefix (Chain (n ∷ ns)) few h =
@@ -107,11 +112,11 @@ split-ready : (b : Problem) (prefix ns : List ℕ) → ns ≡ ready b.block pref
 split-ready b prefix ns e n among = ready-among b.block prefix n (subst (λ ms. Among n ms) e among)
 
 module _ (b : Problem) (few : length b.block ≤ BLOCK_LIMIT) where
-  floor-line : (prefix : List ℕ) (leaf : Leaf) → IsBeginning b.block prefix → leaf ≡ floor b prefix → IsLeafLine BLOCK_LIMIT leaf
+  floor-line : (prefix : List ℕ) (leaf : Leaf) → IsBeginning b.block prefix → leaf ≡ floor b prefix → IsLeafLine BLOCK_LIMIT (Bounding leaf)
   floor-line prefix leaf begins is = leaf-line b prefix leaf few (subst (λ x. MayStand b prefix x) (sym is) (floor-stands b prefix begins))
 
   kids-fit : (kids : Kids Leaf) (prefix ns : List ℕ) → KidsHold b.block (λ at leaf. leaf ≡ floor b at) prefix ns kids → IsBeginning b.block prefix → AreReady b prefix ns →
-      KidsFit BLOCK_LIMIT ns kids
+      KidsFit BLOCK_LIMIT ns (kids_bounding kids)
   kids-fit NoMore prefix [] h begins are = tt
   kids-fit NoMore prefix (n ∷ ns) h begins are = h
   kids-fit (Unsplit leaf kids) prefix [] h begins are = h
@@ -126,14 +131,55 @@ module _ (b : Problem) (few : length b.block ≤ BLOCK_LIMIT) where
         kids-fit kids prefix ns h.3 begins (λ m among. are m (inr among)),
       )
 
-  tree-fits : (tree : Tree Leaf) → TreeHolds b.block (λ at leaf. leaf ≡ floor b at) [] tree → TreeFits BLOCK_LIMIT tree
+  tree-fits : (tree : Tree Leaf) → TreeHolds b.block (λ at leaf. leaf ≡ floor b at) [] tree → TreeFits BLOCK_LIMIT (tree_bounding tree)
   tree-fits (Alone leaf) h = floor-line [] leaf tt h
   tree-fits (Parted numbers kids) h =
       (subst (λ ms. AreNumbers BLOCK_LIMIT ms) (sym h.1) (ready-numbers b.block few [] tt h.0), kids-fit kids [] numbers h.2 tt (split-ready b [] numbers h.1))
 
+-- a tree of leaves of which none is dominated
+kids-match : (ns : List ℕ) (kids : Kids Leaf) → KidsMatch ns kids → KidsMatch ns (kids_bounding kids)
+kids-match [] NoMore h = h
+kids-match [] (Unsplit leaf kids) h = h
+kids-match [] (Split numbers sub kids) h = h
+kids-match (n ∷ ns) NoMore h = h
+kids-match (n ∷ ns) (Unsplit leaf kids) h = kids-match ns kids h
+kids-match (n ∷ ns) (Split numbers sub kids) h = (kids-match numbers sub h.0, kids-match ns kids h.1)
+
+bounding-match : (tree : Tree Leaf) → TreeMatches tree → TreeMatches (tree_bounding tree)
+bounding-match (Alone leaf) h = h
+bounding-match (Parted numbers kids) h = kids-match numbers kids h
+
+kids-splits : (kids : Kids Leaf) → kid_splits (kids_bounding kids) ≡ kid_splits kids
+kids-splits NoMore = refl
+kids-splits (Unsplit leaf kids) = kids-splits kids
+kids-splits (Split numbers sub kids) = omega (arith, kids-splits sub, kids-splits kids)
+
+bounding-splits : (tree : Tree Leaf) → splits (tree_bounding tree) ≡ splits tree
+bounding-splits (Alone leaf) = refl
+bounding-splits (Parted numbers kids) = omega (arith, kids-splits kids)
+
+none-both : (knots more : List (Knot Ending)) → has_dominated_line knots ≡ false → has_dominated_line (knots ++ more) ≡ has_dominated_line more
+none-both [] more h = refl
+none-both (AtTip (Bounding leaf) ∷ knots) more h = none-both knots more h
+none-both (AtTip (Dominated name) ∷ knots) more h = absurd (cc)
+none-both (AtSplit numbers ∷ knots) more h = none-both knots more h
+
+kids-none : (kids : Kids Leaf) → has_dominated_line (flat_kids (kids_bounding kids)) ≡ false
+kids-none NoMore = refl
+kids-none (Unsplit leaf kids) = kids-none kids
+kids-none (Split numbers sub kids) = none-both (flat_kids (kids_bounding sub)) (flat_kids (kids_bounding kids)) (kids-none sub) ∙ kids-none kids
+
+none-dominated : (tree : Tree Leaf) → has_dominated (tree_bounding tree) ≡ false
+none-dominated (Alone leaf) = refl
+none-dominated (Parted numbers kids) = kids-none kids
+
 -- the tree of an answer is that of its lines
-pub answer-lines : (b : Problem) (budget : ℕ) (a : Answer) → IsAnswer b budget a → tree_of (flat a.tree) ≡ a.tree
-answer-lines b budget a is = read-flat Whole a.tree (tree-match b.block (λ at leaf. leaf ≡ floor b at) a.tree [] is.tree)
+pub answer-lines : (b : Problem) (budget : ℕ) (a : Answer) → IsAnswer b budget a → tree_of (flat (tree_bounding a.tree)) ≡ tree_bounding a.tree
+answer-lines b budget a is = read-flat (Bounding Whole) (tree_bounding a.tree) (bounding-match a.tree (tree-match b.block (λ at leaf. leaf ≡ floor b at) a.tree [] is.tree))
+
+-- which shows its bound
+pub answer-shows : (b : Problem) (budget : ℕ) (a : Answer) → IsAnswer b budget a → ShowsBy NoneNamed b a.bound [] (tree_bounding a.tree)
+answer-shows b budget a is = tree-bounding NoneNamed b a.bound [] a.tree (answer-shown floor-stands b budget a is)
 
 -- TEXTS
 
@@ -163,14 +209,15 @@ answer-document p block budget a is splits some few spelled =
       bound = omega (arith, bound-within b budget a is, time);
       numbers = order-numbers b.block few a.order some is.legal;
       tree = tree-fits b few a.tree is.tree;
-      splits = omega (arith, is.splits, splits);
+      splits = omega (arith, bounding-splits a.tree, is.splits, splits);
+      rule = sym (none-dominated a.tree);
     }
 
 -- PARTS
 
 abbrev pub parts_under : Profile → Block → Answer → Parts
 parts_under p block a =
-    record { profile = entries p; block = texts_of block; time = a.time; bound = a.bound; numbers = a.order; knots = flat a.tree }
+    record { rule = NoneNamed; profile = entries p; block = texts_of block; time = a.time; bound = a.bound; numbers = a.order; knots = flat (tree_bounding a.tree) }
 
 pub parts-document : (p : Profile) (block : Block) (budget : ℕ) (a : Answer) → IsAnswer (record { block = instrs_of block; profile = p }) budget a →
     document_of (parts_under p block a) ≡ document_under p block a
@@ -182,11 +229,13 @@ pub parts-whole : (p : Profile) (block : Block) (budget : ℕ) (a : Answer) → 
 parts-whole p block budget a is splits some few spelled =
     record {
       document = subst (IsDocument BLOCK_LIMIT) (sym (parts-document p block budget a is)) (answer-document p block budget a is splits some few spelled);
-      preorder = ap (λ (tree : Tree Leaf). flat tree) (answer-lines (record { block = instrs_of block; profile = p }) budget a is);
+      preorder = ap (λ (tree : Tree Ending). flat tree) (answer-lines (record { block = instrs_of block; profile = p }) budget a is);
     }
 
-pub same-parts : (v w : Parts) → v.profile ≡ w.profile → v.block ≡ w.block → v.time ≡ w.time → v.bound ≡ w.bound → v.numbers ≡ w.numbers → v.knots ≡ w.knots → v ≡ w
-same-parts v w profile block time bound numbers knots =
-    ap (λ x. record v { profile = x }) profile ∙ ap (λ x. record w { block = x; time = v.time; bound = v.bound; numbers = v.numbers; knots = v.knots }) block
+pub same-parts : (v w : Parts) → v.rule ≡ w.rule → v.profile ≡ w.profile → v.block ≡ w.block → v.time ≡ w.time → v.bound ≡ w.bound → v.numbers ≡ w.numbers → v.knots ≡ w.knots → v ≡ w
+same-parts v w rule profile block time bound numbers knots =
+    ap (λ x. record v { rule = x }) rule
+    ∙ ap (λ x. record w { profile = x; block = v.block; time = v.time; bound = v.bound; numbers = v.numbers; knots = v.knots }) profile
+    ∙ ap (λ x. record w { block = x; time = v.time; bound = v.bound; numbers = v.numbers; knots = v.knots }) block
     ∙ ap (λ x. record w { time = x; bound = v.bound; numbers = v.numbers; knots = v.knots }) time ∙ ap (λ x. record w { bound = x; numbers = v.numbers; knots = v.knots }) bound
     ∙ ap (λ x. record w { numbers = x; knots = v.knots }) numbers ∙ ap (λ x. record w { knots = x }) knots

@@ -13,9 +13,8 @@ use Rattle.s66_line.proofs.SpelledLaw.{some, few, spelled}
 use Rattle.s66_model.specs.Answer.{Answer, IsAnswer}
 use Rattle.s66_model.specs.LegalOrder.{IsLegal}
 use Rattle.s66_model.specs.Timing.{Problem, total_of}
-use Rattle.s66_model.specs.Tree.{Shows}
-use Rattle.s66_model.proofs.AnswerBound.{answer-shown}
-use Rattle.s66_model.proofs.Floors.{floor-stands}
+use Rattle.s66_model.specs.declared.rule.Rule.TheVariants.{NoneNamed}
+use Rattle.s66_model.specs.DominatedLeaves.{ShowsBy, tree_bounding}
 use Rattle.s66_model.proofs.WrittenOrders.{block-by_numbers}
 use Rattle.s66_cert.specs.declared.limits.TheConstants.{SPLIT_LIMIT}
 use Rattle.s66_cert.specs.Document.{Document, IsDocument}
@@ -26,7 +25,7 @@ use Rattle.s66_checker.proofs.GrantedClaims.{verdict-yes}
 use Rattle.s66_program.specs.OrderText.{problem_of}
 use Rattle.s66_program.specs.ProvedAnswers.{IsSpelled, IsSpelledBlock}
 use Rattle.s66_program.specs.ProveText.{document_under}
-use Rattle.s66_program.proofs.AnswerDocuments.{answer-document, bound-within}
+use Rattle.s66_program.proofs.AnswerDocuments.{answer-document, answer-shows, bound-within}
 
 instr-in : (text : List ℕ) (n : Instr) → Spells text n → instr_in_text text ≡ n
 instr-in text n spells = rw spells refl
@@ -56,7 +55,7 @@ true-claim p block budget a spelled is =
       legal = subst (λ (b : Problem). IsLegal b.block a.order) same is.legal;
       time = subst (λ (b : Problem). total_of b a.order ≡ a.time) same (sym is.time);
       bound = bound-within (problem_of p block) budget a is;
-      tree = subst (λ (b : Problem). Shows b a.bound [] a.tree) same (answer-shown floor-stands (problem_of p block) budget a is);
+      tree = subst (λ (b : Problem). ShowsBy NoneNamed b a.bound [] (tree_bounding a.tree)) same (answer-shows (problem_of p block) budget a is);
     }
 
 pub verdict-of_answer : (p : Profile) (block : Block) (budget : ℕ) (a : Answer) → IsSpelledBlock block → budget ≤ SPLIT_LIMIT → IsAnswer (problem_of p block) budget a →

@@ -4,7 +4,9 @@ use Rattle.s66_isa.specs.declared.profile.Profile.{Profile}
 use Rattle.s66_isa.specs.Table.{entries, numbers}
 use Rattle.s66_line.specs.Block.{instrs_of, text_of}
 use Rattle.s66_line.specs.Source.{Block, source_of}
+use Rattle.s66_model.specs.declared.rule.Rule.TheVariants.{NoneNamed}
 use Rattle.s66_model.specs.Answer.{Answer}
+use Rattle.s66_model.specs.DominatedLeaves.{tree_bounding}
 use Rattle.s66_cert.specs.Document.{Document, documents_text}
 use Rattle.s66_program.specs.declared.outcome.Status.{Status}
 use Rattle.s66_program.specs.OrderText.{AreAnswers, status_of}
@@ -16,7 +18,7 @@ texts_of block = map (text_of block) (numbers (instrs_of block))
 -- what an answer claims of a block under a profile
 abbrev pub document_under : Profile → Block → Answer → Document
 document_under p block a =
-    record { profile = entries p; block = texts_of block; time = a.time; bound = a.bound; numbers = a.order; tree = a.tree }
+    record { rule = NoneNamed; profile = entries p; block = texts_of block; time = a.time; bound = a.bound; numbers = a.order; tree = tree_bounding a.tree }
 
 abbrev pub all_documents : Profile → List Block → List Answer → List Document
 all_documents p (block ∷ blocks) (a ∷ answers) = document_under p block a ∷ all_documents p blocks answers

@@ -10,6 +10,7 @@ use s66_cert::{Claim, Document, InstructionText};
 use s66_isa::{BLOCK_LIMIT, Profile};
 use s66_ledger::{Answer, BUDGET_LIMIT};
 use s66_line::Block;
+use s66_model::Rule;
 use std::alloc::{AllocError, Global};
 
 /// The instructions of a block with their texts.
@@ -44,6 +45,7 @@ pub fn document_of(
     prove!(block.count() <= BLOCK_LIMIT);
     prove!(answer.splits() <= BUDGET_LIMIT);
     Ok(Document::new(Claim {
+        rule: Rule::NoneNamed,
         profile: ArrayVec::from(profile.entries()),
         block: texts_of(alloc, block)?,
         time: answer.time(),

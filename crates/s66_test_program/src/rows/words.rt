@@ -24,9 +24,9 @@ pub(crate) const ROWS: &[Row] = &[
         "S66 CERTIFICATE 1\nPROFILE 3 3 4 4 3 10 29 8 3 8 1 1 1 1 2 1 2\nBLOCK 1\nI BX1 X2\nTIME 4\nBOUND 4\nORDER 1\nC 1\nEND\n",
     ),
     (
-        "a document of version 2",
+        "a document of version 4",
         CHECK,
-        "S66 CERTIFICATE 2\n",
+        "S66 CERTIFICATE 4\n",
         3,
         "LINE 1 BAD LINE\n",
     ),

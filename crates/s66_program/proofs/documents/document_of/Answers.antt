@@ -1,6 +1,7 @@
-use Rattle.std.proofs.Common.{◌≡◌, ◌∙◌, ap, sym, subst, arith, rules}
+use Rattle.std.proofs.Common.{◌≡◌, ◌∙◌, refl, ap, sym, subst, arith, rules}
 use Rattle.s66_dep.specs.Ordered.{Ordered}
 use Rattle.s66_line.specs.Block.{instrs_of}
+use Rattle.s66_model.specs.declared.rule.Rule.TheVariants.{NoneNamed}
 use Rattle.s66_model.specs.Answer.{IsAnswer}
 use Rattle.s66_model.specs.Timing.{Problem}
 use Rattle.s66_ledger.specs.Answers.{answer_of}
@@ -11,6 +12,7 @@ use Rattle.s66_program.proofs.documents.document_of.Goals as goal
 -- what the claim says, and the answer's own parts
 abbrev claimed : goal.In_ok-tree → Parts
 claimed c = record {
+  rule = NoneNamed;
   profile = c.from.result.items;
   block = c.in_ok-texts_of.field-0.items;
   time = c.time.result;
@@ -24,7 +26,7 @@ own c = parts_under c.args.profile.now c.args.block.now (answer_of c.args.answer
 
 same : (c : goal.In_ok-tree) → claimed c ≡ own c
 same c =
-    same-parts (claimed c) (own c) (search rules) (c.in_ok-texts_of.ensures.texts) c.time.ensures.value c.bound.ensures.value
+    same-parts (claimed c) (own c) refl (search rules) (c.in_ok-texts_of.ensures.texts) c.time.ensures.value c.bound.ensures.value
     (c.in-Ok.ensures.0 ∙ c.numbers.ensures.value ∙ ap (λ (o : Ordered). o.numbers) c.order.ensures) c.in_ok-tree.ensures
 
 is : (c : goal.In_ok-tree) → IsAnswer (record { block = instrs_of c.args.block.now; profile = c.args.profile.now }) c.args.answer.now.budget (answer_of c.args.answer.now)

@@ -1,0 +1,12 @@
+use Rattle.std.proofs.Common.{◌≡◌, ◌<◌, [], length, drop}
+use Rattle.s66_model.specs.NodeNames.{node_at}
+use Rattle.s66_cert.specs.DocumentParts.{tree_of}
+use Rattle.s66_cert.specs.NodePlaces.{tree_at}
+use Rattle.s66_cert.proofs.indexed_tree.IndexedTree.node_at.Given as goal
+
+-- the node is the one of the rest of the name, from the line at the place
+abbrev pub invariant-loop-number : goal.invariant-loop-number
+invariant-loop-number l = record {
+  within : l.place < length l.self;
+  rest : node_at [] (tree_at l.self l.place) (drop l.number-index l.name) ≡ node_at [] (tree_of l.self) l.name;
+}

@@ -1,0 +1,123 @@
+ghost use Rattle.std.specs.Prelude.{◌≡◌, get_or};
+ghost use Rattle.s66_cert.specs.DocumentParts.{knot_of};
+ghost use Rattle.s66_cert.specs.NodePlaces.{end_behind, kid_count};
+
+use crate::tree::{KeptLines, Tree, TreeLine, TreeLines};
+use std::marker::Model;
+
+/// How many trees follow a line as its children.
+fn kid_count(line: TreeLine<'_>) -> usize
+    ensures { result ≡ kid_count (knot_of line.entry) }
+{
+    match line {
+        TreeLine::Split(numbers) => numbers.len(),
+        _ => 0,
+    }
+}
+
+/// Where the tree ends that begins at a place; a place behind the last is its own end.
+fn end_at(ends: &[u32], place: usize) -> usize
+    ensures { result ≡ get_or ends.now place place }
+{
+    if place < ends.len() {
+        ends[place] as usize
+    } else {
+        place
+    }
+}
+
+/// Where the last of so many trees ends, of which the first begins at a place.
+fn end_behind(ends: &[u32], count: usize, place: usize) -> usize
+    ensures { result ≡ end_behind ends.now count place }
+{
+    let mut end = place;
+    let mut left = count;
+    while left > 0 {
+        left -= 1;
+        end = end_at(ends, end);
+    }
+    end
+}
+
+/// The lines of a tree in preorder, and where the tree of each ends, so that nodes are found by jumps.
+#[derive(Debug, Drop)]
+pub(crate) struct IndexedTree {
+    lines: KeptLines,
+    ends: Vec<u32>,
+}
+
+impl Model for IndexedTree {
+    ghost use Rattle.std.specs.Prelude.{List};
+    ghost use Rattle.s66_model.specs.Tree.{Knot};
+    ghost use Rattle.s66_model.specs.DominatedLeaves.{Ending};
+    ghost use Rattle.s66_cert.specs.NodePlaces.{AreEnds};
+
+    ghost Value = { List (Knot Ending) };
+
+    ghost view = { λ t. t.lines };
+
+    ghost invariant = { λ t. AreEnds 0 t.ends.items t.lines };
+}
+
+impl IndexedTree {
+    ghost use Rattle.std.specs.Prelude.{◌≡◌, ◌<◌, ◌≤◌, ◌^◌, [], length};
+    ghost use Rattle.std.specs.Option.{option_map};
+    ghost use Rattle.s66_model.specs.NodeNames.{node_at};
+    ghost use Rattle.s66_cert.specs.DocumentParts.{knot_of, tree_of};
+    ghost use Rattle.s66_cert.specs.NodePlaces.{IsChildAt};
+
+    /// The same lines, in one pass over them; nothing is allocated.
+    pub(crate) fn new(tree: Tree) -> IndexedTree
+        requires { length tree < 2 ^ 32 }
+        ensures { result ≡ tree }
+    {
+        let (lines, mut ends) = tree.into_parts();
+        let mut place = lines.len();
+        while place > 0 {
+            place -= 1;
+            let count = kid_count(lines.at(place));
+            ends[place] = end_behind(ends.as_slice(), count, place + 1) as u32;
+        }
+        IndexedTree { lines, ends }
+    }
+
+    /// The lines, from the first on.
+    pub(crate) fn lines(&self) -> TreeLines<'_>
+        ensures { result ≡ self.now }
+    {
+        self.lines.iter()
+    }
+
+    /// Where the first child of this number stands, of the line at a place.
+    fn child_at(&self, place: usize, number: u8) -> Option<usize>
+        requires { place < length self.now }
+        ensures { IsChildAt self.now place number result }
+    {
+        let TreeLine::Split(numbers) = self.lines.at(place) else {
+            return None;
+        };
+        let mut kid = place + 1;
+        for last in numbers {
+            if kid >= self.lines.len() {
+                return None;
+            }
+            if *last == number {
+                return Some(kid);
+            }
+            kid = self.ends[kid] as usize;
+        }
+        None
+    }
+
+    /// The line of the node of this name.
+    pub(crate) fn node_at(&self, name: &[u8]) -> Option<TreeLine<'_>>
+        requires { 1 ≤ length self.now }
+        ensures { option_map knot_of result ≡ node_at [] (tree_of self.now) name.now }
+    {
+        let mut place = 0;
+        for number in name {
+            place = self.child_at(place, *number)?;
+        }
+        Some(self.lines.at(place))
+    }
+}
