@@ -15,7 +15,9 @@
 #![tactic(auto)]
 
 mod check;
+mod dominance;
 mod examples;
+mod falling;
 mod fault;
 mod laws;
 mod leaf;
