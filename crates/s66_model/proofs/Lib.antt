@@ -41,6 +41,7 @@ pub mod NodeTrees
 pub mod EndedLedgers
 pub mod TreeLines
 pub mod WrittenOrders
+pub mod LowRegisters
 pub mod FreeTimes
 pub mod PushedBoth
 pub mod Dominating
