@@ -19,3 +19,4 @@ pub mod AheadOf
 pub mod GoingTo
 pub mod UnitsNoLater
 pub mod TwoPrefixes
+pub mod DominanceTests

@@ -37,5 +37,5 @@ pub use check::verify;
 pub use examples::{
     fault_examples, leaf_examples, profile_examples, split_examples, verdict_examples,
 };
-pub use laws::yes_law;
+pub use laws::{dominating_law, yes_law};
 pub use verdict::{Reason, Verdict};
