@@ -35,7 +35,8 @@ mod words;
 
 pub use check::verify;
 pub use examples::{
-    fault_examples, leaf_examples, profile_examples, split_examples, verdict_examples,
+    dominating_examples, fault_examples, leaf_examples, profile_examples, split_examples,
+    verdict_examples,
 };
 pub use laws::{dominating_law, yes_law};
 pub use verdict::{Reason, Verdict};
