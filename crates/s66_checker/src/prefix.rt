@@ -55,7 +55,7 @@ impl Prefix {
     ghost use Rattle.s66_model.specs.Dependence.{depends};
     ghost use Rattle.s66_checker.specs.KeptPrefix.{AreTimed};
     ghost use Rattle.s66_checker.specs.Marked.{is_marked};
-    ghost use Rattle.s66_checker.specs.Dominating.{is_beginning, dominates_by};
+    ghost use Rattle.s66_checker.specs.Dominating.{is_beginning, is_same_set, dominates_by};
 
     /// Before the first instruction of a block, under a profile. Each pair of its instructions is looked at once.
     pub(crate) fn new(block: &[Instr], profile: &Profile) -> Prefix
@@ -236,6 +236,14 @@ impl Prefix {
         true
     }
 
+    /// Whether it has the numbers of another beginning of the same block, in any order: one look at a word.
+    pub(crate) fn has_set_of(&self, other: &Prefix) -> bool
+        requires { self.now.problem ≡ other.now.problem }
+        ensures { result ≡ is_same_set self.now.numbers other.now.numbers }
+    {
+        self.placed.are_same(&other.placed)
+    }
+
     /// Whether it dominates another beginning of the same block under the same profile, by a rule.
     ///
     /// Where no kind has three or more copies, the time for it is the same whatever is placed. Else each point is looked at once for
@@ -244,7 +252,7 @@ impl Prefix {
         requires { self.now.problem ≡ at.now.problem }
         ensures { result ≡ dominates_by rule at.now.problem self.now.numbers at.now.numbers }
     {
-        if !self.placed.are_same(&at.placed) {
+        if !self.has_set_of(at) {
             return false;
         }
         match rule {
