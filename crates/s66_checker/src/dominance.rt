@@ -1,5 +1,5 @@
-//! Whether one beginning of an order leaves nothing later than another does. Points stand with the oldest first, and times are in
-//! minor cycles.
+//! Whether one beginning of an order leaves nothing later than another does. Points stand with the oldest first, and times
+//! are in minor cycles.
 
 ghost use Rattle.std.specs.Prelude.{◌≡◌, ◌≤◌, reverse};
 ghost use Rattle.s66_model.specs.Dominance.{free_times};
@@ -26,7 +26,8 @@ fn free_times(points: &[KeptPoint], kind: Kind) -> FallingTimes
     times
 }
 
-/// Whether the units of a kind, of which there are so many, are free no later than another past's, place by place, or than the clamp.
+/// Whether the units of a kind, of which there are so many, are free no later than another past's, place by place, or than
+/// the clamp.
 ///
 /// For one copy or two it reads two words. For more it looks at each point.
 fn are_units_no_later(own: &Past, other: &Past, kind: Kind, copies: u32, clamp: u32) -> bool
@@ -68,8 +69,8 @@ fn are_all_units_no_later(own: &Past, other: &Past, profile: &Profile, clamp: u3
     true
 }
 
-/// Whether a past under a profile leaves nothing later than another one does, or than the clamps: that of registers' readers, and that
-/// of all else.
+/// Whether a past under a profile leaves nothing later than another one does, or than the clamps: that of registers'
+/// readers, and that of all else.
 pub fn is_no_later(own: &Past, other: &Past, profile: &Profile, readers: u32, others: u32) -> bool
     requires own { AreTimed own.now }
     requires other { AreTimed other.now }

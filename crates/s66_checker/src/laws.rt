@@ -12,8 +12,8 @@ ghost use Rattle.s66_checker.specs.Verdict.{verdict, problem_of};
 ghost use Rattle.s66_checker.specs.Dominating.{dominates_by};
 ghost use Rattle.s66_checker.specs.TrueClaims.{IsTrueClaim};
 
-/// The verdict on a document is yes, with its time and its bound, exactly where what it claims is true; no legal order then takes
-/// less than the bound.
+/// The verdict on a document is yes, with its time and its bound, exactly where what it claims is true; no legal order then
+/// takes less than the bound.
 pub fn yes_law()
     ensures told { (limit : ℕ) (d : Document) (time bound : ℕ) → IsDocument limit d → verdict d ≡ Yes time bound → (time ≡ d.time) × (bound ≡ d.bound) × IsTrueClaim d }
     ensures yes { (limit : ℕ) (d : Document) → IsDocument limit d → IsTrueClaim d → verdict d ≡ Yes d.time d.bound }

@@ -213,8 +213,8 @@ impl Prefix {
         shared
     }
 
-    /// Goes to other numbers, and answers whether it came to their end: whether they are the beginning of a legal order. If not, it
-    /// stands at some of them, from the first on.
+    /// Goes to other numbers, and answers whether it came to their end: whether they are the beginning of a legal order. If
+    /// not, it stands at some of them, from the first on.
     ///
     /// It keeps the numbers that it has in common with them, takes the rest off, and places the others while each is ready.
     pub(crate) fn go_to(&mut self, numbers: &[u8]) -> bool
@@ -246,8 +246,8 @@ impl Prefix {
 
     /// Whether it dominates another beginning of the same block under the same profile, by a rule.
     ///
-    /// Where no kind has three or more copies, the time for it is the same whatever is placed. Else each point is looked at once for
-    /// each such kind, and its free time compared with the later ones of its kind before it.
+    /// Where no kind has three or more copies, the time for it is the same whatever is placed. Else each point is looked at
+    /// once for each such kind, and its free time compared with the later ones of its kind before it.
     pub(crate) fn dominates(&self, at: &Prefix, rule: Rule) -> bool
         requires { self.now.problem ≡ at.now.problem }
         ensures { result ≡ dominates_by rule at.now.problem self.now.numbers at.now.numbers }
