@@ -1,6 +1,6 @@
 -- From one beginning to another with the same front.
-use Rattle.std.proofs.Common.{ℕ, ◌+◌, ◌≤◌, ◌<◌, ◌≡◌, ◌&&◌, List, [], ◌∷◌, ◌++◌, length, take, drop, get_or, sym, ap, subst, ◌∙◌, arith, append_assoc}
-use Rattle.std.proofs.lemmas.List.{append-nil, take-append-drop, length-append, length-take-le, take-append-le, take_all, take_more, get_or-drop}
+use Rattle.std.proofs.Common.{ℕ, ◌≤◌, ◌≡◌, ◌&&◌, List, [], ◌∷◌, ◌++◌, length, take, drop, sym, ap, subst, ◌∙◌, append_assoc}
+use Rattle.std.proofs.lemmas.List.{append-nil, take-append-drop, take_all}
 use Rattle.s66_isa.specs.declared.instr.Instr.{Instr}
 use Rattle.s66_model.specs.LegalOrder.{GoesOn, IsBeginning}
 use Rattle.s66_model.proofs.LegalOrders.{GoesOn-append}
@@ -24,24 +24,6 @@ front-begins block ns ms k begins same =
 pub front-goes : (block : List Instr) (ms : List ℕ) (k : ℕ) → IsBeginning block (take k ms) → goes_on block (take k ms) (drop k ms) ≡ goes_on block [] ms
 front-goes block ms k begins = goes-further block [] (take k ms) (drop k ms) begins ∙ ap (goes_on block []) (take-append-drop k ms)
 
--- one less behind the front
-pub front-stays : (k n : ℕ) (ns ms others : List ℕ) → ns ≡ ms ++ n ∷ [] → k < length ns → take k ns ≡ take k others → take k ms ≡ take k others
-front-stays k n ns ms others e lt same =
-    sym (take-append-le k ms (n ∷ []) (omega (arith, lt, ap length e, length-append ms (n ∷ [])))) ∙ ap (take k) (sym e) ∙ same
-
 -- nothing but the front
 pub front-alone : (k : ℕ) (ns ms : List ℕ) → length ns ≤ k → take k ns ≡ take k ms → ns ≡ take k ms
 front-alone k ns ms few same = sym (take_all k ns few) ∙ same
-
-pub front-length : (k : ℕ) (ns ms : List ℕ) → k ≤ length ms → ns ≡ take k ms → ns ≡ take (length ns) ms
-front-length k ns ms le is =
-    let e : length ns ≡ k = ap length is ∙ length-take-le k ms le in
-    is ∙ ap (λ i. take i ms) (sym e)
-
--- one more of those that are left
-pub front-more : (k i n : ℕ) (ns ms left : List ℕ) → left ≡ drop k ms → i < length left → k + length left ≤ length ms → n ≡ get_or left i n → ns ≡ take (k + i) ms → ns ++ n ∷ [] ≡ take (k + (i + 1)) ms
-front-more k i n ns ms left e lt within is front =
-    let at : n ≡ get_or ms (k + i) n = is ∙ ap (λ ys. get_or ys i n) e ∙ get_or-drop k ms i n in
-    ap (λ ys. ys ++ n ∷ []) front ∙ ap (λ m. take (k + i) ms ++ m ∷ []) at
-    ∙ sym (take_more ms (k + i) n (omega (arith, lt, within)))
-    ∙ ap (λ j. take j ms) (omega arith)

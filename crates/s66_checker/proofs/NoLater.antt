@@ -75,30 +75,18 @@ module _ (a b c d e f g : Bool) where
   abbrev pub All : Bool
   All = a && b && c && d && e && f && g
 
-  fails : (x y : Bool) → x ≡ false → (x && y) ≡ false
-  fails x y h = and_left x y h
-
-  -- each of the first so many fails where one of them does
+  -- all fail where the first so many do
   upto-f : (a && b && c && d && e && f) ≡ false → false ≡ All
-  upto-f h = sym (fails _ g h)
+  upto-f h = sym (and_left _ g h)
 
   upto-e : (a && b && c && d && e) ≡ false → false ≡ All
-  upto-e h = upto-f (fails _ f h)
+  upto-e h = upto-f (and_left _ f h)
 
   upto-d : (a && b && c && d) ≡ false → false ≡ All
-  upto-d h = upto-e (fails _ e h)
+  upto-d h = upto-e (and_left _ e h)
 
   upto-c : (a && b && c) ≡ false → false ≡ All
-  upto-c h = upto-d (fails _ d h)
-
-  upto-b : (a && b) ≡ false → false ≡ All
-  upto-b h = upto-c (fails _ c h)
-
-  pub first-fails : a ≡ false → false ≡ All
-  first-fails h = upto-b (fails a b h)
-
-  pub second-fails : b ≡ false → false ≡ All
-  second-fails h = upto-b (and_right a b h)
+  upto-c h = upto-d (and_left _ d h)
 
   pub third-fails : c ≡ false → false ≡ All
   third-fails h = upto-c (and_right (a && b) c h)

@@ -49,7 +49,7 @@ fn rows_of(block: &[Instr], profile: &Profile) -> ArrayVec<Row, BLOCK_LIMIT>
 }
 
 impl Prefix {
-    ghost use Rattle.std.specs.Prelude.{ℕ, ◌++◌, [], ◌∷◌, true, IfSome, IfNone, IsTrue, reverse, take};
+    ghost use Rattle.std.specs.Prelude.{ℕ, ◌++◌, ◌<◌, ◌≢◌, [], ◌∷◌, true, false, IfSome, IfNone, IsTrue, get_or, reverse, take};
     ghost use Rattle.s66_model.specs.Timing.{copies, points_of, row_at, total_of};
     ghost use Rattle.s66_model.specs.LegalOrder.{IsBeginning, is_remaining, is_ready, needs_met};
     ghost use Rattle.s66_model.specs.Dependence.{depends};
@@ -202,6 +202,7 @@ impl Prefix {
         ensures own { result ≤ length self.now.numbers }
         ensures others { result ≤ length numbers.now }
         ensures same { take result self.now.numbers ≡ take result numbers.now }
+        ensures most { result < length self.now.numbers → result < length numbers.now → get_or self.now.numbers result 0 ≢ get_or numbers.now result 0 }
         ensures begins { IsBeginning self.now.problem.block (take result numbers.now) }
     {
         let own = self.numbers.as_slice();
@@ -214,7 +215,7 @@ impl Prefix {
     }
 
     /// Goes to other numbers, and answers whether it came to their end: whether they are the beginning of a legal order. If
-    /// not, it stands at some of them, from the first on.
+    /// not, it stands before the first of them that isn't ready.
     ///
     /// It keeps the numbers that it has in common with them, takes the rest off, and places the others while each is ready.
     pub(crate) fn go_to(&mut self, numbers: &[u8]) -> bool
@@ -222,6 +223,7 @@ impl Prefix {
         ensures problem { self.new.problem ≡ self.old.problem }
         ensures all { IsTrue result → self.new.numbers ≡ numbers.now }
         ensures some { self.new.numbers ≡ take (length self.new.numbers) numbers.now }
+        ensures refused { result ≡ false → is_ready self.new.problem.block self.new.numbers (get_or numbers.now (length self.new.numbers) 0) ≡ false }
     {
         let shared = self.shared_with(numbers);
         while self.numbers.len() > shared {
