@@ -23,7 +23,7 @@ passed false fault later none other = ((λ h. (refl, h)), λ h. h.1)
 
 -- LEGAL ORDERS
 
-goes_on-Decides : (block : List Instr) (prefix ns : List ℕ) → Decides (goes_on block prefix ns) (GoesOn block prefix ns)
+pub goes_on-Decides : (block : List Instr) (prefix ns : List ℕ) → Decides (goes_on block prefix ns) (GoesOn block prefix ns)
 goes_on-Decides block prefix [] = ((λ h. tt), λ h. refl)
 goes_on-Decides block prefix (n ∷ ns) =
     Decides-and (is_ready block prefix n) (goes_on block (prefix ++ n ∷ []) ns) ((λ h. h), λ h. h) (goes_on-Decides block (prefix ++ n ∷ []) ns)

@@ -12,3 +12,11 @@ pub mod PrefixSteps
 pub mod LeafBounds
 pub mod WordsOfPoints
 pub mod MarkBits
+pub mod NoLater
+pub mod FreeUnits
+pub mod WordsNoLater
+pub mod AheadOf
+pub mod GoingTo
+pub mod UnitsNoLater
+pub mod TwoPrefixes
+pub mod DominanceTests

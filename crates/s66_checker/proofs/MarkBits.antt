@@ -52,3 +52,23 @@ marks-within own other fits =
               ]
           | inr clear ↦ grind (arith, clear, bit_at_and own.bits other.bits i, bit_at-lt own.bits i)
         ]
+
+-- the bits are the same where the marks are
+pub marks-same : (own other : Marks) → own.bits < 2 ^ 128 → other.bits < 2 ^ 128 → IsTrue (own.bits == other.bits) ↔ ((m : ℕ) → 1 ≤ m → m ≤ BLOCK_LIMIT → is_marked own m ≡ is_marked other m)
+marks-same own other fits room = (
+  λ same m low high. ap (λ bits. bit_at bits (m - 1) == 1) (eqb-true own.bits other.bits same),
+  λ each. eq-eqb own.bits other.bits (same_from_bits own.bits other.bits (bits each)),
+)
+  where
+    one : (a b : ℕ) → a < 2 → b < 2 → (a == 1) ≡ (b == 1) → a ≡ b
+    one a b la lb same = grind (arith, la, lb, same)
+
+    bits : ((m : ℕ) → 1 ≤ m → m ≤ BLOCK_LIMIT → is_marked own m ≡ is_marked other m) → (i : ℕ) → bit_at own.bits i ≡ bit_at other.bits i
+    bits each i =
+        elim (cases_lt i BLOCK_LIMIT) [
+          | inl lt ↦
+              let e : i + 1 - 1 ≡ i = omega arith in
+              one (bit_at own.bits i) (bit_at other.bits i) (bit_at-lt own.bits i) (bit_at-lt other.bits i)
+              (ap (λ k. bit_at own.bits k == 1) (sym e) ∙ each (i + 1) (omega arith) (omega (arith, lt)) ∙ ap (λ k. bit_at other.bits k == 1) e)
+          | inr ge ↦ bit_at_above own.bits BLOCK_LIMIT i fits ge ∙ sym (bit_at_above other.bits BLOCK_LIMIT i room ge)
+        ]

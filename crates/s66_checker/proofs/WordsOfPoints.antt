@@ -33,10 +33,10 @@ raised-next r x xs i t w new all lt is e1 e2 =
 
 -- UNITS
 
-held : (t f : ℕ) → t < f → ◌≡◌ {A = ℕ} (cond (ltb t f) 1 0) 1
+pub held : (t f : ℕ) → t < f → ◌≡◌ {A = ℕ} (cond (ltb t f) 1 0) 1
 held t f lt = ap (λ b. cond b 1 0) (lt-ltb t f lt)
 
-past : (t f : ℕ) → f ≤ t → ◌≡◌ {A = ℕ} (cond (ltb t f) 1 0) 0
+pub past : (t f : ℕ) → f ≤ t → ◌≡◌ {A = ℕ} (cond (ltb t f) 1 0) 0
 past t f le = ap (λ b. cond b 1 0) (le-ltb t f le)
 
 -- one more instruction holds a unit

@@ -1,5 +1,8 @@
 -- Used by examples alone: worked documents with a part changed.
 use Rattle.std.specs.Prelude.{ℕ, List, [], ◌∷◌}
+use Rattle.s66_isa.specs.Profiles.{profile_of}
+use Rattle.s66_isa.specs.Table.{instr}
+use Rattle.s66_model.specs.Timing.{Problem}
 use Rattle.s66_model.specs.Leaves.{Leaf, Whole, Parcels}
 use Rattle.s66_model.specs.Tree.{Alone, Parted, Kids, NoMore, Unsplit, Split}
 use Rattle.s66_cert.specs.Document.{Document}
@@ -23,6 +26,13 @@ three_units = 3 ∷ 3 ∷ 4 ∷ 4 ∷ 3 ∷ 10 ∷ 29 ∷ 8 ∷ 3 ∷ 8 ∷ 1 �
 
 abbrev pub multiplies_at_once : ℕ → Document
 multiplies_at_once bound = record three_multiplies { profile = three_units; time = 13; bound = bound; tree = Alone Parcels }
+
+-- SA1 A1+B1 / FX4 X5*X6 / FX0 X7*X7 / FX1 X2*X3 under it
+abbrev pub load_and_multiplies : Problem
+load_and_multiplies = record {
+  block = instr 0o54 1 1 1 ∷ instr 0o40 4 5 6 ∷ instr 0o40 0 7 7 ∷ instr 0o40 1 2 3 ∷ [];
+  profile = profile_of three_units;
+}
 
 -- THREE MULTIPLIES WITH ANOTHER TREE, the first line of which is line 10
 

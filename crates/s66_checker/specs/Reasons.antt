@@ -1,7 +1,7 @@
 -- To be believed: the numbers by which reasons are printed. No reason has 7.
 use Rattle.std.specs.Prelude.{ℕ}
 use Rattle.s66_checker.specs.declared.verdict.Reason.{Reason}
-use Rattle.s66_checker.specs.declared.verdict.Reason.TheVariants.{Order, Time, Children, Chain, Value, Place, Bound}
+use Rattle.s66_checker.specs.declared.verdict.Reason.TheVariants.{Order, Time, Children, Chain, Value, Place, Bound, Name, Dominance}
 
 abbrev pub number_of : Reason → ℕ
 number_of Order = 1
@@ -11,3 +11,5 @@ number_of Chain = 4
 number_of Value = 5
 number_of Place = 6
 number_of Bound = 8
+number_of Name = 9
+number_of Dominance = 10

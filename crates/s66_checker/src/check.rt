@@ -38,17 +38,13 @@ fn instructions_of(texts: &[InstructionText]) -> ArrayVec<Instr, BLOCK_LIMIT>
     instrs
 }
 
-/// Goes through an order from the empty prefix of its block on: what it takes, in minor cycles, or none where it isn't legal.
+/// Goes through an order: what it takes, in minor cycles, or none where it isn't legal.
 fn legal_total(prefix: &mut Prefix, order: &[u8]) -> Option<u32>
-    requires { prefix.old.numbers ≡ [] }
     ensures value { result ≡ (if is_legal_order prefix.old.problem.block order.now then Some (total_of prefix.old.problem order.now) else None) }
     ensures problem { prefix.new.problem ≡ prefix.old.problem }
 {
-    for number in order {
-        if !prefix.is_ready(*number) {
-            return None;
-        }
-        prefix.push(*number);
+    if !prefix.go_to(order) {
+        return None;
     }
     if order.len() == prefix.count() as usize {
         Some(prefix.total())

@@ -1,8 +1,10 @@
-//! Worked verdicts.
+//! Worked verdicts, and which beginnings dominate which.
 #![tactic(auto, unfolding(s66_isa::specs::Table::row, s66_isa::specs::Profiles::profile_of, s66_model::specs::Dependence::conflict, s66_model::specs::Timing::issue_of, s66_model::specs::Timing::start_of, s66_model::specs::Timing::point))]
 
-ghost use Rattle.std.specs.Prelude.{[], ◌∷◌, ◌≡◌};
+ghost use Rattle.std.specs.Prelude.{[], ◌∷◌, ◌≡◌, true, false};
 ghost use Rattle.s66_isa.specs.declared.instr.Kind.TheVariants.{Boolean, Multiply};
+ghost use Rattle.s66_model.specs.declared.rule.Rule.TheVariants.{NoneNamed, WrittenEarlier, ClampedStanding};
+ghost use Rattle.s66_model.specs.Examples.{standard_problem, late_reader, three_increments, packing_gap, two_gaps, booleans_and_sets, late_result, later_gap};
 ghost use Rattle.s66_model.specs.Leaves.{Whole, Chain, Load, Parcels};
 ghost use Rattle.s66_model.specs.Tree.{Alone, Parted, NoMore, Unsplit, Split};
 ghost use Rattle.s66_cert.specs.Examples as examples;
@@ -10,7 +12,8 @@ ghost use Rattle.s66_cert.specs.Examples.{after_one, with_times, with_order, wit
 ghost use Rattle.s66_checker.specs.declared.verdict.Verdict.TheVariants.{Yes, No};
 ghost use Rattle.s66_checker.specs.declared.verdict.Reason.TheVariants as fault;
 ghost use Rattle.s66_checker.specs.Verdict.{verdict};
-ghost use Rattle.s66_checker.specs.Examples.{refused_order, slow_one_load, multiplies_at_once, multiplies_split, second_line, third_line, last_leaf};
+ghost use Rattle.s66_checker.specs.Dominating.{dominates_by};
+ghost use Rattle.s66_checker.specs.Examples.{refused_order, slow_one_load, multiplies_at_once, load_and_multiplies, multiplies_split, second_line, third_line, last_leaf};
 
 /// Verdicts on the worked documents: a leaf of each kind, and whole orders alone.
 pub fn verdict_examples()
@@ -70,4 +73,29 @@ pub fn split_examples()
     ensures chain_at_a_whole_order { verdict (third_line (Split (3 ∷ []) (Unsplit (Chain (3 ∷ [])) NoMore))) ≡ No 13 fault.Place }
     ensures split_of_a_whole_order { verdict (third_line (Split (3 ∷ []) (Split (1 ∷ []) (Unsplit Whole NoMore) NoMore))) ≡ No 13 fault.Children }
     ensures last_line { verdict (last_leaf Parcels) ≡ No 25 fault.Place }
+{}
+
+/// Which beginnings dominate which, by the tests.
+pub fn dominating_examples()
+    ensures waits_in_either_order { dominates_by WrittenEarlier (standard_problem late_reader) (1 ∷ 2 ∷ 3 ∷ []) (1 ∷ 3 ∷ 2 ∷ []) ≡ true }
+    ensures waits_clamped { dominates_by ClampedStanding (standard_problem late_reader) (1 ∷ 2 ∷ 3 ∷ []) (1 ∷ 3 ∷ 2 ∷ []) ≡ true }
+    ensures waits_the_other_way { dominates_by ClampedStanding (standard_problem late_reader) (1 ∷ 3 ∷ 2 ∷ []) (1 ∷ 2 ∷ 3 ∷ []) ≡ false }
+    ensures result_later { dominates_by ClampedStanding (standard_problem late_reader) (1 ∷ 2 ∷ 4 ∷ []) (1 ∷ 4 ∷ 2 ∷ []) ≡ false }
+    ensures another_set { dominates_by ClampedStanding (standard_problem late_reader) (1 ∷ 2 ∷ 3 ∷ []) (1 ∷ 2 ∷ 4 ∷ []) ≡ false }
+    ensures no_beginning { dominates_by ClampedStanding (standard_problem late_reader) (3 ∷ 1 ∷ []) (3 ∷ 1 ∷ []) ≡ false }
+    ensures itself { dominates_by WrittenEarlier (standard_problem late_reader) (1 ∷ 2 ∷ []) (1 ∷ 2 ∷ []) ≡ true }
+    ensures none_named { dominates_by NoneNamed (standard_problem late_reader) (1 ∷ 2 ∷ []) (1 ∷ 2 ∷ []) ≡ false }
+    ensures one_for_another { dominates_by WrittenEarlier (standard_problem three_increments) (1 ∷ 2 ∷ []) (2 ∷ 1 ∷ []) ≡ true }
+    ensures and_back { dominates_by WrittenEarlier (standard_problem three_increments) (2 ∷ 1 ∷ []) (1 ∷ 2 ∷ []) ≡ true }
+    ensures one_of_another_number { dominates_by ClampedStanding (standard_problem three_increments) (1 ∷ []) (2 ∷ []) ≡ false }
+    ensures free_by_the_slot { dominates_by ClampedStanding (standard_problem packing_gap) (1 ∷ 3 ∷ 2 ∷ 4 ∷ []) (1 ∷ 2 ∷ 3 ∷ 4 ∷ []) ≡ true }
+    ensures free_later_as_written { dominates_by WrittenEarlier (standard_problem packing_gap) (1 ∷ 3 ∷ 2 ∷ 4 ∷ []) (1 ∷ 2 ∷ 3 ∷ 4 ∷ []) ≡ false }
+    ensures done_by_the_slot { dominates_by ClampedStanding (standard_problem booleans_and_sets) (2 ∷ 1 ∷ 3 ∷ []) (1 ∷ 2 ∷ 3 ∷ []) ≡ true }
+    ensures done_later_as_written { dominates_by WrittenEarlier (standard_problem booleans_and_sets) (2 ∷ 1 ∷ 3 ∷ []) (1 ∷ 2 ∷ 3 ∷ []) ≡ false }
+    ensures done_after_the_slot { dominates_by ClampedStanding (standard_problem late_result) (2 ∷ 1 ∷ []) (1 ∷ 2 ∷ []) ≡ false }
+    ensures half_a_word_apart { dominates_by ClampedStanding (standard_problem two_gaps) (1 ∷ 2 ∷ 4 ∷ 3 ∷ 5 ∷ 6 ∷ []) (1 ∷ 2 ∷ 3 ∷ 4 ∷ 5 ∷ 6 ∷ []) ≡ false }
+    ensures a_parcel_apart { dominates_by ClampedStanding (standard_problem later_gap) (1 ∷ 3 ∷ 2 ∷ 4 ∷ []) (1 ∷ 2 ∷ 3 ∷ 4 ∷ []) ≡ false }
+    ensures three_units_by_the_slot { dominates_by ClampedStanding load_and_multiplies (2 ∷ 3 ∷ 1 ∷ 4 ∷ []) (3 ∷ 2 ∷ 1 ∷ 4 ∷ []) ≡ true }
+    ensures three_units_as_written { dominates_by WrittenEarlier load_and_multiplies (2 ∷ 3 ∷ 1 ∷ 4 ∷ []) (3 ∷ 2 ∷ 1 ∷ 4 ∷ []) ≡ false }
+    ensures third_unit_later { dominates_by ClampedStanding load_and_multiplies (1 ∷ 2 ∷ 3 ∷ 4 ∷ []) (2 ∷ 1 ∷ 4 ∷ 3 ∷ []) ≡ false }
 {}

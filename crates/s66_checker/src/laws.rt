@@ -1,16 +1,30 @@
-//! What a verdict says, the contract of a function that does nothing.
+//! What a verdict and the test of dominance say, each the contract of a function that does nothing.
 
-ghost use Rattle.std.specs.Prelude.{ℕ, ◌≡◌, ◌↔◌};
+ghost use Rattle.std.specs.Prelude.{ℕ, List, ◌≡◌, ◌↔◌, true, false};
+ghost use Rattle.s66_model.specs.declared.rule.Rule.TheVariants.{NoneNamed, WrittenEarlier, ClampedStanding};
+ghost use Rattle.s66_model.specs.Timing.{Problem};
+ghost use Rattle.s66_model.specs.Digits.{HaveDigits};
+ghost use Rattle.s66_model.specs.Dominance.{Dominates, DominatesClamped};
 ghost use Rattle.s66_model.specs.BestAndBound.{IsBound};
 ghost use Rattle.s66_cert.specs.Document.{Document, IsDocument};
 ghost use Rattle.s66_checker.specs.declared.verdict.Verdict.TheVariants.{Yes};
 ghost use Rattle.s66_checker.specs.Verdict.{verdict, problem_of};
+ghost use Rattle.s66_checker.specs.Dominating.{dominates_by};
 ghost use Rattle.s66_checker.specs.TrueClaims.{IsTrueClaim};
 
-/// The verdict on a document is yes, with its time and its bound, exactly where what it claims is true; no legal order then takes
-/// less than the bound.
+/// The verdict on a document is yes, with its time and its bound, exactly where what it claims is true; no legal order then
+/// takes less than the bound.
 pub fn yes_law()
     ensures told { (limit : ℕ) (d : Document) (time bound : ℕ) → IsDocument limit d → verdict d ≡ Yes time bound → (time ≡ d.time) × (bound ≡ d.bound) × IsTrueClaim d }
     ensures yes { (limit : ℕ) (d : Document) → IsDocument limit d → IsTrueClaim d → verdict d ≡ Yes d.time d.bound }
     ensures bound { (d : Document) → IsTrueClaim d → IsBound (problem_of d) d.bound }
+{}
+
+/// The test of dominance says yes exactly where one beginning dominates another by the rule, if the digits of the block's
+/// instructions are 0 to 7. Those of each document's block are.
+pub fn dominating_law()
+    ensures written { (b : Problem) (name at : List ℕ) → HaveDigits b.block → (dominates_by WrittenEarlier b name at ≡ true) ↔ Dominates b name at }
+    ensures clamped { (b : Problem) (name at : List ℕ) → HaveDigits b.block → (dominates_by ClampedStanding b name at ≡ true) ↔ DominatesClamped b name at }
+    ensures none_named { (b : Problem) (name at : List ℕ) → dominates_by NoneNamed b name at ≡ false }
+    ensures digits { (d : Document) → HaveDigits (problem_of d).block }
 {}

@@ -1,21 +1,27 @@
-//! The verdict on a certificate, from its document alone: under the document's profile a legal order, its time and a bound that no
-//! order beats, or the first fault.
+//! The verdict on a certificate, from its document alone: under the document's profile a legal order, its time and a bound
+//! that no order beats, or the first fault.
 //!
-//! It goes through the order, and then through the tree of the bound line by line: a split has to go on with all instructions that
-//! are ready there, and a leaf has to have a value that reaches the bound, by one of the four rules of the model.
+//! It goes through the order, and then through the tree of the bound line by line: a split has to go on with all
+//! instructions that are ready there, and a leaf has to have a value that reaches the bound, by one of the four rules of the
+//! model.
 //!
-//! It shares nothing with the scheduler that made the certificate: no clock, no sets of dependences, no bounds, no ledger. So a
-//! mistake there, or in what is proved of it, doesn't come back here as a yes. It stands on the table of instructions (`s66_isa`),
-//! on the definitions of the model (`s66_model`), and on documents and their texts (`s66_cert`, `s66_line`). Dependences it tests
-//! pair by pair into a word of marks for each instruction (`needs`, `marks`), and times by the points of what is placed and what
-//! they leave for the next instruction (`past`, `words`, `timing`); one prefix is pushed and popped along the tree (`prefix`, `walk`).
+//! It shares nothing with the search that made the certificate: no clock, no marks, no sets of dependences, no bounds, no
+//! ledger. So a mistake there, or in what is proved of it, doesn't come back here as a yes. It stands on the table of
+//! instructions (`s66_isa`), on the definitions of the model (`s66_model`), and on documents and their texts (`s66_cert`,
+//! `s66_line`). It allocates nothing.
 //!
-//! It allocates nothing. A block takes time for each of its pairs once, and a line of the tree a time linear in the block's length,
-//! on the average over all lines, whatever the profile.
+//! It keeps what each instruction depends on, tested pair by pair, in a word (`needs`, `marks`). One prefix is pushed and
+//! popped along the tree (`prefix`, `walk`), with its points and what they leave for the next instruction (`past`, `words`,
+//! `timing`). Whether one prefix dominates another is told by what both leave (`dominance`, `falling`).
+//!
+//! A block takes time for each of its pairs once, and a line of the tree a time linear in the block's length, on the average
+//! over all lines, whatever the profile.
 #![tactic(auto)]
 
 mod check;
+mod dominance;
 mod examples;
+mod falling;
 mod fault;
 mod laws;
 mod leaf;
@@ -33,7 +39,8 @@ mod words;
 
 pub use check::verify;
 pub use examples::{
-    fault_examples, leaf_examples, profile_examples, split_examples, verdict_examples,
+    dominating_examples, fault_examples, leaf_examples, profile_examples, split_examples,
+    verdict_examples,
 };
-pub use laws::yes_law;
+pub use laws::{dominating_law, yes_law};
 pub use verdict::{Reason, Verdict};

@@ -56,4 +56,10 @@ impl Marks {
     {
         self.bits & other.bits == self.bits
     }
+    /// Whether the same numbers are marked.
+    pub fn are_same(&self, other: &Marks) -> bool
+        ensures { IsTrue result ↔ ((m : ℕ) → 1 ≤ m → m ≤ BLOCK_LIMIT → is_marked self.now m ≡ is_marked other.now m) }
+    {
+        self.bits == other.bits
+    }
 }

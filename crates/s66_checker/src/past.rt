@@ -37,6 +37,7 @@ impl Past {
     ghost use Rattle.s66_isa.specs.Table.{memory_pair};
     ghost use Rattle.s66_isa.specs.declared.limits.TheConstants.{BLOCK_LIMIT};
     ghost use Rattle.s66_model.specs.Timing.{Point, busy_at, done_of, readers_wait, total};
+    ghost use Rattle.s66_checker.specs.PastWords.{AreWords};
 
     /// Before the first instruction.
     pub fn new() -> Past
@@ -54,6 +55,13 @@ impl Past {
         ensures { result.now ≡ self.now }
     {
         self.points.as_slice()
+    }
+
+    /// What they leave.
+    pub fn words(&self) -> &Words
+        ensures { AreWords self.now result.now }
+    {
+        &self.words
     }
 
     /// Places one more instruction.

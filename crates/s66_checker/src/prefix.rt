@@ -2,13 +2,15 @@ ghost use Rattle.std.specs.Prelude.{◌≡◌, ◌≤◌, length, map};
 ghost use Rattle.s66_isa.specs.Table.{row};
 ghost use Rattle.s66_isa.specs.declared.limits.TheConstants.{BLOCK_LIMIT};
 
+use crate::dominance::is_no_later;
 use crate::marks::Marks;
 use crate::needs::{Numbers, needs_of_all};
 use crate::past::Past;
 use crate::point::KeptPoint;
-use crate::timing::next_point;
+use crate::timing::{next, next_point};
 use arrayvec::ArrayVec;
 use s66_isa::{BLOCK_LIMIT, Instr, Kind, Profile, Row};
+use s66_model::Rule;
 use std::marker::Model;
 
 /// The beginning of an order of a block that a checker has come to, with the times of its instructions under its profile.
@@ -47,12 +49,13 @@ fn rows_of(block: &[Instr], profile: &Profile) -> ArrayVec<Row, BLOCK_LIMIT>
 }
 
 impl Prefix {
-    ghost use Rattle.std.specs.Prelude.{ℕ, ◌++◌, [], ◌∷◌, true, IfSome, IfNone, reverse};
+    ghost use Rattle.std.specs.Prelude.{ℕ, ◌++◌, ◌<◌, ◌≢◌, [], ◌∷◌, true, false, IfSome, IfNone, IsTrue, get_or, reverse, take};
     ghost use Rattle.s66_model.specs.Timing.{copies, points_of, row_at, total_of};
     ghost use Rattle.s66_model.specs.LegalOrder.{IsBeginning, is_remaining, is_ready, needs_met};
     ghost use Rattle.s66_model.specs.Dependence.{depends};
     ghost use Rattle.s66_checker.specs.KeptPrefix.{AreTimed};
     ghost use Rattle.s66_checker.specs.Marked.{is_marked};
+    ghost use Rattle.s66_checker.specs.Dominating.{is_beginning, is_same_set, dominates_by};
 
     /// Before the first instruction of a block, under a profile. Each pair of its instructions is looked at once.
     pub(crate) fn new(block: &[Instr], profile: &Profile) -> Prefix
@@ -193,5 +196,79 @@ impl Prefix {
         ensures { result ≡ total_of self.now.problem self.now.numbers }
     {
         self.past.total()
+    }
+    /// How many numbers, from the first on, it has in common with others.
+    fn shared_with(&self, numbers: &[u8]) -> usize
+        ensures own { result ≤ length self.now.numbers }
+        ensures others { result ≤ length numbers.now }
+        ensures same { take result self.now.numbers ≡ take result numbers.now }
+        ensures most { result < length self.now.numbers → result < length numbers.now → get_or self.now.numbers result 0 ≢ get_or numbers.now result 0 }
+        ensures begins { IsBeginning self.now.problem.block (take result numbers.now) }
+    {
+        let own = self.numbers.as_slice();
+        let count = own.len().min(numbers.len());
+        let mut shared = 0;
+        while shared < count && own[shared] == numbers[shared] {
+            shared += 1;
+        }
+        shared
+    }
+
+    /// Goes to other numbers, and answers whether it came to their end: whether they are the beginning of a legal order. If
+    /// not, it stands before the first of them that isn't ready.
+    ///
+    /// It keeps the numbers that it has in common with them, takes the rest off, and places the others while each is ready.
+    pub(crate) fn go_to(&mut self, numbers: &[u8]) -> bool
+        ensures value { result ≡ is_beginning self.old.problem.block numbers.now }
+        ensures problem { self.new.problem ≡ self.old.problem }
+        ensures all { IsTrue result → self.new.numbers ≡ numbers.now }
+        ensures some { self.new.numbers ≡ take (length self.new.numbers) numbers.now }
+        ensures refused { result ≡ false → is_ready self.new.problem.block self.new.numbers (get_or numbers.now (length self.new.numbers) 0) ≡ false }
+    {
+        let shared = self.shared_with(numbers);
+        while self.numbers.len() > shared {
+            self.pop();
+        }
+        for n in &numbers[shared..] {
+            if !self.is_ready(*n) {
+                return false;
+            }
+            self.push(*n);
+        }
+        true
+    }
+
+    /// Whether it has the numbers of another beginning of the same block, in any order: one look at a word.
+    pub(crate) fn has_set_of(&self, other: &Prefix) -> bool
+        requires { self.now.problem ≡ other.now.problem }
+        ensures { result ≡ is_same_set self.now.numbers other.now.numbers }
+    {
+        self.placed.are_same(&other.placed)
+    }
+
+    /// Whether it dominates another beginning of the same block under the same profile, by a rule.
+    ///
+    /// Where no kind has three or more copies, the time for it is the same whatever is placed. Else each point is looked at
+    /// once for each such kind, and its free time compared with the later ones of its kind before it.
+    pub(crate) fn dominates(&self, at: &Prefix, rule: Rule) -> bool
+        requires { self.now.problem ≡ at.now.problem }
+        ensures { result ≡ dominates_by rule at.now.problem self.now.numbers at.now.numbers }
+    {
+        if !self.has_set_of(at) {
+            return false;
+        }
+        match rule {
+            Rule::NoneNamed => false,
+            Rule::WrittenEarlier => {
+                if self.total() > at.total() {
+                    return false;
+                }
+                is_no_later(&self.past, &at.past, &self.profile, 0, 0)
+            }
+            Rule::ClampedStanding => {
+                let now = next(at.points());
+                is_no_later(&self.past, &at.past, &self.profile, now + 1, now)
+            }
+        }
     }
 }

@@ -5,7 +5,7 @@ ghost use Rattle.std.specs.Prelude.{◌≡◌, ◌+◌, ◌<◌, ◌≤◌, ◌^
 ghost use Rattle.s66_isa.specs.Lists.{greatest, weigh};
 ghost use Rattle.s66_isa.specs.Table.{Write as WriteOf};
 ghost use Rattle.s66_model.specs.Packing.{fits_at};
-ghost use Rattle.s66_model.specs.Timing.{Problem, done_of, next, parcel_of, slot_of, issue_of, start_of, readers_wait, result_at, point};
+ghost use Rattle.s66_model.specs.Timing.{Problem, done_of, next, next_parcel, parcel_of, slot_of, issue_of, start_of, readers_wait, result_at, point};
 ghost use Rattle.s66_model.specs.Leaves.{rest_busy};
 ghost use Rattle.s66_checker.specs.KeptPrefix.{TOTAL_LIMIT, under, AreTimed};
 
@@ -73,15 +73,24 @@ fn fits_at(parcel: u32, parcels: u32) -> u32
     }
 }
 
+/// The parcel behind the last instruction, from 0: before a NO is put in.
+pub fn next_parcel(points: &[KeptPoint]) -> u32
+    requires { AreTimed points.now }
+    ensures value { result ≡ next_parcel (reverse points.now) }
+    ensures at_most { result ≤ TOTAL_LIMIT + 1 }
+{
+    match points.last() {
+        None => 0,
+        Some(last) => last.parcel + last.parcels(),
+    }
+}
+
 /// The parcel in which the next instruction begins, by the parcels that it has.
 fn parcel(points: &[KeptPoint], parcels: u32) -> u32
     requires { AreTimed points.now }
     ensures { result ≡ parcel_of (reverse points.now) parcels }
 {
-    match points.last() {
-        None => 0,
-        Some(last) => fits_at(last.parcel + last.parcels(), parcels),
-    }
+    fits_at(next_parcel(points), parcels)
 }
 
 /// The first minor cycle in which the next instruction may issue, by the parcels that it has.

@@ -27,6 +27,10 @@ pub enum Reason {
     Place,
     /// `BOUND` is above `TIME`.
     Bound,
+    /// The name of a dominated leaf is none that it may have: that of a node of the tree, over the same set of numbers.
+    Name,
+    /// The node that a dominated leaf names doesn't dominate.
+    Dominance,
 }
 
 impl Reason {
@@ -42,6 +46,8 @@ impl Reason {
             Reason::Value => 5,
             Reason::Place => 6,
             Reason::Bound => 8,
+            Reason::Name => 9,
+            Reason::Dominance => 10,
         }
     }
 }

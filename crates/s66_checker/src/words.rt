@@ -1,6 +1,6 @@
 //! What the instructions that are placed leave for the next, in a few words. All words are minor cycles.
 
-ghost use Rattle.std.specs.Prelude.{ℕ, ◌≡◌, ◌+◌, ◌≤◌, ◌++◌, [], ◌∷◌, List, if◌then◌else◌, max, nat_lt};
+ghost use Rattle.std.specs.Prelude.{ℕ, ◌≡◌, ◌+◌, ◌≤◌, ◌<◌, ◌↔◌, IsTrue, ◌++◌, [], ◌∷◌, List, if◌then◌else◌, get_or, max, nat_lt};
 ghost use Rattle.s66_isa.specs.Lists.{greatest};
 ghost use Rattle.s66_isa.specs.Table.{Reg as RegOf, same_reg, has_reg};
 ghost use Rattle.s66_model.specs.Timing.{Point, ResultAt};
@@ -49,6 +49,18 @@ impl RegisterWords {
         for register in registers {
             self.raise(*register, time);
         }
+    }
+
+    /// Whether each word is no later than the other's of that register, or than the clamp.
+    pub fn are_no_later(&self, other: &RegisterWords, clamp: u32) -> bool
+        ensures { IsTrue result ↔ ((i : ℕ) → i < REGISTER_COUNT → get_or self.now.words i 0 ≤ max (get_or other.now.words i 0) clamp) }
+    {
+        for index in 0..REGISTER_COUNT {
+            if self.words[index] > other.words[index].max(clamp) {
+                return false;
+            }
+        }
+        true
     }
 }
 

@@ -42,6 +42,7 @@ pub mod NamedNodes
 pub mod EndedLedgers
 pub mod TreeLines
 pub mod WrittenOrders
+pub mod LowRegisters
 pub mod FreeTimes
 pub mod PushedBoth
 pub mod Dominating

@@ -22,6 +22,7 @@ pub mod NodeTable
 pub mod NodeTree
 pub mod Ended
 pub mod Dominance
+pub mod Digits
 pub mod NodeNames
 pub mod DominatedLeaves
 pub mod Reached

@@ -8,7 +8,6 @@ pub mod Positions
 pub mod RowsOfBlock
 pub mod Cleared
 pub mod WordsAfter
-pub mod LowRegisters
 pub mod BusyWords
 pub mod NoLaterWords
 pub mod Marked

@@ -5,6 +5,7 @@ use Rattle.s66_isa.proofs.Lists.{cases_le}
 use Rattle.s66_model.specs.Timing.{Problem, Point, points_of, next}
 use Rattle.s66_model.specs.Dominance.{Clamp, clamp_at, IsNoLater, IsSameSet, DominatesBy}
 use Rattle.s66_model.proofs.PushedBoth.{Below}
+use Rattle.s66_model.proofs.LowRegisters.{OnlyLow, low-points}
 use Rattle.s66_model.proofs.Dominating.{no_later-below, below-no_later}
 use Rattle.s66_dep.proofs.LongestBeginning.{beginning-few}
 use Rattle.s66_time.specs.declared.limits.TheConstants.{TOTAL_LIMIT}
@@ -13,7 +14,6 @@ use Rattle.s66_time.specs.ClockWords.{under, IsWords}
 use Rattle.s66_time.specs.LaterWords.{HasNoLaterWords}
 use Rattle.s66_time.specs.Marks.{IsMarkOf}
 use Rattle.s66_time.proofs.Clocks.{in-turn, clock-next}
-use Rattle.s66_time.proofs.LowRegisters.{OnlyLow, low-points}
 
 -- THE WORDS
 

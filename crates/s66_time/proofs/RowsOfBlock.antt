@@ -4,7 +4,7 @@ use Rattle.std.proofs.lemmas.List.{get_or-map}
 use Rattle.s66_isa.specs.Table.{Instr, Row, row, kind_of, instr_at, idle_instr}
 use Rattle.s66_isa.specs.declared.profile.Profile.{Profile}
 use Rattle.s66_isa.proofs.Lists.{cases_le}
-use Rattle.s66_time.specs.Ticking.{HasDigits}
+use Rattle.s66_model.specs.Digits.{HasDigits}
 
 -- the row of a number
 pub row-at : (p : Profile) (is : List Instr) (rows : List Row) (place n : ℕ) (d : Row) → rows ≡ map (row p) is → d ≡ get_or rows place d → n ≡ suc place → place < length is → d ≡ row p (instr_at is n)

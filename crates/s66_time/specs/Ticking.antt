@@ -1,8 +1,9 @@
 -- To be believed: what contracts see of a clock: what is timed, the numbers that are pushed, and what the last step cost.
 use Rattle.std.specs.Prelude.{ℕ, ◌≡◌, ◌≤◌, List, map, reverse, length}
 use Rattle.s66_isa.specs.declared.profile.Profile.{Profile}
-use Rattle.s66_isa.specs.Table.{Instr, IsDigit, Row, instr_at, row}
+use Rattle.s66_isa.specs.Table.{Row, row}
 use Rattle.s66_model.specs.Timing.{Problem, Point, points_of}
+use Rattle.s66_model.specs.Digits.{HaveDigits}
 use Rattle.s66_model.specs.LegalOrder.{IsBeginning}
 use Rattle.s66_isa.specs.declared.limits.TheConstants.{BLOCK_LIMIT}
 use Rattle.s66_line.specs.Source.{Block}
@@ -28,10 +29,6 @@ points t = points_of (problem_of t) t.numbers
 abbrev pub numbers_of : List Step → List ℕ
 numbers_of steps = map (λ (k : Step). k.number) steps
 
--- its octal digits are 0 to 7
-abbrev pub HasDigits : Instr → Type 0
-HasDigits n = IsDigit n.i × IsDigit n.j × IsDigit n.k
-
 -- what is true of every clock
 pub record IsClock (b : Problem) (w : Words) (steps : List Step) : Type 0 where
   pub few : length b.block ≤ BLOCK_LIMIT
@@ -42,4 +39,4 @@ pub record IsTicking (b : Problem) (w : Words) (steps : List Step) (copies : Cop
   pub clock : IsClock b w steps
   pub counted : AreCopies b.profile copies
   pub each : rows ≡ map (row b.profile) b.block
-  pub digits : (n : ℕ) → HasDigits (instr_at b.block n)
+  pub digits : HaveDigits b.block

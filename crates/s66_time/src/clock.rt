@@ -1,7 +1,7 @@
-ghost use Rattle.std.specs.Prelude.{ℕ, ◌≡◌, map};
-ghost use Rattle.s66_isa.specs.Table.{instr_at, row};
+ghost use Rattle.std.specs.Prelude.{◌≡◌, map};
+ghost use Rattle.s66_isa.specs.Table.{row};
 ghost use Rattle.s66_line.specs.Block.{instrs_of};
-ghost use Rattle.s66_time.specs.Ticking.{HasDigits};
+ghost use Rattle.s66_model.specs.Digits.{HaveDigits};
 
 use crate::copies::Copies;
 use crate::mark::Mark;
@@ -45,7 +45,7 @@ impl<'a> Model for Clock<'a> {
 /// The rows of a block's instructions.
 fn rows_of(block: &Block<'_>, profile: &Profile) -> ArrayVec<Row, BLOCK_LIMIT>
     ensures rows { result.items ≡ map (row profile.now) (instrs_of block.now) }
-    ensures digits { (n : ℕ) → HasDigits (instr_at (instrs_of block.now) n) }
+    ensures digits { HaveDigits (instrs_of block.now) }
 {
     let mut rows = ArrayVec::new();
     for position in 0..block.count() {

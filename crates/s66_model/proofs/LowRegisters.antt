@@ -8,7 +8,7 @@ use Rattle.s66_isa.specs.declared.instr.Memory.TheVariants as memory
 use Rattle.s66_isa.specs.declared.instr.Operands.{Operands}
 use Rattle.s66_isa.specs.declared.instr.Operands.TheVariants as operands
 use Rattle.s66_model.specs.Timing.{Problem, Point, ResultAt, point, point_of, points_after, points_of, result_at, row_at, done_of, done_at, readers_wait, start_of}
-use Rattle.s66_time.specs.Ticking.{HasDigits}
+use Rattle.s66_model.specs.Digits.{HasDigits}
 
 -- LISTS OF REGISTERS
 

@@ -1,9 +1,10 @@
-use Rattle.std.proofs.Common.{rules, arith, ap, ◌+◌, ◌<◌, ◌^◌}
+use Rattle.std.proofs.Common.{rules, arith, ap, ◌+◌, ◌<◌, ◌≤◌, ◌^◌}
 use Rattle.s66_model.specs.Timing.{Point}
+use Rattle.s66_checker.specs.KeptPrefix.{TOTAL_LIMIT}
 use Rattle.s66_checker.proofs.KeptPoints.{last-issue, last-packed, last-parcels}
-use Rattle.s66_checker.proofs.timing.parcel.Goals as goal
+use Rattle.s66_checker.proofs.timing.next_parcel.Goals as goal
 
-small : (c : goal.After-parcels) → c.last-in-Some.inside.parcel + c.parcels.result + 1 < 2 ^ 32
+small : (c : goal.After-parcels) → c.last-in-Some.inside.parcel + c.parcels.result ≤ TOTAL_LIMIT + 1
 small c =
     let p = c.in-Some.last.now in
     let some = c.in-Some.ensures.item.3.0 in
@@ -17,10 +18,10 @@ small c =
       c.parcels.ensures,
     )
 
-pub fits_at-requires : goal.fits_at-requires
-fits_at-requires c = small c
-
-pub overflow_add-last-inside : goal.overflow_add-last-inside
-overflow_add-last-inside c =
+pub overflow_add-result : goal.overflow_add-result
+overflow_add-result c =
     let fits : c.last-in-Some.inside.parcel + c.parcels.result < 2 ^ 32 = omega (arith, small c) in
     search rules
+
+pub returns-in-Some-clause-at_most : goal.returns-in-Some-clause-at_most
+returns-in-Some-clause-at_most c = small c

@@ -1,0 +1,61 @@
+-- To be believed: whether one beginning dominates another by a rule, as a test that can be computed: the same of numbers, registers and units one by one.
+use Rattle.std.specs.Prelude.{ℕ, ◌==◌, ◌&&◌, Bool, false, max, List, [], get_or, nat_le}
+use Rattle.s66_isa.specs.declared.instr.Instr.{Instr}
+use Rattle.s66_isa.specs.declared.profile.Profile.{Profile}
+use Rattle.s66_isa.specs.declared.reg.Reg.{Reg}
+use Rattle.s66_isa.specs.Lists.{every, has, rising}
+use Rattle.s66_isa.specs.Registers.{all_registers}
+use Rattle.s66_isa.specs.Table.{copies_of, all_kinds}
+use Rattle.s66_model.specs.declared.rule.Rule.{Rule}
+use Rattle.s66_model.specs.declared.rule.Rule.TheVariants.{NoneNamed, WrittenEarlier, ClampedStanding}
+use Rattle.s66_model.specs.Timing.{Problem, Point, points_of, next, done_of, readers_wait, total_of}
+use Rattle.s66_model.specs.Dominance.{place_in_word, references_wait, stores_wait, free_times, Clamp, no_clamp, clamp_at}
+use Rattle.s66_checker.specs.Verdict.{goes_on}
+
+-- NO LATER: the points q than the points p, or than the clamps
+
+-- the word of each register
+abbrev pub are_registers_no_later : ℕ → (Reg → ℕ) → (Reg → ℕ) → Bool
+are_registers_no_later clamp f g = every (λ r. nat_le (f r) (max (g r) clamp)) all_registers
+
+-- the times at each of so many places
+abbrev pub are_places_no_later : ℕ → ℕ → List ℕ → List ℕ → Bool
+are_places_no_later count clamp xs ys = every (λ i. nat_le (get_or xs i 0) (max (get_or ys i 0) clamp)) (rising count 0)
+
+-- as many of the greatest free times of each kind as there are copies
+abbrev pub are_units_no_later : Profile → ℕ → List Point → List Point → Bool
+are_units_no_later profile clamp q p =
+    every (λ kind. are_places_no_later (copies_of profile kind) clamp (free_times kind q) (free_times kind p)) all_kinds
+
+abbrev pub is_no_later : Profile → Clamp → List Point → List Point → Bool
+is_no_later profile c q p =
+    nat_le (next q) (next p)
+    && place_in_word q == place_in_word p
+    && are_registers_no_later c.others (done_of q) (done_of p)
+    && are_registers_no_later c.readers (readers_wait q) (readers_wait p)
+    && are_units_no_later profile c.others q p
+    && nat_le (references_wait q) (max (references_wait p) c.others)
+    && nat_le (stores_wait q) (max (stores_wait p) c.others)
+
+-- OF ONE SET
+
+abbrev pub is_same_set : List ℕ → List ℕ → Bool
+is_same_set other prefix = every (λ n. has n prefix) other && every (λ n. has n other) prefix
+
+abbrev pub is_beginning : List Instr → List ℕ → Bool
+is_beginning block prefix = goes_on block [] prefix
+
+-- both are beginnings of legal orders, of one set, and the named one is no later
+abbrev pub is_ahead : Clamp → Problem → List ℕ → List ℕ → Bool
+is_ahead c b name at =
+    is_beginning b.block at
+    && is_beginning b.block name
+    && is_same_set name at
+    && is_no_later b.profile c (points_of b name) (points_of b at)
+
+-- BY A RULE: as written everything counts, and so does the total; clamped what is past by the next slot doesn't
+
+abbrev pub dominates_by : Rule → Problem → List ℕ → List ℕ → Bool
+dominates_by NoneNamed b name at = false
+dominates_by WrittenEarlier b name at = is_ahead no_clamp b name at && nat_le (total_of b name) (total_of b at)
+dominates_by ClampedStanding b name at = is_ahead (clamp_at (next (points_of b at))) b name at
