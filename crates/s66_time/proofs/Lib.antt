@@ -9,6 +9,5 @@ pub mod RowsOfBlock
 pub mod Cleared
 pub mod WordsAfter
 pub mod LowRegisters
-pub mod BusyWords
-pub mod NoLaterWords
-pub mod Marked
+pub mod LatestWords
+pub mod KeptUnits
