@@ -11,3 +11,5 @@ pub mod WordsAfter
 pub mod LowRegisters
 pub mod LatestWords
 pub mod KeptUnits
+pub mod MarkedWords
+pub mod MarksWithin
