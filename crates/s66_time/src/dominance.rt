@@ -29,7 +29,7 @@ impl Mark {
         if !self.words.are_no_later(&other.words, 0, READERS_AT, others) {
             return false;
         }
-        // the places of readers seldom decide: they come last
+        // the words of readers seldom decide, so they come last
         let count = self.count as usize;
         if !self
             .words

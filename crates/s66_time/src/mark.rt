@@ -26,7 +26,7 @@ pub struct Mark {
     pub(crate) total: u16,
     /// The place of the next parcel in its word of memory.
     pub(crate) place: u8,
-    /// How many words are of a use.
+    /// How many words are kept; those behind them are 0.
     pub(crate) count: u8,
     pub(crate) words: MarkWords,
     ghost within: { (UNITS_AT ≤ count) × (count ≤ MARK_LIMIT) },

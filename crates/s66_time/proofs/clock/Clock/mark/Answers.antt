@@ -1,6 +1,5 @@
-use Rattle.std.proofs.Common.{ℕ, ap, arith, sym, subst, ◌+◌, ◌%◌, ◌≡◌, ◌≤◌, ◌<◌, ◌∙◌, get_or}
+use Rattle.std.proofs.Common.{ℕ, ap, arith, sym, subst, ◌+◌, ◌%◌, ◌≡◌, ◌<◌, ◌∙◌, get_or}
 use Rattle.s66_isa.specs.declared.instr.Kind.{Kind}
-use Rattle.s66_isa.specs.Registers.{index_of}
 use Rattle.s66_line.specs.Block.{instrs_of}
 use Rattle.s66_model.specs.Timing.{Problem, points_of}
 use Rattle.s66_time.specs.ClockWords.{IsWords}

@@ -1,6 +1,6 @@
-use Rattle.std.proofs.Common.{rules, arith, ◌≤◌, ◌≡◌, IsTrue}
+use Rattle.std.proofs.Common.{rules, arith, IsTrue}
 use Rattle.s66_model.specs.Dominance.{Clamp}
-use Rattle.s66_time.proofs.MarksWithin.{marks-no_later, no_later-slot, no_later-place, no_later-done, no_later-read, no_later-rest}
+use Rattle.s66_time.proofs.MarksWithin.{marks-no_later, no_later-done, no_later-read, no_later-rest}
 use Rattle.s66_time.proofs.mark.Mark.is_within.Goals as goal
 
 pub returns-then-not-are_no_later : goal.returns-then-not-are_no_later

@@ -1,4 +1,4 @@
-use Rattle.std.proofs.Common.{rules, ◌+◌, ◌≡◌, ◌≤◌, ◌<◌, ◌∙◌, ap, subst, sym, arith, get_or, set, length, List, ℕ, take}
+use Rattle.std.proofs.Common.{◌+◌, ◌≡◌, ◌≤◌, ◌∙◌, ap, subst, sym, arith, get_or, set, length, take}
 use Rattle.std.proofs.lemmas.List.{length-set}
 use Rattle.s66_isa.specs.Lists.{weigh}
 use Rattle.s66_isa.specs.Table.{Row, kind_number, all_kinds}
