@@ -42,26 +42,16 @@ impl Mark {
     }
 }
 
-/// Whether nothing that decides how soon the first beginning can be completed is later than the second's. The total isn't asked
-/// for.
-pub fn is_no_later(other: &Mark, prefix: &Mark) -> bool
-    ensures { (b : Problem) (numbers_of_other numbers : List ℕ) → IsMarkOf b numbers_of_other other.now → IsMarkOf b numbers prefix.now → IsTrue result ↔ IsNoLater b no_clamp (points_of b numbers_of_other) (points_of b numbers) }
+/// Whether the first beginning dominates the second, of the same numbers: whatever completes the second then completes the
+/// first, and takes no more. The totals aren't compared, since that of the first is no greater if nothing else of it is later.
+pub fn dominates(other: &Mark, prefix: &Mark) -> bool
+    ensures no_later { (b : Problem) (numbers_of_other numbers : List ℕ) → IsMarkOf b numbers_of_other other.now → IsMarkOf b numbers prefix.now → IsTrue result ↔ IsNoLater b no_clamp (points_of b numbers_of_other) (points_of b numbers) }
+    ensures dominates { (b : Problem) (numbers_of_other numbers : List ℕ) → IsMarkOf b numbers_of_other other.now → IsMarkOf b numbers prefix.now → IsSameSet numbers_of_other numbers → IsTrue result ↔ Dominates b numbers_of_other numbers }
 {
     other.is_within(prefix, 0, 0)
 }
 
-/// Whether the first beginning dominates the second, of the same numbers: whatever completes the second then completes the
-/// first, and takes no more.
-pub fn dominates(other: &Mark, prefix: &Mark) -> bool
-    ensures { (b : Problem) (numbers_of_other numbers : List ℕ) → IsMarkOf b numbers_of_other other.now → IsMarkOf b numbers prefix.now → IsSameSet numbers_of_other numbers → IsTrue result ↔ Dominates b numbers_of_other numbers }
-{
-    if other.total > prefix.total {
-        return false;
-    }
-    is_no_later(other, prefix)
-}
-
-/// The same, if what is past by the second's next slot doesn't count. Nothing is asked of the total, which follows.
+/// The same, if what is past by the second's next slot doesn't count. That the total is no greater follows here too.
 pub fn dominates_clamped(other: &Mark, prefix: &Mark) -> bool
     ensures no_later { (b : Problem) (numbers_of_other numbers : List ℕ) → IsMarkOf b numbers_of_other other.now → IsMarkOf b numbers prefix.now → IsTrue result ↔ IsNoLater b (clamp_at (next (points_of b numbers))) (points_of b numbers_of_other) (points_of b numbers) }
     ensures dominates { (b : Problem) (numbers_of_other numbers : List ℕ) → IsMarkOf b numbers_of_other other.now → IsMarkOf b numbers prefix.now → IsSameSet numbers_of_other numbers → IsTrue result ↔ DominatesClamped b numbers_of_other numbers }

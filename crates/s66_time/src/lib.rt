@@ -20,7 +20,7 @@ mod units;
 mod words;
 
 pub use clock::Clock;
-pub use dominance::{dominates, dominates_clamped, is_no_later};
+pub use dominance::{dominates, dominates_clamped};
 pub use limits::{LOOK_LIMIT, TOTAL_LIMIT};
 pub use mark::Mark;
 pub use packing::{Packing, pack};
