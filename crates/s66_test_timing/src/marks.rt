@@ -94,9 +94,7 @@ fn marks_dominate(rt: HostRuntime) -> Result<(), Fail> {
 
 #[test]
 fn marks_of_three_units_dominate(rt: HostRuntime) -> Result<(), Fail> {
-    let profile = Profile {
-        units_multiply: 3,
-        ..Profile::standard()
-    };
+    let mut profile = Profile::standard();
+    profile.units_multiply = 3;
     check_pairs(&rt, &profile, PAIRS_OF_THREE_UNITS)
 }
