@@ -116,6 +116,13 @@ impl Set {
         }
     }
 
+    /// A number that equal sets share, and sets that differ mostly don't.
+    pub fn hash(&self) -> u64 {
+        let mixed = self.low.wrapping_mul(0x9E37_79B9_7F4A_7C15)
+            ^ self.high.wrapping_mul(0xC2B2_AE3D_27D4_EB4F);
+        mixed ^ (mixed >> 32)
+    }
+
     /// The numbers, rising.
     pub fn numbers(&self) -> ArrayVec<u8, BLOCK_LIMIT>
         ensures { result.items ≡ numbers_in self.now }

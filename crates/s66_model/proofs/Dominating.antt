@@ -70,7 +70,7 @@ total_most t [] h k = omega arith
 total_most t (p ∷ q) h k =
     omega (arith, results_most t p.results (λ r. omega (arith, h r)), busy_self t p (tally (busy_at p.row.kind t) q) (k p.row.kind), total_most t q (λ r. omega (arith, h r)) (λ kind. omega (arith, k kind)))
 
-total-within : (b : Problem) (c : Clamp) (q s : List Point) → IsNoLater b c q s → total q ≤ max (total s) c.others
+pub total-within : (b : Problem) (c : Clamp) (q s : List Point) → IsNoLater b c q s → total q ≤ max (total s) c.others
 total-within b c q s h =
     let t = max (total s) c.others in
     let below : Below b c q s = no_later-below b c q s h in

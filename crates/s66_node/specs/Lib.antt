@@ -5,3 +5,4 @@ pub mod Walked
 pub mod Growing
 pub mod Walking
 pub mod Schedules
+pub mod MarkTables

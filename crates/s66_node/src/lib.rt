@@ -1,10 +1,12 @@
 //! Expansion of one subtree of a search: a walk over the beginnings of a block's legal orders, and the piece that it makes.
 #![tactic(auto)]
 
+mod chains;
 mod expansion;
 mod grow;
 mod knot;
 mod least;
+mod marks;
 mod piece;
 mod schedule;
 mod walk;
@@ -13,6 +15,7 @@ mod whole_order;
 pub use expansion::{expand, expand_with};
 pub use knot::{FRONTIER, Knot, LEAF, Name, PASSED, Place, SPLIT};
 pub use least::{Constant, Least};
+pub use marks::Marks;
 pub use piece::Piece;
 pub use schedule::{Priority, schedule_below, schedule_rest};
 pub use walk::Walk;

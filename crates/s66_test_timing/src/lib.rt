@@ -1,4 +1,4 @@
-//! Tests of orders, of the clock and its marks and bounds.
+//! Tests of orders, of the clock and its marks and bounds, and of a table of marks.
 #![tactic(auto)]
 
 #[cfg(test)]
@@ -7,6 +7,8 @@ mod blocks;
 mod clock;
 #[cfg(test)]
 mod floors;
+#[cfg(test)]
+mod mark_table;
 #[cfg(test)]
 mod marks;
 #[cfg(test)]

@@ -1,3 +1,6 @@
+ghost use Rattle.std.specs.Prelude.{◌≡◌, ◌++◌, [], ◌∷◌, IsTrue};
+ghost use Rattle.s66_time.specs.Ticking.{problem_of};
+
 use crate::plain_clock::PlainClock;
 use s66_dep::ready;
 use s66_isa::{Bank, KINDS, Profile, Reg};
@@ -18,7 +21,10 @@ pub struct Walk<'a> {
 }
 
 /// Pushes a number if it is ready, and tells whether it was.
-pub fn push_ready(clock: &mut Clock, n: u8) -> bool {
+pub fn push_ready(clock: &mut Clock, n: u8) -> bool
+    ensures same { problem_of clock.new ≡ problem_of clock.old }
+    ensures pushed { IsTrue result → clock.new.numbers ≡ clock.old.numbers ++ n ∷ [] }
+{
     let is_ready = ready(clock.block(), &clock.pushed()).has(n);
     if is_ready {
         clock.push(n);

@@ -12,21 +12,21 @@ use Rattle.s66_isa.proofs.Lists.{cases_le, tally-set, weigh-append}
 
 -- WORDS THAT ARE LATER
 
-later_one : (t x : ℕ) → t < x → ◌≡◌ {A = ℕ} (cond (ltb t x) 1 0) 1
+pub later_one : (t x : ℕ) → t < x → ◌≡◌ {A = ℕ} (cond (ltb t x) 1 0) 1
 later_one t x lt = cond-true {A = ℕ} (ltb t x) 1 0 (lt-ltb t x lt)
 
-past_zero : (t x : ℕ) → x ≤ t → ◌≡◌ {A = ℕ} (cond (ltb t x) 1 0) 0
+pub past_zero : (t x : ℕ) → x ≤ t → ◌≡◌ {A = ℕ} (cond (ltb t x) 1 0) 0
 past_zero t x le = cond-false {A = ℕ} (ltb t x) 1 0 (le-ltb t x le)
 
-one_at_most : (v : Bool) → cond v 1 0 ≤ 1
+pub one_at_most : (v : Bool) → cond v 1 0 ≤ 1
 one_at_most true = omega arith
 one_at_most false = omega arith
 
-later-le : (t : ℕ) (xs : List ℕ) → tally (λ w. ltb t w) xs ≤ length xs
+pub later-le : (t : ℕ) (xs : List ℕ) → tally (λ w. ltb t w) xs ≤ length xs
 later-le t [] = omega arith
 later-le t (x ∷ xs) = omega (arith, later-le t xs, one_at_most (ltb t x))
 
-all-later : (t : ℕ) (xs : List ℕ) → ((i : ℕ) → i < length xs → t < get_or xs i 0) → tally (λ w. ltb t w) xs ≡ length xs
+pub all-later : (t : ℕ) (xs : List ℕ) → ((i : ℕ) → i < length xs → t < get_or xs i 0) → tally (λ w. ltb t w) xs ≡ length xs
 all-later t [] h = refl
 all-later t (x ∷ xs) h =
     omega (arith, later_one t x (h 0 (omega arith)), all-later t xs (λ i lt. h (suc i) (omega arith)))

@@ -8,6 +8,7 @@ pub mod Positions
 pub mod RowsOfBlock
 pub mod Cleared
 pub mod WordsAfter
-pub mod BusyWords
-pub mod NoLaterWords
-pub mod Marked
+pub mod LatestWords
+pub mod KeptUnits
+pub mod MarkedWords
+pub mod MarksWithin

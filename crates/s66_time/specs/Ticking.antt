@@ -1,5 +1,6 @@
 -- To be believed: what contracts see of a clock: what is timed, the numbers that are pushed, and what the last step cost.
 use Rattle.std.specs.Prelude.{ℕ, ◌≡◌, ◌≤◌, List, map, reverse, length}
+use Rattle.s66_isa.specs.declared.instr.Kind.{Kind}
 use Rattle.s66_isa.specs.declared.profile.Profile.{Profile}
 use Rattle.s66_isa.specs.Table.{Row, row}
 use Rattle.s66_model.specs.Timing.{Problem, Point, points_of}
@@ -9,7 +10,10 @@ use Rattle.s66_isa.specs.declared.limits.TheConstants.{BLOCK_LIMIT}
 use Rattle.s66_line.specs.Source.{Block}
 use Rattle.s66_line.specs.Block.{instrs_of}
 use Rattle.s66_time.specs.ClockWords.{AreKept, AreCopies}
+use Rattle.s66_time.specs.KeptUnits.{kept_of}
+use Rattle.s66_time.specs.LatestWords.{kept_in}
 use Rattle.s66_time.specs.declared.copies.Copies.{Copies}
+use Rattle.s66_time.specs.declared.mark_shape.MarkShape.{MarkShape}
 use Rattle.s66_time.specs.declared.words.Words.{Words}
 use Rattle.s66_time.specs.declared.step.Step.{Step}
 
@@ -35,8 +39,9 @@ pub record IsClock (b : Problem) (w : Words) (steps : List Step) : Type 0 where
   pub begins : IsBeginning b.block (numbers_of steps)
   pub kept : AreKept b w (reverse steps)
 
-pub record IsTicking (b : Problem) (w : Words) (steps : List Step) (copies : Copies) (rows : List Row) : Type 0 where
+pub record IsTicking (b : Problem) (w : Words) (steps : List Step) (copies : Copies) (rows : List Row) (shape : MarkShape) : Type 0 where
   pub clock : IsClock b w steps
   pub counted : AreCopies b.profile copies
+  pub kept : (kind : Kind) → kept_in shape.kept kind ≡ kept_of b kind
   pub each : rows ≡ map (row b.profile) b.block
   pub digits : HaveDigits b.block

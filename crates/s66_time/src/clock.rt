@@ -5,6 +5,7 @@ ghost use Rattle.s66_model.specs.Digits.{HaveDigits};
 
 use crate::copies::Copies;
 use crate::mark::Mark;
+use crate::mark_shape::MarkShape;
 use crate::steps::Steps;
 use crate::words::Words;
 use arrayvec::ArrayVec;
@@ -25,6 +26,8 @@ pub struct Clock<'a> {
     copies: Copies,
     /// The rows of the block's instructions.
     rows: ArrayVec<Row, BLOCK_LIMIT>,
+    /// How many free times of each kind a mark keeps.
+    shape: MarkShape,
     words: Words,
     /// What each push wrote over, the oldest first.
     steps: Steps,
@@ -39,7 +42,7 @@ impl<'a> Model for Clock<'a> {
 
     ghost view = { λ c. record { block = c.block.now; profile = c.profile; numbers = numbers_of c.steps; looks = c.looks } };
 
-    ghost invariant = { λ c. IsTicking (record { block = instrs_of c.block.now; profile = c.profile }) c.words c.steps c.copies c.rows.items };
+    ghost invariant = { λ c. IsTicking (record { block = instrs_of c.block.now; profile = c.profile }) c.words c.steps c.copies c.rows.items c.shape };
 }
 
 /// The rows of a block's instructions.
@@ -78,11 +81,15 @@ impl<'a> Clock<'a> {
         ensures { result ≡ record { block = block.now; profile = profile.now; numbers = []; looks = 0 } }
     {
         prove!(block.count() <= BLOCK_LIMIT);
+        let copies = Copies::of(profile);
+        let rows = rows_of(block, profile);
+        let shape = MarkShape::of(rows.as_slice(), &copies);
         Clock {
             block,
             profile: *profile,
-            copies: Copies::of(profile),
-            rows: rows_of(block, profile),
+            copies,
+            rows,
+            shape,
             words: Words::new(),
             steps: Steps::new(),
             looks: 0,
@@ -127,10 +134,7 @@ impl<'a> Clock<'a> {
     pub fn mark(&self) -> Mark
         ensures { IsMarkOf (problem_of self.now) self.now.numbers result }
     {
-        Mark {
-            profile: self.profile,
-            words: self.words,
-        }
+        Mark::of(&self.words, &self.profile, &self.copies, &self.shape)
     }
 
     /// The block.

@@ -3,8 +3,11 @@
 
 mod clock;
 mod copies;
+mod dominance;
 mod limits;
 mod mark;
+mod mark_shape;
+mod mark_words;
 mod packing;
 mod progress;
 mod registers;
@@ -17,7 +20,8 @@ mod units;
 mod words;
 
 pub use clock::Clock;
+pub use dominance::{dominates, dominates_clamped};
 pub use limits::{LOOK_LIMIT, TOTAL_LIMIT};
-pub use mark::{Mark, dominates, dominates_clamped};
+pub use mark::Mark;
 pub use packing::{Packing, pack};
 pub use timed::{Timed, Timer, Times, time_of};

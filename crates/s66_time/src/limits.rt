@@ -1,4 +1,4 @@
-use s66_isa::{BLOCK_LIMIT, KIND_COUNT};
+use s66_isa::{BLOCK_LIMIT, KIND_COUNT, REGISTER_COUNT};
 
 /// The most minor cycles by which one more instruction lengthens an order.
 const STEP_LIMIT: u32 = 104;
@@ -17,3 +17,18 @@ pub const UNIT_LIMIT: usize = KIND_COUNT * COPIES_LIMIT;
 
 /// The most words that a clock's push reads or writes beside one for each unit of the kind, and the most that its undo does.
 pub const LOOK_LIMIT: u32 = 40;
+
+/// Where the words of a mark that are of readers begin; before them stands one of results for each register.
+pub const READERS_AT: usize = REGISTER_COUNT;
+
+/// The word of a mark that is of references to memory.
+pub const REFERENCES_AT: usize = 2 * REGISTER_COUNT;
+
+/// The word of a mark that is of stores.
+pub const STORES_AT: usize = REFERENCES_AT + 1;
+
+/// Where the words of a mark that are of units begin.
+pub const UNITS_AT: usize = STORES_AT + 1;
+
+/// The most words that a mark has.
+pub const MARK_LIMIT: usize = UNITS_AT + BLOCK_LIMIT;

@@ -1,35 +1,62 @@
-ghost use Rattle.std.specs.Prelude.{ℕ, ◌↔◌, List, IsTrue};
-ghost use Rattle.s66_model.specs.Timing.{Problem};
-ghost use Rattle.s66_model.specs.Dominance.{IsSameSet, Dominates, DominatesClamped};
-ghost use Rattle.s66_time.specs.Marks.{IsMarkOf};
+ghost use Rattle.std.specs.Prelude.{◌+◌, ◌%◌, ◌≡◌, ◌≤◌, get_or};
+ghost use Rattle.s66_isa.specs.Table.{Reg};
+ghost use Rattle.s66_isa.specs.Registers.{index_of, word_of};
+ghost use Rattle.s66_isa.specs.declared.instr.Kind.{Kind};
+ghost use Rattle.s66_time.specs.ClockWords.{AreCopies, Follows};
+ghost use Rattle.s66_time.specs.KeptUnits.{first_kept, word_count};
+ghost use Rattle.s66_time.specs.LatestWords.{words_from, kept_in, AreLatest};
+ghost use Rattle.s66_time.specs.Places.{units_of};
+ghost use Rattle.s66_time.specs.declared.limits.TheConstants.{MARK_LIMIT, READERS_AT, REFERENCES_AT, STORES_AT, UNITS_AT};
 
+use crate::copies::Copies;
+use crate::limits::{READERS_AT, REFERENCES_AT, STORES_AT};
+use crate::mark_shape::MarkShape;
+use crate::mark_words::MarkWords;
 use crate::words::Words;
 use s66_isa::Profile;
 
-/// What decides, of a beginning, how soon each of its completions can be done.
+/// What decides, of a beginning, how soon each of its completions can be done, in minor cycles.
+///
+/// It is small enough to be kept by the ten thousand, and takes no memory beside itself.
 #[derive(Clone, Copy, Debug, Drop)]
 pub struct Mark {
-    pub(crate) profile: Profile,
-    pub(crate) words: Words,
+    /// The first slot after the last issue.
+    pub(crate) next: u16,
+    /// When all units are free and all results done.
+    pub(crate) total: u16,
+    /// The place of the next parcel in its word of memory.
+    pub(crate) place: u8,
+    /// How many words are kept; those behind them are 0.
+    pub(crate) count: u8,
+    pub(crate) words: MarkWords,
+    ghost within: { (UNITS_AT ≤ count) × (count ≤ MARK_LIMIT) },
 }
 
-/// Whether the first beginning dominates the second, of the same numbers: whatever completes the second then completes the
-/// first, and takes no more.
-pub fn dominates(other: &Mark, prefix: &Mark) -> bool
-    ensures { (b : Problem) (numbers_of_other numbers : List ℕ) → IsMarkOf b numbers_of_other other.now → IsMarkOf b numbers prefix.now → IsSameSet numbers_of_other numbers → IsTrue result ↔ Dominates b numbers_of_other numbers }
-{
-    if other.words.progress.total > prefix.words.progress.total {
-        return false;
+impl Mark {
+    /// The mark of a clock's words, under a profile with so many copies.
+    pub(crate) fn of(words: &Words, profile: &Profile, copies: &Copies, shape: &MarkShape) -> Mark
+        requires follows { Follows profile.now words.now }
+        requires copies { AreCopies profile.now copies.now }
+        ensures progress { (result.next ≡ words.now.progress.next) × (result.total ≡ words.now.progress.total) × (result.place ≡ words.now.progress.parcel % 4) }
+        ensures count { result.count ≡ word_count (kept_in shape.now.kept) }
+        ensures writers { (r : Reg) → r.digit ≤ 7 → get_or result.words.words (index_of r) 0 ≡ word_of words.now.done.words r }
+        ensures readers { (r : Reg) → r.digit ≤ 7 → get_or result.words.words (READERS_AT + index_of r) 0 ≡ word_of words.now.read.words r }
+        ensures memory { (get_or result.words.words REFERENCES_AT 0 ≡ words.now.progress.refs) × (get_or result.words.words STORES_AT 0 ≡ words.now.progress.stores) }
+        ensures units { (kind : Kind) → AreLatest (kept_in shape.now.kept kind) (units_of profile.now kind words.now.units.words) (words_from (first_kept (kept_in shape.now.kept) kind) (kept_in shape.now.kept kind) result.words.words) }
+    {
+        let progress = words.progress;
+        let mut marked = MarkWords::new();
+        marked.put_registers(0, &words.done);
+        marked.put_registers(READERS_AT, &words.read);
+        marked.words[REFERENCES_AT] = progress.refs as u16;
+        marked.words[STORES_AT] = progress.stores as u16;
+        let count = marked.put_all_units(&words.units, copies, shape);
+        Mark {
+            next: progress.next as u16,
+            total: progress.total as u16,
+            place: (progress.parcel % 4) as u8,
+            count: count as u8,
+            words: marked,
+        }
     }
-    other.words.is_no_later(&other.profile, &prefix.words, 0, 0)
-}
-
-/// The same, if what is past by the second's next slot doesn't count. Nothing is asked of the total, which follows.
-pub fn dominates_clamped(other: &Mark, prefix: &Mark) -> bool
-    ensures { (b : Problem) (numbers_of_other numbers : List ℕ) → IsMarkOf b numbers_of_other other.now → IsMarkOf b numbers prefix.now → IsSameSet numbers_of_other numbers → IsTrue result ↔ DominatesClamped b numbers_of_other numbers }
-{
-    let now = prefix.words.progress.next;
-    other
-        .words
-        .is_no_later(&other.profile, &prefix.words, now.saturating_add(1), now)
 }

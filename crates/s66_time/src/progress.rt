@@ -1,4 +1,4 @@
-ghost use Rattle.std.specs.Prelude.{ℕ, [], ◌==◌, ◌||◌, ◌≡◌, ◌+◌, ◌%◌, ◌≤◌, ◌↔◌, IsTrue, if◌then◌else◌, max};
+ghost use Rattle.std.specs.Prelude.{ℕ, [], ◌==◌, ◌||◌, ◌≡◌, ◌+◌, ◌≤◌, if◌then◌else◌, max};
 ghost use Rattle.s66_isa.specs.Lists.{greatest, has};
 ghost use Rattle.s66_isa.specs.Table.{touches, stores};
 ghost use Rattle.s66_dep.specs.Members.{numbers_in};
@@ -41,17 +41,6 @@ impl Progress {
             total: 0,
             pushed: Set::empty(),
         }
-    }
-
-    /// Whether the next slot is no later than the other's, what memory waits for is no later than the other's or the clamp, and
-    /// the next parcels have one place in their words of memory.
-    pub fn is_no_later(&self, other: &Progress, clamp: u32) -> bool
-        ensures { IsTrue result ↔ ((self.now.next ≤ other.now.next) × (self.now.parcel % 4 ≡ other.now.parcel % 4) × (self.now.refs ≤ max other.now.refs clamp) × (self.now.stores ≤ max other.now.stores clamp)) }
-    {
-        self.next <= other.next
-            && self.parcel % 4 == other.parcel % 4
-            && self.refs <= other.refs.max(clamp)
-            && self.stores <= other.stores.max(clamp)
     }
 
     /// The progress after one more instruction, with its times.

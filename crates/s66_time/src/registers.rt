@@ -1,4 +1,4 @@
-ghost use Rattle.std.specs.Prelude.{ℕ, ◌≡◌, ◌+◌, ◌<◌, ◌≤◌, ◌↔◌, IsTrue, get_or, map, if◌then◌else◌, length, max, nat_lt};
+ghost use Rattle.std.specs.Prelude.{ℕ, ◌≡◌, ◌+◌, ◌<◌, ◌≤◌, map, if◌then◌else◌, length, max, nat_lt};
 ghost use Rattle.s66_isa.specs.Lists.{greatest};
 ghost use Rattle.s66_isa.specs.Table.{Reg as RegOf, Write as WriteOf, same_reg, has_reg};
 ghost use Rattle.s66_model.specs.Timing.{ResultAt as ResultOf};
@@ -16,7 +16,7 @@ use s66_isa::{REGISTER_COUNT, Reg, Registers, Write};
 ///
 /// An instruction has two results at most: they are taken one by one and not in a loop, so that the compiler keeps them out of
 /// memory.
-#[derive(Clone, Copy, Debug, Drop)]
+#[derive(Debug, Drop)]
 pub struct RegisterWords {
     pub words: [u32; REGISTER_COUNT],
 }
@@ -49,18 +49,6 @@ impl RegisterWords {
             }
         }
         after
-    }
-
-    /// Whether each word is no later than the other's of that register, or than the clamp.
-    pub fn are_no_later(&self, other: &RegisterWords, clamp: u32) -> bool
-        ensures { IsTrue result ↔ ((i : ℕ) → i < REGISTER_COUNT → get_or self.now.words i 0 ≤ max (get_or other.now.words i 0) clamp) }
-    {
-        for index in 0..REGISTER_COUNT {
-            if self.words[index] > other.words[index].max(clamp) {
-                return false;
-            }
-        }
-        true
     }
 
     /// The greatest word of these registers.

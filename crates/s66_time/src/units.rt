@@ -1,5 +1,5 @@
-ghost use Rattle.std.specs.Prelude.{ℕ, ◌≡◌, ◌+◌, ◌-◌, ◌*◌, ◌<◌, ◌≤◌, ◌^◌, ◌↔◌, IsTrue, length, set, get_or, replicate, take, drop, nat_lt};
-ghost use Rattle.s66_isa.specs.Lists.{greatest, tally, weigh};
+ghost use Rattle.std.specs.Prelude.{ℕ, ◌≡◌, ◌+◌, ◌-◌, ◌*◌, ◌<◌, ◌≤◌, ◌^◌, length, set, get_or, replicate};
+ghost use Rattle.s66_isa.specs.Lists.{greatest, weigh};
 ghost use Rattle.s66_isa.specs.Table.{copies_of};
 ghost use Rattle.s66_isa.specs.declared.instr.Kind.{Kind as KindOf};
 ghost use Rattle.s66_time.specs.declared.limits.TheConstants.{COPIES_LIMIT, TOTAL_LIMIT, UNIT_LIMIT};
@@ -9,13 +9,13 @@ use crate::limits::{COPIES_LIMIT, UNIT_LIMIT};
 use s66_isa::{KINDS, Kind, Profile, kind_number};
 
 /// A word for each unit: when it is free. Those of a kind stand together, from a multiple of `COPIES_LIMIT` on.
-#[derive(Clone, Copy, Debug, Drop)]
+#[derive(Debug, Drop)]
 pub struct UnitWords {
     pub words: [u32; UNIT_LIMIT],
 }
 
 /// The place of the first unit of a kind.
-fn first_unit(kind: Kind) -> usize
+pub fn first_unit(kind: Kind) -> usize
     ensures value { result ≡ first_unit kind }
     ensures within { result + COPIES_LIMIT ≤ UNIT_LIMIT }
 {
@@ -72,52 +72,6 @@ impl UnitWords {
             }
         }
         soonest
-    }
-
-    /// How many of this many words from a place on are later than a time.
-    fn later(&self, first: usize, copies: usize, time: u32) -> usize
-        requires { first + copies ≤ UNIT_LIMIT }
-        ensures value { result ≡ tally (λ w. nat_lt time w) (take copies (drop first self.now.words)) }
-        ensures at_most { result ≤ copies }
-    {
-        let mut later = 0;
-        for copy in 0..copies {
-            if time < self.words[first + copy] {
-                later += 1;
-            }
-        }
-        later
-    }
-
-    /// Whether at each time, from the clamp on, no more units of a kind are busy than the other's.
-    ///
-    /// The number of busy units changes only at the times of the words, so it is enough to look just before each.
-    pub fn are_no_later(&self, other: &UnitWords, profile: &Profile, kind: Kind, clamp: u32) -> bool
-        ensures { IsTrue result ↔ ((t : ℕ) → clamp ≤ t → tally (λ w. nat_lt t w) (units_of profile.now kind self.now.words) ≤ tally (λ w. nat_lt t w) (units_of profile.now kind other.now.words)) }
-    {
-        let first = first_unit(kind);
-        let copies = profile.copies(kind) as usize;
-        for copy in 0..copies {
-            let word = self.words[first + copy];
-            if clamp < word
-                && other.later(first, copies, word - 1) < self.later(first, copies, word - 1)
-            {
-                return false;
-            }
-        }
-        true
-    }
-
-    /// Whether at each time, from the clamp on, no more units are busy than the other's, of each kind.
-    pub fn are_all_no_later(&self, other: &UnitWords, profile: &Profile, clamp: u32) -> bool
-        ensures { IsTrue result ↔ ((kind : KindOf) (t : ℕ) → clamp ≤ t → tally (λ w. nat_lt t w) (units_of profile.now kind self.now.words) ≤ tally (λ w. nat_lt t w) (units_of profile.now kind other.now.words)) }
-    {
-        for kind in KINDS {
-            if !self.are_no_later(other, profile, kind, clamp) {
-                return false;
-            }
-        }
-        true
     }
 
     /// How long the units of a kind are still to work after a time, all together.

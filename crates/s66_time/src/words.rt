@@ -1,4 +1,4 @@
-ghost use Rattle.std.specs.Prelude.{ℕ, IsTrue, ◌↔◌, ◌≡◌, ◌+◌, ◌-◌, ◌<◌, ◌≤◌, List, [], ◌∷◌, length, get_or};
+ghost use Rattle.std.specs.Prelude.{ℕ, ◌≡◌, ◌+◌, ◌-◌, ◌<◌, ◌≤◌, List, [], ◌∷◌, length, get_or};
 ghost use Rattle.s66_isa.specs.Table.{copies_of, kind_number};
 ghost use Rattle.s66_isa.specs.declared.profile.Profile.{Profile as ProfileOf};
 ghost use Rattle.s66_isa.specs.declared.limits.TheConstants.{BLOCK_LIMIT};
@@ -7,7 +7,6 @@ ghost use Rattle.s66_isa.specs.Rows.{IsInRange};
 ghost use Rattle.s66_model.specs.Timing.{Point, issue_of, start_of, point};
 ghost use Rattle.s66_time.specs.declared.limits.TheConstants.{COPIES_LIMIT, TOTAL_LIMIT, UNIT_LIMIT, WORK_LIMIT};
 ghost use Rattle.s66_time.specs.ClockWords.{under, IsWords, InTurn, IsSoonest, Follows, wait_of, point_of_tick, after_undo, Takes};
-ghost use Rattle.s66_time.specs.LaterWords.{HasNoLaterWords};
 
 use crate::packing::fits_at;
 use crate::progress::Progress;
@@ -18,7 +17,7 @@ use crate::units::UnitWords;
 use s66_isa::{KIND_COUNT, Memory, Profile, Row, kind_number};
 
 /// The words of a clock.
-#[derive(Clone, Copy, Debug, Drop)]
+#[derive(Debug, Drop)]
 pub struct Words {
     /// When the last of a register's writers is done.
     pub done: RegisterWords,
@@ -175,25 +174,6 @@ impl Words {
     {
         let tick = self.tick_among(profile, copies, row);
         self.take(number, row, &tick)
-    }
-
-    /// Whether no word is later than the other's, or than the clamp: one for the words of readers, and one for all others.
-    pub fn is_no_later(&self, profile: &Profile, other: &Words, readers: u32, others: u32) -> bool
-        ensures { (q p : List Point) → IsWords profile.now q self.now → IsWords profile.now p other.now → IsTrue result ↔ HasNoLaterWords (under profile.now) (record { readers = readers; others = others }) q p }
-    {
-        if !self.progress.is_no_later(&other.progress, others) {
-            return false;
-        }
-        if !self.done.are_no_later(&other.done, others) {
-            return false;
-        }
-        if !self.read.are_no_later(&other.read, readers) {
-            return false;
-        }
-        if !self.units.are_all_no_later(&other.units, profile, others) {
-            return false;
-        }
-        true
     }
 
     /// Puts back what a push wrote over.

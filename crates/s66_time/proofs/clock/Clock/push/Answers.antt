@@ -42,6 +42,7 @@ invariant_of-self c =
     rw c.push.ensures (record {
       clock = pushed-clock b c.self.inside.words c.push-step.new.self ks c.push-step.result c.args.n c.index-deref-n.result c.self.invariant.clock ready c.push-step.ensures.number row c.push-step.ensures.back c.push-step.ensures.words;
       counted = c.self.invariant.counted;
+      kept = c.self.invariant.kept;
       each = c.self.invariant.each;
       digits = c.self.invariant.digits;
     })

@@ -15,4 +15,4 @@ invariant_of-self c =
     let k = c.last-step.result.now in
     let e : length ks - 1 + 1 ≡ length ks = omega (arith, c.requires, ap (λ (t : Ticking). length t.numbers) c.self.view_is, length-numbers ks) in
     let split = last-split ks (length ks - 1) k e c.last-step.ensures in
-    rw (c.remove_last.ensures, c.undo.ensures) (record { clock = after_undo-clock b c.self.inside.words ks _ k split c.self.invariant.clock; counted = c.self.invariant.counted; each = c.self.invariant.each; digits = c.self.invariant.digits })
+    rw (c.remove_last.ensures, c.undo.ensures) (record { clock = after_undo-clock b c.self.inside.words ks _ k split c.self.invariant.clock; counted = c.self.invariant.counted; kept = c.self.invariant.kept; each = c.self.invariant.each; digits = c.self.invariant.digits })

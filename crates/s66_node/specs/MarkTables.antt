@@ -1,0 +1,18 @@
+-- Used by contracts within the crate alone: what is true of each entry of a table of marks.
+use Rattle.std.specs.Prelude.{ℕ, ◌≡◌, ◌≤◌, List, length}
+use Rattle.std.specs.List.{All}
+use Rattle.s66_dep.specs.Members.{numbers_in}
+use Rattle.s66_isa.specs.Lists.{has}
+use Rattle.s66_model.specs.Timing.{Problem}
+use Rattle.s66_time.specs.Marks.{IsMarkOf}
+use Rattle.s66_node.specs.declared.marks.Entry.{Entry}
+use Rattle.s66_node.specs.declared.marks.TheConstants.{TABLE_LIMIT}
+
+-- the mark is that of the numbers, and the set has just these
+pub record IsEntry (b : Problem) (e : Entry) : Type 0 where
+  pub mark : IsMarkOf b e.numbers.items e.mark
+  pub pushed : (m : ℕ) → has m (numbers_in e.pushed) ≡ has m e.numbers.items
+
+pub record AreEntries (b : Problem) (entries : List Entry) : Type 0 where
+  pub few : length entries ≤ TABLE_LIMIT
+  pub each : All (IsEntry b) entries
