@@ -3,10 +3,11 @@
 
     tools/compare_certificates.py PROGRAM [--texts N] [--seed N]
 
-PROGRAM is the built program. It makes N texts, 2000 unless given: documents that `s66 prove` writes of random blocks of 2 to 9
-instructions, some under a random profile, most of them with a few damages. Both programs have to write the same bytes, with the same
-status and the same first line of standard error. Each difference is printed with its text, and at the end how often each verdict
-and each refusal came. The status is 1 if there is a difference. The same seed makes the same texts.
+PROGRAM is the built program. It makes N texts, 2000 unless given: documents that `s66 prove` writes of random blocks of 2
+to 9 instructions, some under a random profile, many with dominated leaves in place of some of their trees, right or wrong,
+and most with a few damages. So they have all versions. Both programs have to write the same bytes, with the same status and
+the same first line of standard error. Each difference is printed with its text, and at the end how often each verdict came of
+each version, and each refusal. The status is 1 if there is a difference. The same seed makes the same texts.
 """
 import argparse
 import collections
@@ -32,6 +33,27 @@ CONSTANTS = ["1", "100B", "2*N", "TABLE", "=5", "N.B", "N/2", "X2*X3", "1+N"]
 NUMBERS = ["0", "1", "2", "3", "9", "10", "100", "101", "128", "129", "100000", "100001", "01", "-1", ""]
 UNITS = ["BOOLEAN", "SHIFT", "ADD", "LONGADD", "MULTIPLY", "DIVIDE", "INCREMENT", "BRANCH"]
 KEYS = ["boolean", "shift", "normalise", "add", "longadd", "multiply", "divide", "population", "increment", "load"]
+
+
+def nodes_of(lines):
+    """The nodes of a document's tree: the place of the line, its prefix, and the place after its tree."""
+    nodes = []
+
+    def end_of(place, prefix):
+        kind, *numbers = lines[place].split(" ")
+        after = place + 1
+        for n in numbers if kind == "S" else []:
+            after = end_of(after, prefix + [int(n)])
+        nodes.append((place, prefix, after))
+        return after
+
+    end_of(next(place for place, line in enumerate(lines) if line.startswith("ORDER")) + 1, [])
+    return nodes
+
+
+def is_alike(one, other):
+    """Whether two nodes have the same numbers, in two orders."""
+    return one[1] != other[1] and sorted(one[1]) == sorted(other[1])
 
 
 def run(command, text):
@@ -63,71 +85,116 @@ class Maker:
         copies = {"units_" + unit.lower(): self.any.choice([1, 2, 3]) for unit in UNITS[:7] if self.any.random() < 0.4}
         return json.dumps({**times, **copies})
 
-    def document(self):
-        """A right document, and how long its block takes as it is written."""
+    def document(self, budgets=(0, 1, 3, 10, 50, 200)):
+        """A right document, with the source and the profile of its block."""
         some = self.any.sample(INSTRUCTIONS, self.any.choice([3, 10, len(INSTRUCTIONS)]))
         source = "".join(f"  {self.instruction(some)}\n" for _ in range(self.any.randint(2, 9)))
-        profile, nodes = self.profile(), self.any.choice([0, 1, 3, 10, 50, 200])
-        proved = run([self.program, "prove", "--workers", "1", "--nodes", str(nodes), "--profile", profile], source)
-        timed = run([self.program, "time", "--profile", profile], source)
-        if proved.returncode not in (0, 7) or timed.returncode != 0:
+        profile, nodes = self.profile(), self.any.choice(budgets)
+        words = ["--workers", "1", "--nodes", str(nodes), "--profile", profile]
+        proved = run([self.program, "prove", *words], source)
+        if proved.returncode not in (0, 7):
             sys.exit(f"no document of\n{source}")
-        return proved.stdout.decode().splitlines(), int(timed.stdout.split()[-1])
+        return proved.stdout.decode().splitlines(), (source, profile)
+
+    def time_of(self, source, profile):
+        """How long a block takes as it is written."""
+        timed = run([self.program, "time", "--profile", profile], source)
+        return int(timed.stdout.split()[-1])
 
     def place(self, lines, pattern):
         """The place of a line with this pattern at its beginning; of any line if there is none."""
         places = [place for place, line in enumerate(lines) if re.match(pattern, line)]
         return self.any.choice(places or range(len(lines)))
 
-    def leaf(self, count):
+    def dominate(self, lines, version):
+        """A document with dominated leaves in place of some trees, which name nodes of the same numbers, in version 2 most
+        often earlier ones; the same document if it has none.
+        """
+        for _ in range(self.any.choice([1, 1, 1, 2, 5])):
+            nodes = [node for node in nodes_of(lines) if lines[node[0]][0] not in "TD"]
+            pairs = [(one, other) for one in nodes for other in nodes if is_alike(one, other)]
+            if version == 2 and self.any.random() < 0.9:
+                pairs = [(one, other) for one, other in pairs if other[1] < one[1]]
+            if pairs:
+                (place, _, after), (_, name, _) = self.any.choice(pairs)
+                leaf = " ".join(["D", *map(str, name)])
+                lines = [f"S66 CERTIFICATE {version}", *lines[1:place], leaf, *lines[after:]]
+        return lines
+
+    def right_ones(self, documents):
+        """Those of which the program says yes."""
+        text = "".join(line + "\n" for lines in documents for line in lines)
+        told = run([self.program, "check"], text).stdout.decode().splitlines()
+        return [lines for lines, verdict in zip(documents, told) if " YES " in verdict]
+
+    def dominated_document(self):
+        """A document with dominated leaves, most often a right one, with the source and the profile of its block."""
+        version, is_right = self.any.choice([2, 3]), self.any.random() < 0.7
+        for _ in range(20):
+            lines, block = self.document([3, 10, 50, 200])
+            many = [self.dominate(lines, version) for _ in range(10)]
+            found = [] if lines in many else self.right_ones(many) if is_right else many
+            if found:
+                return self.any.choice(found), block
+        return self.any.choice(many), block
+
+    def leaf(self, count, kinds="CCCUUUPPT"):
         """A leaf: right or wrong at its place."""
-        kind = self.any.choice("CCCUUUPPT")
-        if kind == "C":
+        kind = self.any.choice(kinds)
+        if kind in "CD":
             some = self.any.sample(range(1, count + 1), self.any.randint(1, min(3, count)))
-            return " ".join(["C", *map(str, sorted(some) if self.any.random() < 0.9 else some)])
+            return " ".join([kind, *map(str, sorted(some) if self.any.random() < 0.9 else some)])
         return f"U {self.any.choice(UNITS[:7])}" if kind == "U" else kind
 
-    def change_number(self, lines, _):
+    def change_version(self, lines):
+        lines[0] = f"S66 CERTIFICATE {self.any.choice([1, 2, 2, 3, 3, 4])}"
+
+    def change_number(self, lines):
         place = self.place(lines, r"[A-Z0-9]+ \d")
         numbers = list(re.finditer(r"\d+", lines[place]))
         if numbers:
             chosen = self.any.choice(numbers)
             near = [str(max(0, int(chosen[0]) + more)) for more in (-1, 1)]
-            changed = self.any.choice(near * 3 + NUMBERS)
+            changed = self.any.choice(near * 10 + NUMBERS)
             lines[place] = lines[place][: chosen.start()] + changed + lines[place][chosen.end() :]
 
-    def exchange_numbers(self, lines, _):
-        place = self.place(lines, "(ORDER|S|C) .* ")
+    def exchange_numbers(self, lines, pattern="(ORDER|S|C|D) .* "):
+        place = self.place(lines, pattern)
         fields = lines[place].split(" ")
-        one, other = self.any.randrange(len(fields)), self.any.randrange(len(fields))
+        places = range(len(fields))[1 if self.any.random() < 0.9 else 0 :] or [0]  # seldom the word
+        one, other = self.any.choice(places), self.any.choice(places)
         fields[one], fields[other] = fields[other], fields[one]
         lines[place] = " ".join(fields)
 
-    def change_length(self, lines, _):
-        place = self.place(lines, "(ORDER|S|C|PROFILE) ")
+    def exchange_in_name(self, lines):
+        self.exchange_numbers(lines, "D .* ")
+
+    def change_length(self, lines):
+        place = self.place(lines, "(ORDER|S|C|D|PROFILE) ")
         fields = lines[place].split(" ")
         at = self.any.randrange(len(fields))
         lines[place] = " ".join(fields[:at] + self.any.choice([[], [fields[at]] * 2]) + fields[at + 1 :])
 
-    def exchange_lines(self, lines, _):
+    def exchange_lines(self, lines):
         one = self.any.randrange(len(lines))
         other = self.any.choice([min(one + 1, len(lines) - 1), self.any.randrange(len(lines))])
         lines[one], lines[other] = lines[other], lines[one]
 
-    def drop_line(self, lines, _):
+    def drop_line(self, lines):
         del lines[self.any.randrange(len(lines))]
 
-    def double_line(self, lines, _):
+    def double_line(self, lines):
         place = self.any.randrange(len(lines))
         lines.insert(place, lines[place])
 
-    def change_leaf(self, lines, _):
-        lines[self.place(lines, "[CUPT]( |$)")] = self.leaf(9)
+    def change_leaf(self, lines):
+        kinds = "CCCUUUPPT" if lines[0].endswith("1") else "CCUUPTDDD"
+        lines[self.place(lines, "[CUPTD]( |$)")] = self.leaf(9, kinds)
 
-    def change_instruction(self, lines, _):
+    def change_instruction(self, lines):
         lines[self.place(lines, "I ")] = "I " + self.instruction(INSTRUCTIONS + WRONG + LONG)
 
-    def change_byte(self, lines, _):
+    def change_byte(self, lines):
         place = self.any.randrange(len(lines))
         at = self.any.randint(0, len(lines[place]))
         more = self.any.choice([" ", "\t", "\r", "\0", "\xe9", "a", "X", "*", "+", "-", ",", "7", "\n"])
@@ -151,24 +218,37 @@ class Maker:
         """One document or a few, right or damaged, and seldom cut off."""
         text = ""
         for _ in range(self.any.choice([1, 1, 1, 2, 3])):
-            lines, written = self.document()
+            is_dominated = self.any.random() < 0.65
+            lines, block = self.dominated_document() if is_dominated else self.document()
             if self.any.random() < 0.35:
-                self.weaken(lines, written)
-            often = [self.change_number, self.exchange_numbers, self.change_leaf, self.change_leaf, self.change_instruction] * 2
-            seldom = [self.change_length, self.exchange_lines, self.drop_line, self.double_line, self.change_byte]
-            for damage in self.any.choices(often + seldom, k=self.any.choice([0, 0, 1, 1, 1, 2])):
-                damage(lines, written)
+                self.weaken(lines, self.time_of(*block))
+            often = [self.change_number, self.exchange_numbers, self.exchange_in_name] * 2
+            often += [self.change_leaf] * 4 + [self.change_instruction] * 2
+            seldom = [self.change_length, self.exchange_lines, self.drop_line, self.double_line]
+            seldom += [self.change_byte, self.change_version]
+            for damage in self.any.choices(often + seldom, k=self.any.choice([0, 0, 0, 1, 1, 2])):
+                damage(lines)
             text += "".join(line + "\n" for line in lines)
         return text[: self.any.randint(0, len(text))] if self.any.random() < 0.05 else text
 
 
+def count_outcome(text, told, refused, counts):
+    """Counts each verdict under the version of its document, or the refusal, without numbers of lines and times."""
+    versions = re.findall(r"^S66 CERTIFICATE (\d)$", text, re.MULTILINE)
+    for version, line in zip(versions, told.splitlines()):
+        verdict = re.sub(r"DOCUMENT \d+ | LINE \d+| TIME .*", "", line)
+        counts[f"version {version} {verdict}"] += 1
+    if refused:
+        counts[re.sub(r"LINE \d+ ", "", refused)] += 1
+
+
 def differences(program, texts, seed, counts):
-    """What the two say differently. Counts their verdicts and refusals, without numbers of lines and times."""
+    """What the two say differently, and how often they say what."""
     maker = Maker(program, seed)
     for number in range(1, texts + 1):
         text = maker.text()
         inside, outside = outcome([program, "check"], text), outcome([sys.executable, CERTIFICATE], text)
-        counts.update(re.sub(r"DOCUMENT \d+ | LINE \d+| TIME .*|LINE \d+ ", "", line) for line in (inside[0] + inside[2]).splitlines())
+        count_outcome(text, inside[0], inside[2], counts)
         if inside != outside:
             yield f"text {number} of seed {seed}:\n{text}s66 check: {inside}\ntools/certificate.py: {outside}"
 
