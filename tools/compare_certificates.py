@@ -36,7 +36,7 @@ KEYS = ["boolean", "shift", "normalise", "add", "longadd", "multiply", "divide",
 
 
 def nodes_of(lines):
-    """The nodes of a document's tree: the place of the line, its prefix, and the place after its tree."""
+    """The nodes of a document's tree: the prefix of each, the place of its line, and the place after its tree."""
     nodes = []
 
     def end_of(place, prefix):
@@ -44,16 +44,11 @@ def nodes_of(lines):
         after = place + 1
         for n in numbers if kind == "S" else []:
             after = end_of(after, prefix + [int(n)])
-        nodes.append((place, prefix, after))
+        nodes.append((prefix, place, after))
         return after
 
     end_of(next(place for place, line in enumerate(lines) if line.startswith("ORDER")) + 1, [])
     return nodes
-
-
-def is_alike(one, other):
-    """Whether two nodes have the same numbers, in two orders."""
-    return one[1] != other[1] and sorted(one[1]) == sorted(other[1])
 
 
 def run(command, text):
@@ -111,13 +106,15 @@ class Maker:
         often earlier ones; the same document if it has none.
         """
         for _ in range(self.any.choice([1, 1, 1, 2, 5])):
-            nodes = [node for node in nodes_of(lines) if lines[node[0]][0] not in "TD"]
-            pairs = [(one, other) for one in nodes for other in nodes if is_alike(one, other)]
-            if version == 2 and self.any.random() < 0.9:
-                pairs = [(one, other) for one, other in pairs if other[1] < one[1]]
-            if pairs:
-                (place, _, after), (_, name, _) = self.any.choice(pairs)
-                leaf = " ".join(["D", *map(str, name)])
+            alike = collections.defaultdict(list)
+            for node in nodes_of(lines):
+                if lines[node[1]][0] not in "TD":
+                    alike[tuple(sorted(node[0]))].append(node)
+            choices = [nodes for nodes in alike.values() if len(nodes) > 1]
+            if choices:
+                pair = self.any.sample(self.any.choice(choices), 2)
+                named, (_, place, after) = sorted(pair) if version == 2 and self.any.random() < 0.9 else pair
+                leaf = " ".join(["D", *map(str, named[0])])
                 lines = [f"S66 CERTIFICATE {version}", *lines[1:place], leaf, *lines[after:]]
         return lines
 
@@ -130,9 +127,9 @@ class Maker:
     def dominated_document(self):
         """A document with dominated leaves, most often a right one, with the source and the profile of its block."""
         version, is_right = self.any.choice([2, 3]), self.any.random() < 0.7
-        for _ in range(20):
+        for _ in range(12):
             lines, block = self.document([3, 10, 50, 200])
-            many = [self.dominate(lines, version) for _ in range(10)]
+            many = [self.dominate(lines, version) for _ in range(15)]
             found = [] if lines in many else self.right_ones(many) if is_right else many
             if found:
                 return self.any.choice(found), block
