@@ -25,7 +25,7 @@ BXi Xj|BXi Xj*Xk|BXi Xj+Xk|BXi Xj-Xk|BXi -Xk|BXi -Xk*Xj|BXi -Xk+Xj|BXi -Xk-Xj
 LXi K|AXi -K|MXi K|LXi Bj,Xk|AXi Xk,Bj|LXi Bj|AXi Xk|NXi Bj,Xk|ZXi Xk,Bj|UXi Bj,Xk|PXi Bj,Xk|NXi Bj|ZXi Xk|UXi|PXi Bj|NXi
 FXi Xj+Xk|DXi Xj-Xk|RXi -Xk+Xj|IXi Xj+Xk|IXi Xj-Xk|FXi Xj*Xk|DXi Xj*Xk|RXi Xj*Xk|FXi Xj/Xk|RXi Xj/Xk|CXi Xk
 SAi Aj+K|SAi K|SAi Xj+K|SAi Xj+Bk|SAi Aj+Bk|SAi Bk+Aj|SAi Aj-Bk|SAi Bj+Bk|SAi Bj-Bk|SAi -Bk
-SBi Bj+K|SBi K+Aj|SBi Xj|SBi Aj|SBi -Bk+Bj|SBi Bj|SXi Bj-K|SXi Xj+K-K|SXi -K|SXi Xj+Bk|SXi -Bk+Aj|SXi -Bk
+SB0 Bj|SB0 Xj+K|SB0 Bj+Bk|SBi Bj+K|SBi K+Aj|SBi Xj|SBi Aj|SBi -Bk+Bj|SBi Bj|SXi Bj-K|SXi Xj+K-K|SXi -K|SXi Xj+Bk|SXi -Bk+Aj|SXi -Bk
 """.replace("\n", "|").strip("|").split("|")
 WRONG = "SXi Aj+Ak|SXi Xj-Bk|SXi A.N|IXi Xj*Xk|BXi Xj/Xk|SXi -Aj|SXi K-Bj|CXi -Xk|SXi *+2|MXi Xj|LXi|FXi -Xj|NO|BX8 X1".split("|")
 LONG = ["SXi " + "N" * 195, "SXi " + "N" * 196]
@@ -101,14 +101,28 @@ class Maker:
         places = [place for place, line in enumerate(lines) if re.match(pattern, line)]
         return self.any.choice(places or range(len(lines)))
 
+    def double_tree(self, lines):
+        """A document in which some S line has a number twice, each time with the same tree; the same one if it has no S line."""
+        ends = {place: after for _, place, after in nodes_of(lines)}
+        splits = [place for place in ends if lines[place].startswith("S ")]
+        if not splits:
+            return lines
+        place = self.any.choice(splits)
+        numbers = lines[place].split(" ")
+        at, begin = self.any.randrange(1, len(numbers)), place + 1
+        for _ in range(1, at):
+            begin = ends[begin]
+        split = " ".join(numbers[: at + 1] + numbers[at:])
+        return [*lines[:place], split, *lines[place + 1 : ends[begin]], *lines[begin:]]
+
     def dominate(self, lines, version):
         """A document with dominated leaves in place of some trees, which name nodes of the same numbers, in version 2 most
         often earlier ones; the same document if it has none.
         """
         for _ in range(self.any.choice([1, 1, 1, 2, 5])):
-            alike = collections.defaultdict(list)
+            alike, but = collections.defaultdict(list), "D" if self.any.random() < 0.05 else "DT"
             for node in nodes_of(lines):
-                if lines[node[1]][0] not in "TD":
+                if lines[node[1]][0] not in but:
                     alike[tuple(sorted(node[0]))].append(node)
             choices = [nodes for nodes in alike.values() if len(nodes) > 1]
             if choices:
@@ -118,22 +132,16 @@ class Maker:
                 lines = [f"S66 CERTIFICATE {version}", *lines[1:place], leaf, *lines[after:]]
         return lines
 
-    def right_ones(self, documents):
-        """Those of which the program says yes."""
-        text = "".join(line + "\n" for lines in documents for line in lines)
-        told = run([self.program, "check"], text).stdout.decode().splitlines()
-        return [lines for lines, verdict in zip(documents, told) if " YES " in verdict]
-
-    def dominated_document(self):
-        """A document with dominated leaves, most often a right one, with the source and the profile of its block."""
-        version, is_right = self.any.choice([2, 3]), self.any.random() < 0.7
+    def dominated_documents(self):
+        """Documents with dominated leaves in place of different trees of one, and the source and the profile of its block."""
+        version = self.any.choice([2, 3])
         for _ in range(12):
             lines, block = self.document([3, 10, 50, 200])
-            many = [self.dominate(lines, version) for _ in range(15)]
-            found = [] if lines in many else self.right_ones(many) if is_right else many
-            if found:
-                return self.any.choice(found), block
-        return self.any.choice(many), block
+            trees = [self.double_tree(lines) if self.any.random() < 0.1 else lines for _ in range(15)]
+            many = [self.dominate(tree, version) for tree in trees]
+            if all(one[0] != lines[0] for one in many):
+                break
+        return many, block
 
     def leaf(self, count, kinds="CCCUUUPPT"):
         """A leaf: right or wrong at its place."""
@@ -211,21 +219,31 @@ class Maker:
             elif line.split(" ")[0] in ("C", "U", "P") and self.any.random() < 0.5:
                 lines[place] = self.leaf(len(block))
 
+    def damaged(self, lines, block):
+        """A document with a few damages, or none."""
+        if self.any.random() < 0.35:
+            self.weaken(lines, self.time_of(*block))
+        often = [self.change_number, self.exchange_numbers, self.exchange_in_name] * 2
+        often += [self.change_leaf] * 4 + [self.change_instruction] * 2
+        seldom = [self.change_length, self.exchange_lines, self.drop_line, self.double_line]
+        seldom += [self.change_byte, self.change_version]
+        for damage in self.any.choices(often + seldom, k=self.any.choice([0, 0, 1, 1, 1, 2])):
+            damage(lines)
+        return lines
+
     def text(self):
         """One document or a few, right or damaged, and seldom cut off."""
-        text = ""
-        for _ in range(self.any.choice([1, 1, 1, 2, 3])):
-            is_dominated = self.any.random() < 0.65
-            lines, block = self.dominated_document() if is_dominated else self.document()
-            if self.any.random() < 0.35:
-                self.weaken(lines, self.time_of(*block))
-            often = [self.change_number, self.exchange_numbers, self.exchange_in_name] * 2
-            often += [self.change_leaf] * 4 + [self.change_instruction] * 2
-            seldom = [self.change_length, self.exchange_lines, self.drop_line, self.double_line]
-            seldom += [self.change_byte, self.change_version]
-            for damage in self.any.choices(often + seldom, k=self.any.choice([0, 0, 0, 1, 1, 2])):
-                damage(lines)
-            text += "".join(line + "\n" for line in lines)
+        if self.any.random() < 0.3:
+            documents = self.dominated_documents()[0]
+        else:
+            documents = []
+            for _ in range(self.any.choice([1, 1, 1, 2, 3])):
+                lines, block = self.document()
+                if self.any.random() < 0.6:
+                    many, block = self.dominated_documents()
+                    lines = self.any.choice(many)
+                documents.append(self.damaged(lines, block))
+        text = "".join(line + "\n" for lines in documents for line in lines)
         return text[: self.any.randint(0, len(text))] if self.any.random() < 0.05 else text
 
 
