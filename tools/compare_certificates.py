@@ -3,11 +3,12 @@
 
     tools/compare_certificates.py PROGRAM [--texts N] [--seed N]
 
-PROGRAM is the built program. It makes N texts, 2000 unless given: documents that `s66 prove` writes of random blocks of 2
-to 9 instructions, some under a random profile, many with dominated leaves in place of some of their trees, right or wrong,
-and most with a few damages. So they have all versions. Both programs have to write the same bytes, with the same status and
-the same first line of standard error. Each difference is printed with its text, and at the end how often each verdict came of
-each version, and each refusal. The status is 1 if there is a difference. The same seed makes the same texts.
+PROGRAM is the built program. It makes N texts, 2000 unless given. They begin with documents that `s66 prove` writes of
+random blocks of 2 to 9 instructions, some under a random profile. Many get dominated leaves in place of some of their trees,
+right or wrong, so they have all versions, and most of the others a few damages. Both programs have to write the same bytes,
+with the same status and the same first line of standard error. Each difference is printed with its text, and at the end how
+often each refusal came, and each verdict by version. The status is 1 if there is a difference. The same seed makes the same
+texts.
 """
 import argparse
 import collections
@@ -25,7 +26,8 @@ BXi Xj|BXi Xj*Xk|BXi Xj+Xk|BXi Xj-Xk|BXi -Xk|BXi -Xk*Xj|BXi -Xk+Xj|BXi -Xk-Xj
 LXi K|AXi -K|MXi K|LXi Bj,Xk|AXi Xk,Bj|LXi Bj|AXi Xk|NXi Bj,Xk|ZXi Xk,Bj|UXi Bj,Xk|PXi Bj,Xk|NXi Bj|ZXi Xk|UXi|PXi Bj|NXi
 FXi Xj+Xk|DXi Xj-Xk|RXi -Xk+Xj|IXi Xj+Xk|IXi Xj-Xk|FXi Xj*Xk|DXi Xj*Xk|RXi Xj*Xk|FXi Xj/Xk|RXi Xj/Xk|CXi Xk
 SAi Aj+K|SAi K|SAi Xj+K|SAi Xj+Bk|SAi Aj+Bk|SAi Bk+Aj|SAi Aj-Bk|SAi Bj+Bk|SAi Bj-Bk|SAi -Bk
-SB0 Bj|SB0 Xj+K|SB0 Bj+Bk|SBi Bj+K|SBi K+Aj|SBi Xj|SBi Aj|SBi -Bk+Bj|SBi Bj|SXi Bj-K|SXi Xj+K-K|SXi -K|SXi Xj+Bk|SXi -Bk+Aj|SXi -Bk
+SB0 Bj|SB0 Xj+K|SB0 Bj+Bk|SBi Bj+K|SBi K+Aj|SBi Xj|SBi Aj|SBi -Bk+Bj|SBi Bj
+SXi Bj-K|SXi Xj+K-K|SXi -K|SXi Xj+Bk|SXi -Bk+Aj|SXi -Bk
 """.replace("\n", "|").strip("|").split("|")
 WRONG = "SXi Aj+Ak|SXi Xj-Bk|SXi A.N|IXi Xj*Xk|BXi Xj/Xk|SXi -Aj|SXi K-Bj|CXi -Xk|SXi *+2|MXi Xj|LXi|FXi -Xj|NO|BX8 X1".split("|")
 LONG = ["SXi " + "N" * 195, "SXi " + "N" * 196]
@@ -102,7 +104,7 @@ class Maker:
         return self.any.choice(places or range(len(lines)))
 
     def double_tree(self, lines):
-        """A document in which some S line has a number twice, each time with the same tree; the same one if it has no S line."""
+        """A document in which an S line has a number twice, each time with the same tree; itself if it has no S line."""
         ends = {place: after for _, place, after in nodes_of(lines)}
         splits = [place for place in ends if lines[place].startswith("S ")]
         if not splits:
@@ -120,20 +122,21 @@ class Maker:
         often earlier ones; the same document if it has none.
         """
         for _ in range(self.any.choice([1, 1, 1, 2, 5])):
-            alike, but = collections.defaultdict(list), "D" if self.any.random() < 0.05 else "DT"
-            for node in nodes_of(lines):
-                if lines[node[1]][0] not in but:
-                    alike[tuple(sorted(node[0]))].append(node)
+            alike, left_out = collections.defaultdict(list), "D" if self.any.random() < 0.05 else "DT"
+            for prefix, place, after in nodes_of(lines):
+                if lines[place][0] not in left_out:
+                    alike[tuple(sorted(prefix))].append((prefix, place, after))
             choices = [nodes for nodes in alike.values() if len(nodes) > 1]
             if choices:
                 pair = self.any.sample(self.any.choice(choices), 2)
-                named, (_, place, after) = sorted(pair) if version == 2 and self.any.random() < 0.9 else pair
-                leaf = " ".join(["D", *map(str, named[0])])
+                is_earlier = version == 2 and self.any.random() < 0.9
+                (name, _, _), (_, place, after) = sorted(pair) if is_earlier else pair
+                leaf = " ".join(["D", *map(str, name)])
                 lines = [f"S66 CERTIFICATE {version}", *lines[1:place], leaf, *lines[after:]]
         return lines
 
     def dominated_documents(self):
-        """Documents with dominated leaves in place of different trees of one, and the source and the profile of its block."""
+        """A document with different trees dominated, many times, with the source and the profile of its block."""
         version = self.any.choice([2, 3])
         for _ in range(12):
             lines, block = self.document([3, 10, 50, 200])
