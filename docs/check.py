@@ -6,9 +6,9 @@
 PROGRAM is the built program. Without a DOCUMENT all are checked: README.md, CONTRIBUTING.md, the README.md of bench/ and of examples/,
 and docs/*.md; the manual page docs/s66.1: that its literal displays are what a terminal shows, and that it has each sentence of the
 program's help; and the files of examples/: that each NAME.time, NAME.chart and NAME.order is to the byte what the program writes
-of NAME.compass, and that check says yes to each document that prove writes of it, at the times of NAME.order; and that tools/certificate.py,
-which is written from docs/FORMATS.md, says what check says of 200 texts of documents. The status is 1 where something is
-wrong, and each wrong place is told, wrong output as a diff.
+of NAME.compass, and that check says yes to each document that prove writes of it, at the times of NAME.order; and that
+tools/certificate.py, which is written from docs/FORMATS.md, says what check says of 200 texts of documents of all versions. The
+status is 1 where something is wrong, and each wrong place is told, wrong output as a diff.
 
 Two kinds of fences hold commands. In
 

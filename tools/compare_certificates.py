@@ -3,10 +3,12 @@
 
     tools/compare_certificates.py PROGRAM [--texts N] [--seed N]
 
-PROGRAM is the built program. It makes N texts, 2000 unless given: documents that `s66 prove` writes of random blocks of 2 to 9
-instructions, some under a random profile, most of them with a few damages. Both programs have to write the same bytes, with the same
-status and the same first line of standard error. Each difference is printed with its text, and at the end how often each verdict
-and each refusal came. The status is 1 if there is a difference. The same seed makes the same texts.
+PROGRAM is the built program. It makes N texts, 2000 unless given. They begin with documents that `s66 prove` writes of
+random blocks of 2 to 9 instructions, some under a random profile. Many get dominated leaves in place of some of their trees,
+right or wrong, so they have all versions, and most of the others a few damages. Both programs have to write the same bytes,
+with the same status and the same first line of standard error. Each difference is printed with its text, and at the end how
+often each refusal came, and each verdict by version. The status is 1 if there is a difference. The same seed makes the same
+texts.
 """
 import argparse
 import collections
@@ -24,7 +26,8 @@ BXi Xj|BXi Xj*Xk|BXi Xj+Xk|BXi Xj-Xk|BXi -Xk|BXi -Xk*Xj|BXi -Xk+Xj|BXi -Xk-Xj
 LXi K|AXi -K|MXi K|LXi Bj,Xk|AXi Xk,Bj|LXi Bj|AXi Xk|NXi Bj,Xk|ZXi Xk,Bj|UXi Bj,Xk|PXi Bj,Xk|NXi Bj|ZXi Xk|UXi|PXi Bj|NXi
 FXi Xj+Xk|DXi Xj-Xk|RXi -Xk+Xj|IXi Xj+Xk|IXi Xj-Xk|FXi Xj*Xk|DXi Xj*Xk|RXi Xj*Xk|FXi Xj/Xk|RXi Xj/Xk|CXi Xk
 SAi Aj+K|SAi K|SAi Xj+K|SAi Xj+Bk|SAi Aj+Bk|SAi Bk+Aj|SAi Aj-Bk|SAi Bj+Bk|SAi Bj-Bk|SAi -Bk
-SBi Bj+K|SBi K+Aj|SBi Xj|SBi Aj|SBi -Bk+Bj|SBi Bj|SXi Bj-K|SXi Xj+K-K|SXi -K|SXi Xj+Bk|SXi -Bk+Aj|SXi -Bk
+SB0 Bj|SB0 Xj+K|SB0 Bj+Bk|SBi Bj+K|SBi K+Aj|SBi Xj|SBi Aj|SBi -Bk+Bj|SBi Bj
+SXi Bj-K|SXi Xj+K-K|SXi -K|SXi Xj+Bk|SXi -Bk+Aj|SXi -Bk
 """.replace("\n", "|").strip("|").split("|")
 WRONG = "SXi Aj+Ak|SXi Xj-Bk|SXi A.N|IXi Xj*Xk|BXi Xj/Xk|SXi -Aj|SXi K-Bj|CXi -Xk|SXi *+2|MXi Xj|LXi|FXi -Xj|NO|BX8 X1".split("|")
 LONG = ["SXi " + "N" * 195, "SXi " + "N" * 196]
@@ -32,6 +35,22 @@ CONSTANTS = ["1", "100B", "2*N", "TABLE", "=5", "N.B", "N/2", "X2*X3", "1+N"]
 NUMBERS = ["0", "1", "2", "3", "9", "10", "100", "101", "128", "129", "100000", "100001", "01", "-1", ""]
 UNITS = ["BOOLEAN", "SHIFT", "ADD", "LONGADD", "MULTIPLY", "DIVIDE", "INCREMENT", "BRANCH"]
 KEYS = ["boolean", "shift", "normalise", "add", "longadd", "multiply", "divide", "population", "increment", "load"]
+
+
+def nodes_of(lines):
+    """The nodes of a document's tree: the prefix of each, the place of its line, and the place after its tree."""
+    nodes = []
+
+    def end_of(place, prefix):
+        kind, *numbers = lines[place].split(" ")
+        after = place + 1
+        for n in numbers if kind == "S" else []:
+            after = end_of(after, prefix + [int(n)])
+        nodes.append((prefix, place, after))
+        return after
+
+    end_of(next(place for place, line in enumerate(lines) if line.startswith("ORDER")) + 1, [])
+    return nodes
 
 
 def run(command, text):
@@ -63,71 +82,127 @@ class Maker:
         copies = {"units_" + unit.lower(): self.any.choice([1, 2, 3]) for unit in UNITS[:7] if self.any.random() < 0.4}
         return json.dumps({**times, **copies})
 
-    def document(self):
-        """A right document, and how long its block takes as it is written."""
+    def document(self, budgets=(0, 1, 3, 10, 50, 200)):
+        """A right document, with the source and the profile of its block."""
         some = self.any.sample(INSTRUCTIONS, self.any.choice([3, 10, len(INSTRUCTIONS)]))
         source = "".join(f"  {self.instruction(some)}\n" for _ in range(self.any.randint(2, 9)))
-        profile, nodes = self.profile(), self.any.choice([0, 1, 3, 10, 50, 200])
-        proved = run([self.program, "prove", "--workers", "1", "--nodes", str(nodes), "--profile", profile], source)
-        timed = run([self.program, "time", "--profile", profile], source)
-        if proved.returncode not in (0, 7) or timed.returncode != 0:
+        profile, nodes = self.profile(), self.any.choice(budgets)
+        words = ["--workers", "1", "--nodes", str(nodes), "--profile", profile]
+        proved = run([self.program, "prove", *words], source)
+        if proved.returncode not in (0, 7):
             sys.exit(f"no document of\n{source}")
-        return proved.stdout.decode().splitlines(), int(timed.stdout.split()[-1])
+        return proved.stdout.decode().splitlines(), (source, profile)
+
+    def time_of(self, source, profile):
+        """How long a block takes as it is written."""
+        timed = run([self.program, "time", "--profile", profile], source)
+        return int(timed.stdout.split()[-1])
 
     def place(self, lines, pattern):
         """The place of a line with this pattern at its beginning; of any line if there is none."""
         places = [place for place, line in enumerate(lines) if re.match(pattern, line)]
         return self.any.choice(places or range(len(lines)))
 
-    def leaf(self, count):
+    def double_tree(self, lines):
+        """A document in which an S line has a number twice, each time with the same tree; itself if it has no S line."""
+        ends = {place: after for _, place, after in nodes_of(lines)}
+        splits = [place for place in ends if lines[place].startswith("S ")]
+        if not splits:
+            return lines
+        place = self.any.choice(splits)
+        numbers = lines[place].split(" ")
+        at, begin = self.any.randrange(1, len(numbers)), place + 1
+        for _ in range(1, at):
+            begin = ends[begin]
+        split = " ".join(numbers[: at + 1] + numbers[at:])
+        return [*lines[:place], split, *lines[place + 1 : ends[begin]], *lines[begin:]]
+
+    def dominate(self, lines, version):
+        """A document with dominated leaves in place of some trees, which name nodes of the same numbers, in version 2 most
+        often earlier ones; the same document if it has none.
+        """
+        for _ in range(self.any.choice([1, 1, 1, 2, 5])):
+            alike, left_out = collections.defaultdict(list), "D" if self.any.random() < 0.05 else "DT"
+            for prefix, place, after in nodes_of(lines):
+                if lines[place][0] not in left_out:
+                    alike[tuple(sorted(prefix))].append((prefix, place, after))
+            choices = [nodes for nodes in alike.values() if len(nodes) > 1]
+            if choices:
+                pair = self.any.sample(self.any.choice(choices), 2)
+                is_earlier = version == 2 and self.any.random() < 0.9
+                (name, _, _), (_, place, after) = sorted(pair) if is_earlier else pair
+                leaf = " ".join(["D", *map(str, name)])
+                lines = [f"S66 CERTIFICATE {version}", *lines[1:place], leaf, *lines[after:]]
+        return lines
+
+    def dominated_documents(self):
+        """A document with different trees dominated, many times, with the source and the profile of its block."""
+        version = self.any.choice([2, 3])
+        for _ in range(12):
+            lines, block = self.document([3, 10, 50, 200])
+            trees = [self.double_tree(lines) if self.any.random() < 0.1 else lines for _ in range(15)]
+            many = [self.dominate(tree, version) for tree in trees]
+            if all(one[0] != lines[0] for one in many):
+                break
+        return many, block
+
+    def leaf(self, count, kinds="CCCUUUPPT"):
         """A leaf: right or wrong at its place."""
-        kind = self.any.choice("CCCUUUPPT")
-        if kind == "C":
+        kind = self.any.choice(kinds)
+        if kind in "CD":
             some = self.any.sample(range(1, count + 1), self.any.randint(1, min(3, count)))
-            return " ".join(["C", *map(str, sorted(some) if self.any.random() < 0.9 else some)])
+            return " ".join([kind, *map(str, sorted(some) if self.any.random() < 0.9 else some)])
         return f"U {self.any.choice(UNITS[:7])}" if kind == "U" else kind
 
-    def change_number(self, lines, _):
+    def change_version(self, lines):
+        lines[0] = f"S66 CERTIFICATE {self.any.choice([1, 2, 2, 3, 3, 4])}"
+
+    def change_number(self, lines):
         place = self.place(lines, r"[A-Z0-9]+ \d")
         numbers = list(re.finditer(r"\d+", lines[place]))
         if numbers:
             chosen = self.any.choice(numbers)
             near = [str(max(0, int(chosen[0]) + more)) for more in (-1, 1)]
-            changed = self.any.choice(near * 3 + NUMBERS)
+            changed = self.any.choice(near * 10 + NUMBERS)
             lines[place] = lines[place][: chosen.start()] + changed + lines[place][chosen.end() :]
 
-    def exchange_numbers(self, lines, _):
-        place = self.place(lines, "(ORDER|S|C) .* ")
+    def exchange_numbers(self, lines, pattern="(ORDER|S|C|D) .* "):
+        place = self.place(lines, pattern)
         fields = lines[place].split(" ")
-        one, other = self.any.randrange(len(fields)), self.any.randrange(len(fields))
+        places = range(len(fields))[1 if self.any.random() < 0.9 else 0 :] or [0]  # seldom the word
+        one, other = self.any.choice(places), self.any.choice(places)
         fields[one], fields[other] = fields[other], fields[one]
         lines[place] = " ".join(fields)
 
-    def change_length(self, lines, _):
-        place = self.place(lines, "(ORDER|S|C|PROFILE) ")
+    def exchange_in_name(self, lines):
+        self.exchange_numbers(lines, "D .* ")
+
+    def change_length(self, lines):
+        place = self.place(lines, "(ORDER|S|C|D|PROFILE) ")
         fields = lines[place].split(" ")
         at = self.any.randrange(len(fields))
         lines[place] = " ".join(fields[:at] + self.any.choice([[], [fields[at]] * 2]) + fields[at + 1 :])
 
-    def exchange_lines(self, lines, _):
+    def exchange_lines(self, lines):
         one = self.any.randrange(len(lines))
         other = self.any.choice([min(one + 1, len(lines) - 1), self.any.randrange(len(lines))])
         lines[one], lines[other] = lines[other], lines[one]
 
-    def drop_line(self, lines, _):
+    def drop_line(self, lines):
         del lines[self.any.randrange(len(lines))]
 
-    def double_line(self, lines, _):
+    def double_line(self, lines):
         place = self.any.randrange(len(lines))
         lines.insert(place, lines[place])
 
-    def change_leaf(self, lines, _):
-        lines[self.place(lines, "[CUPT]( |$)")] = self.leaf(9)
+    def change_leaf(self, lines):
+        kinds = "CCCUUUPPT" if lines[0].endswith("1") else "CCUUPTDDD"
+        lines[self.place(lines, "[CUPTD]( |$)")] = self.leaf(9, kinds)
 
-    def change_instruction(self, lines, _):
+    def change_instruction(self, lines):
         lines[self.place(lines, "I ")] = "I " + self.instruction(INSTRUCTIONS + WRONG + LONG)
 
-    def change_byte(self, lines, _):
+    def change_byte(self, lines):
         place = self.any.randrange(len(lines))
         at = self.any.randint(0, len(lines[place]))
         more = self.any.choice([" ", "\t", "\r", "\0", "\xe9", "a", "X", "*", "+", "-", ",", "7", "\n"])
@@ -147,28 +222,51 @@ class Maker:
             elif line.split(" ")[0] in ("C", "U", "P") and self.any.random() < 0.5:
                 lines[place] = self.leaf(len(block))
 
+    def damaged(self, lines, block):
+        """A document with a few damages, or none."""
+        if self.any.random() < 0.35:
+            self.weaken(lines, self.time_of(*block))
+        often = [self.change_number, self.exchange_numbers, self.exchange_in_name] * 2
+        often += [self.change_leaf] * 4 + [self.change_instruction] * 2
+        seldom = [self.change_length, self.exchange_lines, self.drop_line, self.double_line]
+        seldom += [self.change_byte, self.change_version]
+        for damage in self.any.choices(often + seldom, k=self.any.choice([0, 0, 1, 1, 1, 2])):
+            damage(lines)
+        return lines
+
     def text(self):
         """One document or a few, right or damaged, and seldom cut off."""
-        text = ""
-        for _ in range(self.any.choice([1, 1, 1, 2, 3])):
-            lines, written = self.document()
-            if self.any.random() < 0.35:
-                self.weaken(lines, written)
-            often = [self.change_number, self.exchange_numbers, self.change_leaf, self.change_leaf, self.change_instruction] * 2
-            seldom = [self.change_length, self.exchange_lines, self.drop_line, self.double_line, self.change_byte]
-            for damage in self.any.choices(often + seldom, k=self.any.choice([0, 0, 1, 1, 1, 2])):
-                damage(lines, written)
-            text += "".join(line + "\n" for line in lines)
+        if self.any.random() < 0.3:
+            documents = self.dominated_documents()[0]
+        else:
+            documents = []
+            for _ in range(self.any.choice([1, 1, 1, 2, 3])):
+                lines, block = self.document()
+                if self.any.random() < 0.6:
+                    many, block = self.dominated_documents()
+                    lines = self.any.choice(many)
+                documents.append(self.damaged(lines, block))
+        text = "".join(line + "\n" for lines in documents for line in lines)
         return text[: self.any.randint(0, len(text))] if self.any.random() < 0.05 else text
 
 
+def count_outcome(text, told, refused, counts):
+    """Counts each verdict under the version of its document, or the refusal, without numbers of lines and times."""
+    versions = re.findall(r"^S66 CERTIFICATE (\d)$", text, re.MULTILINE)
+    for version, line in zip(versions, told.splitlines()):
+        verdict = re.sub(r"DOCUMENT \d+ | LINE \d+| TIME .*", "", line)
+        counts[f"version {version} {verdict}"] += 1
+    if refused:
+        counts[re.sub(r"LINE \d+ ", "", refused)] += 1
+
+
 def differences(program, texts, seed, counts):
-    """What the two say differently. Counts their verdicts and refusals, without numbers of lines and times."""
+    """What the two say differently, and how often they say what."""
     maker = Maker(program, seed)
     for number in range(1, texts + 1):
         text = maker.text()
         inside, outside = outcome([program, "check"], text), outcome([sys.executable, CERTIFICATE], text)
-        counts.update(re.sub(r"DOCUMENT \d+ | LINE \d+| TIME .*|LINE \d+ ", "", line) for line in (inside[0] + inside[2]).splitlines())
+        count_outcome(text, inside[0], inside[2], counts)
         if inside != outside:
             yield f"text {number} of seed {seed}:\n{text}s66 check: {inside}\ntools/certificate.py: {outside}"
 
