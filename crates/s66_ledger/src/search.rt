@@ -137,9 +137,9 @@ impl<'a> Machine<'a> {
         match self.graft(1, ticket.node(), &piece, &subtree) {
             Ok(()) => Ok(()),
             Err(GraftError::OutOfMemory) => Err(AllocError),
-            Err(GraftError::NotOut | GraftError::OtherPrefix | GraftError::OverAllowance) => {
-                unreachable!()
-            }
+            Err(GraftError::NotOut) => unreachable!(),
+            Err(GraftError::OtherPrefix) => unreachable!(),
+            Err(GraftError::OverAllowance) => unreachable!(),
         }
     }
 

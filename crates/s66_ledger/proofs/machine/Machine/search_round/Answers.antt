@@ -1,8 +1,12 @@
-use Rattle.std.proofs.Common.{◌∙◌, Option, subst, sym, ap}
+use Rattle.std.proofs.Common.{rules, ◌∙◌, Option, subst, sym, ap}
+use Rattle.s66_model.specs.declared.rule.Rule.TheVariants.{NoneNamed}
 use Rattle.s66_model.specs.Timing.{Problem}
+use Rattle.s66_model.specs.Expansion.{IsExpansion}
+use Rattle.s66_node.specs.Pieces.{PieceOf, tree_of}
+use Rattle.s66_node.proofs.Pieces.{any-expansion}
 use Rattle.s66_model.specs.LegalOrder.{IsBeginning}
 use Rattle.s66_model.specs.Leaves.{floor_value}
-use Rattle.s66_model.specs.Ledger.{Claim, Claimed, Back, Returned, best_time, node_at}
+use Rattle.s66_model.specs.Ledger.{Claim, Claimed, Back, Returned, best_time, allowance, node_at}
 use Rattle.s66_ledger.specs.Tickets.{TicketOf}
 use Rattle.s66_ledger.specs.LedgerMachine.{IsMove}
 use Rattle.s66_ledger.specs.ClaimedNodes.{claimed_node, IsTicketOf, IsLeastOpen}
@@ -62,3 +66,12 @@ returns-clause-leads c =
     let granted = c.allowance_or_grant-allowance.new.self in
     let claimed = event-leads granted c.claim.new.self (Claim 1) (Claimed (claimed_node c.claim.result)) c.claim.ensures.ok in
     leads-on c.args.self.now granted c.take_in.new.self c.allowance_or_grant-allowance.ensures.leads (leads-on granted c.claim.new.self c.take_in.new.self claimed c.in_ok-take_in.ensures.leads)
+
+pub take_in-requires-clause-expansion : goal.take_in-requires-clause-expansion
+take_in-requires-clause-expansion c =
+    let mid = c.claim.new.self in
+    let p = c.in_ok-piece.piece in
+    let best = best_time mid.problem mid.state in
+    let is : IsExpansion NoneNamed mid.problem best best (allowance mid.state 1) p.prefix (tree_of p) = search rules in
+    subst (λ (q : PieceOf). IsExpansion mid.rule mid.problem best best (allowance mid.state 1) q.prefix (tree_of q)) (sym c.by_rule.ensures)
+    (any-expansion mid.rule mid.problem best best (allowance mid.state 1) p.prefix (tree_of p) is)

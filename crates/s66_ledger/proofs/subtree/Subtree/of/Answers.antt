@@ -31,6 +31,6 @@ returns c =
           (elim w.in-Leaf.is [
             | inl is ↦ tip-first p knots c.index-knots-0.result (ToldLeaf is.0) (opened-preorder q c.knots-knots.ensures.preorder) (opened-lines knots q c.knots-knots.ensures.value) c.index-knots-0.is (ap open_knot is.1)
             | inr (inl is) ↦ tip-first p knots c.index-knots-0.result (ToldFrontier is.0) (opened-preorder q c.knots-knots.ensures.preorder) (opened-lines knots q c.knots-knots.ensures.value) c.index-knots-0.is (ap open_knot is.1)
-            | inr (inr is) ↦ tip-first p knots c.index-knots-0.result (ToldFrontier is.0) (opened-preorder q c.knots-knots.ensures.preorder) (opened-lines knots q c.knots-knots.ensures.value) c.index-knots-0.is (ap open_knot is.1)
+            | inr (inr is) ↦ tip-first p knots c.index-knots-0.result (ToldFrontier is.0) (opened-preorder q c.knots-knots.ensures.preorder) (opened-lines knots q c.knots-knots.ensures.value) c.index-knots-0.is (ap open_knot is.2)
           ]))
     ]
