@@ -42,7 +42,7 @@ pub record IsRecorded (l : LedgerOf) : Type 0 where
 
 -- what the rule of a lock reads of it
 abbrev pub account_summary : LedgerOf → Summary
-account_summary l = summary_of l.problem l.budget l.workers (events_of l) l.state
+account_summary l = summary_of l.rule l.problem l.budget l.workers (events_of l) l.state
 
 abbrev pub with_history : MachineOf → List Entry → List ℕ → LedgerOf
 with_history m entries bytes =

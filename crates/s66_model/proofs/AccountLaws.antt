@@ -67,7 +67,7 @@ weigh-map g f [] = refl
 weigh-map g f (x ∷ xs) = ap (λ (n : ℕ). f (g x) + n) (weigh-map g f xs)
 
 -- their splits add up to what is spent
-pub accounts-spent : (rule : Rule) (b : Problem) (budget workers : ℕ) (h : List (Event × Reply)) (l : Ledger) → Run rule b (opening b budget workers) h l → weigh (λ a. a.splits) (summary_of b budget workers h l).accounts ≡ l.spent
+pub accounts-spent : (rule : Rule) (b : Problem) (budget workers : ℕ) (h : List (Event × Reply)) (l : Ledger) → Run rule b (opening b budget workers) h l → weigh (λ a. a.splits) (summary_of rule b budget workers h l).accounts ≡ l.spent
 accounts-spent rule b budget workers h l r =
     weigh-map (account_of h) (λ (a : Account). a.splits) (rising workers 1) ∙ history-spent rule b budget workers h l r
 
@@ -76,9 +76,9 @@ rising-at zero low i d lt = absurd (omega (arith, lt))
 rising-at (suc k) low zero d lt = omega arith
 rising-at (suc k) low (suc i) d lt = omega (arith, rising-at k (suc low) i d (omega (arith, lt)))
 
-module _ (b : Problem) (budget workers : ℕ) (h : List (Event × Reply)) (l : Ledger) where
+module _ (rule : Rule) (b : Problem) (budget workers : ℕ) (h : List (Event × Reply)) (l : Ledger) where
   abbrev summary : Summary
-  summary = summary_of b budget workers h l
+  summary = summary_of rule b budget workers h l
 
   pub accounts-count : length summary.accounts ≡ workers
   accounts-count = length-map (rising workers 1) (account_of h) ∙ length-rising workers 1
@@ -93,6 +93,7 @@ module _ (b : Problem) (budget workers : ℕ) (h : List (Event × Reply)) (l : L
   opened-agrees w low high =
       record {
         worker = (low, omega (arith, high, accounts-count));
+        rule = refl;
         problem = refl;
         budget = refl;
         account = refl;
@@ -122,37 +123,39 @@ best-known rule b old event reply new least h le = absurd h
 
 module _ (rule : Rule) (b : Problem) (budget workers : ℕ) (h : List (Event × Reply)) (old : Ledger) (event : Event) (reply : Reply) (new : Ledger) (p : Passbook) where
   abbrev before : Summary
-  before = summary_of b budget workers h old
+  before = summary_of rule b budget workers h old
 
   abbrev after : Summary
-  after = summary_of b budget workers (h ++ (event, reply) ∷ []) new
+  after = summary_of rule b budget workers (h ++ (event, reply) ∷ []) new
 
   -- its own event
   pub agrees-own : Step rule b old event reply new → Agrees before p → worker event ≡ p.who → Agrees after (after_event p event reply)
   agrees-own step is own =
-      let high : p.who ≤ workers = omega (arith, is.worker.1, accounts-count b budget workers h old) in
+      let high : p.who ≤ workers = omega (arith, is.worker.1, accounts-count rule b budget workers h old) in
       record {
-        worker = (is.worker.0, omega (arith, high, accounts-count b budget workers (h ++ (event, reply) ∷ []) new));
+        worker = (is.worker.0, omega (arith, high, accounts-count rule b budget workers (h ++ (event, reply) ∷ []) new));
+        rule = is.rule;
         problem = is.problem;
         budget = is.budget;
         account =
-            ap (λ a. counted a event reply) (is.account ∙ account-at b budget workers h old p.who is.worker.0 high)
-            ∙ (sym (account-own h event reply p.who own) ∙ sym (account-at b budget workers (h ++ (event, reply) ∷ []) new p.who is.worker.0 high));
+            ap (λ a. counted a event reply) (is.account ∙ account-at rule b budget workers h old p.who is.worker.0 high)
+            ∙ (sym (account-own h event reply p.who own) ∙ sym (account-at rule b budget workers (h ++ (event, reply) ∷ []) new p.who is.worker.0 high));
         least = best-known rule b old event reply new p.least step.1 is.least;
       }
 
   -- another worker's
   pub agrees-other : Step rule b old event reply new → Agrees before p → worker event ≢ p.who → Agrees after p
   agrees-other step is other =
-      let high : p.who ≤ workers = omega (arith, is.worker.1, accounts-count b budget workers h old) in
+      let high : p.who ≤ workers = omega (arith, is.worker.1, accounts-count rule b budget workers h old) in
       record {
-        worker = (is.worker.0, omega (arith, high, accounts-count b budget workers (h ++ (event, reply) ∷ []) new));
+        worker = (is.worker.0, omega (arith, high, accounts-count rule b budget workers (h ++ (event, reply) ∷ []) new));
+        rule = is.rule;
         problem = is.problem;
         budget = is.budget;
         account =
             is.account
-            ∙ (account-at b budget workers h old p.who is.worker.0 high
-            ∙ (sym (account-other h event reply p.who other) ∙ sym (account-at b budget workers (h ++ (event, reply) ∷ []) new p.who is.worker.0 high)));
+            ∙ (account-at rule b budget workers h old p.who is.worker.0 high
+            ∙ (sym (account-other h event reply p.who other) ∙ sym (account-at rule b budget workers (h ++ (event, reply) ∷ []) new p.who is.worker.0 high)));
         least = omega (arith, is.least, step-falls rule b old new event reply step);
       }
 
@@ -161,6 +164,7 @@ pub agrees-read : (s : Summary) (p : Passbook) → Agrees s p → Agrees s (afte
 agrees-read s p is =
     record {
       worker = is.worker;
+      rule = is.rule;
       problem = is.problem;
       budget = is.budget;
       account = is.account;

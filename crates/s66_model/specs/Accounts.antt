@@ -1,6 +1,7 @@
 -- To be believed: what a history holds of each worker, what the rule of a ledger's lock reads of the ledger, and what a worker's seat keeps of it.
 use Rattle.std.specs.Prelude.{ℕ, ◌+◌, ◌-◌, ◌≡◌, ◌≤◌, ◌==◌, List, [], ◌∷◌, length, map, filter, get_or, min, Option, Some, None}
 use Rattle.s66_isa.specs.Lists.{rising}
+use Rattle.s66_model.specs.declared.rule.Rule.{Rule}
 use Rattle.s66_model.specs.Timing.{Problem}
 use Rattle.s66_model.specs.Ledger.{Ledger, Event, Grant, Claim, Graft, Offer, Back, Retire, Reply, Lower, NotLower, worker, best_time}
 use Rattle.s66_model.specs.Recorded.{spends, spent_by}
@@ -62,6 +63,8 @@ no_account = record { events = 0; last = None; splits = 0 }
 -- THE SUMMARY OF A LEDGER
 
 pub record Summary : Type 0 where
+  -- of dominated leaves
+  pub rule : Rule
   pub problem : Problem
   pub budget : ℕ
   -- the best time
@@ -69,9 +72,10 @@ pub record Summary : Type 0 where
   -- of the workers, who count from 1
   pub accounts : List Account
 
-abbrev pub summary_of : Problem → (budget workers : ℕ) → List (Event × Reply) → Ledger → Summary
-summary_of b budget workers history l =
+abbrev pub summary_of : Rule → Problem → (budget workers : ℕ) → List (Event × Reply) → Ledger → Summary
+summary_of rule b budget workers history l =
     record {
+      rule = rule;
       problem = b;
       budget = budget;
       best = best_time b l;
@@ -83,9 +87,10 @@ account_at s w = get_or s.accounts (w - 1) no_account
 
 -- WHAT A SEAT KEEPS
 
--- of worker who: the ledger's block, profile and budget, the worker's account, and the least time that the seat opened with, read, offered or was answered
+-- of worker who: the ledger's rule, block, profile and budget, the worker's account, and the least time that the seat opened with, read, offered or was answered
 pub record Passbook : Type 0 where
   pub who : ℕ
+  pub rule : Rule
   pub problem : Problem
   pub budget : ℕ
   pub account : Account
@@ -94,6 +99,7 @@ pub record Passbook : Type 0 where
 -- it says what the ledger says, whose best time isn't above its least
 pub record Agrees (s : Summary) (p : Passbook) : Type 0 where
   pub worker : (1 ≤ p.who) × (p.who ≤ length s.accounts)
+  pub rule : p.rule ≡ s.rule
   pub problem : p.problem ≡ s.problem
   pub budget : p.budget ≡ s.budget
   pub account : p.account ≡ account_at s p.who
@@ -104,6 +110,7 @@ abbrev pub opened : Summary → ℕ → Passbook
 opened s w =
     record {
       who = w;
+      rule = s.rule;
       problem = s.problem;
       budget = s.budget;
       account = account_at s w;

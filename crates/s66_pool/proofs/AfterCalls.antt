@@ -5,9 +5,11 @@ use Rattle.atomic_table.specs.Seated.{TableId}
 use Rattle.s66_isa.specs.Lists.{weigh}
 use Rattle.s66_model.specs.Ledger as model
 use Rattle.s66_model.specs.Ledger.{Event, Reply, Back, Returned, NotOut, Offer, worker}
-use Rattle.s66_model.specs.Recorded.{IsGraftOf, IsOfferOf, IsOwn, graft_event, spends}
+use Rattle.s66_model.specs.Recorded.{IsGraftOf, IsOfferOf, IsOwn, IsOwnPiece, TreeOpens, graft_event, spends}
+use Rattle.s66_model.specs.declared.rule.Rule.{Rule}
 use Rattle.s66_model.specs.Timing.{Problem, total_of}
-use Rattle.s66_model.specs.Tree.{splits}
+use Rattle.s66_model.specs.Tree.{Tree, splits}
+use Rattle.s66_model.specs.Piece.{Tip}
 use Rattle.s66_model.specs.Accounts.{Summary, Passbook, Account, Agrees, opened, account_at, after_event, after_reading, least_after, no_account}
 use Rattle.s66_node.specs.Pieces.{PieceOf, tree_of}
 use Rattle.s66_ledger.specs.Ledgers.{LedgerOf, IsEvent, account_summary}
@@ -20,6 +22,7 @@ use Rattle.s66_ledger.specs.declared.reply.GraftError.{GraftError}
 use Rattle.s66_ledger.specs.declared.reply.GraftError.TheVariants as refused
 use Rattle.s66_ledger.specs.declared.reply.BackError.{BackError}
 use Rattle.s66_ledger.specs.declared.reply.BackError.TheVariants as kept
+use Rattle.s66_ledger.proofs.Opened.{same-splits}
 use Rattle.s66_pool.specs.SeatViews.{View, Follows, renewed, idle, holding, first_book}
 use Rattle.s66_pool.specs.Hubs.{SeatOf, HasGrafted, HasBeenRefused, HasOffered, IsKnown}
 use Rattle.s66_pool.proofs.SeatEvents.{renewed-agrees, same-follows, same-book, event-follows, event-read, event-known, quiet-book, told-book, lower-told, answer-told, gave-book, gave-opened}
@@ -82,38 +85,39 @@ module _ (l old new : LedgerOf) (e : old ≡ l) (p : Passbook) (number : ℕ) (w
 
   -- a graft, and of any seat with this passbook what became of it
   module _ (i : ℕ) (piece : PieceOf) where
-    grafted-as : (reply : Reply) (cost : ℕ) → ((w : ℕ) (own : Bool) → worker (graft_event w i own piece.prefix (tree_of piece) reply) ≡ w)
-        → ((w : ℕ) (own : Bool) → least_after p.least (graft_event w i own piece.prefix (tree_of piece) reply) reply ≡ p.least)
-        → ((w : ℕ) (own : Bool) → spends (graft_event w i own piece.prefix (tree_of piece) reply) reply ≡ cost)
+    grafted-as : (reply : Reply) (cost : ℕ) → ((w : ℕ) (own : Bool) (taken : Tree Tip) → worker (graft_event w i own piece.prefix taken reply) ≡ w)
+        → ((w : ℕ) (own : Bool) (taken : Tree Tip) → least_after p.least (graft_event w i own piece.prefix taken reply) reply ≡ p.least)
+        → ((w : ℕ) (own : Bool) (taken : Tree Tip) → TreeOpens (tree_of piece) taken → spends (graft_event w i own piece.prefix taken reply) reply ≡ cost)
         → IsGraftAt old number i piece reply new
         → Keeps l new p (p.account.splits + cost) × ((s now : SeatOf) → p ≡ s.book → now.book ≡ renewed (account_summary new) p p.least → HasGrafted s i piece reply now)
-    grafted-as reply cost by quiet spent (event, (own, of, is), h) =
-        let named : ℕ → Event = λ w. graft_event w i own piece.prefix (tree_of piece) reply in
+    grafted-as reply cost by quiet spent (event, (own, taken, of, opens, is), h) =
+        let named : ℕ → Event = λ w. graft_event w i own piece.prefix taken reply in
         let P : Event → Type 0 = λ v. IsEvent old v reply new in
-        let call = quiet-call named reply (by p.who own) (quiet p.who own) (subst P is h) in
-        let Q : Problem → Type 0 = λ b. IsOwn b piece.problem own in (
-          (call.0.0, call.0.1 ∙ ap (λ (n : ℕ). p.account.splits + n) (spent p.who own)),
+        let call = quiet-call named reply (by p.who own taken) (quiet p.who own taken) (subst P is h) in
+        let own_by = subst (λ (r : Rule). IsOwnPiece r old.problem piece.rule piece.problem own) (ap (λ (k : LedgerOf). k.rule) e ∙ sym agrees.rule) of in
+        let owned = subst (λ (b : Problem). IsOwnPiece p.rule b piece.rule piece.problem own) (ap (λ (k : LedgerOf). k.problem) e ∙ sym agrees.problem) own_by in (
+          (call.0.0, call.0.1 ∙ ap (λ (n : ℕ). p.account.splits + n) (spent p.who own taken opens)),
           λ s now at after.
-              (let R : Passbook → Type 0 = λ q. (v : Event) × IsGraftOf q.problem q.who i piece.problem piece.prefix (tree_of piece) reply v × (now.book ≡ after_event q v reply) in
-              subst R at (named p.who, (own, subst Q (ap (λ (k : LedgerOf). k.problem) e ∙ sym agrees.problem) of, refl), after ∙ call.1)),
+              (let R : Passbook → Type 0 = λ q. (v : Event) × IsGraftOf q.rule q.problem q.who i piece.rule piece.problem piece.prefix (tree_of piece) reply v × (now.book ≡ after_event q v reply) in
+              subst R at (named p.who, (own, taken, owned, opens, refl), after ∙ call.1)),
         )
 
     pub grafted : IsGraftAt old number i piece model.Taken new
         → Keeps l new p (p.account.splits + splits (tree_of piece)) × ((s now : SeatOf) → p ≡ s.book → now.book ≡ renewed (account_summary new) p p.least → HasGrafted s i piece model.Taken now)
-    grafted h = grafted-as model.Taken (splits (tree_of piece)) (λ w own. refl) (λ w own. refl) (λ w own. refl) h
+    grafted h = grafted-as model.Taken (splits (tree_of piece)) (λ w own taken. refl) (λ w own taken. refl) (λ w own taken opens. sym (same-splits (tree_of piece) taken opens)) h
 
     abbrev Refused : GraftError → Type 0
     Refused why = Keeps l new p p.account.splits × ((s now : SeatOf) → p ≡ s.book → now.book ≡ renewed (account_summary new) p p.least → now.hub ≡ s.hub → HasBeenRefused s i piece why now)
 
     pub graft-refused : (why : GraftError) → IsRefusedGraftAt old number i piece why new → Refused why
     graft-refused refused.NotOut h =
-        let call = grafted-as model.NotOut 0 (λ w own. refl) (λ w own. refl) (λ w own. refl) h in
+        let call = grafted-as model.NotOut 0 (λ w own taken. refl) (λ w own taken. refl) (λ w own taken opens. refl) h in
         ((call.0.0, call.0.1 ∙ omega arith), λ s now at after here. call.1 s now at after)
     graft-refused refused.OtherPrefix h =
-        let call = grafted-as model.OtherPrefix 0 (λ w own. refl) (λ w own. refl) (λ w own. refl) h in
+        let call = grafted-as model.OtherPrefix 0 (λ w own taken. refl) (λ w own taken. refl) (λ w own taken opens. refl) h in
         ((call.0.0, call.0.1 ∙ omega arith), λ s now at after here. call.1 s now at after)
     graft-refused refused.OverAllowance h =
-        let call = grafted-as model.OverAllowance 0 (λ w own. refl) (λ w own. refl) (λ w own. refl) h in
+        let call = grafted-as model.OverAllowance 0 (λ w own taken. refl) (λ w own taken. refl) (λ w own taken opens. refl) h in
         ((call.0.0, call.0.1 ∙ omega arith), λ s now at after here. call.1 s now at after)
     graft-refused refused.OutOfMemory h =
         let call = same-call h in

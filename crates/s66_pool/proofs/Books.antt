@@ -62,7 +62,7 @@ pub opened_once : (s : Summary) (n : ℕ) → books_of n (all_opened s) ≤ 1
 opened_once s n = opened_once_from s (length s.accounts) 1 n
 
 pub opened-agrees : (s : Summary) (w : ℕ) → 1 ≤ w → w ≤ length s.accounts → Agrees s (opened s w)
-opened-agrees s w low high = record { worker = (low, high); problem = refl; budget = refl; account = refl; least = omega arith }
+opened-agrees s w low high = record { worker = (low, high); rule = refl; problem = refl; budget = refl; account = refl; least = omega arith }
 
 opened_from-agree : (s : Summary) (count low : ℕ) → 1 ≤ low → low + count ≤ length s.accounts + 1 → All (Agrees s) (books_from s count low)
 opened_from-agree s zero low h near = All-nil (Agrees s)

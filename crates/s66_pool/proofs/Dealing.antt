@@ -11,7 +11,7 @@ use Rattle.s66_pool.specs.Hubs.{SeatOf}
 
 -- an account for each worker
 pub account-count : (l : LedgerOf) → length (account_summary l).accounts ≡ l.workers
-account-count l = accounts-count l.problem l.budget l.workers (events_of l) l.state
+account-count l = accounts-count l.rule l.problem l.budget l.workers (events_of l) l.state
 
 -- the passbooks of workers from low on
 abbrev pub books_from : Summary → (count low : ℕ) → List Passbook

@@ -32,6 +32,6 @@ have-seats hub l seats back is dealt same w from within =
     have-seats-from (λ n. record { hub = hub.id; book = opened hub.summary n }) (λ n. refl) l.workers 1 back (subst (λ (items : List SeatOf). AreSameSeats items back) dealt same) w from (omega (arith, within, workers-counted hub.summary l is))
 
 -- what is closed is a ledger of the search that was opened
-pub same-search : (s : Summary) (l closed : LedgerOf) → s ≡ account_summary l → closed.problem ≡ s.problem → closed.budget ≡ s.budget → closed.workers ≡ length s.accounts → IsSameSearch l closed
-same-search s l closed is problem budget workers =
-    (problem ∙ ap (λ (x : Summary). x.problem) is, budget ∙ ap (λ (x : Summary). x.budget) is, workers ∙ workers-counted s l is)
+pub same-search : (s : Summary) (l closed : LedgerOf) → s ≡ account_summary l → closed.rule ≡ s.rule → closed.problem ≡ s.problem → closed.budget ≡ s.budget → closed.workers ≡ length s.accounts → IsSameSearch l closed
+same-search s l closed is by problem budget workers =
+    (problem ∙ ap (λ (x : Summary). x.problem) is, budget ∙ ap (λ (x : Summary). x.budget) is, workers ∙ workers-counted s l is, by ∙ ap (λ (x : Summary). x.rule) is)

@@ -17,15 +17,15 @@ settled (Err e) P Q f g ok err = g e err
 -- a ledger, where it was found, has the worker
 pub number_within : (l found : LedgerOf) → found ≡ l → (p : Passbook) (number : ℕ) → Agrees (account_summary l) p → p.who ≡ number → (1 ≤ number) × (number ≤ found.workers)
 number_within l found at p number is who =
-    let count = accounts-count l.problem l.budget l.workers (events_of l) l.state in
+    let count = accounts-count l.rule l.problem l.budget l.workers (events_of l) l.state in
     (omega (arith, is.worker.0, who), omega (arith, is.worker.1, who, count, ap (λ (k : LedgerOf). k.workers) at))
 
 pub follows-itself : (w : ℕ) (s : Summary) → Follows w s s
-follows-itself w s = record { search = record { problem = refl; budget = refl; workers = refl }; lower = omega arith; others = λ p ne is. is }
+follows-itself w s = record { search = record { rule = refl; problem = refl; budget = refl; workers = refl }; lower = omega arith; others = λ p ne is. is }
 
 pub follows-on : (w : ℕ) (s t u : Summary) → Follows w s t → Follows w t u → Follows w s u
 follows-on w s t u f g = record {
-  search = record { problem = g.search.problem ∙ f.search.problem; budget = g.search.budget ∙ f.search.budget; workers = g.search.workers ∙ f.search.workers };
+  search = record { rule = g.search.rule ∙ f.search.rule; problem = g.search.problem ∙ f.search.problem; budget = g.search.budget ∙ f.search.budget; workers = g.search.workers ∙ f.search.workers };
   lower = omega (arith, f.lower, g.lower);
   others = λ p ne is. g.others p ne (f.others p ne is);
 }
@@ -34,6 +34,7 @@ follows-on w s t u f g = record {
 pub renewed-agrees : (s t : Summary) (p : Passbook) → Agrees s p → Follows p.who s t → Agrees t (renewed t p p.least)
 renewed-agrees s t p is follows = record {
   worker = (is.worker.0, omega (arith, is.worker.1, follows.search.workers));
+  rule = refl;
   problem = refl;
   budget = refl;
   account = refl;
@@ -42,7 +43,7 @@ renewed-agrees s t p is follows = record {
 
 -- the passbook that agrees is the one that is opened, but for its least time
 pub renewed-is : (s : Summary) (p : Passbook) → Agrees s p → renewed s p p.least ≡ p
-renewed-is s p is = λ i. record { who = p.who; problem = sym is.problem i; budget = sym is.budget i; account = sym is.account i; least = p.least }
+renewed-is s p is = λ i. record { who = p.who; rule = sym is.rule i; problem = sym is.problem i; budget = sym is.budget i; account = sym is.account i; least = p.least }
 
 -- after the best time was read
 pub read-book : (s : Summary) (p : Passbook) → Agrees s p → opened s p.who ≡ after_reading p s.best
@@ -62,24 +63,24 @@ module _ (old new : LedgerOf) (p : Passbook) where
   -- OR IT HAS AN EVENT OF THE WORKER
 
   module _ (event : Event) (reply : Reply) (h : IsEvent old event reply new) where
-    summary-after : account_summary new ≡ summary_of old.problem old.budget old.workers (events_of old ++ (event, reply) ∷ []) new.state
-    summary-after = λ i. summary_of (h.0 i) (h.1 i) (h.2 i) (h.4 i) new.state
+    summary-after : account_summary new ≡ summary_of old.rule old.problem old.budget old.workers (events_of old ++ (event, reply) ∷ []) new.state
+    summary-after = λ i. summary_of (h.5 i) (h.0 i) (h.1 i) (h.2 i) (h.4 i) new.state
 
     module _ (own : worker event ≡ p.who) where
       pub event-follows : Follows p.who (account_summary old) (account_summary new)
       event-follows =
-          let before = accounts-count old.problem old.budget old.workers (events_of old) old.state in
-          let now = accounts-count new.problem new.budget new.workers (events_of new) new.state in
+          let before = accounts-count old.rule old.problem old.budget old.workers (events_of old) old.state in
+          let now = accounts-count new.rule new.problem new.budget new.workers (events_of new) new.state in
           record {
-            search = record { problem = h.0; budget = h.1; workers = omega (arith, before, now, h.2) };
-            lower = omega (arith, step-falls old.problem old.state new.state event reply h.3, ap (λ (b : Problem). best_time b new.state) h.0);
+            search = record { rule = h.5; problem = h.0; budget = h.1; workers = omega (arith, before, now, h.2) };
+            lower = omega (arith, step-falls old.rule old.problem old.state new.state event reply h.3, ap (λ (b : Problem). best_time b new.state) h.0);
             others = λ q ne is. subst (λ (s : Summary). Agrees s q) (sym summary-after)
-                (agrees-other old.problem old.budget old.workers (events_of old) old.state event reply new.state q h.3 is (λ e. ne (sym e ∙ own)));
+                (agrees-other old.rule old.problem old.budget old.workers (events_of old) old.state event reply new.state q h.3 is (λ e. ne (sym e ∙ own)));
           }
 
       pub event-agrees : Agrees (account_summary old) p → Agrees (account_summary new) (after_event p event reply)
       event-agrees is = subst (λ (s : Summary). Agrees s (after_event p event reply)) (sym summary-after)
-          (agrees-own old.problem old.budget old.workers (events_of old) old.state event reply new.state p h.3 is own)
+          (agrees-own old.rule old.problem old.budget old.workers (events_of old) old.state event reply new.state p h.3 is own)
 
       -- which tells no time
       pub quiet-book : Agrees (account_summary old) p → least_after p.least event reply ≡ p.least → renewed (account_summary new) p p.least ≡ after_event p event reply

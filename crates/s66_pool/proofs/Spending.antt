@@ -44,10 +44,10 @@ entries-spent b w (e ∷ es) bytes lines =
 
 pub account-spent : (l : LedgerOf) (w : ℕ) → 1 ≤ w → w ≤ l.workers → (account_at (account_summary l) w).splits ≡ spent_in l.problem w l.entries
 account-spent l w low high =
-    ap (λ (a : Account). a.splits) (account-at l.problem l.budget l.workers (events_of l) l.state w low high)
+    ap (λ (a : Account). a.splits) (account-at l.rule l.problem l.budget l.workers (events_of l) l.state w low high)
     ∙ entries-spent l.problem w l.entries l.bytes (drop 1 l.lines)
 
 -- no more than all
 pub spent-within : (l : LedgerOf) (w : ℕ) → 1 ≤ w → w ≤ l.workers → spent_in l.problem w l.entries ≤ weigh (λ a. a.splits) (account_summary l).accounts
 spent-within l w low high =
-    omega (arith, account-spent l w low high, account-within (account_summary l) w low (omega (arith, high, accounts-count l.problem l.budget l.workers (events_of l) l.state)))
+    omega (arith, account-spent l w low high, account-within (account_summary l) w low (omega (arith, high, accounts-count l.rule l.problem l.budget l.workers (events_of l) l.state)))

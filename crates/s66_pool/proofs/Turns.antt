@@ -33,7 +33,7 @@ twice : (views : List View) (id other n : ℕ) (v u : View) → IsOnce views →
 twice views id other n v u once at at' ne a b = omega (arith, two-le-weigh (among n) views id other v u at at' ne, once n)
 
 same_search : (s t u : Summary) → IsSameSearch s t → IsSameSearch t u → IsSameSearch s u
-same_search s t u a b = record { problem = b.problem ∙ a.problem; budget = b.budget ∙ a.budget; workers = b.workers ∙ a.workers }
+same_search s t u a b = record { rule = b.rule ∙ a.rule; problem = b.problem ∙ a.problem; budget = b.budget ∙ a.budget; workers = b.workers ∙ a.workers }
 
 module _ {X : Type 0} (summary : X → Summary) (key : X) where
   abbrev S : Type 0
@@ -236,7 +236,7 @@ module _ {X : Type 0} (summary : X → Summary) (key : X) where
       → Allows (Locked summary key) slots id (holding y bs, (0, Some x) ∷ []) 0 (λ n. 0) (λ word after. after ≡ (idle bs, []))
   settles slots id y bs x one is agree =
       let P : Summary → Type 0 = λ z. IsSameSearch y z in
-      gives_it slots id y bs bs x one (subst P is record { problem = refl; budget = refl; workers = refl }) (λ n. refl) (subst (λ (z : Summary). All (Agrees z) bs) is agree)
+      gives_it slots id y bs bs x one (subst P is record { rule = refl; problem = refl; budget = refl; workers = refl }) (λ n. refl) (subst (λ (z : Summary). All (Agrees z) bs) is agree)
       (λ us few agree'. subst (λ (z : Summary). All (Agrees z) us) is agree')
 
   pub opens : 0 < length (summary key).accounts → Locked summary key (opening (1 ∷ []) (None ∷ []) (founding (summary key)))
@@ -250,7 +250,7 @@ module _ {X : Type 0} (summary : X → Summary) (key : X) where
       at = refl;
       has = (refl, refl);
       some_book = some_opened y some_worker;
-      search = record { problem = refl; budget = refl; workers = refl };
+      search = record { rule = refl; problem = refl; budget = refl; workers = refl };
       agree = each-one (λ j u. All (Agrees y) u.books) v (opened-agree y);
       others = each-one (λ j u. j ≢ 0 → u.stage ≡ Idle) v (λ ne. absurd (ne refl));
     },
@@ -281,6 +281,7 @@ module _ {X : Type 0} (summary : X → Summary) (key : X) where
           let P : Me (Option X) View → Type 0 = λ m. Allows (Locked summary key) slots id m 0 (λ n. 0) (λ word after. GaveFirst (keep_least summary) m.0 m.1 after) in
           let now : Agrees (summary x) (renewed (summary x) p p.least) = record {
             worker = (agrees.worker.0, omega (arith, agrees.worker.1, follows.search.workers));
+            rule = refl;
             problem = refl;
             budget = refl;
             account = refl;

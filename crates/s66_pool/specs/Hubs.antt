@@ -31,7 +31,7 @@ HaveSeats workers seats = (w : ℕ) → 1 ≤ w → w ≤ workers → some_of (�
 -- after its worker's graft of this piece at a node, with this reply
 abbrev pub HasGrafted : SeatOf → (node : ℕ) → PieceOf → Reply → SeatOf → Type 0
 HasGrafted old node piece reply new =
-    (event : Event) × IsGraftOf old.book.problem old.book.who node piece.problem piece.prefix (tree_of piece) reply event
+    (event : Event) × IsGraftOf old.book.rule old.book.problem old.book.who node piece.rule piece.problem piece.prefix (tree_of piece) reply event
     × (new.book ≡ after_event old.book event reply)
 
 -- after what its worker got in a turn

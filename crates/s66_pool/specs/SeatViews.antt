@@ -2,6 +2,7 @@
 use Rattle.std.specs.Prelude.{ℕ, ◌≡◌, ◌≢◌, ◌≤◌, ◌==◌, List, [], ◌∷◌, length, map}
 use Rattle.s66_isa.specs.Lists.{tally, rising}
 use Rattle.s66_isa.specs.Table.{standard}
+use Rattle.s66_model.specs.declared.rule.Rule.TheVariants.{NoneNamed}
 use Rattle.s66_model.specs.Accounts.{Summary, Passbook, Agrees, opened}
 
 -- whether the seat has the lock
@@ -44,8 +45,9 @@ books_of w books = tally (λ p. p.who == w) books
 
 -- SUMMARIES
 
--- of one search: neither problem nor budget nor the number of workers differs
+-- of one search: neither rule nor problem nor budget nor the number of workers differs
 pub record IsSameSearch (s t : Summary) : Type 0 where
+  pub rule : t.rule ≡ s.rule
   pub problem : t.problem ≡ s.problem
   pub budget : t.budget ≡ s.budget
   pub workers : length t.accounts ≡ length s.accounts
@@ -63,7 +65,7 @@ renewed s p least = record (opened s p.who) { least = least }
 -- IN A CLAUSE: what a seat has, with something in the place of what it hasn't
 
 abbrev pub no_summary : Summary
-no_summary = record { problem = record { block = []; profile = standard }; budget = 0; best = 0; accounts = [] }
+no_summary = record { rule = NoneNamed; problem = record { block = []; profile = standard }; budget = 0; best = 0; accounts = [] }
 
 abbrev pub found_at : Stage → Summary
 found_at Idle = no_summary

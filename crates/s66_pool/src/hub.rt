@@ -84,6 +84,7 @@ impl<'a> Hub<'a> {
         mut seats: Vec<Seat<'a>>,
     ) -> Result<Ledger<'a>, (SeatsMissing, Hub<'a>, Vec<Seat<'a>>)>
         requires { All (λ s. s.hub ≡ self.id) seats.items }
+        ensures rule { IfOk result (λ l. l.rule ≡ self.entry.summary.rule) }
         ensures problem { IfOk result (λ l. l.problem ≡ self.entry.summary.problem) }
         ensures budget { IfOk result (λ l. l.budget ≡ self.entry.summary.budget) }
         ensures workers { IfOk result (λ l. l.workers ≡ length self.entry.summary.accounts) }

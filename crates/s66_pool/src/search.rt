@@ -1,4 +1,5 @@
 ghost use Rattle.std.specs.Prelude.{◌≡◌, ◌≤◌, IfOk, OnOk};
+ghost use Rattle.s66_model.specs.declared.rule.Rule.TheVariants.{NoneNamed};
 ghost use Rattle.s66_line.specs.Block.{instrs_of};
 ghost use Rattle.s66_ledger.specs.declared.limits.TheConstants.{BUDGET_LIMIT};
 ghost use Rattle.s66_pool.specs.declared.limits.TheConstants.{WORKERS_LIMIT};
@@ -80,6 +81,7 @@ pub fn run<R: AllocGlobal + Threads + Wait + Sync, G: Gate + Sync>(
 ) -> Result<Answer, AllocError>
     requires workers { (1 ≤ options.workers) × (options.workers ≤ WORKERS_LIMIT) }
     requires nodes { options.nodes ≤ BUDGET_LIMIT }
+    ensures rule { IfOk result (λ a. a.rule ≡ NoneNamed) }
     ensures problem { IfOk result (λ a. a.problem ≡ record { block = instrs_of block.now; profile = profile.now }) }
     ensures budget { IfOk result (λ a. a.budget ≡ options.nodes) }
 {

@@ -7,4 +7,4 @@ unreachable-requires g c =
 
 pub returns : goal.returns
 returns g c =
-    same-search c.in_ok-hub.hub.summary c.args.ledger c.in-Ok-close.ledger c.in_ok-hub.ensures.summary c.in-Ok-close.ensures.problem c.in-Ok-close.ensures.budget c.in-Ok-close.ensures.workers
+    same-search c.in_ok-hub.hub.summary c.args.ledger c.in-Ok-close.ledger c.in_ok-hub.ensures.summary c.in-Ok-close.ensures.rule c.in-Ok-close.ensures.problem c.in-Ok-close.ensures.budget c.in-Ok-close.ensures.workers

@@ -57,7 +57,7 @@ close-requires-clause-every c =
 pub returns-clause-workers : goal.returns-clause-workers
 returns-clause-workers c =
     let l = c.into_inner-ledger.result in
-    sym (accounts-count l.problem l.budget l.workers (events_of l) l.state) ∙ ap (λ (k : LedgerOf). length (account_summary k).accounts) c.into_inner-ledger.ensures
+    sym (accounts-count l.rule l.problem l.budget l.workers (events_of l) l.state) ∙ ap (λ (k : LedgerOf). length (account_summary k).accounts) c.into_inner-ledger.ensures
     ∙ c.close.ensures.search.workers ∙ ap (λ h. length h.summary.accounts) c.self.view_is
 
 pub returns-clause-agrees : goal.returns-clause-agrees
