@@ -1,7 +1,7 @@
 -- The document of an answer is a document, whose tree its lines tell.
-use Rattle.std.proofs.Common.{ℕ, zero, suc, ◌+◌, ◌≤◌, ◌≡◌, true, false, not, List, [], ◌∷◌, ◌++◌, length, refl, sym, ap, arith, inl, inr, subst, ◌∙◌, map}
+use Rattle.std.proofs.Common.{ℕ, zero, suc, ◌+◌, ◌≤◌, ◌≡◌, Bool, true, false, not, if◌then◌else◌, List, [], ◌∷◌, ◌++◌, length, refl, sym, ap, arith, inl, inr, subst, ◌∙◌, map}
 use Rattle.std.proofs.lemmas.Bool.{and_parts, ltb-true}
-use Rattle.std.proofs.lemmas.List.{length-map}
+use Rattle.std.proofs.lemmas.List.{length-append, length-map}
 use Rattle.std.proofs.lemmas.List.Elements.{All-head, All-tail}
 use Rattle.std.proofs.lemmas.List.Filters.{length-filter_both}
 use Rattle.std.specs.Prelude.{All, nat_lt}
@@ -14,27 +14,28 @@ use Rattle.s66_isa.proofs.Profiles.{entries-in-range}
 use Rattle.s66_isa.specs.declared.limits.TheConstants.{BLOCK_LIMIT, PROFILE_LIMIT}
 use Rattle.s66_line.specs.Block.{instrs_of, text_of}
 use Rattle.s66_line.specs.Source.{Block}
-use Rattle.s66_model.specs.Answer.{Answer, IsAnswer}
-use Rattle.s66_model.specs.Leaves.{Leaf, Whole, Chain, Load, Parcels, MayStand, IsWalk, leaf_values, link, floor}
+use Rattle.s66_model.specs.Answer.{Answer, IsAnswer, MayEnd, ending_values}
+use Rattle.s66_model.specs.Leaves.{Leaf, Whole, Chain, Load, Parcels, MayStand, IsWalk, link, floor}
 use Rattle.s66_model.specs.LegalOrder.{Completes, GoesOn, IsBeginning, IsIncomplete, IsLegal, is_ready, ready}
-use Rattle.s66_model.specs.Timing.{Problem, row_at}
-use Rattle.s66_model.specs.declared.rule.Rule.TheVariants.{NoneNamed}
-use Rattle.s66_model.specs.Tree.{Tree, Alone, Parted, Kids, NoMore, Unsplit, Split, KidsHold, TreeHolds, Knot, AtTip, AtSplit, flat, flat_kids, kid_splits, splits, tree_values}
-use Rattle.s66_model.specs.DominatedLeaves.{Ending, Bounding, Dominated, ShowsBy, kids_bounding, tree_bounding}
-use Rattle.s66_model.specs.Preorder.{KidsMatch, TreeMatches}
+use Rattle.s66_model.specs.Timing.{Problem, next, points_of, row_at}
+use Rattle.s66_model.specs.Dominance.{Clamp, DominatesBy, clamp_at, no_clamp}
+use Rattle.s66_model.specs.declared.rule.Rule.{Rule}
+use Rattle.s66_model.specs.declared.rule.Rule.TheVariants.{NoneNamed, WrittenEarlier, ClampedStanding}
+use Rattle.s66_model.specs.Tree.{Tree, Alone, Parted, Kids, NoMore, Unsplit, Split, KidsHold, TreeHolds, Knot, AtTip, AtSplit, flat, flat_kids, splits, tree_values}
+use Rattle.s66_model.specs.DominatedLeaves.{Ending, Bounding, Dominated, DominatesByRule, EndingShows, MayBeDominated, ShowsBy}
 use Rattle.s66_model.proofs.AnswerBound.{answer-shown}
 use Rattle.s66_model.proofs.Beginnings.{beginning-front, length-rising}
-use Rattle.s66_model.proofs.DominatedTrees.{tree-bounding}
+use Rattle.s66_model.proofs.Dominating.{length-same}
 use Rattle.s66_model.proofs.Floors.{floor-stands}
 use Rattle.s66_model.proofs.Forests.{read-flat, tree-match}
 use Rattle.s66_model.proofs.Growth.{total-le}
 use Rattle.s66_model.proofs.LegalOrders.{legal-order, ready-parts}
 use Rattle.s66_model.proofs.Remaining.{among-ready, legal-parts, ready-among, remaining-parts, rest-first, step-begins}
 use Rattle.s66_cert.specs.declared.limits.TheConstants.{SPLIT_LIMIT, TIME_LIMIT}
-use Rattle.s66_cert.specs.Document.{AreIn, AreInstructions, AreNumbers, IsDocument, IsLeafLine, KidsFit, TreeFits, has_dominated_line, has_dominated}
+use Rattle.s66_cert.specs.Document.{AreIn, AreInstructions, AreNumbers, IsDocument, IsLeafLine, KidsFit, TreeFits, has_dominated_line, has_dominated, names_nodes}
 use Rattle.s66_cert.specs.DocumentParts.{Parts, AreWhole, document_of, tree_of}
 use Rattle.s66_program.specs.ProvedAnswers.{IsSpelled}
-use Rattle.s66_program.specs.ProveText.{document_under, texts_of}
+use Rattle.s66_program.specs.ProveText.{document_under, rule_of, texts_of}
 
 -- RANGES
 
@@ -115,71 +116,119 @@ module _ (b : Problem) (few : length b.block ≤ BLOCK_LIMIT) where
   floor-line : (prefix : List ℕ) (leaf : Leaf) → IsBeginning b.block prefix → leaf ≡ floor b prefix → IsLeafLine BLOCK_LIMIT (Bounding leaf)
   floor-line prefix leaf begins is = leaf-line b prefix leaf few (subst (λ x. MayStand b prefix x) (sym is) (floor-stands b prefix begins))
 
-  kids-fit : (kids : Kids Leaf) (prefix ns : List ℕ) → KidsHold b.block (λ at leaf. leaf ≡ floor b at) prefix ns kids → IsBeginning b.block prefix → AreReady b prefix ns →
-      KidsFit BLOCK_LIMIT ns (kids_bounding kids)
-  kids-fit NoMore prefix [] h begins are = tt
-  kids-fit NoMore prefix (n ∷ ns) h begins are = h
-  kids-fit (Unsplit leaf kids) prefix [] h begins are = h
-  kids-fit (Unsplit leaf kids) prefix (n ∷ ns) h begins are =
-      (floor-line (prefix ++ n ∷ []) leaf (step-begins b.block prefix n begins (are n (inl refl))) h.0, kids-fit kids prefix ns h.1 begins (λ m among. are m (inr among)))
-  kids-fit (Split numbers sub kids) prefix [] h begins are = h
-  kids-fit (Split numbers sub kids) prefix (n ∷ ns) h begins are =
-      let longer = prefix ++ n ∷ [] in
-      let begins2 : IsBeginning b.block longer = step-begins b.block prefix n begins (are n (inl refl)) in (
-        subst (λ ms. AreNumbers BLOCK_LIMIT ms) (sym h.1) (ready-numbers b.block few longer begins2 h.0),
-        kids-fit sub longer numbers h.2 begins2 (split-ready b longer numbers h.1),
-        kids-fit kids prefix ns h.3 begins (λ m among. are m (inr among)),
-      )
+  -- a name has as many numbers as the prefix that it dominates
+  name-numbers : (c : Clamp) (at name : List ℕ) → DominatesBy c b name at → IsIncomplete b.block at → 1 ≤ length at → AreNumbers BLOCK_LIMIT name
+  name-numbers c at name dominates short some =
+      let same = length-same b c name at dominates in
+      (omega (arith, same, some), omega (arith, same, short, few), goes-in b.block few [] name dominates.other_begins)
 
-  tree-fits : (tree : Tree Leaf) → TreeHolds b.block (λ at leaf. leaf ≡ floor b at) [] tree → TreeFits BLOCK_LIMIT (tree_bounding tree)
-  tree-fits (Alone leaf) h = floor-line [] leaf tt h
-  tree-fits (Parted numbers kids) h =
-      (subst (λ ms. AreNumbers BLOCK_LIMIT ms) (sym h.1) (ready-numbers b.block few [] tt h.0), kids-fit kids [] numbers h.2 tt (split-ready b [] numbers h.1))
+  dominated-line : (rule : Rule) (at name : List ℕ) → DominatesByRule rule b name at → 1 ≤ length at → AreNumbers BLOCK_LIMIT name
+  dominated-line NoneNamed at name h some = absurd h
+  dominated-line WrittenEarlier at name h some = name-numbers no_clamp at name h.2.0 h.0 some
+  dominated-line ClampedStanding at name h some = name-numbers (clamp_at (next (points_of b at))) at name h.1 h.0 some
 
--- a tree of leaves of which none is dominated
-kids-match : (ns : List ℕ) (kids : Kids Leaf) → KidsMatch ns kids → KidsMatch ns (kids_bounding kids)
-kids-match [] NoMore h = h
-kids-match [] (Unsplit leaf kids) h = h
-kids-match [] (Split numbers sub kids) h = h
-kids-match (n ∷ ns) NoMore h = h
-kids-match (n ∷ ns) (Unsplit leaf kids) h = kids-match ns kids h
-kids-match (n ∷ ns) (Split numbers sub kids) h = (kids-match numbers sub h.0, kids-match ns kids h.1)
+  module _ (rule : Rule) (tree : Tree Ending) where
+    ending-line : (prefix : List ℕ) (n : ℕ) (ending : Ending) → IsBeginning b.block (prefix ++ n ∷ []) → MayEnd rule b tree (prefix ++ n ∷ []) ending → IsLeafLine BLOCK_LIMIT ending
+    ending-line prefix n (Bounding leaf) begins is = floor-line (prefix ++ n ∷ []) leaf begins is
+    ending-line prefix n (Dominated name) begins is = dominated-line rule (prefix ++ n ∷ []) name is.0 (omega (arith, length-append prefix (n ∷ [])))
 
-bounding-match : (tree : Tree Leaf) → TreeMatches tree → TreeMatches (tree_bounding tree)
-bounding-match (Alone leaf) h = h
-bounding-match (Parted numbers kids) h = kids-match numbers kids h
+    kids-fit : (kids : Kids Ending) (prefix ns : List ℕ) → KidsHold b.block (MayEnd rule b tree) prefix ns kids → IsBeginning b.block prefix → AreReady b prefix ns → KidsFit BLOCK_LIMIT ns kids
+    kids-fit NoMore prefix [] h begins are = tt
+    kids-fit NoMore prefix (n ∷ ns) h begins are = h
+    kids-fit (Unsplit ending kids) prefix [] h begins are = h
+    kids-fit (Unsplit ending kids) prefix (n ∷ ns) h begins are =
+        (ending-line prefix n ending (step-begins b.block prefix n begins (are n (inl refl))) h.0, kids-fit kids prefix ns h.1 begins (λ m among. are m (inr among)))
+    kids-fit (Split numbers sub kids) prefix [] h begins are = h
+    kids-fit (Split numbers sub kids) prefix (n ∷ ns) h begins are =
+        let longer = prefix ++ n ∷ [] in
+        let begins2 : IsBeginning b.block longer = step-begins b.block prefix n begins (are n (inl refl)) in (
+          subst (λ ms. AreNumbers BLOCK_LIMIT ms) (sym h.1) (ready-numbers b.block few longer begins2 h.0),
+          kids-fit sub longer numbers h.2 begins2 (split-ready b longer numbers h.1),
+          kids-fit kids prefix ns h.3 begins (λ m among. are m (inr among)),
+        )
 
-kids-splits : (kids : Kids Leaf) → kid_splits (kids_bounding kids) ≡ kid_splits kids
-kids-splits NoMore = refl
-kids-splits (Unsplit leaf kids) = kids-splits kids
-kids-splits (Split numbers sub kids) = omega (arith, kids-splits sub, kids-splits kids)
+  -- the empty prefix is dominated by none but itself, which is no standing node
+  root-bounding : (rule : Rule) (name : List ℕ) → MayBeDominated rule b [] (Alone (Dominated name)) [] name → ⊥
+  root-bounding NoneNamed name h = absurd h.0
+  root-bounding WrittenEarlier [] h = absurd h.0.1
+  root-bounding WrittenEarlier (n ∷ ns) h = absurd h.0.1
+  root-bounding ClampedStanding [] h = absurd (cc)
+  root-bounding ClampedStanding (n ∷ ns) h = absurd (cc)
 
-bounding-splits : (tree : Tree Leaf) → splits (tree_bounding tree) ≡ splits tree
-bounding-splits (Alone leaf) = refl
-bounding-splits (Parted numbers kids) = omega (arith, kids-splits kids)
+  tree-fits : (rule : Rule) (tree : Tree Ending) → TreeHolds b.block (MayEnd rule b tree) [] tree → TreeFits BLOCK_LIMIT tree
+  tree-fits rule (Alone (Bounding leaf)) h = floor-line [] leaf tt h
+  tree-fits rule (Alone (Dominated name)) h = absurd (root-bounding rule name h)
+  tree-fits rule (Parted numbers kids) h =
+      (subst (λ ms. AreNumbers BLOCK_LIMIT ms) (sym h.1) (ready-numbers b.block few [] tt h.0), kids-fit rule (Parted numbers kids) kids [] numbers h.2 tt (split-ready b [] numbers h.1))
 
-none-both : (knots more : List (Knot Ending)) → has_dominated_line knots ≡ false → has_dominated_line (knots ++ more) ≡ has_dominated_line more
-none-both [] more h = refl
-none-both (AtTip (Bounding leaf) ∷ knots) more h = none-both knots more h
-none-both (AtTip (Dominated name) ∷ knots) more h = absurd (cc)
-none-both (AtSplit numbers ∷ knots) more h = none-both knots more h
+-- TREES WITHOUT DOMINATED LEAVES
 
-kids-none : (kids : Kids Leaf) → has_dominated_line (flat_kids (kids_bounding kids)) ≡ false
-kids-none NoMore = refl
-kids-none (Unsplit leaf kids) = kids-none kids
-kids-none (Split numbers sub kids) = none-both (flat_kids (kids_bounding sub)) (flat_kids (kids_bounding kids)) (kids-none sub) ∙ kids-none kids
+dominated-parts : (knots more : List (Knot Ending)) → has_dominated_line (knots ++ more) ≡ false → (has_dominated_line knots ≡ false) × (has_dominated_line more ≡ false)
+dominated-parts [] more h = (refl, h)
+dominated-parts (AtTip (Bounding leaf) ∷ knots) more h = dominated-parts knots more h
+dominated-parts (AtTip (Dominated name) ∷ knots) more h = absurd (cc)
+dominated-parts (AtSplit numbers ∷ knots) more h = dominated-parts knots more h
 
-none-dominated : (tree : Tree Leaf) → has_dominated (tree_bounding tree) ≡ false
-none-dominated (Alone leaf) = refl
-none-dominated (Parted numbers kids) = kids-none kids
+dominated-neither : (knots more : List (Knot Ending)) → has_dominated_line knots ≡ false → has_dominated_line more ≡ false → has_dominated_line (knots ++ more) ≡ false
+dominated-neither [] more h none = none
+dominated-neither (AtTip (Bounding leaf) ∷ knots) more h none = dominated-neither knots more h none
+dominated-neither (AtTip (Dominated name) ∷ knots) more h none = absurd (cc)
+dominated-neither (AtSplit numbers ∷ knots) more h none = dominated-neither knots more h none
+
+-- what holds at the tips where none is dominated
+module _ (block : List Instr) (Q R : List ℕ → Ending → Type 0) (each : (at : List ℕ) (leaf : Leaf) → Q at (Bounding leaf) → R at (Bounding leaf)) where
+  kids-bounding : (kids : Kids Ending) (prefix ns : List ℕ) → has_dominated_line (flat_kids kids) ≡ false → KidsHold block Q prefix ns kids → KidsHold block R prefix ns kids
+  kids-bounding NoMore prefix [] none h = tt
+  kids-bounding NoMore prefix (n ∷ ns) none h = absurd h
+  kids-bounding (Unsplit (Bounding leaf) kids) prefix [] none h = absurd h
+  kids-bounding (Unsplit (Bounding leaf) kids) prefix (n ∷ ns) none h = (each (prefix ++ n ∷ []) leaf h.0, kids-bounding kids prefix ns none h.1)
+  kids-bounding (Unsplit (Dominated name) kids) prefix ns none h = absurd (cc)
+  kids-bounding (Split numbers sub kids) prefix [] none h = absurd h
+  kids-bounding (Split numbers sub kids) prefix (n ∷ ns) none h =
+      let parts = dominated-parts (flat_kids sub) (flat_kids kids) none in
+      (h.0, h.1, kids-bounding sub (prefix ++ n ∷ []) numbers parts.0 h.2, kids-bounding kids prefix ns parts.1 h.3)
+
+  tree-bounding : (tree : Tree Ending) → has_dominated tree ≡ false → TreeHolds block Q [] tree → TreeHolds block R [] tree
+  tree-bounding (Alone (Bounding leaf)) none h = each [] leaf h
+  tree-bounding (Alone (Dominated name)) none h = absurd (cc)
+  tree-bounding (Parted numbers kids) none h = (h.0, h.1, kids-bounding kids [] numbers none h.2)
+
+-- by the rule that names none, none is dominated
+module _ (b : Problem) (tree : Tree Ending) where
+  kids-none : (kids : Kids Ending) (prefix ns : List ℕ) → KidsHold b.block (MayEnd NoneNamed b tree) prefix ns kids → has_dominated_line (flat_kids kids) ≡ false
+  kids-none NoMore prefix ns h = refl
+  kids-none (Unsplit ending kids) prefix [] h = absurd h
+  kids-none (Unsplit (Bounding leaf) kids) prefix (n ∷ ns) h = kids-none kids prefix ns h.1
+  kids-none (Unsplit (Dominated name) kids) prefix (n ∷ ns) h = absurd h.0.0
+  kids-none (Split numbers sub kids) prefix [] h = absurd h
+  kids-none (Split numbers sub kids) prefix (n ∷ ns) h =
+      dominated-neither (flat_kids sub) (flat_kids kids) (kids-none sub (prefix ++ n ∷ []) numbers h.2) (kids-none kids prefix ns h.3)
+
+none-dominated : (b : Problem) (tree : Tree Ending) → TreeHolds b.block (MayEnd NoneNamed b tree) [] tree → has_dominated tree ≡ false
+none-dominated b (Alone (Bounding leaf)) h = refl
+none-dominated b (Alone (Dominated name)) h = absurd h.0
+none-dominated b (Parted numbers kids) h = kids-none b (Parted numbers kids) kids [] numbers h.2
+
+-- the rule of a document names nodes where a leaf is dominated
+rule-names : (rule : Rule) (b : Problem) (tree : Tree Ending) (dominated : Bool) → has_dominated tree ≡ dominated → TreeHolds b.block (MayEnd rule b tree) [] tree →
+    names_nodes (if dominated then rule else NoneNamed) ≡ dominated
+rule-names rule b tree false is h = refl
+rule-names NoneNamed b tree true is h = sym (none-dominated b tree h) ∙ is
+rule-names WrittenEarlier b tree true is h = refl
+rule-names ClampedStanding b tree true is h = refl
 
 -- the tree of an answer is that of its lines
-pub answer-lines : (b : Problem) (budget : ℕ) (a : Answer) → IsAnswer b budget a → tree_of (flat (tree_bounding a.tree)) ≡ tree_bounding a.tree
-answer-lines b budget a is = read-flat (Bounding Whole) (tree_bounding a.tree) (bounding-match a.tree (tree-match b.block (λ at leaf. leaf ≡ floor b at) a.tree [] is.tree))
+pub answer-lines : (rule : Rule) (b : Problem) (budget : ℕ) (a : Answer) → IsAnswer rule b budget a → tree_of (flat a.tree) ≡ a.tree
+answer-lines rule b budget a is = read-flat (Bounding Whole) a.tree (tree-match b.block (MayEnd rule b a.tree) a.tree [] is.tree)
 
--- which shows its bound
-pub answer-shows : (b : Problem) (budget : ℕ) (a : Answer) → IsAnswer b budget a → ShowsBy NoneNamed b a.bound [] (tree_bounding a.tree)
-answer-shows b budget a is = tree-bounding NoneNamed b a.bound [] a.tree (answer-shown floor-stands b budget a is)
+-- by which the tree shows its bound
+shows-by : (rule : Rule) (b : Problem) (low : ℕ) (tree : Tree Ending) (dominated : Bool) → has_dominated tree ≡ dominated → ShowsBy rule b low [] tree →
+    ShowsBy (if dominated then rule else NoneNamed) b low [] tree
+shows-by rule b low tree true is h = h
+shows-by rule b low tree false is h = tree-bounding b.block (EndingShows rule b low [] tree) (EndingShows NoneNamed b low [] tree) (λ at leaf shows. shows) tree is h
+
+pub answer-shows : (rule : Rule) (b : Problem) (budget : ℕ) (a : Answer) → IsAnswer rule b budget a → ShowsBy (rule_of rule a.tree) b a.bound [] a.tree
+answer-shows rule b budget a is = shows-by rule b a.bound a.tree (has_dominated a.tree) refl (answer-shown floor-stands rule b budget a is)
 
 -- TEXTS
 
@@ -193,12 +242,12 @@ length-texts block = length-map (numbers (instrs_of block)) (text_of block) ∙ 
 
 -- DOCUMENTS
 
-pub bound-within : (b : Problem) (budget : ℕ) (a : Answer) → IsAnswer b budget a → a.bound ≤ a.time
-bound-within b budget a is = omega (arith, is.bound, least-le (λ v. v) a.time (a.time ∷ tree_values (leaf_values b) [] a.tree) (inl refl))
+pub bound-within : (rule : Rule) (b : Problem) (budget : ℕ) (a : Answer) → IsAnswer rule b budget a → a.bound ≤ a.time
+bound-within rule b budget a is = omega (arith, is.bound, least-le (λ v. v) a.time (a.time ∷ tree_values (ending_values b) [] a.tree) (inl refl))
 
-pub answer-document : (p : Profile) (block : Block) (budget : ℕ) (a : Answer) → IsAnswer (record { block = instrs_of block; profile = p }) budget a → a.splits ≤ SPLIT_LIMIT →
-    1 ≤ length (instrs_of block) → length (instrs_of block) ≤ BLOCK_LIMIT → IsSpelled block → IsDocument BLOCK_LIMIT (document_under p block a)
-answer-document p block budget a is splits some few spelled =
+pub answer-document : (rule : Rule) (p : Profile) (block : Block) (budget : ℕ) (a : Answer) → IsAnswer rule (record { block = instrs_of block; profile = p }) budget a → a.splits ≤ SPLIT_LIMIT →
+    1 ≤ length (instrs_of block) → length (instrs_of block) ≤ BLOCK_LIMIT → IsSpelled block → IsDocument BLOCK_LIMIT (document_under rule p block a)
+answer-document rule p block budget a is splits some few spelled =
     let b : Problem = record { block = instrs_of block; profile = p } in
     let in-range = entries-in-range p in
     let time : a.time ≤ TIME_LIMIT = omega (arith, is.time, total-le b a.order, (legal-order b.block a.order is.legal).1, few) in
@@ -206,30 +255,30 @@ answer-document p block budget a is splits some few spelled =
       profile = (in-range.0, all-in 1 PROFILE_LIMIT (entries p) in-range.1);
       block = (omega (arith, length-texts block, some), omega (arith, length-texts block, few), texts-instructions block (length (instrs_of block)) 1 (omega arith) (omega arith) spelled);
       time = time;
-      bound = omega (arith, bound-within b budget a is, time);
+      bound = omega (arith, bound-within rule b budget a is, time);
       numbers = order-numbers b.block few a.order some is.legal;
-      tree = tree-fits b few a.tree is.tree;
-      splits = omega (arith, bounding-splits a.tree, is.splits, splits);
-      rule = sym (none-dominated a.tree);
+      tree = tree-fits b few rule a.tree is.tree;
+      splits = omega (arith, is.splits, splits);
+      rule = rule-names rule b a.tree (has_dominated a.tree) refl is.tree;
     }
 
 -- PARTS
 
-abbrev pub parts_under : Profile → Block → Answer → Parts
-parts_under p block a =
-    record { rule = NoneNamed; profile = entries p; block = texts_of block; time = a.time; bound = a.bound; numbers = a.order; knots = flat (tree_bounding a.tree) }
+abbrev pub parts_under : Rule → Profile → Block → Answer → Parts
+parts_under rule p block a =
+    record { rule = rule_of rule a.tree; profile = entries p; block = texts_of block; time = a.time; bound = a.bound; numbers = a.order; knots = flat a.tree }
 
-pub parts-document : (p : Profile) (block : Block) (budget : ℕ) (a : Answer) → IsAnswer (record { block = instrs_of block; profile = p }) budget a →
-    document_of (parts_under p block a) ≡ document_under p block a
-parts-document p block budget a is =
-    ap (λ tree. record (document_under p block a) { tree = tree }) (answer-lines (record { block = instrs_of block; profile = p }) budget a is)
+pub parts-document : (rule : Rule) (p : Profile) (block : Block) (budget : ℕ) (a : Answer) → IsAnswer rule (record { block = instrs_of block; profile = p }) budget a →
+    document_of (parts_under rule p block a) ≡ document_under rule p block a
+parts-document rule p block budget a is =
+    ap (λ tree. record (document_under rule p block a) { tree = tree }) (answer-lines rule (record { block = instrs_of block; profile = p }) budget a is)
 
-pub parts-whole : (p : Profile) (block : Block) (budget : ℕ) (a : Answer) → IsAnswer (record { block = instrs_of block; profile = p }) budget a → a.splits ≤ SPLIT_LIMIT →
-    1 ≤ length (instrs_of block) → length (instrs_of block) ≤ BLOCK_LIMIT → IsSpelled block → AreWhole (parts_under p block a)
-parts-whole p block budget a is splits some few spelled =
+pub parts-whole : (rule : Rule) (p : Profile) (block : Block) (budget : ℕ) (a : Answer) → IsAnswer rule (record { block = instrs_of block; profile = p }) budget a → a.splits ≤ SPLIT_LIMIT →
+    1 ≤ length (instrs_of block) → length (instrs_of block) ≤ BLOCK_LIMIT → IsSpelled block → AreWhole (parts_under rule p block a)
+parts-whole rule p block budget a is splits some few spelled =
     record {
-      document = subst (IsDocument BLOCK_LIMIT) (sym (parts-document p block budget a is)) (answer-document p block budget a is splits some few spelled);
-      preorder = ap (λ (tree : Tree Ending). flat tree) (answer-lines (record { block = instrs_of block; profile = p }) budget a is);
+      document = subst (IsDocument BLOCK_LIMIT) (sym (parts-document rule p block budget a is)) (answer-document rule p block budget a is splits some few spelled);
+      preorder = ap (λ (tree : Tree Ending). flat tree) (answer-lines rule (record { block = instrs_of block; profile = p }) budget a is);
     }
 
 pub same-parts : (v w : Parts) → v.rule ≡ w.rule → v.profile ≡ w.profile → v.block ≡ w.block → v.time ≡ w.time → v.bound ≡ w.bound → v.numbers ≡ w.numbers → v.knots ≡ w.knots → v ≡ w

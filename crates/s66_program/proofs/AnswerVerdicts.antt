@@ -13,8 +13,8 @@ use Rattle.s66_line.proofs.SpelledLaw.{some, few, spelled}
 use Rattle.s66_model.specs.Answer.{Answer, IsAnswer}
 use Rattle.s66_model.specs.LegalOrder.{IsLegal}
 use Rattle.s66_model.specs.Timing.{Problem, total_of}
-use Rattle.s66_model.specs.declared.rule.Rule.TheVariants.{NoneNamed}
-use Rattle.s66_model.specs.DominatedLeaves.{ShowsBy, tree_bounding}
+use Rattle.s66_model.specs.declared.rule.Rule.{Rule}
+use Rattle.s66_model.specs.DominatedLeaves.{ShowsBy}
 use Rattle.s66_model.proofs.WrittenOrders.{block-by_numbers}
 use Rattle.s66_cert.specs.declared.limits.TheConstants.{SPLIT_LIMIT}
 use Rattle.s66_cert.specs.Document.{Document, IsDocument}
@@ -24,7 +24,7 @@ use Rattle.s66_checker.specs.Verdict as checker
 use Rattle.s66_checker.proofs.GrantedClaims.{verdict-yes}
 use Rattle.s66_program.specs.OrderText.{problem_of}
 use Rattle.s66_program.specs.ProvedAnswers.{IsSpelled, IsSpelledBlock}
-use Rattle.s66_program.specs.ProveText.{document_under}
+use Rattle.s66_program.specs.ProveText.{document_under, rule_of}
 use Rattle.s66_program.proofs.AnswerDocuments.{answer-document, answer-shows, bound-within}
 
 instr-in : (text : List ℕ) (n : Instr) → Spells text n → instr_in_text text ≡ n
@@ -43,24 +43,24 @@ spelled-instrs block (suc count) low least most spelled =
     let is = spelled low least (omega (arith, most)) in
     ap₂ (λ x xs. x ∷ xs) (instr-in (text_of block low) (instr_at (instrs_of block) low) is.spells) (spelled-instrs block count (suc low) (omega (arith, least)) (omega (arith, most)) spelled)
 
-pub same-problem : (p : Profile) (block : Block) (a : Answer) → IsSpelled block → checker.problem_of (document_under p block a) ≡ problem_of p block
-same-problem p block a spelled =
+pub same-problem : (rule : Rule) (p : Profile) (block : Block) (a : Answer) → IsSpelled block → checker.problem_of (document_under rule p block a) ≡ problem_of p block
+same-problem rule p block a spelled =
     ap₂ (λ (instrs : List Instr) (q : Profile). record { block = instrs; profile = q })
     (spelled-instrs block (length (instrs_of block)) 1 (omega arith) (omega arith) spelled ∙ block-by_numbers (instrs_of block)) (profile_of-entries p)
 
-true-claim : (p : Profile) (block : Block) (budget : ℕ) (a : Answer) → IsSpelled block → IsAnswer (problem_of p block) budget a → IsTrueClaim (document_under p block a)
-true-claim p block budget a spelled is =
-    let same = sym (same-problem p block a spelled) in
+true-claim : (rule : Rule) (p : Profile) (block : Block) (budget : ℕ) (a : Answer) → IsSpelled block → IsAnswer rule (problem_of p block) budget a → IsTrueClaim (document_under rule p block a)
+true-claim rule p block budget a spelled is =
+    let same = sym (same-problem rule p block a spelled) in
     record {
       legal = subst (λ (b : Problem). IsLegal b.block a.order) same is.legal;
       time = subst (λ (b : Problem). total_of b a.order ≡ a.time) same (sym is.time);
-      bound = bound-within (problem_of p block) budget a is;
-      tree = subst (λ (b : Problem). ShowsBy NoneNamed b a.bound [] (tree_bounding a.tree)) same (answer-shows (problem_of p block) budget a is);
+      bound = bound-within rule (problem_of p block) budget a is;
+      tree = subst (λ (b : Problem). ShowsBy (rule_of rule a.tree) b a.bound [] a.tree) same (answer-shows rule (problem_of p block) budget a is);
     }
 
-pub verdict-of_answer : (p : Profile) (block : Block) (budget : ℕ) (a : Answer) → IsSpelledBlock block → budget ≤ SPLIT_LIMIT → IsAnswer (problem_of p block) budget a →
-    checker.verdict (document_under p block a) ≡ Yes a.time a.bound
-verdict-of_answer p block budget a (some, few, spelled) within is =
-    let d : Document = document_under p block a in
-    let document : IsDocument BLOCK_LIMIT d = answer-document p block budget a is (omega (arith, is.within, within)) some few spelled in
-    (verdict-yes BLOCK_LIMIT d a.time a.bound document.tree).1 (refl, refl, true-claim p block budget a spelled is)
+pub verdict-of_answer : (rule : Rule) (p : Profile) (block : Block) (budget : ℕ) (a : Answer) → IsSpelledBlock block → budget ≤ SPLIT_LIMIT → IsAnswer rule (problem_of p block) budget a →
+    checker.verdict (document_under rule p block a) ≡ Yes a.time a.bound
+verdict-of_answer rule p block budget a (some, few, spelled) within is =
+    let d : Document = document_under rule p block a in
+    let document : IsDocument BLOCK_LIMIT d = answer-document rule p block budget a is (omega (arith, is.within, within)) some few spelled in
+    (verdict-yes BLOCK_LIMIT d a.time a.bound document.tree).1 (refl, refl, true-claim rule p block budget a spelled is)

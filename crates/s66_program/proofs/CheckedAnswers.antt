@@ -4,6 +4,7 @@ use Rattle.s66_isa.specs.declared.profile.Profile.{Profile}
 use Rattle.s66_isa.specs.Lists.{Among, every}
 use Rattle.s66_isa.specs.declared.limits.TheConstants.{BLOCK_LIMIT}
 use Rattle.s66_line.specs.Source.{Block}
+use Rattle.s66_model.specs.declared.rule.Rule.{Rule}
 use Rattle.s66_model.specs.Answer.{Answer}
 use Rattle.s66_cert.specs.declared.limits.TheConstants.{SPLIT_LIMIT}
 use Rattle.s66_cert.specs.Document.{Document, AreDocumentsWithin, IsText}
@@ -22,49 +23,49 @@ use Rattle.s66_program.proofs.AnswerVerdicts.{spelled-block, verdict-of_answer}
 abbrev AreSpelled : List Block → Type 0
 AreSpelled blocks = (block : Block) → Among block blocks → IsSpelledBlock block
 
-module _ (p : Profile) (nodes : ℕ) (within : nodes ≤ SPLIT_LIMIT) where
-  documents-are : (blocks : List Block) (answers : List Answer) → AreSpelled blocks → AreAnswers p nodes blocks answers → AreDocumentsWithin BLOCK_LIMIT SPLIT_LIMIT (all_documents p blocks answers)
+module _ (rule : Rule) (p : Profile) (nodes : ℕ) (within : nodes ≤ SPLIT_LIMIT) where
+  documents-are : (blocks : List Block) (answers : List Answer) → AreSpelled blocks → AreAnswers rule p nodes blocks answers → AreDocumentsWithin BLOCK_LIMIT SPLIT_LIMIT (all_documents rule p blocks answers)
   documents-are [] [] spelled are = tt
   documents-are [] (a ∷ answers) spelled are = absurd are
   documents-are (block ∷ blocks) [] spelled are = absurd are
   documents-are (block ∷ blocks) (a ∷ answers) spelled are =
       let (some, few, texts) = spelled block (inl refl) in
-      (answer-document p block nodes a are.0 (omega (arith, are.0.within, within)) some few texts, documents-are blocks answers (λ b among. spelled b (inr among)) are.1)
+      (answer-document rule p block nodes a are.0 (omega (arith, are.0.within, within)) some few texts, documents-are blocks answers (λ b among. spelled b (inr among)) are.1)
 
-  lines-are : (n : ℕ) (blocks : List Block) (answers : List Answer) → AreSpelled blocks → AreAnswers p nodes blocks answers → verdict_lines n (all_documents p blocks answers) ≡ yes_lines n answers
+  lines-are : (n : ℕ) (blocks : List Block) (answers : List Answer) → AreSpelled blocks → AreAnswers rule p nodes blocks answers → verdict_lines n (all_documents rule p blocks answers) ≡ yes_lines n answers
   lines-are n [] [] spelled are = refl
   lines-are n [] (a ∷ answers) spelled are = absurd are
   lines-are n (block ∷ blocks) [] spelled are = absurd are
   lines-are n (block ∷ blocks) (a ∷ answers) spelled are =
-      ap₂ (λ v rest. verdict_line (n + 1) v ++ rest) (verdict-of_answer p block nodes a (spelled block (inl refl)) within are.0)
+      ap₂ (λ v rest. verdict_line (n + 1) v ++ rest) (verdict-of_answer rule p block nodes a (spelled block (inl refl)) within are.0)
       (lines-are (n + 1) blocks answers (λ b among. spelled b (inr among)) are.1)
 
-  all-yes : (blocks : List Block) (answers : List Answer) → AreSpelled blocks → AreAnswers p nodes blocks answers → every (λ d. is_yes (verdict d)) (all_documents p blocks answers) ≡ true
+  all-yes : (blocks : List Block) (answers : List Answer) → AreSpelled blocks → AreAnswers rule p nodes blocks answers → every (λ d. is_yes (verdict d)) (all_documents rule p blocks answers) ≡ true
   all-yes [] [] spelled are = refl
   all-yes [] (a ∷ answers) spelled are = absurd are
   all-yes (block ∷ blocks) [] spelled are = absurd are
   all-yes (block ∷ blocks) (a ∷ answers) spelled are =
-      ap₂ (λ v rest. is_yes v && rest) (verdict-of_answer p block nodes a (spelled block (inl refl)) within are.0) (all-yes blocks answers (λ b among. spelled b (inr among)) are.1)
+      ap₂ (λ v rest. is_yes v && rest) (verdict-of_answer rule p block nodes a (spelled block (inl refl)) within are.0) (all-yes blocks answers (λ b among. spelled b (inr among)) are.1)
 
   module _ (input text : List ℕ) (status : Status) where
-    pub checked-yes : IsProveOutput p nodes input text status → (lines : List ℕ) × AreYesLines p nodes input text lines × IsCheckOutput text lines Done
+    pub checked-yes : IsProveOutput rule p nodes input text status → (lines : List ℕ) × AreYesLines rule p nodes input text lines × IsCheckOutput text lines Done
     checked-yes (blocks, accepted, (answers, are, is, ends)) =
         let spelled : AreSpelled blocks = spelled-block input blocks accepted in (
           yes_lines 0 answers,
           (blocks, accepted, (answers, are, is, refl)),
           (
-            all_documents p blocks answers,
+            all_documents rule p blocks answers,
             (documents-are blocks answers spelled are, is),
             sym (lines-are 0 blocks answers spelled are),
             sym (ap (λ yes. if yes then Done else Denied) (all-yes blocks answers spelled are)),
           ),
         )
 
-    pub checked-alone : (lines : List ℕ) (checked : Status) → IsProveOutput p nodes input text status → IsCheckOutput text lines checked → AreYesLines p nodes input text lines × (checked ≡ Done)
+    pub checked-alone : (lines : List ℕ) (checked : Status) → IsProveOutput rule p nodes input text status → IsCheckOutput text lines checked → AreYesLines rule p nodes input text lines × (checked ≡ Done)
     checked-alone lines checked (blocks, accepted, (answers, are, is, ends)) (ds, read, are-verdicts, so) =
         let spelled : AreSpelled blocks = spelled-block input blocks accepted in
-        let text-is : IsText BLOCK_LIMIT text (all_documents p blocks answers) = (documents-are blocks answers spelled are, is) in
-        let same : ds ≡ all_documents p blocks answers = one-list BLOCK_LIMIT BLOCK_LIMIT SPLIT_LIMIT SPLIT_LIMIT text ds (all_documents p blocks answers) (omega arith) (omega arith) read text-is in (
+        let text-is : IsText BLOCK_LIMIT text (all_documents rule p blocks answers) = (documents-are blocks answers spelled are, is) in
+        let same : ds ≡ all_documents rule p blocks answers = one-list BLOCK_LIMIT BLOCK_LIMIT SPLIT_LIMIT SPLIT_LIMIT text ds (all_documents rule p blocks answers) (omega arith) (omega arith) read text-is in (
           (blocks, accepted, (answers, are, is, are-verdicts ∙ ap (verdict_lines 0) same ∙ lines-are 0 blocks answers spelled are)),
           so ∙ ap verdicts_status same ∙ ap (λ yes. if yes then Done else Denied) (all-yes blocks answers spelled are),
         )

@@ -7,6 +7,7 @@ use Rattle.s66_line.specs.Printed.{printed}
 use Rattle.s66_line.specs.ReadAgain.{AreComplete, ArePlacedAgain, IsPlacedAgain}
 use Rattle.s66_line.specs.Source.{Entry, Block, source_of}
 use Rattle.s66_line.proofs.ReadAgain.{read-again}
+use Rattle.s66_model.specs.declared.rule.Rule.{Rule}
 use Rattle.s66_model.specs.Answer.{Answer, IsAnswer, source_time}
 use Rattle.s66_model.proofs.WrittenOrders.{written-order}
 use Rattle.s66_program.specs.declared.outcome.Status.{Status}
@@ -15,32 +16,32 @@ use Rattle.s66_program.specs.OrderedAgain.{TakePrintedTimes, written_time}
 use Rattle.s66_program.proofs.PlacedAnswers.{all-within}
 
 -- a legal order has a number for each instruction
-all-complete : (profile : Profile) (nodes : ℕ) (trace : Bool) (blocks : List Block) (answers : List Answer) → AreAnswers profile nodes blocks answers → AreComplete blocks (all_placed profile trace blocks answers)
-all-complete profile nodes trace [] [] are = tt
-all-complete profile nodes trace [] (a ∷ answers) are = absurd are
-all-complete profile nodes trace (block ∷ blocks) [] are = absurd are
-all-complete profile nodes trace (block ∷ blocks) (a ∷ answers) are =
-    (are.0.legal.whole ∙ length-map block.entries (λ (e : Entry). e.instr), all-complete profile nodes trace blocks answers are.1)
+all-complete : (rule : Rule) (profile : Profile) (nodes : ℕ) (trace : Bool) (blocks : List Block) (answers : List Answer) → AreAnswers rule profile nodes blocks answers → AreComplete blocks (all_placed profile trace blocks answers)
+all-complete rule profile nodes trace [] [] are = tt
+all-complete rule profile nodes trace [] (a ∷ answers) are = absurd are
+all-complete rule profile nodes trace (block ∷ blocks) [] are = absurd are
+all-complete rule profile nodes trace (block ∷ blocks) (a ∷ answers) are =
+    (are.0.legal.whole ∙ length-map block.entries (λ (e : Entry). e.instr), all-complete rule profile nodes trace blocks answers are.1)
 
-time-again : (profile : Profile) (nodes : ℕ) (block again : Block) (a : Answer) → IsAnswer (problem_of profile block) nodes a → IsPlacedAgain block again a.order → written_time profile again ≡ a.time
-time-again profile nodes block again a is placed =
+time-again : (rule : Rule) (profile : Profile) (nodes : ℕ) (block again : Block) (a : Answer) → IsAnswer rule (problem_of profile block) nodes a → IsPlacedAgain block again a.order → written_time profile again ≡ a.time
+time-again rule profile nodes block again a is placed =
     ap (λ (instrs : List Instr). source_time (record { block = instrs; profile = profile })) placed.instrs ∙ written-order (problem_of profile block) a.order ∙ sym is.time
 
-times-again : (profile : Profile) (nodes : ℕ) (trace : Bool) (blocks : List Block) (answers : List Answer) (again : List Block) → AreAnswers profile nodes blocks answers →
+times-again : (rule : Rule) (profile : Profile) (nodes : ℕ) (trace : Bool) (blocks : List Block) (answers : List Answer) (again : List Block) → AreAnswers rule profile nodes blocks answers →
     ArePlacedAgain blocks (all_placed profile trace blocks answers) again → map (written_time profile) again ≡ map (λ (a : Answer). a.time) answers
-times-again profile nodes trace [] [] [] are placed = refl
-times-again profile nodes trace [] [] (next ∷ again) are placed = absurd placed
-times-again profile nodes trace [] (a ∷ answers) again are placed = absurd are
-times-again profile nodes trace (block ∷ blocks) [] again are placed = absurd are
-times-again profile nodes trace (block ∷ blocks) (a ∷ answers) [] are placed = absurd placed
-times-again profile nodes trace (block ∷ blocks) (a ∷ answers) (next ∷ again) are placed =
-    ap₂ (λ t ts. t ∷ ts) (time-again profile nodes block next a are.0 placed.0) (times-again profile nodes trace blocks answers again are.1 placed.1)
+times-again rule profile nodes trace [] [] [] are placed = refl
+times-again rule profile nodes trace [] [] (next ∷ again) are placed = absurd placed
+times-again rule profile nodes trace [] (a ∷ answers) again are placed = absurd are
+times-again rule profile nodes trace (block ∷ blocks) [] again are placed = absurd are
+times-again rule profile nodes trace (block ∷ blocks) (a ∷ answers) [] are placed = absurd placed
+times-again rule profile nodes trace (block ∷ blocks) (a ∷ answers) (next ∷ again) are placed =
+    ap₂ (λ t ts. t ∷ ts) (time-again rule profile nodes block next a are.0 placed.0) (times-again rule profile nodes trace blocks answers again are.1 placed.1)
 
-pub ordered-again : (profile : Profile) (nodes : ℕ) (trace : Bool) (input text : List ℕ) (status : Status) (again : List Block) → IsOrderOutput profile nodes trace input text status → source_of text ≡ Ok again →
-    TakePrintedTimes profile nodes trace input text again
-ordered-again profile nodes trace input text status again (blocks, accepted, (answers, are, is, ends)) read =
+pub ordered-again : (rule : Rule) (profile : Profile) (nodes : ℕ) (trace : Bool) (input text : List ℕ) (status : Status) (again : List Block) → IsOrderOutput rule profile nodes trace input text status → source_of text ≡ Ok again →
+    TakePrintedTimes rule profile nodes trace input text again
+ordered-again rule profile nodes trace input text status again (blocks, accepted, (answers, are, is, ends)) read =
     let ps = all_placed profile trace blocks answers in
     let placed : ArePlacedAgain blocks ps again =
-    read-again input blocks again ps accepted (all-within profile nodes trace blocks answers are) (all-complete profile nodes trace blocks answers are) (subst (λ t. source_of t ≡ Ok again) is read)
+    read-again input blocks again ps accepted (all-within rule profile nodes trace blocks answers are) (all-complete rule profile nodes trace blocks answers are) (subst (λ t. source_of t ≡ Ok again) is read)
     in
-    (blocks, accepted, (answers, are, is, times-again profile nodes trace blocks answers again are placed))
+    (blocks, accepted, (answers, are, is, times-again rule profile nodes trace blocks answers again are placed))

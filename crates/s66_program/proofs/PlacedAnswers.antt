@@ -8,6 +8,7 @@ use Rattle.s66_line.specs.declared.error.SourceError.{SourceError}
 use Rattle.s66_line.specs.Block.{instrs_of}
 use Rattle.s66_line.specs.Printed.{Placed, ArePlaced, printed}
 use Rattle.s66_line.specs.Source.{Entry, Block, blocks_of, classed_lines, refusal, source_of, unless_refused}
+use Rattle.s66_model.specs.declared.rule.Rule.{Rule}
 use Rattle.s66_model.specs.Answer.{Answer}
 use Rattle.s66_model.specs.LegalOrder.{GoesOn, IsLegal}
 use Rattle.s66_model.proofs.LegalOrders.{legal-order, ready-parts}
@@ -18,27 +19,27 @@ use Rattle.s66_program.specs.PlacedAnswers.{AreAllPlaced, IsPlaced, tell_best}
 
 -- ONE BLOCK AFTER THE OTHER
 
-placed-more : (profile : Profile) (nodes : ℕ) (trace : Bool) (block : Block) (blocks : List Block) (p : Placed) (ps : List Placed) → IsPlaced profile nodes trace block p → AreAllPlaced profile nodes trace blocks ps →
-    AreAllPlaced profile nodes trace (block ∷ blocks) (p ∷ ps)
-placed-more profile nodes trace block blocks p ps (a, is, same) (answers, are, all) = (a ∷ answers, (is, are), ap₂ (λ x xs. x ∷ xs) same all)
+placed-more : (rule : Rule) (profile : Profile) (nodes : ℕ) (trace : Bool) (block : Block) (blocks : List Block) (p : Placed) (ps : List Placed) → IsPlaced rule profile nodes trace block p → AreAllPlaced rule profile nodes trace blocks ps →
+    AreAllPlaced rule profile nodes trace (block ∷ blocks) (p ∷ ps)
+placed-more rule profile nodes trace block blocks p ps (a, is, same) (answers, are, all) = (a ∷ answers, (is, are), ap₂ (λ x xs. x ∷ xs) same all)
 
 -- these are placed, and whatever answers the blocks from a place on may follow them
-abbrev pub GoesOnAt : Profile → ℕ → Bool → List Block → ℕ → List Placed → Type 0
-GoesOnAt profile nodes trace blocks i ps = (rest : List Placed) → AreAllPlaced profile nodes trace (drop i blocks) rest → AreAllPlaced profile nodes trace blocks (ps ++ rest)
+abbrev pub GoesOnAt : Rule → Profile → ℕ → Bool → List Block → ℕ → List Placed → Type 0
+GoesOnAt rule profile nodes trace blocks i ps = (rest : List Placed) → AreAllPlaced rule profile nodes trace (drop i blocks) rest → AreAllPlaced rule profile nodes trace blocks (ps ++ rest)
 
-pub goes-on : (profile : Profile) (nodes : ℕ) (trace : Bool) (blocks : List Block) (i : ℕ) (block : Block) (ps new : List Placed) (p : Placed) → i < length blocks → block ≡ slice_index_or blocks i block →
-    IsPlaced profile nodes trace block p → new ≡ ps ++ p ∷ [] → GoesOnAt profile nodes trace blocks i ps → GoesOnAt profile nodes trace blocks (i + 1) new
-goes-on profile nodes trace blocks i block ps new p within at is pushed so_far = λ rest are.
+pub goes-on : (rule : Rule) (profile : Profile) (nodes : ℕ) (trace : Bool) (blocks : List Block) (i : ℕ) (block : Block) (ps new : List Placed) (p : Placed) → i < length blocks → block ≡ slice_index_or blocks i block →
+    IsPlaced rule profile nodes trace block p → new ≡ ps ++ p ∷ [] → GoesOnAt rule profile nodes trace blocks i ps → GoesOnAt rule profile nodes trace blocks (i + 1) new
+goes-on rule profile nodes trace blocks i block ps new p within at is pushed so_far = λ rest are.
     let left : block ∷ drop (i + 1) blocks ≡ drop i blocks = ap (λ b. b ∷ drop (i + 1) blocks) at ∙ sym (drop_more blocks i block within) in
-    let there = subst (λ bs. AreAllPlaced profile nodes trace bs (p ∷ rest)) left (placed-more profile nodes trace block (drop (i + 1) blocks) p rest is are) in
+    let there = subst (λ bs. AreAllPlaced rule profile nodes trace bs (p ∷ rest)) left (placed-more rule profile nodes trace block (drop (i + 1) blocks) p rest is are) in
     let joined : new ++ rest ≡ ps ++ p ∷ rest = ap (λ xs. xs ++ rest) pushed ∙ append_assoc ps (p ∷ []) rest in
-    subst (AreAllPlaced profile nodes trace blocks) (sym joined) (so_far (p ∷ rest) there)
+    subst (AreAllPlaced rule profile nodes trace blocks) (sym joined) (so_far (p ∷ rest) there)
 
-pub placed-all : (profile : Profile) (nodes : ℕ) (trace : Bool) (blocks : List Block) (i : ℕ) (ps : List Placed) → length blocks ≤ i → GoesOnAt profile nodes trace blocks i ps → AreAllPlaced profile nodes trace blocks ps
-placed-all profile nodes trace blocks i ps past so_far =
+pub placed-all : (rule : Rule) (profile : Profile) (nodes : ℕ) (trace : Bool) (blocks : List Block) (i : ℕ) (ps : List Placed) → length blocks ≤ i → GoesOnAt rule profile nodes trace blocks i ps → AreAllPlaced rule profile nodes trace blocks ps
+placed-all rule profile nodes trace blocks i ps past so_far =
     let none : drop i blocks ≡ [] = at_drop_all (λ bs. bs) blocks i past in
-    let empty : AreAllPlaced profile nodes trace [] [] = ([], tt, refl) in
-    subst (AreAllPlaced profile nodes trace blocks) (append-nil ps) (so_far [] (subst (λ bs. AreAllPlaced profile nodes trace bs []) (sym none) empty))
+    let empty : AreAllPlaced rule profile nodes trace [] [] = ([], tt, refl) in
+    subst (AreAllPlaced rule profile nodes trace blocks) (append-nil ps) (so_far [] (subst (λ bs. AreAllPlaced rule profile nodes trace bs []) (sym none) empty))
 
 -- NUMBERS OF THE BLOCK
 
@@ -53,33 +54,33 @@ legal-within : (block : Block) (order : List ℕ) → IsLegal (instrs_of block) 
 legal-within block order legal n among =
     subst (λ k. (1 ≤ n) × (n ≤ k)) (length-map block.entries (λ (e : Entry). e.instr)) (number-within (instrs_of block) [] order (legal-order (instrs_of block) order legal).0 n among)
 
-pub all-within : (profile : Profile) (nodes : ℕ) (trace : Bool) (blocks : List Block) (answers : List Answer) → AreAnswers profile nodes blocks answers → ArePlaced blocks (all_placed profile trace blocks answers)
-all-within profile nodes trace [] [] are = tt
-all-within profile nodes trace [] (a ∷ answers) are = absurd are
-all-within profile nodes trace (block ∷ blocks) [] are = absurd are
-all-within profile nodes trace (block ∷ blocks) (a ∷ answers) are = (legal-within block a.order are.0.legal, all-within profile nodes trace blocks answers are.1)
+pub all-within : (rule : Rule) (profile : Profile) (nodes : ℕ) (trace : Bool) (blocks : List Block) (answers : List Answer) → AreAnswers rule profile nodes blocks answers → ArePlaced blocks (all_placed profile trace blocks answers)
+all-within rule profile nodes trace [] [] are = tt
+all-within rule profile nodes trace [] (a ∷ answers) are = absurd are
+all-within rule profile nodes trace (block ∷ blocks) [] are = absurd are
+all-within rule profile nodes trace (block ∷ blocks) (a ∷ answers) are = (legal-within block a.order are.0.legal, all-within rule profile nodes trace blocks answers are.1)
 
 -- a source that was read has these blocks
 pub read-blocks : (e : Option SourceError) (made blocks : List Block) → unless_refused e made ≡ Ok blocks → blocks ≡ made
 read-blocks None made blocks h = cc
 read-blocks (Some e) made blocks h = cc
 
-pub placed-within : (profile : Profile) (nodes : ℕ) (trace : Bool) (input : List ℕ) (blocks : List Block) (ps : List Placed) → source_of input ≡ Ok blocks → AreAllPlaced profile nodes trace blocks ps →
+pub placed-within : (rule : Rule) (profile : Profile) (nodes : ℕ) (trace : Bool) (input : List ℕ) (blocks : List Block) (ps : List Placed) → source_of input ≡ Ok blocks → AreAllPlaced rule profile nodes trace blocks ps →
     ArePlaced (blocks_of (classed_lines input)) ps
-placed-within profile nodes trace input blocks ps read (answers, are, same) =
-    let all = subst (ArePlaced blocks) (sym same) (all-within profile nodes trace blocks answers are) in
+placed-within rule profile nodes trace input blocks ps read (answers, are, same) =
+    let all = subst (ArePlaced blocks) (sym same) (all-within rule profile nodes trace blocks answers are) in
     subst (λ bs. ArePlaced bs ps) (read-blocks (refusal (classed_lines input)) (blocks_of (classed_lines input)) blocks read) all
 
 -- WHETHER ALL ARE BEST
 
-pub best-told : (profile : Profile) (nodes : ℕ) (trace : Bool) (blocks : List Block) (answers : List Answer) → AreAnswers profile nodes blocks answers → tell_best (all_placed profile trace blocks answers) ≡ all_best answers
-best-told profile nodes trace [] [] are = refl
-best-told profile nodes trace [] (a ∷ answers) are = absurd are
-best-told profile nodes trace (block ∷ blocks) [] are = absurd are
-best-told profile nodes trace (block ∷ blocks) (a ∷ answers) are = ap (λ r. (a.bound == a.time) && r) (best-told profile nodes trace blocks answers are.1)
+pub best-told : (rule : Rule) (profile : Profile) (nodes : ℕ) (trace : Bool) (blocks : List Block) (answers : List Answer) → AreAnswers rule profile nodes blocks answers → tell_best (all_placed profile trace blocks answers) ≡ all_best answers
+best-told rule profile nodes trace [] [] are = refl
+best-told rule profile nodes trace [] (a ∷ answers) are = absurd are
+best-told rule profile nodes trace (block ∷ blocks) [] are = absurd are
+best-told rule profile nodes trace (block ∷ blocks) (a ∷ answers) are = ap (λ r. (a.bound == a.time) && r) (best-told rule profile nodes trace blocks answers are.1)
 
-pub order-output : (profile : Profile) (nodes : ℕ) (trace : Bool) (input text : List ℕ) (status : Status) (blocks : List Block) (ps : List Placed) → source_of input ≡ Ok blocks → AreAllPlaced profile nodes trace blocks ps →
-    text ≡ printed input ps → status ≡ (if tell_best ps then Done else Bounded) → IsOrderOutput profile nodes trace input text status
-order-output profile nodes trace input text status blocks ps read (answers, are, same) is ends =
-    let best : tell_best ps ≡ all_best answers = ap tell_best same ∙ best-told profile nodes trace blocks answers are in
+pub order-output : (rule : Rule) (profile : Profile) (nodes : ℕ) (trace : Bool) (input text : List ℕ) (status : Status) (blocks : List Block) (ps : List Placed) → source_of input ≡ Ok blocks → AreAllPlaced rule profile nodes trace blocks ps →
+    text ≡ printed input ps → status ≡ (if tell_best ps then Done else Bounded) → IsOrderOutput rule profile nodes trace input text status
+order-output rule profile nodes trace input text status blocks ps read (answers, are, same) is ends =
+    let best : tell_best ps ≡ all_best answers = ap tell_best same ∙ best-told rule profile nodes trace blocks answers are in
     (blocks, read, (answers, are, is ∙ ap (printed input) same, ends ∙ ap (λ b. if b then Done else Bounded) best))

@@ -3,6 +3,7 @@ use Rattle.std.proofs.Common.{ℕ, ◌+◌, ◌≡◌, ◌≤◌, ◌<◌, ◌&&
 use Rattle.std.proofs.lemmas.List.{append-nil, at_drop_all, drop_more}
 use Rattle.s66_isa.specs.declared.profile.Profile.{Profile}
 use Rattle.s66_line.specs.Source.{Block}
+use Rattle.s66_model.specs.declared.rule.Rule.{Rule}
 use Rattle.s66_model.specs.Answer.{Answer}
 use Rattle.s66_cert.specs.Document.{document_text, documents_text}
 use Rattle.s66_program.specs.declared.outcome.Status.{Status}
@@ -20,34 +21,34 @@ and-true true = refl
 and-true false = refl
 
 -- the documents of some answers, which are all best or not
-abbrev pub AreProvedSo : Profile → ℕ → List Block → List ℕ → Bool → Type 0
-AreProvedSo profile nodes blocks text best =
-    (answers : List Answer) × AreAnswers profile nodes blocks answers × (text ≡ documents_text (all_documents profile blocks answers)) × (best ≡ all_best answers)
+abbrev pub AreProvedSo : Rule → Profile → ℕ → List Block → List ℕ → Bool → Type 0
+AreProvedSo rule profile nodes blocks text best =
+    (answers : List Answer) × AreAnswers rule profile nodes blocks answers × (text ≡ documents_text (all_documents rule profile blocks answers)) × (best ≡ all_best answers)
 
 -- the text is of the blocks before a place, and whatever documents of the others may follow it
-abbrev pub GoesOnAt : Profile → ℕ → List Block → ℕ → List ℕ → Bool → Type 0
-GoesOnAt profile nodes blocks i text best = (rest : List ℕ) (others : Bool) → AreProvedSo profile nodes (drop i blocks) rest others → AreProvedSo profile nodes blocks (text ++ rest) (best && others)
+abbrev pub GoesOnAt : Rule → Profile → ℕ → List Block → ℕ → List ℕ → Bool → Type 0
+GoesOnAt rule profile nodes blocks i text best = (rest : List ℕ) (others : Bool) → AreProvedSo rule profile nodes (drop i blocks) rest others → AreProvedSo rule profile nodes blocks (text ++ rest) (best && others)
 
-pub begins : (profile : Profile) (nodes : ℕ) (blocks : List Block) (text : List ℕ) → text ≡ [] → GoesOnAt profile nodes blocks 0 text true
-begins profile nodes blocks text none rest others are = subst (λ t. AreProvedSo profile nodes blocks (t ++ rest) others) (sym none) are
+pub begins : (rule : Rule) (profile : Profile) (nodes : ℕ) (blocks : List Block) (text : List ℕ) → text ≡ [] → GoesOnAt rule profile nodes blocks 0 text true
+begins rule profile nodes blocks text none rest others are = subst (λ t. AreProvedSo rule profile nodes blocks (t ++ rest) others) (sym none) are
 
-pub goes-on : (profile : Profile) (nodes : ℕ) (blocks : List Block) (i : ℕ) (block : Block) (text new : List ℕ) (best own : Bool) → i < length blocks → block ≡ slice_index_or blocks i block →
-    IsProved profile nodes block text new own → GoesOnAt profile nodes blocks i text best → GoesOnAt profile nodes blocks (i + 1) new (best && own)
-goes-on profile nodes blocks i block text new best own within at (a, is, pushed, told) so_far rest others (answers, are, rest-is, all) =
+pub goes-on : (rule : Rule) (profile : Profile) (nodes : ℕ) (blocks : List Block) (i : ℕ) (block : Block) (text new : List ℕ) (best own : Bool) → i < length blocks → block ≡ slice_index_or blocks i block →
+    IsProved rule profile nodes block text new own → GoesOnAt rule profile nodes blocks i text best → GoesOnAt rule profile nodes blocks (i + 1) new (best && own)
+goes-on rule profile nodes blocks i block text new best own within at (a, is, pushed, told) so_far rest others (answers, are, rest-is, all) =
     let left : block ∷ drop (i + 1) blocks ≡ drop i blocks = ap (λ b. b ∷ drop (i + 1) blocks) at ∙ sym (drop_more blocks i block within) in
-    let document = document_text (document_under profile block a) in
-    let there : AreProvedSo profile nodes (drop i blocks) (document ++ rest) (own && others) =
-    subst (λ bs. AreProvedSo profile nodes bs (document ++ rest) (own && others)) left
+    let document = document_text (document_under rule profile block a) in
+    let there : AreProvedSo rule profile nodes (drop i blocks) (document ++ rest) (own && others) =
+    subst (λ bs. AreProvedSo rule profile nodes bs (document ++ rest) (own && others)) left
     (a ∷ answers, (is, are), ap (λ t. document ++ t) rest-is, ap₂ (λ x y. x && y) told all)
     in
     let joined : new ++ rest ≡ text ++ (document ++ rest) = ap (λ t. t ++ rest) pushed ∙ append_assoc text document rest in
-    subst (AreProvedSo profile nodes blocks (new ++ rest)) (sym (and-assoc best own others))
-    (subst (λ t. AreProvedSo profile nodes blocks t (best && (own && others))) (sym joined) (so_far (document ++ rest) (own && others) there))
+    subst (AreProvedSo rule profile nodes blocks (new ++ rest)) (sym (and-assoc best own others))
+    (subst (λ t. AreProvedSo rule profile nodes blocks t (best && (own && others))) (sym joined) (so_far (document ++ rest) (own && others) there))
 
-pub proved-all : (profile : Profile) (nodes : ℕ) (blocks : List Block) (i : ℕ) (text : List ℕ) (best : Bool) (status : Status) → length blocks ≤ i → GoesOnAt profile nodes blocks i text best →
-    status ≡ (if best then Done else Bounded) → AreProved profile nodes blocks text status
-proved-all profile nodes blocks i text best status past so_far ends =
+pub proved-all : (rule : Rule) (profile : Profile) (nodes : ℕ) (blocks : List Block) (i : ℕ) (text : List ℕ) (best : Bool) (status : Status) → length blocks ≤ i → GoesOnAt rule profile nodes blocks i text best →
+    status ≡ (if best then Done else Bounded) → AreProved rule profile nodes blocks text status
+proved-all rule profile nodes blocks i text best status past so_far ends =
     let none : drop i blocks ≡ [] = at_drop_all (λ bs. bs) blocks i past in
-    let empty : AreProvedSo profile nodes [] [] true = ([], tt, refl, refl) in
-    let (answers, are, is, all) = so_far [] true (subst (λ bs. AreProvedSo profile nodes bs [] true) (sym none) empty) in
+    let empty : AreProvedSo rule profile nodes [] [] true = ([], tt, refl, refl) in
+    let (answers, are, is, all) = so_far [] true (subst (λ bs. AreProvedSo rule profile nodes bs [] true) (sym none) empty) in
     (answers, are, sym (append-nil text) ∙ is, ends ∙ ap (λ b. if b then Done else Bounded) (sym (and-true best) ∙ all))

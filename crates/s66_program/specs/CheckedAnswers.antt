@@ -2,6 +2,7 @@
 use Rattle.std.specs.Prelude.{ℕ, ◌+◌, ◌≡◌, List, [], ◌∷◌, ◌++◌, Ok}
 use Rattle.s66_isa.specs.declared.profile.Profile.{Profile}
 use Rattle.s66_line.specs.Source.{Block, source_of}
+use Rattle.s66_model.specs.declared.rule.Rule.{Rule}
 use Rattle.s66_model.specs.Answer.{Answer}
 use Rattle.s66_cert.specs.Document.{documents_text}
 use Rattle.s66_checker.specs.declared.verdict.Verdict.TheVariants.{Yes}
@@ -15,7 +16,7 @@ yes_lines n [] = []
 yes_lines n (a ∷ answers) = verdict_line (n + 1) (Yes a.time a.bound) ++ yes_lines (n + 1) answers
 
 -- for some answers, of whose documents it is the text, these lines are YES for each
-abbrev pub AreYesLines : Profile → (nodes : ℕ) (input text lines : List ℕ) → Type 0
-AreYesLines p nodes input text lines =
+abbrev pub AreYesLines : Rule → Profile → (nodes : ℕ) (input text lines : List ℕ) → Type 0
+AreYesLines rule p nodes input text lines =
     (blocks : List Block) × (source_of input ≡ Ok blocks)
-    × ((answers : List Answer) × AreAnswers p nodes blocks answers × (text ≡ documents_text (all_documents p blocks answers)) × (lines ≡ yes_lines 0 answers))
+    × ((answers : List Answer) × AreAnswers rule p nodes blocks answers × (text ≡ documents_text (all_documents rule p blocks answers)) × (lines ≡ yes_lines 0 answers))

@@ -6,6 +6,7 @@ use Rattle.s66_line.specs.Source.{Block, blocks_of, classed_lines}
 use Rattle.s66_model.specs.Answer.{Answer}
 use Rattle.s66_model.specs.Leaves.{Chain}
 use Rattle.s66_model.specs.Tree.{Alone}
+use Rattle.s66_model.specs.DominatedLeaves.{Bounding}
 
 abbrev pub one_load_source : List ℕ
 one_load_source = codes "  SA1 A1+B1\n" ++ codes "  BX6 X1\n" ++ codes "  BX7 X2\n"
@@ -15,7 +16,7 @@ blocks_in text = blocks_of (classed_lines text)
 
 -- best: the load and what reads it take 12 in every order
 abbrev pub one_load_answer : Answer
-one_load_answer = record { order = 1 ∷ 3 ∷ 2 ∷ []; time = 12; bound = 12; splits = 0; tree = Alone (Chain (1 ∷ 2 ∷ [])) }
+one_load_answer = record { order = 1 ∷ 3 ∷ 2 ∷ []; time = 12; bound = 12; splits = 0; tree = Alone (Bounding (Chain (1 ∷ 2 ∷ []))) }
 
 abbrev pub one_load_ordered : List ℕ
 one_load_ordered =

@@ -5,6 +5,7 @@ use Rattle.s66_isa.specs.declared.profile.Profile.{Profile}
 use Rattle.s66_line.specs.Block.{instrs_of}
 use Rattle.s66_line.specs.Printed.{Placed, printed}
 use Rattle.s66_line.specs.Source.{Block, source_of}
+use Rattle.s66_model.specs.declared.rule.Rule.{Rule}
 use Rattle.s66_model.specs.Answer.{Answer, IsAnswer, source_time}
 use Rattle.s66_model.specs.Timing.{Problem}
 use Rattle.s66_program.specs.declared.outcome.Status.{Status}
@@ -17,10 +18,10 @@ abbrev pub problem_of : Profile → Block → Problem
 problem_of p block = record { block = instrs_of block; profile = p }
 
 -- an answer for each block, of a search of at most so many splits
-abbrev pub AreAnswers : Profile → ℕ → List Block → List Answer → Type 0
-AreAnswers p nodes [] [] = Unit {0}
-AreAnswers p nodes (block ∷ blocks) (a ∷ answers) = IsAnswer (problem_of p block) nodes a × AreAnswers p nodes blocks answers
-AreAnswers p nodes blocks answers = ⊥
+abbrev pub AreAnswers : Rule → Profile → ℕ → List Block → List Answer → Type 0
+AreAnswers rule p nodes [] [] = Unit {0}
+AreAnswers rule p nodes (block ∷ blocks) (a ∷ answers) = IsAnswer rule (problem_of p block) nodes a × AreAnswers rule p nodes blocks answers
+AreAnswers rule p nodes blocks answers = ⊥
 
 -- each is best: its time is its bound
 abbrev pub all_best : List Answer → Bool
@@ -42,7 +43,7 @@ all_placed p trace (block ∷ blocks) (a ∷ answers) = placed_by p trace block 
 all_placed p trace blocks answers = []
 
 -- for some answers, the source printed in their orders, and their status
-abbrev pub IsOrderOutput : Profile → (nodes : ℕ) (trace : Bool) (input text : List ℕ) → Status → Type 0
-IsOrderOutput p nodes trace input text status =
+abbrev pub IsOrderOutput : Rule → Profile → (nodes : ℕ) (trace : Bool) (input text : List ℕ) → Status → Type 0
+IsOrderOutput rule p nodes trace input text status =
     (blocks : List Block) × (source_of input ≡ Ok blocks)
-    × ((answers : List Answer) × AreAnswers p nodes blocks answers × (text ≡ printed input (all_placed p trace blocks answers)) × (status ≡ status_of answers))
+    × ((answers : List Answer) × AreAnswers rule p nodes blocks answers × (text ≡ printed input (all_placed p trace blocks answers)) × (status ≡ status_of answers))

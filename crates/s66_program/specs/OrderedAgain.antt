@@ -4,6 +4,7 @@ use Rattle.s66_isa.specs.declared.profile.Profile.{Profile}
 use Rattle.s66_line.specs.Block.{instrs_of}
 use Rattle.s66_line.specs.Printed.{printed}
 use Rattle.s66_line.specs.Source.{Block, source_of}
+use Rattle.s66_model.specs.declared.rule.Rule.{Rule}
 use Rattle.s66_model.specs.Answer.{Answer}
 use Rattle.s66_program.specs.AsWritten.{as_written, total_time}
 use Rattle.s66_program.specs.OrderText.{AreAnswers, all_placed}
@@ -13,8 +14,8 @@ abbrev pub written_time : Profile → Block → ℕ
 written_time p block = total_time (as_written p (instrs_of block))
 
 -- for some answers, in whose orders it is the source printed, these blocks take their times, which are printed
-abbrev pub TakePrintedTimes : Profile → (nodes : ℕ) (trace : Bool) (input text : List ℕ) → List Block → Type 0
-TakePrintedTimes p nodes trace input text again =
+abbrev pub TakePrintedTimes : Rule → Profile → (nodes : ℕ) (trace : Bool) (input text : List ℕ) → List Block → Type 0
+TakePrintedTimes rule p nodes trace input text again =
     (blocks : List Block) × (source_of input ≡ Ok blocks)
-    × ((answers : List Answer) × AreAnswers p nodes blocks answers × (text ≡ printed input (all_placed p trace blocks answers))
+    × ((answers : List Answer) × AreAnswers rule p nodes blocks answers × (text ≡ printed input (all_placed p trace blocks answers))
     × (map (written_time p) again ≡ map (λ (a : Answer). a.time) answers))

@@ -2,6 +2,7 @@
 use Rattle.std.specs.Prelude.{ℕ, ◌+◌, ◌≡◌, ◌≤◌, Bool, true, false, List, [], ◌∷◌, ◌++◌, Option, None, Some, option_map, Ok}
 use Rattle.s66_isa.specs.declared.profile.Profile.{Profile}
 use Rattle.s66_isa.specs.Table.{standard}
+use Rattle.s66_model.specs.declared.rule.Rule.TheVariants.{NoneNamed}
 use Rattle.s66_ledger.specs.declared.limits.TheConstants.{BUDGET_LIMIT}
 use Rattle.s66_line.specs.Source.{Block, source_of}
 use Rattle.s66_pool.specs.declared.limits.TheConstants.{WORKERS_LIMIT}
@@ -82,11 +83,11 @@ abbrev pub IsOutput : Profile → Command → (input text : List ℕ) → Status
 IsOutput p (Time trace profile) input text status = IsListing p (listing.Times trace) input text × (status ≡ Done)
 IsOutput p Deps input text status = IsListing p listing.Dependences input text × (status ≡ Done)
 IsOutput p (Chart profile) input text status = IsListing p listing.Chart input text × (status ≡ Done)
-IsOutput p (Order workers nodes trace profile) input text status = IsOrderOutput p nodes trace input text status
-IsOutput p (Prove workers nodes profile) input text status = IsProveOutput p nodes input text status
+IsOutput p (Order workers nodes trace profile) input text status = IsOrderOutput NoneNamed p nodes trace input text status
+IsOutput p (Prove workers nodes profile) input text status = IsProveOutput NoneNamed p nodes input text status
 IsOutput p Check input text status = IsCheckOutput input text status
 IsOutput p Lint input text status = IsLintOutput input text status
-IsOutput p (Sum workers nodes profile) input text status = IsSumOutput p nodes input text status
+IsOutput p (Sum workers nodes profile) input text status = IsSumOutput NoneNamed p nodes input text status
 
 -- the command reads a source, and refuses some
 abbrev pub reads_source : Command → Bool

@@ -4,16 +4,17 @@ use Rattle.s66_isa.specs.declared.profile.Profile.{Profile}
 use Rattle.s66_isa.specs.Lists.{every}
 use Rattle.s66_line.specs.Printed.{Placed}
 use Rattle.s66_line.specs.Source.{Block}
+use Rattle.s66_model.specs.declared.rule.Rule.{Rule}
 use Rattle.s66_model.specs.Answer.{Answer, IsAnswer}
 use Rattle.s66_program.specs.OrderText.{AreAnswers, all_placed, placed_by, problem_of}
 
 -- an answer to the block
-abbrev pub IsPlaced : Profile → ℕ → Bool → Block → Placed → Type 0
-IsPlaced p nodes trace block placed = (a : Answer) × IsAnswer (problem_of p block) nodes a × (placed ≡ placed_by p trace block a)
+abbrev pub IsPlaced : Rule → Profile → ℕ → Bool → Block → Placed → Type 0
+IsPlaced rule p nodes trace block placed = (a : Answer) × IsAnswer rule (problem_of p block) nodes a × (placed ≡ placed_by p trace block a)
 
 -- an answer to each block
-abbrev pub AreAllPlaced : Profile → ℕ → Bool → List Block → List Placed → Type 0
-AreAllPlaced p nodes trace blocks ps = (answers : List Answer) × AreAnswers p nodes blocks answers × (ps ≡ all_placed p trace blocks answers)
+abbrev pub AreAllPlaced : Rule → Profile → ℕ → Bool → List Block → List Placed → Type 0
+AreAllPlaced rule p nodes trace blocks ps = (answers : List Answer) × AreAnswers rule p nodes blocks answers × (ps ≡ all_placed p trace blocks answers)
 
 -- each report tells that its order is best
 abbrev pub tell_best : List Placed → Bool

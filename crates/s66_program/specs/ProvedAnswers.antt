@@ -6,6 +6,7 @@ use Rattle.s66_isa.specs.declared.limits.TheConstants.{BLOCK_LIMIT}
 use Rattle.s66_line.specs.Block.{instrs_of, text_of}
 use Rattle.s66_line.specs.InstructionText.{IsTextOf}
 use Rattle.s66_line.specs.Source.{Block}
+use Rattle.s66_model.specs.declared.rule.Rule.{Rule}
 use Rattle.s66_model.specs.Answer.{Answer, IsAnswer}
 use Rattle.s66_cert.specs.Document.{document_text, documents_text}
 use Rattle.s66_program.specs.declared.outcome.Status.{Status}
@@ -24,11 +25,11 @@ abbrev pub IsSpelledBlock : Block → Type 0
 IsSpelledBlock block = (1 ≤ length (instrs_of block)) × (length (instrs_of block) ≤ BLOCK_LIMIT) × IsSpelled block
 
 -- the document of an answer to the block was appended, which is best or not
-abbrev pub IsProved : Profile → ℕ → Block → (old new : List ℕ) → Bool → Type 0
-IsProved p nodes block old new best =
-    (a : Answer) × IsAnswer (problem_of p block) nodes a × (new ≡ old ++ document_text (document_under p block a)) × (best ≡ (a.bound == a.time))
+abbrev pub IsProved : Rule → Profile → ℕ → Block → (old new : List ℕ) → Bool → Type 0
+IsProved rule p nodes block old new best =
+    (a : Answer) × IsAnswer rule (problem_of p block) nodes a × (new ≡ old ++ document_text (document_under rule p block a)) × (best ≡ (a.bound == a.time))
 
 -- the text is the documents of answers to the blocks, and the status is theirs
-abbrev pub AreProved : Profile → ℕ → List Block → (text : List ℕ) → Status → Type 0
-AreProved p nodes blocks text status =
-    (answers : List Answer) × AreAnswers p nodes blocks answers × (text ≡ documents_text (all_documents p blocks answers)) × (status ≡ status_of answers)
+abbrev pub AreProved : Rule → Profile → ℕ → List Block → (text : List ℕ) → Status → Type 0
+AreProved rule p nodes blocks text status =
+    (answers : List Answer) × AreAnswers rule p nodes blocks answers × (text ≡ documents_text (all_documents rule p blocks answers)) × (status ≡ status_of answers)

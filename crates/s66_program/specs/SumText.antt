@@ -6,6 +6,7 @@ use Rattle.s66_isa.specs.declared.profile.Profile.{Profile}
 use Rattle.s66_line.specs.Block.{instrs_of, line_of}
 use Rattle.s66_line.specs.Printed.{Placed}
 use Rattle.s66_line.specs.Source.{Block, source_of}
+use Rattle.s66_model.specs.declared.rule.Rule.{Rule}
 use Rattle.s66_model.specs.Answer.{Answer}
 use Rattle.s66_program.specs.OrderText.{AreAnswers, all_placed, status_of}
 use Rattle.s66_program.specs.declared.outcome.Status.{Status}
@@ -63,8 +64,8 @@ abbrev pub IsSumText : (rows : List Row) (text : List ℕ) → Type 0
 IsSumText rows text = (ordered : List Row) × IsPermutation rows ordered × AreInOrder ordered × (text ≡ row_lines ordered ++ total_line rows)
 
 -- for some answers, the rows of what `order` would print, and their status
-abbrev pub IsSumOutput : Profile → (nodes : ℕ) (input text : List ℕ) → Status → Type 0
-IsSumOutput p nodes input text status =
+abbrev pub IsSumOutput : Rule → Profile → (nodes : ℕ) (input text : List ℕ) → Status → Type 0
+IsSumOutput rule p nodes input text status =
     (blocks : List Block) × (source_of input ≡ Ok blocks)
-    × ((answers : List Answer) × AreAnswers p nodes blocks answers × IsSumText (rows_of 0 blocks (all_placed p false blocks answers)) text
+    × ((answers : List Answer) × AreAnswers rule p nodes blocks answers × IsSumText (rows_of 0 blocks (all_placed p false blocks answers)) text
     × (status ≡ status_of answers))

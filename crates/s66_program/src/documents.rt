@@ -1,12 +1,14 @@
-ghost use Rattle.std.specs.Prelude.{◌≡◌, IfOk};
+ghost use Rattle.std.specs.Prelude.{◌≡◌, if◌then◌else◌, IfOk};
 ghost use Rattle.s66_line.specs.Block.{instrs_of};
 ghost use Rattle.s66_ledger.specs.Answers.{answer_of};
+ghost use Rattle.s66_model.specs.declared.rule.Rule.TheVariants.{NoneNamed};
+ghost use Rattle.s66_cert.specs.Document.{has_dominated_line};
 ghost use Rattle.s66_cert.specs.DocumentParts.{document_of};
 ghost use Rattle.s66_program.specs.ProveText.{document_under, texts_of};
 ghost use Rattle.s66_program.specs.ProvedAnswers.{IsSpelled};
 
 use arrayvec::ArrayVec;
-use s66_cert::{Claim, Document, InstructionText};
+use s66_cert::{Claim, Document, InstructionText, Tree};
 use s66_isa::{BLOCK_LIMIT, Profile};
 use s66_ledger::{Answer, BUDGET_LIMIT};
 use s66_line::Block;
@@ -27,6 +29,17 @@ fn texts_of(alloc: Global, block: &Block) -> Result<Vec<InstructionText>, AllocE
     Ok(texts)
 }
 
+/// A document needs the rule by which leaves are dominated if one is.
+fn rule_of(rule: Rule, tree: &Tree) -> Rule
+    ensures { result ≡ (if has_dominated_line tree.now then rule else NoneNamed) }
+{
+    if tree.has_dominated() {
+        rule
+    } else {
+        Rule::NoneNamed
+    }
+}
+
 /// The document of an answer to this block under this profile: what it claims, and the tree that shows its bound. `Err` is want of
 /// memory.
 pub fn document_of(
@@ -36,7 +49,7 @@ pub fn document_of(
     answer: &Answer,
 ) -> Result<Document, AllocError>
     requires { answer.now.problem ≡ record { block = instrs_of block.now; profile = profile.now } }
-    ensures { IfOk result (λ document. document_of document ≡ document_under profile.now block.now (answer_of answer.now)) }
+    ensures { IfOk result (λ document. document_of document ≡ document_under answer.now.rule profile.now block.now (answer_of answer.now)) }
 {
     let Ok(order) = ArrayVec::try_from(answer.order().numbers()) else {
         unreachable!()
@@ -44,13 +57,14 @@ pub fn document_of(
     // so the texts are a block's, and the splits few
     prove!(block.count() <= BLOCK_LIMIT);
     prove!(answer.splits() <= BUDGET_LIMIT);
+    let tree = answer.tree(alloc, block)?;
     Ok(Document::new(Claim {
-        rule: Rule::NoneNamed,
+        rule: rule_of(answer.rule(), &tree),
         profile: ArrayVec::from(profile.entries()),
         block: texts_of(alloc, block)?,
         time: answer.time(),
         bound: answer.bound(),
         order,
-        tree: answer.tree(alloc, block)?,
+        tree,
     }))
 }

@@ -7,6 +7,8 @@ ghost use Rattle.s66_isa.specs.Table.{standard};
 ghost use Rattle.s66_line.specs.Printed.{printed};
 ghost use Rattle.s66_line.specs.Source.{Block, source_of};
 ghost use Rattle.s66_isa.specs.declared.limits.TheConstants.{BLOCK_LIMIT};
+ghost use Rattle.s66_model.specs.declared.rule.Rule.{Rule};
+ghost use Rattle.s66_model.specs.declared.rule.Rule.TheVariants.{NoneNamed};
 ghost use Rattle.s66_model.specs.Answer.{Answer, IsAnswer};
 ghost use Rattle.s66_model.specs.Timing.{Problem, total_of};
 ghost use Rattle.s66_ledger.specs.declared.limits.TheConstants.{BUDGET_LIMIT};
@@ -33,22 +35,22 @@ pub fn total_limit_law()
 /// If what `order` wrote for a source is accepted again, each of its blocks takes as written, under the same profile, the time
 /// that was printed of it.
 pub fn ordered_again_law()
-    ensures { (p : Profile) (nodes : ℕ) (trace : Bool) (input text : List ℕ) (status : Status) (again : List Block) → IsOrderOutput p nodes trace input text status → source_of text ≡ Ok again → TakePrintedTimes p nodes trace input text again }
+    ensures { (rule : Rule) (p : Profile) (nodes : ℕ) (trace : Bool) (input text : List ℕ) (status : Status) (again : List Block) → IsOrderOutput rule p nodes trace input text status → source_of text ≡ Ok again → TakePrintedTimes rule p nodes trace input text again }
 {}
 
 /// What a search answers of a block of an accepted source, under any profile, makes a document, of the block's own problem, and the
 /// verdict on it is yes, with the answer's time and bound.
 pub fn proved_law()
-    ensures same { (p : Profile) (text : List ℕ) (blocks : List Block) (block : Block) (a : Answer) → source_of text ≡ Ok blocks → Among block blocks → checker.problem_of (document_under p block a) ≡ problem_of p block }
-    ensures document { (p : Profile) (text : List ℕ) (blocks : List Block) (block : Block) (budget : ℕ) (a : Answer) → source_of text ≡ Ok blocks → Among block blocks → budget ≤ BUDGET_LIMIT → IsAnswer (problem_of p block) budget a → IsDocument BLOCK_LIMIT (document_under p block a) }
-    ensures yes { (p : Profile) (text : List ℕ) (blocks : List Block) (block : Block) (budget : ℕ) (a : Answer) → source_of text ≡ Ok blocks → Among block blocks → budget ≤ BUDGET_LIMIT → IsAnswer (problem_of p block) budget a → verdict (document_under p block a) ≡ Yes a.time a.bound }
+    ensures same { (rule : Rule) (p : Profile) (text : List ℕ) (blocks : List Block) (block : Block) (a : Answer) → source_of text ≡ Ok blocks → Among block blocks → checker.problem_of (document_under rule p block a) ≡ problem_of p block }
+    ensures document { (rule : Rule) (p : Profile) (text : List ℕ) (blocks : List Block) (block : Block) (budget : ℕ) (a : Answer) → source_of text ≡ Ok blocks → Among block blocks → budget ≤ BUDGET_LIMIT → IsAnswer rule (problem_of p block) budget a → IsDocument BLOCK_LIMIT (document_under rule p block a) }
+    ensures yes { (rule : Rule) (p : Profile) (text : List ℕ) (blocks : List Block) (block : Block) (budget : ℕ) (a : Answer) → source_of text ≡ Ok blocks → Among block blocks → budget ≤ BUDGET_LIMIT → IsAnswer rule (problem_of p block) budget a → verdict (document_under rule p block a) ≡ Yes a.time a.bound }
 {}
 
 /// What `prove` wrote for a source, under any profile, is a text of documents, for each of which `check` writes YES, with the answer's
 /// time and bound; it writes nothing else, and is done.
 pub fn checked_law()
-    ensures yes { (p : Profile) (nodes : ℕ) (input text : List ℕ) (status : Status) → nodes ≤ BUDGET_LIMIT → IsProveOutput p nodes input text status → (lines : List ℕ) × AreYesLines p nodes input text lines × IsCheckOutput text lines Done }
-    ensures alone { (p : Profile) (nodes : ℕ) (input text lines : List ℕ) (status checked : Status) → nodes ≤ BUDGET_LIMIT → IsProveOutput p nodes input text status → IsCheckOutput text lines checked → AreYesLines p nodes input text lines × (checked ≡ Done) }
+    ensures yes { (rule : Rule) (p : Profile) (nodes : ℕ) (input text : List ℕ) (status : Status) → nodes ≤ BUDGET_LIMIT → IsProveOutput rule p nodes input text status → (lines : List ℕ) × AreYesLines rule p nodes input text lines × IsCheckOutput text lines Done }
+    ensures alone { (rule : Rule) (p : Profile) (nodes : ℕ) (input text lines : List ℕ) (status checked : Status) → nodes ≤ BUDGET_LIMIT → IsProveOutput rule p nodes input text status → IsCheckOutput text lines checked → AreYesLines rule p nodes input text lines × (checked ≡ Done) }
 {}
 
 /// The worked block of one load, as `order` and `prove` write it, and what `time` and `check` then write; and other documents of it.
@@ -56,7 +58,7 @@ pub fn checked_law()
 pub fn again_examples()
     ensures ordered { printed one_load_source (all_placed standard false (blocks_in one_load_source) (one_load_answer ∷ [])) ≡ one_load_ordered }
     ensures time_again { map (written_time standard) (blocks_in one_load_ordered) ≡ 12 ∷ [] }
-    ensures proved { all_documents standard (blocks_in one_load_source) (one_load_answer ∷ []) ≡ one_load ∷ [] }
+    ensures proved { all_documents NoneNamed standard (blocks_in one_load_source) (one_load_answer ∷ []) ≡ one_load ∷ [] }
     ensures yes { yes_lines 0 (one_load_answer ∷ []) ≡ codes "DOCUMENT 1 YES TIME 12 BOUND 12\n" }
     ensures checked { verdict_lines 0 (one_load ∷ with_times 12 11 ∷ with_times 12 13 ∷ []) ≡ codes "DOCUMENT 1 YES TIME 12 BOUND 12\n" ++ codes "DOCUMENT 2 YES TIME 12 BOUND 11\n" ++ codes "DOCUMENT 3 NO LINE 8 REASON 8\n" }
     ensures done { verdicts_status (one_load ∷ with_times 12 11 ∷ []) ≡ Done }

@@ -12,7 +12,7 @@ use Rattle.s66_program.proofs.documents.document_of.Goals as goal
 -- what the claim says, and the answer's own parts
 abbrev claimed : goal.In_ok-tree → Parts
 claimed c = record {
-  rule = NoneNamed;
+  rule = c.rule_of.result;
   profile = c.from.result.items;
   block = c.in_ok-texts_of.field-0.items;
   time = c.time.result;
@@ -22,23 +22,23 @@ claimed c = record {
 }
 
 abbrev own : goal.In_ok-tree → Parts
-own c = parts_under c.args.profile.now c.args.block.now (answer_of c.args.answer.now)
+own c = parts_under c.args.answer.now.rule c.args.profile.now c.args.block.now (answer_of c.args.answer.now)
 
 same : (c : goal.In_ok-tree) → claimed c ≡ own c
 same c =
     same-parts (claimed c) (own c) refl (search rules) (c.in_ok-texts_of.ensures.texts) c.time.ensures.value c.bound.ensures.value
     (c.in-Ok.ensures.0 ∙ c.numbers.ensures.value ∙ ap (λ (o : Ordered). o.numbers) c.order.ensures) c.in_ok-tree.ensures
 
-is : (c : goal.In_ok-tree) → IsAnswer (record { block = instrs_of c.args.block.now; profile = c.args.profile.now }) c.args.answer.now.budget (answer_of c.args.answer.now)
-is c = subst (λ (b : Problem). IsAnswer b c.args.answer.now.budget (answer_of c.args.answer.now)) c.requires c.time.ensures.answer
+is : (c : goal.In_ok-tree) → IsAnswer c.args.answer.now.rule (record { block = instrs_of c.args.block.now; profile = c.args.profile.now }) c.args.answer.now.budget (answer_of c.args.answer.now)
+is c = subst (λ (b : Problem). IsAnswer c.args.answer.now.rule b c.args.answer.now.budget (answer_of c.args.answer.now)) c.requires c.time.ensures.answer
 
 pub new-requires : goal.new-requires
 new-requires c =
     subst AreWhole (sym (same c))
-    (parts-whole c.args.profile.now c.args.block.now c.args.answer.now.budget (answer_of c.args.answer.now) (is c) (omega (arith, c.splits.ensures.value, c.splits.ensures.few))
+    (parts-whole c.args.answer.now.rule c.args.profile.now c.args.block.now c.args.answer.now.budget (answer_of c.args.answer.now) (is c) (omega (arith, c.splits.ensures.value, c.splits.ensures.few))
     (omega (arith, c.count.ensures.value, c.count.ensures.some)) (omega (arith, c.count.ensures.value, c.count.ensures.few)) c.in_ok-texts_of.ensures.spelled)
 
 pub returns : goal.returns
 returns c =
     ap document_of (c.new.ensures ∙ same c.before)
-    ∙ parts-document c.args.profile.now c.args.block.now c.args.answer.now.budget (answer_of c.args.answer.now) (is c.before)
+    ∙ parts-document c.args.answer.now.rule c.args.profile.now c.args.block.now c.args.answer.now.budget (answer_of c.args.answer.now) (is c.before)
