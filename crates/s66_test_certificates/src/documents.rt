@@ -5,3 +5,11 @@ pub const THREE_MULTIPLIES: &str =
 /// The document of one load.
 pub const ONE_LOAD: &str =
     "S66 CERTIFICATE 1\nPROFILE 3 3 4 4 3 10 29 8 3 8 1 1 1 1 2 1 2\nBLOCK 3\nI SA1 A1+B1\nI BX6 X1\nI BX7 X2\nTIME 12\nBOUND 12\nORDER 1 3 2\nC 1 2\nEND\n";
+
+/// A document of version 2: line 18 is a dominated leaf.
+pub const ONE_DOMINATED: &str =
+    "S66 CERTIFICATE 2\nPROFILE 3 3 4 4 3 10 29 8 3 8 1 1 1 1 2 1 2\nBLOCK 4\nI FX1 X2/X3\nI SX5 B1\nI BX4 X1\nI FX6 X7+X0\nTIME 33\nBOUND 33\nORDER 1 2 3 4\nS 1 2 4\nS 2 3 4\nS 3 4\nS 4\nT\nC 3\nS 2 4\nD 1 2 3\nS 2\nT\nC 3\nC 1 3\nC 1 3\nEND\n";
+
+/// A document of version 3, of three instructions that don't differ.
+pub const THREE_DOMINATED: &str =
+    "S66 CERTIFICATE 3\nPROFILE 3 3 4 4 3 10 29 8 3 8 1 1 1 1 2 1 2\nBLOCK 3\nI SB0 B1\nI SB0 B1\nI SB0 B1\nTIME 8\nBOUND 8\nORDER 1 2 3\nS 1 2 3\nS 2 3\nS 3\nT\nS 2\nT\nS 1 3\nD 1 2\nS 1\nT\nS 1 2\nD 1 3\nD 2 3\nEND\n";

@@ -6,6 +6,8 @@ mod commands;
 #[cfg(test)]
 mod documents;
 #[cfg(test)]
+mod dominated;
+#[cfg(test)]
 mod proofs;
 #[cfg(test)]
 mod verdicts;

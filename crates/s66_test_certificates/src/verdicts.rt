@@ -9,7 +9,7 @@ use std::test::Fail;
 use std::thread::Threads;
 
 /// The text with what stands in the place of its first part of this kind.
-fn altered<R: AllocGlobal>(rt: &R, text: &str, old: &str, new: &str) -> Result<String, AllocError> {
+pub(crate) fn altered<R: AllocGlobal>(rt: &R, text: &str, old: &str, new: &str) -> Result<String, AllocError> {
     let mut altered = String::new(rt.alloc());
     match text.split_once(old) {
         Some((front, back)) => {
@@ -67,7 +67,7 @@ const ALTERED_MULTIPLIES: &[(&str, &str, &str)] = &[
 ];
 
 /// Checks that altered documents are denied.
-fn check_denied<R: AllocGlobal + Abort + Threads + Wait + Sync>(
+pub(crate) fn check_denied<R: AllocGlobal + Abort + Threads + Wait + Sync>(
     rt: &R,
     document: &str,
     rows: &[(&str, &str, &str)],
@@ -140,7 +140,7 @@ const REFUSED: &[(&str, &str, CertError)] = &[
 ];
 
 /// Checks that a text is refused, and nothing is written.
-fn check_refused<R: AllocGlobal + Abort + Threads + Wait + Sync>(
+pub(crate) fn check_refused<R: AllocGlobal + Abort + Threads + Wait + Sync>(
     rt: &R,
     text: &str,
     refusal: CertError,
