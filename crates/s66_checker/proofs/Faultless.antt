@@ -10,11 +10,13 @@ use Rattle.s66_model.specs.Timing.{Problem}
 use Rattle.s66_model.specs.LegalOrder.{IsLegal, is_ready, is_remaining, ready, GoesOn, IsBeginning, IsIncomplete}
 use Rattle.s66_model.specs.Leaves.{Leaf, Whole, Chain, Load, Parcels, value, MayStand, IsWalk, IsChain, is_linked}
 use Rattle.s66_model.specs.Tree.{LeafShows, AtSplit}
+use Rattle.s66_cert.specs.Document.{Document}
 use Rattle.s66_model.proofs.LegalOrders.{order-legal, legal-order}
 use Rattle.s66_model.proofs.Beginnings.{beginning-front}
 use Rattle.s66_model.proofs.Remaining.{ready-among, step-begins}
 use Rattle.s66_checker.specs.declared.verdict.Reason.TheVariants as fault
-use Rattle.s66_checker.specs.Verdict.{goes_on, is_legal_order, is_walk, has_links, is_complete, is_at_its_place, leaf_fault, line_fault}
+use Rattle.s66_checker.specs.Dominating.{goes_on}
+use Rattle.s66_checker.specs.Verdict.{problem_of, is_legal_order, is_walk, has_links, is_complete, is_at_its_place, leaf_fault, line_fault}
 
 -- no fault where the test fails, and none behind it
 pub passed : {X : Type 0} (test : Bool) (fault later none : X) → (fault ≡ none → ⊥) → (cond test fault later ≡ none) ↔ ((test ≡ false) × (later ≡ none))
@@ -34,7 +36,7 @@ is_legal_order-Decides block order =
     (Decides-and (goes_on block [] order) (length order == length block) (goes_on-Decides block [] order) (eqb-true (length order) (length block), eq-eqb (length order) (length block)))
 
 -- a beginning that isn't complete is shorter than the block
-is_incomplete-Decides : (b : Problem) (prefix : List ℕ) → IsBeginning b.block prefix → Decides (not (is_complete b prefix)) (IsIncomplete b.block prefix)
+pub is_incomplete-Decides : (b : Problem) (prefix : List ℕ) → IsBeginning b.block prefix → Decides (not (is_complete b prefix)) (IsIncomplete b.block prefix)
 is_incomplete-Decides b prefix begins = (
   (λ h. (let (rest, legal) = beginning-front b.block prefix begins in
       let past : length prefix ≢ length b.block = λ e. true≢false (sym (eq-eqb (length prefix) (length b.block) e) ∙ not-true (is_complete b prefix) h) in
@@ -83,10 +85,10 @@ leaf-shows b bound prefix leaf begins =
 
 -- SPLITS
 
-pub split-shows : (b : Problem) (bound : ℕ) (prefix numbers : List ℕ) → (line_fault b bound prefix (AtSplit numbers) ≡ None) ↔ (numbers ≡ ready b.block prefix)
-split-shows b bound prefix numbers =
-    let same = bytes_eq-Decides numbers (ready b.block prefix) in
-    ((λ h. same.0 (is (bytes_eq numbers (ready b.block prefix)) h)), λ h. ap (λ t. cond t None (Some fault.Children)) (same.1 h))
+pub split-shows : (d : Document) (prefix numbers : List ℕ) → (line_fault d prefix (AtSplit numbers) ≡ None) ↔ (numbers ≡ ready (problem_of d).block prefix)
+split-shows d prefix numbers =
+    let same = bytes_eq-Decides numbers (ready (problem_of d).block prefix) in
+    ((λ h. same.0 (is (bytes_eq numbers (ready (problem_of d).block prefix)) h)), λ h. ap (λ t. cond t None (Some fault.Children)) (same.1 h))
   where
     is : (test : Bool) → cond test None (Some fault.Children) ≡ None → test ≡ true
     is true h = refl

@@ -4,7 +4,7 @@ use Rattle.std.proofs.lemmas.List.{append-nil, take-append-drop, take_all}
 use Rattle.s66_isa.specs.declared.instr.Instr.{Instr}
 use Rattle.s66_model.specs.LegalOrder.{GoesOn, IsBeginning}
 use Rattle.s66_model.proofs.LegalOrders.{GoesOn-append}
-use Rattle.s66_checker.specs.Verdict.{goes_on}
+use Rattle.s66_checker.specs.Dominating.{goes_on}
 
 -- what goes on to some numbers goes on to more as it does from there
 goes-further : (block : List Instr) (prefix xs ys : List ℕ) → GoesOn block prefix xs → goes_on block (prefix ++ xs) ys ≡ goes_on block prefix (xs ++ ys)

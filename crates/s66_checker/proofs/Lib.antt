@@ -20,3 +20,4 @@ pub mod GoingTo
 pub mod UnitsNoLater
 pub mod TwoPrefixes
 pub mod DominanceTests
+pub mod DominatedLines

@@ -6,8 +6,8 @@ use Rattle.s66_isa.specs.Lists.{Among}
 use Rattle.s66_model.specs.Timing.{Problem}
 use Rattle.s66_model.specs.LegalOrder.{is_ready, ready}
 use Rattle.s66_model.specs.Later.{IsNextReady, children, later}
-use Rattle.s66_model.specs.Leaves.{Leaf}
 use Rattle.s66_model.specs.Tree.{Knot, AtTip, AtSplit}
+use Rattle.s66_model.specs.DominatedLeaves.{Ending}
 use Rattle.s66_model.proofs.Later.{replaced, dropped, split-first}
 use Rattle.s66_model.proofs.Remaining.{ready-among}
 use Rattle.s66_cert.specs.Document.{Document}
@@ -41,7 +41,7 @@ first-of : (ns : List ℕ) (n : ℕ) → Some n ≡ slice_get ns 0 → (rest : L
 first-of [] n h = absurd (cc)
 first-of (m ∷ ns) n h = (ns, (cc))
 
-module _ (block : List Instr) (prefix : List ℕ) (knot : Knot Leaf) (numbers : List ℕ) (is : knot ≡ AtSplit numbers) (has : HasReady block prefix knot) where
+module _ (block : List Instr) (prefix : List ℕ) (knot : Knot Ending) (numbers : List ℕ) (is : knot ≡ AtSplit numbers) (has : HasReady block prefix knot) where
   ready-numbers : numbers ≡ ready block prefix
   ready-numbers = subst (λ k. HasReady block prefix k) is has
 
@@ -59,44 +59,39 @@ module _ (block : List Instr) (prefix : List ℕ) (knot : Knot Leaf) (numbers : 
 
 -- FROM LINE TO LINE
 
-module _ (d : Document) (number : ℕ) (at : Checked) (same : at.problem ≡ problem_of d) (bound : ℕ) (equal : bound ≡ d.bound) (lines knots : List (Knot Leaf)) (knot : Knot Leaf) (first : lines ≡ knot ∷ knots) (found : Option Reason) (told : found ≡ line_fault at.problem bound at.numbers knot) where
-  told-of : (other : Option Reason) → found ≡ other → line_fault (problem_of d) d.bound at.numbers knot ≡ other
-  told-of other is =
-      subst (λ (b : Problem). line_fault b d.bound at.numbers knot ≡ other) same
-      (subst (λ low. line_fault at.problem low at.numbers knot ≡ other) equal (sym told ∙ is))
-
+module _ (d : Document) (number : ℕ) (at : Checked) (same : at.problem ≡ problem_of d) (lines knots : List (Knot Ending)) (knot : Knot Ending) (first : lines ≡ knot ∷ knots) (found : Option Reason) (told : found ≡ line_fault d at.numbers knot) where
   -- a fault ends the walk
   pub line-refused : (reason : Reason) → found ≡ Some reason → No number reason ≡ lines_verdict d number (placed lines (coming (problem_of d).block true at.numbers))
   line-refused reason some =
-      by knot (told-of (Some reason) some) ∙ ap (λ ks. lines_verdict d number (placed ks (coming (problem_of d).block true at.numbers))) (sym first)
+      by knot (sym told ∙ some) ∙ ap (λ ks. lines_verdict d number (placed ks (coming (problem_of d).block true at.numbers))) (sym first)
     where
-      by : (k : Knot Leaf) → line_fault (problem_of d) d.bound at.numbers k ≡ Some reason → No number reason ≡ lines_verdict d number (placed (k ∷ knots) (coming (problem_of d).block true at.numbers))
-      by (AtTip leaf) h = rw h refl
+      by : (k : Knot Ending) → line_fault d at.numbers k ≡ Some reason → No number reason ≡ lines_verdict d number (placed (k ∷ knots) (coming (problem_of d).block true at.numbers))
+      by (AtTip ending) h = rw h refl
       by (AtSplit numbers) h = rw h refl
 
   module _ (none : found ≡ None) where
     pub split-ready : HasReady at.problem.block at.numbers knot
     split-ready = by knot (sym told ∙ none)
       where
-        by : (k : Knot Leaf) → line_fault at.problem bound at.numbers k ≡ None → HasReady at.problem.block at.numbers k
-        by (AtTip leaf) h = tt
-        by (AtSplit numbers) h = (split-shows at.problem bound at.numbers numbers).0 h
+        by : (k : Knot Ending) → line_fault d at.numbers k ≡ None → HasReady at.problem.block at.numbers k
+        by (AtTip ending) h = tt
+        by (AtSplit numbers) h = (split-shows d at.numbers numbers).0 h ∙ ap (λ (b : Problem). ready b.block at.numbers) (sym same)
 
     -- without a fault it goes on
     pub line-passed : (more other : Bool) (next : List ℕ) → coming at.problem.block more next ≡ after_line at.problem.block at.numbers knot → more ≡ other →
         lines_verdict d (number + 1) (placed knots (coming (problem_of d).block other next)) ≡ lines_verdict d number (placed lines (coming (problem_of d).block true at.numbers))
     line-passed more other next goes is =
-        by knot (told-of None none)
+        by knot (sym told ∙ none)
         (subst (λ (b : Problem). coming b.block other next ≡ after_line b.block at.numbers knot) same (ap (λ m. coming at.problem.block m next) (sym is) ∙ goes))
         ∙ ap (λ ks. lines_verdict d number (placed ks (coming (problem_of d).block true at.numbers))) (sym first)
       where
-        by : (k : Knot Leaf) → line_fault (problem_of d) d.bound at.numbers k ≡ None → coming (problem_of d).block other next ≡ after_line (problem_of d).block at.numbers k →
+        by : (k : Knot Ending) → line_fault d at.numbers k ≡ None → coming (problem_of d).block other next ≡ after_line (problem_of d).block at.numbers k →
             lines_verdict d (number + 1) (placed knots (coming (problem_of d).block other next)) ≡ lines_verdict d number (placed (k ∷ knots) (coming (problem_of d).block true at.numbers))
-        by (AtTip leaf) h e = let one : number + 1 ≡ suc number = omega arith in rw (h, e, one) refl
+        by (AtTip ending) h e = let one : number + 1 ≡ suc number = omega arith in rw (h, e, one) refl
         by (AtSplit numbers) h e = let one : number + 1 ≡ suc number = omega arith in rw (h, e, one) refl
 
 -- nothing is left to come
-pub none-left : (d : Document) (number time bound : ℕ) (knots : List (Knot Leaf)) (prefixes : List (List ℕ)) → time ≡ d.time → bound ≡ d.bound → (knots ≡ []) ⊎ (prefixes ≡ []) →
+pub none-left : (d : Document) (number time bound : ℕ) (knots : List (Knot Ending)) (prefixes : List (List ℕ)) → time ≡ d.time → bound ≡ d.bound → (knots ≡ []) ⊎ (prefixes ≡ []) →
     Yes time bound ≡ lines_verdict d number (placed knots prefixes)
 none-left d number time bound knots prefixes same equal none =
     rw (same, equal) (elim none [
@@ -106,7 +101,7 @@ none-left d number time bound knots prefixes same equal none =
 
 -- THE FIRST LINE
 
-module _ (p : Parts) (whole : AreWhole p) (start : Checked) (at : start ≡ record { problem = problem_of (document_of p); numbers = [] }) (count : ℕ) (counted : count ≡ length start.problem.block) (lines : List (Knot Leaf)) (all : lines ≡ p.knots) where
+module _ (p : Parts) (whole : AreWhole p) (start : Checked) (at : start ≡ record { problem = problem_of (document_of p); numbers = [] }) (count : ℕ) (counted : count ≡ length start.problem.block) (lines : List (Knot Ending)) (all : lines ≡ p.knots) where
   d : Document
   d = document_of p
 
@@ -124,4 +119,4 @@ module _ (p : Parts) (whole : AreWhole p) (start : Checked) (at : start ≡ reco
   pub walk-ends : count + 7 + length lines ≤ BLOCK_LIMIT + 8 + SPLIT_LIMIT * BLOCK_LIMIT
   unfolding d
   walk-ends =
-      omega (arith, at-line, whole.document.block.1, few-lines BLOCK_LIMIT d.tree whole.document.tree, whole.document.splits, ap (λ (ks : List (Knot Leaf)). length ks) (all ∙ sym whole.preorder))
+      omega (arith, at-line, whole.document.block.1, few-lines BLOCK_LIMIT d.tree whole.document.tree, whole.document.splits, ap (λ (ks : List (Knot Ending)). length ks) (all ∙ sym whole.preorder))

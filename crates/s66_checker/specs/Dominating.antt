@@ -1,5 +1,5 @@
 -- To be believed: whether one beginning dominates another by a rule, as a test that can be computed: the same of numbers, registers and units one by one.
-use Rattle.std.specs.Prelude.{ℕ, ◌==◌, ◌&&◌, Bool, false, max, List, [], get_or, nat_le}
+use Rattle.std.specs.Prelude.{ℕ, ◌==◌, ◌&&◌, Bool, true, false, max, List, [], ◌∷◌, ◌++◌, get_or, nat_le}
 use Rattle.s66_isa.specs.declared.instr.Instr.{Instr}
 use Rattle.s66_isa.specs.declared.profile.Profile.{Profile}
 use Rattle.s66_isa.specs.declared.reg.Reg.{Reg}
@@ -9,8 +9,8 @@ use Rattle.s66_isa.specs.Table.{copies_of, all_kinds}
 use Rattle.s66_model.specs.declared.rule.Rule.{Rule}
 use Rattle.s66_model.specs.declared.rule.Rule.TheVariants.{NoneNamed, WrittenEarlier, ClampedStanding}
 use Rattle.s66_model.specs.Timing.{Problem, Point, points_of, next, done_of, readers_wait, total_of}
+use Rattle.s66_model.specs.LegalOrder.{is_ready}
 use Rattle.s66_model.specs.Dominance.{place_in_word, references_wait, stores_wait, free_times, Clamp, no_clamp, clamp_at}
-use Rattle.s66_checker.specs.Verdict.{goes_on}
 
 -- NO LATER: the points q than the points p, or than the clamps
 
@@ -37,7 +37,12 @@ is_no_later profile c q p =
     && nat_le (references_wait q) (max (references_wait p) c.others)
     && nat_le (stores_wait q) (max (stores_wait p) c.others)
 
--- OF ONE SET
+-- BEGINNINGS OF ONE SET
+
+-- each of these numbers is ready when it comes after the prefix
+abbrev pub goes_on : List Instr → List ℕ → List ℕ → Bool
+goes_on block prefix [] = true
+goes_on block prefix (n ∷ ns) = is_ready block prefix n && goes_on block (prefix ++ n ∷ []) ns
 
 abbrev pub is_same_set : List ℕ → List ℕ → Bool
 is_same_set other prefix = every (λ n. has n prefix) other && every (λ n. has n other) prefix

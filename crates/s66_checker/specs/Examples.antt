@@ -1,12 +1,15 @@
 -- Used by examples alone: worked documents with a part changed.
-use Rattle.std.specs.Prelude.{ℕ, List, [], ◌∷◌}
+use Rattle.std.specs.Prelude.{ℕ, List, [], ◌∷◌, codes}
 use Rattle.s66_isa.specs.Profiles.{profile_of}
 use Rattle.s66_isa.specs.Table.{instr}
 use Rattle.s66_model.specs.Timing.{Problem}
-use Rattle.s66_model.specs.Leaves.{Leaf, Whole, Parcels}
-use Rattle.s66_model.specs.Tree.{Alone, Parted, Kids, NoMore, Unsplit, Split}
+use Rattle.s66_model.specs.declared.rule.Rule.{Rule}
+use Rattle.s66_model.specs.Leaves.{Leaf, Whole, Chain, Parcels}
+use Rattle.s66_model.specs.Tree.{Tree, Alone, Parted, Kids, NoMore, Unsplit, Split}
+use Rattle.s66_model.specs.DominatedLeaves.{Ending, Bounding, Dominated}
+use Rattle.s66_model.specs.Examples.{late_reader_tree, increments_load}
 use Rattle.s66_cert.specs.Document.{Document}
-use Rattle.s66_cert.specs.Examples.{one_load, three_multiplies, after_one}
+use Rattle.s66_cert.specs.Examples.{standard_numbers, one_load, three_multiplies, after_one, late_reader}
 
 -- ONE LOAD WITH MORE THAN ONE FAULT
 
@@ -25,7 +28,7 @@ abbrev pub three_units : List ℕ
 three_units = 3 ∷ 3 ∷ 4 ∷ 4 ∷ 3 ∷ 10 ∷ 29 ∷ 8 ∷ 3 ∷ 8 ∷ 1 ∷ 1 ∷ 1 ∷ 1 ∷ 3 ∷ 1 ∷ 2 ∷ []
 
 abbrev pub multiplies_at_once : ℕ → Document
-multiplies_at_once bound = record three_multiplies { profile = three_units; time = 13; bound = bound; tree = Alone Parcels }
+multiplies_at_once bound = record three_multiplies { profile = three_units; time = 13; bound = bound; tree = Alone (Bounding Parcels) }
 
 -- SA1 A1+B1 / FX4 X5*X6 / FX0 X7*X7 / FX1 X2*X3 under it
 abbrev pub load_and_multiplies : Problem
@@ -36,18 +39,78 @@ load_and_multiplies = record {
 
 -- THREE MULTIPLIES WITH ANOTHER TREE, the first line of which is line 10
 
-abbrev pub multiplies_split : List ℕ → Kids Leaf → Document
+abbrev pub multiplies_split : List ℕ → Kids Ending → Document
 multiplies_split numbers kids = record three_multiplies { tree = Parted numbers kids }
 
 -- what stands after 1
-abbrev pub second_line : (Kids Leaf → Kids Leaf) → Document
+abbrev pub second_line : (Kids Ending → Kids Ending) → Document
 second_line kid = multiplies_split (1 ∷ 2 ∷ 3 ∷ []) (kid (after_one 1 3 (after_one 1 2 NoMore)))
 
 -- what stands after 1 and 2
-abbrev pub third_line : (Kids Leaf → Kids Leaf) → Document
-third_line kid = second_line (Split (2 ∷ 3 ∷ []) (kid (Split (2 ∷ []) (Unsplit Whole NoMore) NoMore)))
+abbrev pub third_line : (Kids Ending → Kids Ending) → Document
+third_line kid = second_line (Split (2 ∷ 3 ∷ []) (kid (Split (2 ∷ []) (Unsplit (Bounding Whole) NoMore) NoMore)))
 
 -- what stands after 3, 2 and 1
 abbrev pub last_leaf : Leaf → Document
 last_leaf leaf =
-    multiplies_split (1 ∷ 2 ∷ 3 ∷ []) (after_one 2 3 (after_one 1 3 (Split (1 ∷ 2 ∷ []) (Split (2 ∷ []) (Unsplit Whole NoMore) (Split (1 ∷ []) (Unsplit leaf NoMore) NoMore)) NoMore)))
+    multiplies_split (1 ∷ 2 ∷ 3 ∷ []) (after_one 2 3 (after_one 1 3 (Split (1 ∷ 2 ∷ []) (Split (2 ∷ []) (Unsplit (Bounding Whole) NoMore) (Split (1 ∷ []) (Unsplit (Bounding leaf) NoMore) NoMore)) NoMore)))
+
+-- LATE READER WITH ANOTHER TREE, the first line of which is line 11
+
+-- 1 3 2 names this node, and 1 4 is as given
+abbrev pub late_naming : Rule → List ℕ → Kids Ending → Document
+late_naming rule name fourth = record (late_reader rule) { tree = late_reader_tree name fourth }
+
+abbrev pub third_bounding : Kids Ending → Kids Ending
+third_bounding kids = Unsplit (Bounding (Chain (3 ∷ []))) kids
+
+-- 1 2 3 4 names itself
+abbrev pub late_order : Rule → Document
+late_order rule = record (late_reader rule) {
+  tree =
+      Parted (1 ∷ 2 ∷ 4 ∷ [])
+      (Split (2 ∷ 3 ∷ 4 ∷ [])
+      (Split (3 ∷ 4 ∷ []) (Split (4 ∷ []) (Unsplit (Dominated (1 ∷ 2 ∷ 3 ∷ 4 ∷ [])) NoMore) (third_bounding NoMore)) (third_bounding (third_bounding NoMore)))
+      (third_bounding (third_bounding NoMore)));
+}
+
+-- 1 3 2 names 2 3 1, which is a node behind it: but 3 can't go before 1
+abbrev pub late_misplaced : Rule → Document
+late_misplaced rule = record (late_reader rule) {
+  tree =
+      Parted (1 ∷ 2 ∷ 4 ∷ [])
+      (Split (2 ∷ 3 ∷ 4 ∷ [])
+      (third_bounding (Split (2 ∷ 4 ∷ []) (Unsplit (Dominated (2 ∷ 3 ∷ 1 ∷ [])) (Unsplit (Bounding (Chain (2 ∷ []))) NoMore)) (third_bounding NoMore)))
+      (Split (3 ∷ []) (Split (1 ∷ []) (Unsplit (Bounding Parcels) NoMore) NoMore) (third_bounding NoMore)));
+}
+
+-- INCREMENTS, all alike, so that each beginning dominates all of its set
+
+abbrev pub increments : Rule → Tree Ending → Document
+increments rule tree = record {
+  rule = rule;
+  profile = standard_numbers;
+  block = codes "SB0 B1" ∷ codes "SB0 B1" ∷ codes "SB0 B1" ∷ [];
+  time = 8;
+  bound = 7;
+  numbers = 1 ∷ 2 ∷ 3 ∷ [];
+  tree = tree;
+}
+
+-- of four: 1 3 2 names 1 2 3, and 2 1 3 names 1 3 2
+abbrev pub four_increments : Rule → Document
+four_increments rule = record {
+  rule = rule;
+  profile = standard_numbers;
+  block = codes "SB0 B1" ∷ codes "SB0 B1" ∷ codes "SB0 B1" ∷ codes "SB0 B1" ∷ [];
+  time = 9;
+  bound = 9;
+  numbers = 1 ∷ 2 ∷ 3 ∷ 4 ∷ [];
+  tree =
+      Parted (1 ∷ 2 ∷ 3 ∷ 4 ∷ [])
+      (Split (2 ∷ 3 ∷ 4 ∷ [])
+      (Split (3 ∷ 4 ∷ []) (Unsplit increments_load (Unsplit increments_load NoMore)) (Split (2 ∷ 4 ∷ []) (Unsplit (Dominated (1 ∷ 2 ∷ 3 ∷ [])) (Unsplit increments_load NoMore)) (Unsplit increments_load NoMore)))
+      (Split (1 ∷ 3 ∷ 4 ∷ [])
+      (Split (3 ∷ 4 ∷ []) (Unsplit (Dominated (1 ∷ 3 ∷ 2 ∷ [])) (Unsplit increments_load NoMore)) (Unsplit increments_load (Unsplit increments_load NoMore)))
+      (Unsplit increments_load (Unsplit increments_load NoMore))));
+}

@@ -1,6 +1,6 @@
 pub mod Reasons
-pub mod Verdict
 pub mod Dominating
+pub mod Verdict
 pub mod TrueClaims
 pub mod Checked
 pub mod Walk

@@ -2,13 +2,13 @@
 use Rattle.std.specs.Prelude.{◌≡◌, ◌≤◌, []}
 use Rattle.s66_model.specs.Timing.{total_of}
 use Rattle.s66_model.specs.LegalOrder.{IsLegal}
-use Rattle.s66_model.specs.Tree.{Shows}
+use Rattle.s66_model.specs.DominatedLeaves.{ShowsBy}
 use Rattle.s66_cert.specs.Document.{Document}
 use Rattle.s66_checker.specs.Verdict.{problem_of}
 
--- under its own profile its order is legal and takes its time, and its tree shows its bound, which isn't above the time
+-- under its own profile its order is legal and takes its time, and its tree shows its bound by its rule, which isn't above the time
 pub record IsTrueClaim (d : Document) : Type 0 where
   pub legal : IsLegal (problem_of d).block d.numbers
   pub time : total_of (problem_of d) d.numbers ≡ d.time
   pub bound : d.bound ≤ d.time
-  pub tree : Shows (problem_of d) d.bound [] d.tree
+  pub tree : ShowsBy d.rule (problem_of d) d.bound [] d.tree

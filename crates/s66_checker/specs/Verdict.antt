@@ -1,18 +1,23 @@
 -- To be believed: the verdict on a document: yes, or its first fault.
-use Rattle.std.specs.Prelude.{ℕ, suc, ◌+◌, ◌==◌, ◌&&◌, if◌then◌else◌, Bool, true, false, not, List, [], ◌∷◌, ◌++◌, Option, None, Some, length, map, nat_lt}
+use Rattle.std.specs.Prelude.{ℕ, suc, ◌+◌, ◌==◌, ◌&&◌, ◌||◌, if◌then◌else◌, Bool, true, false, not, List, [], ◌∷◌, ◌++◌, Option, None, Some, length, map, nat_lt}
 use Rattle.std.specs.Str.{bytes_eq}
 use Rattle.s66_isa.specs.declared.instr.Instr.{Instr}
 use Rattle.s66_isa.specs.Profiles.{profile_of}
 use Rattle.s66_line.specs.InstructionText.{instr_in_text}
+use Rattle.s66_model.specs.declared.rule.Rule.{Rule}
+use Rattle.s66_model.specs.declared.rule.Rule.TheVariants.{NoneNamed, WrittenEarlier, ClampedStanding}
 use Rattle.s66_model.specs.Timing.{Problem, total_of}
-use Rattle.s66_model.specs.LegalOrder.{is_ready, is_remaining, ready}
+use Rattle.s66_model.specs.LegalOrder.{is_remaining, ready}
 use Rattle.s66_model.specs.Leaves.{Leaf, Whole, Chain, Load, Parcels, value, is_linked}
 use Rattle.s66_model.specs.Tree.{Tree, Alone, Parted, Kids, NoMore, Unsplit, Split, Knot, AtTip, AtSplit}
+use Rattle.s66_model.specs.NodeNames.{node_at}
+use Rattle.s66_model.specs.DominatedLeaves.{Ending, Bounding, Dominated, may_be_named}
 use Rattle.s66_cert.specs.Document.{Document}
 use Rattle.s66_checker.specs.declared.verdict.Verdict.{Verdict}
 use Rattle.s66_checker.specs.declared.verdict.Verdict.TheVariants.{Yes, No}
 use Rattle.s66_checker.specs.declared.verdict.Reason.{Reason}
 use Rattle.s66_checker.specs.declared.verdict.Reason.TheVariants as fault
+use Rattle.s66_checker.specs.Dominating.{is_beginning, is_same_set, dominates_by}
 
 -- ITS BLOCK, under its own profile
 
@@ -21,25 +26,20 @@ problem_of d = record { block = map instr_in_text d.block; profile = profile_of 
 
 -- ITS ORDER
 
--- each of these numbers is ready when it comes after the prefix
-abbrev pub goes_on : List Instr → List ℕ → List ℕ → Bool
-goes_on block prefix [] = true
-goes_on block prefix (n ∷ ns) = is_ready block prefix n && goes_on block (prefix ++ n ∷ []) ns
-
 abbrev pub is_legal_order : List Instr → List ℕ → Bool
-is_legal_order block order = goes_on block [] order && length order == length block
+is_legal_order block order = is_beginning block order && length order == length block
 
 -- THE LINES OF ITS TREE in preorder, each with its prefix
 
-abbrev pub kids_placed : List ℕ → List ℕ → Kids Leaf → List (List ℕ × Knot Leaf)
+abbrev pub kids_placed : List ℕ → List ℕ → Kids Ending → List (List ℕ × Knot Ending)
 kids_placed prefix [] kids = []
 kids_placed prefix (n ∷ ns) NoMore = []
-kids_placed prefix (n ∷ ns) (Unsplit leaf kids) = (prefix ++ n ∷ [], AtTip leaf) ∷ kids_placed prefix ns kids
+kids_placed prefix (n ∷ ns) (Unsplit ending kids) = (prefix ++ n ∷ [], AtTip ending) ∷ kids_placed prefix ns kids
 kids_placed prefix (n ∷ ns) (Split numbers sub kids) =
     (prefix ++ n ∷ [], AtSplit numbers) ∷ (kids_placed (prefix ++ n ∷ []) numbers sub ++ kids_placed prefix ns kids)
 
-abbrev pub tree_placed : List ℕ → Tree Leaf → List (List ℕ × Knot Leaf)
-tree_placed prefix (Alone leaf) = (prefix, AtTip leaf) ∷ []
+abbrev pub tree_placed : List ℕ → Tree Ending → List (List ℕ × Knot Ending)
+tree_placed prefix (Alone ending) = (prefix, AtTip ending) ∷ []
 tree_placed prefix (Parted numbers kids) = (prefix, AtSplit numbers) ∷ kids_placed prefix numbers kids
 
 -- FAULTS OF A LEAF
@@ -74,12 +74,42 @@ leaf_fault b bound prefix leaf =
     else (if nat_lt (value b prefix leaf) bound then Some fault.Value
     else None))
 
+-- FAULTS OF A DOMINATED LEAF
+
+-- smaller at the first place where they differ
+abbrev pub is_earlier : List ℕ → List ℕ → Bool
+is_earlier [] ms = false
+is_earlier (n ∷ ns) [] = false
+is_earlier (n ∷ ns) (m ∷ ms) = nat_lt n m || (n == m && is_earlier ns ms)
+
+-- it stands where the rule wants it: before the prefix as written, else anywhere
+abbrev pub is_on_its_side : Rule → List ℕ → List ℕ → Bool
+is_on_its_side NoneNamed name at = true
+is_on_its_side WrittenEarlier name at = is_earlier name at
+is_on_its_side ClampedStanding name at = true
+
+-- of a node that the rule lets it name, over the same set of numbers
+abbrev pub is_name : Document → List ℕ → List ℕ → Bool
+is_name d at name =
+    may_be_named d.rule (node_at [] d.tree name)
+    && is_on_its_side d.rule name at
+    && is_beginning (problem_of d).block name
+    && is_same_set name at
+
+abbrev pub dominated_fault : Document → List ℕ → List ℕ → Option Reason
+dominated_fault d at name =
+    if is_complete (problem_of d) at then Some fault.Place
+    else (if not (is_name d at name) then Some fault.Name
+    else (if not (dominates_by d.rule (problem_of d) name at) then Some fault.Dominance
+    else None))
+
 -- FAULTS OF A LINE
 
 -- a split's children are exactly the ready numbers, rising
-abbrev pub line_fault : Problem → ℕ → List ℕ → Knot Leaf → Option Reason
-line_fault b bound prefix (AtSplit numbers) = if bytes_eq numbers (ready b.block prefix) then None else Some fault.Children
-line_fault b bound prefix (AtTip leaf) = leaf_fault b bound prefix leaf
+abbrev pub line_fault : Document → List ℕ → Knot Ending → Option Reason
+line_fault d at (AtSplit numbers) = if bytes_eq numbers (ready (problem_of d).block at) then None else Some fault.Children
+line_fault d at (AtTip (Bounding leaf)) = leaf_fault (problem_of d) d.bound at leaf
+line_fault d at (AtTip (Dominated name)) = dominated_fault d at name
 
 -- THE VERDICT, with the number of the line, from 1
 
@@ -88,9 +118,9 @@ unless line None later = later
 unless line (Some reason) later = No line reason
 
 -- of these lines, the first of which has this number
-abbrev pub lines_verdict : Document → ℕ → List (List ℕ × Knot Leaf) → Verdict
+abbrev pub lines_verdict : Document → ℕ → List (List ℕ × Knot Ending) → Verdict
 lines_verdict d line [] = Yes d.time d.bound
-lines_verdict d line (at ∷ later) = unless line (line_fault (problem_of d) d.bound at.0 at.1) (lines_verdict d (suc line) later)
+lines_verdict d line (at ∷ later) = unless line (line_fault d at.0 at.1) (lines_verdict d (suc line) later)
 
 -- a header, PROFILE, BLOCK, the instructions, TIME, BOUND, ORDER, and then the tree
 abbrev pub time_line : Document → ℕ

@@ -64,7 +64,8 @@ pub fn verify(document: &Document) -> Verdict
 {
     let block = instructions_of(document.block());
     let count = block.len() as u32;
-    let mut prefix = Prefix::new(block.as_slice(), &profile_of(document));
+    let profile = profile_of(document);
+    let mut prefix = Prefix::new(block.as_slice(), &profile);
     let Some(total) = legal_total(&mut prefix, document.order()) else {
         return Verdict::No {
             line: count + 6,
@@ -84,5 +85,6 @@ pub fn verify(document: &Document) -> Verdict
         };
     }
     prefix.clear();
-    tree_verdict(document, prefix)
+    let named = Prefix::new(block.as_slice(), &profile);
+    tree_verdict(document, prefix, named)
 }

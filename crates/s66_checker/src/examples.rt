@@ -4,16 +4,17 @@
 ghost use Rattle.std.specs.Prelude.{[], ◌∷◌, ◌≡◌, true, false};
 ghost use Rattle.s66_isa.specs.declared.instr.Kind.TheVariants.{Boolean, Multiply};
 ghost use Rattle.s66_model.specs.declared.rule.Rule.TheVariants.{NoneNamed, WrittenEarlier, ClampedStanding};
-ghost use Rattle.s66_model.specs.Examples.{standard_problem, late_reader, three_increments, packing_gap, two_gaps, booleans_and_sets, late_result, later_gap};
+ghost use Rattle.s66_model.specs.Examples.{standard_problem, late_reader, three_increments, packing_gap, two_gaps, booleans_and_sets, late_result, later_gap, fourth_bounding, fourth_split, increments_tree, increments_load};
 ghost use Rattle.s66_model.specs.Leaves.{Whole, Chain, Load, Parcels};
 ghost use Rattle.s66_model.specs.Tree.{Alone, Parted, NoMore, Unsplit, Split};
+ghost use Rattle.s66_model.specs.DominatedLeaves.{Bounding, Dominated};
 ghost use Rattle.s66_cert.specs.Examples as examples;
-ghost use Rattle.s66_cert.specs.Examples.{after_one, with_times, with_order, with_chain, with_tree};
+ghost use Rattle.s66_cert.specs.Examples.{after_one, with_times, with_order, with_chain, with_tree, with_name};
 ghost use Rattle.s66_checker.specs.declared.verdict.Verdict.TheVariants.{Yes, No};
 ghost use Rattle.s66_checker.specs.declared.verdict.Reason.TheVariants as fault;
 ghost use Rattle.s66_checker.specs.Verdict.{verdict};
 ghost use Rattle.s66_checker.specs.Dominating.{dominates_by};
-ghost use Rattle.s66_checker.specs.Examples.{refused_order, slow_one_load, multiplies_at_once, load_and_multiplies, multiplies_split, second_line, third_line, last_leaf};
+ghost use Rattle.s66_checker.specs.Examples.{refused_order, slow_one_load, multiplies_at_once, load_and_multiplies, multiplies_split, second_line, third_line, last_leaf, late_naming, late_order, late_misplaced, increments, four_increments};
 
 /// Verdicts on the worked documents: a leaf of each kind, and whole orders alone.
 pub fn verdict_examples()
@@ -53,26 +54,51 @@ pub fn leaf_examples()
     ensures chain_of_a_number_too_great { verdict (with_chain (4 ∷ [])) ≡ No 10 fault.Chain }
     ensures chain_of_nothing { verdict (with_chain []) ≡ No 10 fault.Chain }
     ensures chain_below_the_bound { verdict (with_chain (2 ∷ [])) ≡ No 10 fault.Value }
-    ensures load_below_the_bound { verdict (with_tree (Alone (Load Boolean))) ≡ No 10 fault.Value }
-    ensures parcels_below_the_bound { verdict (with_tree (Alone Parcels)) ≡ No 10 fault.Value }
-    ensures whole_order_too_soon { verdict (with_tree (Alone Whole)) ≡ No 10 fault.Place }
-    ensures child_not_ready { verdict (with_tree (Parted (1 ∷ 2 ∷ 3 ∷ []) (Unsplit Parcels (Unsplit Parcels (Unsplit Parcels NoMore))))) ≡ No 10 fault.Children }
+    ensures load_below_the_bound { verdict (with_tree (Alone (Bounding (Load Boolean)))) ≡ No 10 fault.Value }
+    ensures parcels_below_the_bound { verdict (with_tree (Alone (Bounding Parcels))) ≡ No 10 fault.Value }
+    ensures whole_order_too_soon { verdict (with_tree (Alone (Bounding Whole))) ≡ No 10 fault.Place }
+    ensures child_not_ready { verdict (with_tree (Parted (1 ∷ 2 ∷ 3 ∷ []) (Unsplit (Bounding Parcels) (Unsplit (Bounding Parcels) (Unsplit (Bounding Parcels) NoMore))))) ≡ No 10 fault.Children }
 {}
 
 /// Verdicts on documents of three multiplies with another tree.
 pub fn split_examples()
     ensures child_omitted { verdict (multiplies_split (1 ∷ 2 ∷ []) (after_one 2 3 (after_one 1 3 NoMore))) ≡ No 10 fault.Children }
     ensures children_not_rising { verdict (multiplies_split (1 ∷ 3 ∷ 2 ∷ []) (after_one 2 3 (after_one 1 3 (after_one 1 2 NoMore)))) ≡ No 10 fault.Children }
-    ensures child_below_omitted { verdict (second_line (Split (2 ∷ []) (Unsplit Whole NoMore))) ≡ No 11 fault.Children }
-    ensures chain_of_a_placed_number { verdict (third_line (Unsplit (Chain (1 ∷ [])))) ≡ No 12 fault.Chain }
-    ensures chain_below_the_bound { verdict (third_line (Unsplit (Chain (3 ∷ [])))) ≡ No 12 fault.Value }
-    ensures load_below_the_bound { verdict (third_line (Unsplit (Load Multiply))) ≡ No 12 fault.Value }
-    ensures whole_order_too_soon { verdict (third_line (Unsplit Whole)) ≡ No 12 fault.Place }
-    ensures parcels_at_a_whole_order { verdict (third_line (Split (3 ∷ []) (Unsplit Parcels NoMore))) ≡ No 13 fault.Place }
-    ensures load_at_a_whole_order { verdict (third_line (Split (3 ∷ []) (Unsplit (Load Multiply) NoMore))) ≡ No 13 fault.Place }
-    ensures chain_at_a_whole_order { verdict (third_line (Split (3 ∷ []) (Unsplit (Chain (3 ∷ [])) NoMore))) ≡ No 13 fault.Place }
-    ensures split_of_a_whole_order { verdict (third_line (Split (3 ∷ []) (Split (1 ∷ []) (Unsplit Whole NoMore) NoMore))) ≡ No 13 fault.Children }
+    ensures child_below_omitted { verdict (second_line (Split (2 ∷ []) (Unsplit (Bounding Whole) NoMore))) ≡ No 11 fault.Children }
+    ensures chain_of_a_placed_number { verdict (third_line (Unsplit (Bounding (Chain (1 ∷ []))))) ≡ No 12 fault.Chain }
+    ensures chain_below_the_bound { verdict (third_line (Unsplit (Bounding (Chain (3 ∷ []))))) ≡ No 12 fault.Value }
+    ensures load_below_the_bound { verdict (third_line (Unsplit (Bounding (Load Multiply)))) ≡ No 12 fault.Value }
+    ensures whole_order_too_soon { verdict (third_line (Unsplit (Bounding Whole))) ≡ No 12 fault.Place }
+    ensures parcels_at_a_whole_order { verdict (third_line (Split (3 ∷ []) (Unsplit (Bounding Parcels) NoMore))) ≡ No 13 fault.Place }
+    ensures load_at_a_whole_order { verdict (third_line (Split (3 ∷ []) (Unsplit (Bounding (Load Multiply)) NoMore))) ≡ No 13 fault.Place }
+    ensures chain_at_a_whole_order { verdict (third_line (Split (3 ∷ []) (Unsplit (Bounding (Chain (3 ∷ []))) NoMore))) ≡ No 13 fault.Place }
+    ensures split_of_a_whole_order { verdict (third_line (Split (3 ∷ []) (Split (1 ∷ []) (Unsplit (Bounding Whole) NoMore) NoMore))) ≡ No 13 fault.Children }
     ensures last_line { verdict (last_leaf Parcels) ≡ No 25 fault.Place }
+{}
+
+/// Verdicts on documents with dominated leaves: which names are taken, and whether the node dominates.
+pub fn dominated_examples()
+    ensures late_reader { verdict (examples.late_reader WrittenEarlier) ≡ Yes 33 33 }
+    ensures late_reader_clamped { verdict (examples.late_reader ClampedStanding) ≡ Yes 33 33 }
+    ensures none_named { verdict (examples.late_reader NoneNamed) ≡ No 18 fault.Name }
+    ensures itself { verdict (late_naming WrittenEarlier (1 ∷ 3 ∷ 2 ∷ []) fourth_bounding) ≡ No 18 fault.Name }
+    ensures itself_clamped { verdict (late_naming ClampedStanding (1 ∷ 3 ∷ 2 ∷ []) fourth_bounding) ≡ No 18 fault.Name }
+    ensures another_set { verdict (late_naming WrittenEarlier (1 ∷ 2 ∷ 4 ∷ []) fourth_bounding) ≡ No 18 fault.Name }
+    ensures another_set_clamped { verdict (late_naming ClampedStanding (1 ∷ 2 ∷ 4 ∷ []) fourth_bounding) ≡ No 18 fault.Name }
+    ensures a_part_of_the_set { verdict (late_naming ClampedStanding (1 ∷ 2 ∷ []) fourth_bounding) ≡ No 18 fault.Name }
+    ensures no_node { verdict (late_naming ClampedStanding (2 ∷ 1 ∷ 3 ∷ []) fourth_bounding) ≡ No 18 fault.Name }
+    ensures no_number_of_the_block { verdict (with_name ClampedStanding (128 ∷ [])) ≡ No 10 fault.Name }
+    ensures node_is_no_beginning { verdict (late_misplaced ClampedStanding) ≡ No 15 fault.Name }
+    ensures whole_order { verdict (late_order WrittenEarlier) ≡ No 15 fault.Place }
+    ensures whole_order_clamped { verdict (late_order ClampedStanding) ≡ No 15 fault.Place }
+    ensures not_dominated { verdict (late_naming WrittenEarlier (1 ∷ 2 ∷ 3 ∷ []) fourth_split) ≡ No 22 fault.Dominance }
+    ensures not_dominated_clamped { verdict (late_naming ClampedStanding (1 ∷ 2 ∷ 3 ∷ []) fourth_split) ≡ No 22 fault.Dominance }
+    ensures named_before { verdict (increments WrittenEarlier (increments_tree increments_load (Dominated (1 ∷ 2 ∷ [])))) ≡ Yes 8 7 }
+    ensures named_behind { verdict (increments ClampedStanding (increments_tree (Dominated (2 ∷ 1 ∷ [])) increments_load)) ≡ Yes 8 7 }
+    ensures not_named_behind { verdict (increments WrittenEarlier (increments_tree (Dominated (2 ∷ 1 ∷ [])) increments_load)) ≡ No 12 fault.Name }
+    ensures each_by_the_other { verdict (increments ClampedStanding (increments_tree (Dominated (2 ∷ 1 ∷ [])) (Dominated (1 ∷ 2 ∷ [])))) ≡ No 12 fault.Name }
+    ensures dominated_is_named { verdict (four_increments WrittenEarlier) ≡ Yes 9 9 }
+    ensures dominated_is_not_named { verdict (four_increments ClampedStanding) ≡ No 22 fault.Name }
 {}
 
 /// Which beginnings dominate which, by the tests.

@@ -6,29 +6,42 @@ ghost use Rattle.s66_isa.specs.declared.limits.TheConstants.{BLOCK_LIMIT};
 ghost use Rattle.s66_model.specs.LegalOrder.{ready};
 ghost use Rattle.s66_model.specs.Leaves.{Whole, Chain, Load, Parcels};
 ghost use Rattle.s66_checker.specs.declared.verdict.Reason.TheVariants as fault;
-ghost use Rattle.s66_checker.specs.Verdict.{is_complete, leaf_fault};
+ghost use Rattle.s66_cert.specs.DocumentParts.{document_of};
+ghost use Rattle.s66_checker.specs.Verdict.{problem_of, is_complete, leaf_fault, dominated_fault};
 
 use crate::leaf::{chain_value, load, parcels, ready};
+use crate::name::is_name;
 use crate::prefix::Prefix;
 use crate::verdict::Reason;
-use s66_cert::TreeLine;
+use s66_cert::{Document, TreeLine};
 use s66_isa::Kind;
 
 impl Prefix {
     ghost use Rattle.std.specs.Prelude.{◌≡◌};
-    ghost use Rattle.s66_cert.specs.DocumentParts.{knot_of};
-    ghost use Rattle.s66_checker.specs.Verdict.{line_fault};
+    ghost use Rattle.s66_cert.specs.DocumentParts.{document_of, knot_of};
+    ghost use Rattle.s66_checker.specs.Verdict.{problem_of, line_fault};
 
-    /// What is wrong with a line of a tree that stands at the prefix, where anything is: a leaf's value is to reach the bound.
-    pub(crate) fn fault(&self, bound: u32, line: TreeLine<'_>) -> Option<Reason>
-        ensures { result ≡ line_fault self.now.problem bound self.now.numbers (knot_of line.entry) }
+    /// What is wrong with a line of a document's tree that stands at the prefix, where anything is: a leaf's value is to reach the
+    /// bound, and the node that a dominated leaf names is to dominate. The other prefix goes to that node.
+    pub(crate) fn fault(
+        &self,
+        named: &mut Prefix,
+        document: &Document,
+        line: TreeLine<'_>,
+    ) -> Option<Reason>
+        requires problem { self.now.problem ≡ problem_of (document_of document.now) }
+        requires same { named.old.problem ≡ self.now.problem }
+        ensures value { result ≡ line_fault (document_of document.now) self.now.numbers (knot_of line.entry) }
+        ensures same { named.new.problem ≡ named.old.problem }
     {
+        let bound = document.bound();
         match line {
             TreeLine::Split(children) => split_fault(self, children),
             TreeLine::Whole => whole_fault(self, bound),
             TreeLine::Chain(numbers) => chain_fault(self, bound, numbers),
             TreeLine::Load(kind) => load_fault(self, bound, kind),
             TreeLine::Parcels => parcels_fault(self, bound),
+            TreeLine::Dominated(name) => dominated_fault(self, named, document, name),
         }
     }
 }
@@ -106,5 +119,30 @@ fn parcels_fault(prefix: &Prefix, bound: u32) -> Option<Reason>
         Some(Reason::Place)
     } else {
         value_fault(parcels(prefix), bound)
+    }
+}
+
+/// The fault of a dominated leaf of this name. The other prefix goes to the node.
+fn dominated_fault(
+    prefix: &Prefix,
+    named: &mut Prefix,
+    document: &Document,
+    name: &[u8],
+) -> Option<Reason>
+    requires problem { prefix.now.problem ≡ problem_of (document_of document.now) }
+    requires same { named.old.problem ≡ prefix.now.problem }
+    ensures value { result ≡ dominated_fault (document_of document.now) prefix.now.numbers name.now }
+    ensures same { named.new.problem ≡ named.old.problem }
+{
+    if is_complete(prefix) {
+        return Some(Reason::Place);
+    }
+    if !is_name(prefix, named, document, name) {
+        return Some(Reason::Name);
+    }
+    if named.dominates(prefix, document.rule()) {
+        None
+    } else {
+        Some(Reason::Dominance)
     }
 }

@@ -27,6 +27,7 @@ mod laws;
 mod leaf;
 mod links;
 mod marks;
+mod name;
 mod needs;
 mod past;
 mod point;
@@ -39,8 +40,8 @@ mod words;
 
 pub use check::verify;
 pub use examples::{
-    dominating_examples, fault_examples, leaf_examples, profile_examples, split_examples,
-    verdict_examples,
+    dominated_examples, dominating_examples, fault_examples, leaf_examples, profile_examples,
+    split_examples, verdict_examples,
 };
 pub use laws::{dominating_law, yes_law};
 pub use verdict::{Reason, Verdict};

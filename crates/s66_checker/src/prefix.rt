@@ -56,6 +56,7 @@ impl Prefix {
     ghost use Rattle.s66_checker.specs.KeptPrefix.{AreTimed};
     ghost use Rattle.s66_checker.specs.Marked.{is_marked};
     ghost use Rattle.s66_checker.specs.Dominating.{is_beginning, is_same_set, dominates_by};
+    ghost use Rattle.s66_checker.specs.Verdict.{is_earlier};
 
     /// Before the first instruction of a block, under a profile. Each pair of its instructions is looked at once.
     pub(crate) fn new(block: &[Instr], profile: &Profile) -> Prefix
@@ -197,6 +198,7 @@ impl Prefix {
     {
         self.past.total()
     }
+
     /// How many numbers, from the first on, it has in common with others.
     fn shared_with(&self, numbers: &[u8]) -> usize
         ensures own { result ≤ length self.now.numbers }
@@ -236,6 +238,18 @@ impl Prefix {
             self.push(*n);
         }
         true
+    }
+
+    /// Whether other numbers are smaller at the first place where they differ from its own.
+    pub(crate) fn is_after(&self, numbers: &[u8]) -> bool
+        ensures { result ≡ is_earlier numbers.now self.now.numbers }
+    {
+        let shared = self.shared_with(numbers);
+        let own = self.numbers.as_slice();
+        if shared >= own.len() || shared >= numbers.len() {
+            return false;
+        }
+        numbers[shared] < own[shared]
     }
 
     /// Whether it has the numbers of another beginning of the same block, in any order: one look at a word.

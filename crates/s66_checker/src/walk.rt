@@ -53,15 +53,17 @@ fn go_on(prefix: &mut Prefix, line: TreeLine<'_>) -> bool
     advance(prefix)
 }
 
-/// The verdict on the lines of a document's tree, from the empty prefix of its block on.
-pub(crate) fn tree_verdict(document: &Document, mut prefix: Prefix) -> Verdict
-    requires { prefix ≡ record { problem = problem_of (document_of document.now); numbers = [] } }
+/// The verdict on the lines of a document's tree, from the empty prefix of its block on. Another prefix goes to the nodes that are
+/// named.
+pub(crate) fn tree_verdict(document: &Document, mut prefix: Prefix, mut named: Prefix) -> Verdict
+    requires start { prefix ≡ record { problem = problem_of (document_of document.now); numbers = [] } }
+    requires same { named.problem ≡ problem_of (document_of document.now) }
     ensures { result ≡ lines_verdict (document_of document.now) (tree_line (document_of document.now)) (tree_placed [] (document_of document.now).tree) }
 {
     let mut lines = document.tree();
     let mut number = u32::from(prefix.count()) + 7;
     while let Some(line) = lines.next() {
-        if let Some(reason) = prefix.fault(document.bound(), line) {
+        if let Some(reason) = prefix.fault(&mut named, document, line) {
             return Verdict::No {
                 line: number,
                 reason,

@@ -1,6 +1,5 @@
 use Rattle.std.proofs.Common.{[], refl}
-use Rattle.s66_model.proofs.Remaining.{legal-parts}
-use Rattle.s66_model.proofs.Trees.{tree-sound}
+use Rattle.s66_model.proofs.DominatedTrees.{shown-below}
 use Rattle.s66_checker.specs.Verdict.{problem_of}
 use Rattle.s66_checker.proofs.GrantedClaims.{verdict-yes}
 use Rattle.s66_checker.proofs.laws.yes_law.Goals as goal
@@ -12,4 +11,4 @@ pub returns-clause-yes : goal.returns-clause-yes
 returns-clause-yes c = λ limit d is claim. (verdict-yes limit d d.time d.bound is.tree).1 (refl, refl, claim)
 
 pub returns-clause-bound : goal.returns-clause-bound
-returns-clause-bound c = λ d claim order legal. (let (begins, completes) = legal-parts (problem_of d).block [] order legal in tree-sound (problem_of d) d.bound [] order d.tree begins completes claim.tree)
+returns-clause-bound c = λ d claim order legal. shown-below d.rule (problem_of d) d.bound [] order d.tree claim.tree legal

@@ -11,6 +11,7 @@ use Rattle.s66_checker.proofs.walk.tree_verdict.Given as goal
 abbrev pub invariant-loop-line : goal.invariant-loop-line
 invariant-loop-line l = record {
   problem : l.prefix.problem ≡ problem_of (document_of l.document);
+  same : l.named.problem ≡ problem_of (document_of l.document);
   rest : lines_verdict (document_of l.document) l.number (placed l.lines (coming (problem_of (document_of l.document)).block true l.prefix.numbers)) ≡ lines_verdict (document_of l.document) (tree_line (document_of l.document)) (tree_placed [] (document_of l.document).tree);
   few : l.number + length l.lines ≤ BLOCK_LIMIT + 8 + SPLIT_LIMIT * BLOCK_LIMIT;
 }

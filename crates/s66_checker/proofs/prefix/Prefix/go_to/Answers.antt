@@ -1,7 +1,7 @@
 use Rattle.std.proofs.Common.{ℕ, ◌-◌, ◌≤◌, ◌≡◌, ◌∙◌, List, length, take, drop, arith, ap}
 use Rattle.std.proofs.lemmas.List.{take_all, length-drop}
 use Rattle.s66_checker.specs.Checked.{Checked}
-use Rattle.s66_checker.specs.Verdict.{goes_on}
+use Rattle.s66_checker.specs.Dominating.{goes_on}
 use Rattle.s66_checker.proofs.GoingTo.{front-goes, front-alone}
 use Rattle.s66_checker.proofs.prefix.Prefix.go_to.Goals as goal
 

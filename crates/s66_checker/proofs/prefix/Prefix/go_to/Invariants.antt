@@ -1,5 +1,5 @@
 use Rattle.std.proofs.Common.{◌≡◌, ◌≤◌, ◌+◌, [], length, take, drop}
-use Rattle.s66_checker.specs.Verdict.{goes_on}
+use Rattle.s66_checker.specs.Dominating.{goes_on}
 use Rattle.s66_checker.proofs.prefix.Prefix.go_to.Given as goal
 
 -- the numbers that are shared still stand

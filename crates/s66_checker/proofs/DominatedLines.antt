@@ -1,0 +1,107 @@
+-- A dominated leaf is without fault exactly where the node that it names dominates, by the rule.
+use Rattle.std.proofs.Common.{ℕ, ◌<◌, ◌≤◌, ◌≡◌, ◌≢◌, ◌⊎◌, ◌↔◌, ◌==◌, ◌&&◌, ◌||◌, Bool, true, false, true≢false, cond, not, List, [], ◌∷◌, length, take, get_or, None, Some, Decides, ltb, refl, sym, ap, ◌∙◌, inl, inr, arith, zero, suc}
+use Rattle.std.proofs.lemmas.Bool.{eqb-true, eq-eqb, ne_eqb, ltb-true, lt-ltb, le-ltb, not-true, not-false, not_from_true, not_from_false}
+use Rattle.std.proofs.lemmas.Bool.Decides.{Decides-and, Decides-or, Decides-like}
+use Rattle.s66_model.specs.declared.rule.Rule.{Rule}
+use Rattle.s66_model.specs.declared.rule.Rule.TheVariants.{NoneNamed, WrittenEarlier, ClampedStanding}
+use Rattle.s66_model.specs.Timing.{Problem}
+use Rattle.s66_model.specs.LegalOrder.{IsBeginning, IsIncomplete}
+use Rattle.s66_model.specs.Digits.{HaveDigits}
+use Rattle.s66_model.specs.Dominance.{IsSameSet}
+use Rattle.s66_model.specs.NodeNames.{node_at}
+use Rattle.s66_model.specs.DominatedLeaves.{Ending, Bounding, Dominated, IsEarlier, may_be_named, DominatesByRule, EndingShows}
+use Rattle.s66_model.specs.Tree.{AtTip}
+use Rattle.s66_cert.specs.Document.{Document}
+use Rattle.s66_checker.specs.declared.verdict.Reason.TheVariants as fault
+use Rattle.s66_checker.specs.Dominating.{dominates_by}
+use Rattle.s66_checker.specs.Verdict.{problem_of, is_complete, is_earlier, is_on_its_side, is_name, line_fault}
+use Rattle.s66_checker.proofs.Faultless.{passed, goes_on-Decides, is_incomplete-Decides, leaf-shows}
+use Rattle.s66_checker.proofs.AheadOf.{same_set-Decides}
+use Rattle.s66_checker.proofs.DominanceTests.{written-Decides, clamped-Decides, document-digits}
+
+-- EARLIER
+
+is_earlier-Decides : (ns ms : List ℕ) → Decides (is_earlier ns ms) (IsEarlier ns ms)
+is_earlier-Decides [] ms = ((λ h. absurd (true≢false (sym h))), λ h. absurd h)
+is_earlier-Decides (n ∷ ns) [] = ((λ h. absurd (true≢false (sym h))), λ h. absurd h)
+is_earlier-Decides (n ∷ ns) (m ∷ ms) =
+    Decides-or (ltb n m) (n == m && is_earlier ns ms) (ltb-true n m, lt-ltb n m)
+    (Decides-and (n == m) (is_earlier ns ms) (eqb-true n m, eq-eqb n m) (is_earlier-Decides ns ms))
+
+-- the first place where they differ tells
+pub differ-tells : (k : ℕ) (ns ms : List ℕ) → k < length ns → k < length ms → take k ns ≡ take k ms → get_or ns k 0 ≢ get_or ms k 0 → ltb (get_or ns k 0) (get_or ms k 0) ≡ is_earlier ns ms
+differ-tells k [] ms within other same differ = absurd (omega (arith, within))
+differ-tells k (n ∷ ns) [] within other same differ = absurd (omega (arith, other))
+differ-tells zero (n ∷ ns) (m ∷ ms) within other same differ = rw (ne_eqb n m differ) (or_false (ltb n m))
+  where
+    or_false : (test : Bool) → test ≡ (test || false)
+    or_false true = refl
+    or_false false = refl
+differ-tells (suc k) (n ∷ ns) (m ∷ ms) within other same differ =
+    let e : n ≡ m = cc in
+    let rest : take k ns ≡ take k ms = cc in
+    rw (le-ltb n m (omega (arith, e)), eq-eqb n m e) (differ-tells k ns ms (omega (arith, within)) (omega (arith, other)) rest differ)
+
+-- and where there is none they aren't
+pub same-never : (k : ℕ) (ns ms : List ℕ) → (length ns ≤ k) ⊎ (length ms ≤ k) → take k ns ≡ take k ms → false ≡ is_earlier ns ms
+same-never k [] ms short same = refl
+same-never k (n ∷ ns) [] short same = refl
+same-never zero (n ∷ ns) (m ∷ ms) short same = absurd (elim short [ inl h ↦ omega (arith, h) | inr h ↦ omega (arith, h) ])
+same-never (suc k) (n ∷ ns) (m ∷ ms) short same =
+    let e : n ≡ m = cc in
+    let rest : take k ns ≡ take k ms = cc in
+    let less : (length ns ≤ k) ⊎ (length ms ≤ k) = elim short [ inl h ↦ inl (omega (arith, h)) | inr h ↦ inr (omega (arith, h)) ] in
+    rw (le-ltb n m (omega (arith, e)), eq-eqb n m e) (same-never k ns ms less rest)
+
+-- BY A RULE
+
+-- beside the beginnings and their set
+by-rule : (rule : Rule) (b : Problem) (name at : List ℕ) → HaveDigits b.block → (IsIncomplete b.block at × (is_on_its_side rule name at ≡ true) × (dominates_by rule b name at ≡ true)) ↔ DominatesByRule rule b name at
+by-rule NoneNamed b name at digits = ((λ h. absurd (true≢false (sym h.2))), λ h. absurd h)
+by-rule WrittenEarlier b name at digits =
+    let earlier = is_earlier-Decides name at in
+    let dominates = written-Decides b name at digits in
+    ((λ h. (h.0, earlier.0 h.1, dominates.0 h.2)), λ h. (let (part, first, is) = h in (part, earlier.1 first, dominates.1 is)))
+by-rule ClampedStanding b name at digits =
+    let dominates = clamped-Decides b name at digits in
+    ((λ h. (h.0, dominates.0 h.2)), λ h. (let (part, is) = h in (part, refl, dominates.1 is)))
+
+-- a name that dominates is a beginning of the same set
+named-by : (rule : Rule) (b : Problem) (name at : List ℕ) → DominatesByRule rule b name at → IsBeginning b.block name × IsSameSet name at
+named-by NoneNamed b name at h = absurd h
+named-by WrittenEarlier b name at h = let (part, first, is) = h in (is.0.other_begins, is.0.same_set)
+named-by ClampedStanding b name at h = let (part, is) = h in (is.other_begins, is.same_set)
+
+-- LINES
+
+name-parts : (d : Document) (at name : List ℕ) →
+    Decides (is_name d at name) ((((may_be_named d.rule (node_at [] d.tree name) ≡ true) × (is_on_its_side d.rule name at ≡ true)) × IsBeginning (problem_of d).block name) × IsSameSet name at)
+name-parts d at name =
+    Decides-and _ _ (Decides-and _ _ (Decides-and _ _ ((λ h. h), λ h. h) ((λ h. h), λ h. h)) (goes_on-Decides (problem_of d).block [] name)) (same_set-Decides name at)
+
+pub ending-shows : (d : Document) (at : List ℕ) (ending : Ending) → IsBeginning (problem_of d).block at → (line_fault d at (AtTip ending) ≡ None) ↔ EndingShows d.rule (problem_of d) d.bound [] d.tree at ending
+ending-shows d at (Bounding leaf) begins = leaf-shows (problem_of d) d.bound at leaf begins
+ending-shows d at (Dominated name) begins =
+    let b : Problem = problem_of d in
+    let complete : Bool = is_complete b at in
+    let named : Bool = is_name d at name in
+    let dominates : Bool = dominates_by d.rule b name at in
+    let third = passed (not dominates) (Some fault.Dominance) None None (λ h. (cc)) in
+    let second = passed (not named) (Some fault.Name) (cond (not dominates) (Some fault.Dominance) None) None (λ h. (cc)) in
+    let first = passed complete (Some fault.Place) (cond (not named) (Some fault.Name) (cond (not dominates) (Some fault.Dominance) None)) None (λ h. (cc)) in
+    let short = is_incomplete-Decides b at begins in
+    let parts = name-parts d at name in
+    let rule = by-rule d.rule b name at (document-digits d) in (
+      (λ h. (let one = first.0 h in
+          let two = second.0 one.1 in
+          let three = third.0 two.1 in
+          let is = parts.0 (not-false named two.0) in
+          (rule.0 (short.0 (not_from_false complete one.0), is.0.0.1, not-false dominates three.0), is.0.0.0))),
+      λ h. (let (shows, may) = h in
+          let (part, side, is) = rule.1 shows in
+          let (begin, same) = named-by d.rule b name at shows in
+          first.1 (
+            not-true complete (short.1 part),
+            second.1 (not_from_true named (parts.1 (((may, side), begin), same)), third.1 (not_from_true dominates is, refl)),
+          )),
+    )
