@@ -53,12 +53,13 @@ fn legal_total(prefix: &mut Prefix, order: &[u8]) -> Option<u32>
     }
 }
 
-/// The verdict on a document, timed by its own profile: yes with its time and its bound exactly where what it claims is true, and else
-/// its first fault, that of the order, of the time, of the bound, or of a line of the tree. It allocates nothing, and stands on no
-/// other timing and no other test of dependence than its own.
+/// The verdict on a document, timed by its own profile: yes with its time and its bound exactly where what it claims is
+/// true, and else its first fault, that of the order, of the time, of the bound, or of a line of the tree. It allocates
+/// nothing, and stands on no other timing and no other test of dependence than its own.
 ///
-/// Each pair of the block's instructions is looked at once. Beside that a line of the tree takes a time linear in the block's
-/// length, on the average over all lines; for a dominated leaf the node is found by a jump for each earlier sibling on the way.
+/// Each pair of the block's instructions is looked at once. Beside that a line of the tree takes a time linear in the
+/// block's length, on the average over all lines. For a dominated leaf its node is found by a jump for each earlier sibling
+/// on the way.
 pub fn verify(document: &Document) -> Verdict
     ensures { result ≡ verdict (document_of document.now) }
 {
