@@ -1,7 +1,7 @@
 -- A dominated leaf is without fault exactly where the node that it names dominates, by the rule.
-use Rattle.std.proofs.Common.{ℕ, ◌<◌, ◌≤◌, ◌≡◌, ◌≢◌, ◌⊎◌, ◌↔◌, ◌==◌, ◌&&◌, ◌||◌, Bool, true, false, true≢false, cond, not, List, [], ◌∷◌, length, take, get_or, None, Some, Decides, ltb, refl, sym, ap, ◌∙◌, inl, inr, arith, zero, suc}
+use Rattle.std.proofs.Common.{ℕ, ◌<◌, ◌≤◌, ◌≡◌, ◌≢◌, ◌⊎◌, ◌↔◌, ◌==◌, ◌&&◌, ◌||◌, Bool, true, false, true≢false, cond, not, List, [], ◌∷◌, length, take, get_or, None, Some, Decides, ltb, refl, sym, inl, inr, arith, zero, suc}
 use Rattle.std.proofs.lemmas.Bool.{eqb-true, eq-eqb, ne_eqb, ltb-true, lt-ltb, le-ltb, not-true, not-false, not_from_true, not_from_false}
-use Rattle.std.proofs.lemmas.Bool.Decides.{Decides-and, Decides-or, Decides-like}
+use Rattle.std.proofs.lemmas.Bool.Decides.{Decides-and, Decides-or}
 use Rattle.s66_model.specs.declared.rule.Rule.{Rule}
 use Rattle.s66_model.specs.declared.rule.Rule.TheVariants.{NoneNamed, WrittenEarlier, ClampedStanding}
 use Rattle.s66_model.specs.Timing.{Problem}
@@ -14,7 +14,7 @@ use Rattle.s66_model.specs.Tree.{AtTip}
 use Rattle.s66_cert.specs.Document.{Document}
 use Rattle.s66_checker.specs.declared.verdict.Reason.TheVariants as fault
 use Rattle.s66_checker.specs.Dominating.{dominates_by}
-use Rattle.s66_checker.specs.Verdict.{problem_of, is_complete, is_earlier, is_on_its_side, is_name, line_fault}
+use Rattle.s66_checker.specs.Verdict.{problem_of, is_complete, is_earlier, is_early_enough, is_name, line_fault}
 use Rattle.s66_checker.proofs.Faultless.{passed, goes_on-Decides, is_incomplete-Decides, leaf-shows}
 use Rattle.s66_checker.proofs.AheadOf.{same_set-Decides}
 use Rattle.s66_checker.proofs.DominanceTests.{written-Decides, clamped-Decides, document-digits}
@@ -56,7 +56,7 @@ same-never (suc k) (n ∷ ns) (m ∷ ms) short same =
 -- BY A RULE
 
 -- beside the beginnings and their set
-by-rule : (rule : Rule) (b : Problem) (name at : List ℕ) → HaveDigits b.block → (IsIncomplete b.block at × (is_on_its_side rule name at ≡ true) × (dominates_by rule b name at ≡ true)) ↔ DominatesByRule rule b name at
+by-rule : (rule : Rule) (b : Problem) (name at : List ℕ) → HaveDigits b.block → (IsIncomplete b.block at × (is_early_enough rule name at ≡ true) × (dominates_by rule b name at ≡ true)) ↔ DominatesByRule rule b name at
 by-rule NoneNamed b name at digits = ((λ h. absurd (true≢false (sym h.2))), λ h. absurd h)
 by-rule WrittenEarlier b name at digits =
     let earlier = is_earlier-Decides name at in
@@ -75,7 +75,7 @@ named-by ClampedStanding b name at h = let (part, is) = h in (is.other_begins, i
 -- LINES
 
 name-parts : (d : Document) (at name : List ℕ) →
-    Decides (is_name d at name) ((((may_be_named d.rule (node_at [] d.tree name) ≡ true) × (is_on_its_side d.rule name at ≡ true)) × IsBeginning (problem_of d).block name) × IsSameSet name at)
+    Decides (is_name d at name) ((((may_be_named d.rule (node_at [] d.tree name) ≡ true) × (is_early_enough d.rule name at ≡ true)) × IsBeginning (problem_of d).block name) × IsSameSet name at)
 name-parts d at name =
     Decides-and _ _ (Decides-and _ _ (Decides-and _ _ ((λ h. h), λ h. h) ((λ h. h), λ h. h)) (goes_on-Decides (problem_of d).block [] name)) (same_set-Decides name at)
 

@@ -82,17 +82,17 @@ is_earlier [] ms = false
 is_earlier (n ∷ ns) [] = false
 is_earlier (n ∷ ns) (m ∷ ms) = nat_lt n m || (n == m && is_earlier ns ms)
 
--- it stands where the rule wants it: before the prefix as written, else anywhere
-abbrev pub is_on_its_side : Rule → List ℕ → List ℕ → Bool
-is_on_its_side NoneNamed name at = true
-is_on_its_side WrittenEarlier name at = is_earlier name at
-is_on_its_side ClampedStanding name at = true
+-- where the rule wants an earlier one
+abbrev pub is_early_enough : Rule → List ℕ → List ℕ → Bool
+is_early_enough NoneNamed name at = true
+is_early_enough WrittenEarlier name at = is_earlier name at
+is_early_enough ClampedStanding name at = true
 
--- of a node that the rule lets it name, over the same set of numbers
+-- that of a node that the rule lets be named, and a beginning over the same set
 abbrev pub is_name : Document → List ℕ → List ℕ → Bool
 is_name d at name =
     may_be_named d.rule (node_at [] d.tree name)
-    && is_on_its_side d.rule name at
+    && is_early_enough d.rule name at
     && is_beginning (problem_of d).block name
     && is_same_set name at
 

@@ -53,19 +53,19 @@ fn legal_total(prefix: &mut Prefix, order: &[u8]) -> Option<u32>
     }
 }
 
-/// The verdict on a document, timed by its own profile: yes with its time and its bound exactly where what it claims is true, and else
-/// its first fault, that of the order, of the time, of the bound, or of a line of the tree. It allocates nothing, and stands on no
-/// other timing and no other test of dependence than its own.
+/// The verdict on a document, timed by its own profile: yes with its time and its bound exactly where what it claims is
+/// true, and else its first fault, that of the order, of the time, of the bound, or of a line of the tree. It allocates
+/// nothing, and stands on no other timing and no other test of dependence than its own.
 ///
-/// Each pair of the block's instructions is looked at once; beside that a line of the tree takes a time linear in the block's length,
-/// on the average over all lines.
+/// Each pair of the block's instructions is looked at once. Beside that a line of the tree takes a time linear in the
+/// block's length, on the average over all lines. For a dominated leaf its node is found by a jump for each earlier sibling
+/// on the way.
 pub fn verify(document: &Document) -> Verdict
     ensures { result ≡ verdict (document_of document.now) }
 {
     let block = instructions_of(document.block());
     let count = block.len() as u32;
-    let profile = profile_of(document);
-    let mut prefix = Prefix::new(block.as_slice(), &profile);
+    let mut prefix = Prefix::new(block.as_slice(), &profile_of(document));
     let Some(total) = legal_total(&mut prefix, document.order()) else {
         return Verdict::No {
             line: count + 6,
@@ -84,7 +84,5 @@ pub fn verify(document: &Document) -> Verdict
             reason: Reason::Bound,
         };
     }
-    prefix.clear();
-    let named = Prefix::new(block.as_slice(), &profile);
-    tree_verdict(document, prefix, named)
+    tree_verdict(document, prefix.start_again(), prefix)
 }

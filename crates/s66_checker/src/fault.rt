@@ -21,8 +21,8 @@ impl Prefix {
     ghost use Rattle.s66_cert.specs.DocumentParts.{document_of, knot_of};
     ghost use Rattle.s66_checker.specs.Verdict.{problem_of, line_fault};
 
-    /// What is wrong with a line of a document's tree that stands at the prefix, where anything is: a leaf's value is to reach the
-    /// bound, and the node that a dominated leaf names is to dominate. The other prefix goes to that node.
+    /// What is wrong with a line of a document's tree that stands at the prefix, where anything is: a leaf's value is to
+    /// reach the bound, and the node that a dominated leaf names is to dominate. The other prefix goes there.
     pub(crate) fn fault(
         &self,
         named: &mut Prefix,
@@ -122,7 +122,7 @@ fn parcels_fault(prefix: &Prefix, bound: u32) -> Option<Reason>
     }
 }
 
-/// The fault of a dominated leaf of this name. The other prefix goes to the node.
+/// The fault of a dominated leaf of this name. The other prefix goes there.
 fn dominated_fault(
     prefix: &Prefix,
     named: &mut Prefix,

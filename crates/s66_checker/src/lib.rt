@@ -3,7 +3,8 @@
 //!
 //! It goes through the order, and then through the tree of the bound line by line: a split has to go on with all
 //! instructions that are ready there, and a leaf has to have a value that reaches the bound, by one of the four rules of the
-//! model.
+//! model, or to name a node of the tree that dominates it. Such a node is an earlier one (version 2), or is no dominated
+//! leaf itself (version 3), so that no two stand on one another.
 //!
 //! It shares nothing with the search that made the certificate: no clock, no marks, no sets of dependences, no bounds, no
 //! ledger. So a mistake there, or in what is proved of it, doesn't come back here as a yes. It stands on the table of
@@ -12,10 +13,11 @@
 //!
 //! It keeps what each instruction depends on, tested pair by pair, in a word (`needs`, `marks`). One prefix is pushed and
 //! popped along the tree (`prefix`, `walk`), with its points and what they leave for the next instruction (`past`, `words`,
-//! `timing`). Whether one prefix dominates another is told by what both leave (`dominance`, `falling`).
+//! `timing`). Another goes to the nodes that are named (`name`). Whether it dominates is told by what both leave
+//! (`dominance`, `falling`).
 //!
 //! A block takes time for each of its pairs once, and a line of the tree a time linear in the block's length, on the average
-//! over all lines, whatever the profile.
+//! over all lines, whatever the profile. A node that is named is found by a jump for each earlier sibling on the way.
 #![tactic(auto)]
 
 mod check;

@@ -4,7 +4,7 @@ ghost use Rattle.std.specs.Prelude.{◌≡◌, IsTrue};
 ghost use Rattle.std.specs.Option.{option_map};
 ghost use Rattle.s66_model.specs.DominatedLeaves.{may_be_named};
 ghost use Rattle.s66_cert.specs.DocumentParts.{document_of, knot_of};
-ghost use Rattle.s66_checker.specs.Verdict.{problem_of, is_on_its_side, is_name};
+ghost use Rattle.s66_checker.specs.Verdict.{problem_of, is_early_enough, is_name};
 
 use crate::prefix::Prefix;
 use s66_cert::{Document, TreeLine};
@@ -14,19 +14,19 @@ use s66_model::Rule;
 fn may_be_named(rule: Rule, node: Option<TreeLine<'_>>) -> bool
     ensures { result ≡ may_be_named rule (option_map knot_of node.entry) }
 {
-    match node {
-        None => false,
-        Some(line) => match rule {
-            Rule::NoneNamed => false,
-            Rule::WrittenEarlier => true,
-            Rule::ClampedStanding => !matches!(line, TreeLine::Dominated(_)),
-        },
+    let Some(line) = node else {
+        return false;
+    };
+    match rule {
+        Rule::NoneNamed => false,
+        Rule::WrittenEarlier => true,
+        Rule::ClampedStanding => !matches!(line, TreeLine::Dominated(_)),
     }
 }
 
-/// Whether a node of this name stands on the side of the prefix that a rule wants.
-fn is_on_its_side(prefix: &Prefix, rule: Rule, name: &[u8]) -> bool
-    ensures { result ≡ is_on_its_side rule name.now prefix.now.numbers }
+/// Whether a name is earlier than the prefix, if a rule wants that.
+fn is_early_enough(prefix: &Prefix, rule: Rule, name: &[u8]) -> bool
+    ensures { result ≡ is_early_enough rule name.now prefix.now.numbers }
 {
     match rule {
         Rule::WrittenEarlier => prefix.is_after(name),
@@ -34,7 +34,8 @@ fn is_on_its_side(prefix: &Prefix, rule: Rule, name: &[u8]) -> bool
     }
 }
 
-/// Whether a dominated leaf at the prefix may have this name. The other prefix goes there, and has come there if so.
+/// Whether a dominated leaf at the prefix may have this name: that of a node which the rule lets be named, and the
+/// beginning of a legal order of the same numbers. The other prefix is then there, and else anywhere.
 pub fn is_name(prefix: &Prefix, named: &mut Prefix, document: &Document, name: &[u8]) -> bool
     requires problem { prefix.now.problem ≡ problem_of (document_of document.now) }
     requires same { named.old.problem ≡ prefix.now.problem }
@@ -46,7 +47,7 @@ pub fn is_name(prefix: &Prefix, named: &mut Prefix, document: &Document, name: &
     if !may_be_named(rule, document.node_at(name)) {
         return false;
     }
-    if !is_on_its_side(prefix, rule, name) {
+    if !is_early_enough(prefix, rule, name) {
         return false;
     }
     if !named.go_to(name) {

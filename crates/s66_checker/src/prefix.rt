@@ -78,6 +78,27 @@ impl Prefix {
         }
     }
 
+    /// Another one of the same block, before the first instruction. No pair of instructions is looked at again.
+    pub(crate) fn start_again(&self) -> Prefix
+        ensures { result ≡ record { problem = self.now.problem; numbers = [] } }
+    {
+        let Ok(block) = ArrayVec::try_from(self.block.as_slice()) else {
+            unreachable!()
+        };
+        let Ok(needs) = ArrayVec::try_from(self.needs.as_slice()) else {
+            unreachable!()
+        };
+        Prefix {
+            block,
+            profile: self.profile,
+            rows: rows_of(self.block.as_slice(), &self.profile),
+            needs,
+            placed: Marks::none(),
+            numbers: ArrayVec::new(),
+            past: Past::new(),
+        }
+    }
+
     /// How many instructions the block has.
     pub(crate) fn count(&self) -> u8
         ensures value { result ≡ length self.now.problem.block }
@@ -181,15 +202,6 @@ impl Prefix {
         self.past.pop();
         self.placed = self.placed.without(n);
         Some(n)
-    }
-
-    /// Takes all numbers off.
-    pub(crate) fn clear(&mut self)
-        ensures { self.new ≡ record self.old { numbers = [] } }
-    {
-        self.placed = Marks::none();
-        self.numbers = ArrayVec::new();
-        self.past = Past::new();
     }
 
     /// When all units are free and all results are done, in minor cycles from the issue of the first instruction.

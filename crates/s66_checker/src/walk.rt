@@ -53,8 +53,8 @@ fn go_on(prefix: &mut Prefix, line: TreeLine<'_>) -> bool
     advance(prefix)
 }
 
-/// The verdict on the lines of a document's tree, from the empty prefix of its block on. Another prefix goes to the nodes that are
-/// named.
+/// The verdict on the lines of a document's tree, from the empty prefix of its block on. The other prefix may stand
+/// anywhere, and goes to the nodes that are named.
 pub(crate) fn tree_verdict(document: &Document, mut prefix: Prefix, mut named: Prefix) -> Verdict
     requires start { prefix ≡ record { problem = problem_of (document_of document.now); numbers = [] } }
     requires same { named.problem ≡ problem_of (document_of document.now) }

@@ -1,4 +1,4 @@
-use Rattle.std.proofs.Common.{ℕ, ◌≤◌, ◌<◌, ◌≡◌, List, ltb, ◌⊎◌, ◌∙◌, length, take, get_or, ap, sym, arith, inl, inr}
+use Rattle.std.proofs.Common.{ℕ, ◌≤◌, ◌<◌, ◌≡◌, List, ltb, ◌⊎◌, ◌∙◌, length, get_or, ap, sym, arith, inl, inr}
 use Rattle.s66_checker.specs.Checked.{Checked}
 use Rattle.s66_checker.proofs.DominatedLines.{differ-tells, same-never}
 use Rattle.s66_checker.proofs.prefix.Prefix.is_after.Goals as goal
