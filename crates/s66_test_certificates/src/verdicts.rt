@@ -9,7 +9,12 @@ use std::test::Fail;
 use std::thread::Threads;
 
 /// The text with what stands in the place of its first part of this kind.
-pub(crate) fn altered<R: AllocGlobal>(rt: &R, text: &str, old: &str, new: &str) -> Result<String, AllocError> {
+pub(crate) fn altered<R: AllocGlobal>(
+    rt: &R,
+    text: &str,
+    old: &str,
+    new: &str,
+) -> Result<String, AllocError> {
     let mut altered = String::new(rt.alloc());
     match text.split_once(old) {
         Some((front, back)) => {
