@@ -36,3 +36,8 @@ names-push entries e name among =
     among-either name (map numbers_of entries) (numbers_of e ∷ []) ((name ≡ numbers_of e) ⊎ Among name (map numbers_of entries))
     (λ there. inr there) (λ here. elim here [ inl is ↦ inl is | inr none ↦ absurd none ])
     (subst (Among name) (map-append numbers_of entries (e ∷ [])) among)
+
+pub names-at : (entries : List Entry) (i : ℕ) (e : Entry) → i < length entries → Among (numbers_of (get_or entries i e)) (map numbers_of entries)
+names-at [] i e lt = absurd (omega (arith, lt))
+names-at (x ∷ entries) zero e lt = inl refl
+names-at (x ∷ entries) (suc i) e lt = inr (names-at entries i e (omega (arith, lt)))
