@@ -1,5 +1,5 @@
 -- Where a tree splits a prefix there is a node of this name.
-use Rattle.std.proofs.Common.{ℕ, zero, suc, ◌+◌, ◌≤◌, ◌<◌, ◌≡◌, ◌⊎◌, Bool, true, false, List, [], ◌∷◌, ◌++◌, length, refl, sym, ap, arith, inl, inr, eqb, ◌∙◌, subst, append_assoc, length-append}
+use Rattle.std.proofs.Common.{ℕ, zero, suc, ◌≤◌, ◌<◌, ◌≡◌, ◌⊎◌, Bool, true, List, [], ◌∷◌, ◌++◌, length, refl, sym, ap, arith, inl, inr, ◌∙◌, subst, append_assoc, length-append}
 use Rattle.std.proofs.lemmas.Bool.{cases_Bool, eq-eqb, ne_eqb}
 use Rattle.std.proofs.lemmas.List.{append-nil}
 use Rattle.std.specs.List.{filter}
@@ -7,7 +7,7 @@ use Rattle.s66_isa.specs.declared.instr.Instr.{Instr}
 use Rattle.s66_isa.specs.Lists.{Among, rising}
 use Rattle.s66_isa.proofs.Lists.{among-front, among-rest}
 use Rattle.s66_model.specs.LegalOrder.{is_ready, ready}
-use Rattle.s66_model.specs.Tree.{Tree, Alone, Parted, Kids, NoMore, Unsplit, Split, Knot, AtTip, AtSplit, KidsHold, TreeHolds, flat_kids, flat, kids_split_at, split_at}
+use Rattle.s66_model.specs.Tree.{Tree, Alone, Parted, Kids, NoMore, Unsplit, Split, AtTip, KidsHold, TreeHolds, flat_kids, flat, kids_split_at, split_at}
 use Rattle.s66_model.specs.NodeNames.{kid_at, node_at, is_node}
 use Rattle.s66_node.proofs.Leasts.{among-either}
 

@@ -18,7 +18,7 @@ use Rattle.s66_node.specs.declared.knot.Knot as code
 use Rattle.s66_node.specs.declared.whole_order.WholeOrder.{WholeOrder}
 use Rattle.s66_node.specs.Walked.{front}
 use Rattle.s66_node.specs.Growing.{TreeGrows}
-use Rattle.s66_model.specs.Told.{Told, ToldLeaf, ToldFrontier, ToldPassed}
+use Rattle.s66_model.specs.Told.{Told, ToldPassed}
 use Rattle.s66_node.specs.SeenKnots.{seen, seen_knot}
 use Rattle.s66_node.specs.Walking.{Span, AreOpen, IsDue, IsTold, IsLeast, IsWalk, GrowsFor, AreOfSplits, NameSplits, lefts, whole_told}
 use Rattle.s66_node.proofs.Leasts.{among-either}

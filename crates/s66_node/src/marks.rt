@@ -305,7 +305,7 @@ impl<'a> Marks<'a> {
     }
 
     /// Keeps the mark of a walk's prefix, which has this line of a piece, and forgets those beside which it is enough by the rule.
-    pub(crate) fn insert(&mut self, walk: &Walk<'_>, rule: Rule, line: usize)
+    pub fn insert(&mut self, walk: &Walk<'_>, rule: Rule, line: usize)
         requires { self.old.problem ≡ walk.now.problem }
         ensures same { self.new.problem ≡ self.old.problem }
         ensures known { (name : List ℕ) → Among name self.new.names → (name ≡ walk.now.numbers) ⊎ Among name self.old.names }

@@ -1,4 +1,4 @@
-use Rattle.std.proofs.Common.{ℕ, ◌≡◌, List, IfSome, refl, sym, subst}
+use Rattle.std.proofs.Common.{IfSome, refl, subst}
 use Rattle.s66_isa.specs.Lists.{Among}
 use Rattle.s66_model.specs.LegalOrder.{IsIncomplete}
 use Rattle.s66_model.specs.DominatedLeaves.{DominatesByRule}

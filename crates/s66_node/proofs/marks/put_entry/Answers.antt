@@ -1,4 +1,4 @@
-use Rattle.std.proofs.Common.{◌++◌, ◌∷◌, [], ◌≡◌, ◌⊎◌, List, map, arith, sym, subst, length-append}
+use Rattle.std.proofs.Common.{◌∷◌, [], List, map, arith, sym, subst, length-append}
 use Rattle.std.proofs.lemmas.List.Elements.{All-push}
 use Rattle.s66_isa.specs.Lists.{Among}
 use Rattle.s66_node.specs.declared.marks.Entry.{Entry}

@@ -1,4 +1,4 @@
-use Rattle.std.proofs.Common.{◌≡◌, ◌∙◌, List, ℕ, length, ◌<◌, get_or, map, rules, arith, sym, ap, subst, slice_index_or}
+use Rattle.std.proofs.Common.{◌≡◌, length, ◌<◌, get_or, map, rules, arith, sym, subst}
 use Rattle.s66_isa.specs.Lists.{Among}
 use Rattle.s66_node.specs.declared.marks.Entry.{Entry}
 use Rattle.s66_node.specs.MarkTables.{MarkTable, numbers_of}

@@ -1,4 +1,4 @@
-use Rattle.std.proofs.Common.{ℕ, ◌≡◌, ◌⊎◌, ◌∙◌, List, inl, inr, arith, ap, length, subst}
+use Rattle.std.proofs.Common.{◌∙◌, inl, inr, arith, ap, length, subst}
 use Rattle.s66_isa.specs.Lists.{Among}
 use Rattle.s66_dep.proofs.LongestBeginning.{beginning-few}
 use Rattle.s66_node.specs.MarkTables.{MarkTable}

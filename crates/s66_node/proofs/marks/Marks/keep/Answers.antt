@@ -1,4 +1,4 @@
-use Rattle.std.proofs.Common.{ℕ, ◌≡◌, ◌⊎◌, List, subst, ap}
+use Rattle.std.proofs.Common.{◌≡◌, ◌⊎◌, subst}
 use Rattle.s66_isa.specs.Lists.{Among}
 use Rattle.s66_node.specs.MarkTables.{MarkTable}
 use Rattle.s66_node.proofs.marks.Marks.keep.Goals as goal
