@@ -67,7 +67,7 @@ module _ (rule : Rule) (b : Problem) (best : Span) (allowance : ℕ) (root : Lis
   expansion =
       record {
         piece =
-          seen-holds (tip_of b) b.block (TipHoldsWhile rule b best.high best.low root whole) tree root (tree-weaken b.block NamedTold (λ at told. TipHoldsWhile rule b best.high best.low root whole at (tip_of b at told)) (told-tip rule b root whole best) tree root named-told);
+            seen-holds (tip_of b) b.block (TipHoldsWhile rule b best.high best.low root whole) tree root (tree-weaken b.block NamedTold (λ at told. TipHoldsWhile rule b best.high best.low root whole at (tip_of b at told)) (told-tip rule b root whole best) tree root named-told);
         within = omega (arith, grown-splits, h.within);
         below = λ at among. (tree-splits b.block (IsDue b best.high) (IsTold rule b best) root tree h.grows at (subst (Among at) (seen-split_at (tip_of b) tree root) among)).1;
         due = λ some part lt. omega (arith, grown-splits, h.due some (part, lt));

@@ -166,7 +166,7 @@ impl Walk<'_> {
         ensures lowest { (L.lowest incumbent.new ≡ L.lowest incumbent.old) × (L.lowest incumbent.old ≤ L.kept incumbent.new) }
         ensures problem { IfOk result (λ p. p.problem ≡ self.old.problem) }
         ensures rule { IfOk result (λ p. p.rule ≡ NoneNamed) }
-            ensures prefix { IfOk result (λ p. p.prefix ≡ prefix.now) }
+        ensures prefix { IfOk result (λ p. p.prefix ≡ prefix.now) }
         ensures expansion { IfOk result (λ p. IsExpansion NoneNamed self.old.problem (L.kept incumbent.old) (L.kept incumbent.new) allowance prefix.now (tree_of p)) }
         ensures timed { IfOk result (λ p. IsBestTimed self.old.problem prefix.now (tree_of p) p.timed) }
     {
@@ -197,7 +197,7 @@ impl Walk<'_> {
         ensures lowest { (L.lowest incumbent.new ≡ L.lowest incumbent.old) × (L.lowest incumbent.old ≤ L.kept incumbent.new) }
         ensures problem { IfOk result (λ p. p.problem ≡ self.old.problem) }
         ensures rule { IfOk result (λ p. p.rule ≡ rule) }
-            ensures prefix { IfOk result (λ p. p.prefix ≡ prefix.now) }
+        ensures prefix { IfOk result (λ p. p.prefix ≡ prefix.now) }
         ensures expansion { IfOk result (λ p. IsExpansion rule self.old.problem (L.kept incumbent.old) (L.kept incumbent.new) allowance prefix.now (tree_of p)) }
         ensures timed { IfOk result (λ p. IsBestTimed self.old.problem prefix.now (tree_of p) p.timed) }
     {
@@ -227,7 +227,7 @@ impl Walk<'_> {
         ensures lowest { (L.lowest incumbent.new ≡ L.lowest incumbent.old) × (L.lowest incumbent.old ≤ L.kept incumbent.new) }
         ensures problem { IfOk result (λ p. p.problem ≡ self.old.problem) }
         ensures rule { IfOk result (λ p. p.rule ≡ rule) }
-            ensures prefix { IfOk result (λ p. p.prefix ≡ prefix.now) }
+        ensures prefix { IfOk result (λ p. p.prefix ≡ prefix.now) }
         ensures expansion { IfOk result (λ p. IsExpansion rule self.old.problem (L.kept incumbent.old) (L.kept incumbent.new) allowance prefix.now (tree_of p)) }
         ensures timed { IfOk result (λ p. IsBestTimed self.old.problem prefix.now (tree_of p) p.timed) }
     {

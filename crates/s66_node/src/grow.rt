@@ -170,8 +170,7 @@ pub(crate) fn grow<L: Least, N: Naming>(
             frames.push(frame);
             walk.push(n);
             let may_split = splits < allowance;
-            let child =
-                unsplit_child(alloc, walk, &mut best, incumbent, may_split, rule, names)?;
+            let child = unsplit_child(alloc, walk, &mut best, incumbent, may_split, rule, names)?;
             match child {
                 Some(knot) => {
                     keep_whole(&mut least, walk, &knot);

@@ -1,10 +1,12 @@
-//! Tests of orders, of the clock and its marks and bounds, and of a table of marks.
+//! Tests of orders, of the clock and its marks and bounds, of a table of marks, and of expansions by it.
 #![tactic(auto)]
 
 #[cfg(test)]
 mod blocks;
 #[cfg(test)]
 mod clock;
+#[cfg(test)]
+mod dominated;
 #[cfg(test)]
 mod floors;
 #[cfg(test)]

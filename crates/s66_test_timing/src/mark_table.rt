@@ -56,16 +56,28 @@ fn check_late_reader<R: AllocGlobal + Abort>(rt: &R, block: &Block) {
     let mut marks = Marks::new(rt.alloc(), block, &Profile::standard());
     assert_eq!(rt; found(rt, &marks, block, rule, &[1, 3, 2]), None);
     keep(rt, &mut marks, block, rule, &[1, 3, 2], 7);
-    assert_eq!(rt; found(rt, &marks, block, rule, &[1, 3, 2]), Some(Place::Line(7)));
+    assert_eq!(rt;
+        found(rt, &marks, block, rule, &[1, 3, 2]),
+        Some(Place::Line(7))
+    );
     assert_eq!(rt; found(rt, &marks, block, rule, &[1, 2, 3]), None);
     // it dominates the first, which goes
     keep(rt, &mut marks, block, rule, &[1, 2, 3], 8);
-    assert_eq!(rt; found(rt, &marks, block, rule, &[1, 3, 2]), Some(Place::Line(8)));
+    assert_eq!(rt;
+        found(rt, &marks, block, rule, &[1, 3, 2]),
+        Some(Place::Line(8))
+    );
     // neither of these dominates the other
     keep(rt, &mut marks, block, rule, &[1, 2, 4], 9);
     keep(rt, &mut marks, block, rule, &[1, 4, 2], 10);
-    assert_eq!(rt; found(rt, &marks, block, rule, &[1, 2, 4]), Some(Place::Line(9)));
-    assert_eq!(rt; found(rt, &marks, block, rule, &[1, 4, 2]), Some(Place::Line(10)));
+    assert_eq!(rt;
+        found(rt, &marks, block, rule, &[1, 2, 4]),
+        Some(Place::Line(9))
+    );
+    assert_eq!(rt;
+        found(rt, &marks, block, rule, &[1, 4, 2]),
+        Some(Place::Line(10))
+    );
     assert_eq!(rt; found(rt, &marks, block, rule, &[1, 2]), None);
     assert_eq!(rt; found(rt, &marks, block, Rule::NoneNamed, &[1, 3, 2]), None);
     marks.clear();
@@ -77,7 +89,10 @@ fn check_earlier<R: AllocGlobal + Abort>(rt: &R, block: &Block) {
     let rule = Rule::WrittenEarlier;
     let mut marks = Marks::new(rt.alloc(), block, &Profile::standard());
     keep(rt, &mut marks, block, rule, &[1, 2, 3], 1);
-    assert_eq!(rt; found(rt, &marks, block, rule, &[1, 3, 2]), Some(Place::Line(1)));
+    assert_eq!(rt;
+        found(rt, &marks, block, rule, &[1, 3, 2]),
+        Some(Place::Line(1))
+    );
     assert_eq!(rt; found(rt, &marks, block, rule, &[1, 2, 3]), None);
 }
 
@@ -91,12 +106,24 @@ fn check_settled<R: AllocGlobal + Abort>(rt: &R, block: &Block) {
     marks.settle(9, 40);
     keep(rt, &mut marks, block, rule, &[1, 2, 4], 2);
     assert_eq!(rt; found(rt, &marks, block, rule, &[1]), Some(Place::Node(9)));
-    assert_eq!(rt; found(rt, &marks, block, rule, &[1, 2]), Some(Place::Node(40)));
-    assert_eq!(rt; found(rt, &marks, block, rule, &[1, 3, 2]), Some(Place::Node(44)));
-    assert_eq!(rt; found(rt, &marks, block, rule, &[1, 2, 4]), Some(Place::Line(2)));
+    assert_eq!(rt;
+        found(rt, &marks, block, rule, &[1, 2]),
+        Some(Place::Node(40))
+    );
+    assert_eq!(rt;
+        found(rt, &marks, block, rule, &[1, 3, 2]),
+        Some(Place::Node(44))
+    );
+    assert_eq!(rt;
+        found(rt, &marks, block, rule, &[1, 2, 4]),
+        Some(Place::Line(2))
+    );
     marks.forget_lines();
     assert_eq!(rt; found(rt, &marks, block, rule, &[1, 2, 4]), None);
-    assert_eq!(rt; found(rt, &marks, block, rule, &[1, 3, 2]), Some(Place::Node(44)));
+    assert_eq!(rt;
+        found(rt, &marks, block, rule, &[1, 3, 2]),
+        Some(Place::Node(44))
+    );
 }
 
 #[test]
@@ -135,7 +162,13 @@ fn check_sets<R: AllocGlobal + Abort>(rt: &R, block: &Block) {
     }
     for set in 0..128u32 {
         assert_eq!(rt;
-            found(rt, &marks, block, Rule::ClampedStanding, numbers_of(2 * set).as_slice()),
+            found(
+                rt,
+                &marks,
+                block,
+                Rule::ClampedStanding,
+                numbers_of(2 * set).as_slice()
+            ),
             Some(Place::Line(set)),
             "{set}"
         );
