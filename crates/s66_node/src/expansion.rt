@@ -96,8 +96,8 @@ pub fn expand_with<L: Least>(
     Walk::new(block, profile).expand_with(alloc, prefix, incumbent, allowance)
 }
 
-/// Expands a prefix as `expand` does, but a prefix below it that an earlier node of the same tree dominates isn't split. It is a
-/// dominated leaf, if it is incomplete and its floor is below the best time.
+/// Expands a prefix as `expand` does, but a prefix below it that an earlier node of the same tree dominates isn't split. It
+/// is a dominated leaf, if it is incomplete and its floor is below the best time.
 pub fn expand_dominated(
     alloc: Global,
     block: &Block,
@@ -174,12 +174,12 @@ impl Walk<'_> {
         self.expand_by(alloc, prefix, incumbent, allowance, rule, &mut NoNames)
     }
 
-    /// Goes to a prefix and expands it as `expand_with` does, but a prefix below it that a known node dominates isn't split. It is a
-    /// dominated leaf, if it is incomplete and its floor is below the last best time.
+    /// Goes to a prefix and expands it as `expand_with` does, but a prefix below it that a known node dominates isn't split.
+    /// It is a dominated leaf, if it is incomplete and its floor is below the last best time.
     ///
-    /// Where earlier nodes are named, the marks are forgotten first, and then those of the prefixes that are split here are kept.
-    /// Where others are named too, those of the prefixes that are split or stay open are kept, beside the marks that were there; but
-    /// those of lines that weren't settled are forgotten first. On `Err` some may have been kept.
+    /// Where earlier nodes are named, the marks are forgotten first, and then those of the prefixes that are split here are
+    /// kept. Where others are named too, those of the prefixes that are split or stay open are kept, beside the marks that
+    /// were there; but those of lines that weren't settled are forgotten first. On `Err` some may have been kept.
     pub fn expand_dominated<L: Least>(
         &mut self,
         alloc: Global,

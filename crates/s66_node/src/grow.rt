@@ -48,8 +48,8 @@ fn unsplit_knot(walk: &Walk<'_>, value: u32, best: u32, may_split: bool) -> Opti
     }
 }
 
-/// What the walk's prefix has below the root, where it may be split by the best time: the name of a node that dominates it, if one
-/// is known; else nothing if it is to be split, or a place in the frontier.
+/// What the walk's prefix has below the root, where it may be split by the best time: the name of a node that dominates it,
+/// if one is known; else nothing if it is to be split, or a place in the frontier.
 fn open_knot<N: Naming>(
     alloc: Global,
     walk: &Walk<'_>,
@@ -117,14 +117,14 @@ fn keep_whole(least: &mut Option<WholeOrder>, walk: &Walk<'_>, knot: &Knot)
     }
 }
 
-/// The tree over the walk's prefix, made depth first by rising number: at most `allowance` splits, each at an incomplete prefix
-/// whose floor is below the best time. That is asked for at the walk's prefix, and before each split below it.
+/// The tree over the walk's prefix, made depth first by rising number: at most `allowance` splits, each at an incomplete
+/// prefix whose floor is below the best time. That is asked for at the walk's prefix, and before each split below it.
 ///
 /// A split costs one look at each instruction that remains, and each of its children a push, an undo and a floor. Nothing is
 /// allocated but room for lines.
 ///
-/// Below its root, a prefix that would be split or stay open is dominated if a node is known that dominates it by the rule. Those
-/// that are split or stay open may be known from then on.
+/// Below its root, a prefix that would be split or stay open is dominated if a node is known that dominates it by the rule.
+/// Those that are split or stay open may be known from then on.
 pub(crate) fn grow<L: Least, N: Naming>(
     alloc: Global,
     walk: &mut Walk<'_>,

@@ -38,8 +38,8 @@ struct Entry {
 
 /// Marks of beginnings of a block's legal orders, found by the sets of their numbers.
 ///
-/// At most 65,536 are kept in all, and of those that are compared clamped at most 16 of one set. Where memory runs out, or there are
-/// as many, a mark isn't kept.
+/// At most 65,536 are kept in all, and of those that are compared clamped at most 16 of one set. Where memory runs out, or
+/// there are as many, a mark isn't kept.
 #[derive(Debug, Drop)]
 pub struct Marks<'a> {
     block: &'a Block<'a>,
@@ -250,8 +250,8 @@ impl<'a> Marks<'a> {
         self.entries.clear();
     }
 
-    /// The numbers of a beginning that dominates a walk's prefix, as the rule asks, and where its node may be found. Clamped, it may
-    /// be that beginning itself.
+    /// The numbers of a beginning that dominates a walk's prefix, as the rule asks, and where its node may be found.
+    /// Clamped, it may be that beginning itself.
     pub fn find(&self, walk: &Walk<'_>, rule: Rule) -> Option<(&[u8], Place)>
         requires { self.now.problem ≡ walk.now.problem }
         ensures dominates { IfSome result (λ found. IsIncomplete walk.now.problem.block walk.now.numbers → DominatesByRule rule walk.now.problem found.0.now walk.now.numbers) }
@@ -304,7 +304,8 @@ impl<'a> Marks<'a> {
         Ok(())
     }
 
-    /// Keeps the mark of a walk's prefix, which has this line of a piece, and forgets those beside which it is enough by the rule.
+    /// Keeps the mark of a walk's prefix, which has this line of a piece, and forgets those beside which it is enough by the
+    /// rule.
     pub fn insert(&mut self, walk: &Walk<'_>, rule: Rule, line: usize)
         requires { self.old.problem ≡ walk.now.problem }
         ensures same { self.new.problem ≡ self.old.problem }
@@ -332,8 +333,8 @@ impl<'a> Marks<'a> {
         );
     }
 
-    /// Says which nodes of a ledger the lines of the last piece have become: its root this one, and the others those from `first` on,
-    /// in their order.
+    /// Says which nodes of a ledger the lines of the last piece have become: its root this one, and the others those from
+    /// `first` on, in their order.
     pub fn settle(&mut self, root: u32, first: u32)
         ensures { self.new ≡ self.old }
     {

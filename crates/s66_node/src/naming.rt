@@ -38,8 +38,8 @@ pub(crate) trait Naming {
         ensures suits { suits self.new walk.now.problem }
         ensures known { (name : List ℕ) → Among name (names self.new) → (name ≡ walk.now.numbers) ⊎ Among name (names self.old) };
 
-    /// May know the walk's prefix from now on, which isn't split and has this knot in this line. By the rule of earlier nodes it
-    /// doesn't.
+    /// May know the walk's prefix from now on, which isn't split and has this knot in this line. By the rule of earlier
+    /// nodes it doesn't.
     fn keep_tip(&mut self, walk: &Walk<'_>, rule: Rule, line: usize, knot: &Knot)
         requires suits { suits self.old walk.now.problem }
         ensures suits { suits self.new walk.now.problem }

@@ -1,4 +1,4 @@
-//! Tests of orders, of the clock and its marks and bounds, of a table of marks, and of expansions by it.
+//! Tests of orders, of the clock, its marks and bounds, and of tables of marks and what they dominate.
 #![tactic(auto)]
 
 #[cfg(test)]
