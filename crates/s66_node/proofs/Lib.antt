@@ -1,5 +1,7 @@
+pub mod Earlier
 pub mod Growing
 pub mod Leasts
+pub mod NamedSplits
 pub mod Outlines
 pub mod Pieces
 pub mod Firsts

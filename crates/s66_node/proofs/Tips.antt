@@ -1,15 +1,16 @@
 -- What is told of a prefix that isn't split, by its floor.
-use Rattle.std.proofs.Common.{ℕ, ◌≤◌, ◌≡◌, ◌≢◌, Bool, true, false, nat_lt, ◌&&◌, List, [], ◌∷◌, ◌++◌, length, refl, sym, ap, arith, inl, inr, ◌∙◌, subst, Option, None, Some, IfSome}
+use Rattle.std.proofs.Common.{ℕ, ◌≤◌, ◌≡◌, ◌≢◌, Bool, true, false, nat_lt, ◌&&◌, List, [], ◌∷◌, ◌++◌, length, refl, sym, ap, arith, inl, inr, ◌∙◌, subst, Option}
 use Rattle.std.proofs.lemmas.Bool.{eq-eqb, cases_Bool}
 use Rattle.std.proofs.lemmas.List.{append-nil}
 use Rattle.s66_isa.specs.Lists.{every}
 use Rattle.s66_model.specs.declared.rule.Rule.{Rule}
+use Rattle.s66_model.specs.declared.rule.Rule.TheVariants.{NoneNamed}
 use Rattle.s66_model.specs.Timing.{Problem, total_of}
 use Rattle.s66_model.specs.LegalOrder.{IsBeginning, IsComplete, IsLegal}
 use Rattle.s66_model.specs.Leaves.{Leaf, Whole, Chain, Load, Parcels, value, longest_chain, first_greatest, after_chain, floor}
-use Rattle.s66_model.specs.Piece.{Tip, Carries, TipHolds}
+use Rattle.s66_model.specs.Piece.{Tip, Carries, TipHolds, IsNamedIn}
 use Rattle.s66_model.specs.Expansion.{TipHoldsWhile, whole_at}
-use Rattle.s66_model.specs.Tree.{Tree, AtTip}
+use Rattle.s66_model.specs.Tree.{Tree, Alone, AtTip}
 use Rattle.s66_model.proofs.LegalOrders.{order-legal}
 use Rattle.s66_model.proofs.Floors.{floor-part}
 use Rattle.s66_node.specs.declared.knot.Knot as code
@@ -55,16 +56,16 @@ part-none b at ne =
 
 -- WHOLE ORDERS that are told of
 
-pub told-none : (b : Problem) (best : Span) (at : List ℕ) (told : Told) → IsTold b best at told → ((v : ℕ) → told ≡ ToldLeaf v → length at ≢ length b.block) → whole_told b at told ≡ []
-told-none b best at (ToldLeaf v) h part = part-none b at (part v refl)
-told-none b best at (ToldFrontier v) h part = refl
-told-none b best at (ToldPassed v name) h part = refl
+pub told-none : (rule : Rule) (b : Problem) (best : Span) (at : List ℕ) (told : Told) → IsTold rule b best at told → ((v : ℕ) → told ≡ ToldLeaf v → length at ≢ length b.block) → whole_told b at told ≡ []
+told-none rule b best at (ToldLeaf v) h part = part-none b at (part v refl)
+told-none rule b best at (ToldFrontier v) h part = refl
+told-none rule b best at (ToldPassed v name) h part = refl
 
 pub told-order : (b : Problem) (at : List ℕ) (v : ℕ) → IsComplete b.block at → whole_told b at (ToldLeaf v) ≡ at ∷ []
 told-order b at v h = ap (λ leaf. whole_at at (Carries leaf)) (complete-whole b at h)
 
-pub told-total : (b : Problem) (best : Span) (at : List ℕ) (v : ℕ) → IsComplete b.block at → IsTold b best at (ToldLeaf v) → v ≡ total_of b at
-told-total b best at v h told = told.0 ∙ ap (value b at) (complete-whole b at h)
+pub told-total : (rule : Rule) (b : Problem) (best : Span) (at : List ℕ) (v : ℕ) → IsComplete b.block at → IsTold rule b best at (ToldLeaf v) → v ≡ total_of b at
+told-total rule b best at v h told = told.0 ∙ ap (value b at) (complete-whole b at h)
 
 pub told-legal : (b : Problem) (at : List ℕ) → IsBeginning b.block at → IsComplete b.block at → IsLegal b.block at
 told-legal b at begins h = order-legal b.block at (begins, h)
@@ -77,32 +78,51 @@ leaf-told knot v told is seen = let e : seen_knot (line.Leaf v) ≡ AtTip told =
 
 -- WHAT IS TOLD IS TRUE
 
--- in a piece over this prefix, with this tree
+-- in a piece over this prefix, with this tree, where the name is as the rule asks
 module _ (rule : Rule) (b : Problem) (prefix : List ℕ) (tree : Tree Tip) where
-  pub told-true : (best : Span) (at : List ℕ) (told : Told) → IsTold b best at told → ToldHolds rule b prefix tree at told
-  told-true best at (ToldLeaf v) h = h.0
-  told-true best at (ToldFrontier v) h = (h.0, h.1.0)
-  told-true best at (ToldPassed v name) h = absurd h
+  abbrev pub Named : List ℕ → Told → Type 0
+  Named at told = (value : ℕ) (name : List ℕ) → told ≡ ToldPassed value name → IsNamedIn rule prefix tree at name
 
-  pub told-tip : (best : Span) (at : List ℕ) (told : Told) → IsTold b best at told → TipHoldsWhile rule b best.high best.low prefix tree at (tip_of b at told)
-  told-tip best at (ToldLeaf v) h = (refl, elim h.1 [ inl whole ↦ inl whole | inr le ↦ inr (omega (arith, le, h.0)) ])
-  told-tip best at (ToldFrontier v) h = h.1
-  told-tip best at (ToldPassed v name) h = absurd h
+  pub told-true : (best : Span) (at : List ℕ) (told : Told) → IsTold rule b best at told × Named at told → ToldHolds rule b prefix tree at told
+  told-true best at (ToldLeaf v) (h, named) = h.0
+  told-true best at (ToldFrontier v) (h, named) = (h.0, h.1.0)
+  told-true best at (ToldPassed v name) (h, named) = (h.0, h.2, named v name refl)
+
+  pub told-tip : (best : Span) (at : List ℕ) (told : Told) → IsTold rule b best at told × Named at told → TipHoldsWhile rule b best.high best.low prefix tree at (tip_of b at told)
+  told-tip best at (ToldLeaf v) (h, named) = (refl, elim h.1 [ inl whole ↦ inl whole | inr le ↦ inr (omega (arith, le, h.0)) ])
+  told-tip best at (ToldFrontier v) (h, named) = h.1
+  told-tip best at (ToldPassed v name) (h, named) = ((h.2, named v name refl), h.1.1)
 
   pub holds-tip : (at : List ℕ) (told : Told) → ToldHolds rule b prefix tree at told → TipHolds rule b prefix tree at (tip_of b at told)
   holds-tip at (ToldLeaf v) h = refl
   holds-tip at (ToldFrontier v) h = h.1
   holds-tip at (ToldPassed v name) h = (h.1, h.2)
 
+pub passed-name : (v : ℕ) (n : List ℕ) (value : ℕ) (name : List ℕ) → ToldPassed v n ≡ ToldPassed value name → n ≡ name
+passed-name v n value name e = cc
+
+-- WITHOUT NAMES
+
+-- what is told then is told by any rule
+pub told-any : (rule : Rule) (b : Problem) (best : Span) (at : List ℕ) (told : Told) → IsTold NoneNamed b best at told → IsTold rule b best at told
+told-any rule b best at (ToldLeaf v) h = h
+told-any rule b best at (ToldFrontier v) h = h
+told-any rule b best at (ToldPassed v name) h = absurd h.2
+
+-- and no prefix is dominated
+pub told-unnamed : (b : Problem) (best : Span) (at : List ℕ) (told : Told) (value : ℕ) (name : List ℕ) → IsTold NoneNamed b best at told → told ≡ ToldPassed value name → ⊥
+told-unnamed b best at told value name h is = (subst (IsTold NoneNamed b best at) is h).2
+
+pub line-unnamed : (b : Problem) (best : Span) (at : List ℕ) (told : Told) (value : ℕ) (name : List ℕ) → IsTold NoneNamed b best at told → AtTip (ToldPassed value name) ≡ AtTip told → ⊥
+line-unnamed b best at told value name h is = told-unnamed b best at told value name h (let e : told ≡ ToldPassed value name = cc in e)
+
+pub alone-unnamed : (b : Problem) (best : Span) (at : List ℕ) (told : Told) (value : ℕ) (name : List ℕ) → IsTold NoneNamed b best at told → ¬ (Alone told ≡ Alone (ToldPassed value name))
+alone-unnamed b best at told value name h is = told-unnamed b best at told value name h (let e : told ≡ ToldPassed value name = cc in e)
+
 -- WHILE THE BEST TIME FALLS
 
 -- what is told is told of wider best times
-pub told-wider : (b : Problem) (high low more less : ℕ) (at : List ℕ) (told : Told) → high ≤ more → less ≤ low → IsTold b (span high low) at told → IsTold b (span more less) at told
-told-wider b high low more less at (ToldLeaf v) up down h = (h.0, elim h.1 [ inl whole ↦ inl whole | inr le ↦ inr (omega arith) ])
-told-wider b high low more less at (ToldFrontier v) up down h = (h.0, (h.1.0, omega (arith, h.1.1)))
-told-wider b high low more less at (ToldPassed v name) up down h = absurd h
-
--- what is told by the low one is told of both
-pub told-since : (b : Problem) (high low : ℕ) (at : List ℕ) (knot : Option code.Knot) → low ≤ high → IfSome knot (λ k. (told : Told) × (seen_knot k ≡ AtTip told) × IsTold b (span low low) at told) → IfSome knot (λ k. (told : Told) × (seen_knot k ≡ AtTip told) × IsTold b (span high low) at told)
-told-since b high low at None le h = h
-told-since b high low at (Some k) le (told, line, holds) = (told, line, told-wider b low low high low at told le (omega arith) holds)
+pub told-wider : (rule : Rule) (b : Problem) (high low more less : ℕ) (at : List ℕ) (told : Told) → high ≤ more → less ≤ low → IsTold rule b (span high low) at told → IsTold rule b (span more less) at told
+told-wider rule b high low more less at (ToldLeaf v) up down h = (h.0, elim h.1 [ inl whole ↦ inl whole | inr le ↦ inr (omega arith) ])
+told-wider rule b high low more less at (ToldFrontier v) up down h = (h.0, (h.1.0, omega (arith, h.1.1)))
+told-wider rule b high low more less at (ToldPassed v name) up down h = (h.0, (h.1.0, omega (arith, h.1.1)), h.2)

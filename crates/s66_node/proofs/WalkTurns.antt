@@ -1,12 +1,14 @@
 -- Each turn of a walk.
-use Rattle.std.proofs.Common.{ℕ, ◌+◌, ◌-◌, ◌*◌, ◌≤◌, ◌<◌, ◌≡◌, ◌==◌, true, false, List, [], ◌∷◌, ◌++◌, length, map, refl, sym, ap, arith, inl, inr, ◌∙◌, length-append, subst, Option, None, eqb-true}
+use Rattle.std.proofs.Common.{ℕ, ◌+◌, ◌-◌, ◌*◌, ◌≤◌, ◌<◌, ◌≡◌, ◌==◌, ◌⊎◌, true, false, List, [], ◌∷◌, ◌++◌, length, map, refl, sym, ap, arith, inl, inr, ◌∙◌, length-append, subst, Option, None, eqb-true}
 use Rattle.std.proofs.lemmas.List.{reverse-append, length-take, map-append}
 use Rattle.s66_isa.specs.declared.limits.TheConstants.{BLOCK_LIMIT}
 use Rattle.s66_isa.specs.Lists.{Among, weigh}
-use Rattle.s66_isa.proofs.Lists.{weigh-append}
+use Rattle.s66_isa.proofs.Lists.{weigh-append, among-front, among-rest}
+use Rattle.s66_model.specs.declared.rule.Rule.{Rule}
+use Rattle.s66_model.specs.declared.rule.Rule.TheVariants.{WrittenEarlier}
 use Rattle.s66_model.specs.Timing.{Problem}
 use Rattle.s66_model.specs.LegalOrder.{IsBeginning, is_ready, ready}
-use Rattle.s66_model.specs.Tree.{Tree, Knot, AtTip, AtSplit, TreeHolds, flat, splits, tree_values}
+use Rattle.s66_model.specs.Tree.{Tree, Alone, Parted, Knot, AtTip, AtSplit, TreeHolds, flat, splits, split_at, tree_values}
 use Rattle.s66_model.proofs.Remaining.{step-begins, ready-among}
 use Rattle.s66_dep.specs.declared.set.Set.{Set}
 use Rattle.s66_dep.specs.Members.{numbers_in}
@@ -16,9 +18,10 @@ use Rattle.s66_node.specs.declared.knot.Knot as code
 use Rattle.s66_node.specs.declared.whole_order.WholeOrder.{WholeOrder}
 use Rattle.s66_node.specs.Walked.{front}
 use Rattle.s66_node.specs.Growing.{TreeGrows}
-use Rattle.s66_model.specs.Told.{Told}
+use Rattle.s66_model.specs.Told.{Told, ToldPassed}
 use Rattle.s66_node.specs.SeenKnots.{seen, seen_knot}
-use Rattle.s66_node.specs.Walking.{Span, AreOpen, IsDue, IsTold, IsLeast, IsWalk, GrowsFor, lefts, whole_told}
+use Rattle.s66_node.specs.Walking.{Span, AreOpen, IsDue, IsTold, IsLeast, IsWalk, GrowsFor, AreOfSplits, NameSplits, lefts, whole_told}
+use Rattle.s66_node.proofs.Leasts.{among-either}
 use Rattle.s66_node.proofs.Growing.{front-push, grows-root, grows-up, grows-tip, grows-split, grows-done, tree-holds, splits-count}
 
 -- one line more
@@ -44,24 +47,56 @@ length-front : (xs : List ℕ) → length xs ≤ length (front xs) + 1
 length-front xs = omega (arith, length-take (length xs - 1) xs)
 
 -- with no frame it stands nowhere
-nowhere : (b : Problem) (best : Span) (root at : List ℕ) (knots : List (Knot Told)) (found cuts : List (List ℕ)) → GrowsFor b best root (front at) [] knots found cuts → GrowsFor b best root at [] knots found cuts
-nowhere b best root at knots found cuts g [] h = g [] tt
-nowhere b best root at knots found cuts g (kids ∷ rests) h = absurd h
+nowhere : (rule : Rule) (b : Problem) (best : Span) (root at : List ℕ) (knots : List (Knot Told)) (found cuts : List (List ℕ)) → GrowsFor rule b best root (front at) [] knots found cuts → GrowsFor rule b best root at [] knots found cuts
+nowhere rule b best root at knots found cuts g [] h = g [] tt
+nowhere rule b best root at knots found cuts g (kids ∷ rests) h = absurd h
 
-module _ (b : Problem) (best : Span) (allowance : ℕ) (root : List ℕ) where
-  pub walk-root : (frame : Set) → 1 ≤ allowance → IsBeginning b.block root → IsDue b best.high root → numbers_in frame ≡ ready b.block root → IsWalk b best allowance root root (frame ∷ []) (AtSplit (ready b.block root) ∷ []) 1 None
-  walk-root frame le begins due is =
+-- WHAT MAY BE NAMED
+
+-- a prefix that is split may be named, beside what might be before
+names-split : (rule : Rule) (cuts names more : List (List ℕ)) (now : List ℕ) → AreOfSplits rule cuts names → ((name : List ℕ) → Among name more → (name ≡ now) ⊎ Among name names) → AreOfSplits rule (cuts ++ now ∷ []) more
+names-split rule cuts names more now are new by name among =
+    elim (new name among) [
+      | inl is ↦ among-rest name cuts (now ∷ []) (inl is)
+      | inr before ↦ among-front name cuts (now ∷ []) (are by name before)
+    ]
+
+-- its line names nothing
+lines-split : (rule : Rule) (cuts : List (List ℕ)) (now numbers : List ℕ) (knots : List (Knot Told)) → NameSplits rule cuts knots → NameSplits rule (cuts ++ now ∷ []) (knots ++ AtSplit numbers ∷ [])
+lines-split rule cuts now numbers knots have by value name among =
+    let line : Knot Told = AtTip (ToldPassed value name) in
+    among-either line knots (AtSplit numbers ∷ []) (Among name (cuts ++ now ∷ []))
+    (λ before. among-front name cuts (now ∷ []) (have by value name before))
+    (λ here. elim here [ inl is ↦ absurd cc | inr none ↦ absurd none ]) among
+
+-- the line of one that isn't split names what may be named
+lines-tip : (rule : Rule) (cuts names : List (List ℕ)) (told : Told) (knots : List (Knot Told)) → AreOfSplits rule cuts names → ((value : ℕ) (name : List ℕ) → told ≡ ToldPassed value name → Among name names) → NameSplits rule cuts knots → NameSplits rule cuts (knots ++ AtTip told ∷ [])
+lines-tip rule cuts names told knots are named have by value name among =
+    let line : Knot Told = AtTip (ToldPassed value name) in
+    among-either line knots (AtTip told ∷ []) (Among name cuts) (have by value name)
+    (λ here. elim here [ inl is ↦ are by name (named value name (tip-same told (ToldPassed value name) (sym is))) | inr none ↦ absurd none ]) among
+  where
+    tip-same : (x y : Told) → AtTip x ≡ AtTip y → x ≡ y
+    tip-same x y e = cc
+
+parted : (value : ℕ) (name : List ℕ) (tree : Tree Told) → 1 ≤ splits tree → ¬ (tree ≡ Alone (ToldPassed value name))
+parted value name (Alone told) some is = absurd (omega (arith, some))
+parted value name (Parted numbers kids) some is = cc
+
+module _ (rule : Rule) (b : Problem) (best : Span) (allowance : ℕ) (root : List ℕ) where
+  pub walk-root : (frame : Set) (before names : List (List ℕ)) → (rule ≡ WrittenEarlier → before ≡ []) → ((name : List ℕ) → Among name names → (name ≡ root) ⊎ Among name before) → 1 ≤ allowance → IsBeginning b.block root → IsDue b best.high root → numbers_in frame ≡ ready b.block root → IsWalk rule b best allowance root root (frame ∷ []) (AtSplit (ready b.block root) ∷ []) 1 None names
+  walk-root frame before names empty new le begins due is =
       let stand : AreOpen b.block root (ready b.block root ∷ []) = (begins, (λ n among. ready-among b.block root n among), tt) in
-      let grown = grows-root b.block (IsDue b best.high) (IsTold b best) (whole_told b) root due in
+      let grown = grows-root b.block (IsDue b best.high) (IsTold rule b best) (whole_told b) root due in
       record {
         standing = subst (λ ns. AreOpen b.block root (ns ∷ [])) (sym is) stand;
         depth = omega arith;
         within = le;
         some = omega arith;
-        grows = ([], root ∷ [], subst (λ ns. GrowsFor b best root root (ns ∷ []) (AtSplit (ready b.block root) ∷ []) [] (root ∷ [])) (sym is) grown, refl, refl);
+        grows = ([], root ∷ [], subst (λ ns. GrowsFor rule b best root root (ns ∷ []) (AtSplit (ready b.block root) ∷ []) [] (root ∷ [])) (sym is) grown, refl, refl, names-split rule [] before names root (λ by name among. absurd (subst (Among name) (empty by) among)) new, lines-split rule [] root (ready b.block root) [] (λ by value name none. absurd none));
       }
 
-  module _ (at : List ℕ) (old fs : List Set) (f : Set) (knots : List (Knot Told)) (count : ℕ) (least : Option WholeOrder) (walk : IsWalk b best allowance root at old knots count least) (popped : old ≡ fs ++ f ∷ []) where
+  module _ (at : List ℕ) (old fs : List Set) (f : Set) (knots : List (Knot Told)) (count : ℕ) (least : Option WholeOrder) (names : List (List ℕ)) (walk : IsWalk rule b best allowance root at old knots count least names) (popped : old ≡ fs ++ f ∷ []) where
     stands : AreOpen b.block at (numbers_in f ∷ lefts fs)
     stands = subst (AreOpen b.block at) (ap lefts popped ∙ lefts-push fs f) walk.standing
 
@@ -86,39 +121,39 @@ module _ (b : Problem) (best : Span) (allowance : ℕ) (root : List ℕ) where
     still n f2 is =
         subst (AreOpen b.block at) (sym (lefts-push fs f2)) (stands.0, (λ m among. stands.1 m (subst (Among m) (sym is) (inr among))), stands.2)
 
-    was : (n : ℕ) (f2 : Set) → numbers_in f ≡ n ∷ numbers_in f2 → (found cuts : List (List ℕ)) → GrowsFor b best root at (lefts old) knots found cuts → GrowsFor b best root at ((n ∷ numbers_in f2) ∷ lefts fs) knots found cuts
+    was : (n : ℕ) (f2 : Set) → numbers_in f ≡ n ∷ numbers_in f2 → (found cuts : List (List ℕ)) → GrowsFor rule b best root at (lefts old) knots found cuts → GrowsFor rule b best root at ((n ∷ numbers_in f2) ∷ lefts fs) knots found cuts
     was n f2 is found cuts g =
         let e : lefts old ≡ (n ∷ numbers_in f2) ∷ lefts fs = ap lefts popped ∙ (lefts-push fs f ∙ ap (λ ns. ns ∷ lefts fs) is) in
-        subst (λ x. GrowsFor b best root at x knots found cuts) e g
+        subst (λ x. GrowsFor rule b best root at x knots found cuts) e g
 
     -- a child that isn't split
-    pub walk-tip : (n : ℕ) (f2 : Set) (new : List Set) (more : List (Knot Told)) (least2 : Option WholeOrder) (told : Told) (p : Problem) (now back : List ℕ) → numbers_in f ≡ n ∷ numbers_in f2 → new ≡ fs ++ f2 ∷ [] → p ≡ b → now ≡ at ++ n ∷ [] → back ≡ front now → IsTold p best now told → more ≡ knots ++ AtTip told ∷ [] → ((found : List (List ℕ)) → IsLeast p found least → IsLeast p (found ++ whole_told p now told) least2) → IsWalk b best allowance root back new more count least2
-    walk-tip n f2 new more least2 told p now back is pushed own next up holds lines lower =
+    pub walk-tip : (n : ℕ) (f2 : Set) (new : List Set) (more : List (Knot Told)) (least2 : Option WholeOrder) (names2 : List (List ℕ)) (told : Told) (p : Problem) (now back : List ℕ) → (rule ≡ WrittenEarlier → names2 ≡ names) → ((value : ℕ) (name : List ℕ) → told ≡ ToldPassed value name → Among name names) → numbers_in f ≡ n ∷ numbers_in f2 → new ≡ fs ++ f2 ∷ [] → p ≡ b → now ≡ at ++ n ∷ [] → back ≡ front now → IsTold rule p best now told → more ≡ knots ++ AtTip told ∷ [] → ((found : List (List ℕ)) → IsLeast p found least → IsLeast p (found ++ whole_told p now told) least2) → IsWalk rule b best allowance root back new more count least2 names2
+    walk-tip n f2 new more least2 names2 told p now back same named is pushed own next up holds lines lower =
         let child = at ++ n ∷ [] in
         let back_is : back ≡ at = up ∙ (ap front next ∙ front-push at n) in
-        let holds2 : IsTold b best child told = subst (λ x. IsTold b best x told) next (subst (λ (q : Problem). IsTold q best now told) own holds) in
-        let (found, cuts, g, count_is, l) = walk.grows in
-        let g2 = grows-tip b.block (IsDue b best.high) (IsTold b best) (whole_told b) root at n (numbers_in f2) (lefts fs) knots found cuts told holds2 (was n f2 is found cuts g) in
+        let holds2 : IsTold rule b best child told = subst (λ x. IsTold rule b best x told) next (subst (λ (q : Problem). IsTold rule q best now told) own holds) in
+        let (found, cuts, g, count_is, l, are, have) = walk.grows in
+        let g2 = grows-tip b.block (IsDue b best.high) (IsTold rule b best) (whole_told b) root at n (numbers_in f2) (lefts fs) knots found cuts told holds2 (was n f2 is found cuts g) in
         let l1 : IsLeast b (found ++ whole_told b now told) least2 = subst (λ (q : Problem). IsLeast q found least → IsLeast q (found ++ whole_told q now told) least2) own (lower found) l in
         let l2 = subst (λ x. IsLeast b (found ++ whole_told b x told) least2) next l1 in
-        let g3 = subst (λ x. GrowsFor b best root at x (knots ++ AtTip told ∷ []) (found ++ whole_told b child told) cuts) (sym (lefts-push fs f2)) g2 in
+        let g3 = subst (λ x. GrowsFor rule b best root at x (knots ++ AtTip told ∷ []) (found ++ whole_told b child told) cuts) (sym (lefts-push fs f2)) g2 in
         rw (back_is, pushed, lines)
         (record {
           standing = still n f2 is;
           depth = omega (arith, deep, length-append fs (f2 ∷ []));
           within = walk.within;
           some = walk.some;
-          grows = (found ++ whole_told b child told, cuts, g3, count_is, l2);
+          grows = (found ++ whole_told b child told, cuts, g3, count_is, l2, (λ by name among. are by name (subst (Among name) (same by) among)), lines-tip rule cuts names told knots are named have);
         })
 
     -- a child that is split
-    pub walk-split : (n : ℕ) (f2 f3 : Set) (mid new : List Set) (more : List (Knot Told)) (p : Problem) (now : List ℕ) → numbers_in f ≡ n ∷ numbers_in f2 → mid ≡ fs ++ f2 ∷ [] → new ≡ mid ++ f3 ∷ [] → p ≡ b → now ≡ at ++ n ∷ [] → IsDue p best.high now → numbers_in f3 ≡ ready p.block now → more ≡ knots ++ AtSplit (numbers_in f3) ∷ [] → count < allowance → IsWalk b best allowance root now new more (count + 1) least
-    walk-split n f2 f3 mid new more p now is put pushed own next due ready_is lines lt =
+    pub walk-split : (n : ℕ) (f2 f3 : Set) (mid new : List Set) (more : List (Knot Told)) (names2 : List (List ℕ)) (p : Problem) (now : List ℕ) → ((name : List ℕ) → Among name names2 → (name ≡ now) ⊎ Among name names) → numbers_in f ≡ n ∷ numbers_in f2 → mid ≡ fs ++ f2 ∷ [] → new ≡ mid ++ f3 ∷ [] → p ≡ b → now ≡ at ++ n ∷ [] → IsDue p best.high now → numbers_in f3 ≡ ready p.block now → more ≡ knots ++ AtSplit (numbers_in f3) ∷ [] → count < allowance → IsWalk rule b best allowance root now new more (count + 1) least names2
+    walk-split n f2 f3 mid new more names2 p now fresh is put pushed own next due ready_is lines lt =
         let child = at ++ n ∷ [] in
         let due2 : IsDue b best.high child = subst (λ x. IsDue b best.high x) next (subst (λ (q : Problem). IsDue q best.high now) own due) in
         let numbers_are : numbers_in f3 ≡ ready b.block child = subst (λ x. numbers_in f3 ≡ ready b.block x) next (subst (λ (q : Problem). numbers_in f3 ≡ ready q.block now) own ready_is) in
-        let (found, cuts, g, count_is, l) = walk.grows in
-        let g2 = grows-split b.block (IsDue b best.high) (IsTold b best) (whole_told b) root at n (numbers_in f2) (numbers_in f3) (lefts fs) knots found cuts due2 numbers_are (was n f2 is found cuts g) in
+        let (found, cuts, g, count_is, l, are, have) = walk.grows in
+        let g2 = grows-split b.block (IsDue b best.high) (IsTold rule b best) (whole_told b) root at n (numbers_in f2) (numbers_in f3) (lefts fs) knots found cuts due2 numbers_are (was n f2 is found cuts g) in
         let frames : lefts ((fs ++ f2 ∷ []) ++ f3 ∷ []) ≡ numbers_in f3 ∷ (numbers_in f2 ∷ lefts fs) = lefts-push (fs ++ f2 ∷ []) f3 ∙ ap (λ ns. numbers_in f3 ∷ ns) (lefts-push fs f2) in
         let all : new ≡ (fs ++ f2 ∷ []) ++ f3 ∷ [] = pushed ∙ ap (λ x. x ++ f3 ∷ []) put in
         let back : AreOpen b.block (front child) (numbers_in f2 ∷ lefts fs) = subst (λ x. AreOpen b.block x (numbers_in f2 ∷ lefts fs)) (sym (front-push at n)) (subst (AreOpen b.block at) (lefts-push fs f2) (still n f2 is)) in
@@ -129,47 +164,55 @@ module _ (b : Problem) (best : Span) (allowance : ℕ) (root : List ℕ) where
           depth = omega (arith, deep, length-append (fs ++ f2 ∷ []) (f3 ∷ []), length-append fs (f2 ∷ []), length-append at (n ∷ []));
           within = omega (arith, lt);
           some = omega arith;
-          grows = (found, cuts ++ child ∷ [], subst (λ x. GrowsFor b best root child x (knots ++ AtSplit (numbers_in f3) ∷ []) found (cuts ++ child ∷ [])) (sym frames) g2, omega (arith, count_is, length-append cuts (child ∷ [])), l);
+          grows = (found, cuts ++ child ∷ [], subst (λ x. GrowsFor rule b best root child x (knots ++ AtSplit (numbers_in f3) ∷ []) found (cuts ++ child ∷ [])) (sym frames) g2, omega (arith, count_is, length-append cuts (child ∷ [])), l, names-split rule cuts names names2 child are (λ name among. subst (λ x. (name ≡ x) ⊎ Among name names) next (fresh name among)), lines-split rule cuts child (numbers_in f3) knots have);
         })
 
     -- no child is left, and the walk goes up, or ends
-    ups : numbers_in f ≡ [] → (found cuts : List (List ℕ)) → GrowsFor b best root at (lefts old) knots found cuts → GrowsFor b best root (front at) (lefts fs) knots found cuts
+    ups : numbers_in f ≡ [] → (found cuts : List (List ℕ)) → GrowsFor rule b best root at (lefts old) knots found cuts → GrowsFor rule b best root (front at) (lefts fs) knots found cuts
     ups is found cuts g =
         let e : lefts old ≡ [] ∷ lefts fs = ap lefts popped ∙ (lefts-push fs f ∙ ap (λ ns. ns ∷ lefts fs) is) in
-        grows-up b.block (IsDue b best.high) (IsTold b best) (whole_told b) root at (lefts fs) knots found cuts (subst (λ x. GrowsFor b best root at x knots found cuts) e g)
+        grows-up b.block (IsDue b best.high) (IsTold rule b best) (whole_told b) root at (lefts fs) knots found cuts (subst (λ x. GrowsFor rule b best root at x knots found cuts) e g)
 
-    pub walk-up : (back : List ℕ) → numbers_in f ≡ [] → 0 < length fs → back ≡ front at → IsWalk b best allowance root back fs knots count least
+    pub walk-up : (back : List ℕ) → numbers_in f ≡ [] → 0 < length fs → back ≡ front at → IsWalk rule b best allowance root back fs knots count least names
     walk-up back is some up =
-        let (found, cuts, g, count_is, l) = walk.grows in
+        let (found, cuts, g, count_is, l, are, have) = walk.grows in
         rw up
         (record {
           standing = stands.2;
           depth = omega (arith, deep, length-front at);
           within = walk.within;
           some = walk.some;
-          grows = (found, cuts, ups is found cuts g, count_is, l);
+          grows = (found, cuts, ups is found cuts g, count_is, l, are, have);
         })
 
-    pub walk-last : numbers_in f ≡ [] → fs ≡ [] → IsWalk b best allowance root at fs knots count least
+    pub walk-last : numbers_in f ≡ [] → fs ≡ [] → IsWalk rule b best allowance root at fs knots count least names
     walk-last is none =
-        let (found, cuts, g, count_is, l) = walk.grows in
-        let g2 : GrowsFor b best root (front at) [] knots found cuts = subst (λ (x : List Set). GrowsFor b best root (front at) (lefts x) knots found cuts) none (ups is found cuts g) in
+        let (found, cuts, g, count_is, l, are, have) = walk.grows in
+        let g2 : GrowsFor rule b best root (front at) [] knots found cuts = subst (λ (x : List Set). GrowsFor rule b best root (front at) (lefts x) knots found cuts) none (ups is found cuts g) in
         rw none
         (record {
           standing = tt;
           depth = omega (arith, deep);
           within = walk.within;
           some = walk.some;
-          grows = (found, cuts, nowhere b best root at knots found cuts g2, count_is, l);
+          grows = (found, cuts, nowhere rule b best root at knots found cuts g2, count_is, l, are, have);
         })
 
-  pub walk-done : (at : List ℕ) (frames : List Set) (knots : List (Knot Told)) (count : ℕ) (least : Option WholeOrder) → frames ≡ [] → IsWalk b best allowance root at frames knots count least → (tree : Tree Told) × TreeGrows b.block (IsDue b best.high) (IsTold b best) root tree × (flat tree ≡ knots) × (splits tree ≡ count) × IsLeast b (tree_values (whole_told b) root tree) least
-  walk-done at frames knots count least none walk =
-      let (found, cuts, g, count_is, l) = walk.grows in
-      let g2 : GrowsFor b best root at [] knots found cuts = subst (λ (x : List Set). GrowsFor b best root at (lefts x) knots found cuts) none g in
-      let (tree, grows, knots_are, found_are, cuts_are) = grows-done b.block (IsDue b best.high) (IsTold b best) (whole_told b) root at knots found cuts g2 in
-      let holds : TreeHolds b.block (IsTold b best) root tree = tree-holds b.block (IsDue b best.high) (IsTold b best) (λ at due. due.0) root tree grows in
-      (tree, grows, knots_are, sym (splits-count b.block (IsTold b best) root tree holds) ∙ (ap length cuts_are ∙ count_is), subst (λ x. IsLeast b x least) (sym found_are) l)
+  pub walk-done : (at : List ℕ) (frames : List Set) (knots : List (Knot Told)) (count : ℕ) (least : Option WholeOrder) (names : List (List ℕ)) → frames ≡ [] → IsWalk rule b best allowance root at frames knots count least names → (tree : Tree Told) × TreeGrows b.block (IsDue b best.high) (IsTold rule b best) root tree × (flat tree ≡ knots) × (splits tree ≡ count) × IsLeast b (tree_values (whole_told b) root tree) least × ((value : ℕ) (name : List ℕ) → ¬ (tree ≡ Alone (ToldPassed value name))) × NameSplits rule (split_at root tree) (flat tree)
+  walk-done at frames knots count least names none walk =
+      let (found, cuts, g, count_is, l, are, have) = walk.grows in
+      let g2 : GrowsFor rule b best root at [] knots found cuts = subst (λ (x : List Set). GrowsFor rule b best root at (lefts x) knots found cuts) none g in
+      let (tree, grows, knots_are, found_are, cuts_are) = grows-done b.block (IsDue b best.high) (IsTold rule b best) (whole_told b) root at knots found cuts g2 in
+      let holds : TreeHolds b.block (IsTold rule b best) root tree = tree-holds b.block (IsDue b best.high) (IsTold rule b best) (λ at due. due.0) root tree grows in
+      let splits_are : splits tree ≡ count = sym (splits-count b.block (IsTold rule b best) root tree holds) ∙ (ap length cuts_are ∙ count_is) in (
+        tree,
+        grows,
+        knots_are,
+        splits_are,
+        subst (λ x. IsLeast b x least) (sym found_are) l,
+        (λ value name. parted value name tree (omega (arith, walk.some, splits_are))),
+        rw (cuts_are, knots_are) have,
+      )
 
 -- WHAT IS LEFT TO DO falls at each turn: each number of a frame, the frame itself, and splits
 

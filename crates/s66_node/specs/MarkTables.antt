@@ -1,4 +1,4 @@
--- Used by contracts within the crate alone: what is true of each entry of a table of marks.
+-- Used by contracts: what they see of a table of marks, and what is true of each of its entries.
 use Rattle.std.specs.Prelude.{ℕ, ◌≡◌, ◌≤◌, List, length}
 use Rattle.std.specs.List.{All}
 use Rattle.s66_dep.specs.Members.{numbers_in}
@@ -7,6 +7,15 @@ use Rattle.s66_model.specs.Timing.{Problem}
 use Rattle.s66_time.specs.Marks.{IsMarkOf}
 use Rattle.s66_node.specs.declared.marks.Entry.{Entry}
 use Rattle.s66_node.specs.declared.marks.TheConstants.{TABLE_LIMIT}
+
+pub record MarkTable : Type 0 where
+  -- of which the marks are
+  pub problem : Problem
+  -- the numbers of the beginnings whose marks these are, and maybe others that were forgotten
+  pub names : List (List ℕ)
+
+abbrev pub numbers_of : Entry → List ℕ
+numbers_of e = e.numbers.items
 
 -- the mark is that of the numbers, and the set has just these
 pub record IsEntry (b : Problem) (e : Entry) : Type 0 where

@@ -79,6 +79,20 @@ impl Chains {
         self.set_first(hash, place);
     }
 
+    /// Takes a place out of the list of a hash where it stands in it, among so many at most.
+    pub fn remove_place(&mut self, hash: u64, place: u32, places: usize) {
+        let mut before = NONE;
+        let mut other = self.first(hash);
+        for _ in 0..places {
+            if other == place {
+                self.remove(hash, before, place);
+                return;
+            }
+            before = other;
+            other = self.next(other);
+        }
+    }
+
     /// Takes a place out of the list of a hash, where this place stands before it.
     pub fn remove(&mut self, hash: u64, before: u32, place: u32) {
         let next = self.next(place);
@@ -109,6 +123,15 @@ impl Chains {
     pub fn add_place(&mut self) -> Result<(), AllocError> {
         self.nexts.push(NONE)?;
         Ok(())
+    }
+
+    /// Takes all places away. It keeps its memory.
+    pub fn clear(&mut self) {
+        for list in 0..self.firsts.len() {
+            self.firsts[list] = NONE;
+        }
+        self.nexts.clear();
+        self.free = NONE;
     }
 
     /// Whether so many places are more than the lists are made for.

@@ -1,7 +1,7 @@
 ghost use Rattle.std.specs.Prelude.{◌≡◌, ◌≤◌, ℕ, List, IfOk};
 ghost use Rattle.std.specs.Option.{option_map};
 ghost use Rattle.s66_line.specs.Block.{instrs_of};
-ghost use Rattle.s66_model.specs.declared.rule.Rule.TheVariants.{NoneNamed};
+ghost use Rattle.s66_model.specs.declared.rule.Rule.TheVariants.{NoneNamed, WrittenEarlier};
 ghost use Rattle.s66_model.specs.Timing.{Problem};
 ghost use Rattle.s66_model.specs.LegalOrder.{IsBeginning};
 ghost use Rattle.s66_model.specs.Tree.{Tree};
@@ -12,6 +12,8 @@ ghost use Rattle.s66_node.specs.Walking.{IsLeast};
 
 use crate::grow::{Grown, grow};
 use crate::least::{Constant, Least};
+use crate::marks::Marks;
+use crate::naming::{Naming, NoNames};
 use crate::piece::Piece;
 use crate::walk::Walk;
 use crate::whole_order::{WholeOrder, copy_of};
@@ -94,9 +96,37 @@ pub fn expand_with<L: Least>(
     Walk::new(block, profile).expand_with(alloc, prefix, incumbent, allowance)
 }
 
+/// Expands a prefix as `expand` does, but a prefix below it that an earlier node of the same tree dominates isn't split. It
+/// is a dominated leaf, if it is incomplete and its floor is below the best time.
+pub fn expand_dominated(
+    alloc: Global,
+    block: &Block,
+    profile: &Profile,
+    prefix: &[u8],
+    best: u32,
+    allowance: u32,
+) -> Result<Piece, AllocError>
+    requires { IsBeginning (instrs_of block.now) prefix.now }
+    ensures problem { IfOk result (λ p. p.problem ≡ record { block = instrs_of block.now; profile = profile.now }) }
+    ensures rule { IfOk result (λ p. p.rule ≡ WrittenEarlier) }
+    ensures prefix { IfOk result (λ p. p.prefix ≡ prefix.now) }
+    ensures expansion { IfOk result (λ p. IsExpansion WrittenEarlier (record { block = instrs_of block.now; profile = profile.now }) best best allowance prefix.now (tree_of p)) }
+    ensures timed { IfOk result (λ p. IsBestTimed (record { block = instrs_of block.now; profile = profile.now }) prefix.now (tree_of p) p.timed) }
+{
+    let mut marks = Marks::new(alloc, block, profile);
+    Walk::new(block, profile).expand_dominated(
+        alloc,
+        prefix,
+        &mut Constant(best),
+        allowance,
+        &mut marks,
+        Rule::WrittenEarlier,
+    )
+}
+
 impl Walk<'_> {
-    ghost use Rattle.std.specs.Prelude.{◌≡◌, ◌≤◌, IfOk};
-    ghost use Rattle.s66_model.specs.declared.rule.Rule.TheVariants.{NoneNamed};
+    ghost use Rattle.std.specs.Prelude.{◌≡◌, ◌≤◌, [], IfOk};
+    ghost use Rattle.s66_model.specs.declared.rule.Rule.TheVariants.{NoneNamed, WrittenEarlier};
     ghost use Rattle.s66_model.specs.LegalOrder.{IsBeginning};
     ghost use Rattle.s66_model.specs.Expansion.{IsExpansion};
     ghost use Rattle.s66_node.specs.Pieces.{tree_of, IsBestTimed};
@@ -114,7 +144,7 @@ impl Walk<'_> {
         ensures same { self.new.problem ≡ self.old.problem }
         ensures problem { IfOk result (λ p. p.problem ≡ self.old.problem) }
         ensures rule { IfOk result (λ p. p.rule ≡ NoneNamed) }
-    ensures prefix { IfOk result (λ p. p.prefix ≡ prefix.now) }
+        ensures prefix { IfOk result (λ p. p.prefix ≡ prefix.now) }
         ensures expansion { IfOk result (λ p. IsExpansion NoneNamed self.old.problem best best allowance prefix.now (tree_of p)) }
         ensures timed { IfOk result (λ p. IsBestTimed self.old.problem prefix.now (tree_of p) p.timed) }
     {
@@ -136,8 +166,69 @@ impl Walk<'_> {
         ensures lowest { (L.lowest incumbent.new ≡ L.lowest incumbent.old) × (L.lowest incumbent.old ≤ L.kept incumbent.new) }
         ensures problem { IfOk result (λ p. p.problem ≡ self.old.problem) }
         ensures rule { IfOk result (λ p. p.rule ≡ NoneNamed) }
-    ensures prefix { IfOk result (λ p. p.prefix ≡ prefix.now) }
+        ensures prefix { IfOk result (λ p. p.prefix ≡ prefix.now) }
         ensures expansion { IfOk result (λ p. IsExpansion NoneNamed self.old.problem (L.kept incumbent.old) (L.kept incumbent.new) allowance prefix.now (tree_of p)) }
+        ensures timed { IfOk result (λ p. IsBestTimed self.old.problem prefix.now (tree_of p) p.timed) }
+    {
+        let rule = Rule::NoneNamed;
+        self.expand_by(alloc, prefix, incumbent, allowance, rule, &mut NoNames)
+    }
+
+    /// Goes to a prefix and expands it as `expand_with` does, but a prefix below it that a known node dominates isn't split.
+    /// It is a dominated leaf, if it is incomplete and its floor is below the last best time.
+    ///
+    /// Where earlier nodes are named, the marks are forgotten first, and then those of the prefixes that are split here are
+    /// kept. Where others are named too, those of the prefixes that are split or stay open are kept, beside the marks that
+    /// were there; but those of lines that weren't settled are forgotten first. On `Err` some may have been kept.
+    pub fn expand_dominated<L: Least>(
+        &mut self,
+        alloc: Global,
+        prefix: &[u8],
+        incumbent: &mut L,
+        allowance: u32,
+        marks: &mut Marks<'_>,
+        rule: Rule,
+    ) -> Result<Piece, AllocError>
+        requires prefix { IsBeginning self.old.problem.block prefix.now }
+        requires marks { marks.old.problem ≡ self.old.problem }
+        ensures marks { marks.new.problem ≡ marks.old.problem }
+        ensures same { self.new.problem ≡ self.old.problem }
+        ensures falls { L.kept incumbent.new ≤ L.kept incumbent.old }
+        ensures lowest { (L.lowest incumbent.new ≡ L.lowest incumbent.old) × (L.lowest incumbent.old ≤ L.kept incumbent.new) }
+        ensures problem { IfOk result (λ p. p.problem ≡ self.old.problem) }
+        ensures rule { IfOk result (λ p. p.rule ≡ rule) }
+        ensures prefix { IfOk result (λ p. p.prefix ≡ prefix.now) }
+        ensures expansion { IfOk result (λ p. IsExpansion rule self.old.problem (L.kept incumbent.old) (L.kept incumbent.new) allowance prefix.now (tree_of p)) }
+        ensures timed { IfOk result (λ p. IsBestTimed self.old.problem prefix.now (tree_of p) p.timed) }
+    {
+        match rule {
+            Rule::WrittenEarlier => marks.clear(),
+            Rule::ClampedStanding | Rule::NoneNamed => marks.forget_lines(),
+        }
+        self.expand_by(alloc, prefix, incumbent, allowance, rule, marks)
+    }
+
+    /// Goes to a prefix and expands it with the names that are known.
+    fn expand_by<L: Least, N: Naming>(
+        &mut self,
+        alloc: Global,
+        prefix: &[u8],
+        incumbent: &mut L,
+        allowance: u32,
+        rule: Rule,
+        names: &mut N,
+    ) -> Result<Piece, AllocError>
+        requires prefix { IsBeginning self.old.problem.block prefix.now }
+        requires suits { N.suits names.old self.old.problem }
+        requires unknown { rule ≡ WrittenEarlier → N.names names.old ≡ [] }
+        ensures suits { N.suits names.new self.old.problem }
+        ensures same { self.new.problem ≡ self.old.problem }
+        ensures falls { L.kept incumbent.new ≤ L.kept incumbent.old }
+        ensures lowest { (L.lowest incumbent.new ≡ L.lowest incumbent.old) × (L.lowest incumbent.old ≤ L.kept incumbent.new) }
+        ensures problem { IfOk result (λ p. p.problem ≡ self.old.problem) }
+        ensures rule { IfOk result (λ p. p.rule ≡ rule) }
+        ensures prefix { IfOk result (λ p. p.prefix ≡ prefix.now) }
+        ensures expansion { IfOk result (λ p. IsExpansion rule self.old.problem (L.kept incumbent.old) (L.kept incumbent.new) allowance prefix.now (tree_of p)) }
         ensures timed { IfOk result (λ p. IsBestTimed self.old.problem prefix.now (tree_of p) p.timed) }
     {
         self.go_to(prefix);
@@ -145,11 +236,11 @@ impl Walk<'_> {
             knots,
             splits,
             least,
-        } = grow(alloc, self, incumbent, allowance)?;
+        } = grow(alloc, self, incumbent, allowance, rule, names)?;
         let block = self.clock.block();
         let profile = self.clock.profile();
         Ok(Piece {
-            rule: Rule::NoneNamed,
+            rule,
             source: Order::source(block),
             profile: *profile,
             prefix: copy_of(prefix),

@@ -1,17 +1,21 @@
-ghost use Rattle.std.specs.Prelude.{◌≡◌, ◌≤◌, ◌++◌, ℕ, List, IfOk, IfSome, IfNone, IsTrue};
+ghost use Rattle.std.specs.Prelude.{◌≡◌, ◌≤◌, ◌++◌, [], ℕ, List, IfOk, IfSome, IfNone, IsTrue};
+ghost use Rattle.s66_isa.specs.Lists.{Among};
+ghost use Rattle.s66_model.specs.declared.rule.Rule.TheVariants.{NoneNamed, WrittenEarlier};
 ghost use Rattle.s66_model.specs.Leaves.{floor_value};
 ghost use Rattle.s66_model.specs.Tree.{Tree, AtTip};
-ghost use Rattle.s66_model.specs.Told.{Told};
+ghost use Rattle.s66_model.specs.Told.{Told, ToldPassed};
 ghost use Rattle.s66_node.specs.SeenKnots.{seen_knot};
 ghost use Rattle.s66_node.specs.Walking.{Span, span, IsDue, IsTold, IsLeast, IsGrown, whole_told};
 
 use crate::knot::Knot;
 use crate::least::Least;
+use crate::naming::Naming;
 use crate::walk::Walk;
 use crate::whole_order::{WholeOrder, keep_lesser};
 use arrayvec::ArrayVec;
 use s66_dep::Set;
 use s66_isa::BLOCK_LIMIT;
+use s66_model::Rule;
 use std::alloc::{AllocError, Global};
 
 /// For how many lines of a tree that is split there is room from the first: a small tree needs no more.
@@ -29,7 +33,7 @@ pub(crate) struct Grown {
 /// the prefix is complete, else a place in the frontier. Nothing if it is to be split.
 fn unsplit_knot(walk: &Walk<'_>, value: u32, best: u32, may_split: bool) -> Option<Knot>
     requires { value ≡ floor_value walk.now.problem walk.now.numbers }
-    ensures told { IfSome result (λ k. (told : Told) × (seen_knot k ≡ AtTip told) × IsTold walk.now.problem (span best best) walk.now.numbers told) }
+    ensures told { IfSome result (λ k. (told : Told) × (seen_knot k ≡ AtTip told) × IsTold NoneNamed walk.now.problem (span best best) walk.now.numbers told) }
     ensures unsplit { IfSome result (λ k. IsTrue may_split → ¬ IsDue walk.now.problem best walk.now.numbers) }
     ensures due { IfNone result (IsDue walk.now.problem best walk.now.numbers) }
     ensures may { IfNone result (IsTrue may_split) }
@@ -44,33 +48,67 @@ fn unsplit_knot(walk: &Walk<'_>, value: u32, best: u32, may_split: bool) -> Opti
     }
 }
 
+/// What the walk's prefix has below the root, where it may be split by the best time: the name of a node that dominates it,
+/// if one is known; else nothing if it is to be split, or a place in the frontier.
+fn open_knot<N: Naming>(
+    alloc: Global,
+    walk: &Walk<'_>,
+    value: u32,
+    may_split: bool,
+    rule: Rule,
+    names: &N,
+) -> Result<Option<Knot>, AllocError>
+    requires value { value ≡ floor_value walk.now.problem walk.now.numbers }
+    requires suits { N.suits names.now walk.now.problem }
+    ensures told { (best : Span) → IsDue walk.now.problem best.high walk.now.numbers → IfOk result (λ knot. IfSome knot (λ k. (told : Told) × (seen_knot k ≡ AtTip told) × IsTold rule walk.now.problem best walk.now.numbers told × ((value : ℕ) (name : List ℕ) → told ≡ ToldPassed value name → Among name (N.names names.now)))) }
+    ensures may { IfOk result (λ knot. IfNone knot (IsTrue may_split)) }
+{
+    if let Some(name) = names.find_name(alloc, walk, rule)? {
+        return Ok(Some(Knot::Passed { value, name }));
+    }
+    if may_split {
+        Ok(None)
+    } else {
+        Ok(Some(Knot::Frontier { value }))
+    }
+}
+
 /// What the walk's prefix has if it isn't split, by the last best time. If that would split it, the best time is asked for again,
-/// and says whether it still does.
-fn unsplit_child<L: Least>(
+/// and says whether it still does; a node that dominates it forbids it.
+fn unsplit_child<L: Least, N: Naming>(
+    alloc: Global,
     walk: &Walk<'_>,
     best: &mut u32,
     incumbent: &mut L,
     may_split: bool,
-) -> Option<Knot>
-    requires { L.kept incumbent.old ≡ best.old }
+    rule: Rule,
+    names: &N,
+) -> Result<Option<Knot>, AllocError>
+    requires kept { L.kept incumbent.old ≡ best.old }
+    requires suits { N.suits names.now walk.now.problem }
     ensures kept { L.kept incumbent.new ≡ best.new }
     ensures falls { best.new ≤ best.old }
     ensures lowest { (L.lowest incumbent.new ≡ L.lowest incumbent.old) × (L.lowest incumbent.old ≤ best.old → L.lowest incumbent.old ≤ best.new) }
-    ensures told { IfSome result (λ k. (told : Told) × (seen_knot k ≡ AtTip told) × IsTold walk.now.problem (span best.old best.new) walk.now.numbers told) }
-    ensures due { IfNone result (IsDue walk.now.problem best.new walk.now.numbers) }
-    ensures may { IfNone result (IsTrue may_split) }
+    ensures told { IfOk result (λ knot. IfSome knot (λ k. (told : Told) × (seen_knot k ≡ AtTip told) × IsTold rule walk.now.problem (span best.old best.new) walk.now.numbers told × ((value : ℕ) (name : List ℕ) → told ≡ ToldPassed value name → Among name (N.names names.now)))) }
+    ensures due { IfOk result (λ knot. IfNone knot (IsDue walk.now.problem best.new walk.now.numbers)) }
+    ensures may { IfOk result (λ knot. IfNone knot (IsTrue may_split)) }
 {
     let value = walk.floor_value();
-    if let Some(knot) = unsplit_knot(walk, value, *best, may_split) {
-        return Some(knot);
+    if let Some(leaf) = unsplit_knot(walk, value, *best, true) {
+        return Ok(Some(leaf));
     }
-    *best = incumbent.least();
-    unsplit_knot(walk, value, *best, true)
+    if may_split {
+        *best = incumbent.least();
+        if let Some(leaf) = unsplit_knot(walk, value, *best, true) {
+            return Ok(Some(leaf));
+        }
+    }
+    open_knot(alloc, walk, value, may_split, rule, names)
 }
 
 /// Keeps the lesser of the least whole order so far and that of the walk's prefix, where this line is its leaf.
 fn keep_whole(least: &mut Option<WholeOrder>, walk: &Walk<'_>, knot: &Knot)
-    ensures { (best : Span) (told : Told) (found : List (List ℕ)) → seen_knot knot.now ≡ AtTip told → IsTold walk.now.problem best walk.now.numbers told → IsLeast walk.now.problem found least.old → IsLeast walk.now.problem (found ++ whole_told walk.now.problem walk.now.numbers told) least.new }
+    ensures { (rule : Rule) (best : Span) (told : Told) (found : List (List ℕ)) → seen_knot knot.now ≡ AtTip told → IsTold rule walk.now.problem best walk.now.numbers told → IsLeast walk.now.problem found least.old → IsLeast walk.now.problem (found ++ whole_told walk.now.problem walk.now.numbers told) least.new }
 {
     if let Knot::Leaf { value } = knot {
         if walk.is_complete() {
@@ -79,21 +117,29 @@ fn keep_whole(least: &mut Option<WholeOrder>, walk: &Walk<'_>, knot: &Knot)
     }
 }
 
-/// The tree over the walk's prefix, made depth first by rising number: at most `allowance` splits, each at an incomplete prefix
-/// whose floor is below the best time. That is asked for at the walk's prefix, and before each split below it.
+/// The tree over the walk's prefix, made depth first by rising number: at most `allowance` splits, each at an incomplete
+/// prefix whose floor is below the best time. That is asked for at the walk's prefix, and before each split below it.
 ///
 /// A split costs one look at each instruction that remains, and each of its children a push, an undo and a floor. Nothing is
 /// allocated but room for lines.
-pub(crate) fn grow<L: Least>(
+///
+/// Below its root, a prefix that would be split or stay open is dominated if a node is known that dominates it by the rule.
+/// Those that are split or stay open may be known from then on.
+pub(crate) fn grow<L: Least, N: Naming>(
     alloc: Global,
     walk: &mut Walk<'_>,
     incumbent: &mut L,
     allowance: u32,
+    rule: Rule,
+    names: &mut N,
 ) -> Result<Grown, AllocError>
+    requires suits { N.suits names.old walk.old.problem }
+    requires unknown { rule ≡ WrittenEarlier → N.names names.old ≡ [] }
+    ensures suits { N.suits names.new walk.old.problem }
     ensures same { walk.new.problem ≡ walk.old.problem }
     ensures falls { L.kept incumbent.new ≤ L.kept incumbent.old }
     ensures lowest { (L.lowest incumbent.new ≡ L.lowest incumbent.old) × (L.lowest incumbent.old ≤ L.kept incumbent.new) }
-    ensures grown { IfOk result (λ grown. (tree : Tree Told) × IsGrown walk.old.problem (span (L.kept incumbent.old) (L.kept incumbent.new)) allowance walk.old.numbers grown tree) }
+    ensures grown { IfOk result (λ grown. (tree : Tree Told) × IsGrown rule walk.old.problem (span (L.kept incumbent.old) (L.kept incumbent.new)) allowance walk.old.numbers grown tree) }
 {
     // so each prefix has a frame
     prove!(walk.numbers().len() <= BLOCK_LIMIT);
@@ -103,6 +149,7 @@ pub(crate) fn grow<L: Least>(
     let mut best = incumbent.least();
     if let Some(knot) = unsplit_knot(walk, value, best, 0 < allowance) {
         keep_whole(&mut least, walk, &knot);
+        names.keep_tip(walk, rule, 0, &knot);
         knots.push(knot)?;
         return Ok(Grown {
             knots,
@@ -111,6 +158,7 @@ pub(crate) fn grow<L: Least>(
         });
     }
     knots.reserve(FIRST_LINES)?;
+    names.keep_split(walk, rule, 0);
     let ready = walk.ready();
     knots.push(Knot::Split(ready))?;
     let mut splits = 1;
@@ -121,13 +169,17 @@ pub(crate) fn grow<L: Least>(
         if let Some(n) = frame.pop_first() {
             frames.push(frame);
             walk.push(n);
-            match unsplit_child(walk, &mut best, incumbent, splits < allowance) {
+            let may_split = splits < allowance;
+            let child = unsplit_child(alloc, walk, &mut best, incumbent, may_split, rule, names)?;
+            match child {
                 Some(knot) => {
                     keep_whole(&mut least, walk, &knot);
+                    names.keep_tip(walk, rule, knots.len(), &knot);
                     knots.push(knot)?;
                     walk.undo();
                 }
                 None => {
+                    names.keep_split(walk, rule, knots.len());
                     let ready = walk.ready();
                     knots.push(Knot::Split(ready))?;
                     frames.push(ready);

@@ -7,12 +7,13 @@ mod grow;
 mod knot;
 mod least;
 mod marks;
+mod naming;
 mod piece;
 mod schedule;
 mod walk;
 mod whole_order;
 
-pub use expansion::{expand, expand_with};
+pub use expansion::{expand, expand_dominated, expand_with};
 pub use knot::{FRONTIER, Knot, LEAF, Name, PASSED, Place, SPLIT};
 pub use least::{Constant, Least};
 pub use marks::Marks;

@@ -1,17 +1,27 @@
-ghost use Rattle.std.specs.Prelude.{◌≤◌, length};
+ghost use Rattle.std.specs.Prelude.{ℕ, ◌≤◌, ◌<◌, ◌≡◌, ◌⊎◌, IsTrue, List, length, map};
+ghost use Rattle.s66_isa.specs.Lists.{Among};
+ghost use Rattle.s66_model.specs.Timing.{Problem};
+ghost use Rattle.s66_model.specs.LegalOrder.{IsIncomplete};
+ghost use Rattle.s66_model.specs.Dominance.{IsSameSet};
+ghost use Rattle.s66_model.specs.DominatedLeaves.{IsEarlier, DominatesByRule};
+ghost use Rattle.s66_time.specs.Marks.{IsMarkOf};
+ghost use Rattle.s66_node.specs.MarkTables.{IsEntry, AreEntries, numbers_of};
 ghost use Rattle.s66_node.specs.declared.marks.TheConstants.{TABLE_LIMIT};
 
 use crate::chains::{Chains, NONE};
+use crate::knot::Place;
+use crate::walk::{Walk, common_length};
 use crate::whole_order::copy_of;
 use arrayvec::ArrayVec;
 use s66_dep::Set;
 use s66_isa::{BLOCK_LIMIT, Profile};
 use s66_line::Block;
-use s66_time::{Clock, Mark, dominates_clamped};
+use s66_model::Rule;
+use s66_time::{Mark, dominates, dominates_clamped};
 use std::alloc::{AllocError, Global};
 use std::marker::Model;
 
-/// The most marks of one set of numbers that are kept.
+/// The most marks of one set of numbers that are kept to be compared clamped.
 const LIST_LIMIT: u32 = 16;
 
 /// The most marks that are kept.
@@ -24,36 +34,76 @@ struct Entry {
     pushed: Set,
     mark: Mark,
     numbers: ArrayVec<u8, BLOCK_LIMIT>,
-    /// The node that it is.
-    hint: u32,
 }
 
 /// Marks of beginnings of a block's legal orders, found by the sets of their numbers.
 ///
-/// At most 16 marks of one set are kept, and at most 65,536 in all. Where memory runs out, or there are as many, a mark isn't kept.
+/// At most 65,536 are kept in all, and of those that are compared clamped at most 16 of one set. Where memory runs out, or
+/// there are as many, a mark isn't kept.
 #[derive(Debug, Drop)]
 pub struct Marks<'a> {
     block: &'a Block<'a>,
     profile: Profile,
     entries: Vec<Entry>,
-    /// The places of the entries, by the hashes of their sets.
+    /// The nodes that the entries are.
+    places: Vec<Place>,
+    /// The entries whose nodes are lines of a piece, and maybe others.
+    unsettled: Vec<u32>,
+    /// The indices of the entries, by the hashes of their sets.
     chains: Chains,
 }
 
 impl<'a> Model for Marks<'a> {
+    ghost use Rattle.std.specs.Prelude.{map};
     ghost use Rattle.s66_line.specs.Block.{instrs_of};
-    ghost use Rattle.s66_model.specs.Timing.{Problem};
-    ghost use Rattle.s66_node.specs.MarkTables.{AreEntries};
+    ghost use Rattle.s66_node.specs.MarkTables.{MarkTable, AreEntries, numbers_of};
 
-    ghost Value = { Problem };
+    ghost Value = { MarkTable };
 
-    ghost view = { λ m. record { block = instrs_of m.block.now; profile = m.profile } };
+    ghost view = { λ m. record { problem = record { block = instrs_of m.block.now; profile = m.profile }; names = map numbers_of m.entries.items } };
 
     ghost invariant = { λ m. AreEntries (record { block = instrs_of m.block.now; profile = m.profile }) m.entries.items };
 }
 
-/// Takes the places of the entries of a set out of its list that a mark dominates, and tells how many stay.
-fn remove_dominated(chains: &mut Chains, entries: &[Entry], pushed: &Set, mark: &Mark) -> u32 {
+/// Whether the left numbers are smaller at the first place where both differ.
+fn is_earlier(left: &[u8], right: &[u8]) -> bool
+    ensures { IsTrue result → IsEarlier left.now right.now }
+{
+    let common = common_length(left, right);
+    common < left.len() && common < right.len() && left[common] < right[common]
+}
+
+/// Whether numbers with one mark dominate a walk's prefix with the other, over the same set, as the rule asks.
+fn is_dominating(rule: Rule, numbers: &[u8], left: &Mark, walk: &Walk<'_>, right: &Mark) -> bool
+    requires left { IsMarkOf walk.now.problem numbers.now left.now }
+    requires right { IsMarkOf walk.now.problem walk.now.numbers right.now }
+    requires same { IsSameSet numbers.now walk.now.numbers }
+    ensures { IsTrue result → IsIncomplete walk.now.problem.block walk.now.numbers → DominatesByRule rule walk.now.problem numbers.now walk.now.numbers }
+{
+    match rule {
+        Rule::NoneNamed => false,
+        Rule::WrittenEarlier => dominates(left, right) && is_earlier(numbers, walk.numbers()),
+        Rule::ClampedStanding => dominates_clamped(left, right),
+    }
+}
+
+/// Whether the first mark is enough beside the second one of the same set: whatever the second dominates, the first does.
+fn is_enough(rule: Rule, left: &Mark, right: &Mark) -> bool {
+    match rule {
+        Rule::NoneNamed => false,
+        Rule::WrittenEarlier => dominates(left, right),
+        Rule::ClampedStanding => dominates_clamped(left, right),
+    }
+}
+
+/// Takes the entries of a set out of its list beside which a mark is enough, and tells how many stay.
+fn remove_dominated(
+    chains: &mut Chains,
+    entries: &[Entry],
+    pushed: &Set,
+    mark: &Mark,
+    rule: Rule,
+) -> u32 {
     let hash = pushed.hash();
     let mut stay = 0u32;
     let mut before = NONE;
@@ -66,7 +116,7 @@ fn remove_dominated(chains: &mut Chains, entries: &[Entry], pushed: &Set, mark: 
         let entry = &entries[index];
         let next = chains.next(place);
         let is_same = entry.pushed == *pushed;
-        if is_same && dominates_clamped(mark, &entry.mark) {
+        if is_same && is_enough(rule, mark, &entry.mark) {
             chains.remove(hash, before, place);
         } else {
             if is_same {
@@ -79,7 +129,7 @@ fn remove_dominated(chains: &mut Chains, entries: &[Entry], pushed: &Set, mark: 
     stay
 }
 
-/// Puts each place of a table into the list of its entry's set.
+/// Puts each index of a table into the list of its entry's set.
 fn put_all(chains: &mut Chains, entries: &[Entry])
     requires { length entries.now ≤ TABLE_LIMIT }
 {
@@ -88,10 +138,33 @@ fn put_all(chains: &mut Chains, entries: &[Entry])
     }
 }
 
-/// Makes a place for one more entry, and more lists where there are too few.
-fn make_place(chains: &mut Chains, entries: &[Entry]) -> Result<(), AllocError>
-    requires { length entries.now ≤ TABLE_LIMIT }
+/// Notes that the entry of this index is this node.
+fn set_place(places: &mut Vec<Place>, index: usize, place: Place) -> Result<(), AllocError> {
+    if index < places.len() {
+        places[index] = place;
+    } else {
+        places.push(place)?;
+    }
+    Ok(())
+}
+
+/// Makes a place for the entry of an index, whose node is this one, and more lists where there are too few.
+fn make_place(
+    chains: &mut Chains,
+    places: &mut Vec<Place>,
+    unsettled: &mut Vec<u32>,
+    entries: &[Entry],
+    index: usize,
+    place: Place,
+) -> Result<(), AllocError>
+    requires few { length entries.now ≤ TABLE_LIMIT }
+    requires within { index < TABLE_LIMIT }
 {
+    unsettled.push(index as u32)?;
+    set_place(places, index, place)?;
+    if index < entries.len() {
+        return Ok(());
+    }
     if chains.is_crowded(entries.len()) {
         chains.double()?;
         put_all(chains, entries);
@@ -99,91 +172,186 @@ fn make_place(chains: &mut Chains, entries: &[Entry]) -> Result<(), AllocError>
     chains.add_place()
 }
 
+/// Puts an entry in the place of that of an index, or behind all.
+fn put_entry(entries: &mut Vec<Entry>, index: usize, entry: Entry) -> Result<(), AllocError>
+    requires { index < TABLE_LIMIT }
+    ensures entries { (b : Problem) → IsEntry b entry → AreEntries b entries.old.items → AreEntries b entries.new.items }
+    ensures known { (name : List ℕ) → Among name (map numbers_of entries.new.items) → (name ≡ entry.numbers.items) ⊎ Among name (map numbers_of entries.old.items) }
+{
+    if index < entries.len() {
+        entries[index] = entry;
+    } else {
+        entries.push(entry)?;
+    }
+    Ok(())
+}
+
+/// The node of a line, where that of the root is `root` and the others are from `first` on.
+fn settled(place: Place, root: u32, first: u32) -> Place {
+    match place {
+        Place::Line(0) => Place::Node(root),
+        Place::Line(line) => Place::Node(first.saturating_add(line - 1)),
+        Place::Node(node) => Place::Node(node),
+    }
+}
+
+/// Makes nodes of lines, at these entries.
+fn settle_places(places: &mut Vec<Place>, unsettled: &[u32], root: u32, first: u32) {
+    for index in unsettled {
+        let index = *index as usize;
+        if index < places.len() {
+            let place = places[index];
+            places[index] = settled(place, root, first);
+        }
+    }
+}
+
+/// Takes these entries out of their lists if they are lines.
+fn remove_lines(chains: &mut Chains, entries: &[Entry], places: &[Place], unsettled: &[u32]) {
+    for place in unsettled {
+        let index = *place as usize;
+        if index < entries.len() && index < places.len() {
+            if let Place::Line(_) = places[index] {
+                chains.remove_place(entries[index].pushed.hash(), *place, entries.len());
+            }
+        }
+    }
+}
+
 impl<'a> Marks<'a> {
-    ghost use Rattle.std.specs.Prelude.{ℕ, ◌≡◌, IfSome};
-    ghost use Rattle.s66_dep.specs.Members.{numbers_in};
-    ghost use Rattle.s66_isa.specs.Lists.{has};
+    ghost use Rattle.std.specs.Prelude.{ℕ, ◌≡◌, ◌⊎◌, [], List, IfSome};
+    ghost use Rattle.s66_isa.specs.Lists.{Among};
     ghost use Rattle.s66_line.specs.Block.{instrs_of};
-    ghost use Rattle.s66_model.specs.Dominance.{DominatesClamped};
+    ghost use Rattle.s66_model.specs.LegalOrder.{IsIncomplete};
+    ghost use Rattle.s66_model.specs.DominatedLeaves.{DominatesByRule};
     ghost use Rattle.s66_node.specs.MarkTables.{IsEntry};
-    ghost use Rattle.s66_time.specs.Marks.{IsMarkOf};
-    ghost use Rattle.s66_time.specs.Ticking.{problem_of};
 
     /// No mark.
     pub fn new(alloc: Global, block: &'a Block<'a>, profile: &Profile) -> Marks<'a>
-        ensures { result ≡ record { block = instrs_of block.now; profile = profile.now } }
+        ensures { result ≡ record { problem = record { block = instrs_of block.now; profile = profile.now }; names = [] } }
     {
         Marks {
             block,
             profile: *profile,
             entries: Vec::new(alloc),
+            places: Vec::new(alloc),
+            unsettled: Vec::new(alloc),
             chains: Chains::new(alloc),
         }
     }
 
-    /// The numbers of a beginning that dominates what a clock has placed, clamped at its next slot, and the node that it was said to
-    /// be. It may be that beginning itself.
-    pub fn find(&self, clock: &Clock<'_>) -> Option<(&[u8], u32)>
-        requires { problem_of clock.now ≡ self.now }
-        ensures { IfSome result (λ found. DominatesClamped self.now found.0.now clock.now.numbers) }
+    /// Forgets all marks, and keeps the memory.
+    pub fn clear(&mut self)
+        ensures { self.new ≡ record self.old { names = [] } }
     {
-        let pushed = clock.pushed();
-        let mark = clock.mark();
+        self.chains.clear();
+        self.unsettled.clear();
+        self.places.clear();
+        self.entries.clear();
+    }
+
+    /// The numbers of a beginning that dominates a walk's prefix, as the rule asks, and where its node may be found.
+    /// Clamped, it may be that beginning itself.
+    pub fn find(&self, walk: &Walk<'_>, rule: Rule) -> Option<(&[u8], Place)>
+        requires { self.now.problem ≡ walk.now.problem }
+        ensures dominates { IfSome result (λ found. IsIncomplete walk.now.problem.block walk.now.numbers → DominatesByRule rule walk.now.problem found.0.now walk.now.numbers) }
+        ensures known { IfSome result (λ found. Among found.0.now self.now.names) }
+        ensures few { IfSome result (λ found. length found.0.now ≤ BLOCK_LIMIT) }
+    {
+        let pushed = walk.pushed();
+        let mark = walk.mark();
         let mut place = self.chains.first(pushed.hash());
         for _ in 0..self.entries.len() {
             let index = place as usize;
-            if index >= self.entries.len() {
+            if index >= self.entries.len() || index >= self.places.len() {
                 return None;
             }
             let entry = &self.entries[index];
-            if entry.pushed == pushed && dominates_clamped(&entry.mark, &mark) {
-                return Some((entry.numbers.as_slice(), entry.hint));
+            if entry.pushed == pushed
+                && is_dominating(rule, entry.numbers.as_slice(), &entry.mark, walk, &mark)
+            {
+                return Some((entry.numbers.as_slice(), self.places[index]));
             }
             place = self.chains.next(place);
         }
         None
     }
 
-    /// Keeps an entry, where there is room.
-    fn keep(&mut self, entry: Entry) -> Result<(), AllocError>
-        requires { IsEntry self.old entry }
-        ensures { self.new ≡ self.old }
+    /// Keeps an entry and the node that it is, where there is room.
+    fn keep(&mut self, entry: Entry, line: Place) -> Result<(), AllocError>
+        requires { IsEntry self.old.problem entry }
+        ensures same { self.new.problem ≡ self.old.problem }
+        ensures known { (name : List ℕ) → Among name self.new.names → (name ≡ entry.numbers.items) ⊎ Among name self.old.names }
     {
         let hash = entry.pushed.hash();
-        if let Some(place) = self.chains.reuse() {
-            let index = place as usize;
-            if index < self.entries.len() {
-                self.entries[index] = entry;
-                self.chains.put(hash, place);
-            }
+        let index = match self.chains.reuse() {
+            Some(index) => index as usize,
+            None => self.entries.len(),
+        };
+        if index >= TABLE_LIMIT {
             return Ok(());
         }
-        let count = self.entries.len();
-        if count >= TABLE_LIMIT {
-            return Ok(());
-        }
-        make_place(&mut self.chains, self.entries.as_slice())?;
-        self.entries.push(entry)?;
-        self.chains.put(hash, count as u32);
+        make_place(
+            &mut self.chains,
+            &mut self.places,
+            &mut self.unsettled,
+            self.entries.as_slice(),
+            index,
+            line,
+        )?;
+        put_entry(&mut self.entries, index, entry)?;
+        self.chains.put(hash, index as u32);
         Ok(())
     }
 
-    /// Keeps the mark of a beginning with its numbers, the set of these, and the node that it is, and forgets those that it dominates,
-    /// clamped at their next slots.
-    pub fn insert(&mut self, pushed: &Set, mark: &Mark, numbers: &[u8], hint: u32)
-        requires mark { IsMarkOf self.old numbers.now mark.now }
-        requires pushed { (m : ℕ) → has m (numbers_in pushed.now) ≡ has m numbers.now }
-        ensures { self.new ≡ self.old }
+    /// Keeps the mark of a walk's prefix, which has this line of a piece, and forgets those beside which it is enough by the
+    /// rule.
+    pub fn insert(&mut self, walk: &Walk<'_>, rule: Rule, line: usize)
+        requires { self.old.problem ≡ walk.now.problem }
+        ensures same { self.new.problem ≡ self.old.problem }
+        ensures known { (name : List ℕ) → Among name self.new.names → (name ≡ walk.now.numbers) ⊎ Among name self.old.names }
     {
-        let stay = remove_dominated(&mut self.chains, self.entries.as_slice(), pushed, mark);
-        if stay >= LIST_LIMIT {
+        let pushed = walk.pushed();
+        let mark = walk.mark();
+        let stay = remove_dominated(
+            &mut self.chains,
+            self.entries.as_slice(),
+            &pushed,
+            &mark,
+            rule,
+        );
+        if rule == Rule::ClampedStanding && stay >= LIST_LIMIT {
             return;
         }
-        let _ = self.keep(Entry {
-            pushed: *pushed,
-            mark: *mark,
-            numbers: copy_of(numbers),
-            hint,
-        });
+        let _ = self.keep(
+            Entry {
+                pushed,
+                mark,
+                numbers: copy_of(walk.numbers()),
+            },
+            Place::Line(line.min(u32::MAX as usize) as u32),
+        );
+    }
+
+    /// Says which nodes of a ledger the lines of the last piece have become: its root this one, and the others those from
+    /// `first` on, in their order.
+    pub fn settle(&mut self, root: u32, first: u32)
+        ensures { self.new ≡ self.old }
+    {
+        settle_places(&mut self.places, self.unsettled.as_slice(), root, first);
+        self.unsettled.clear();
+    }
+
+    /// Forgets the lines of pieces that weren't settled.
+    pub fn forget_lines(&mut self)
+        ensures { self.new ≡ self.old }
+    {
+        remove_lines(
+            &mut self.chains,
+            self.entries.as_slice(),
+            self.places.as_slice(),
+            self.unsettled.as_slice(),
+        );
+        self.unsettled.clear();
     }
 }

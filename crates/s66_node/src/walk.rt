@@ -5,11 +5,11 @@ use s66_bound::{Bounds, Leaf};
 use s66_dep::{Dependences, Set};
 use s66_isa::{BLOCK_LIMIT, Profile, Reg};
 use s66_line::Block;
-use s66_time::Clock;
+use s66_time::{Clock, Mark};
 use std::marker::Model;
 
 /// How many numbers two lists have in common from the first on.
-fn common_length(left: &[u8], right: &[u8]) -> usize
+pub(crate) fn common_length(left: &[u8], right: &[u8]) -> usize
     ensures few { (result ≤ length left.now) × (result ≤ length right.now) }
     ensures common { take result left.now ≡ take result right.now }
     ensures longest { (d : ℕ) → result < length left.now → result < length right.now → get_or left.now result d ≢ get_or right.now result d }
@@ -48,6 +48,8 @@ impl<'a> Walk<'a> {
     ghost use Rattle.std.specs.Prelude.{◌≡◌, ◌<◌, ◌≤◌, ◌↔◌, ◌⊎◌, ◌++◌, [], ◌∷◌, true, IsTrue, length, take};
     ghost use Rattle.s66_line.specs.Block.{instrs_of};
     ghost use Rattle.s66_isa.specs.declared.limits.TheConstants.{BLOCK_LIMIT};
+    ghost use Rattle.s66_isa.specs.Lists.{has};
+    ghost use Rattle.s66_time.specs.Marks.{IsMarkOf};
     ghost use Rattle.s66_model.specs.LegalOrder.{is_ready, ready, IsBeginning, IsComplete, IsIncomplete};
     ghost use Rattle.s66_model.specs.Leaves.{floor, floor_value};
     ghost use Rattle.s66_model.specs.Later.{IsNextReady};
@@ -206,6 +208,20 @@ impl<'a> Walk<'a> {
             }
         }
         None
+    }
+
+    /// What decides how soon each completion of the prefix can be done.
+    pub(crate) fn mark(&self) -> Mark
+        ensures { IsMarkOf self.now.problem self.now.numbers result }
+    {
+        self.clock.mark()
+    }
+
+    /// The set of the prefix's numbers.
+    pub(crate) fn pushed(&self) -> Set
+        ensures { (m : ℕ) → has m (numbers_in result) ≡ has m self.now.numbers }
+    {
+        self.clock.pushed()
     }
 
     /// The first minor cycle after the last issue in which an instruction can issue.

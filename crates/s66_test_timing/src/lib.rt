@@ -1,10 +1,12 @@
-//! Tests of orders, of the clock and its marks and bounds, and of a table of marks.
+//! Tests of orders, of the clock, its marks and bounds, and of tables of marks and what they dominate.
 #![tactic(auto)]
 
 #[cfg(test)]
 mod blocks;
 #[cfg(test)]
 mod clock;
+#[cfg(test)]
+mod dominated;
 #[cfg(test)]
 mod floors;
 #[cfg(test)]

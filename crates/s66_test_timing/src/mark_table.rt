@@ -1,15 +1,13 @@
-ghost use Rattle.std.specs.Prelude.{ℕ, ◌≡◌};
+ghost use Rattle.std.specs.Prelude.{◌≡◌};
 ghost use Rattle.s66_isa.specs.Table.{standard};
 ghost use Rattle.s66_line.specs.Block.{instrs_of};
-ghost use Rattle.s66_time.specs.Ticking.{problem_of};
 
-use crate::walk::push_ready;
 use arrayvec::ArrayVec;
 use s66_isa::Profile;
 use s66_line::{Block, read_source};
-use s66_node::Marks;
+use s66_model::Rule;
+use s66_node::{Marks, Place, Walk};
 use s66_test_blocks::only_block;
-use s66_time::Clock;
 use std::process::Abort;
 use std::test::Fail;
 
@@ -19,59 +17,122 @@ const LATE_READER: &str = "  FX1 X2/X3\n  SX5 B1\n  BX4 X1\n  FX6 X7+X0\n";
 /// Each is ready from the first on.
 const SEVEN_INCREMENTS: &str = "  SB1 1\n  SB2 2\n  SB3 3\n  SB4 4\n  SB5 5\n  SB6 6\n  SB7 7\n";
 
-/// The clock after these numbers of a block, under the standard profile.
-fn clock_at<'a, R: Abort>(rt: &R, block: &'a Block<'a>, numbers: &[u8]) -> Clock<'a>
-    ensures problem { problem_of result ≡ record { block = instrs_of block.now; profile = standard } }
-    ensures numbers { result.numbers ≡ numbers.now }
+/// The walk at these numbers of a block, under the standard profile.
+fn walk_at<'a, R: Abort>(rt: &R, block: &'a Block<'a>, numbers: &[u8]) -> Walk<'a>
+    ensures { result.problem ≡ record { block = instrs_of block.now; profile = standard } }
 {
-    let mut clock = Clock::new(block, &Profile::standard());
-    for position in 0..numbers.len() {
-        assert!(rt; push_ready(&mut clock, numbers[position]));
-    }
-    clock
+    let mut walk = Walk::new(block, &Profile::standard());
+    assert!(rt; walk.try_go_to(numbers));
+    walk
 }
 
-/// Keeps the mark of these numbers with a node.
-fn keep<R: Abort>(rt: &R, marks: &mut Marks, block: &Block, numbers: &[u8], node: u32)
-    requires { marks.old ≡ record { block = instrs_of block.now; profile = standard } }
-    ensures { marks.new ≡ marks.old }
+/// Keeps the mark of these numbers as that of a line.
+fn keep<R: Abort>(rt: &R, marks: &mut Marks, block: &Block, rule: Rule, numbers: &[u8], line: u32)
+    requires { marks.old.problem ≡ record { block = instrs_of block.now; profile = standard } }
+    ensures { marks.new.problem ≡ marks.old.problem }
 {
-    let clock = clock_at(rt, block, numbers);
-    marks.insert(&clock.pushed(), &clock.mark(), numbers, node);
+    marks.insert(&walk_at(rt, block, numbers), rule, line as usize);
 }
 
-/// The node that is found for these numbers, 0 where there is none.
-fn found<R: Abort>(rt: &R, marks: &Marks, block: &Block, numbers: &[u8]) -> u32
-    requires { marks.now ≡ record { block = instrs_of block.now; profile = standard } }
+/// The place that is found for these numbers.
+fn found<R: Abort>(
+    rt: &R,
+    marks: &Marks,
+    block: &Block,
+    rule: Rule,
+    numbers: &[u8],
+) -> Option<Place>
+    requires { marks.now.problem ≡ record { block = instrs_of block.now; profile = standard } }
 {
-    match marks.find(&clock_at(rt, block, numbers)) {
-        Some((_, node)) => node,
-        None => 0,
+    match marks.find(&walk_at(rt, block, numbers), rule) {
+        Some((_, place)) => Some(place),
+        None => None,
     }
 }
 
 /// Checks which marks of a block of the late reader are found.
 fn check_late_reader<R: AllocGlobal + Abort>(rt: &R, block: &Block) {
+    let rule = Rule::ClampedStanding;
     let mut marks = Marks::new(rt.alloc(), block, &Profile::standard());
-    assert_eq!(rt; found(rt, &marks, block, &[1, 3, 2]), 0);
-    keep(rt, &mut marks, block, &[1, 3, 2], 7);
-    assert_eq!(rt; found(rt, &marks, block, &[1, 3, 2]), 7);
-    assert_eq!(rt; found(rt, &marks, block, &[1, 2, 3]), 0);
+    assert_eq!(rt; found(rt, &marks, block, rule, &[1, 3, 2]), None);
+    keep(rt, &mut marks, block, rule, &[1, 3, 2], 7);
+    assert_eq!(rt;
+        found(rt, &marks, block, rule, &[1, 3, 2]),
+        Some(Place::Line(7))
+    );
+    assert_eq!(rt; found(rt, &marks, block, rule, &[1, 2, 3]), None);
     // it dominates the first, which goes
-    keep(rt, &mut marks, block, &[1, 2, 3], 8);
-    assert_eq!(rt; found(rt, &marks, block, &[1, 3, 2]), 8);
+    keep(rt, &mut marks, block, rule, &[1, 2, 3], 8);
+    assert_eq!(rt;
+        found(rt, &marks, block, rule, &[1, 3, 2]),
+        Some(Place::Line(8))
+    );
     // neither of these dominates the other
-    keep(rt, &mut marks, block, &[1, 2, 4], 9);
-    keep(rt, &mut marks, block, &[1, 4, 2], 10);
-    assert_eq!(rt; found(rt, &marks, block, &[1, 2, 4]), 9);
-    assert_eq!(rt; found(rt, &marks, block, &[1, 4, 2]), 10);
-    assert_eq!(rt; found(rt, &marks, block, &[1, 2]), 0);
+    keep(rt, &mut marks, block, rule, &[1, 2, 4], 9);
+    keep(rt, &mut marks, block, rule, &[1, 4, 2], 10);
+    assert_eq!(rt;
+        found(rt, &marks, block, rule, &[1, 2, 4]),
+        Some(Place::Line(9))
+    );
+    assert_eq!(rt;
+        found(rt, &marks, block, rule, &[1, 4, 2]),
+        Some(Place::Line(10))
+    );
+    assert_eq!(rt; found(rt, &marks, block, rule, &[1, 2]), None);
+    assert_eq!(rt; found(rt, &marks, block, Rule::NoneNamed, &[1, 3, 2]), None);
+    marks.clear();
+    assert_eq!(rt; found(rt, &marks, block, rule, &[1, 3, 2]), None);
+}
+
+/// Checks that earlier numbers alone are found by the rule of these.
+fn check_earlier<R: AllocGlobal + Abort>(rt: &R, block: &Block) {
+    let rule = Rule::WrittenEarlier;
+    let mut marks = Marks::new(rt.alloc(), block, &Profile::standard());
+    keep(rt, &mut marks, block, rule, &[1, 2, 3], 1);
+    assert_eq!(rt;
+        found(rt, &marks, block, rule, &[1, 3, 2]),
+        Some(Place::Line(1))
+    );
+    assert_eq!(rt; found(rt, &marks, block, rule, &[1, 2, 3]), None);
+}
+
+/// Checks that lines become nodes, and that lines that don't are forgotten.
+fn check_settled<R: AllocGlobal + Abort>(rt: &R, block: &Block) {
+    let rule = Rule::ClampedStanding;
+    let mut marks = Marks::new(rt.alloc(), block, &Profile::standard());
+    keep(rt, &mut marks, block, rule, &[1], 0);
+    keep(rt, &mut marks, block, rule, &[1, 2], 1);
+    keep(rt, &mut marks, block, rule, &[1, 2, 3], 5);
+    marks.settle(9, 40);
+    keep(rt, &mut marks, block, rule, &[1, 2, 4], 2);
+    assert_eq!(rt; found(rt, &marks, block, rule, &[1]), Some(Place::Node(9)));
+    assert_eq!(rt;
+        found(rt, &marks, block, rule, &[1, 2]),
+        Some(Place::Node(40))
+    );
+    assert_eq!(rt;
+        found(rt, &marks, block, rule, &[1, 3, 2]),
+        Some(Place::Node(44))
+    );
+    assert_eq!(rt;
+        found(rt, &marks, block, rule, &[1, 2, 4]),
+        Some(Place::Line(2))
+    );
+    marks.forget_lines();
+    assert_eq!(rt; found(rt, &marks, block, rule, &[1, 2, 4]), None);
+    assert_eq!(rt;
+        found(rt, &marks, block, rule, &[1, 3, 2]),
+        Some(Place::Node(44))
+    );
 }
 
 #[test]
 fn finds_dominating_marks(rt: HostRuntime) -> Result<(), Fail> {
     let source = read_source(rt.alloc(), LATE_READER.as_bytes())?;
-    check_late_reader(&rt, only_block(&source).expect(&rt, "one block"));
+    let block = only_block(&source).expect(&rt, "one block");
+    check_late_reader(&rt, block);
+    check_earlier(&rt, block);
+    check_settled(&rt, block);
     Ok(())
 }
 
@@ -94,14 +155,21 @@ fn check_sets<R: AllocGlobal + Abort>(rt: &R, block: &Block) {
             rt,
             &mut marks,
             block,
+            Rule::ClampedStanding,
             numbers_of(2 * set).as_slice(),
-            set + 1,
+            set,
         );
     }
     for set in 0..128u32 {
         assert_eq!(rt;
-            found(rt, &marks, block, numbers_of(2 * set).as_slice()),
-            set + 1,
+            found(
+                rt,
+                &marks,
+                block,
+                Rule::ClampedStanding,
+                numbers_of(2 * set).as_slice()
+            ),
+            Some(Place::Line(set)),
             "{set}"
         );
     }

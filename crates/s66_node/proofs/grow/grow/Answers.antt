@@ -1,16 +1,20 @@
-use Rattle.std.proofs.Common.{ℕ, ◌+◌, ◌-◌, ◌*◌, ◌≤◌, ◌≡◌, ◌++◌, ◌∷◌, [], List, true, arith, sym, ◌∙◌, ap, subst, refl, length, length-append}
+use Rattle.std.proofs.Common.{ℕ, ◌+◌, ◌-◌, ◌*◌, ◌≤◌, ◌≡◌, ◌++◌, ◌∷◌, [], List, Option, IfSome, IfNone, IsTrue, nat_lt, true, arith, inl, inr, sym, ◌∙◌, ap, subst, refl, length, length-append}
 use Rattle.std.proofs.lemmas.Bool.{lt-ltb, ltb-true, true≢false}
 use Rattle.s66_isa.specs.declared.limits.TheConstants.{BLOCK_LIMIT}
+use Rattle.s66_isa.specs.Lists.{Among}
+use Rattle.s66_model.specs.declared.rule.Rule.TheVariants.{NoneNamed}
 use Rattle.s66_model.specs.Timing.{Problem}
+use Rattle.s66_model.specs.Told.{Told, ToldPassed}
 use Rattle.s66_model.specs.LegalOrder.{ready, is_ready}
 use Rattle.s66_model.specs.Tree.{Alone, AtTip, AtSplit}
 use Rattle.s66_dep.specs.Members.{numbers_in}
 use Rattle.s66_dep.proofs.LongestBeginning.{beginning-few}
 use Rattle.s66_node.specs.Walked.{Walked, front}
-use Rattle.s66_node.specs.SeenKnots.{seen}
+use Rattle.s66_node.specs.declared.knot.Knot.{Knot}
+use Rattle.s66_node.specs.SeenKnots.{seen, seen_knot}
 use Rattle.s66_node.specs.Walking.{span, IsLeast, IsDue, IsTold, whole_told}
 use Rattle.s66_node.proofs.WalkTurns.{next-ready, seen-push, not-empty, is-empty, none-empty, walk-root, next-few, next-room, walk-tip, walk-split, walk-up, walk-last, walk-done, work-tip, work-split, work-up}
-use Rattle.s66_node.proofs.Tips.{told-wider}
+use Rattle.s66_node.proofs.Tips.{told-any, told-wider, alone-unnamed, line-unnamed}
 use Rattle.s66_node.proofs.grow.grow.Goals as goal
 
 pub prove-unreachable-requires : goal.prove-unreachable-requires
@@ -23,16 +27,18 @@ returns-in-Some-clause-grown g c =
     let root = c.args.walk.now.numbers in
     let best = span (g.L.Least.kept c.args.incumbent.now) (g.L.Least.kept c.least-best.new.self) in
     let (told, line, was) = c.in-Some.ensures.told in
-    let holds : IsTold b best root told = told-wider b c.least-best.result c.least-best.result best.high best.low root told (omega (arith, c.least-best.ensures.now, c.least-best.ensures.falls)) (omega (arith, c.least-best.ensures.now)) was in
+    let holds : IsTold NoneNamed b best root told = told-wider NoneNamed b c.least-best.result c.least-best.result best.high best.low root told (omega (arith, c.least-best.ensures.now, c.least-best.ensures.falls)) (omega (arith, c.least-best.ensures.now)) was in
     let knots = seen-push c.new-knots.result.items c.push.new.self.items c.in-Some.knot (AtTip told) c.in_ok-push.ensures.items line ∙ ap (λ ks. seen ks ++ AtTip told ∷ []) c.new-knots.ensures.items in (
       Alone told,
       record {
-        grows = holds;
+        grows = told-any c.args.rule b best root told holds;
         knots = sym knots;
         splits = refl;
-        least = c.keep_whole.ensures best told [] line holds refl;
+        least = c.keep_whole.ensures NoneNamed best told [] line holds refl;
         within = omega arith;
         due = λ some due. absurd (c.in-Some.ensures.unsplit (lt-ltb 0 c.args.allowance some) (due.0, omega (arith, due.1, c.least-best.ensures.now)));
+        passed = λ value name. alone-unnamed b best root told value name holds;
+        names = λ by value name among. absurd (elim among [ inl is ↦ line-unnamed b best root told value name holds is | inr none ↦ none ]);
       },
     )
 
@@ -51,7 +57,8 @@ loop-frame-init g c =
       kept = sym c.least-best.ensures.now;
       falls = omega (arith, c.least-best.ensures.now, c.least-best.ensures.falls);
       lowest = (c.least-best.ensures.lowest.0, omega (arith, c.least-best.ensures.lowest.0, c.least-best.ensures.lowest.1, c.least-best.ensures.now));
-      walk = λ low le. rw (frames, knots) (walk-root b (span high low) c.args.allowance root c.ready-ready.result (ltb-true 0 c.args.allowance c.in_default.ensures.may) c.numbers.ensures.begins due numbers);
+      suits = c.keep_split.ensures.suits;
+      walk = λ low le. rw (frames, knots) (walk-root c.args.rule b (span high low) c.args.allowance root c.ready-ready.result (g.N.Naming.names c.args.names.now) (g.N.Naming.names c.keep_split.new.self) c.requires.unknown c.keep_split.ensures.known (ltb-true 0 c.args.allowance c.in_default.ensures.may) c.numbers.ensures.begins due numbers);
     }
 
 pub push-requires-in-Some-pop_first : goal.push-requires-in-Some-pop_first
@@ -59,8 +66,8 @@ push-requires-in-Some-pop_first g c =
     let b = c.args.walk.now.problem in
     let root = c.args.walk.now.numbers in
     let lf = c.loop-frame in
-    let few = next-few b (span (g.L.Least.kept c.args.incumbent.now) 0) c.args.allowance root lf.walk.numbers lf.frames.items c.pop.new.self.items c.in-Some-pop.frame (seen lf.knots.items) lf.splits lf.least (lf.invariant.walk 0 (omega arith)) c.in-Some-pop.ensures.items c.in-Some-pop_first.n (numbers_in c.pop_first.new.self) c.in-Some-pop_first.ensures.some in
-    let room = next-room b (span (g.L.Least.kept c.args.incumbent.now) 0) c.args.allowance root lf.walk.numbers lf.frames.items c.pop.new.self.items c.in-Some-pop.frame (seen lf.knots.items) lf.splits lf.least (lf.invariant.walk 0 (omega arith)) c.in-Some-pop.ensures.items in
+    let few = next-few c.args.rule b (span (g.L.Least.kept c.args.incumbent.now) 0) c.args.allowance root lf.walk.numbers lf.frames.items c.pop.new.self.items c.in-Some-pop.frame (seen lf.knots.items) lf.splits lf.least (g.N.Naming.names lf.names) (lf.invariant.walk 0 (omega arith)) c.in-Some-pop.ensures.items c.in-Some-pop_first.n (numbers_in c.pop_first.new.self) c.in-Some-pop_first.ensures.some in
+    let room = next-room c.args.rule b (span (g.L.Least.kept c.args.incumbent.now) 0) c.args.allowance root lf.walk.numbers lf.frames.items c.pop.new.self.items c.in-Some-pop.frame (seen lf.knots.items) lf.splits lf.least (g.N.Naming.names lf.names) (lf.invariant.walk 0 (omega arith)) c.in-Some-pop.ensures.items in
     (omega arith, omega (arith, few, room, c.numbers.ensures.few))
 
 pub push-requires-in-Some-pop_first-2 : goal.push-requires-in-Some-pop_first-2
@@ -69,15 +76,15 @@ push-requires-in-Some-pop_first-2 g c =
     let root = c.args.walk.now.numbers in
     let lf = c.loop-frame in
     subst (λ (p : Problem). is_ready p.block lf.walk.numbers c.in-Some-pop_first.n ≡ true) (sym lf.invariant.problem)
-    (next-ready b (span (g.L.Least.kept c.args.incumbent.now) 0) c.args.allowance root lf.walk.numbers lf.frames.items c.pop.new.self.items c.in-Some-pop.frame (seen lf.knots.items) lf.splits lf.least (lf.invariant.walk 0 (omega arith)) c.in-Some-pop.ensures.items c.in-Some-pop_first.n (numbers_in c.pop_first.new.self) c.in-Some-pop_first.ensures.some)
+    (next-ready c.args.rule b (span (g.L.Least.kept c.args.incumbent.now) 0) c.args.allowance root lf.walk.numbers lf.frames.items c.pop.new.self.items c.in-Some-pop.frame (seen lf.knots.items) lf.splits lf.least (g.N.Naming.names lf.names) (lf.invariant.walk 0 (omega arith)) c.in-Some-pop.ensures.items c.in-Some-pop_first.n (numbers_in c.pop_first.new.self) c.in-Some-pop_first.ensures.some)
 
-pub loop-frame-smaller-in-Some-unsplit_child : goal.loop-frame-smaller-in-Some-unsplit_child
-loop-frame-smaller-in-Some-unsplit_child g c =
+pub loop-frame-smaller-in-Some-child : goal.loop-frame-smaller-in-Some-child
+loop-frame-smaller-in-Some-child g c =
     let lf = c.loop-frame in
     work-tip ((c.args.allowance - lf.splits) * (BLOCK_LIMIT + 2)) lf.frames.items c.push-in-Some-pop_first.new.self.items c.pop.new.self.items c.in-Some-pop.frame c.pop_first.new.self c.in-Some-pop_first.n c.in-Some-pop.ensures.items c.push-in-Some-pop_first.ensures.items c.in-Some-pop_first.ensures.some
 
-pub loop-frame-preserved-in-Some-unsplit_child : goal.loop-frame-preserved-in-Some-unsplit_child
-loop-frame-preserved-in-Some-unsplit_child g c =
+pub loop-frame-preserved-in-Some-child : goal.loop-frame-preserved-in-Some-child
+loop-frame-preserved-in-Some-child g c =
     let b = c.args.walk.now.problem in
     let root = c.args.walk.now.numbers in
     let lf = c.loop-frame in
@@ -85,21 +92,22 @@ loop-frame-preserved-in-Some-unsplit_child g c =
     let own : now.problem ≡ b = ap (λ (w : Walked). w.problem) c.push-in-Some-pop_first-2.ensures ∙ lf.invariant.problem in
     let next : now.numbers ≡ lf.walk.numbers ++ c.in-Some-pop_first.n ∷ [] = ap (λ (w : Walked). w.numbers) c.push-in-Some-pop_first-2.ensures in
     let up : c.undo.new.self.numbers ≡ front now.numbers = ap (λ (w : Walked). w.numbers) c.undo.ensures in
-    let (told, line, told_now) = c.in-Some-unsplit_child.ensures.told in
-    let knots = seen-push lf.knots.items c.push-in-Some-unsplit_child.new.self.items c.in-Some-unsplit_child.knot (AtTip told) c.in_ok-push-in-Some-unsplit_child.ensures.items line in
+    let (told, line, told_now, named) = subst (λ (o : Option Knot). IfSome o (λ k. (told : Told) × (seen_knot k ≡ AtTip told) × IsTold c.args.rule now.problem (span lf.best c.unsplit_child.new.best) now.numbers told × ((value : ℕ) (name : List ℕ) → told ≡ ToldPassed value name → Among name (g.N.Naming.names lf.names)))) c.in-Some-child.is c.in_ok-child.ensures.told in
+    let knots = seen-push lf.knots.items c.push-in-Some-child.new.self.items c.in-Some-child.knot (AtTip told) c.in_ok-push-in-Some-child.ensures.items line in
     record {
       problem = ap (λ (w : Walked). w.problem) c.undo.ensures ∙ own;
       kept = c.unsplit_child.ensures.kept;
       falls = omega (arith, c.unsplit_child.ensures.falls, lf.invariant.falls);
       lowest = (c.unsplit_child.ensures.lowest.0 ∙ lf.invariant.lowest.0, omega (arith, c.unsplit_child.ensures.lowest.1 (omega (arith, lf.invariant.lowest.0, lf.invariant.lowest.1)), lf.invariant.lowest.0));
+      suits = subst (λ (p : Problem). g.N.Naming.suits c.keep_tip-in-Some-child.new.self p) own c.keep_tip-in-Some-child.ensures.suits;
       walk = λ low le.
           let best = span (g.L.Least.kept c.args.incumbent.now) low in
           let old : low ≤ lf.best = omega (arith, le, c.unsplit_child.ensures.falls) in
-          let holds : IsTold now.problem best now.numbers told = told-wider now.problem lf.best c.unsplit_child.new.best best.high low now.numbers told lf.invariant.falls le told_now in
-          let lower : (found : List (List ℕ)) → IsLeast now.problem found lf.least → IsLeast now.problem (found ++ whole_told now.problem now.numbers told) c.keep_whole-in-Some-unsplit_child.new.least =
-          λ found h. c.keep_whole-in-Some-unsplit_child.ensures best told found line holds h in
-          walk-tip b best c.args.allowance root lf.walk.numbers lf.frames.items c.pop.new.self.items c.in-Some-pop.frame (seen lf.knots.items) lf.splits lf.least (lf.invariant.walk low old) c.in-Some-pop.ensures.items
-          c.in-Some-pop_first.n c.pop_first.new.self c.push-in-Some-pop_first.new.self.items (seen c.push-in-Some-unsplit_child.new.self.items) c.keep_whole-in-Some-unsplit_child.new.least told now.problem now.numbers c.undo.new.self.numbers
+          let holds : IsTold c.args.rule now.problem best now.numbers told = told-wider c.args.rule now.problem lf.best c.unsplit_child.new.best best.high low now.numbers told lf.invariant.falls le told_now in
+          let lower : (found : List (List ℕ)) → IsLeast now.problem found lf.least → IsLeast now.problem (found ++ whole_told now.problem now.numbers told) c.keep_whole-in-Some-child.new.least =
+          λ found h. c.keep_whole-in-Some-child.ensures c.args.rule best told found line holds h in
+          walk-tip c.args.rule b best c.args.allowance root lf.walk.numbers lf.frames.items c.pop.new.self.items c.in-Some-pop.frame (seen lf.knots.items) lf.splits lf.least (g.N.Naming.names lf.names) (lf.invariant.walk low old) c.in-Some-pop.ensures.items
+          c.in-Some-pop_first.n c.pop_first.new.self c.push-in-Some-pop_first.new.self.items (seen c.push-in-Some-child.new.self.items) c.keep_whole-in-Some-child.new.least (g.N.Naming.names c.keep_tip-in-Some-child.new.self) told now.problem now.numbers c.undo.new.self.numbers c.keep_tip-in-Some-child.ensures.known named
           c.in-Some-pop_first.ensures.some c.push-in-Some-pop_first.ensures.items own next up holds knots lower;
     }
 
@@ -111,14 +119,15 @@ push-requires-in-None-2 g c =
     let now = c.push-in-Some-pop_first-2.new.self in
     let own : now.problem ≡ b = ap (λ (w : Walked). w.problem) c.push-in-Some-pop_first-2.ensures ∙ lf.invariant.problem in
     let next : now.numbers ≡ lf.walk.numbers ++ c.in-Some-pop_first.n ∷ [] = ap (λ (w : Walked). w.numbers) c.push-in-Some-pop_first-2.ensures in
-    let room = next-room b (span (g.L.Least.kept c.args.incumbent.now) 0) c.args.allowance root lf.walk.numbers lf.frames.items c.pop.new.self.items c.in-Some-pop.frame (seen lf.knots.items) lf.splits lf.least (lf.invariant.walk 0 (omega arith)) c.in-Some-pop.ensures.items in
-    let due : IsDue b c.unsplit_child.new.best now.numbers = subst (λ (p : Problem). IsDue p c.unsplit_child.new.best now.numbers) own c.in-None.ensures.due in
+    let room = next-room c.args.rule b (span (g.L.Least.kept c.args.incumbent.now) 0) c.args.allowance root lf.walk.numbers lf.frames.items c.pop.new.self.items c.in-Some-pop.frame (seen lf.knots.items) lf.splits lf.least (g.N.Naming.names lf.names) (lf.invariant.walk 0 (omega arith)) c.in-Some-pop.ensures.items in
+    let here : IsDue now.problem c.unsplit_child.new.best now.numbers = subst (λ (o : Option Knot). IfNone o (IsDue now.problem c.unsplit_child.new.best now.numbers)) c.in-None.is c.in_ok-child.ensures.due in
+    let due : IsDue b c.unsplit_child.new.best now.numbers = subst (λ (p : Problem). IsDue p c.unsplit_child.new.best now.numbers) own here in
     (omega arith, omega (arith, room, due.0, ap length next, length-append lf.walk.numbers (c.in-Some-pop_first.n ∷ []), c.numbers.ensures.few, ap length c.push-in-Some-pop_first.ensures.items, length-append c.pop.new.self.items (c.pop_first.new.self ∷ [])))
 
 pub loop-frame-smaller-in-None : goal.loop-frame-smaller-in-None
 loop-frame-smaller-in-None g c =
     let lf = c.loop-frame in
-    work-split c.args.allowance lf.splits lf.frames.items c.push-in-Some-pop_first.new.self.items c.push-in-None-2.new.self.items c.pop.new.self.items c.in-Some-pop.frame c.pop_first.new.self c.ready-ready-in-None.result c.in-Some-pop_first.n (ltb-true lf.splits c.args.allowance c.in-None.ensures.may)
+    work-split c.args.allowance lf.splits lf.frames.items c.push-in-Some-pop_first.new.self.items c.push-in-None-2.new.self.items c.pop.new.self.items c.in-Some-pop.frame c.pop_first.new.self c.ready-ready-in-None.result c.in-Some-pop_first.n (ltb-true lf.splits c.args.allowance (subst (λ (o : Option Knot). IfNone o (IsTrue (nat_lt lf.splits c.args.allowance))) c.in-None.is c.in_ok-child.ensures.may))
     c.in-Some-pop.ensures.items c.push-in-Some-pop_first.ensures.items c.push-in-None-2.ensures.items c.in-Some-pop_first.ensures.some
 
 pub loop-frame-preserved-in-None : goal.loop-frame-preserved-in-None
@@ -130,18 +139,20 @@ loop-frame-preserved-in-None g c =
     let own : now.problem ≡ b = ap (λ (w : Walked). w.problem) c.push-in-Some-pop_first-2.ensures ∙ lf.invariant.problem in
     let next : now.numbers ≡ lf.walk.numbers ++ c.in-Some-pop_first.n ∷ [] = ap (λ (w : Walked). w.numbers) c.push-in-Some-pop_first-2.ensures in
     let knots = seen-push lf.knots.items c.push-in-None.new.self.items _ (AtSplit (numbers_in c.ready-ready-in-None.result)) c.in_ok-push-in-None.ensures.items refl in
-    let due : IsDue now.problem (g.L.Least.kept c.args.incumbent.now) now.numbers = (c.in-None.ensures.due.0, omega (arith, c.in-None.ensures.due.1, c.unsplit_child.ensures.falls, lf.invariant.falls)) in
+    let low : IsDue now.problem c.unsplit_child.new.best now.numbers = subst (λ (o : Option Knot). IfNone o (IsDue now.problem c.unsplit_child.new.best now.numbers)) c.in-None.is c.in_ok-child.ensures.due in
+    let due : IsDue now.problem (g.L.Least.kept c.args.incumbent.now) now.numbers = (low.0, omega (arith, low.1, c.unsplit_child.ensures.falls, lf.invariant.falls)) in
     record {
       problem = own;
       kept = c.unsplit_child.ensures.kept;
       falls = omega (arith, c.unsplit_child.ensures.falls, lf.invariant.falls);
       lowest = (c.unsplit_child.ensures.lowest.0 ∙ lf.invariant.lowest.0, omega (arith, c.unsplit_child.ensures.lowest.1 (omega (arith, lf.invariant.lowest.0, lf.invariant.lowest.1)), lf.invariant.lowest.0));
+      suits = subst (λ (p : Problem). g.N.Naming.suits c.keep_split-in-None.new.self p) own c.keep_split-in-None.ensures.suits;
       walk = λ low le.
           let best = span (g.L.Least.kept c.args.incumbent.now) low in
           let old : low ≤ lf.best = omega (arith, le, c.unsplit_child.ensures.falls) in
-          walk-split b best c.args.allowance root lf.walk.numbers lf.frames.items c.pop.new.self.items c.in-Some-pop.frame (seen lf.knots.items) lf.splits lf.least (lf.invariant.walk low old) c.in-Some-pop.ensures.items
-          c.in-Some-pop_first.n c.pop_first.new.self c.ready-ready-in-None.result c.push-in-Some-pop_first.new.self.items c.push-in-None-2.new.self.items (seen c.push-in-None.new.self.items) now.problem now.numbers
-          c.in-Some-pop_first.ensures.some c.push-in-Some-pop_first.ensures.items c.push-in-None-2.ensures.items own next due c.ready-ready-in-None.ensures knots (ltb-true lf.splits c.args.allowance c.in-None.ensures.may);
+          walk-split c.args.rule b best c.args.allowance root lf.walk.numbers lf.frames.items c.pop.new.self.items c.in-Some-pop.frame (seen lf.knots.items) lf.splits lf.least (g.N.Naming.names lf.names) (lf.invariant.walk low old) c.in-Some-pop.ensures.items
+          c.in-Some-pop_first.n c.pop_first.new.self c.ready-ready-in-None.result c.push-in-Some-pop_first.new.self.items c.push-in-None-2.new.self.items (seen c.push-in-None.new.self.items) (g.N.Naming.names c.keep_split-in-None.new.self) now.problem now.numbers c.keep_split-in-None.ensures.known
+          c.in-Some-pop_first.ensures.some c.push-in-Some-pop_first.ensures.items c.push-in-None-2.ensures.items own next due c.ready-ready-in-None.ensures knots (ltb-true lf.splits c.args.allowance (subst (λ (o : Option Knot). IfNone o (IsTrue (nat_lt lf.splits c.args.allowance))) c.in-None.is c.in_ok-child.ensures.may));
     }
 
 pub undo-requires-then-not-is_empty : goal.undo-requires-then-not-is_empty
@@ -163,7 +174,8 @@ loop-frame-preserved-then-not-is_empty g c =
       kept = lf.invariant.kept;
       falls = lf.invariant.falls;
       lowest = lf.invariant.lowest;
-      walk = λ low le. walk-up c.args.walk.now.problem (span (g.L.Least.kept c.args.incumbent.now) low) c.args.allowance c.args.walk.now.numbers lf.walk.numbers lf.frames.items c.pop.new.self.items c.in-Some-pop.frame (seen lf.knots.items) lf.splits lf.least (lf.invariant.walk low le) c.in-Some-pop.ensures.items
+      suits = lf.invariant.suits;
+      walk = λ low le. walk-up c.args.rule c.args.walk.now.problem (span (g.L.Least.kept c.args.incumbent.now) low) c.args.allowance c.args.walk.now.numbers lf.walk.numbers lf.frames.items c.pop.new.self.items c.in-Some-pop.frame (seen lf.knots.items) lf.splits lf.least (g.N.Naming.names lf.names) (lf.invariant.walk low le) c.in-Some-pop.ensures.items
           c.undo-then-not-is_empty.new.self.numbers c.in_default-pop_first.ensures.none (not-empty c.pop.new.self.items (sym c.is_empty.ensures ∙ c.if-not-is_empty.true)) up;
     }
 
@@ -175,7 +187,8 @@ loop-frame-preserved g c =
       kept = lf.invariant.kept;
       falls = lf.invariant.falls;
       lowest = lf.invariant.lowest;
-      walk = λ low le. walk-last c.args.walk.now.problem (span (g.L.Least.kept c.args.incumbent.now) low) c.args.allowance c.args.walk.now.numbers lf.walk.numbers lf.frames.items c.pop.new.self.items c.in-Some-pop.frame (seen lf.knots.items) lf.splits lf.least (lf.invariant.walk low le) c.in-Some-pop.ensures.items c.in_default-pop_first.ensures.none (is-empty c.pop.new.self.items (sym c.is_empty.ensures ∙ c.if-not-is_empty.false));
+      suits = lf.invariant.suits;
+      walk = λ low le. walk-last c.args.rule c.args.walk.now.problem (span (g.L.Least.kept c.args.incumbent.now) low) c.args.allowance c.args.walk.now.numbers lf.walk.numbers lf.frames.items c.pop.new.self.items c.in-Some-pop.frame (seen lf.knots.items) lf.splits lf.least (g.N.Naming.names lf.names) (lf.invariant.walk low le) c.in-Some-pop.ensures.items c.in_default-pop_first.ensures.none (is-empty c.pop.new.self.items (sym c.is_empty.ensures ∙ c.if-not-is_empty.false));
     }
 
 pub returns-clause-grown : goal.returns-clause-grown
@@ -184,5 +197,5 @@ returns-clause-grown g c =
     let low = g.L.Least.kept lf.incumbent in
     let walk = lf.invariant.walk low (omega (arith, lf.invariant.kept)) in
     let none : lf.frames.items ≡ [] = none-empty lf.frames.items (λ lt. true≢false (sym (c.in_default-pop.ensures.variant.1 lt))) in
-    let (tree, grows, knots, splits, least) = walk-done c.args.walk.now.problem (span (g.L.Least.kept c.args.incumbent.now) low) c.args.allowance c.args.walk.now.numbers lf.walk.numbers lf.frames.items (seen lf.knots.items) lf.splits lf.least none walk in
-    (tree, record { grows = grows; knots = knots; splits = splits; least = least; within = walk.within; due = λ some due. walk.some })
+    let (tree, grows, knots, splits, least, passed, names) = walk-done c.args.rule c.args.walk.now.problem (span (g.L.Least.kept c.args.incumbent.now) low) c.args.allowance c.args.walk.now.numbers lf.walk.numbers lf.frames.items (seen lf.knots.items) lf.splits lf.least (g.N.Naming.names lf.names) none walk in
+    (tree, record { grows = grows; knots = knots; splits = splits; least = least; within = walk.within; due = λ some due. walk.some; passed = passed; names = names })

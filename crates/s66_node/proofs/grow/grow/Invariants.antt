@@ -12,7 +12,8 @@ invariant-loop-frame g l =
       kept : g.L.Least.kept l.incumbent ≡ l.best;
       falls : l.best ≤ g.L.Least.kept l.fn.incumbent;
       lowest : (g.L.Least.lowest l.incumbent ≡ g.L.Least.lowest l.fn.incumbent) × (g.L.Least.lowest l.fn.incumbent ≤ l.best);
-      walk : (low : ℕ) → low ≤ l.best → IsWalk l.fn.walk.problem (span (g.L.Least.kept l.fn.incumbent) low) l.allowance l.fn.walk.numbers l.walk.numbers l.frames.items (seen l.knots.items) l.splits l.least;
+      suits : g.N.Naming.suits l.names l.fn.walk.problem;
+      walk : (low : ℕ) → low ≤ l.best → IsWalk l.rule l.fn.walk.problem (span (g.L.Least.kept l.fn.incumbent) low) l.allowance l.fn.walk.numbers l.walk.numbers l.frames.items (seen l.knots.items) l.splits l.least (g.N.Naming.names l.names);
     }
 
 abbrev pub decreases-loop-frame : goal.decreases-loop-frame

@@ -2,7 +2,6 @@ use Rattle.std.proofs.Common.{◌≡◌, List, Option, arith, length, sym, ◌�
 use Rattle.std.specs.Option.{option_map}
 use Rattle.s66_isa.specs.declared.instr.Instr.{Instr}
 use Rattle.s66_line.specs.Block.{instrs_of}
-use Rattle.s66_model.specs.declared.rule.Rule.TheVariants.{NoneNamed}
 use Rattle.s66_model.specs.Timing.{Problem}
 use Rattle.s66_model.specs.Tree.{Tree}
 use Rattle.s66_model.specs.Told.{Told, tree_told}
@@ -14,14 +13,14 @@ use Rattle.s66_node.specs.Pieces.{IsBestTimed}
 use Rattle.s66_node.specs.Walked.{Walked}
 use Rattle.s66_node.specs.Walking.{span, IsGrown, IsLeast}
 use Rattle.s66_node.proofs.Pieces.{grown-least, piece-tree, piece-expansion, piece-kept}
-use Rattle.s66_node.proofs.walk.Walk.expand_with.Goals as goal
-use Rattle.s66_node.proofs.walk.Walk.expand_with.Goals.{In_ok-timed_of}
-use Rattle.s66_node.proofs.walk.Walk.expand_with.Given.{Over}
+use Rattle.s66_node.proofs.walk.Walk.expand_by.Goals as goal
+use Rattle.s66_node.proofs.walk.Walk.expand_by.Goals.{In_ok-timed_of}
+use Rattle.s66_node.proofs.walk.Walk.expand_by.Given.{Over}
 
 pub copy_of-requires : goal.copy_of-requires
 copy_of-requires g c =
     let own : problem_of c.self.inside.clock ≡ c.args.self.now.problem = ap (λ (w : Walked). w.problem) c.self.view_is ∙ (c.grow.ensures.same ∙ ap (λ (w : Walked). w.problem) c.go_to.ensures) in
-    omega (arith, beginning-few c.args.self.now.problem.block c.args.prefix.now c.requires, c.self.invariant.few, ap (λ (p : Problem). length p.block) own)
+    omega (arith, beginning-few c.args.self.now.problem.block c.args.prefix.now c.requires.prefix, c.self.invariant.few, ap (λ (p : Problem). length p.block) own)
 
 module _ (g : Over) (c : In_ok-timed_of g) where
   abbrev b : Problem
@@ -38,27 +37,27 @@ module _ (g : Over) (c : In_ok-timed_of g) where
   own : record { block = c.source.result.block; profile = c.profile-profile.result.now } ≡ b
   own = ap (λ (is : List Instr). record { block = is; profile = c.profile-profile.result.now }) c.source.ensures.block ∙ asked
 
-  grown : (tree : Tree Told) × IsGrown b (span (g.L.Least.kept c.args.incumbent.now) (g.L.Least.kept c.grow.new.incumbent)) c.args.allowance c.args.prefix.now c.in_ok-knots.field-0 tree
-  grown = subst (λ (w : Walked). (tree : Tree Told) × IsGrown w.problem (span (g.L.Least.kept c.args.incumbent.now) (g.L.Least.kept c.grow.new.incumbent)) c.args.allowance w.numbers c.in_ok-knots.field-0 tree) c.go_to.ensures c.in_ok-knots.ensures.grown
+  grown : (tree : Tree Told) × IsGrown c.args.rule b (span (g.L.Least.kept c.args.incumbent.now) (g.L.Least.kept c.grow.new.incumbent)) c.args.allowance c.args.prefix.now c.in_ok-knots.field-0 tree
+  grown = subst (λ (w : Walked). (tree : Tree Told) × IsGrown c.args.rule w.problem (span (g.L.Least.kept c.args.incumbent.now) (g.L.Least.kept c.grow.new.incumbent)) c.args.allowance w.numbers c.in_ok-knots.field-0 tree) c.go_to.ensures c.in_ok-knots.ensures.grown
 
-  timed : (tree : Tree Told) → IsGrown b (span (g.L.Least.kept c.args.incumbent.now) (g.L.Least.kept c.grow.new.incumbent)) c.args.allowance c.args.prefix.now c.in_ok-knots.field-0 tree → IsBestTimed b c.args.prefix.now (tree_told b c.args.prefix.now tree) shown
+  timed : (tree : Tree Told) → IsGrown c.args.rule b (span (g.L.Least.kept c.args.incumbent.now) (g.L.Least.kept c.grow.new.incumbent)) c.args.allowance c.args.prefix.now c.in_ok-knots.field-0 tree → IsBestTimed b c.args.prefix.now (tree_told b c.args.prefix.now tree) shown
   timed tree h =
       let ns = c.args.prefix.now in
       let all = tree_told b ns tree in
-      subst (λ (p : Problem). IsLeast p (whole_orders ns all) c.in_ok-knots.field-0.least → IsBestTimed p ns all shown) asked (c.in_ok-timed_of.ensures ns all) (grown-least NoneNamed b (span (g.L.Least.kept c.args.incumbent.now) (g.L.Least.kept c.grow.new.incumbent)) c.args.allowance ns c.in_ok-knots.field-0 tree h)
+      subst (λ (p : Problem). IsLeast p (whole_orders ns all) c.in_ok-knots.field-0.least → IsBestTimed p ns all shown) asked (c.in_ok-timed_of.ensures ns all) (grown-least c.args.rule b (span (g.L.Least.kept c.args.incumbent.now) (g.L.Least.kept c.grow.new.incumbent)) c.args.allowance ns c.in_ok-knots.field-0 tree h)
 
 pub invariant_of-result : goal.invariant_of-result
 invariant_of-result g c =
     let (tree, h) = grown g c in
-    piece-kept NoneNamed (b g c) (span (g.L.Least.kept c.args.incumbent.now) (g.L.Least.kept c.grow.new.incumbent)) c.args.allowance c.args.prefix.now c.in_ok-knots.field-0 tree h (record { rule = NoneNamed; problem = _; prefix = _; knots = _; timed = shown g c }) refl (own g c) c.copy_of.ensures refl (timed g c tree h)
+    piece-kept c.args.rule (b g c) (span (g.L.Least.kept c.args.incumbent.now) (g.L.Least.kept c.grow.new.incumbent)) c.args.allowance c.args.prefix.now c.in_ok-knots.field-0 tree h (record { rule = c.args.rule; problem = _; prefix = _; knots = _; timed = shown g c }) refl (own g c) c.copy_of.ensures refl (timed g c tree h)
 
 pub returns-clause-expansion : goal.returns-clause-expansion
 returns-clause-expansion g c =
     let (tree, h) = grown g c in
-    piece-expansion NoneNamed (b g c) (span (g.L.Least.kept c.args.incumbent.now) (g.L.Least.kept c.grow.new.incumbent)) c.args.allowance c.args.prefix.now c.in_ok-knots.field-0 tree h (record { rule = NoneNamed; problem = _; prefix = _; knots = _; timed = shown g c }) refl (own g c) c.copy_of.ensures refl
+    piece-expansion c.args.rule (b g c) (span (g.L.Least.kept c.args.incumbent.now) (g.L.Least.kept c.grow.new.incumbent)) c.args.allowance c.args.prefix.now c.in_ok-knots.field-0 tree h (record { rule = c.args.rule; problem = _; prefix = _; knots = _; timed = shown g c }) refl (own g c) c.copy_of.ensures refl
 
 pub returns-clause-timed : goal.returns-clause-timed
 returns-clause-timed g c =
     let (tree, h) = grown g c in
-    let is = piece-tree NoneNamed (b g c) (span (g.L.Least.kept c.args.incumbent.now) (g.L.Least.kept c.grow.new.incumbent)) c.args.allowance c.args.prefix.now c.in_ok-knots.field-0 tree h (record { rule = NoneNamed; problem = _; prefix = _; knots = _; timed = shown g c }) refl (own g c) c.copy_of.ensures refl in
+    let is = piece-tree c.args.rule (b g c) (span (g.L.Least.kept c.args.incumbent.now) (g.L.Least.kept c.grow.new.incumbent)) c.args.allowance c.args.prefix.now c.in_ok-knots.field-0 tree h (record { rule = c.args.rule; problem = _; prefix = _; knots = _; timed = shown g c }) refl (own g c) c.copy_of.ensures refl in
     subst (λ t. IsBestTimed (b g c) c.args.prefix.now t (shown g c)) (sym is) (timed g c tree h)

@@ -1,0 +1,24 @@
+use Rattle.std.proofs.Common.{◌∷◌, [], List, map, arith, sym, subst, length-append}
+use Rattle.std.proofs.lemmas.List.Elements.{All-push}
+use Rattle.s66_isa.specs.Lists.{Among}
+use Rattle.s66_node.specs.declared.marks.Entry.{Entry}
+use Rattle.s66_node.specs.MarkTables.{IsEntry, AreEntries, numbers_of}
+use Rattle.s66_node.proofs.Earlier.{names-set, names-push}
+use Rattle.s66_node.proofs.marks.put_entry.Goals as goal
+
+pub returns-then-index-len-clause-known : goal.returns-then-index-len-clause-known
+returns-then-index-len-clause-known c = names-set c.args.entries.now.items c.args.index c.args.entry
+
+pub returns-in_ok-push-clause-entries : goal.returns-in_ok-push-clause-entries
+returns-in_ok-push-clause-entries c =
+    λ b is known.
+    let entries = c.args.entries.now.items in
+    subst (λ (xs : List Entry). AreEntries b xs) (sym c.in_ok-push.ensures.items) (record {
+      few = omega (arith, length-append entries (c.args.entry ∷ []), c.if-index-len.false, c.len.ensures, c.requires);
+      each = All-push (IsEntry b) entries c.args.entry known.each is;
+    })
+
+pub returns-in_ok-push-clause-known : goal.returns-in_ok-push-clause-known
+returns-in_ok-push-clause-known c =
+    λ name among.
+    names-push c.args.entries.now.items c.args.entry name (subst (λ (xs : List Entry). Among name (map numbers_of xs)) c.in_ok-push.ensures.items among)

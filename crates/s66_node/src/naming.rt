@@ -1,0 +1,108 @@
+use crate::knot::{Knot, Name};
+use crate::marks::Marks;
+use crate::walk::Walk;
+use crate::whole_order::copy_of;
+use s66_model::Rule;
+use std::alloc::{AllocError, Global};
+use std::boxed::Box;
+
+/// What knows nodes that dominate others, while a tree is made.
+pub(crate) trait Naming {
+    ghost use Rattle.std.specs.Prelude.{ℕ, List, ◌≡◌, ◌⊎◌, IfOk, IfSome};
+    ghost use Rattle.s66_isa.specs.Lists.{Among};
+    ghost use Rattle.s66_model.specs.declared.rule.Rule.TheVariants.{WrittenEarlier};
+    ghost use Rattle.s66_model.specs.Timing.{Problem};
+    ghost use Rattle.s66_model.specs.LegalOrder.{IsIncomplete};
+    ghost use Rattle.s66_model.specs.DominatedLeaves.{DominatesByRule};
+
+    // it may be asked about prefixes of this problem
+    ghost suits: { Self → Problem → Type 0 };
+
+    // the numbers of the nodes that it knows
+    ghost names: { Self → List (List ℕ) };
+
+    /// A node that dominates the walk's prefix, as the rule asks, if one is known.
+    fn find_name(
+        &self,
+        alloc: Global,
+        walk: &Walk<'_>,
+        rule: Rule,
+    ) -> Result<Option<Box<Name>>, AllocError>
+        requires suits { suits self.now walk.now.problem }
+        ensures dominates { IfOk result (λ found. IfSome found (λ name. IsIncomplete walk.now.problem.block walk.now.numbers → DominatesByRule rule walk.now.problem name.value.numbers.items walk.now.numbers)) }
+        ensures known { IfOk result (λ found. IfSome found (λ name. Among name.value.numbers.items (names self.now))) };
+
+    /// May know the walk's prefix from now on, which is split: this is its line.
+    fn keep_split(&mut self, walk: &Walk<'_>, rule: Rule, line: usize)
+        requires suits { suits self.old walk.now.problem }
+        ensures suits { suits self.new walk.now.problem }
+        ensures known { (name : List ℕ) → Among name (names self.new) → (name ≡ walk.now.numbers) ⊎ Among name (names self.old) };
+
+    /// May know the walk's prefix from now on, which isn't split and has this knot in this line. By the rule of earlier
+    /// nodes it doesn't.
+    fn keep_tip(&mut self, walk: &Walk<'_>, rule: Rule, line: usize, knot: &Knot)
+        requires suits { suits self.old walk.now.problem }
+        ensures suits { suits self.new walk.now.problem }
+        ensures known { rule ≡ WrittenEarlier → names self.new ≡ names self.old };
+}
+
+/// No node is known.
+#[derive(Debug, Drop)]
+pub(crate) struct NoNames;
+
+impl Naming for NoNames {
+    ghost use Rattle.std.specs.Prelude.{[]};
+
+    ghost suits = { λ _ _. Unit {0} };
+
+    ghost names = { λ _. [] };
+
+    fn find_name(
+        &self,
+        _alloc: Global,
+        _walk: &Walk<'_>,
+        _rule: Rule,
+    ) -> Result<Option<Box<Name>>, AllocError> {
+        Ok(None)
+    }
+
+    fn keep_split(&mut self, _walk: &Walk<'_>, _rule: Rule, _line: usize) {}
+
+    fn keep_tip(&mut self, _walk: &Walk<'_>, _rule: Rule, _line: usize, _knot: &Knot) {}
+}
+
+impl Naming for Marks<'_> {
+    ghost use Rattle.std.specs.Prelude.{◌≡◌};
+
+    ghost suits = { λ marks b. marks.problem ≡ b };
+
+    ghost names = { λ marks. marks.names };
+
+    fn find_name(
+        &self,
+        alloc: Global,
+        walk: &Walk<'_>,
+        rule: Rule,
+    ) -> Result<Option<Box<Name>>, AllocError> {
+        match self.find(walk, rule) {
+            Some((numbers, place)) => Ok(Some(Box::new(
+                alloc,
+                Name {
+                    numbers: copy_of(numbers),
+                    place,
+                },
+            )?)),
+            None => Ok(None),
+        }
+    }
+
+    fn keep_split(&mut self, walk: &Walk<'_>, rule: Rule, line: usize) {
+        self.insert(walk, rule, line);
+    }
+
+    fn keep_tip(&mut self, walk: &Walk<'_>, rule: Rule, line: usize, knot: &Knot) {
+        if let (Rule::ClampedStanding, Knot::Frontier { .. }) = (rule, knot) {
+            self.insert(walk, rule, line);
+        }
+    }
+}

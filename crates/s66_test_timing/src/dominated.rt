@@ -1,0 +1,96 @@
+ghost use Rattle.std.specs.Prelude.{◌≡◌};
+ghost use Rattle.s66_isa.specs.Table.{standard};
+ghost use Rattle.s66_line.specs.Block.{instrs_of};
+
+use s66_dep::is_beginning;
+use s66_isa::Profile;
+use s66_line::{Block, read_source};
+use s66_model::Rule;
+use s66_node::{Constant, Knot, Marks, Piece, Place, Walk, expand_dominated};
+use s66_test_blocks::only_block;
+use std::process::Abort;
+use std::test::Fail;
+
+/// All its orders take 8: of two beginnings with the same numbers each dominates the other.
+const THREE_INCREMENTS: &str = "  SB0 B1\n  SB0 B1\n  SB0 B1\n";
+
+/// The third waits for the X1 of the first.
+const LATE_READER: &str = "  FX1 X2/X3\n  SX5 B1\n  BX4 X1\n  FX6 X7+X0\n";
+
+/// How many lines of a piece are dominated. Each other one is a split, or a leaf with this value.
+fn count_passed<R: Abort>(rt: &R, piece: &Piece, leaf: u32) -> u32 {
+    let mut passed = 0u32;
+    for knot in piece.knots() {
+        match knot {
+            Knot::Split(_) => {}
+            Knot::Leaf { value } => assert_eq!(rt; *value, leaf),
+            Knot::Frontier { .. } => panic!(rt; "no line is open"),
+            Knot::Passed { .. } => passed = passed.saturating_add(1),
+        }
+    }
+    passed
+}
+
+/// With all orders of three that take 8, the beginnings 2 1, 3 1 and 3 2 are dominated.
+#[test]
+fn expands_three_increments(rt: HostRuntime) -> Result<(), Fail> {
+    let source = read_source(rt.alloc(), THREE_INCREMENTS.as_bytes())?;
+    let block = only_block(&source).expect(&rt, "one block");
+    let profile = Profile::standard();
+    for best in 8..10u32 {
+        let piece = expand_dominated(rt.alloc(), block, &profile, &[], best, 64)?;
+        assert_eq!(&rt; piece.splits(), 7);
+        assert_eq!(&rt; count_passed(&rt, &piece, 8), 3);
+        assert_eq!(&rt; piece.rule(), Rule::WrittenEarlier);
+    }
+    Ok(())
+}
+
+/// Of the late reader's beginnings over 1, only 1 3 2 is dominated, by 1 2 3.
+#[test]
+fn expands_late_reader(rt: HostRuntime) -> Result<(), Fail> {
+    let source = read_source(rt.alloc(), LATE_READER.as_bytes())?;
+    let block = only_block(&source).expect(&rt, "one block");
+    assert!(&rt; is_beginning(block, &[1]));
+    let piece = expand_dominated(rt.alloc(), block, &Profile::standard(), &[1], 40, 64)?;
+    assert_eq!(&rt; piece.splits(), 9);
+    assert_eq!(&rt; count_passed(&rt, &piece, 33), 1);
+    for knot in piece.knots() {
+        if let Knot::Passed { name, .. } = knot {
+            assert_eq!(&rt; name.numbers.as_slice(), [1u8, 2, 3].as_slice());
+            assert_eq!(&rt; name.place, Place::Line(2));
+        }
+    }
+    Ok(())
+}
+
+/// Checks pieces over prefixes of three increments, by marks that go on from piece to piece.
+fn check_standing<R: AllocGlobal + Abort>(rt: &R, block: &Block) -> Result<(), Fail> {
+    let rule = Rule::ClampedStanding;
+    let profile = Profile::standard();
+    let mut walk = Walk::new(block, &profile);
+    let mut marks = Marks::new(rt.alloc(), block, &profile);
+    let mut best = Constant(9);
+    assert!(rt; is_beginning(block, &[1]));
+    assert!(rt; is_beginning(block, &[2]));
+    let first = walk.expand_dominated(rt.alloc(), &[1], &mut best, 64, &mut marks, rule)?;
+    assert_eq!(rt; first.splits(), 3);
+    assert_eq!(rt; count_passed(rt, &first, 8), 0);
+    marks.settle(4, 20);
+    let second = walk.expand_dominated(rt.alloc(), &[2], &mut best, 64, &mut marks, rule)?;
+    assert_eq!(rt; second.splits(), 2);
+    assert_eq!(rt; count_passed(rt, &second, 8), 1);
+    for knot in second.knots() {
+        if let Knot::Passed { name, .. } = knot {
+            assert_eq!(rt; name.numbers.as_slice(), [1u8, 2].as_slice());
+            assert_eq!(rt; name.place, Place::Node(20));
+        }
+    }
+    Ok(())
+}
+
+#[test]
+fn expands_by_standing_nodes(rt: HostRuntime) -> Result<(), Fail> {
+    let source = read_source(rt.alloc(), THREE_INCREMENTS.as_bytes())?;
+    check_standing(&rt, only_block(&source).expect(&rt, "one block"))
+}
