@@ -24,7 +24,7 @@ use Rattle.s66_ledger.specs.Nodes.{prefixes, nodes_of, HaveFloors}
 use Rattle.s66_ledger.specs.OpenNodes.{IsOut}
 use Rattle.s66_ledger.specs.LedgerMachine.{MachineOf, state_of, machine_of, IsKept}
 use Rattle.s66_ledger.specs.Opened.{opened, PlainHolds, IsPlain}
-use Rattle.s66_ledger.specs.GraftMoves.{IsGraftMove, taken_event, IsTakenMove}
+use Rattle.s66_ledger.specs.GraftMoves.{IsGraftMove, IsTakenMove}
 use Rattle.s66_ledger.proofs.SeenNodes.{at-nodes}
 use Rattle.s66_ledger.proofs.Opened.{same-splits, opened-opens, plain-piece, plain-are-named}
 use Rattle.s66_ledger.proofs.Events.{is-out, not-out, kept-next}

@@ -1,5 +1,5 @@
 -- A piece with its dominated prefixes put into the frontier is a piece, with the same splits and whole orders.
-use Rattle.std.proofs.Common.{ℕ, ◌+◌, ◌≤◌, ◌<◌, ◌≡◌, List, [], ◌∷◌, ◌++◌, length, map, drop, refl, sym, ap, arith, inl, inr, ◌∙◌, subst, Option, Some, None}
+use Rattle.std.proofs.Common.{ℕ, ◌≡◌, List, [], ◌∷◌, ◌++◌, length, map, drop, refl, sym, ap, arith, inl, inr, ◌∙◌, subst, Option, Some, None}
 use Rattle.std.proofs.lemmas.List.{length-map}
 use Rattle.s66_isa.specs.declared.instr.Instr.{Instr}
 use Rattle.s66_isa.specs.Lists.{Among}
@@ -7,13 +7,12 @@ use Rattle.s66_model.specs.declared.rule.Rule.{Rule}
 use Rattle.s66_model.specs.declared.rule.Rule.TheVariants.{NoneNamed, WrittenEarlier, ClampedStanding}
 use Rattle.s66_model.specs.Timing.{Problem}
 use Rattle.s66_model.specs.LegalOrder.{IsIncomplete}
-use Rattle.s66_model.specs.Leaves.{floor_value}
-use Rattle.s66_model.specs.Tree.{Tree, Alone, Parted, Kids, NoMore, Unsplit, Split, Knot, AtTip, AtSplit, KidsHold, TreeHolds, flat_kids, flat, kid_splits, splits, kids_split_at, split_at, kid_values, tree_values}
+use Rattle.s66_model.specs.Tree.{Tree, Alone, Parted, Kids, NoMore, Unsplit, Split, Knot, AtTip, AtSplit, KidsHold, TreeHolds, flat_kids, flat, kid_splits, splits, kid_values}
 use Rattle.s66_model.specs.DominatedLeaves.{DominatesByRule}
-use Rattle.s66_model.specs.Piece.{Tip, Carries, Frontier, Passed, IsNamedIn, TipHolds, IsPiece}
+use Rattle.s66_model.specs.Piece.{Tip, Carries, Frontier, Passed, TipHolds, IsPiece}
 use Rattle.s66_model.specs.Preorder.{first_kids, later_kids, forest, first_tree, read_tree}
-use Rattle.s66_model.specs.Told.{Told, ToldLeaf, ToldFrontier, ToldPassed, ToldHolds, tip_of, kids_seen, tree_seen, tree_told, IsToldTree}
-use Rattle.s66_model.specs.Expansion.{TipHoldsWhile, IsExpansion, whole_at, whole_orders}
+use Rattle.s66_model.specs.Told.{Told, ToldLeaf, ToldFrontier, ToldPassed, ToldHolds, tip_of, kids_seen, tree_seen, IsToldTree}
+use Rattle.s66_model.specs.Expansion.{whole_at, whole_orders}
 use Rattle.s66_model.specs.Ledger.{Node, TipIsNamed, AreNamed}
 use Rattle.s66_model.specs.Recorded.{TipOpens, KidsOpen, TreeOpens}
 use Rattle.s66_model.proofs.TreesHold.{tree-weaken, seen-holds}

@@ -7,12 +7,11 @@ use Rattle.s66_model.specs.Ledger as model
 use Rattle.s66_model.specs.Ledger.{kid_nodes, root_state, new_nodes}
 use Rattle.s66_node.specs.declared.knot.Knot as code
 use Rattle.s66_model.specs.Told.{Told, ToldLeaf, ToldFrontier, ToldPassed, tip_of, tree_seen}
-use Rattle.s66_node.specs.SeenKnots.{seen_knot, seen}
 use Rattle.s66_ledger.specs.declared.node.Node.{Node}
 use Rattle.s66_ledger.specs.declared.node.State.{State}
 use Rattle.s66_ledger.specs.declared.node.State.TheVariants as state
-use Rattle.s66_ledger.specs.Opened.{open_told, open_line, opened, PlainHolds, open_knot, open_lines}
-use Rattle.s66_ledger.specs.Nodes.{prefixes, seen_state, nodes_of, node_at, no_node, with_state, is_open_state}
+use Rattle.s66_ledger.specs.Opened.{PlainHolds, open_knot, open_lines}
+use Rattle.s66_ledger.specs.Nodes.{prefixes, name_at, seen_state, nodes_of, node_at, no_node, with_state, is_open_state}
 use Rattle.s66_ledger.specs.Planting.{kids_of, told_state}
 use Rattle.s66_ledger.proofs.SeenNodes.{nodes-set, nodes-state, length-nodes, at-nodes}
 use Rattle.s66_ledger.proofs.Reading.{told-seen, line-at, length-seen}
@@ -65,7 +64,7 @@ module _ (b : Problem) (best root : ℕ) (at : List ℕ) (tree : Tree Told) wher
   split-nodes made all numbers lt longer e is =
       let seen = tree_seen (tip_of b) at tree in
       let cut : root_state b best at seen ≡ model.Cut = ap (λ (t : Tree Told). root_state b best at (tree_seen (tip_of b) at t)) is in
-      nodes-state b all root state.Split model.Cut (omega (arith, lt, longer)) (λ path. refl)
+      nodes-state b all root state.Split model.Cut (omega (arith, lt, longer)) (λ name path. refl)
       ∙ (ap (λ (ns : List model.Node). model.with_state ns root model.Cut) e
       ∙ (with_state-front (nodes_of b made) (new_nodes b best at seen) root model.Cut (omega (arith, lt, length-nodes b made))
       ∙ ap (λ (s : model.State). model.with_state (nodes_of b made) root s ++ new_nodes b best at seen) (sym cut)))
@@ -77,9 +76,9 @@ module _ (b : Problem) (best root : ℕ) (at : List ℕ) (tree : Tree Told) wher
       let path : (model.node_at (nodes_of b old) root).prefix ≡ at = ap (λ (n : model.Node). n.prefix) (at-nodes b old root lt) ∙ over in
       let one : nodes_of b (with_state old root s) ≡ model.with_state (nodes_of b old) root (model.state_of b best at (tip_of b at t)) ++ [] =
       nodes-set b old root (record (node_at old root) { state = s }) no_node lt refl refl
-      ∙ (ap (λ u. model.with_state (nodes_of b old) root (seen_state b (model.node_at (nodes_of b old) root).prefix u)) g
-      ∙ (ap (λ p. model.with_state (nodes_of b old) root (seen_state b p (told_state best t))) path
-      ∙ (ap (model.with_state (nodes_of b old) root) (told-seen b best at t told)
+      ∙ (ap (λ u. model.with_state (nodes_of b old) root (seen_state b (name_at old root) (model.node_at (nodes_of b old) root).prefix u)) g
+      ∙ (ap (λ p. model.with_state (nodes_of b old) root (seen_state b (name_at old root) p (told_state best t))) path
+      ∙ (ap (model.with_state (nodes_of b old) root) (told-seen b best (name_at old root) at t told)
       ∙ sym (append-nil (model.with_state (nodes_of b old) root (model.state_of b best at (tip_of b at t))))))) in
       subst (λ (t : Tree Told). Planted old (with_state old root s) t) (sym is) one
 

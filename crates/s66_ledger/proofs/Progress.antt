@@ -7,7 +7,7 @@ use Rattle.s66_model.specs.Leaves.{Whole, value, floor_value}
 use Rattle.s66_model.specs.Tree.{Tree, Alone, Parted, splits}
 use Rattle.s66_model.specs.Piece.{Tip, Carries, Frontier, Passed}
 use Rattle.s66_model.specs.Expansion.{IsExpansion}
-use Rattle.s66_model.specs.Ledger.{Ledger, Node, Claim, Back, Claimed, Returned, Taken, best_time, allowance, is_open, node_at}
+use Rattle.s66_model.specs.Ledger.{Ledger, Node, Claim, Back, Claimed, Returned, best_time, allowance, is_open, node_at}
 use Rattle.s66_model.specs.Coverage.{Covers}
 use Rattle.s66_model.proofs.Floors.{floor-whole}
 use Rattle.s66_model.proofs.LedgerRuns.{run-falls}

@@ -1,9 +1,7 @@
 -- A move of the machine with its entry is an event, and the history leads on; what its accounts spend adds up.
-use Rattle.std.proofs.Common.{ℕ, ◌+◌, ◌≡◌, ◌≢◌, ◌≤◌, ◌<◌, ◌↔◌, ◌∙◌, Bool, true, false, true≢false, IsTrue, List, [], ◌∷◌, ◌++◌, Some, None, map, take, drop, length, length-append, append_assoc, refl, ap, sym, subst, arith}
+use Rattle.std.proofs.Common.{ℕ, ◌+◌, ◌≡◌, ◌≢◌, ◌≤◌, ◌<◌, ◌∙◌, Bool, true, false, true≢false, List, [], ◌∷◌, ◌++◌, Some, None, map, take, drop, length, length-append, append_assoc, refl, ap, sym, subst, arith}
 use Rattle.std.proofs.Math.Seq.{take-length, take-append_seam, take-append-add}
 use Rattle.std.proofs.lemmas.List.{append-nil, nil_from_length, take-append-le, drop-append-le, length-drop, length-take, length-map, take-append-drop}
-use Rattle.s66_isa.specs.declared.instr.Instr.{Instr}
-use Rattle.s66_isa.specs.declared.profile.Profile.{Profile}
 use Rattle.s66_isa.specs.Lists.{weigh, rising}
 use Rattle.s66_isa.proofs.Lists.{weigh-append}
 use Rattle.s66_model.specs.declared.rule.Rule.{Rule}

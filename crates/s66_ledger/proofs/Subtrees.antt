@@ -4,18 +4,17 @@ use Rattle.std.proofs.lemmas.List.{append-nil, length-map, length-take, map-appe
 use Rattle.s66_model.specs.Tree.{Tree, Alone, Parted, Knot, AtTip, AtSplit, TreeHolds, flat_kids}
 use Rattle.s66_model.specs.Ledger as model
 use Rattle.s66_model.specs.Ledger.{kid_nodes, new_nodes}
-use Rattle.s66_model.specs.Told.{Told, ToldLeaf, ToldFrontier, ToldPassed, tip_of, kids_seen, tree_told}
+use Rattle.s66_model.specs.Told.{Told, ToldLeaf, ToldFrontier, tip_of, kids_seen, tree_told}
 use Rattle.s66_dep.specs.declared.set.Set.{Set}
 use Rattle.s66_dep.specs.Members.{numbers_in}
 use Rattle.s66_node.specs.declared.knot.Knot as code
 use Rattle.s66_node.specs.declared.knot.Knot.TheVariants as line
 use Rattle.s66_node.specs.Pieces.{PieceOf, told_tree}
 use Rattle.s66_node.specs.Outlines.{line_byte}
-use Rattle.s66_node.specs.SeenKnots.{seen_knot}
 use Rattle.s66_node.specs.Walked.{front}
 use Rattle.s66_ledger.specs.declared.node.Node.{Node}
 use Rattle.s66_ledger.specs.declared.subtree.Place.{Place}
-use Rattle.s66_ledger.specs.Opened.{open_told, open_line, opened, PlainHolds, open_knot, open_lines}
+use Rattle.s66_ledger.specs.Opened.{PlainHolds, open_knot}
 use Rattle.s66_ledger.specs.Nodes.{prefixes, nodes_of, node_at, lines_of, HaveDepths}
 use Rattle.s66_ledger.specs.Planting.{kids_of, knot_value, made_state, told_state, told_value, IsReading}
 use Rattle.s66_ledger.specs.Subtrees.{placed_parent, placed, settled_state, settled, planted, lines_below, CanBeOver, IsPlanted, IsSubtreeOf}

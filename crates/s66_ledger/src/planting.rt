@@ -30,7 +30,7 @@ pub fn settled_state(state: State, value: u32, best: u32) -> State
                 State::Open
             }
         }
-        State::Open | State::Out => State::Open,
+        State::Open | State::Out | State::Dominated => State::Open,
         State::Split => State::Split,
     }
 }

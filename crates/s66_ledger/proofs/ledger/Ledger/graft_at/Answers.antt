@@ -1,4 +1,4 @@
-use Rattle.std.proofs.Common.{true, ◌≡◌, ◌∙◌, ◌<◌, ◌++◌, refl, ap, sym, subst, length, arith}
+use Rattle.std.proofs.Common.{true, ◌≡◌, ◌<◌, ◌++◌, refl, ap, sym, subst, length, arith}
 use Rattle.s66_model.specs.Ledger.{Taken}
 use Rattle.s66_model.specs.Recorded.{IsOwnPiece}
 use Rattle.s66_ledger.specs.declared.reply.GraftError.{GraftError}

@@ -1,10 +1,10 @@
-use Rattle.std.proofs.Common.{ℕ, true, ◌+◌, ◌-◌, ◌≡◌, ◌≢◌, ◌∙◌, ◌++◌, List, ap, arith, refl, sym, subst, length, length-append, map, get_or, heap_items, []}
+use Rattle.std.proofs.Common.{ℕ, true, ◌+◌, ◌-◌, ◌≡◌, ◌∙◌, ◌++◌, List, ap, arith, refl, sym, subst, length, length-append, map, get_or, heap_items, []}
 use Rattle.std.proofs.lemmas.List.{append-nil, length-set}
 use Rattle.std.proofs.lemmas.Result.{on_ok_weaker}
 use Rattle.s66_dep.specs.Members.{numbers_in}
 use Rattle.s66_model.specs.Ledger as model
 use Rattle.s66_model.specs.Ledger.{root_state, new_nodes}
-use Rattle.s66_model.specs.Tree.{Alone, Parted, TreeHolds, flat}
+use Rattle.s66_model.specs.Tree.{Alone, Parted, flat}
 use Rattle.s66_model.specs.Told.{Told}
 use Rattle.s66_node.specs.Pieces.{PieceOf, told_tree, tree_of}
 use Rattle.s66_ledger.specs.declared.node.Node.{Node}
@@ -12,7 +12,7 @@ use Rattle.s66_ledger.specs.declared.node.State.{State}
 use Rattle.s66_ledger.specs.declared.node.State.TheVariants as state
 use Rattle.s66_ledger.specs.OpenNodes.{IsOut, AreOpenNodes}
 use Rattle.s66_ledger.specs.LiveNodes.{AreCounted}
-use Rattle.s66_ledger.specs.Nodes.{no_node, node_at, with_state, nodes_of, lines_of, prefixes, HaveFloors, HaveDepths, is_open_state, is_out_state}
+use Rattle.s66_ledger.specs.Nodes.{no_node, node_at, with_state, nodes_of, lines_of, prefixes, HaveFloors, HaveDepths, is_open_state, is_out_state, has_floor}
 use Rattle.s66_ledger.specs.Opened.{opened, IsPlain, open_knot}
 use Rattle.s66_ledger.proofs.Opened.{opened-plain, opened-preorder, opened-lines, opened-length}
 use Rattle.s66_ledger.specs.Planting.{kids_of, told_state}
@@ -27,9 +27,6 @@ use Rattle.s66_ledger.proofs.NodePrefixes.{lines-state}
 use Rattle.s66_ledger.proofs.Reading.{settled-told}
 use Rattle.s66_ledger.proofs.Subtrees.{lines-planted, tip-lineless}
 use Rattle.s66_ledger.proofs.node_table.NodeTable.plant.Goals as goal
-
-out-split : (s : State) → s ≡ state.Out → s ≢ state.Split
-out-split s out split = let no : state.Out ≡ state.Split = sym out ∙ split in absurd cc
 
 -- in these nodes the piece stands in the place of one that was out
 abbrev Stands : PieceOf → ℕ → ℕ → List Node → List Node → Type 0
@@ -47,7 +44,7 @@ module _ (p : PieceOf) (best i : ℕ) (s : State) (told : Told) (old new : List 
       ∙ (sym (append-nil (lines_of old)) ∙ ap (λ ls. lines_of old ++ ls) (sym (tip-lineless p (ap length (sym preorder ∙ ap flat alone))))))
 
   alone-floors : HaveFloors p.problem old → HaveFloors p.problem new
-  alone-floors floors = subst (HaveFloors p.problem) (sym moved) (floors-state p.problem old i s out.0 (out-split (node_at old i).state out.1) floors)
+  alone-floors floors = subst (HaveFloors p.problem) (sym moved) (floors-state p.problem old i s out.0 (ap has_floor out.1) floors)
 
   alone-stands : get_or (prefixes old) i [] ≡ p.prefix → IsPlain p → Stands p best i old new
   alone-stands over holds =
@@ -66,7 +63,7 @@ module _ (p : PieceOf) (best i : ℕ) (old subtree new : List Node) (out : IsOut
   split-floors : HaveFloors p.problem new
   split-floors =
       let there : IsOut all i = still-out old (map (placed i (length old)) (map (settled best) subtree)) i out in
-      subst (HaveFloors p.problem) (sym moved) (floors-state p.problem all i state.Split there.0 (out-split (node_at all i).state there.1) whole.floors)
+      subst (HaveFloors p.problem) (sym moved) (floors-state p.problem all i state.Split there.0 (ap has_floor there.1) whole.floors)
 
   split-stands : (numbers : List ℕ) → told_tree p ≡ Parted numbers (kids_of (told_tree p)) → Stands p best i old new
   split-stands numbers parted =
