@@ -1,5 +1,5 @@
 -- Each event keeps what a ledger's type keeps, and is a step of the machine.
-use Rattle.std.proofs.Common.{ℕ, zero, suc, ◌+◌, ◌-◌, ◌*◌, ◌≤◌, ◌<◌, ◌≡◌, Bool, true, false, List, [], ◌∷◌, length, get_or, set, refl, sym, ap, arith, subst, ◌∙◌, Some, None, IsTrue, ◌↔◌, min, replicate, length-append}
+use Rattle.std.proofs.Common.{ℕ, zero, suc, ◌+◌, ◌-◌, ◌*◌, ◌≤◌, ◌<◌, ◌≡◌, Bool, true, false, List, [], ◌∷◌, length, get_or, set, refl, sym, ap, arith, subst, ◌∙◌, Some, None, IsTrue, ◌↔◌, min, replicate, length-append, inl, inr}
 use Rattle.std.proofs.lemmas.List.{length-set, length-replicate}
 use Rattle.s66_isa.specs.Lists.{tally, weigh}
 use Rattle.s66_isa.specs.Table.{numbers}
@@ -27,6 +27,8 @@ use Rattle.s66_ledger.specs.OpenNodes.{IsOut, ranked}
 use Rattle.s66_ledger.specs.LedgerMachine.{MachineOf, IsMove, state_of, machine_of, IsKept}
 use Rattle.s66_ledger.proofs.SeenNodes.{length-nodes, at-nodes, open-seen, open-nodes, out-seen, nodes-state}
 use Rattle.s66_ledger.proofs.NodeFloors.{floors-state}
+use Rattle.s66_ledger.proofs.NodePrefixes.{name-below, name-root}
+use Rattle.s66_isa.proofs.Lists.{cases_le}
 
 -- WHAT IS SEEN of nodes
 
@@ -70,6 +72,15 @@ module _ (rule : Rule) (b : Problem) (budget : ℕ) (nodes : List Node) (best : 
   kept-short i lt =
       let (rest, legal) = beginning-front b.block (get_or (prefixes nodes) i []) (kept-beginning i lt) in
       omega (arith, legal.whole, length-append (get_or (prefixes nodes) i []) rest)
+
+  -- nor is a name longer
+  pub name-short : (i : ℕ) → i < length nodes → length (name_at nodes i) ≤ length b.block
+  name-short i lt =
+      let v = (node_at nodes i).value in
+      elim (cases_le i v) [
+        | inl le ↦ omega (arith, ap length (name-root nodes i v lt refl le), kept-short 0 (omega (arith, lt)))
+        | inr below ↦ omega (arith, ap length (name-below nodes i v lt refl below), kept-short v (omega (arith, lt, below)))
+      ]
 
   -- after a step
   pub kept-next : (nodes2 : List Node) (best2 : TimedOrder) (left2 : ℕ) (allowances2 : List ℕ) (spent2 : ℕ) (event : Event) (reply : Reply) → best2.problem ≡ b → HaveFloors b nodes2 → length nodes2 ≤ 1 + BLOCK_LIMIT * spent2 → length allowances2 ≡ length allowances → Step rule b old event reply (state_of b nodes2 best2.numbers left2 allowances2 spent2) → IsKept rule b budget nodes2 best2 left2 allowances2 spent2

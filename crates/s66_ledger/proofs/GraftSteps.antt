@@ -20,13 +20,17 @@ use Rattle.s66_node.specs.Pieces.{PieceOf, told_tree, tree_of}
 use Rattle.s66_model.proofs.TreesHold.{seen-splits}
 use Rattle.s66_model.proofs.Forests.{tree-match}
 use Rattle.s66_ledger.specs.declared.node.Node.{Node}
-use Rattle.s66_ledger.specs.Nodes.{prefixes, nodes_of, HaveFloors}
+use Rattle.s66_ledger.specs.Nodes.{prefixes, nodes_of, lines_of, HaveFloors}
+use Rattle.s66_ledger.specs.Subtrees.{lines_below}
+use Rattle.s66_ledger.specs.DominatedNodes.{names_in}
+use Rattle.s66_ledger.proofs.Names.{grafted-names}
+use Rattle.s66_ledger.proofs.Planted.{some-flat}
 use Rattle.s66_ledger.specs.OpenNodes.{IsOut}
 use Rattle.s66_ledger.specs.LedgerMachine.{MachineOf, state_of, machine_of, IsKept}
 use Rattle.s66_ledger.specs.Opened.{opened, PlainHolds, IsPlain}
 use Rattle.s66_ledger.specs.GraftMoves.{IsGraftMove, IsTakenMove}
 use Rattle.s66_ledger.proofs.SeenNodes.{at-nodes}
-use Rattle.s66_ledger.proofs.Opened.{same-splits, opened-opens, plain-piece, plain-are-named}
+use Rattle.s66_ledger.proofs.Opened.{same-splits, opened-opens, opened-length, opened-outline, opened-nameless, plain-piece, plain-are-named}
 use Rattle.s66_ledger.proofs.Events.{is-out, not-out, kept-next}
 
 -- HOW MANY LINES
@@ -106,22 +110,34 @@ module _ (rule : Rule) (b : Problem) (budget : ℕ) (nodes : List Node) (best : 
       abbrev after : MachineOf
       after = machine_of rule b budget new best.numbers left (set allowances (w - 1) (get_or allowances (w - 1) 0 - count)) (spent + count)
 
+      made : nodes_of b new ≡ model.with_state (nodes_of b nodes) i (root_state b (total_of b best.numbers) p.prefix whole) ++ new_nodes b (total_of b best.numbers) p.prefix whole
+      made =
+          subst (λ (q : Problem). nodes_of b new ≡ model.with_state (nodes_of b nodes) i (root_state b (total_of q best.numbers) p.prefix whole) ++ new_nodes b (total_of q best.numbers) p.prefix whole) h.own
+          (subst (λ (q : Problem). nodes_of q new ≡ model.with_state (nodes_of q nodes) i (root_state q (total_of best.problem best.numbers) p.prefix whole) ++ new_nodes q (total_of best.problem best.numbers) p.prefix whole) same planted)
+
       taken-moves : Moves rule b (state_of b nodes best.numbers left allowances spent) (Graft w i true p.prefix (splits whole) (Some whole)) Taken after.state
       taken-moves =
-          let made : nodes_of b new ≡ model.with_state (nodes_of b nodes) i (root_state b (total_of b best.numbers) p.prefix whole) ++ new_nodes b (total_of b best.numbers) p.prefix whole =
-          subst (λ (q : Problem). nodes_of b new ≡ model.with_state (nodes_of b nodes) i (root_state b (total_of q best.numbers) p.prefix whole) ++ new_nodes b (total_of q best.numbers) p.prefix whole) h.own
-          (subst (λ (q : Problem). nodes_of q new ≡ model.with_state (nodes_of q nodes) i (root_state q (total_of best.problem best.numbers) p.prefix whole) ++ new_nodes q (total_of best.problem best.numbers) p.prefix whole) same planted) in
           let state : after.state ≡ model.after_graft b (state_of b nodes best.numbers left allowances spent) w i p.prefix whole =
           ap (λ n. record { nodes = nodes_of b new; best = best.numbers; left = left; allowances = set allowances (w - 1) (get_or allowances (w - 1) 0 - n); spent = spent + n }) counts
           ∙ ap (λ (ns : List model.Node). record { nodes = ns; best = best.numbers; left = left; allowances = set allowances (w - 1) (get_or allowances (w - 1) 0 - splits whole); spent = spent + splits whole }) made in
           (is-out b nodes best.numbers left allowances spent i out, (refl, sym over ∙ sym (prefix-is out.0)), omega (arith, counts, within), refl, subst (λ (q : Problem). IsPiece rule q p.prefix whole) same (plain-piece rule (opened p) plain), state, subst (λ (q : Problem). AreNamed rule q after.state.nodes p.prefix whole) same (plain-are-named rule (opened p) after.state.nodes plain))
 
-      pub graft-taken : (l : MachineOf) → here ≡ l → IsTakenMove l w i p after
-      graft-taken l is =
+      pub graft-taken : (l : MachineOf) → here ≡ l → flat (told_tree (opened p)) ≡ (opened p).knots → lines_of new ≡ lines_of nodes ++ lines_below (opened p) → IsTakenMove l w i p after
+      graft-taken l is preorder lines =
           subst (λ (l : MachineOf). IsTakenMove l w i p after) is
           (record {
             rule = (owns.0 mine).0;
             problem = same;
+            taken = (opened p).knots;
+            count = opened-length p;
+            root = refl;
+            opens = opened-opens p;
+            outline = opened-outline p plain;
+            lines = lines;
+            names =
+                ap names_in made
+                ∙ grafted-names b (total_of b best.numbers) (opened p) (nodes_of b nodes) i same (is-out b nodes best.numbers left allowances spent i out).1
+                (tree-match p.problem.block (PlainHolds p.problem) (told_tree (opened p)) p.prefix plain) preorder (opened-nameless p (omega (arith, some-flat (told_tree (opened p)), ap length preorder, opened-length p)));
             move = (refl, refl, length-set allowances (w - 1) (get_or allowances (w - 1) 0 - count), ((one, le), taken-moves), refl);
           })
 

@@ -14,6 +14,7 @@ pub mod Opened
 pub mod Planted
 pub mod PlantedNodes
 pub mod NodePrefixes
+pub mod Names
 pub mod Progress
 pub mod Reading
 pub mod Recording

@@ -1,5 +1,5 @@
 -- A piece with its dominated prefixes put into the frontier is a piece, with the same splits and whole orders.
-use Rattle.std.proofs.Common.{ℕ, ◌≡◌, List, [], ◌∷◌, ◌++◌, length, map, drop, refl, sym, ap, arith, inl, inr, ◌∙◌, subst, Option, Some, None}
+use Rattle.std.proofs.Common.{ℕ, ◌<◌, ◌≡◌, List, [], ◌∷◌, ◌++◌, length, map, take, refl, sym, ap, arith, inl, inr, ◌∙◌, subst, Option, Some, None}
 use Rattle.std.proofs.lemmas.List.{length-map}
 use Rattle.s66_isa.specs.declared.instr.Instr.{Instr}
 use Rattle.s66_isa.specs.Lists.{Among}
@@ -19,7 +19,7 @@ use Rattle.s66_model.proofs.TreesHold.{tree-weaken, seen-holds}
 use Rattle.s66_node.specs.Pieces.{PieceOf, told_tree, tree_of, IsBestTimed}
 use Rattle.s66_node.specs.declared.knot.Knot as code
 use Rattle.s66_node.specs.SeenKnots.{seen}
-use Rattle.s66_node.specs.Outlines.{line_name, StaysOpen, told_line, told_lines, outline_of, outline_prefix, with_ready, IsOutlineOf}
+use Rattle.s66_node.specs.Outlines.{line_name, names_of, outline_of, IsOutlineOf}
 use Rattle.s66_node.proofs.Outlines.{outline-holds}
 use Rattle.s66_ledger.specs.Opened.{open_told, open_line, opened, PlainHolds, IsPlain, open_knot, open_lines}
 
@@ -209,22 +209,22 @@ opened-lines knots p is = by knots ∙ ap (map open_line) is
     by [] = refl
     by (k ∷ ks) = ap (λ xs. open_knot k ∷ xs) (by ks)
 
--- no names come beside them
-nameless : (bytes : List ℕ) (knots : List (Knot Told)) → told_lines bytes (map line_name (map open_line knots)) ≡ told_lines bytes []
-nameless [] knots = refl
-nameless (byte ∷ bytes) [] = refl
-nameless (byte ∷ bytes) (AtSplit numbers ∷ knots) = ap (λ xs. told_line byte [] ∷ xs) (nameless bytes knots)
-nameless (byte ∷ bytes) (AtTip (ToldLeaf value) ∷ knots) = ap (λ xs. told_line byte [] ∷ xs) (nameless bytes knots)
-nameless (byte ∷ bytes) (AtTip (ToldFrontier value) ∷ knots) = ap (λ xs. told_line byte [] ∷ xs) (nameless bytes knots)
-nameless (byte ∷ bytes) (AtTip (ToldPassed value name) ∷ knots) = ap (λ xs. told_line byte [] ∷ xs) (nameless bytes knots)
+-- nor has the root a name
+pub opened-nameless : (p : PieceOf) → 0 < length p.knots → take 1 (names_of (opened p)) ≡ [] ∷ []
+opened-nameless p some = by p.knots some
+  where
+    plain : (k : Knot Told) → line_name (open_line k) ≡ []
+    plain (AtSplit numbers) = refl
+    plain (AtTip (ToldLeaf value)) = refl
+    plain (AtTip (ToldFrontier value)) = refl
+    plain (AtTip (ToldPassed value name)) = refl
 
-pub opened-outline : (p : PieceOf) → IsPlain (opened p) → IsOutlineOf (opened p) (outline_of (opened p)) []
-opened-outline p plain =
-    let q = opened p in
-    let depth = length q.prefix in
-    let of = outline-holds q (PlainHolds q.problem) plain in
-    let lines = nameless (drop depth (outline_of q)) p.knots in
-    (of.0, ap (λ ks. with_ready q.problem (outline_prefix depth (outline_of q)) (read_tree StaysOpen ks)) (sym lines) ∙ of.1)
+    by : (ks : List (Knot Told)) → 0 < length ks → take 1 (map line_name (map open_line ks)) ≡ [] ∷ []
+    by [] lt = absurd (omega arith)
+    by (k ∷ ks) lt = ap (λ name. name ∷ []) (plain k)
+
+pub opened-outline : (p : PieceOf) → IsPlain (opened p) → IsOutlineOf (opened p) (outline_of (opened p)) (names_of (opened p))
+opened-outline p plain = outline-holds (opened p) (PlainHolds p.problem) plain
 
 pub opened-length : (p : PieceOf) → length (opened p).knots ≡ length p.knots
 opened-length p = length-map p.knots open_line

@@ -33,7 +33,7 @@ alone : (tree : Tree Told) (t : Told) (rest : List (Knot Told)) → flat tree �
 alone (Alone u) t rest e = let first : u ≡ t = cc in ap Alone first
 alone (Parted ns kids) t rest e = absurd cc
 
-some-flat : (tree : Tree Told) → 0 < length (flat tree)
+pub some-flat : (tree : Tree Told) → 0 < length (flat tree)
 some-flat (Alone u) = omega arith
 some-flat (Parted ns kids) = omega arith
 

@@ -3,6 +3,7 @@ use Rattle.std.proofs.Common.{ℕ, zero, suc, ◌<◌, ◌≡◌, cond, List, []
 use Rattle.std.proofs.lemmas.List.{append-nil}
 use Rattle.s66_isa.specs.Lists.{tally}
 use Rattle.s66_model.specs.Timing.{Problem}
+use Rattle.s66_model.specs.DominatedLeaves.{Dominated}
 use Rattle.s66_model.specs.Ledger as model
 use Rattle.s66_ledger.specs.declared.node.Node.{Node}
 use Rattle.s66_ledger.specs.declared.node.State.{State}
@@ -88,6 +89,13 @@ open-nodes_at b before (a ∷ ats) (x ∷ xs) e =
 
 pub open-nodes : (b : Problem) (xs : List Node) → tally model.is_open (nodes_of b xs) ≡ tally is_open xs
 open-nodes b xs = open-nodes_at b [] (prefixes xs) xs (length-prefixes xs)
+
+pub dominated-seen : (b : Problem) (name at : List ℕ) (s : State) (is : List ℕ) → seen_state b name at s ≡ model.Closed (Dominated is) → s ≡ state.Dominated
+dominated-seen b name at state.Open is e = absurd cc
+dominated-seen b name at state.Out is e = absurd cc
+dominated-seen b name at state.Closed is e = absurd cc
+dominated-seen b name at state.Split is e = absurd cc
+dominated-seen b name at state.Dominated is e = refl
 
 pub out-seen : (b : Problem) (name at : List ℕ) (s : State) → seen_state b name at s ≡ model.Out → s ≡ state.Out
 out-seen b name at state.Open e = absurd cc

@@ -1,5 +1,6 @@
 pub mod Answers
 pub mod ClaimedNodes
+pub mod DominatedNodes
 pub mod AnswerLines
 pub mod HistoryEntries
 pub mod Finishing

@@ -38,7 +38,7 @@ impl Model for NodeTable {
 }
 
 impl NodeTable {
-    ghost use Rattle.std.specs.Prelude.{ℕ, [], ◌∷◌, ◌++◌, ◌+◌, ◌^◌, ◌≡◌, ◌<◌, ◌≤◌, ◌↔◌, true, false, IsTrue, IfOk, OnOk, OnErr, IfSome, IfNone, length, get_or, slice_get};
+    ghost use Rattle.std.specs.Prelude.{ℕ, [], ◌∷◌, ◌++◌, ◌+◌, ◌^◌, ◌≡◌, ◌≢◌, ◌<◌, ◌≤◌, ◌↔◌, true, false, IsTrue, IfOk, OnOk, OnErr, IfSome, IfNone, length, get_or, slice_get};
     ghost use Rattle.s66_isa.specs.Lists.{tally, least};
     ghost use Rattle.s66_ledger.specs.LiveNodes.{live_values};
     ghost use Rattle.s66_isa.specs.declared.limits.TheConstants.{BLOCK_LIMIT};
@@ -49,7 +49,7 @@ impl NodeTable {
     ghost use Rattle.s66_node.specs.declared.knot.TheConstants.{FRONTIER};
     ghost use Rattle.s66_ledger.specs.Opened.{opened};
     ghost use Rattle.s66_ledger.specs.Subtrees.{IsSubtreeOf, planted, lines_below};
-    ghost use Rattle.s66_ledger.specs.Nodes.{is_open, is_live_state, node_at, with_state, prefixes, nodes_of, lines_of, HaveFloors, HaveDepths};
+    ghost use Rattle.s66_ledger.specs.Nodes.{is_open, is_live_state, name_at, node_at, with_state, prefixes, nodes_of, lines_of, HaveFloors, HaveDepths};
     ghost use Rattle.s66_ledger.specs.OpenNodes.{IsOut, ranked};
 
     /// One node, the empty prefix with its floor, open.
@@ -167,6 +167,20 @@ impl NodeTable {
         ensures { result ≡ slice_get (lines_of self.now) node }
     {
         Some(self.nodes.get(node as usize)?.line)
+    }
+
+    /// The name of a node, where there is one of this number and it is dominated, in time linear in its length.
+    pub fn name_of(&self, node: u32) -> Option<ArrayVec<u8, BLOCK_LIMIT>>
+        requires { (node < length self.now) → length (name_at self.now node) ≤ BLOCK_LIMIT }
+        ensures some { IfSome result (λ name. (node < length self.now) × ((node_at self.now node).state ≡ State.Dominated) × (name.items ≡ name_at self.now node)) }
+        ensures none { IfNone result ((node_at self.now node).state ≢ State.Dominated) }
+    {
+        let node = node as usize;
+        if node < self.nodes.len() && self.nodes[node].state == State::Dominated {
+            Some(path::name_of(self.nodes.as_slice(), node))
+        } else {
+            None
+        }
     }
 
     /// Hands out the open node of the least floor, of equal ones the deepest, and of these the newest; None only where no node is

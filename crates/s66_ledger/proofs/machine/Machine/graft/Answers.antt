@@ -143,4 +143,4 @@ returns-clause-ok c =
     let plain = opened-plain p c.knots-lines.ensures.told in
     let same = same-splits (tree_of p) (tree_of (opened p)) (opened-opens p) in
     subst (λ n. IsTakenMove c.args.self.now c.args.w i p (machine_of s.rule b s.budget c.plant.new.self s.best.numbers s.left (set s.allowances.items (c.args.w - 1) (n - c.splits-splits.result)) (s.spent + c.splits-splits.result))) (sym now)
-    (graft-taken s.rule b s.budget s.table s.best s.left s.allowances.items s.spent c.self.invariant c.args.w i p c.requires.worker.0 le c.is_own-own.result owned c.if-not-own.false c.plant.new.self c.splits-splits.result out over (c.splits-splits.ensures ∙ same) (omega (arith, was, c.if-index-splits.false)) plain planted c.args.self.now c.self.view_is)
+    (graft-taken s.rule b s.budget s.table s.best s.left s.allowances.items s.spent c.self.invariant c.args.w i p c.requires.worker.0 le c.is_own-own.result owned c.if-not-own.false c.plant.new.self c.splits-splits.result out over (c.splits-splits.ensures ∙ same) (omega (arith, was, c.if-index-splits.false)) plain planted c.args.self.now c.self.view_is (opened-preorder p c.knots-lines.ensures.preorder) c.in-Ok.ensures.lines)
