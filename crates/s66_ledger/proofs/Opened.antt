@@ -25,12 +25,12 @@ use Rattle.s66_ledger.specs.Opened.{open_told, open_line, opened, PlainHolds, Is
 
 -- TREES
 
-abbrev open_kids : Kids Told → Kids Told
+abbrev pub open_kids : Kids Told → Kids Told
 open_kids NoMore = NoMore
 open_kids (Unsplit told kids) = Unsplit (open_told told) (open_kids kids)
 open_kids (Split numbers sub kids) = Split numbers (open_kids sub) (open_kids kids)
 
-abbrev open_tree : Tree Told → Tree Told
+abbrev pub open_tree : Tree Told → Tree Told
 open_tree (Alone told) = Alone (open_told told)
 open_tree (Parted numbers kids) = Parted numbers (open_kids kids)
 
@@ -71,7 +71,7 @@ flat-open : (tree : Tree Told) → flat (open_tree tree) ≡ map open_line (flat
 flat-open (Alone told) = refl
 flat-open (Parted numbers kids) = ap (λ ks. AtSplit numbers ∷ ks) (flat_kids-open kids)
 
-open-told_tree : (p : PieceOf) → told_tree (opened p) ≡ open_tree (told_tree p)
+pub open-told_tree : (p : PieceOf) → told_tree (opened p) ≡ open_tree (told_tree p)
 open-told_tree p = ap (first_tree (Alone (ToldFrontier 0))) (forest-open p.knots) ∙ first_tree-open (forest p.knots)
 
 -- WHAT HOLDS of the tips

@@ -25,7 +25,7 @@ with_state-front (x ∷ xs) ys (suc i) s lt = ap (λ (zs : List model.Node). x �
 
 -- A TREE BY ITS FIRST LINE
 
-parted : (tree : Tree Told) (numbers : List ℕ) (rest : List (Knot Told)) → flat tree ≡ AtSplit numbers ∷ rest → tree ≡ Parted numbers (kids_of tree)
+pub parted : (tree : Tree Told) (numbers : List ℕ) (rest : List (Knot Told)) → flat tree ≡ AtSplit numbers ∷ rest → tree ≡ Parted numbers (kids_of tree)
 parted (Alone t) numbers rest e = absurd cc
 parted (Parted ns kids) numbers rest e = let first : ns ≡ numbers = cc in ap (λ ms. Parted ms kids) first
 

@@ -18,7 +18,8 @@ use Rattle.s66_ledger.specs.ClaimedNodes.{IsLeastOpen}
 use Rattle.s66_ledger.specs.LedgerMachine.{MachineOf, IsMove}
 use Rattle.s66_model.proofs.LedgerSteps.{root-stands}
 use Rattle.s66_ledger.proofs.Opened.{same-splits}
-use Rattle.s66_ledger.specs.GraftMoves.{with_lines, IsTakenMove}
+use Rattle.s66_ledger.specs.Opened.{with_lines}
+use Rattle.s66_ledger.specs.GraftMoves.{IsTakenMove}
 use Rattle.s66_ledger.specs.Finishing.{IsSearched, IsBetween, IsOffering, still_to_go}
 use Rattle.s66_ledger.proofs.Events.{at-most-all}
 use Rattle.s66_ledger.proofs.Rounds.{leads-graft, claim-within, claim-back, graft-step}

@@ -25,10 +25,10 @@ use Rattle.s66_ledger.specs.HistoryEntries.{byte_count, line_count, entry_of, en
 use Rattle.s66_ledger.specs.LedgerMachine.{MachineOf, IsMove}
 use Rattle.s66_ledger.specs.declared.node.Node as node
 use Rattle.s66_ledger.specs.Subtrees.{IsSubtreeOf, lines_below, root_bytes}
-use Rattle.s66_ledger.specs.Opened.{open_line, opened}
+use Rattle.s66_ledger.specs.Opened.{open_line, opened, with_lines}
 use Rattle.s66_ledger.specs.DominatedNodes.{state_name, names_in}
 use Rattle.s66_ledger.proofs.Names.{is_taken, still-named}
-use Rattle.s66_ledger.specs.GraftMoves.{IsGraftMove, IsRefusedMove, with_lines, taken_event, IsTakenMove}
+use Rattle.s66_ledger.specs.GraftMoves.{IsGraftMove, IsRefusedMove, taken_event, IsTakenMove}
 use Rattle.s66_ledger.specs.Grafts.{IsGraftAt, IsRefusedGraftAt}
 use Rattle.s66_ledger.proofs.Opened.{same-splits}
 use Rattle.s66_ledger.specs.Ledgers.{LedgerOf, IsEvent, IsRecorded, events_of, account_summary, with_history}

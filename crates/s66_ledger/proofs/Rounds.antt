@@ -21,7 +21,8 @@ use Rattle.s66_model.specs.Coverage.{Covers}
 use Rattle.s66_node.specs.Pieces.{PieceOf, tree_of}
 use Rattle.s66_ledger.specs.Tickets.{TicketOf}
 use Rattle.s66_ledger.specs.LedgerMachine.{MachineOf, IsMove}
-use Rattle.s66_ledger.specs.GraftMoves.{IsGraftMove, with_lines, taken_event, IsTakenMove}
+use Rattle.s66_ledger.specs.Opened.{with_lines}
+use Rattle.s66_ledger.specs.GraftMoves.{IsGraftMove, taken_event, IsTakenMove}
 use Rattle.s66_ledger.proofs.Opened.{same-splits, same-wholes}
 use Rattle.s66_ledger.specs.Finishing.{Leads, NoneOut, IsIdle, IsBetween, IsWithin, IsOffering, still_to_go}
 use Rattle.s66_ledger.proofs.Leading.{event-leads, leads-on, leads-nowhere, leads-fall}

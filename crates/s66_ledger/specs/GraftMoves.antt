@@ -11,17 +11,13 @@ use Rattle.s66_ledger.specs.declared.reply.GraftError.TheVariants as refused
 use Rattle.s66_node.specs.Outlines.{outline_of, names_of, IsOutlineOf}
 use Rattle.s66_ledger.specs.DominatedNodes.{names_in}
 use Rattle.s66_ledger.specs.Subtrees.{lines_below}
-use Rattle.s66_ledger.specs.Opened.{opened}
+use Rattle.s66_ledger.specs.Opened.{opened, with_lines}
 use Rattle.s66_ledger.specs.LedgerMachine.{MachineOf, IsMove}
 
 -- the move of worker w's graft of this piece at a node, with this reply
 abbrev pub IsGraftMove : MachineOf → (w node : ℕ) → PieceOf → Reply → MachineOf → Type 0
 IsGraftMove old w node piece reply new =
     (event : Event) × IsGraftOf old.rule old.problem w node piece.rule piece.problem piece.prefix (tree_of piece) reply event × IsMove old event reply new
-
--- the piece with these lines
-abbrev pub with_lines : PieceOf → List (Knot Told) → PieceOf
-with_lines piece lines = record piece { knots = lines }
 
 -- it is taken as it is with these lines
 abbrev pub taken_event : (w node : ℕ) → PieceOf → List (Knot Told) → Event
