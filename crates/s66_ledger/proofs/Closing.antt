@@ -1,5 +1,5 @@
 -- The nodes of a piece of which some are closed as dominated.
-use Rattle.std.proofs.Common.{ℕ, zero, suc, ◌+◌, ◌≤◌, ◌<◌, ◌≡◌, ◌≢◌, ◌⊎◌, Bool, true, false, true≢false, List, [], ◌∷◌, ◌++◌, length, map, take, drop, get_or, refl, sym, ap, arith, inl, inr, ◌∙◌, subst, append_assoc, length-append, length-drop}
+use Rattle.std.proofs.Common.{ℕ, zero, suc, ◌+◌, ◌≤◌, ◌<◌, ◌≡◌, ◌⊎◌, false, true≢false, List, [], ◌∷◌, ◌++◌, length, map, take, drop, get_or, refl, sym, ap, arith, inl, inr, ◌∙◌, subst, append_assoc, length-append, length-drop}
 use Rattle.std.proofs.lemmas.List.{append-nil, length-map, length-set, length-take, map-append, take_more}
 use Rattle.s66_model.specs.Timing.{Problem}
 use Rattle.s66_model.specs.Leaves.{floor_value}
@@ -18,7 +18,7 @@ use Rattle.s66_ledger.specs.Closing.{IsNamed, closed_by, Closes, AreClosed, plac
 use Rattle.s66_ledger.specs.Subtrees.{placed, settled, planted, IsPlanted, IsSubtreeOf}
 use Rattle.s66_node.specs.declared.knot.Knot as code
 use Rattle.s66_node.specs.SeenKnots.{seen, seen_knot}
-use Rattle.s66_ledger.proofs.NodePrefixes.{get_or-front, push-front, prefixes-push, prefixes-set, lines-state}
+use Rattle.s66_ledger.proofs.NodePrefixes.{push-front, prefixes-push, prefixes-set, lines-state}
 use Rattle.s66_ledger.proofs.SeenNodes.{nodes-push}
 use Rattle.s66_ledger.proofs.Opened.{open_kids, open_tree, open-told_tree, opened-preorder}
 use Rattle.s66_ledger.proofs.Taken.{ToldTaken, KidsTaken, TreeTaken, taken-tree, taken-match, taken-preorder}
@@ -77,8 +77,8 @@ front-prefix made (x ∷ more) i lt =
     ap (λ (xs : List Node). get_or (prefixes xs) i []) (sym (append_assoc made (x ∷ []) more))
     ∙ (front-prefix (made ++ x ∷ []) more i (omega (arith, lt, length-append made (x ∷ []))) ∙ push-front made x i lt)
 
-pub still-named : (made more : List Node) (n : ℕ) (name : List ℕ) → IsNamed made n name → IsNamed (made ++ more) n name
-still-named made more n name h = record {
+named-behind : (made more : List Node) (n : ℕ) (name : List ℕ) → IsNamed made n name → IsNamed (made ++ more) n name
+named-behind made more n name h = record {
   within = omega (arith, h.within, length-append made more);
   over = front-prefix made more n h.within ∙ h.over;
   standing = λ e. h.standing (sym (ap (λ (x : Node). x.state) (front-at made more n h.within)) ∙ e);
@@ -88,7 +88,7 @@ still-line : (made more : List Node) (k : Knot Told) → LineIsNamed made k → 
 still-line made more (AtSplit numbers) h = tt
 still-line made more (AtTip (ToldLeaf v)) h = tt
 still-line made more (AtTip (ToldFrontier v)) h = tt
-still-line made more (AtTip (ToldPassed v name)) (n, named) = (n, still-named made more n name named)
+still-line made more (AtTip (ToldPassed v name)) (n, named) = (n, named-behind made more n name named)
 
 -- AS THE DEFINITION HAS THEM
 
@@ -331,9 +331,6 @@ drop-at : {X : Type 0} (xs : List X) (i : ℕ) (d : X) → get_or (drop 1 xs) i 
 drop-at [] i d = refl
 drop-at (x ∷ xs) i d = let e : suc i ≡ i + 1 = omega arith in ap (λ j. get_or (x ∷ xs) j d) e
 
-pub closing-start : (best root : ℕ) (made : List Node) (lines : List (Knot Told)) → IsClosing best root made [] lines made
-closing-start best root made lines = record { more = []; behind = sym (append-nil made); closed = tt }
-
 pub closing-more : (best root : ℕ) (made subtree : List Node) (lines : List (Knot Told)) (all : List Node) (i : ℕ) (d y : Node) (k dk : Knot Told) → IsClosing best root made (take i subtree) lines all → i < length subtree → i + 1 < length lines → k ≡ get_or lines (i + 1) dk → Closes all k (placed root (length made) (settled best (get_or subtree i d))) y → IsClosing best root made (take (i + 1) subtree) lines (all ++ y ∷ [])
 closing-more best root made subtree lines all i d y k dk h lt within is c =
     let x = placed root (length made) (settled best (get_or subtree i d)) in
@@ -469,9 +466,9 @@ module _ (p : PieceOf) (told : IsToldTree p.rule p.problem p.prefix (told_tree p
       ap (nodes_of b) under.closing.behind
       ∙ (m.marked
       ∙ ap (λ ns. nodes_of b old ++ ns)
-          (ap (marks m.taken) (fresh ∙ ap (λ t. new_nodes b best p.prefix (tree_seen (tip_of b) p.prefix t)) (open-told_tree p))
-          ∙ (ap (λ ks. marks ks (new_nodes b best p.prefix (tree_seen (tip_of b) p.prefix (open_tree (told_tree p))))) (sym rest)
-          ∙ tree-marked b best (told_tree p) (told_tree q) p.prefix (taken-tree p taken_lines told preorder opens) (taken-match p taken_lines told preorder opens))))
+      (ap (marks m.taken) (fresh ∙ ap (λ t. new_nodes b best p.prefix (tree_seen (tip_of b) p.prefix t)) (open-told_tree p))
+      ∙ (ap (λ ks. marks ks (new_nodes b best p.prefix (tree_seen (tip_of b) p.prefix (open_tree (told_tree p))))) (sym rest)
+      ∙ tree-marked b best (told_tree p) (told_tree q) p.prefix (taken-tree p taken_lines told preorder opens) (taken-match p taken_lines told preorder opens))))
 
   pub planted-split : IsPlantedAs p best root old new
   planted-split =

@@ -26,7 +26,7 @@ use Rattle.s66_ledger.specs.DominatedNodes.{names_in}
 use Rattle.s66_node.specs.Outlines.{line_name, outline_of, names_of, IsOutlineOf}
 use Rattle.s66_model.specs.Preorder.{TreeMatches}
 use Rattle.s66_model.specs.Recorded.{TreeOpens}
-use Rattle.s66_ledger.proofs.Names.{grafted-names}
+use Rattle.s66_ledger.proofs.Names.{take-map, grafted-names}
 use Rattle.s66_ledger.specs.OpenNodes.{IsOut}
 use Rattle.s66_ledger.specs.LedgerMachine.{MachineOf, state_of, machine_of, IsKept}
 use Rattle.s66_ledger.specs.Opened.{opened, with_lines, PlainHolds, IsPlain}
@@ -67,10 +67,6 @@ module _ (block : List Instr) (Q : List ℕ → Told → Type 0) (few : length b
 pub piece-lines : (p : PieceOf) → IsPlain p → flat (told_tree p) ≡ p.knots → length p.problem.block ≤ BLOCK_LIMIT → length p.knots ≤ 1 + BLOCK_LIMIT * splits (tree_of p)
 piece-lines p told lines few =
     omega (arith, ap length lines, tree-lines p.problem.block (PlainHolds p.problem) few p.prefix (told_tree p) told, seen-splits (tip_of p.problem) (told_tree p) p.prefix (tree-match p.problem.block (PlainHolds p.problem) (told_tree p) p.prefix told))
-
-take-map : {X Y : Type 0} (f : X → Y) (xs : List X) → take 1 (map f xs) ≡ map f (take 1 xs)
-take-map f [] = refl
-take-map f (x ∷ xs) = refl
 
 -- REPLIES
 

@@ -1,5 +1,5 @@
 -- The names in a piece that is taken are those of nodes that may be named.
-use Rattle.std.proofs.Common.{ℕ, ◌<◌, ◌≡◌, ◌≢◌, true, List, [], ◌∷◌, ◌++◌, length, get_or, refl, sym, ap, arith, ◌∙◌, subst, inl, inr, ◌⊎◌}
+use Rattle.std.proofs.Common.{ℕ, ◌≡◌, ◌≢◌, true, List, [], ◌∷◌, ◌++◌, length, get_or, refl, sym, ap, arith, ◌∙◌, subst}
 use Rattle.s66_isa.specs.declared.instr.Instr.{Instr}
 use Rattle.s66_line.proofs.OperationLaw.{among-at}
 use Rattle.s66_model.specs.declared.rule.Rule.{Rule}
@@ -7,7 +7,7 @@ use Rattle.s66_model.specs.declared.rule.Rule.TheVariants.{NoneNamed, WrittenEar
 use Rattle.s66_model.specs.Timing.{Problem}
 use Rattle.s66_model.specs.DominatedLeaves.{DominatesByRule}
 use Rattle.s66_model.specs.Piece.{Tip}
-use Rattle.s66_model.specs.Tree.{Tree, Alone, Parted, Kids, NoMore, Unsplit, Split, Knot, AtTip, AtSplit, KidsHold, TreeHolds, flat_kids, flat}
+use Rattle.s66_model.specs.Tree.{Tree, Alone, Parted, Kids, NoMore, Unsplit, Split, Knot, AtTip, KidsHold, TreeHolds, flat_kids, flat}
 use Rattle.s66_model.specs.Told.{Told, ToldLeaf, ToldFrontier, ToldPassed, ToldHolds, IsToldTree, tip_of}
 use Rattle.s66_model.specs.Ledger as model
 use Rattle.s66_model.specs.Ledger.{may_name, TipIsNamed, AreNamed}
@@ -17,8 +17,8 @@ use Rattle.s66_ledger.specs.declared.node.Node.{Node}
 use Rattle.s66_ledger.specs.declared.node.State.{State}
 use Rattle.s66_ledger.specs.declared.node.State.TheVariants as state
 use Rattle.s66_ledger.specs.Nodes.{prefixes, name_at, node_at, seen_state, nodes_of}
-use Rattle.s66_ledger.specs.Opened.{open_line, LinesOpen, with_lines}
-use Rattle.s66_ledger.specs.Closing.{IsNamed, LineIsNamed, LinesAreNamed}
+use Rattle.s66_ledger.specs.Opened.{LinesOpen, with_lines}
+use Rattle.s66_ledger.specs.Closing.{LineIsNamed, LinesAreNamed}
 use Rattle.s66_ledger.proofs.SeenNodes.{at-nodes, length-nodes}
 use Rattle.s66_ledger.proofs.Taken.{taken-told, taken-preorder}
 

@@ -1,18 +1,21 @@
 -- The names of dominated nodes: a move that takes no piece changes none, and a piece's nodes have those of its lines.
-use Rattle.std.proofs.Common.{ℕ, zero, suc, ◌≡◌, Bool, true, false, cond, leb, List, [], ◌∷◌, ◌++◌, length, map, take, drop, refl, sym, ap, ◌∙◌, Some, None}
-use Rattle.std.proofs.lemmas.List.{append-nil, map-append}
+use Rattle.std.proofs.Common.{ℕ, zero, suc, ◌≡◌, Bool, true, false, cond, leb, List, [], ◌∷◌, ◌++◌, map, take, drop, refl, sym, ap, ◌∙◌, Some, None}
+use Rattle.std.proofs.lemmas.List.{map-append}
 use Rattle.s66_model.specs.declared.rule.Rule.{Rule}
 use Rattle.s66_model.specs.Timing.{Problem}
 use Rattle.s66_model.specs.Leaves.{Leaf, floor, value}
-use Rattle.s66_model.specs.DominatedLeaves.{Bounding, Dominated}
-use Rattle.s66_model.specs.Tree.{Tree, Alone, Parted, Kids, NoMore, Unsplit, Split, Knot, AtTip, AtSplit, flat_kids, flat}
+use Rattle.s66_model.specs.DominatedLeaves.{Bounding}
+use Rattle.s66_model.specs.Tree.{Tree, Alone, Parted, Kids, NoMore, Unsplit, Split, Knot, AtTip, flat_kids, flat}
 use Rattle.s66_model.specs.Preorder.{KidsMatch, TreeMatches}
-use Rattle.s66_model.specs.Piece.{Tip}
 use Rattle.s66_model.specs.Told.{Told, ToldLeaf, ToldFrontier, ToldPassed, tip_of, kids_seen, tree_seen}
-use Rattle.s66_model.specs.Ledger.{Ledger, Node, State, Open, Out, Cut, Closed, node_at, with_state, state_of, root_state, kid_nodes, new_nodes, Event, Grant, Claim, Graft, Offer, Back, Retire, Reply, Granted, Claimed, Taken, NotOut, OtherPrefix, OverAllowance, Lower, NotLower, OtherBlock, Returned, Retired, Moves}
+use Rattle.s66_model.specs.Ledger.{Ledger, Node, State, Open, Out, Closed, node_at, with_state, state_of, root_state, kid_nodes, new_nodes, Event, Grant, Claim, Graft, Offer, Back, Retire, Reply, Granted, Claimed, Taken, NotOut, OtherPrefix, OverAllowance, Lower, NotLower, OtherBlock, Returned, Retired, Moves}
 use Rattle.s66_node.specs.Outlines.{line_name, names_of}
 use Rattle.s66_node.specs.Pieces.{PieceOf, told_tree, tree_of}
 use Rattle.s66_ledger.specs.DominatedNodes.{state_name, names_in}
+
+pub take-map : {X Y : Type 0} (f : X → Y) (xs : List X) → take 1 (map f xs) ≡ map f (take 1 xs)
+take-map f [] = refl
+take-map f (x ∷ xs) = refl
 
 -- ANOTHER STATE
 

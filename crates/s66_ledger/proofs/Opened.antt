@@ -9,18 +9,15 @@ use Rattle.s66_model.specs.Timing.{Problem}
 use Rattle.s66_model.specs.LegalOrder.{IsIncomplete}
 use Rattle.s66_model.specs.Tree.{Tree, Alone, Parted, Kids, NoMore, Unsplit, Split, Knot, AtTip, AtSplit, KidsHold, TreeHolds, flat_kids, flat, kid_splits, splits, kid_values}
 use Rattle.s66_model.specs.DominatedLeaves.{DominatesByRule}
-use Rattle.s66_model.specs.Piece.{Tip, Carries, Frontier, Passed, TipHolds, IsPiece}
-use Rattle.s66_model.specs.Preorder.{first_kids, later_kids, forest, first_tree, read_tree}
+use Rattle.s66_model.specs.Piece.{Tip, Carries, Frontier, Passed}
+use Rattle.s66_model.specs.Preorder.{first_kids, later_kids, forest, first_tree}
 use Rattle.s66_model.specs.Told.{Told, ToldLeaf, ToldFrontier, ToldPassed, ToldHolds, tip_of, kids_seen, tree_seen, IsToldTree}
 use Rattle.s66_model.specs.Expansion.{whole_at, whole_orders}
-use Rattle.s66_model.specs.Ledger.{Node, TipIsNamed, AreNamed}
 use Rattle.s66_model.specs.Recorded.{TipOpens, KidsOpen, TreeOpens}
-use Rattle.s66_model.proofs.TreesHold.{tree-weaken, seen-holds}
 use Rattle.s66_node.specs.Pieces.{PieceOf, told_tree, tree_of, IsBestTimed}
 use Rattle.s66_node.specs.declared.knot.Knot as code
 use Rattle.s66_node.specs.SeenKnots.{seen}
-use Rattle.s66_node.specs.Outlines.{line_name, names_of, outline_of, IsOutlineOf}
-use Rattle.s66_node.proofs.Outlines.{outline-holds}
+use Rattle.s66_node.specs.Outlines.{line_name, names_of}
 use Rattle.s66_ledger.specs.Opened.{open_told, open_line, opened, PlainHolds, IsPlain, open_knot, open_lines}
 
 -- TREES
@@ -101,17 +98,6 @@ told-plain rule b prefix tree at (ToldLeaf value) h = h
 told-plain rule b prefix tree at (ToldFrontier value) h = h
 told-plain rule b prefix tree at (ToldPassed value name) h = (h.0, dominated-part rule b name at h.1)
 
--- a plain tip is one of a piece by any rule, and names nothing
-plain-tip : (rule : Rule) (b : Problem) (prefix : List ℕ) (tree : Tree Tip) (at : List ℕ) (told : Told) → PlainHolds b at told → TipHolds rule b prefix tree at (tip_of b at told)
-plain-tip rule b prefix tree at (ToldLeaf value) h = refl
-plain-tip rule b prefix tree at (ToldFrontier value) h = h.1
-plain-tip rule b prefix tree at (ToldPassed value name) h = absurd h
-
-plain-named : (rule : Rule) (b : Problem) (nodes : List Node) (at : List ℕ) (told : Told) → PlainHolds b at told → TipIsNamed rule nodes at (tip_of b at told)
-plain-named rule b nodes at (ToldLeaf value) h = tt
-plain-named rule b nodes at (ToldFrontier value) h = tt
-plain-named rule b nodes at (ToldPassed value name) h = absurd h
-
 -- THE TREE OF TIPS
 
 module _ (b : Problem) where
@@ -189,17 +175,6 @@ opened-timed p h = by p.timed h
     by None h = sym same ∙ h
     by (Some timed) h = (h.0, (subst (Among timed.numbers) same h.1.0, λ other among. h.1.1 other (subst (Among other) (sym same) among)))
 
--- a plain piece is one by any rule, and names nothing
-pub plain-piece : (rule : Rule) (p : PieceOf) → IsPlain p → IsPiece rule p.problem p.prefix (tree_of p)
-plain-piece rule p plain =
-    seen-holds (tip_of p.problem) p.problem.block (TipHolds rule p.problem p.prefix (tree_of p)) (told_tree p) p.prefix
-    (tree-weaken p.problem.block (PlainHolds p.problem) (λ at told. TipHolds rule p.problem p.prefix (tree_of p) at (tip_of p.problem at told)) (plain-tip rule p.problem p.prefix (tree_of p)) (told_tree p) p.prefix plain)
-
-pub plain-are-named : (rule : Rule) (p : PieceOf) (nodes : List Node) → IsPlain p → AreNamed rule p.problem nodes p.prefix (tree_of p)
-plain-are-named rule p nodes plain =
-    seen-holds (tip_of p.problem) p.problem.block (TipIsNamed rule nodes) (told_tree p) p.prefix
-    (tree-weaken p.problem.block (PlainHolds p.problem) (λ at told. TipIsNamed rule nodes at (tip_of p.problem at told)) (plain-named rule p.problem nodes) (told_tree p) p.prefix plain)
-
 -- THE LINES as code keeps them
 
 pub opened-lines : (knots : List code.Knot) (p : PieceOf) → seen knots ≡ p.knots → open_lines knots ≡ (opened p).knots
@@ -209,22 +184,20 @@ opened-lines knots p is = by knots ∙ ap (map open_line) is
     by [] = refl
     by (k ∷ ks) = ap (λ xs. open_knot k ∷ xs) (by ks)
 
+-- what is opened has no name
+pub open-nameless : (k : Knot Told) → line_name (open_line k) ≡ []
+open-nameless (AtSplit numbers) = refl
+open-nameless (AtTip (ToldLeaf value)) = refl
+open-nameless (AtTip (ToldFrontier value)) = refl
+open-nameless (AtTip (ToldPassed value name)) = refl
+
 -- nor has the root a name
 pub opened-nameless : (p : PieceOf) → 0 < length p.knots → take 1 (names_of (opened p)) ≡ [] ∷ []
 opened-nameless p some = by p.knots some
   where
-    plain : (k : Knot Told) → line_name (open_line k) ≡ []
-    plain (AtSplit numbers) = refl
-    plain (AtTip (ToldLeaf value)) = refl
-    plain (AtTip (ToldFrontier value)) = refl
-    plain (AtTip (ToldPassed value name)) = refl
-
     by : (ks : List (Knot Told)) → 0 < length ks → take 1 (map line_name (map open_line ks)) ≡ [] ∷ []
     by [] lt = absurd (omega arith)
-    by (k ∷ ks) lt = ap (λ name. name ∷ []) (plain k)
-
-pub opened-outline : (p : PieceOf) → IsPlain (opened p) → IsOutlineOf (opened p) (outline_of (opened p)) (names_of (opened p))
-opened-outline p plain = outline-holds (opened p) (PlainHolds p.problem) plain
+    by (k ∷ ks) lt = ap (λ name. name ∷ []) (open-nameless k)
 
 pub opened-length : (p : PieceOf) → length (opened p).knots ≡ length p.knots
 opened-length p = length-map p.knots open_line

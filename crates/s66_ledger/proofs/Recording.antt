@@ -6,14 +6,14 @@ use Rattle.s66_isa.specs.Lists.{weigh, rising}
 use Rattle.s66_isa.proofs.Lists.{weigh-append}
 use Rattle.s66_model.specs.declared.rule.Rule.{Rule}
 use Rattle.s66_model.specs.Timing.{Problem, total_of}
-use Rattle.s66_model.specs.Tree.{Tree, Knot, AtTip, AtSplit, splits}
-use Rattle.s66_model.specs.Told.{Told, ToldLeaf, ToldFrontier, ToldPassed}
+use Rattle.s66_model.specs.Tree.{Tree, Knot, splits}
+use Rattle.s66_model.specs.Told.{Told}
 use Rattle.s66_model.specs.Piece.{Tip}
 use Rattle.s66_model.specs.Ledger.{Ledger, Node, Event, Graft, Offer, Reply, Taken, Moves, Run, opening}
 use Rattle.s66_model.specs.Recorded.{IsOwn, IsOwnPiece, IsOfferOf, graft_event}
 use Rattle.s66_model.specs.Accounts.{Account, account_of}
 use Rattle.s66_model.proofs.Histories.{run-next, history-spent}
-use Rattle.s66_node.specs.Outlines.{line_byte, line_name, names_of, outline_of, outline_prefix, outline_tree, IsOutlineOf}
+use Rattle.s66_node.specs.Outlines.{line_byte, line_name, names_of, outline_of, outline_prefix, outline_tree}
 use Rattle.s66_node.specs.Pieces.{PieceOf, tree_of}
 use Rattle.s66_ledger.specs.declared.entry.Entry.{Entry}
 use Rattle.s66_ledger.specs.declared.entry.Refusal.{Refusal}
@@ -27,10 +27,10 @@ use Rattle.s66_ledger.specs.declared.node.Node as node
 use Rattle.s66_ledger.specs.Subtrees.{IsSubtreeOf, lines_below, root_bytes}
 use Rattle.s66_ledger.specs.Opened.{open_line, opened, with_lines}
 use Rattle.s66_ledger.specs.DominatedNodes.{state_name, names_in}
-use Rattle.s66_ledger.proofs.Names.{is_taken, still-named}
+use Rattle.s66_ledger.proofs.Names.{take-map, is_taken, still-named}
 use Rattle.s66_ledger.specs.GraftMoves.{IsGraftMove, IsRefusedMove, taken_event, IsTakenMove}
 use Rattle.s66_ledger.specs.Grafts.{IsGraftAt, IsRefusedGraftAt}
-use Rattle.s66_ledger.proofs.Opened.{same-splits}
+use Rattle.s66_ledger.proofs.Opened.{same-splits, open-nameless}
 use Rattle.s66_ledger.specs.Ledgers.{LedgerOf, IsEvent, IsRecorded, events_of, account_summary, with_history}
 
 -- the next entry comes with its own bytes, and those of its lines with their names
@@ -61,7 +61,7 @@ module _ (m next : MachineOf) (before reserved after : List Entry) (bytes all : 
       let names : weigh line_count before ≡ length (drop 1 before_names) = omega (arith, kept.lines, as_many, length-drop 1 before_names) in
       ap (λ (p : Problem). entries_of p after all (drop 1 next.lines) (drop 1 (names_in next.state.nodes))) moved.0
       ∙ (rw (pushed, same, put, more, named, drop-append-le 1 m.lines own_lines (omega (arith, kept.lines)), drop-append-le 1 before_names own_names (omega (arith, kept.lines, as_many)))
-          (entries-next m.problem before bytes (drop 1 m.lines) (drop 1 before_names) entry own own_lines own_names kept.bytes lines names counted lines_counted names_counted)
+      (entries-next m.problem before bytes (drop 1 m.lines) (drop 1 before_names) entry own own_lines own_names kept.bytes lines names counted lines_counted names_counted)
       ∙ ap (λ (e : Event × Reply). events_of (with_history m before bytes) ++ e ∷ []) is)
 
   pub recorded : IsRecorded (with_history next after all)
@@ -192,10 +192,6 @@ root-outline p =
 
 -- THE LINES THAT ARE TAKEN
 
-take-map : {X Y : Type 0} (f : X → Y) (xs : List X) → take 1 (map f xs) ≡ map f (take 1 xs)
-take-map f [] = refl
-take-map f (x ∷ xs) = refl
-
 module _ (m next : MachineOf) (w i : ℕ) (p : PieceOf) (nodes : List node.Node) (of : IsSubtreeOf (opened p) nodes) (h : IsTakenMove m w i p next) where
   abbrev pub taken_piece : PieceOf
   taken_piece = with_lines p h.taken
@@ -222,18 +218,12 @@ module _ (m next : MachineOf) (w i : ℕ) (p : PieceOf) (nodes : List node.Node)
   pub taken-names : [] ∷ drop 1 (names_of taken_piece) ≡ names_of taken_piece
   taken-names = by h.taken p.knots h.root some
     where
-      plain : (k : Knot Told) → line_name (open_line k) ≡ []
-      plain (AtSplit numbers) = refl
-      plain (AtTip (ToldLeaf value)) = refl
-      plain (AtTip (ToldFrontier value)) = refl
-      plain (AtTip (ToldPassed value name)) = refl
-
       by : (ts ks : List (Knot Told)) → take 1 ts ≡ take 1 (map open_line ks) → 0 < length ts → [] ∷ drop 1 (map line_name ts) ≡ map line_name ts
       by [] ks is lt = absurd (omega arith)
       by (t ∷ ts) [] is lt = absurd cc
       by (t ∷ ts) (k ∷ ks) is lt =
           let first : t ≡ open_line k = cc in
-          ap (λ name. name ∷ map line_name ts) (sym (ap line_name first ∙ plain k))
+          ap (λ name. name ∷ map line_name ts) (sym (ap line_name first ∙ open-nameless k))
 
 -- A REFUSAL takes nothing
 

@@ -41,17 +41,6 @@ length-planted best root made nodes =
 shifted-push : (root first : ℕ) (old ps : List Place) (q : Place) → old ≡ ps ++ q ∷ [] → map (shifted root first) old ≡ map (shifted root first) ps ++ shifted root first q ∷ []
 shifted-push root first old ps q is = ap (map (shifted root first)) is ∙ map-append (shifted root first) ps (q ∷ [])
 
--- those that are planted keep their lines
-pub lines-planted : (best root : ℕ) (made nodes : List Node) → lines_of (planted best root made nodes) ≡ lines_of made ++ lines_of nodes
-lines-planted best root made nodes =
-    let line = λ (n : Node). n.line in
-    map-append line made (map (placed root (length made)) (map (settled best) nodes))
-    ∙ ap (λ lines. lines_of made ++ lines) (lines-placed root (length made) best nodes)
-  where
-    lines-placed : (root first best : ℕ) (nodes : List Node) → lines_of (map (placed root first) (map (settled best) nodes)) ≡ lines_of nodes
-    lines-placed root first best [] = refl
-    lines-placed root first best (x ∷ xs) = ap (λ lines. x.line ∷ lines) (lines-placed root first best xs)
-
 tip-told : (best : ℕ) (k : code.Knot) (t : Told) → open_knot k ≡ AtTip t → (knot_state best k ≡ told_state best t) × (knot_value k ≡ told_value t)
 tip-told best (line.Split numbers) t e = absurd cc
 tip-told best (line.Leaf value) t e = let same : ToldLeaf value ≡ t = cc in (ap (told_state best) same, ap told_value same)

@@ -1,5 +1,5 @@
 -- A piece that is taken with some of its dominated prefixes put into the frontier.
-use Rattle.std.proofs.Common.{ℕ, ◌≡◌, Bool, true, false, cond, eqb, List, [], ◌∷◌, ◌++◌, length, map, refl, sym, ap, inl, inr, ◌∙◌, ◌⊎◌, subst, Option, Some, None}
+use Rattle.std.proofs.Common.{ℕ, ◌≡◌, Bool, true, false, cond, eqb, List, [], ◌∷◌, ◌++◌, refl, sym, ap, inl, inr, ◌∙◌, ◌⊎◌, subst, Option, None}
 use Rattle.s66_isa.specs.declared.instr.Instr.{Instr}
 use Rattle.s66_model.specs.declared.rule.Rule.{Rule}
 use Rattle.s66_model.specs.declared.rule.Rule.TheVariants.{NoneNamed, WrittenEarlier, ClampedStanding}
@@ -9,14 +9,13 @@ use Rattle.s66_model.specs.NodeNames.{tip_at, kid_at, node_at, is_node}
 use Rattle.s66_model.specs.Piece.{Tip, Carries, Frontier, Passed, IsNamedIn, TipHolds, IsPiece}
 use Rattle.s66_model.specs.Preorder.{read_tree, TreeMatches}
 use Rattle.s66_model.specs.Told.{Told, ToldLeaf, ToldFrontier, ToldPassed, ToldHolds, tip_of, kids_seen, tree_seen, IsToldTree}
-use Rattle.s66_model.specs.Ledger as model
-use Rattle.s66_model.specs.Ledger.{TipIsNamed, AreNamed, HasNamed, may_name}
 use Rattle.s66_model.specs.Recorded.{TipOpens, KidsOpen, TreeOpens}
 use Rattle.s66_model.proofs.Forests.{read-flat, tree-match}
 use Rattle.s66_model.proofs.TreesHold.{tree-weaken, seen-holds}
 use Rattle.s66_node.specs.Pieces.{PieceOf, told_tree, tree_of}
 use Rattle.s66_node.specs.Outlines.{outline_of, names_of, IsOutlineOf}
 use Rattle.s66_node.proofs.Outlines.{outline-holds}
+use Rattle.s66_node.proofs.Tips.{holds-tip}
 use Rattle.s66_ledger.specs.Opened.{open_told, open_line, LinesOpen, with_lines}
 use Rattle.s66_ledger.proofs.Opened.{dominated-part}
 
@@ -177,11 +176,6 @@ told-held rule b prefix tree taken k at t u (inr e) h = subst (ToldHolds rule b 
     opening (ToldFrontier value) h = h
     opening (ToldPassed value name) h = (h.0, dominated-part rule b name at h.1)
 
-held-tip : (rule : Rule) (b : Problem) (prefix : List ℕ) (tree : Tree Tip) (at : List ℕ) (told : Told) → ToldHolds rule b prefix tree at told → TipHolds rule b prefix tree at (tip_of b at told)
-held-tip rule b prefix tree at (ToldLeaf v) h = refl
-held-tip rule b prefix tree at (ToldFrontier v) h = h.1
-held-tip rule b prefix tree at (ToldPassed v name) h = (h.1, h.2)
-
 -- THE PIECE
 
 module _ (p : PieceOf) (taken : List (Knot Told)) (told : IsToldTree p.rule p.problem p.prefix (told_tree p)) (preorder : flat (told_tree p) ≡ p.knots) (opens : LinesOpen p.knots taken) where
@@ -221,4 +215,4 @@ module _ (p : PieceOf) (taken : List (Knot Told)) (told : IsToldTree p.rule p.pr
   pub taken-is_piece : IsPiece p.rule p.problem p.prefix (tree_of q)
   taken-is_piece =
       seen-holds (tip_of p.problem) p.problem.block (TipHolds p.rule p.problem p.prefix (tree_of q)) (told_tree q) p.prefix
-      (tree-weaken p.problem.block (ToldHolds p.rule p.problem p.prefix (tree_of q)) (λ at t. TipHolds p.rule p.problem p.prefix (tree_of q) at (tip_of p.problem at t)) (held-tip p.rule p.problem p.prefix (tree_of q)) (told_tree q) p.prefix taken-told)
+      (tree-weaken p.problem.block (ToldHolds p.rule p.problem p.prefix (tree_of q)) (λ at t. TipHolds p.rule p.problem p.prefix (tree_of q) at (tip_of p.problem at t)) (holds-tip p.rule p.problem p.prefix (tree_of q)) (told_tree q) p.prefix taken-told)

@@ -325,9 +325,10 @@ impl<'a> Ledger<'a> {
     }
 
     /// Puts a piece in the place of a node that was handed out, and spends its splits: the node takes the state of the piece's root,
-    /// and the piece's other prefixes become nodes. A leaf that is below the best time is kept open.
+    /// and the piece's other prefixes become nodes. A leaf that is below the best time is kept open. A dominated prefix is closed if its
+    /// name is found where the piece guesses it, at a node that stands before it and isn't dominated itself; else it is kept open.
     ///
-    /// In time linear in the piece's lines, with a logarithm of the number of open nodes for each that is open; all room is made
+    /// In time linear in the piece's lines and their names, with a logarithm of the number of open nodes for each that is open; all room is made
     /// before anything changes.
     pub fn graft(
         &mut self,

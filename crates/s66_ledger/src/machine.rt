@@ -340,7 +340,7 @@ impl<'a> Machine<'a> {
 
     /// Puts a piece, whose subtree comes with it, in the place of a node that was handed out, and spends its splits: the node takes
     /// the state of the piece's root, and the piece's other prefixes become nodes. A leaf that is below the best time is kept open, and so
-    /// is a dominated prefix whose name isn't that of a node where the piece guesses it.
+    /// is a dominated prefix whose name isn't found where the piece guesses it.
     ///
     /// In time linear in the piece's lines, with a logarithm of the number of open nodes for each that is open; all room is made
     /// before anything changes.

@@ -9,7 +9,7 @@ use Rattle.s66_ledger.proofs.OpenHeap.{more-open, more-shut}
 use Rattle.s66_ledger.proofs.NodePrefixes.{get_or-any}
 use Rattle.s66_node.specs.SeenKnots.{seen, seen_knot}
 use Rattle.s66_ledger.specs.Closing.{Closes, IsClosing}
-use Rattle.s66_ledger.proofs.Closing.{closing-length, closing-more, closing-start, closes-in, seen-at}
+use Rattle.s66_ledger.proofs.Closing.{closing-length, closing-more, closes-in, seen-at}
 use Rattle.s66_ledger.proofs.planting.append.Goals as goal
 use Rattle.s66_ledger.proofs.planting.append.Goals.{then-is_open+in-Ok, else-is_open}
 

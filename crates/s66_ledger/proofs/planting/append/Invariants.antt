@@ -1,4 +1,4 @@
-use Rattle.std.proofs.Common.{◌+◌, ◌-◌, ◌≡◌, ◌≤◌, ℕ, length, take, heap_items, heap_len, vec_len}
+use Rattle.std.proofs.Common.{◌+◌, ◌-◌, ◌≤◌, ℕ, length, take, heap_items, heap_len, vec_len}
 use Rattle.std.specs.BinaryHeap.{IsHeap, heap_capacity}
 use Rattle.std.specs.Vec.{vec_capacity}
 use Rattle.s66_ledger.specs.LiveNodes.{AreCounted}

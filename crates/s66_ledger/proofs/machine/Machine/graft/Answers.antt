@@ -1,4 +1,4 @@
-use Rattle.std.proofs.Common.{◌<◌, ◌≡◌, ◌++◌, ◌≤◌, ◌-◌, ◌+◌, ◌∙◌, ◌↔◌, IsTrue, arith, [], length, get_or, set, true≢false, ap, sym, subst}
+use Rattle.std.proofs.Common.{◌≡◌, ◌++◌, ◌≤◌, ◌-◌, ◌+◌, ◌∙◌, ◌↔◌, IsTrue, arith, [], length, get_or, set, true≢false, ap, sym, subst}
 use Rattle.s66_isa.specs.declared.limits.TheConstants.{BLOCK_LIMIT}
 use Rattle.s66_line.specs.Block.{instrs_of}
 use Rattle.s66_model.specs.Timing.{Problem, total_of}

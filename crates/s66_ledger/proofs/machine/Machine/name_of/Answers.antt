@@ -1,6 +1,5 @@
-use Rattle.std.proofs.Common.{ℕ, List, ◌≡◌, ◌≢◌, ◌≤◌, ◌<◌, ◌∙◌, [], get_or, inl, inr, arith, ap, sym, length, Option, Some, None, IfSome, IfNone}
+use Rattle.std.proofs.Common.{ℕ, List, ◌≡◌, ◌≢◌, ◌<◌, ◌∙◌, [], get_or, inl, inr, arith, ap, sym, length, Option, Some, None, IfSome, IfNone}
 use Rattle.s66_line.specs.Block.{instrs_of}
-use Rattle.s66_isa.specs.declared.limits.TheConstants.{BLOCK_LIMIT}
 use Rattle.s66_isa.proofs.Lists.{cases_le}
 use Rattle.s66_model.specs.Timing.{Problem}
 use Rattle.s66_model.specs.DominatedLeaves.{Dominated}

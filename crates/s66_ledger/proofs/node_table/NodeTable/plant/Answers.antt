@@ -1,10 +1,10 @@
-use Rattle.std.proofs.Common.{ℕ, true, ◌+◌, ◌-◌, ◌≡◌, ◌∙◌, ◌++◌, List, ap, arith, refl, sym, subst, length, length-append, map, get_or, heap_items, []}
+use Rattle.std.proofs.Common.{ℕ, true, ◌+◌, ◌-◌, ◌≡◌, ◌∙◌, ◌++◌, List, ap, arith, refl, sym, subst, length, get_or, heap_items, []}
 use Rattle.std.proofs.lemmas.List.{append-nil, length-set}
 use Rattle.std.proofs.lemmas.Result.{on_ok_weaker}
 use Rattle.s66_dep.specs.Members.{numbers_in}
 use Rattle.s66_model.specs.Ledger as model
 use Rattle.s66_model.specs.Ledger.{root_state, new_nodes}
-use Rattle.s66_model.specs.Tree.{Alone, Parted, flat}
+use Rattle.s66_model.specs.Tree.{Alone, flat}
 use Rattle.s66_model.specs.Told.{Told}
 use Rattle.s66_node.specs.Pieces.{PieceOf, told_tree, tree_of}
 use Rattle.s66_ledger.specs.declared.node.Node.{Node}
@@ -15,7 +15,7 @@ use Rattle.s66_ledger.specs.LiveNodes.{AreCounted}
 use Rattle.s66_ledger.specs.Nodes.{no_node, node_at, with_state, nodes_of, lines_of, prefixes, HaveFloors, HaveDepths, is_open_state, is_out_state, has_floor}
 use Rattle.s66_ledger.specs.Opened.{opened, IsPlain, open_knot}
 use Rattle.s66_ledger.proofs.Opened.{opened-plain, opened-preorder, opened-lines, opened-length}
-use Rattle.s66_ledger.specs.Planting.{kids_of, told_state}
+use Rattle.s66_ledger.specs.Planting.{told_state}
 use Rattle.s66_ledger.specs.Subtrees.{lines_below}
 use Rattle.s66_ledger.specs.Closing.{IsSplitUnder, IsPlantedAs}
 use Rattle.s66_ledger.proofs.Closing.{all-open, open-lines_named, planted-split, split-floors, split-count}

@@ -1,7 +1,7 @@
-use Rattle.std.proofs.Common.{ℕ, List, ◌-◌, true, arith, ◌≡◌, ◌∙◌, ap, length, map, refl, sym, subst, heap_items}
+use Rattle.std.proofs.Common.{ℕ, List, ◌-◌, true, arith, ◌≡◌, ap, refl, sym, subst, heap_items}
 use Rattle.s66_ledger.specs.declared.node.Node.{Node}
 use Rattle.s66_ledger.specs.declared.node.State.TheVariants as state
-use Rattle.s66_ledger.specs.Nodes.{no_node, node_at, with_state, HaveDepths, is_out_state}
+use Rattle.s66_ledger.specs.Nodes.{no_node, node_at, HaveDepths, is_out_state}
 use Rattle.s66_ledger.specs.OpenNodes.{AreOpenNodes, IsOut}
 use Rattle.s66_model.specs.Tree.{Knot}
 use Rattle.s66_model.specs.Told.{Told}
