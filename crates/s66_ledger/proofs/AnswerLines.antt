@@ -6,14 +6,15 @@ use Rattle.s66_isa.proofs.Lists.{cases_le}
 use Rattle.s66_line.proofs.OperationLaw.{among-at}
 use Rattle.s66_model.specs.Timing.{Problem}
 use Rattle.s66_model.specs.LegalOrder.{is_ready, ready, IsBeginning, IsIncomplete}
-use Rattle.s66_model.specs.Leaves.{Leaf, floor}
+use Rattle.s66_model.specs.Leaves.{floor}
 use Rattle.s66_model.specs.Tree.{AtTip, AtSplit, flat}
 use Rattle.s66_model.specs.Later.{children, later}
 use Rattle.s66_model.proofs.TreeLines.{lines-unsplit, lines-split, lines-tree, lines-both}
-use Rattle.s66_model.specs.DominatedLeaves.{Bounding}
+use Rattle.s66_model.specs.DominatedLeaves.{Bounding, Dominated}
 use Rattle.s66_model.specs.Ledger as model
 use Rattle.s66_model.specs.NodeTable.{stands_at, is_cut_at, IsTable}
 use Rattle.s66_model.specs.NodeTree.{is_split_at, state_ending, ending_at, node_tree}
+use Rattle.s66_model.proofs.Beginnings.{beginning-front}
 use Rattle.s66_model.proofs.LegalOrders.{GoesOn-append}
 use Rattle.s66_model.proofs.NodeTrees.{some-passes, passes-some, is-same, uncut-stands, cut-counts, split-part, one-node, ending-is}
 use Rattle.s66_model.proofs.OneTree.{same-is}
@@ -25,8 +26,8 @@ use Rattle.s66_ledger.specs.declared.node.State.TheVariants as state
 use Rattle.s66_ledger.specs.AnswerLines.{AreOneTree, StandsAt, lines_from}
 use Rattle.s66_ledger.specs.LedgerMachine.{state_of}
 use Rattle.s66_ledger.specs.Links.{parent_of, IsChild, HasChild}
-use Rattle.s66_ledger.specs.Nodes.{node_at, no_node, nodes_of, prefixes, seen_state}
-use Rattle.s66_ledger.proofs.NodePrefixes.{prefix-at, prefix-none}
+use Rattle.s66_ledger.specs.Nodes.{node_at, no_node, nodes_of, prefixes, name_at, seen_state}
+use Rattle.s66_ledger.proofs.NodePrefixes.{parent_at, prefix-at, prefix-none, name-node}
 use Rattle.s66_ledger.proofs.SeenNodes.{at-nodes, length-nodes}
 use Rattle.s66_ledger.proofs.ParentPaths.{push-same}
 
@@ -58,24 +59,33 @@ tally-few test (x ∷ xs) = omega (arith, tally-few test xs, most (test x))
     most true = omega arith
     most false = omega arith
 
-uncut : (b : Problem) (at : List ℕ) (s : State) → s ≢ state.Split → model.is_cut_state (seen_state b at s) ≡ false
-uncut b at state.Open other = refl
-uncut b at state.Out other = refl
-uncut b at state.Closed other = refl
-uncut b at state.Split other = absurd (other refl)
+uncut : (b : Problem) (name at : List ℕ) (s : State) → s ≢ state.Split → model.is_cut_state (seen_state b name at s) ≡ false
+uncut b name at state.Open other = refl
+uncut b name at state.Out other = refl
+uncut b name at state.Closed other = refl
+uncut b name at state.Split other = absurd (other refl)
+uncut b name at state.Dominated other = refl
 
 -- what a state as code keeps it has in the tree
-plain-ending : (b : Problem) (at : List ℕ) (s : State) → state_ending b at (seen_state b at s) ≡ Bounding (floor b at)
-plain-ending b at state.Open = refl
-plain-ending b at state.Out = refl
-plain-ending b at state.Closed = refl
-plain-ending b at state.Split = refl
+plain-ending : (b : Problem) (name at : List ℕ) (s : State) → s ≢ state.Dominated → state_ending b at (seen_state b name at s) ≡ Bounding (floor b at)
+plain-ending b name at state.Open other = refl
+plain-ending b name at state.Out other = refl
+plain-ending b name at state.Closed other = refl
+plain-ending b name at state.Split other = refl
+plain-ending b name at state.Dominated other = absurd (other refl)
 
 parent-before : (xs : List Node) (j : ℕ) → 0 < j → parent_of xs j < j
 parent-before xs j some =
     elim (cases_le j (node_at xs j).parent) [
       | inl le ↦ rw (le-ltb (node_at xs j).parent j le) some
       | inr lt ↦ rw (lt-ltb (node_at xs j).parent j lt) lt
+    ]
+
+parent_at-most : (i p : ℕ) → parent_at i p ≤ i
+parent_at-most i p =
+    elim (cases_le i p) [
+      | inl le ↦ rw (le-ltb p i le) (omega arith)
+      | inr lt ↦ rw (lt-ltb p i lt) (omega (arith, lt))
     ]
 
 -- THE NODES OF ONE TREE
@@ -97,7 +107,7 @@ module _ (b : Problem) (xs : List Node) (tree : AreOneTree b xs) where
   some-node = omega (arith, tree.table.root, tally-few (stands_at []) seen, length-nodes b xs)
 
   abbrev seen_at : List ℕ → ℕ → model.Node
-  seen_at at i = record { prefix = at; state = seen_state b at (node_at xs i).state }
+  seen_at at i = record { prefix = at; state = seen_state b (name_at xs i) at (node_at xs i).state }
 
   stands-seen : (i : ℕ) (at : List ℕ) → StandsAt xs i at → model.node_at seen i ≡ seen_at at i
   stands-seen i at stands = at-nodes b xs i stands.within ∙ ap (λ p. seen_at p i) stands.over
@@ -111,17 +121,30 @@ module _ (b : Problem) (xs : List Node) (tree : AreOneTree b xs) where
 
   pub split-here : (i : ℕ) (at : List ℕ) → StandsAt xs i at → (node_at xs i).state ≡ state.Split → is_split_at seen at ≡ true
   split-here i at stands is =
-      lt-ltb 0 (cuts at) (cut-counts (seen_at at i) seen (stands-among i at stands) (ap (seen_state b at) is))
+      lt-ltb 0 (cuts at) (cut-counts (seen_at at i) seen (stands-among i at stands) (ap (seen_state b (name_at xs i) at) is))
 
   pub unsplit-here : (i : ℕ) (at : List ℕ) → StandsAt xs i at → (node_at xs i).state ≢ state.Split → is_split_at seen at ≡ false
   unsplit-here i at stands other =
-      let less = uncut-stands (seen_at at i) seen (stands-among i at stands) (uncut b at (node_at xs i).state other) in
+      let less = uncut-stands (seen_at at i) seen (stands-among i at stands) (uncut b (name_at xs i) at (node_at xs i).state other) in
       le-ltb 0 (cuts at) (omega (arith, less, one-node b ledger tree.table tree.begins at (stands-begins i at stands)))
 
-  -- no node is dominated: each that isn't split has its floor
-  pub floor-here : (i : ℕ) (at : List ℕ) → StandsAt xs i at → ending_at b seen at ≡ Bounding (floor b at)
-  floor-here i at stands =
-      subst (λ x. ending_at b seen x ≡ Bounding (floor b x)) refl (ending-is b ledger tree.table tree.begins (seen_at at i) (stands-among i at stands) ∙ plain-ending b at (node_at xs i).state)
+  -- each that isn't split or dominated has its floor
+  pub floor-here : (i : ℕ) (at : List ℕ) → StandsAt xs i at → (node_at xs i).state ≢ state.Dominated → ending_at b seen at ≡ Bounding (floor b at)
+  floor-here i at stands other =
+      ending-is b ledger tree.table tree.begins (seen_at at i) (stands-among i at stands) ∙ plain-ending b (name_at xs i) at (node_at xs i).state other
+
+  -- one that is dominated has its name
+  pub name-here : (i : ℕ) (at : List ℕ) → StandsAt xs i at → (node_at xs i).state ≡ state.Dominated → ending_at b seen at ≡ Dominated (name_at xs i)
+  name-here i at stands is =
+      ending-is b ledger tree.table tree.begins (seen_at at i) (stands-among i at stands) ∙ ap (λ s. state_ending b at (seen_state b (name_at xs i) at s)) is
+
+  -- which is a node's
+  pub name-short : (i : ℕ) → i < length xs → length (name_at xs i) ≤ length b.block
+  name-short i lt =
+      let v = parent_at i (node_at xs i).value in
+      let above : StandsAt xs v (get_or (prefixes xs) v []) = record { within = omega (arith, lt, parent_at-most i (node_at xs i).value); over = refl } in
+      let (rest, legal) = beginning-front b.block (get_or (prefixes xs) v []) (stands-begins v (get_or (prefixes xs) v []) above) in
+      omega (arith, legal.whole, length-append (get_or (prefixes xs) v []) rest, ap length (name-node xs i some-node))
 
   pub split-incomplete : (at : List ℕ) → is_split_at seen at ≡ true → IsIncomplete b.block at
   split-incomplete at is = (split-part b ledger tree.table tree.begins at is).0
@@ -204,11 +227,11 @@ module _ (b : Problem) (xs : List Node) (tree : AreOneTree b xs) (i : ℕ) (at :
       ∙ (ap (λ ns. AtSplit ns ∷ (lines_from b xs (children at ns) ++ lines_from b xs (later b.block [] at))) (sym all)
       ∙ ap (λ knots. AtSplit numbers ∷ knots) (sym (lines-both b.block cut_there (ending_at b (nodes_of b xs)) (children at numbers) (later b.block [] at)) ∙ ap (lines_from b xs) (sym next)))
 
-  pub leaf-line : (leaf : Leaf) → (node_at xs i).state ≢ state.Split → leaf ≡ floor b at → to ≡ later b.block [] at →
-      lines_from b xs (at ∷ later b.block [] at) ≡ AtTip (Bounding leaf) ∷ lines_from b xs to
-  leaf-line leaf other is next =
+  pub tip-line : (node_at xs i).state ≢ state.Split → to ≡ later b.block [] at →
+      lines_from b xs (at ∷ later b.block [] at) ≡ AtTip (ending_at b (nodes_of b xs) at) ∷ lines_from b xs to
+  tip-line other next =
       ap (λ knots. knots ++ lines_from b xs (later b.block [] at)) (lines-unsplit b.block cut_there (ending_at b (nodes_of b xs)) at (unsplit-here b xs tree i at stands other))
-      ∙ (ap (λ l. AtTip l ∷ lines_from b xs (later b.block [] at)) (floor-here b xs tree i at stands ∙ ap Bounding (sym is)) ∙ ap (λ ats. AtTip (Bounding leaf) ∷ lines_from b xs ats) (sym next))
+      ∙ ap (λ ats. AtTip (ending_at b (nodes_of b xs) at) ∷ lines_from b xs ats) (sym next)
 
 -- where it is appended, these follow
 pub line-appended : {K : Type 0} (old new : List K) (k : K) (all rest : List K) → new ≡ old ++ k ∷ [] → all ≡ k ∷ rest → new ++ rest ≡ old ++ all

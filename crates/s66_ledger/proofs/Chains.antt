@@ -28,7 +28,7 @@ chain-first b =
     }
   where
     none-live : HaveFloors b (chain_root ∷ [])
-    none-live zero lt live = absurd (live refl)
+    none-live zero lt live = absurd cc
     none-live (suc i) lt live = absurd (omega (arith, lt))
 
 chain-longer : (b : Problem) (at : List ℕ) (n : ℕ) (made : List Node) → IsChain b at made → (more : List Node) × IsChain b (at ++ n ∷ []) more
@@ -41,7 +41,7 @@ chain-longer b at n made c =
       record {
         count = omega (arith, here, length-append made (x ∷ []));
         last = ap (λ k. get_or (prefixes (made ++ x ∷ [])) k []) here ∙ (push-last made x some ∙ ap (λ a. a ++ n ∷ []) c.last);
-        floors = floors-push b made x some c.floors (λ live. absurd (live refl));
+        floors = floors-push b made x some c.floors (λ live. absurd cc);
         depths = depths-push made x before (omega (arith, c.depths (length at) before, ap length c.last)) c.depths;
       },
     )

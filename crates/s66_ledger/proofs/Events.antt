@@ -1,5 +1,5 @@
 -- Each event keeps what a ledger's type keeps, and is a step of the machine.
-use Rattle.std.proofs.Common.{ℕ, zero, suc, ◌+◌, ◌-◌, ◌*◌, ◌≤◌, ◌<◌, ◌≡◌, ◌≢◌, Bool, true, false, true≢false, List, [], ◌∷◌, length, get_or, set, refl, sym, ap, arith, subst, ◌∙◌, Some, None, IsTrue, ◌↔◌, min, replicate, length-append}
+use Rattle.std.proofs.Common.{ℕ, zero, suc, ◌+◌, ◌-◌, ◌*◌, ◌≤◌, ◌<◌, ◌≡◌, Bool, true, false, List, [], ◌∷◌, length, get_or, set, refl, sym, ap, arith, subst, ◌∙◌, Some, None, IsTrue, ◌↔◌, min, replicate, length-append, inl, inr}
 use Rattle.std.proofs.lemmas.List.{length-set, length-replicate}
 use Rattle.s66_isa.specs.Lists.{tally, weigh}
 use Rattle.s66_isa.specs.Table.{numbers}
@@ -22,22 +22,24 @@ use Rattle.s66_ledger.specs.declared.node.Node.{Node}
 use Rattle.s66_ledger.specs.declared.node.State.{State}
 use Rattle.s66_ledger.specs.declared.node.State.TheVariants as state
 use Rattle.s66_ledger.specs.declared.limits.TheConstants.{BUDGET_LIMIT}
-use Rattle.s66_ledger.specs.Nodes.{prefixes, seen_state, nodes_of, node_at, with_state, HaveFloors, is_open_state, is_open}
+use Rattle.s66_ledger.specs.Nodes.{prefixes, name_at, seen_state, nodes_of, node_at, with_state, HaveFloors, has_floor, is_open_state, is_open}
 use Rattle.s66_ledger.specs.OpenNodes.{IsOut, ranked}
 use Rattle.s66_ledger.specs.LedgerMachine.{MachineOf, IsMove, state_of, machine_of, IsKept}
 use Rattle.s66_ledger.proofs.SeenNodes.{length-nodes, at-nodes, open-seen, open-nodes, out-seen, nodes-state}
 use Rattle.s66_ledger.proofs.NodeFloors.{floors-state}
+use Rattle.s66_ledger.proofs.NodePrefixes.{name-below, name-root}
+use Rattle.s66_isa.proofs.Lists.{cases_le}
 
 -- WHAT IS SEEN of nodes
 
 pub is-out : (b : Problem) (nodes : List Node) (best : List ℕ) (left : ℕ) (allowances : List ℕ) (spent i : ℕ) → IsOut nodes i → model.IsOut (state_of b nodes best left allowances spent) i
 is-out b nodes best left allowances spent i (lt, out) =
-    (omega (arith, lt, length-nodes b nodes), ap (λ (n : model.Node). n.state) (at-nodes b nodes i lt) ∙ ap (seen_state b (get_or (prefixes nodes) i [])) out)
+    (omega (arith, lt, length-nodes b nodes), ap (λ (n : model.Node). n.state) (at-nodes b nodes i lt) ∙ ap (seen_state b (name_at nodes i) (get_or (prefixes nodes) i [])) out)
 
 pub not-out : (b : Problem) (nodes : List Node) (best : List ℕ) (left : ℕ) (allowances : List ℕ) (spent i : ℕ) → ¬ IsOut nodes i → ¬ model.IsOut (state_of b nodes best left allowances spent) i
 not-out b nodes best left allowances spent i never h =
     let lt : i < length nodes = omega (arith, h.0, length-nodes b nodes) in
-    never (lt, out-seen b (get_or (prefixes nodes) i []) (node_at nodes i).state (sym (ap (λ (n : model.Node). n.state) (at-nodes b nodes i lt)) ∙ h.1))
+    never (lt, out-seen b (name_at nodes i) (get_or (prefixes nodes) i []) (node_at nodes i).state (sym (ap (λ (n : model.Node). n.state) (at-nodes b nodes i lt)) ∙ h.1))
 
 -- SPLITS
 
@@ -71,6 +73,15 @@ module _ (rule : Rule) (b : Problem) (budget : ℕ) (nodes : List Node) (best : 
       let (rest, legal) = beginning-front b.block (get_or (prefixes nodes) i []) (kept-beginning i lt) in
       omega (arith, legal.whole, length-append (get_or (prefixes nodes) i []) rest)
 
+  -- nor is a name longer
+  pub name-short : (i : ℕ) → i < length nodes → length (name_at nodes i) ≤ length b.block
+  name-short i lt =
+      let v = (node_at nodes i).value in
+      elim (cases_le i v) [
+        | inl le ↦ omega (arith, ap length (name-root nodes i v lt refl le), kept-short 0 (omega (arith, lt)))
+        | inr below ↦ omega (arith, ap length (name-below nodes i v lt refl below), kept-short v (omega (arith, lt, below)))
+      ]
+
   -- after a step
   pub kept-next : (nodes2 : List Node) (best2 : TimedOrder) (left2 : ℕ) (allowances2 : List ℕ) (spent2 : ℕ) (event : Event) (reply : Reply) → best2.problem ≡ b → HaveFloors b nodes2 → length nodes2 ≤ 1 + BLOCK_LIMIT * spent2 → length allowances2 ≡ length allowances → Step rule b old event reply (state_of b nodes2 best2.numbers left2 allowances2 spent2) → IsKept rule b budget nodes2 best2 left2 allowances2 spent2
   kept-next nodes2 best2 left2 allowances2 spent2 event reply own floors room same step =
@@ -98,19 +109,16 @@ module _ (rule : Rule) (b : Problem) (budget : ℕ) (nodes : List Node) (best : 
   moved-room : (i : ℕ) (s : State) → length (with_state nodes i s) ≤ 1 + BLOCK_LIMIT * spent
   moved-room i s = omega (arith, h.room, length-set nodes i (record (node_at nodes i) { state = s }))
 
-  moved : (i : ℕ) (s : State) (seen : model.State) → i < length nodes → ((at : List ℕ) → seen_state b at s ≡ seen) → state_of b (with_state nodes i s) best.numbers left allowances spent ≡ model.after_move old i seen
+  moved : (i : ℕ) (s : State) (seen : model.State) → i < length nodes → ((name at : List ℕ) → seen_state b name at s ≡ seen) → state_of b (with_state nodes i s) best.numbers left allowances spent ≡ model.after_move old i seen
   moved i s seen lt is = ap (λ (ns : List model.Node). record { nodes = ns; best = best.numbers; left = left; allowances = allowances; spent = spent }) (nodes-state b nodes i s seen lt is)
 
   claim-moves : (w i : ℕ) → i < length nodes → (node_at nodes i).state ≡ state.Open → Moves rule b old (Claim w) (Claimed (Some i)) (state_of b (with_state nodes i state.Out) best.numbers left allowances spent)
   claim-moves w i within was =
-      (omega (arith, within, length-nodes b nodes), ap (λ (n : model.Node). n.state) (at-nodes b nodes i within) ∙ ap (seen_state b (get_or (prefixes nodes) i [])) was, moved i state.Out model.Out within (λ at. refl))
+      (omega (arith, within, length-nodes b nodes), ap (λ (n : model.Node). n.state) (at-nodes b nodes i within) ∙ ap (seen_state b (name_at nodes i) (get_or (prefixes nodes) i [])) was, moved i state.Out model.Out within (λ name at. refl))
 
   pub kept-claim : (w i : ℕ) → 1 ≤ w → w ≤ length allowances → i < length nodes → (node_at nodes i).state ≡ state.Open → IsKept rule b budget (with_state nodes i state.Out) best left allowances spent
   kept-claim w i one le within was =
-      kept-next (with_state nodes i state.Out) best left allowances spent (Claim w) (Claimed (Some i)) h.own (floors-state b nodes i state.Out within (λ e. open-split (sym was ∙ e)) h.floors) (moved-room i state.Out) refl ((one, le), claim-moves w i within was)
-    where
-      open-split : state.Open ≡ state.Split → ⊥
-      open-split e = absurd cc
+      kept-next (with_state nodes i state.Out) best left allowances spent (Claim w) (Claimed (Some i)) h.own (floors-state b nodes i state.Out within (ap has_floor was) h.floors) (moved-room i state.Out) refl ((one, le), claim-moves w i within was)
 
   pub event-claim : (l : MachineOf) (w i : ℕ) → machine_of rule b budget nodes best.numbers left allowances spent ≡ l → 1 ≤ w → w ≤ length allowances → i < length nodes → (node_at nodes i).state ≡ state.Open → IsMove l (Claim w) (Claimed (Some i)) (machine_of rule b budget (with_state nodes i state.Out) best.numbers left allowances spent)
   event-claim l w i is one le within was =
@@ -121,7 +129,7 @@ module _ (rule : Rule) (b : Problem) (budget : ℕ) (nodes : List Node) (best : 
       subst (λ (l : MachineOf). IsMove l (Claim w) (Claimed None) l) is (refl, refl, refl, ((one, le), (open-nodes b nodes ∙ none, refl)), refl)
 
   -- floors are far below the limit up to which they are ranked
-  ranked-floor : length b.block ≤ BLOCK_LIMIT → (i : ℕ) → i < length nodes → (node_at nodes i).state ≢ state.Split → ranked (node_at nodes i).value ≡ floor_value b (get_or (prefixes nodes) i [])
+  ranked-floor : length b.block ≤ BLOCK_LIMIT → (i : ℕ) → i < length nodes → has_floor (node_at nodes i).state ≡ true → ranked (node_at nodes i).value ≡ floor_value b (get_or (prefixes nodes) i [])
   ranked-floor few i lt live =
       let at = get_or (prefixes nodes) i [] in
       let fits : floor_value b at ≤ 104 * BLOCK_LIMIT = leaf-fits b at (Rattle.s66_model.specs.Leaves.floor b at) (kept-beginning i lt) few (floor-stands b at (kept-beginning i lt)) in
@@ -131,12 +139,16 @@ module _ (rule : Rule) (b : Problem) (budget : ℕ) (nodes : List Node) (best : 
   claimed-least few i lt was least j opens =
       let within : j < length nodes = omega (arith, open-within (nodes_of b nodes) j opens, length-nodes b nodes) in
       let there = at-nodes b nodes j within in
-      let open-here : is_open (node_at nodes j) ≡ true = sym (open-seen b (get_or (prefixes nodes) j []) (node_at nodes j).state) ∙ (ap (λ (n : model.Node). model.is_open n) (sym there) ∙ opens) in
+      let open-here : is_open (node_at nodes j) ≡ true = sym (open-seen b (name_at nodes j) (get_or (prefixes nodes) j []) (node_at nodes j).state) ∙ (ap (λ (n : model.Node). model.is_open n) (sym there) ∙ opens) in
       let le = least j open-here in
-      omega (arith, le, ranked-floor few i lt (λ e. open-split (sym was ∙ e)), ranked-floor few j within (λ e. true≢false (sym open-here ∙ ap is_open_state e)), ap (λ (n : model.Node). floor_value b n.prefix) there)
+      omega (arith, le, ranked-floor few i lt (ap has_floor was), ranked-floor few j within (open-floor (node_at nodes j).state open-here), ap (λ (n : model.Node). floor_value b n.prefix) there)
     where
-      open-split : state.Open ≡ state.Split → ⊥
-      open-split e = absurd cc
+      open-floor : (s : State) → is_open_state s ≡ true → has_floor s ≡ true
+      open-floor state.Open e = refl
+      open-floor state.Out e = absurd cc
+      open-floor state.Closed e = refl
+      open-floor state.Split e = absurd cc
+      open-floor state.Dominated e = absurd cc
 
       open-within : (ns : List model.Node) (k : ℕ) → model.is_open (model.node_at ns k) ≡ true → k < length ns
       open-within [] k e = absurd cc
@@ -144,14 +156,11 @@ module _ (rule : Rule) (b : Problem) (budget : ℕ) (nodes : List Node) (best : 
       open-within (n ∷ ns) (suc k) e = omega (arith, open-within ns k e)
 
   back-moves : (w i : ℕ) → IsOut nodes i → Moves rule b old (Back w i) Returned (state_of b (with_state nodes i state.Open) best.numbers left allowances spent)
-  back-moves w i out = (is-out b nodes best.numbers left allowances spent i out, moved i state.Open model.Open out.0 (λ at. refl))
+  back-moves w i out = (is-out b nodes best.numbers left allowances spent i out, moved i state.Open model.Open out.0 (λ name at. refl))
 
   pub kept-back : (w i : ℕ) → 1 ≤ w → w ≤ length allowances → IsOut nodes i → IsKept rule b budget (with_state nodes i state.Open) best left allowances spent
   kept-back w i one le out =
-      kept-next (with_state nodes i state.Open) best left allowances spent (Back w i) Returned h.own (floors-state b nodes i state.Open out.0 (λ e. out-split (sym out.1 ∙ e)) h.floors) (moved-room i state.Open) refl ((one, le), back-moves w i out)
-    where
-      out-split : state.Out ≡ state.Split → ⊥
-      out-split e = absurd cc
+      kept-next (with_state nodes i state.Open) best left allowances spent (Back w i) Returned h.own (floors-state b nodes i state.Open out.0 (ap has_floor out.1) h.floors) (moved-room i state.Open) refl ((one, le), back-moves w i out)
 
   pub event-back : (l : MachineOf) (w i : ℕ) → machine_of rule b budget nodes best.numbers left allowances spent ≡ l → 1 ≤ w → w ≤ length allowances → IsOut nodes i → IsMove l (Back w i) Returned (machine_of rule b budget (with_state nodes i state.Open) best.numbers left allowances spent)
   event-back l w i is one le out =
@@ -197,7 +206,7 @@ pub kept-opening : (rule : Rule) (b : Problem) (budget workers : ℕ) (best : Ti
 kept-opening rule b budget workers best nodes root allowances is one open-root value all few at_most =
     rw (is, all, one)
     (record {
-      reached = subst (λ n. IsReached rule b budget n (state_of b (root ∷ []) (numbers b.block) budget (replicate workers 0) 0)) (sym (length-replicate workers 0)) ([], ap (λ s. record { nodes = record { prefix = []; state = s } ∷ []; best = numbers b.block; left = budget; allowances = replicate workers 0; spent = 0 }) (ap (seen_state b []) open-root));
+      reached = subst (λ n. IsReached rule b budget n (state_of b (root ∷ []) (numbers b.block) budget (replicate workers 0) 0)) (sym (length-replicate workers 0)) ([], ap (λ s. record { nodes = record { prefix = []; state = s } ∷ []; best = numbers b.block; left = budget; allowances = replicate workers 0; spent = 0 }) (ap (seen_state b [] []) open-root));
       own = refl;
       floors = first;
       room = omega arith;

@@ -1,5 +1,5 @@
 -- Each reply to a piece.
-use Rattle.std.proofs.Common.{ℕ, ◌+◌, ◌-◌, ◌*◌, ◌≤◌, ◌<◌, ◌≡◌, ◌↔◌, IsTrue, Bool, true, false, true≢false, cond, List, [], ◌∷◌, ◌++◌, length, get_or, set, refl, sym, ap, arith, subst, ◌∙◌, Some, None, length-append}
+use Rattle.std.proofs.Common.{ℕ, ◌+◌, ◌-◌, ◌*◌, ◌≤◌, ◌<◌, ◌≡◌, ◌↔◌, IsTrue, Bool, true, false, true≢false, cond, List, [], ◌∷◌, ◌++◌, length, map, take, get_or, set, refl, sym, ap, arith, subst, ◌∙◌, Some, None, length-append}
 use Rattle.std.proofs.lemmas.List.{length-set}
 use Rattle.s66_isa.specs.declared.limits.TheConstants.{BLOCK_LIMIT}
 use Rattle.s66_isa.specs.Lists.{weigh}
@@ -9,7 +9,7 @@ use Rattle.s66_isa.specs.Table.{numbers}
 use Rattle.s66_model.specs.declared.rule.Rule.{Rule}
 use Rattle.s66_model.specs.Timing.{Problem, total_of}
 use Rattle.s66_model.specs.LegalOrder.{ready, is_ready}
-use Rattle.s66_model.specs.Tree.{Tree, Alone, Parted, Kids, NoMore, Unsplit, Split, KidsHold, TreeHolds, flat_kids, flat, kid_splits, splits}
+use Rattle.s66_model.specs.Tree.{Tree, Alone, Parted, Kids, NoMore, Unsplit, Split, Knot, KidsHold, TreeHolds, flat_kids, flat, kid_splits, splits}
 use Rattle.s66_model.specs.Piece.{Tip, IsPiece}
 use Rattle.s66_model.specs.Ledger as model
 use Rattle.s66_model.specs.Ledger.{Graft, Taken, NotOut, OtherPrefix, OverAllowance, Moves, root_state, new_nodes, AreNamed}
@@ -20,13 +20,19 @@ use Rattle.s66_node.specs.Pieces.{PieceOf, told_tree, tree_of}
 use Rattle.s66_model.proofs.TreesHold.{seen-splits}
 use Rattle.s66_model.proofs.Forests.{tree-match}
 use Rattle.s66_ledger.specs.declared.node.Node.{Node}
-use Rattle.s66_ledger.specs.Nodes.{prefixes, nodes_of, HaveFloors}
+use Rattle.s66_ledger.specs.Nodes.{prefixes, nodes_of, lines_of, HaveFloors}
+use Rattle.s66_ledger.specs.Subtrees.{lines_below}
+use Rattle.s66_ledger.specs.DominatedNodes.{names_in}
+use Rattle.s66_node.specs.Outlines.{line_name, outline_of, names_of, IsOutlineOf}
+use Rattle.s66_model.specs.Preorder.{TreeMatches}
+use Rattle.s66_model.specs.Recorded.{TreeOpens}
+use Rattle.s66_ledger.proofs.Names.{take-map, grafted-names}
 use Rattle.s66_ledger.specs.OpenNodes.{IsOut}
 use Rattle.s66_ledger.specs.LedgerMachine.{MachineOf, state_of, machine_of, IsKept}
-use Rattle.s66_ledger.specs.Opened.{opened, PlainHolds, IsPlain}
-use Rattle.s66_ledger.specs.GraftMoves.{IsGraftMove, taken_event, IsTakenMove}
+use Rattle.s66_ledger.specs.Opened.{opened, with_lines, PlainHolds, IsPlain}
+use Rattle.s66_ledger.specs.GraftMoves.{IsGraftMove, IsTakenMove}
 use Rattle.s66_ledger.proofs.SeenNodes.{at-nodes}
-use Rattle.s66_ledger.proofs.Opened.{same-splits, opened-opens, plain-piece, plain-are-named}
+use Rattle.s66_ledger.proofs.Opened.{same-splits, opened-opens, opened-nameless}
 use Rattle.s66_ledger.proofs.Events.{is-out, not-out, kept-next}
 
 -- HOW MANY LINES
@@ -102,30 +108,49 @@ module _ (rule : Rule) (b : Problem) (budget : ℕ) (nodes : List Node) (best : 
     pub piece-floors : HaveFloors p.problem nodes
     piece-floors = subst (λ (q : Problem). HaveFloors q nodes) (sym same) h.floors
 
-    module _ (new : List Node) (count : ℕ) (out : IsOut nodes i) (over : get_or (prefixes nodes) i [] ≡ p.prefix) (counts : count ≡ splits whole) (within : count ≤ get_or allowances (w - 1) 0) (plain : IsPlain (opened p)) (planted : nodes_of p.problem new ≡ model.with_state (nodes_of p.problem nodes) i (root_state p.problem (total_of best.problem best.numbers) p.prefix whole) ++ new_nodes p.problem (total_of best.problem best.numbers) p.prefix whole) where
+    module _ (taken : List (Knot Told)) (new : List Node) (count : ℕ) (out : IsOut nodes i) (over : get_or (prefixes nodes) i [] ≡ p.prefix) (counts : count ≡ splits (tree_of (with_lines p taken))) (within : count ≤ get_or allowances (w - 1) 0) (piece : IsPiece p.rule p.problem p.prefix (tree_of (with_lines p taken))) (named : AreNamed p.rule p.problem (nodes_of p.problem new) p.prefix (tree_of (with_lines p taken))) (planted : nodes_of p.problem new ≡ model.with_state (nodes_of p.problem nodes) i (root_state p.problem (total_of best.problem best.numbers) p.prefix (tree_of (with_lines p taken))) ++ new_nodes p.problem (total_of best.problem best.numbers) p.prefix (tree_of (with_lines p taken))) where
       abbrev after : MachineOf
       after = machine_of rule b budget new best.numbers left (set allowances (w - 1) (get_or allowances (w - 1) 0 - count)) (spent + count)
 
-      taken-moves : Moves rule b (state_of b nodes best.numbers left allowances spent) (Graft w i true p.prefix (splits whole) (Some whole)) Taken after.state
-      taken-moves =
-          let made : nodes_of b new ≡ model.with_state (nodes_of b nodes) i (root_state b (total_of b best.numbers) p.prefix whole) ++ new_nodes b (total_of b best.numbers) p.prefix whole =
-          subst (λ (q : Problem). nodes_of b new ≡ model.with_state (nodes_of b nodes) i (root_state b (total_of q best.numbers) p.prefix whole) ++ new_nodes b (total_of q best.numbers) p.prefix whole) h.own
-          (subst (λ (q : Problem). nodes_of q new ≡ model.with_state (nodes_of q nodes) i (root_state q (total_of best.problem best.numbers) p.prefix whole) ++ new_nodes q (total_of best.problem best.numbers) p.prefix whole) same planted) in
-          let state : after.state ≡ model.after_graft b (state_of b nodes best.numbers left allowances spent) w i p.prefix whole =
-          ap (λ n. record { nodes = nodes_of b new; best = best.numbers; left = left; allowances = set allowances (w - 1) (get_or allowances (w - 1) 0 - n); spent = spent + n }) counts
-          ∙ ap (λ (ns : List model.Node). record { nodes = ns; best = best.numbers; left = left; allowances = set allowances (w - 1) (get_or allowances (w - 1) 0 - splits whole); spent = spent + splits whole }) made in
-          (is-out b nodes best.numbers left allowances spent i out, (refl, sym over ∙ sym (prefix-is out.0)), omega (arith, counts, within), refl, subst (λ (q : Problem). IsPiece rule q p.prefix whole) same (plain-piece rule (opened p) plain), state, subst (λ (q : Problem). AreNamed rule q after.state.nodes p.prefix whole) same (plain-are-named rule (opened p) after.state.nodes plain))
+      -- as it is taken
+      abbrev part : Tree Tip
+      part = tree_of (with_lines p taken)
 
-      pub graft-taken : (l : MachineOf) → here ≡ l → IsTakenMove l w i p after
-      graft-taken l is =
+      made : nodes_of b new ≡ model.with_state (nodes_of b nodes) i (root_state b (total_of b best.numbers) p.prefix part) ++ new_nodes b (total_of b best.numbers) p.prefix part
+      made =
+          subst (λ (q : Problem). nodes_of b new ≡ model.with_state (nodes_of b nodes) i (root_state b (total_of q best.numbers) p.prefix part) ++ new_nodes b (total_of q best.numbers) p.prefix part) h.own
+          (subst (λ (q : Problem). nodes_of q new ≡ model.with_state (nodes_of q nodes) i (root_state q (total_of best.problem best.numbers) p.prefix part) ++ new_nodes q (total_of best.problem best.numbers) p.prefix part) same planted)
+
+      taken-moves : Moves rule b (state_of b nodes best.numbers left allowances spent) (Graft w i true p.prefix (splits part) (Some part)) Taken after.state
+      taken-moves =
+          let state : after.state ≡ model.after_graft b (state_of b nodes best.numbers left allowances spent) w i p.prefix part =
+          ap (λ n. record { nodes = nodes_of b new; best = best.numbers; left = left; allowances = set allowances (w - 1) (get_or allowances (w - 1) 0 - n); spent = spent + n }) counts
+          ∙ ap (λ (ns : List model.Node). record { nodes = ns; best = best.numbers; left = left; allowances = set allowances (w - 1) (get_or allowances (w - 1) 0 - splits part); spent = spent + splits part }) made in
+          let is_piece : IsPiece rule b p.prefix part = subst (λ r. IsPiece r b p.prefix part) (owns.0 mine).0 (subst (λ (q : Problem). IsPiece p.rule q p.prefix part) same piece) in
+          let are_named : AreNamed rule b (nodes_of b new) p.prefix part =
+          subst (λ r. AreNamed r b (nodes_of b new) p.prefix part) (owns.0 mine).0 (subst (λ (q : Problem). AreNamed p.rule q (nodes_of q new) p.prefix part) same named) in
+          (is-out b nodes best.numbers left allowances spent i out, (refl, sym over ∙ sym (prefix-is out.0)), omega (arith, counts, within), refl, is_piece, state, are_named)
+
+      pub graft-taken : (l : MachineOf) → here ≡ l → length taken ≡ length p.knots → 0 < length p.knots → take 1 taken ≡ take 1 (opened p).knots → TreeOpens (tree_of p) part → IsOutlineOf (with_lines p taken) (outline_of (with_lines p taken)) (names_of (with_lines p taken)) → TreeMatches (told_tree (with_lines p taken)) → flat (told_tree (with_lines p taken)) ≡ taken → lines_of new ≡ lines_of nodes ++ lines_below (with_lines p taken) → IsTakenMove l w i p after
+      graft-taken l is many some root opens outline match preorder lines =
+          let nameless : take 1 (names_of (with_lines p taken)) ≡ [] ∷ [] = take-map line_name taken ∙ (ap (map line_name) root ∙ (sym (take-map line_name (opened p).knots) ∙ opened-nameless p some)) in
           subst (λ (l : MachineOf). IsTakenMove l w i p after) is
           (record {
             rule = (owns.0 mine).0;
             problem = same;
+            taken = taken;
+            count = many;
+            root = root;
+            opens = opens;
+            outline = outline;
+            lines = lines;
+            names =
+                ap names_in made
+                ∙ grafted-names b (total_of b best.numbers) (with_lines p taken) (nodes_of b nodes) i same (is-out b nodes best.numbers left allowances spent i out).1 match preorder nameless;
             move = (refl, refl, length-set allowances (w - 1) (get_or allowances (w - 1) 0 - count), ((one, le), taken-moves), refl);
           })
 
-      pub kept-taken : HaveFloors p.problem new → length new + 1 ≡ length nodes + length (opened p).knots → length (opened p).knots ≤ 1 + BLOCK_LIMIT * splits whole → IsKept rule b budget new best left (set allowances (w - 1) (get_or allowances (w - 1) 0 - count)) (spent + count)
+      pub kept-taken : HaveFloors p.problem new → length new + 1 ≡ length nodes + length p.knots → length p.knots ≤ 1 + BLOCK_LIMIT * splits part → IsKept rule b budget new best left (set allowances (w - 1) (get_or allowances (w - 1) 0 - count)) (spent + count)
       kept-taken floors made lines =
-          kept-next rule b budget nodes best left allowances spent h new best left (set allowances (w - 1) (get_or allowances (w - 1) 0 - count)) (spent + count) (Graft w i true p.prefix (splits whole) (Some whole)) Taken h.own
+          kept-next rule b budget nodes best left allowances spent h new best left (set allowances (w - 1) (get_or allowances (w - 1) 0 - count)) (spent + count) (Graft w i true p.prefix (splits part) (Some part)) Taken h.own
           (subst (λ (q : Problem). HaveFloors q new) same floors) (omega (arith, made, lines, counts, h.room)) (length-set allowances (w - 1) (get_or allowances (w - 1) 0 - count)) ((one, le), taken-moves)

@@ -1,5 +1,7 @@
 pub mod Chained
 pub mod Chains
+pub mod Closing
+pub mod Taken
 pub mod AnswerLines
 pub mod Depths
 pub mod Ends
@@ -14,6 +16,8 @@ pub mod Opened
 pub mod Planted
 pub mod PlantedNodes
 pub mod NodePrefixes
+pub mod Names
+pub mod NamedLines
 pub mod Progress
 pub mod Reading
 pub mod Recording

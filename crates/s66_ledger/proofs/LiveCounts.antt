@@ -112,9 +112,11 @@ settled-in best root first x node is = ap is_out is ∙ settles best node.value 
     settles best value state.Out = refl
     settles best value state.Closed = closes (nat_le best value)
     settles best value state.Split = refl
+    settles best value state.Dominated = refl
 
 pub shut-in : (s : State) → is_open_state s ≡ false → is_out_state s ≡ false → is_live_state s ≡ false
 shut-in state.Open shut in_table = absurd cc
 shut-in state.Out shut in_table = absurd cc
 shut-in state.Closed shut in_table = refl
 shut-in state.Split shut in_table = refl
+shut-in state.Dominated shut in_table = refl

@@ -1,5 +1,5 @@
 -- The floors of the nodes that are open or out, and the least of them.
-use Rattle.std.proofs.Common.{ℕ, suc, ◌+◌, ◌<◌, ◌≡◌, ◌≢◌, true, false, cond, min, List, [], ◌∷◌, ◌++◌, length, take, get_or, refl, sym, ap, arith, ◌∙◌, append_assoc}
+use Rattle.std.proofs.Common.{ℕ, suc, ◌+◌, ◌<◌, ◌≡◌, true, false, cond, min, List, [], ◌∷◌, ◌++◌, length, take, get_or, refl, sym, ap, arith, ◌∙◌, append_assoc}
 use Rattle.std.proofs.lemmas.List.{append-nil, take_more}
 use Rattle.s66_isa.specs.Lists.{least}
 use Rattle.s66_model.specs.Timing.{Problem}
@@ -9,27 +9,28 @@ use Rattle.s66_model.specs.Coverage.{live_floors}
 use Rattle.s66_ledger.specs.declared.node.Node.{Node}
 use Rattle.s66_ledger.specs.declared.node.State.{State}
 use Rattle.s66_ledger.specs.declared.node.State.TheVariants as state
-use Rattle.s66_ledger.specs.Nodes.{prefixes, nodes_at, nodes_of, node_at, HaveFloors, is_live_state}
+use Rattle.s66_ledger.specs.Nodes.{prefixes, seen_state, nodes_at, nodes_of, node_at, HaveFloors, has_floor, is_live_state}
 use Rattle.s66_ledger.specs.LiveNodes.{live_values}
 use Rattle.s66_ledger.proofs.NodePrefixes.{length-prefixes}
 
 -- AS THE DEFINITION HAS THEM
 
-head-live : (b : Problem) (at : List ℕ) (s : State) (v : ℕ) (vs ws : List ℕ) → (s ≢ state.Split → v ≡ floor_value b at) → vs ≡ ws → cond (model.is_live_state (Rattle.s66_ledger.specs.Nodes.seen_state b at s)) (floor_value b at ∷ []) [] ++ vs ≡ cond (is_live_state s) (v ∷ []) [] ++ ws
-head-live b at state.Open v vs ws h e = rw (h (λ x. absurd cc), e) refl
-head-live b at state.Out v vs ws h e = rw (h (λ x. absurd cc), e) refl
-head-live b at state.Closed v vs ws h e = e
-head-live b at state.Split v vs ws h e = e
+head-live : (b : Problem) (name at : List ℕ) (s : State) (v : ℕ) (vs ws : List ℕ) → (has_floor s ≡ true → v ≡ floor_value b at) → vs ≡ ws → cond (model.is_live_state (seen_state b name at s)) (floor_value b at ∷ []) [] ++ vs ≡ cond (is_live_state s) (v ∷ []) [] ++ ws
+head-live b name at state.Open v vs ws h e = rw (h refl, e) refl
+head-live b name at state.Out v vs ws h e = rw (h refl, e) refl
+head-live b name at state.Closed v vs ws h e = e
+head-live b name at state.Split v vs ws h e = e
+head-live b name at state.Dominated v vs ws h e = e
 
-live-at : (b : Problem) (ats : List (List ℕ)) (xs : List Node) → length ats ≡ length xs → ((i : ℕ) → i < length xs → (node_at xs i).state ≢ state.Split → (node_at xs i).value ≡ floor_value b (get_or ats i [])) → live_floors b (nodes_at b ats xs) ≡ live_values xs
-live-at b [] [] e h = refl
-live-at b [] (x ∷ xs) e h = absurd (omega (arith, e))
-live-at b (a ∷ ats) [] e h = absurd (omega (arith, e))
-live-at b (a ∷ ats) (x ∷ xs) e h =
-    head-live b a x.state x.value (live_floors b (nodes_at b ats xs)) (live_values xs) (h 0 (omega arith)) (live-at b ats xs (omega (arith, e)) (λ i lt. h (suc i) (omega (arith, lt))))
+live-at : (b : Problem) (before ats : List (List ℕ)) (xs : List Node) → length ats ≡ length xs → ((i : ℕ) → i < length xs → has_floor (node_at xs i).state ≡ true → (node_at xs i).value ≡ floor_value b (get_or ats i [])) → live_floors b (nodes_at b before ats xs) ≡ live_values xs
+live-at b before [] [] e h = refl
+live-at b before [] (x ∷ xs) e h = absurd (omega (arith, e))
+live-at b before (a ∷ ats) [] e h = absurd (omega (arith, e))
+live-at b before (a ∷ ats) (x ∷ xs) e h =
+    head-live b (get_or before x.value []) a x.state x.value (live_floors b (nodes_at b (before ++ a ∷ []) ats xs)) (live_values xs) (h 0 (omega arith)) (live-at b (before ++ a ∷ []) ats xs (omega (arith, e)) (λ i lt. h (suc i) (omega (arith, lt))))
 
 pub live-same : (b : Problem) (xs : List Node) → HaveFloors b xs → live_floors b (nodes_of b xs) ≡ live_values xs
-live-same b xs h = live-at b (prefixes xs) xs (length-prefixes xs) h
+live-same b xs h = live-at b [] (prefixes xs) xs (length-prefixes xs) h
 
 -- THE LEAST
 

@@ -1,10 +1,11 @@
 -- The prefixes of nodes: of one more node, of nodes with other states, and up to the parent.
-use Rattle.std.proofs.Common.{ℕ, zero, suc, ◌+◌, ◌≤◌, ◌<◌, ◌≡◌, false, cond, List, [], ◌∷◌, ◌++◌, length, get_or, set, refl, sym, ap, arith, inl, inr, ◌∙◌, ltb, length-append}
+use Rattle.std.proofs.Common.{ℕ, zero, suc, ◌+◌, ◌≤◌, ◌<◌, ◌≡◌, false, cond, List, [], ◌∷◌, ◌++◌, length, take, get_or, set, refl, sym, ap, arith, inl, inr, ◌∙◌, ltb, length-append}
 use Rattle.std.proofs.lemmas.Bool.{cases_Bool, lt-ltb, ltb-true}
+use Rattle.std.proofs.lemmas.List.{length-take}
 use Rattle.s66_isa.proofs.Lists.{cases_le}
 use Rattle.s66_ledger.specs.declared.node.Node.{Node}
 use Rattle.s66_ledger.specs.declared.node.State.{State}
-use Rattle.s66_ledger.specs.Nodes.{prefixes_from, prefixes, lines_of, no_node, node_at, with_state}
+use Rattle.s66_ledger.specs.Nodes.{prefixes_from, prefixes, name_at, lines_of, no_node, node_at, with_state}
 
 -- LISTS
 
@@ -144,3 +145,31 @@ prefix-none (x ∷ xs) some = from-front ([] ∷ []) xs 0 (omega arith)
 -- a prefix that isn't the root's has a last number
 pub prefix-last : (xs : List Node) (i : ℕ) (d : Node) → 0 < i → i < length xs → (above : List ℕ) × (get_or (prefixes xs) i [] ≡ above ++ (get_or xs i d).number ∷ [])
 prefix-last xs i d some within = (get_or (prefixes xs) (parent_at i (get_or xs i d).parent) [], prefix-at xs i d some within)
+
+-- NAMES
+
+take-at : (ats : List (List ℕ)) (i k : ℕ) → k < i → get_or (take i ats) k [] ≡ get_or ats k []
+take-at ats zero k lt = absurd (omega arith)
+take-at [] (suc i) k lt = refl
+take-at (a ∷ ats) (suc i) zero lt = refl
+take-at (a ∷ ats) (suc i) (suc k) lt = take-at ats i k (omega arith)
+
+-- a name is the prefix of a node before it, else the root's
+pub name-node : (xs : List Node) (i : ℕ) → 0 < length xs → name_at xs i ≡ get_or (prefixes xs) (parent_at i (node_at xs i).value) []
+name-node xs i some =
+    let v = (node_at xs i).value in
+    elim (cases_le i v) [
+      | inl le ↦ rw (not-below i v le) (get_or-past (take i (prefixes xs)) v [] (omega (arith, le, length-take i (prefixes xs))) ∙ sym (prefix-none xs some))
+      | inr lt ↦ rw (lt-ltb v i lt) (take-at (prefixes xs) i v lt)
+    ]
+
+module _ (xs : List Node) (i v : ℕ) (within : i < length xs) (is : v ≡ (node_at xs i).value) where
+  pub name-below : v < i → name_at xs i ≡ get_or (prefixes xs) v []
+  name-below lt =
+      name-node xs i (omega (arith, within))
+      ∙ (ap (λ k. get_or (prefixes xs) (parent_at i k) []) (sym is) ∙ ap (λ t. get_or (prefixes xs) (cond t v 0) []) (lt-ltb v i lt))
+
+  pub name-root : i ≤ v → name_at xs i ≡ get_or (prefixes xs) 0 []
+  name-root le =
+      name-node xs i (omega (arith, within))
+      ∙ (ap (λ k. get_or (prefixes xs) (parent_at i k) []) (sym is) ∙ ap (λ t. get_or (prefixes xs) (cond t v 0) []) (not-below i v le))

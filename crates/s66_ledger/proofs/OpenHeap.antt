@@ -34,6 +34,7 @@ is-open state.Open h = refl
 is-open state.Out h = absurd cc
 is-open state.Closed h = absurd cc
 is-open state.Split h = absurd cc
+is-open state.Dominated h = absurd cc
 
 in-range : (nodes : List Node) (i : ℕ) → is_open (node_at nodes i) ≡ true → i < length nodes
 in-range [] i h = absurd cc

@@ -1,5 +1,5 @@
 -- A piece with its dominated prefixes put into the frontier is a piece, with the same splits and whole orders.
-use Rattle.std.proofs.Common.{ℕ, ◌+◌, ◌≤◌, ◌<◌, ◌≡◌, List, [], ◌∷◌, ◌++◌, length, map, drop, refl, sym, ap, arith, inl, inr, ◌∙◌, subst, Option, Some, None}
+use Rattle.std.proofs.Common.{ℕ, ◌<◌, ◌≡◌, List, [], ◌∷◌, ◌++◌, length, map, take, refl, sym, ap, arith, inl, inr, ◌∙◌, subst, Option, Some, None}
 use Rattle.std.proofs.lemmas.List.{length-map}
 use Rattle.s66_isa.specs.declared.instr.Instr.{Instr}
 use Rattle.s66_isa.specs.Lists.{Among}
@@ -7,31 +7,27 @@ use Rattle.s66_model.specs.declared.rule.Rule.{Rule}
 use Rattle.s66_model.specs.declared.rule.Rule.TheVariants.{NoneNamed, WrittenEarlier, ClampedStanding}
 use Rattle.s66_model.specs.Timing.{Problem}
 use Rattle.s66_model.specs.LegalOrder.{IsIncomplete}
-use Rattle.s66_model.specs.Leaves.{floor_value}
-use Rattle.s66_model.specs.Tree.{Tree, Alone, Parted, Kids, NoMore, Unsplit, Split, Knot, AtTip, AtSplit, KidsHold, TreeHolds, flat_kids, flat, kid_splits, splits, kids_split_at, split_at, kid_values, tree_values}
+use Rattle.s66_model.specs.Tree.{Tree, Alone, Parted, Kids, NoMore, Unsplit, Split, Knot, AtTip, AtSplit, KidsHold, TreeHolds, flat_kids, flat, kid_splits, splits, kid_values}
 use Rattle.s66_model.specs.DominatedLeaves.{DominatesByRule}
-use Rattle.s66_model.specs.Piece.{Tip, Carries, Frontier, Passed, IsNamedIn, TipHolds, IsPiece}
-use Rattle.s66_model.specs.Preorder.{first_kids, later_kids, forest, first_tree, read_tree}
-use Rattle.s66_model.specs.Told.{Told, ToldLeaf, ToldFrontier, ToldPassed, ToldHolds, tip_of, kids_seen, tree_seen, tree_told, IsToldTree}
-use Rattle.s66_model.specs.Expansion.{TipHoldsWhile, IsExpansion, whole_at, whole_orders}
-use Rattle.s66_model.specs.Ledger.{Node, TipIsNamed, AreNamed}
+use Rattle.s66_model.specs.Piece.{Tip, Carries, Frontier, Passed}
+use Rattle.s66_model.specs.Preorder.{first_kids, later_kids, forest, first_tree}
+use Rattle.s66_model.specs.Told.{Told, ToldLeaf, ToldFrontier, ToldPassed, ToldHolds, tip_of, kids_seen, tree_seen, IsToldTree}
+use Rattle.s66_model.specs.Expansion.{whole_at, whole_orders}
 use Rattle.s66_model.specs.Recorded.{TipOpens, KidsOpen, TreeOpens}
-use Rattle.s66_model.proofs.TreesHold.{tree-weaken, seen-holds}
 use Rattle.s66_node.specs.Pieces.{PieceOf, told_tree, tree_of, IsBestTimed}
 use Rattle.s66_node.specs.declared.knot.Knot as code
 use Rattle.s66_node.specs.SeenKnots.{seen}
-use Rattle.s66_node.specs.Outlines.{line_name, StaysOpen, told_line, told_lines, outline_of, outline_prefix, with_ready, IsOutlineOf}
-use Rattle.s66_node.proofs.Outlines.{outline-holds}
+use Rattle.s66_node.specs.Outlines.{line_name, names_of}
 use Rattle.s66_ledger.specs.Opened.{open_told, open_line, opened, PlainHolds, IsPlain, open_knot, open_lines}
 
 -- TREES
 
-abbrev open_kids : Kids Told → Kids Told
+abbrev pub open_kids : Kids Told → Kids Told
 open_kids NoMore = NoMore
 open_kids (Unsplit told kids) = Unsplit (open_told told) (open_kids kids)
 open_kids (Split numbers sub kids) = Split numbers (open_kids sub) (open_kids kids)
 
-abbrev open_tree : Tree Told → Tree Told
+abbrev pub open_tree : Tree Told → Tree Told
 open_tree (Alone told) = Alone (open_told told)
 open_tree (Parted numbers kids) = Parted numbers (open_kids kids)
 
@@ -72,7 +68,7 @@ flat-open : (tree : Tree Told) → flat (open_tree tree) ≡ map open_line (flat
 flat-open (Alone told) = refl
 flat-open (Parted numbers kids) = ap (λ ks. AtSplit numbers ∷ ks) (flat_kids-open kids)
 
-open-told_tree : (p : PieceOf) → told_tree (opened p) ≡ open_tree (told_tree p)
+pub open-told_tree : (p : PieceOf) → told_tree (opened p) ≡ open_tree (told_tree p)
 open-told_tree p = ap (first_tree (Alone (ToldFrontier 0))) (forest-open p.knots) ∙ first_tree-open (forest p.knots)
 
 -- WHAT HOLDS of the tips
@@ -101,17 +97,6 @@ told-plain : (rule : Rule) (b : Problem) (prefix : List ℕ) (tree : Tree Tip) (
 told-plain rule b prefix tree at (ToldLeaf value) h = h
 told-plain rule b prefix tree at (ToldFrontier value) h = h
 told-plain rule b prefix tree at (ToldPassed value name) h = (h.0, dominated-part rule b name at h.1)
-
--- a plain tip is one of a piece by any rule, and names nothing
-plain-tip : (rule : Rule) (b : Problem) (prefix : List ℕ) (tree : Tree Tip) (at : List ℕ) (told : Told) → PlainHolds b at told → TipHolds rule b prefix tree at (tip_of b at told)
-plain-tip rule b prefix tree at (ToldLeaf value) h = refl
-plain-tip rule b prefix tree at (ToldFrontier value) h = h.1
-plain-tip rule b prefix tree at (ToldPassed value name) h = absurd h
-
-plain-named : (rule : Rule) (b : Problem) (nodes : List Node) (at : List ℕ) (told : Told) → PlainHolds b at told → TipIsNamed rule nodes at (tip_of b at told)
-plain-named rule b nodes at (ToldLeaf value) h = tt
-plain-named rule b nodes at (ToldFrontier value) h = tt
-plain-named rule b nodes at (ToldPassed value name) h = absurd h
 
 -- THE TREE OF TIPS
 
@@ -190,17 +175,6 @@ opened-timed p h = by p.timed h
     by None h = sym same ∙ h
     by (Some timed) h = (h.0, (subst (Among timed.numbers) same h.1.0, λ other among. h.1.1 other (subst (Among other) (sym same) among)))
 
--- a plain piece is one by any rule, and names nothing
-pub plain-piece : (rule : Rule) (p : PieceOf) → IsPlain p → IsPiece rule p.problem p.prefix (tree_of p)
-plain-piece rule p plain =
-    seen-holds (tip_of p.problem) p.problem.block (TipHolds rule p.problem p.prefix (tree_of p)) (told_tree p) p.prefix
-    (tree-weaken p.problem.block (PlainHolds p.problem) (λ at told. TipHolds rule p.problem p.prefix (tree_of p) at (tip_of p.problem at told)) (plain-tip rule p.problem p.prefix (tree_of p)) (told_tree p) p.prefix plain)
-
-pub plain-are-named : (rule : Rule) (p : PieceOf) (nodes : List Node) → IsPlain p → AreNamed rule p.problem nodes p.prefix (tree_of p)
-plain-are-named rule p nodes plain =
-    seen-holds (tip_of p.problem) p.problem.block (TipIsNamed rule nodes) (told_tree p) p.prefix
-    (tree-weaken p.problem.block (PlainHolds p.problem) (λ at told. TipIsNamed rule nodes at (tip_of p.problem at told)) (plain-named rule p.problem nodes) (told_tree p) p.prefix plain)
-
 -- THE LINES as code keeps them
 
 pub opened-lines : (knots : List code.Knot) (p : PieceOf) → seen knots ≡ p.knots → open_lines knots ≡ (opened p).knots
@@ -210,22 +184,20 @@ opened-lines knots p is = by knots ∙ ap (map open_line) is
     by [] = refl
     by (k ∷ ks) = ap (λ xs. open_knot k ∷ xs) (by ks)
 
--- no names come beside them
-nameless : (bytes : List ℕ) (knots : List (Knot Told)) → told_lines bytes (map line_name (map open_line knots)) ≡ told_lines bytes []
-nameless [] knots = refl
-nameless (byte ∷ bytes) [] = refl
-nameless (byte ∷ bytes) (AtSplit numbers ∷ knots) = ap (λ xs. told_line byte [] ∷ xs) (nameless bytes knots)
-nameless (byte ∷ bytes) (AtTip (ToldLeaf value) ∷ knots) = ap (λ xs. told_line byte [] ∷ xs) (nameless bytes knots)
-nameless (byte ∷ bytes) (AtTip (ToldFrontier value) ∷ knots) = ap (λ xs. told_line byte [] ∷ xs) (nameless bytes knots)
-nameless (byte ∷ bytes) (AtTip (ToldPassed value name) ∷ knots) = ap (λ xs. told_line byte [] ∷ xs) (nameless bytes knots)
+-- what is opened has no name
+pub open-nameless : (k : Knot Told) → line_name (open_line k) ≡ []
+open-nameless (AtSplit numbers) = refl
+open-nameless (AtTip (ToldLeaf value)) = refl
+open-nameless (AtTip (ToldFrontier value)) = refl
+open-nameless (AtTip (ToldPassed value name)) = refl
 
-pub opened-outline : (p : PieceOf) → IsPlain (opened p) → IsOutlineOf (opened p) (outline_of (opened p)) []
-opened-outline p plain =
-    let q = opened p in
-    let depth = length q.prefix in
-    let of = outline-holds q (PlainHolds q.problem) plain in
-    let lines = nameless (drop depth (outline_of q)) p.knots in
-    (of.0, ap (λ ks. with_ready q.problem (outline_prefix depth (outline_of q)) (read_tree StaysOpen ks)) (sym lines) ∙ of.1)
+-- nor has the root a name
+pub opened-nameless : (p : PieceOf) → 0 < length p.knots → take 1 (names_of (opened p)) ≡ [] ∷ []
+opened-nameless p some = by p.knots some
+  where
+    by : (ks : List (Knot Told)) → 0 < length ks → take 1 (map line_name (map open_line ks)) ≡ [] ∷ []
+    by [] lt = absurd (omega arith)
+    by (k ∷ ks) lt = ap (λ name. name ∷ []) (open-nameless k)
 
 pub opened-length : (p : PieceOf) → length (opened p).knots ≡ length p.knots
 opened-length p = length-map p.knots open_line

@@ -7,12 +7,11 @@ use Rattle.s66_model.specs.Ledger as model
 use Rattle.s66_model.specs.Ledger.{kid_nodes, root_state, new_nodes}
 use Rattle.s66_node.specs.declared.knot.Knot as code
 use Rattle.s66_model.specs.Told.{Told, ToldLeaf, ToldFrontier, ToldPassed, tip_of, tree_seen}
-use Rattle.s66_node.specs.SeenKnots.{seen_knot, seen}
 use Rattle.s66_ledger.specs.declared.node.Node.{Node}
 use Rattle.s66_ledger.specs.declared.node.State.{State}
 use Rattle.s66_ledger.specs.declared.node.State.TheVariants as state
-use Rattle.s66_ledger.specs.Opened.{open_told, open_line, opened, PlainHolds, open_knot, open_lines}
-use Rattle.s66_ledger.specs.Nodes.{prefixes, seen_state, nodes_of, node_at, no_node, with_state, is_open_state}
+use Rattle.s66_ledger.specs.Opened.{PlainHolds, open_knot, open_lines}
+use Rattle.s66_ledger.specs.Nodes.{prefixes, name_at, seen_state, nodes_of, node_at, no_node, with_state, is_open_state}
 use Rattle.s66_ledger.specs.Planting.{kids_of, told_state}
 use Rattle.s66_ledger.proofs.SeenNodes.{nodes-set, nodes-state, length-nodes, at-nodes}
 use Rattle.s66_ledger.proofs.Reading.{told-seen, line-at, length-seen}
@@ -26,7 +25,7 @@ with_state-front (x ∷ xs) ys (suc i) s lt = ap (λ (zs : List model.Node). x �
 
 -- A TREE BY ITS FIRST LINE
 
-parted : (tree : Tree Told) (numbers : List ℕ) (rest : List (Knot Told)) → flat tree ≡ AtSplit numbers ∷ rest → tree ≡ Parted numbers (kids_of tree)
+pub parted : (tree : Tree Told) (numbers : List ℕ) (rest : List (Knot Told)) → flat tree ≡ AtSplit numbers ∷ rest → tree ≡ Parted numbers (kids_of tree)
 parted (Alone t) numbers rest e = absurd cc
 parted (Parted ns kids) numbers rest e = let first : ns ≡ numbers = cc in ap (λ ms. Parted ms kids) first
 
@@ -34,7 +33,7 @@ alone : (tree : Tree Told) (t : Told) (rest : List (Knot Told)) → flat tree �
 alone (Alone u) t rest e = let first : u ≡ t = cc in ap Alone first
 alone (Parted ns kids) t rest e = absurd cc
 
-some-flat : (tree : Tree Told) → 0 < length (flat tree)
+pub some-flat : (tree : Tree Told) → 0 < length (flat tree)
 some-flat (Alone u) = omega arith
 some-flat (Parted ns kids) = omega arith
 
@@ -65,7 +64,7 @@ module _ (b : Problem) (best root : ℕ) (at : List ℕ) (tree : Tree Told) wher
   split-nodes made all numbers lt longer e is =
       let seen = tree_seen (tip_of b) at tree in
       let cut : root_state b best at seen ≡ model.Cut = ap (λ (t : Tree Told). root_state b best at (tree_seen (tip_of b) at t)) is in
-      nodes-state b all root state.Split model.Cut (omega (arith, lt, longer)) (λ path. refl)
+      nodes-state b all root state.Split model.Cut (omega (arith, lt, longer)) (λ name path. refl)
       ∙ (ap (λ (ns : List model.Node). model.with_state ns root model.Cut) e
       ∙ (with_state-front (nodes_of b made) (new_nodes b best at seen) root model.Cut (omega (arith, lt, length-nodes b made))
       ∙ ap (λ (s : model.State). model.with_state (nodes_of b made) root s ++ new_nodes b best at seen) (sym cut)))
@@ -77,9 +76,9 @@ module _ (b : Problem) (best root : ℕ) (at : List ℕ) (tree : Tree Told) wher
       let path : (model.node_at (nodes_of b old) root).prefix ≡ at = ap (λ (n : model.Node). n.prefix) (at-nodes b old root lt) ∙ over in
       let one : nodes_of b (with_state old root s) ≡ model.with_state (nodes_of b old) root (model.state_of b best at (tip_of b at t)) ++ [] =
       nodes-set b old root (record (node_at old root) { state = s }) no_node lt refl refl
-      ∙ (ap (λ u. model.with_state (nodes_of b old) root (seen_state b (model.node_at (nodes_of b old) root).prefix u)) g
-      ∙ (ap (λ p. model.with_state (nodes_of b old) root (seen_state b p (told_state best t))) path
-      ∙ (ap (model.with_state (nodes_of b old) root) (told-seen b best at t told)
+      ∙ (ap (λ u. model.with_state (nodes_of b old) root (seen_state b (name_at old root) (model.node_at (nodes_of b old) root).prefix u)) g
+      ∙ (ap (λ p. model.with_state (nodes_of b old) root (seen_state b (name_at old root) p (told_state best t))) path
+      ∙ (ap (model.with_state (nodes_of b old) root) (told-seen b best (name_at old root) at t told)
       ∙ sym (append-nil (model.with_state (nodes_of b old) root (model.state_of b best at (tip_of b at t))))))) in
       subst (λ (t : Tree Told). Planted old (with_state old root s) t) (sym is) one
 

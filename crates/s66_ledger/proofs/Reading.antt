@@ -1,5 +1,5 @@
 -- A piece's lines are read in preorder and become nodes.
-use Rattle.std.proofs.Common.{ℕ, zero, suc, ◌+◌, ◌-◌, ◌≤◌, ◌<◌, ◌≡◌, ◌≢◌, Bool, true, false, cond, drop, List, [], ◌∷◌, ◌++◌, length, get_or, map, reverse, refl, sym, ap, arith, leb, ◌∙◌, length-append, append_assoc, subst}
+use Rattle.std.proofs.Common.{ℕ, zero, suc, ◌+◌, ◌-◌, ◌≤◌, ◌<◌, ◌≡◌, ◌≢◌, Bool, true, false, true≢false, cond, drop, List, [], ◌∷◌, ◌++◌, length, get_or, map, reverse, refl, sym, ap, arith, leb, ◌∙◌, length-append, append_assoc, subst}
 use Rattle.std.proofs.lemmas.List.{append-nil, reverse-append, length-take, length-map}
 use Rattle.s66_model.specs.Timing.{Problem}
 use Rattle.s66_model.specs.Leaves.{floor, floor_value}
@@ -13,7 +13,6 @@ use Rattle.s66_dep.specs.Members.{numbers_in}
 use Rattle.s66_node.specs.declared.knot.Knot as code
 use Rattle.s66_node.specs.declared.knot.Knot.TheVariants as line
 use Rattle.s66_model.specs.Told.{Told, ToldLeaf, ToldFrontier, ToldPassed, tip_of, kids_seen}
-use Rattle.s66_node.specs.SeenKnots.{seen_knot, seen}
 use Rattle.s66_node.specs.Walked.{front}
 use Rattle.s66_node.specs.Growing.{flat_rests}
 use Rattle.s66_node.proofs.Growing.{front-push}
@@ -21,8 +20,8 @@ use Rattle.s66_ledger.specs.declared.node.Node.{Node}
 use Rattle.s66_ledger.specs.declared.node.State.{State}
 use Rattle.s66_ledger.specs.declared.node.State.TheVariants as state
 use Rattle.s66_ledger.specs.declared.subtree.Place.{Place}
-use Rattle.s66_ledger.specs.Opened.{open_told, open_line, opened, PlainHolds, open_knot, open_lines}
-use Rattle.s66_ledger.specs.Nodes.{prefixes, seen_state, nodes_of, HaveFloors}
+use Rattle.s66_ledger.specs.Opened.{PlainHolds, open_knot, open_lines}
+use Rattle.s66_ledger.specs.Nodes.{prefixes, seen_state, nodes_of, HaveFloors, has_floor}
 use Rattle.s66_ledger.specs.Planting.{kids_of, knot_value, made_state, told_state, told_value, RestsHold, rest_nodes, place_lefts, PlacesStand, IsReading}
 use Rattle.s66_ledger.specs.Subtrees.{settled_state}
 use Rattle.s66_ledger.proofs.NodePrefixes.{get_or-front, get_or-last, length-prefixes, prefixes-push}
@@ -75,14 +74,14 @@ read-split b best at ns numbers n above (Split ms sub kids ∷ rests) later h e 
 
 -- THE TURNS of the reading
 
-told-either : (b : Problem) (at : List ℕ) (t : Bool) → seen_state b at (cond t state.Closed state.Open) ≡ cond t (model.Closed (Bounding (floor b at))) model.Open
-told-either b at true = refl
-told-either b at false = refl
+told-either : (b : Problem) (name at : List ℕ) (t : Bool) → seen_state b name at (cond t state.Closed state.Open) ≡ cond t (model.Closed (Bounding (floor b at))) model.Open
+told-either b name at true = refl
+told-either b name at false = refl
 
-pub told-seen : (b : Problem) (best : ℕ) (at : List ℕ) (t : Told) → PlainHolds b at t → seen_state b at (told_state best t) ≡ model.state_of b best at (tip_of b at t)
-told-seen b best at (ToldLeaf v) h = ap (λ v. seen_state b at (cond (leb best v) state.Closed state.Open)) h ∙ told-either b at (leb best (floor_value b at))
-told-seen b best at (ToldFrontier v) h = refl
-told-seen b best at (ToldPassed v name) h = absurd h
+pub told-seen : (b : Problem) (best : ℕ) (name at : List ℕ) (t : Told) → PlainHolds b at t → seen_state b name at (told_state best t) ≡ model.state_of b best at (tip_of b at t)
+told-seen b best name at (ToldLeaf v) h = ap (λ v. seen_state b name at (cond (leb best v) state.Closed state.Open)) h ∙ told-either b name at (leb best (floor_value b at))
+told-seen b best name at (ToldFrontier v) h = refl
+told-seen b best other at (ToldPassed v name) h = absurd h
 
 pub told-floor : (b : Problem) (at : List ℕ) (t : Told) → PlainHolds b at t → told_value t ≡ floor_value b at
 told-floor b at (ToldLeaf v) h = h
@@ -154,10 +153,11 @@ module _ (b : Problem) (best : ℕ) (total : List model.Node) (at : List ℕ) (o
       let (rests, h, e, tot) = turned (n ∷ numbers_in p2.left) is in
       let (rests2, h2, e2, holds, nodes) = read-tip b best at (numbers_in p2.left) n (place_lefts ps) rests t after h (e ∙ first) in
       let there = at ++ n ∷ [] in
+      let name = get_or (prefixes made) x.value [] in
       let node : nodes_of b (made ++ x ∷ []) ≡ nodes_of b made ++ record { prefix = there; state = model.state_of b best there (tip_of b there t) } ∷ [] =
       nodes-push b made x at reading.some (ap (λ i. get_or (prefixes made) i []) parent ∙ stands.1)
-      ∙ (ap (λ k. nodes_of b made ++ record { prefix = at ++ k ∷ []; state = seen_state b (at ++ k ∷ []) x.state } ∷ []) number
-      ∙ ap (λ s. nodes_of b made ++ record { prefix = there; state = s } ∷ []) (ap (seen_state b there) tagged ∙ told-seen b best there t holds)) in
+      ∙ (ap (λ k. nodes_of b made ++ record { prefix = at ++ k ∷ []; state = seen_state b name (at ++ k ∷ []) x.state } ∷ []) number
+      ∙ ap (λ s. nodes_of b made ++ record { prefix = there; state = s } ∷ []) (ap (seen_state b name there) tagged ∙ told-seen b best name there t holds)) in
       let frames : place_lefts (ps ++ p2 ∷ []) ≡ numbers_in p2.left ∷ place_lefts ps = place_lefts-push ps p2 in
       let all : nodes_of b (made ++ x ∷ []) ++ rest_nodes b best at (numbers_in p2.left ∷ place_lefts ps) rests2 ≡ total =
       ap (λ ns. ns ++ rest_nodes b best at (numbers_in p2.left ∷ place_lefts ps) rests2) node
@@ -191,12 +191,13 @@ module _ (b : Problem) (best : ℕ) (total : List model.Node) (at : List ℕ) (o
       let (rests, h, e, tot) = turned (n ∷ numbers_in p2.left) is in
       let (rests2, h2, e2, part, nodes) = read-split b best at (numbers_in p2.left) numbers n (place_lefts ps) rests after h (e ∙ first) in
       let there = at ++ n ∷ [] in
+      let name = get_or (prefixes made) x.value [] in
       let path = get_or (prefixes made) x.parent [] ++ x.number ∷ [] in
       let path_is : path ≡ there = ap (λ a. a ++ x.number ∷ []) (ap (λ i. get_or (prefixes made) i []) parent ∙ stands.1) ∙ ap (λ k. at ++ k ∷ []) number in
       let node : nodes_of b (made ++ x ∷ []) ≡ nodes_of b made ++ record { prefix = there; state = model.Cut } ∷ [] =
       nodes-push b made x at reading.some (ap (λ i. get_or (prefixes made) i []) parent ∙ stands.1)
-      ∙ (ap (λ k. nodes_of b made ++ record { prefix = at ++ k ∷ []; state = seen_state b (at ++ k ∷ []) x.state } ∷ []) number
-      ∙ ap (λ s. nodes_of b made ++ record { prefix = there; state = s } ∷ []) (ap (seen_state b there) tagged)) in
+      ∙ (ap (λ k. nodes_of b made ++ record { prefix = at ++ k ∷ []; state = seen_state b name (at ++ k ∷ []) x.state } ∷ []) number
+      ∙ ap (λ s. nodes_of b made ++ record { prefix = there; state = s } ∷ []) (ap (seen_state b name there) tagged)) in
       let all_places : new ≡ (ps ++ p2 ∷ []) ++ p3 ∷ [] = pushed ∙ ap (λ x2. x2 ++ p3 ∷ []) put_place in
       let frames : place_lefts ((ps ++ p2 ∷ []) ++ p3 ∷ []) ≡ numbers ∷ (numbers_in p2.left ∷ place_lefts ps) = place_lefts-push (ps ++ p2 ∷ []) p3 ∙ (ap (λ ns. ns ∷ place_lefts (ps ++ p2 ∷ [])) left ∙ ap (λ ns. numbers ∷ ns) (place_lefts-push ps p2)) in
       let all : nodes_of b (made ++ x ∷ []) ++ rest_nodes b best there (numbers ∷ (numbers_in p2.left ∷ place_lefts ps)) rests2 ≡ total =
@@ -218,7 +219,7 @@ module _ (b : Problem) (best : ℕ) (total : List model.Node) (at : List ℕ) (o
         part = part;
         stands = rw (prefixes_are, turned_places) standing;
         some = omega (arith, length-append made (x ∷ []));
-        floors = floors-push b made x reading.some reading.floors (λ live. absurd (live tagged));
+        floors = floors-push b made x reading.some reading.floors (λ kept. absurd (true≢false (sym kept ∙ ap has_floor tagged)));
         rests = (rests2, rw frames h2, e2, rw frames all);
       })
 

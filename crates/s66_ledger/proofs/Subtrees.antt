@@ -4,18 +4,17 @@ use Rattle.std.proofs.lemmas.List.{append-nil, length-map, length-take, map-appe
 use Rattle.s66_model.specs.Tree.{Tree, Alone, Parted, Knot, AtTip, AtSplit, TreeHolds, flat_kids}
 use Rattle.s66_model.specs.Ledger as model
 use Rattle.s66_model.specs.Ledger.{kid_nodes, new_nodes}
-use Rattle.s66_model.specs.Told.{Told, ToldLeaf, ToldFrontier, ToldPassed, tip_of, kids_seen, tree_told}
+use Rattle.s66_model.specs.Told.{Told, ToldLeaf, ToldFrontier, tip_of, kids_seen, tree_told}
 use Rattle.s66_dep.specs.declared.set.Set.{Set}
 use Rattle.s66_dep.specs.Members.{numbers_in}
 use Rattle.s66_node.specs.declared.knot.Knot as code
 use Rattle.s66_node.specs.declared.knot.Knot.TheVariants as line
 use Rattle.s66_node.specs.Pieces.{PieceOf, told_tree}
 use Rattle.s66_node.specs.Outlines.{line_byte}
-use Rattle.s66_node.specs.SeenKnots.{seen_knot}
 use Rattle.s66_node.specs.Walked.{front}
 use Rattle.s66_ledger.specs.declared.node.Node.{Node}
 use Rattle.s66_ledger.specs.declared.subtree.Place.{Place}
-use Rattle.s66_ledger.specs.Opened.{open_told, open_line, opened, PlainHolds, open_knot, open_lines}
+use Rattle.s66_ledger.specs.Opened.{PlainHolds, open_knot}
 use Rattle.s66_ledger.specs.Nodes.{prefixes, nodes_of, node_at, lines_of, HaveDepths}
 use Rattle.s66_ledger.specs.Planting.{kids_of, knot_value, made_state, told_state, told_value, IsReading}
 use Rattle.s66_ledger.specs.Subtrees.{placed_parent, placed, settled_state, settled, planted, lines_below, CanBeOver, IsPlanted, IsSubtreeOf}
@@ -41,17 +40,6 @@ length-planted best root made nodes =
 
 shifted-push : (root first : ℕ) (old ps : List Place) (q : Place) → old ≡ ps ++ q ∷ [] → map (shifted root first) old ≡ map (shifted root first) ps ++ shifted root first q ∷ []
 shifted-push root first old ps q is = ap (map (shifted root first)) is ∙ map-append (shifted root first) ps (q ∷ [])
-
--- those that are planted keep their lines
-pub lines-planted : (best root : ℕ) (made nodes : List Node) → lines_of (planted best root made nodes) ≡ lines_of made ++ lines_of nodes
-lines-planted best root made nodes =
-    let line = λ (n : Node). n.line in
-    map-append line made (map (placed root (length made)) (map (settled best) nodes))
-    ∙ ap (λ lines. lines_of made ++ lines) (lines-placed root (length made) best nodes)
-  where
-    lines-placed : (root first best : ℕ) (nodes : List Node) → lines_of (map (placed root first) (map (settled best) nodes)) ≡ lines_of nodes
-    lines-placed root first best [] = refl
-    lines-placed root first best (x ∷ xs) = ap (λ lines. x.line ∷ lines) (lines-placed root first best xs)
 
 tip-told : (best : ℕ) (k : code.Knot) (t : Told) → open_knot k ≡ AtTip t → (knot_state best k ≡ told_state best t) × (knot_value k ≡ told_value t)
 tip-told best (line.Split numbers) t e = absurd cc

@@ -1,5 +1,5 @@
 -- A ledger's whole orders are offered, one after the other, until none that is below the best is open or out.
-use Rattle.std.proofs.Common.{ℕ, ◌+◌, ◌≤◌, ◌<◌, ◌≡◌, ◌≢◌, Bool, true, true≢false, List, [], length, get_or, refl, sym, ap, arith, inl, inr, subst, ◌∙◌}
+use Rattle.std.proofs.Common.{ℕ, ◌+◌, ◌≤◌, ◌<◌, ◌≡◌, Bool, true, true≢false, List, [], length, get_or, refl, sym, ap, arith, inl, inr, subst, ◌∙◌}
 use Rattle.std.proofs.lemmas.Bool.{cases_eq}
 use Rattle.s66_isa.specs.declared.instr.Instr.{Instr}
 use Rattle.s66_isa.proofs.Lists.{cases_le}
@@ -17,7 +17,7 @@ use Rattle.s66_ledger.specs.declared.reply.Offered.{Offered}
 use Rattle.s66_ledger.specs.declared.reply.Offered.TheVariants as offered
 use Rattle.s66_ledger.specs.Finishing.{WholesAreTimed, IsTimedAt, IsOffering, IsTiming}
 use Rattle.s66_ledger.specs.LedgerMachine.{MachineOf, IsMove, IsKept, machine_of, state_of}
-use Rattle.s66_ledger.specs.Nodes.{prefixes, node_at, nodes_of, seen_state, is_live_state}
+use Rattle.s66_ledger.specs.Nodes.{prefixes, name_at, node_at, nodes_of, seen_state, has_floor, is_live_state}
 use Rattle.s66_ledger.specs.declared.node.Node.{Node}
 use Rattle.s66_ledger.specs.declared.node.State.{State}
 use Rattle.s66_ledger.specs.declared.node.State.TheVariants as state
@@ -73,14 +73,19 @@ timed-now old new w i timed answer is (event, (own, iff, told), h) =
 
 -- WHAT IS NOT OFFERED
 
-live-seen : (b : Problem) (at : List ℕ) (s : State) → model.is_live_state (seen_state b at s) ≡ is_live_state s
-live-seen b at state.Open = refl
-live-seen b at state.Out = refl
-live-seen b at state.Closed = refl
-live-seen b at state.Split = refl
+live-seen : (b : Problem) (name at : List ℕ) (s : State) → model.is_live_state (seen_state b name at s) ≡ is_live_state s
+live-seen b name at state.Open = refl
+live-seen b name at state.Out = refl
+live-seen b name at state.Closed = refl
+live-seen b name at state.Split = refl
+live-seen b name at state.Dominated = refl
 
-live-uncut : (s : State) → is_live_state s ≡ true → s ≢ state.Split
-live-uncut s live cut = true≢false (sym live ∙ ap is_live_state cut)
+live-floor : (s : State) → is_live_state s ≡ true → has_floor s ≡ true
+live-floor state.Open live = refl
+live-floor state.Out live = refl
+live-floor state.Closed live = refl
+live-floor state.Split live = absurd cc
+live-floor state.Dominated live = absurd cc
 
 -- a node that is open or out, and isn't below the best
 pub not-below : (rule : Rule) (b : Problem) (budget : ℕ) (nodes : List Node) (best : TimedOrder) (left : ℕ) (allowances : List ℕ) (spent : ℕ) → IsKept rule b budget nodes best left allowances spent → (l : MachineOf) → machine_of rule b budget nodes best.numbers left allowances spent ≡ l → (i time : ℕ) → i < length nodes → time ≡ total_of best.problem best.numbers → ¬ ((is_live_state (node_at nodes i).state ≡ true) × ((node_at nodes i).value < time)) → is_live (model.node_at l.state.nodes i) ≡ true → best_time l.problem l.state ≤ floor_value l.problem (model.node_at l.state.nodes i).prefix
@@ -90,10 +95,10 @@ not-below rule b budget nodes best left allowances spent h l is i time lt total 
     subst (λ (l : MachineOf). is_live (model.node_at l.state.nodes i) ≡ true → best_time l.problem l.state ≤ floor_value l.problem (model.node_at l.state.nodes i).prefix) is
     (subst (λ (n : model.Node). is_live n ≡ true → total_of b best.numbers ≤ floor_value b n.prefix) (sym (at-nodes b nodes i lt))
     (λ live.
-    let here : is_live_state s ≡ true = sym (live-seen b at s) ∙ live in
+    let here : is_live_state s ≡ true = sym (live-seen b (name_at nodes i) at s) ∙ live in
     elim (cases_le time (node_at nodes i).value) [
       | inr below ↦ absurd (never (here, below))
-      | inl ge ↦ omega (arith, ge, total, ap (λ p. total_of p best.numbers) h.own, h.floors i lt (live-uncut s here))
+      | inl ge ↦ omega (arith, ge, total, ap (λ p. total_of p best.numbers) h.own, h.floors i lt (live-floor s here))
     ]))
 
 -- no node that is open or out has a whole order
@@ -105,4 +110,4 @@ none-whole b nodes best left allowances spent short = all-timed b (state_of b no
         let within : i < length nodes = omega (arith, lt, length-nodes b nodes) in
         let at = get_or (prefixes nodes) i [] in
         let is = at-nodes b nodes i within in
-        absurd (omega (arith, short i within (sym (live-seen b at (node_at nodes i).state) ∙ (sym (ap is_live is) ∙ live)), whole, ap (λ (n : model.Node). length n.prefix) is))
+        absurd (omega (arith, short i within (sym (live-seen b (name_at nodes i) at (node_at nodes i).state) ∙ (sym (ap is_live is) ∙ live)), whole, ap (λ (n : model.Node). length n.prefix) is))

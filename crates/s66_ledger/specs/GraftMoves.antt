@@ -1,13 +1,17 @@
 -- Used by contracts within the crate alone: what a graft at a node is in the machine, also where it is refused.
-use Rattle.std.specs.Prelude.{ℕ, ◌≡◌, true, Some}
-use Rattle.s66_model.specs.Tree.{splits}
+use Rattle.std.specs.Prelude.{ℕ, ◌≡◌, ◌++◌, true, List, length, take, drop, Some}
+use Rattle.s66_model.specs.Tree.{Knot, splits}
+use Rattle.s66_model.specs.Told.{Told}
 use Rattle.s66_model.specs.Ledger as model
 use Rattle.s66_model.specs.Ledger.{Event, Reply}
-use Rattle.s66_model.specs.Recorded.{IsGraftOf}
+use Rattle.s66_model.specs.Recorded.{IsGraftOf, TreeOpens}
 use Rattle.s66_node.specs.Pieces.{PieceOf, tree_of}
 use Rattle.s66_ledger.specs.declared.reply.GraftError.{GraftError}
 use Rattle.s66_ledger.specs.declared.reply.GraftError.TheVariants as refused
-use Rattle.s66_ledger.specs.Opened.{opened}
+use Rattle.s66_node.specs.Outlines.{outline_of, names_of, IsOutlineOf}
+use Rattle.s66_ledger.specs.DominatedNodes.{names_in}
+use Rattle.s66_ledger.specs.Subtrees.{lines_below}
+use Rattle.s66_ledger.specs.Opened.{opened, with_lines}
 use Rattle.s66_ledger.specs.LedgerMachine.{MachineOf, IsMove}
 
 -- the move of worker w's graft of this piece at a node, with this reply
@@ -15,15 +19,23 @@ abbrev pub IsGraftMove : MachineOf → (w node : ℕ) → PieceOf → Reply → 
 IsGraftMove old w node piece reply new =
     (event : Event) × IsGraftOf old.rule old.problem w node piece.rule piece.problem piece.prefix (tree_of piece) reply event × IsMove old event reply new
 
--- all dominated prefixes of the piece are put into the frontier
-abbrev pub taken_event : (w node : ℕ) → PieceOf → Event
-taken_event w node piece = model.Graft w node true piece.prefix (splits (tree_of (opened piece))) (Some (tree_of (opened piece)))
+-- it is taken as it is with these lines
+abbrev pub taken_event : (w node : ℕ) → PieceOf → List (Knot Told) → Event
+taken_event w node piece lines = model.Graft w node true piece.prefix (splits (tree_of (with_lines piece lines))) (Some (tree_of (with_lines piece lines)))
 
--- and so it is taken
 pub record IsTakenMove (old : MachineOf) (w node : ℕ) (piece : PieceOf) (new : MachineOf) : Type 0 where
   pub rule : piece.rule ≡ old.rule
   pub problem : piece.problem ≡ old.problem
-  pub move : IsMove old (taken_event w node piece) model.Taken new
+  -- its lines, some dominated prefixes put into the frontier, and the root's if it is dominated
+  pub taken : List (Knot Told)
+  pub count : length taken ≡ length piece.knots
+  pub root : take 1 taken ≡ take 1 (opened piece).knots
+  pub opens : TreeOpens (tree_of piece) (tree_of (with_lines piece taken))
+  pub outline : IsOutlineOf (with_lines piece taken) (outline_of (with_lines piece taken)) (names_of (with_lines piece taken))
+  -- the new nodes have the lines' bytes and names
+  pub lines : new.lines ≡ old.lines ++ lines_below (with_lines piece taken)
+  pub names : names_in new.state.nodes ≡ names_in old.state.nodes ++ drop 1 (names_of (with_lines piece taken))
+  pub move : IsMove old (taken_event w node piece taken) model.Taken new
 
 -- a refusal is a reply of the machine, but for want of memory, which is no move
 abbrev pub IsRefusedMove : MachineOf → (w node : ℕ) → PieceOf → GraftError → MachineOf → Type 0

@@ -42,20 +42,20 @@ line_count (entry.Offer _ _ _ _ _) = 0
 line_count (entry.Back _ _ _) = 0
 line_count (entry.Retire _) = 0
 
--- of a ledger of this problem, by the entry, its own bytes, and those of the lines that it made nodes of; the bytes of a piece that was taken end with its root's line
-abbrev pub entry_of : Problem → Entry → List ℕ → List ℕ → Event × Reply
-entry_of b (entry.Grant w splits) own_bytes own_lines = (model.Grant w, Granted splits)
-entry_of b (entry.Claim w node) own_bytes own_lines = (model.Claim w, Claimed node)
-entry_of b (entry.Taken w node depth lines splits) own_bytes own_lines =
+-- of a ledger of this problem, by the entry, its own bytes, those of the lines that it made nodes of, and these lines' names; the bytes of a piece that was taken end with its root's line, which has no name
+abbrev pub entry_of : Problem → Entry → List ℕ → List ℕ → List (List ℕ) → Event × Reply
+entry_of b (entry.Grant w splits) own_bytes own_lines own_names = (model.Grant w, Granted splits)
+entry_of b (entry.Claim w node) own_bytes own_lines own_names = (model.Claim w, Claimed node)
+entry_of b (entry.Taken w node depth lines splits) own_bytes own_lines own_names =
     let outline = own_bytes ++ own_lines in
-    (model.Graft w node true (outline_prefix depth outline) splits (Some (outline_tree b depth outline [])), Taken)
-entry_of b (entry.Refused w node own depth splits why) own_bytes own_lines = (model.Graft w node own own_bytes splits None, refusal_reply why)
-entry_of b (entry.Offer w own count time offered) own_bytes own_lines = (model.Offer w own own_bytes time, offered_reply offered)
-entry_of b (entry.Back w node returned) own_bytes own_lines = (model.Back w node, if returned then Returned else NotOut)
-entry_of b (entry.Retire w) own_bytes own_lines = (model.Retire w, Retired)
+    (model.Graft w node true (outline_prefix depth outline) splits (Some (outline_tree b depth outline ([] ∷ own_names))), Taken)
+entry_of b (entry.Refused w node own depth splits why) own_bytes own_lines own_names = (model.Graft w node own own_bytes splits None, refusal_reply why)
+entry_of b (entry.Offer w own count time offered) own_bytes own_lines own_names = (model.Offer w own own_bytes time, offered_reply offered)
+entry_of b (entry.Back w node returned) own_bytes own_lines own_names = (model.Back w node, if returned then Returned else NotOut)
+entry_of b (entry.Retire w) own_bytes own_lines own_names = (model.Retire w, Retired)
 
--- of entries, where the bytes of one come after those of the entries before it, and so do its lines
-abbrev pub entries_of : Problem → List Entry → List ℕ → List ℕ → List (Event × Reply)
-entries_of b [] bytes lines = []
-entries_of b (e ∷ es) bytes lines =
-    entry_of b e (take (byte_count e) bytes) (take (line_count e) lines) ∷ entries_of b es (drop (byte_count e) bytes) (drop (line_count e) lines)
+-- of entries, where the bytes of one come after those of the entries before it, and so do its lines and their names
+abbrev pub entries_of : Problem → List Entry → List ℕ → List ℕ → List (List ℕ) → List (Event × Reply)
+entries_of b [] bytes lines names = []
+entries_of b (e ∷ es) bytes lines names =
+    entry_of b e (take (byte_count e) bytes) (take (line_count e) lines) (take (line_count e) names) ∷ entries_of b es (drop (byte_count e) bytes) (drop (line_count e) lines) (drop (line_count e) names)

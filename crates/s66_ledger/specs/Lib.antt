@@ -1,5 +1,7 @@
 pub mod Answers
 pub mod ClaimedNodes
+pub mod Closing
+pub mod DominatedNodes
 pub mod AnswerLines
 pub mod HistoryEntries
 pub mod Finishing

@@ -1,5 +1,5 @@
 -- Used by contracts: a piece with its dominated prefixes put into the frontier.
-use Rattle.std.specs.Prelude.{ℕ, ◌≡◌, List, map}
+use Rattle.std.specs.Prelude.{ℕ, ◌≡◌, ◌⊎◌, List, [], ◌∷◌, map}
 use Rattle.s66_model.specs.Timing.{Problem}
 use Rattle.s66_model.specs.LegalOrder.{IsIncomplete}
 use Rattle.s66_model.specs.Leaves.{floor_value}
@@ -20,6 +20,17 @@ open_line (AtTip told) = AtTip (open_told told)
 
 abbrev pub opened : PieceOf → PieceOf
 opened p = record p { knots = map open_line p.knots }
+
+-- the piece with other lines
+abbrev pub with_lines : PieceOf → List (Knot Told) → PieceOf
+with_lines p lines = record p { knots = lines }
+
+-- each line is taken as it is, or is put into the frontier if its prefix is dominated
+abbrev pub LinesOpen : (lines taken : List (Knot Told)) → Type 0
+LinesOpen [] [] = Unit {0}
+LinesOpen (k ∷ ks) (t ∷ ts) = ((t ≡ k) ⊎ (t ≡ open_line k)) × LinesOpen ks ts
+LinesOpen [] (t ∷ ts) = ⊥
+LinesOpen (k ∷ ks) [] = ⊥
 
 -- a value is the floor's, no complete prefix is in the frontier, and none is dominated
 abbrev pub PlainHolds : Problem → List ℕ → Told → Type 0

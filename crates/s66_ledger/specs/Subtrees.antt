@@ -23,6 +23,7 @@ settled_state best value state.Open = state.Open
 settled_state best value state.Out = state.Open
 settled_state best value state.Closed = if nat_le best value then state.Closed else state.Open
 settled_state best value state.Split = state.Split
+settled_state best value state.Dominated = state.Open
 
 abbrev pub settled : ℕ → Node → Node
 settled best node = record node { state = settled_state best node.value node.state }

@@ -20,7 +20,8 @@ pub enum Entry {
         node: Option<u32>,
     },
     /// A piece of so many splits was put in the place of the node. The bytes are the `depth` numbers of its prefix and the byte of its
-    /// root's line; those of so many lines below are in the nodes that the piece became, one in each.
+    /// root's line; those of so many lines below are in the nodes that the piece became, one in each, and so are the names of
+    /// dominated ones.
     Taken {
         w: u8,
         node: u32,

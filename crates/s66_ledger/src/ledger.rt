@@ -1,5 +1,4 @@
-ghost use Rattle.std.specs.Prelude.{[], ◌≡◌, ◌++◌, OnOk, OnErr};
-ghost use Rattle.s66_node.specs.Outlines.{outline_of, IsOutlineOf};
+ghost use Rattle.std.specs.Prelude.{◌≡◌, ◌++◌, OnOk, OnErr};
 ghost use Rattle.s66_ledger.specs.Opened.{opened};
 ghost use Rattle.s66_ledger.specs.Subtrees.{root_bytes};
 
@@ -11,7 +10,8 @@ use crate::machine::Machine;
 use crate::reply::{BackError, GraftError, Offered};
 use crate::subtree::{Subtree, byte_of};
 use crate::ticket::{Ticket, node_of};
-use s66_isa::Profile;
+use arrayvec::ArrayVec;
+use s66_isa::{BLOCK_LIMIT, Profile};
 use s66_line::Block;
 use s66_model::Rule;
 use s66_node::Piece;
@@ -39,7 +39,6 @@ impl<'a> Model for Ledger<'a> {
 
 /// Puts the bytes of a piece's root behind those that are kept: its prefix and the byte of its line. `Err` is want of memory.
 fn keep_root(bytes: &mut Vec<u8>, piece: &Piece) -> Result<(), AllocError>
-    ensures outline { IsOutlineOf (opened piece.now) (outline_of (opened piece.now)) [] }
     ensures ok { OnOk result (bytes.new.items ≡ bytes.old.items ++ root_bytes (opened piece.now)) }
     ensures err { OnErr result (bytes.new.items ≡ bytes.old.items) }
 {
@@ -52,12 +51,13 @@ fn keep_root(bytes: &mut Vec<u8>, piece: &Piece) -> Result<(), AllocError>
 }
 
 impl<'a> Ledger<'a> {
-    ghost use Rattle.std.specs.Prelude.{ℕ, [], ◌≡◌, ◌≤◌, length, slice_get, IfOk, IfErr, OnOk, OnErr};
+    ghost use Rattle.std.specs.Prelude.{ℕ, List, [], ◌≡◌, ◌≢◌, ◌≤◌, length, slice_get, IfOk, IfSome, IfNone, IfErr, OnOk, OnErr};
     ghost use Rattle.s66_line.specs.Block.{instrs_of};
     ghost use Rattle.s66_isa.specs.Lists.{tally, weigh};
     ghost use Rattle.s66_model.specs.declared.rule.Rule.TheVariants.{NoneNamed};
+    ghost use Rattle.s66_model.specs.DominatedLeaves.{Dominated};
     ghost use Rattle.s66_model.specs.Accounts.{Account};
-    ghost use Rattle.s66_model.specs.Ledger.{Event, Run, opening, best_time, is_open, Grant, Granted, Claim, Claimed, Back, Returned, NotOut, Retire, Retired, Taken};
+    ghost use Rattle.s66_model.specs.Ledger.{Event, Run, opening, best_time, is_open, node_at, Closed, Grant, Granted, Claim, Claimed, Back, Returned, NotOut, Retire, Retired, Taken};
     ghost use Rattle.s66_model.specs.Recorded.{IsOfferOf};
     ghost use Rattle.s66_model.specs.Coverage.{Covers, bound_of, IsFinished};
     ghost use Rattle.s66_model.specs.BestAndBound.{IsBound};
@@ -167,6 +167,15 @@ impl<'a> Ledger<'a> {
         ensures { result ≡ slice_get self.now.lines node }
     {
         self.machine.line_of(node)
+    }
+
+    /// The name of a node that is dominated: the prefix of the node that dominates it, as the line says that made it. None of any
+    /// other node, and where there is no such node. In time linear in the name's length.
+    pub fn name_of(&self, node: u32) -> Option<ArrayVec<u8, BLOCK_LIMIT>>
+        ensures some { IfSome result (λ name. (node_at self.now.state.nodes node).state ≡ Closed (Dominated name.items)) }
+        ensures none { IfNone result ((name : List ℕ) → (node_at self.now.state.nodes node).state ≢ Closed (Dominated name)) }
+    {
+        self.machine.name_of(node)
     }
 
     /// How many splits are spent, which is what the accounts of the workers add up to.
@@ -316,9 +325,10 @@ impl<'a> Ledger<'a> {
     }
 
     /// Puts a piece in the place of a node that was handed out, and spends its splits: the node takes the state of the piece's root,
-    /// and the piece's other prefixes become nodes. A leaf that is below the best time is kept open.
+    /// and the piece's other prefixes become nodes. A leaf that is below the best time is kept open. A dominated prefix is closed if its
+    /// name is found where the piece guesses it, at a node that stands before it and isn't dominated itself; else it is kept open.
     ///
-    /// In time linear in the piece's lines, with a logarithm of the number of open nodes for each that is open; all room is made
+    /// In time linear in the piece's lines and their names, with a logarithm of the number of open nodes for each that is open; all room is made
     /// before anything changes.
     pub fn graft(
         &mut self,

@@ -1,18 +1,19 @@
-ghost use Rattle.std.specs.Prelude.{◌≡◌, ◌<◌, ◌+◌, ◌++◌, [], ◌∷◌, true, length, IfOk, OnOk};
+ghost use Rattle.std.specs.Prelude.{◌≡◌, ◌≢◌, ◌<◌, ◌+◌, ◌++◌, [], ◌∷◌, true, length, IfOk, OnOk};
 ghost use Rattle.s66_bound.specs.LeafValues.{leaf_of};
 ghost use Rattle.s66_dep.specs.Members.{numbers_in};
 ghost use Rattle.s66_model.specs.Later.{children, later};
 ghost use Rattle.s66_model.specs.LegalOrder.{is_ready, ready};
-ghost use Rattle.s66_model.specs.NodeTree.{is_split_at};
+ghost use Rattle.s66_model.specs.NodeTree.{is_split_at, ending_at};
 ghost use Rattle.s66_model.specs.DominatedLeaves.{Bounding};
 ghost use Rattle.s66_model.specs.Tree.{AtTip};
 ghost use Rattle.s66_ledger.specs.AnswerLines.{AreOneTree, StandsAt, lines_left, to_come};
 ghost use Rattle.s66_ledger.specs.Links.{AreLinks};
-ghost use Rattle.s66_ledger.specs.Nodes.{nodes_of, HaveFloors};
+ghost use Rattle.s66_ledger.specs.Nodes.{node_at, nodes_of, HaveFloors};
+ghost use Rattle.s66_ledger.specs.declared.node.State.TheVariants as state;
 
 use crate::links::Links;
 use crate::node::{Node, State};
-use crate::path::up;
+use crate::path::{name_of, up};
 use s66_bound::Leaf;
 use s66_cert::{Tree, TreeLine};
 use s66_dep::Set;
@@ -29,6 +30,23 @@ fn push_leaf(tree: &mut Tree, leaf: &Leaf) -> Result<(), AllocError>
         Leaf::Load { kind, .. } => tree.push(TreeLine::Load(*kind)),
         Leaf::Parcels { .. } => tree.push(TreeLine::Parcels),
     }
+}
+
+/// Appends the line of the prefix at which the walk stands, which isn't split: that of its floor, or of its name if it is dominated.
+fn push_tip(nodes: &[Node], walk: &Walk<'_>, node: usize, tree: &mut Tree) -> Result<(), AllocError>
+    requires tree { AreOneTree walk.now.problem nodes.now }
+    requires floors { HaveFloors walk.now.problem nodes.now }
+    requires stands { StandsAt nodes.now node walk.now.numbers }
+    requires unsplit { (node_at nodes.now node).state ≢ state.Split }
+    ensures { OnOk result (tree.new ≡ tree.old ++ AtTip (ending_at walk.now.problem (nodes_of walk.now.problem nodes.now) walk.now.numbers) ∷ []) }
+{
+    if let State::Dominated = nodes[node].state {
+        // proof only: so a name fits
+        let _few = walk.numbers();
+        let name = name_of(nodes, node);
+        return tree.push(TreeLine::Dominated(name.as_slice()));
+    }
+    push_leaf(tree, &walk.floor_of_value(nodes[node].value))
 }
 
 /// Appends the line of the prefix at which the walk stands, and goes on to the next prefix; tells whether there is one. The time is
@@ -54,7 +72,7 @@ pub fn push_line(
         tree.push(TreeLine::Split(numbers.numbers().as_slice()))?;
         return Ok(go_below(nodes, links, numbers, walk, node));
     }
-    push_leaf(tree, &walk.floor_of_value(nodes[*node].value))?;
+    push_tip(nodes, walk, *node, tree)?;
     Ok(go_on(nodes, links, walk, node))
 }
 

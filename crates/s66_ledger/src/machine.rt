@@ -41,13 +41,14 @@ impl<'a> Model for Machine<'a> {
 }
 
 impl<'a> Machine<'a> {
-    ghost use Rattle.std.specs.Prelude.{ℕ, Bool, true, false, Some, None, ◌+◌, ◌++◌, ◌≡◌, ◌<◌, ◌≤◌, ◌⊎◌, ◌↔◌, length, slice_get, IfOk, IfErr, IfSome, IfNone, OnOk, OnErr, IsTrue, if◌then◌else◌};
+    ghost use Rattle.std.specs.Prelude.{ℕ, Bool, true, false, Some, None, List, ◌+◌, ◌≡◌, ◌≢◌, ◌<◌, ◌≤◌, ◌⊎◌, ◌↔◌, length, slice_get, IfOk, IfErr, IfSome, IfNone, OnOk, OnErr, IsTrue, if◌then◌else◌};
     ghost use Rattle.s66_line.specs.Block.{instrs_of};
     ghost use Rattle.s66_isa.specs.Lists.{tally};
     ghost use Rattle.s66_model.specs.Timing.{total_of};
     ghost use Rattle.s66_model.specs.LegalOrder.{IsBeginning};
+    ghost use Rattle.s66_model.specs.DominatedLeaves.{Dominated};
     ghost use Rattle.s66_model.specs.Leaves.{floor_value};
-    ghost use Rattle.s66_model.specs.Ledger.{Event, opening, best_time, is_open, is_live, node_at, Grant, Granted, Claim, Claimed, Back, Returned, NotOut, Retire, Retired, Offer};
+    ghost use Rattle.s66_model.specs.Ledger.{Event, opening, best_time, is_open, is_live, node_at, Closed, Grant, Granted, Claim, Claimed, Back, Returned, NotOut, Retire, Retired, Offer};
     ghost use Rattle.s66_model.specs.Recorded.{IsOfferOf};
     ghost use Rattle.s66_model.specs.Coverage.{Covers, bound_of, IsFinished};
     ghost use Rattle.s66_model.specs.BestAndBound.{IsBound};
@@ -60,7 +61,7 @@ impl<'a> Machine<'a> {
     ghost use Rattle.s66_ledger.specs.ClaimedNodes.{claimed_node, IsTicketOf, IsLeastOpen};
     ghost use Rattle.s66_ledger.specs.Replies.{offered_reply};
     ghost use Rattle.s66_ledger.specs.Opened.{opened};
-    ghost use Rattle.s66_ledger.specs.Subtrees.{IsSubtreeOf, lines_below};
+    ghost use Rattle.s66_ledger.specs.Subtrees.{IsSubtreeOf};
     ghost use Rattle.s66_ledger.specs.declared.limits.TheConstants.{BUDGET_LIMIT};
     ghost use Rattle.s66_ledger.specs.declared.reply.BackError.TheVariants as refused;
 
@@ -280,6 +281,17 @@ impl<'a> Machine<'a> {
         self.table.line_of(node)
     }
 
+    /// The name of a node that is dominated: the prefix of the node that dominates it. None of any other node. In time linear in its
+    /// length.
+    pub fn name_of(&self, node: u32) -> Option<ArrayVec<u8, BLOCK_LIMIT>>
+        ensures some { IfSome result (λ name. (node_at self.now.state.nodes node).state ≡ Closed (Dominated name.items)) }
+        ensures none { IfNone result ((name : List ℕ) → (node_at self.now.state.nodes node).state ≢ Closed (Dominated name)) }
+    {
+        // so a name fits
+        prove!(self.block.count() <= BLOCK_LIMIT);
+        self.table.name_of(node)
+    }
+
     /// The whole order of a node that is open or out, with its floor below the best time; None of any other node, in constant time.
     pub(crate) fn promising_order(&self, node: u32) -> Option<ArrayVec<u8, BLOCK_LIMIT>>
         requires { node < length self.now.state.nodes }
@@ -328,7 +340,7 @@ impl<'a> Machine<'a> {
 
     /// Puts a piece, whose subtree comes with it, in the place of a node that was handed out, and spends its splits: the node takes
     /// the state of the piece's root, and the piece's other prefixes become nodes. A leaf that is below the best time is kept open, and so
-    /// is a dominated prefix.
+    /// is a dominated prefix whose name isn't found where the piece guesses it.
     ///
     /// In time linear in the piece's lines, with a logarithm of the number of open nodes for each that is open; all room is made
     /// before anything changes.
@@ -342,7 +354,6 @@ impl<'a> Machine<'a> {
         requires worker { (1 ≤ w) × (w ≤ self.old.workers) }
         requires subtree { IsSubtreeOf (opened piece.now) subtree.now }
         ensures ok { OnOk result (IsTakenMove self.old w node piece.now self.new) }
-        ensures lines { OnOk result (self.new.lines ≡ self.old.lines ++ lines_below (opened piece.now)) }
         ensures refused { IfErr result (λ e. IsRefusedMove self.old w node piece.now e self.new) }
         ensures err { OnErr result (self.new ≡ self.old) }
     {

@@ -1,12 +1,14 @@
 use s66_node::FRONTIER;
 
-/// What a node of a ledger is: it can be claimed, is handed out, is closed with its floor, or is split.
+/// What a node of a ledger is: it can be claimed, is handed out, is closed with its floor, is split, or is closed as dominated by
+/// another node.
 #[derive(Clone, Copy, Debug, PartialEq, Eq)]
 pub enum State {
     Open,
     Out,
     Closed,
     Split,
+    Dominated,
 }
 
 impl State {
@@ -32,7 +34,8 @@ impl State {
 #[derive(Clone, Copy, Debug)]
 pub struct Node {
     pub parent: u32,
-    /// The floor's value in minor cycles; of a node that was split in the piece that made it, 0.
+    /// The floor's value in minor cycles; of a node that was split in the piece that made it, 0. Of one that is dominated, the number
+    /// of the node that dominates it, which stands before it.
     pub value: u32,
     pub number: u8,
     /// How many numbers the prefix has.

@@ -38,18 +38,16 @@ impl Model for NodeTable {
 }
 
 impl NodeTable {
-    ghost use Rattle.std.specs.Prelude.{ℕ, [], ◌∷◌, ◌++◌, ◌+◌, ◌^◌, ◌≡◌, ◌<◌, ◌≤◌, ◌↔◌, true, false, IsTrue, IfOk, OnOk, OnErr, IfSome, IfNone, length, get_or, slice_get};
+    ghost use Rattle.std.specs.Prelude.{ℕ, [], ◌∷◌, ◌++◌, ◌+◌, ◌^◌, ◌≡◌, ◌≢◌, ◌<◌, ◌≤◌, ◌↔◌, true, false, IsTrue, IfOk, OnOk, OnErr, IfSome, IfNone, length, get_or, slice_get};
     ghost use Rattle.s66_isa.specs.Lists.{tally, least};
     ghost use Rattle.s66_ledger.specs.LiveNodes.{live_values};
     ghost use Rattle.s66_isa.specs.declared.limits.TheConstants.{BLOCK_LIMIT};
     ghost use Rattle.s66_ledger.specs.declared.node.State.{State};
-    ghost use Rattle.s66_model.specs.Ledger as model;
-    ghost use Rattle.s66_model.specs.Ledger.{root_state, new_nodes};
-    ghost use Rattle.s66_node.specs.Pieces.{tree_of};
+    ghost use Rattle.s66_ledger.specs.Closing.{IsSplitUnder, IsPlantedAs};
     ghost use Rattle.s66_node.specs.declared.knot.TheConstants.{FRONTIER};
     ghost use Rattle.s66_ledger.specs.Opened.{opened};
-    ghost use Rattle.s66_ledger.specs.Subtrees.{IsSubtreeOf, planted, lines_below};
-    ghost use Rattle.s66_ledger.specs.Nodes.{is_open, is_live_state, node_at, with_state, prefixes, nodes_of, lines_of, HaveFloors, HaveDepths};
+    ghost use Rattle.s66_ledger.specs.Subtrees.{IsSubtreeOf, planted};
+    ghost use Rattle.s66_ledger.specs.Nodes.{is_open, is_live_state, name_at, node_at, with_state, prefixes, nodes_of, lines_of, HaveFloors, HaveDepths};
     ghost use Rattle.s66_ledger.specs.OpenNodes.{IsOut, ranked};
 
     /// One node, the empty prefix with its floor, open.
@@ -169,6 +167,20 @@ impl NodeTable {
         Some(self.nodes.get(node as usize)?.line)
     }
 
+    /// The name of a node, where there is one of this number and it is dominated, in time linear in its length.
+    pub fn name_of(&self, node: u32) -> Option<ArrayVec<u8, BLOCK_LIMIT>>
+        requires { (node < length self.now) → length (name_at self.now node) ≤ BLOCK_LIMIT }
+        ensures some { IfSome result (λ name. (node < length self.now) × ((node_at self.now node).state ≡ State.Dominated) × (name.items ≡ name_at self.now node)) }
+        ensures none { IfNone result ((node_at self.now node).state ≢ State.Dominated) }
+    {
+        let node = node as usize;
+        if node < self.nodes.len() && self.nodes[node].state == State::Dominated {
+            Some(path::name_of(self.nodes.as_slice(), node))
+        } else {
+            None
+        }
+    }
+
     /// Hands out the open node of the least floor, of equal ones the deepest, and of these the newest; None only where no node is
     /// open. In time logarithmic in the number of open nodes.
     pub fn claim(&mut self) -> Option<u32>
@@ -202,7 +214,8 @@ impl NodeTable {
     }
 
     /// Puts a piece, whose subtree comes with it, in the place of a node that is handed out: the node takes the state of the piece's
-    /// root, and the piece's other prefixes become nodes. In time linear in the piece's lines, with a logarithm of the number of open
+    /// root, and the piece's other prefixes become nodes; dominated ones are closed where the nodes of their names are found, and else
+    /// open. In time linear in the piece's lines and their names, with a logarithm of the number of open
     /// nodes for each that is open. `Err` leaves all as it was.
     pub fn plant(
         &mut self,
@@ -219,14 +232,13 @@ impl NodeTable {
         ensures err { OnErr result (self.new ≡ self.old) }
         ensures count { OnOk result (length self.new + 1 ≡ length self.old + length piece.now.knots) }
         ensures floors { OnOk result (HaveFloors piece.now.problem self.new) }
-        ensures lines { OnOk result (lines_of self.new ≡ lines_of self.old ++ lines_below (opened piece.now)) }
-        ensures ok { OnOk result (nodes_of piece.now.problem self.new ≡ model.with_state (nodes_of piece.now.problem self.old) root (root_state piece.now.problem best piece.now.prefix (tree_of (opened piece.now))) ++ new_nodes piece.now.problem best piece.now.prefix (tree_of (opened piece.now))) }
+        ensures ok { OnOk result (IsPlantedAs piece.now best root self.old self.new) }
     {
         // proof only: the nodes have depths
         let _ = &self.nodes;
         let knot = &piece.knots()[0];
         if let Knot::Split(_) = knot {
-            return self.plant_split(root, best, subtree);
+            return self.plant_split(root, best, piece, subtree);
         }
         if settled_state(state_of(knot), value_of(knot), best).is_open() {
             self.give_back(root)?;
@@ -238,12 +250,19 @@ impl NodeTable {
     }
 
     /// Splits a node that is handed out: these nodes stand under it.
-    fn plant_split(&mut self, root: u32, best: u32, subtree: &Subtree) -> Result<(), AllocError>
+    fn plant_split(
+        &mut self,
+        root: u32,
+        best: u32,
+        piece: &Piece,
+        subtree: &Subtree,
+    ) -> Result<(), AllocError>
         requires out { IsOut self.old root }
         requires room { length self.old + length subtree.now < 2 ^ 32 }
+        requires lines { length subtree.now + 1 ≡ length piece.now.knots }
         requires depths { HaveDepths (planted best root self.old subtree.now) }
         ensures err { OnErr result (self.new ≡ self.old) }
-        ensures ok { OnOk result (self.new ≡ with_state (planted best root self.old subtree.now) root State.Split) }
+        ensures ok { OnOk result (IsSplitUnder best root self.old subtree.now piece.now.knots self.new) }
     {
         let deepest = append(
             &mut self.nodes,
@@ -251,6 +270,7 @@ impl NodeTable {
             self.deepest,
             root,
             best,
+            piece.knots(),
             subtree.nodes(),
         )?;
         self.deepest = deepest;

@@ -1,6 +1,6 @@
 ghost use Rattle.std.specs.Prelude.{[], ◌∷◌, ◌++◌, ◌≡◌, ◌<◌, ◌≤◌, ◌↔◌, length, get_or, IsTrue};
 ghost use Rattle.s66_isa.specs.declared.limits.TheConstants.{BLOCK_LIMIT};
-ghost use Rattle.s66_ledger.specs.Nodes.{node_at, prefixes};
+ghost use Rattle.s66_ledger.specs.Nodes.{name_at, node_at, prefixes};
 ghost use Rattle.s66_ledger.specs.Links.{parent_of};
 
 use crate::node::Node;
@@ -41,6 +41,18 @@ pub fn prefix_of(nodes: &[Node], node: u32) -> ArrayVec<u8, BLOCK_LIMIT>
     }
     prefix.as_mut_slice().reverse();
     prefix
+}
+
+/// The name of a node that is dominated, in time linear in its length: the prefix of the node whose number is its value, which stands
+/// before it.
+pub fn name_of(nodes: &[Node], node: usize) -> ArrayVec<u8, BLOCK_LIMIT>
+    requires within { node < length nodes.now }
+    requires few { length (name_at nodes.now node) ≤ BLOCK_LIMIT }
+    ensures { result.items ≡ name_at nodes.now node }
+{
+    let value = nodes[node].value;
+    let named = if (value as usize) < node { value } else { 0 };
+    prefix_of(nodes, named)
 }
 
 /// The parent of a node, which stands before it.

@@ -1,12 +1,16 @@
-ghost use Rattle.std.specs.Prelude.{ℕ, ◌+◌, ◌≡◌, ◌<◌, ◌^◌, length, IfOk, OnOk, OnErr};
+ghost use Rattle.std.specs.Prelude.{ℕ, List, ◌+◌, ◌≡◌, ◌<◌, ◌^◌, ◌↔◌, IsTrue, length, IfOk, OnOk, OnErr};
 ghost use Rattle.std.specs.BinaryHeap.{IsHeap, heap_items};
 ghost use Rattle.s66_ledger.specs.LiveNodes.{AreCounted};
 ghost use Rattle.s66_ledger.specs.Nodes.{with_state};
 ghost use Rattle.s66_ledger.specs.OpenNodes.{AreOpenNodes, compare_ranked};
-ghost use Rattle.s66_ledger.specs.Subtrees.{placed, settled, settled_state, planted};
+ghost use Rattle.s66_ledger.specs.Closing.{Closes, IsClosing, IsNamed};
+ghost use Rattle.s66_ledger.specs.Subtrees.{placed, settled, settled_state};
+ghost use Rattle.s66_node.specs.SeenKnots.{seen, seen_knot};
 
 use crate::node::{Node, State};
+use crate::path;
 use crate::rank::rank_of;
+use s66_node::{Knot, PASSED, Place};
 use std::alloc::AllocError;
 use std::collections::BinaryHeap;
 
@@ -30,7 +34,7 @@ pub fn settled_state(state: State, value: u32, best: u32) -> State
                 State::Open
             }
         }
-        State::Open | State::Out => State::Open,
+        State::Open | State::Out | State::Dominated => State::Open,
         State::Split => State::Split,
     }
 }
@@ -53,8 +57,43 @@ fn placed(node: &Node, root: u32, first: u32, best: u32) -> Node
     }
 }
 
-/// Puts a subtree's nodes behind those that there are, under the root of this number, and those that are open into the heap; it
-/// answers how deep those that are open or out are then. In time linear in their number, with a logarithm of the number of open
+/// Whether the node of this number has this prefix and isn't dominated, in time linear in the prefix's length.
+fn is_named(nodes: &[Node], named: u32, numbers: &[u8]) -> bool
+    ensures { IsTrue result ↔ IsNamed nodes.now named numbers.now }
+{
+    let i = named as usize;
+    i < nodes.len() && nodes[i].state != State::Dominated && path::is_over(nodes, named, numbers)
+}
+
+/// The node of a line behind those that there are: closed if the line's prefix is dominated and the node of that name is found where
+/// the line guesses it, else as it is. The piece's root has this number, and the first node below it the number `first`.
+fn closed(nodes: &[Node], root: u32, first: u32, knot: &Knot, node: Node) -> Node
+    ensures { Closes nodes.now (seen_knot knot.now) node result }
+{
+    let Knot::Passed { name, .. } = knot else {
+        return node;
+    };
+    let named = match name.place {
+        Place::Line(0) => root,
+        Place::Line(line) => first.saturating_add(line - 1),
+        Place::Node(number) => number,
+    };
+    if !is_named(nodes, named, name.numbers.as_slice()) {
+        return node;
+    }
+    Node {
+        parent: node.parent,
+        value: named,
+        number: node.number,
+        depth: node.depth,
+        line: PASSED,
+        state: State::Dominated,
+    }
+}
+
+/// Puts a subtree's nodes, which come with their piece's lines, behind those that there are, under the root of this number, those of
+/// dominated lines closed where the names are found, and those that are open into the heap; it answers how deep those that are open or
+/// out are then. In time linear in their number and in the length of each name, with a logarithm of the number of open
 /// nodes for each that is open. `Err` leaves all as it was.
 pub fn append(
     nodes: &mut Vec<Node>,
@@ -62,14 +101,16 @@ pub fn append(
     deepest: u8,
     root: u32,
     best: u32,
+    knots: &[Knot],
     subtree: &[Node],
 ) -> Result<u8, AllocError>
     requires heap { IsHeap compare_ranked (heap_items heap.old) }
     requires open_nodes { AreOpenNodes nodes.old.items (heap_items heap.old) }
     requires room { length nodes.old.items + length subtree.now < 2 ^ 32 }
+    requires lines { length subtree.now < length knots.now }
     ensures heap { IsHeap compare_ranked (heap_items heap.new) }
     ensures open_nodes { AreOpenNodes nodes.new.items (heap_items heap.new) }
-    ensures ok { OnOk result (nodes.new.items ≡ planted best root nodes.old.items subtree.now) }
+    ensures ok { OnOk result (IsClosing best root nodes.old.items subtree.now (seen knots.now) nodes.new.items) }
     ensures counted { IfOk result (λ d. (out : ℕ) → AreCounted nodes.old.items out deepest → AreCounted nodes.new.items out d) }
     ensures err { OnErr result (nodes.new.items ≡ nodes.old.items) }
 {
@@ -78,7 +119,8 @@ pub fn append(
     let mut deepest = deepest;
     let first = nodes.len() as u32;
     for i in 0..subtree.len() {
-        let node = placed(&subtree[i], root, first, best);
+        let plain = placed(&subtree[i], root, first, best);
+        let node = closed(nodes.as_slice(), root, first, &knots[i + 1], plain);
         if node.state.is_open() {
             let Ok(()) = heap.push((rank_of(node.value, node.depth), first + i as u32)) else {
                 unreachable!()

@@ -1,10 +1,9 @@
 use Rattle.std.proofs.Common.{◌≡◌, ◌++◌, ◌∷◌, [], ℕ, List, ap, ◌∙◌}
-use Rattle.s66_model.specs.Leaves.{floor_value}
 use Rattle.s66_model.specs.DominatedLeaves.{Ending}
 use Rattle.s66_model.specs.Tree.{Knot, AtSplit}
 use Rattle.s66_ledger.specs.declared.node.Node.{Node}
 use Rattle.s66_ledger.specs.Nodes.{no_node}
-use Rattle.s66_ledger.proofs.AnswerLines.{split-here, split-line, leaf-line, line-appended, one-longer}
+use Rattle.s66_ledger.proofs.AnswerLines.{split-here, split-line, tip-line, line-appended, one-longer}
 use Rattle.s66_ledger.proofs.NodePrefixes.{get_or-any}
 use Rattle.s66_ledger.proofs.lines.push_line.Goals as goal
 
@@ -27,22 +26,18 @@ returns-in-Split-clause-rest c =
     line-appended _ _ _ _ _ (split-pushed _ _ _ _ c.in_ok-push.ensures.pushed (c.as_slice.ensures.value ∙ c.numbers.ensures))
     (split-line w.problem c.args.nodes.now c.requires.tree c.args.node.now w.numbers stands _ _ (get_or-any c.args.nodes.now c.args.node.now no_node _ (λ (x : Node). x.state) stands.within ∙ c.in-Split.is) c.ready-numbers.ensures c.go_below.ensures.next)
 
-pub floor_of_value-requires : goal.floor_of_value-requires
-floor_of_value-requires c =
-    let w = c.args.walk.now in
-    let xs = c.args.nodes.now in
+pub push_tip-requires-clause-unsplit : goal.push_tip-requires-clause-unsplit
+push_tip-requires-clause-unsplit c split =
     let stands = c.requires.stands in
-    get_or-any xs c.args.node.now _ no_node (λ (x : Node). x.value) stands.within
-    ∙ (c.requires.floors c.args.node.now stands.within (λ split. c.in_default.not-Split (get_or-any xs c.args.node.now _ no_node (λ (x : Node). x.state) stands.within ∙ split))
-    ∙ ap (floor_value w.problem) stands.over)
+    c.in_default.not-Split (get_or-any c.args.nodes.now c.args.node.now _ no_node (λ (x : Node). x.state) stands.within ∙ split)
 
 pub returns-clause-one : goal.returns-clause-one
-returns-clause-one c = one-longer _ _ _ c.in_ok-push_leaf.ensures
+returns-clause-one c = one-longer _ _ _ c.in_ok-push_tip.ensures
 
 pub returns-clause-rest : goal.returns-clause-rest
 returns-clause-rest c =
     let w = c.args.walk.now in
     let stands = c.requires.stands in
-    line-appended _ _ _ _ _ c.in_ok-push_leaf.ensures
-    (leaf-line w.problem c.args.nodes.now c.requires.tree c.args.node.now w.numbers stands _ _
-    (λ split. c.in_default.not-Split (get_or-any c.args.nodes.now c.args.node.now _ no_node (λ (x : Node). x.state) stands.within ∙ split)) c.floor_of_value.ensures.leaf c.go_on.ensures.next)
+    line-appended _ _ _ _ _ c.in_ok-push_tip.ensures
+    (tip-line w.problem c.args.nodes.now c.requires.tree c.args.node.now w.numbers stands _
+    (λ split. c.in_default.not-Split (get_or-any c.args.nodes.now c.args.node.now _ no_node (λ (x : Node). x.state) stands.within ∙ split)) c.go_on.ensures.next)

@@ -1,14 +1,15 @@
-use Rattle.std.proofs.Common.{◌+◌, ◌≡◌, ◌∙◌, ◌++◌, ◌∷◌, [], arith, ap, sym, subst, length, take, heap_items, true≢false}
-use Rattle.std.proofs.lemmas.List.{length-take}
+use Rattle.std.proofs.Common.{◌+◌, ◌≡◌, ◌∙◌, ◌++◌, ◌∷◌, [], arith, ap, sym, subst, length, get_or, take, heap_items, true≢false}
+use Rattle.std.proofs.lemmas.List.{length-take, length-map, take_all}
 use Rattle.std.specs.List.Sorted.{IsPermutation}
 use Rattle.s66_ledger.specs.declared.node.Node.{Node}
 use Rattle.s66_ledger.specs.Nodes.{no_node, node_at}
-use Rattle.s66_ledger.specs.Subtrees.{placed, settled, planted}
+use Rattle.s66_ledger.specs.Subtrees.{placed, settled}
 use Rattle.s66_ledger.proofs.LiveCounts.{counted-push, settled-in, shut-in}
 use Rattle.s66_ledger.proofs.OpenHeap.{more-open, more-shut}
 use Rattle.s66_ledger.proofs.NodePrefixes.{get_or-any}
-use Rattle.s66_ledger.proofs.PlantedNodes.{planted-more}
-use Rattle.s66_ledger.proofs.Subtrees.{length-planted}
+use Rattle.s66_node.specs.SeenKnots.{seen, seen_knot}
+use Rattle.s66_ledger.specs.Closing.{Closes, IsClosing}
+use Rattle.s66_ledger.proofs.Closing.{closing-length, closing-more, closes-in, seen-at}
 use Rattle.s66_ledger.proofs.planting.append.Goals as goal
 use Rattle.s66_ledger.proofs.planting.append.Goals.{then-is_open+in-Ok, else-is_open}
 
@@ -17,21 +18,24 @@ loop-i-preserved c =
     let made = c.args.nodes.now.items in
     let subtree = c.args.subtree.now in
     let l = c.loop-i in
-    let x = c.placed-node.result in
+    let plain = c.placed-plain.result in
+    let x = c.closed-node.result in
     let new = c.push_reserved.new.self.items in
     let behind : c.len-first.result ≡ length made = omega (arith, c.len-first.ensures, ap length c.reserve-2.ensures.items) in
-    let so_far : length l.nodes.items ≡ c.len-first.result + l.i = omega (arith, behind, ap length l.invariant.nodes, length-planted c.args.best c.args.root made (take l.i subtree), length-take l.i subtree, c.loop-i-test.true) in
-    let is : x ≡ placed c.args.root (length made) (settled c.args.best (node_at subtree l.i)) =
-    c.placed-node.ensures
+    let so_far : length l.nodes.items ≡ c.len-first.result + l.i = omega (arith, behind, closing-length c.args.best c.args.root made (take l.i subtree) (seen c.args.knots.now) l.nodes.items l.invariant.nodes, length-take l.i subtree, c.loop-i-test.true) in
+    let is : plain ≡ placed c.args.root (length made) (settled c.args.best (node_at subtree l.i)) =
+    c.placed-plain.ensures
     ∙ (get_or-any subtree l.i _ no_node (λ (n : Node). placed c.args.root c.len-first.result (settled c.args.best n)) c.loop-i-test.true
     ∙ ap (λ k. placed c.args.root k (settled c.args.best (node_at subtree l.i))) behind) in
-    let in_table = settled-in c.args.best c.args.root (length made) x (node_at subtree l.i) is in
+    let line : seen_knot c.index-knots-i.result ≡ get_or (seen c.args.knots.now) (l.i + 1) (seen_knot c.index-knots-i.result) =
+    ap seen_knot c.index-knots-i.is ∙ seen-at c.args.knots.now (l.i + 1) c.index-knots-i.result in
+    let closes : Closes l.nodes.items (seen_knot c.index-knots-i.result) plain x = subst (λ ns. Closes ns (seen_knot c.index-knots-i.result) plain x) c.as_slice.ensures.value c.closed-node.ensures in
+    let in_table = closes-in l.nodes.items (seen_knot c.index-knots-i.result) plain x closes (settled-in c.args.best c.args.root (length made) plain (node_at subtree l.i) is) in
     let put : new ≡ l.nodes.items ++ x ∷ [] = c.push_reserved.ensures.items in
-    let all : new ≡ planted c.args.best c.args.root made (take (l.i + 1) subtree) =
-    put
-    ∙ (ap (λ ns. ns ++ x ∷ []) l.invariant.nodes
-    ∙ (ap (λ (y : Node). planted c.args.best c.args.root made (take l.i subtree) ++ y ∷ []) is
-    ∙ sym (planted-more c.args.best c.args.root made subtree l.i no_node c.loop-i-test.true))) in
+    let all : IsClosing c.args.best c.args.root made (take (l.i + 1) subtree) (seen c.args.knots.now) new =
+    subst (IsClosing c.args.best c.args.root made (take (l.i + 1) subtree) (seen c.args.knots.now)) (sym put)
+    (closing-more c.args.best c.args.root made subtree (seen c.args.knots.now) l.nodes.items l.i no_node x (seen_knot c.index-knots-i.result) (seen_knot c.index-knots-i.result) l.invariant.nodes c.loop-i-test.true
+    (omega (arith, c.requires.lines, c.loop-i-test.true, length-map c.args.knots.now seen_knot)) line (subst (λ y. Closes l.nodes.items (seen_knot c.index-knots-i.result) y x) is closes)) in
     elim c.if-is_open.branch [
       | then-is_open+in-Ok w ↦
           (let pushed : IsPermutation ((w.rank_of.result, length l.nodes.items) ∷ heap_items l.heap) (heap_items w.push.new.self) = subst (λ k. IsPermutation ((w.rank_of.result, k) ∷ heap_items l.heap) (heap_items w.push.new.self)) (sym so_far) w.in-Ok.ensures.permutation in
@@ -53,3 +57,7 @@ loop-i-preserved c =
             room = omega (arith, l.invariant.room, c.push_reserved.ensures.len, c.push_reserved.ensures.capacity, c.loop-i-test.true);
           }
     ]
+
+pub returns-clause-ok : goal.returns-clause-ok
+returns-clause-ok c =
+    subst (λ xs. IsClosing c.args.best c.args.root c.args.nodes.now.items xs (seen c.args.knots.now) c.loop-i.nodes.items) (take_all c.loop-i.i c.args.subtree.now c.loop-i-test.false) c.loop-i.invariant.nodes

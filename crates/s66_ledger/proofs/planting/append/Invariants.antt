@@ -1,15 +1,16 @@
-use Rattle.std.proofs.Common.{◌+◌, ◌-◌, ◌≡◌, ◌≤◌, ℕ, length, take, heap_items, heap_len, vec_len}
+use Rattle.std.proofs.Common.{◌+◌, ◌-◌, ◌≤◌, ℕ, length, take, heap_items, heap_len, vec_len}
 use Rattle.std.specs.BinaryHeap.{IsHeap, heap_capacity}
 use Rattle.std.specs.Vec.{vec_capacity}
 use Rattle.s66_ledger.specs.LiveNodes.{AreCounted}
 use Rattle.s66_ledger.specs.OpenNodes.{AreOpenNodes, compare_ranked}
-use Rattle.s66_ledger.specs.Subtrees.{planted}
+use Rattle.s66_node.specs.SeenKnots.{seen}
+use Rattle.s66_ledger.specs.Closing.{IsClosing}
 use Rattle.s66_ledger.proofs.planting.append.Given as goal
 
 abbrev pub invariant-loop-i : goal.invariant-loop-i
 invariant-loop-i l =
     record {
-      nodes : l.nodes.items ≡ planted l.best l.root l.fn.nodes.items (take l.i l.subtree);
+      nodes : IsClosing l.best l.root l.fn.nodes.items (take l.i l.subtree) (seen l.knots) l.nodes.items;
       heap : IsHeap compare_ranked (heap_items l.heap);
       listed : AreOpenNodes l.nodes.items (heap_items l.heap);
       counted : (out : ℕ) → AreCounted l.fn.nodes.items out l.fn.deepest → AreCounted l.nodes.items out l.deepest;

@@ -3,7 +3,6 @@ use Rattle.s66_dep.specs.Members.{numbers_in}
 use Rattle.s66_model.specs.Tree.{Knot, AtTip, AtSplit, flat}
 use Rattle.s66_model.specs.Told.{Told}
 use Rattle.s66_node.specs.declared.knot.Knot as code
-use Rattle.s66_node.specs.declared.knot.Knot.TheVariants as line
 use Rattle.s66_node.specs.Pieces.{told_tree}
 use Rattle.s66_node.specs.Outlines.{line_byte}
 use Rattle.s66_node.proofs.WalkTurns.{none-empty}

@@ -4,11 +4,15 @@ use Rattle.s66_line.specs.Block.{instrs_of}
 use Rattle.s66_model.specs.Timing.{Problem, total_of}
 use Rattle.s66_model.specs.Ledger as model
 use Rattle.s66_model.specs.Ledger.{root_state, new_nodes}
-use Rattle.s66_node.specs.Pieces.{tree_of}
+use Rattle.s66_node.specs.Pieces.{told_tree, tree_of}
+use Rattle.s66_ledger.specs.Closing.{IsPlantedAs}
+use Rattle.s66_ledger.proofs.NamedLines.{taken-are_named, opens-length}
+use Rattle.s66_ledger.proofs.Planted.{some-flat}
+use Rattle.s66_ledger.proofs.Taken.{taken-opens, taken-is_piece, taken-outline, taken-match, taken-preorder}
 use Rattle.s66_ledger.specs.OpenNodes.{IsOut}
 use Rattle.s66_ledger.specs.Nodes.{prefixes, nodes_of}
 use Rattle.s66_ledger.specs.LedgerMachine.{MachineOf, IsKept, machine_of}
-use Rattle.s66_ledger.specs.Opened.{opened}
+use Rattle.s66_ledger.specs.Opened.{opened, with_lines}
 use Rattle.s66_ledger.specs.GraftMoves.{IsTakenMove}
 use Rattle.s66_ledger.proofs.Opened.{same-splits, opened-opens, opened-plain, opened-preorder, opened-length}
 use Rattle.s66_ledger.proofs.NodePrefixes.{get_or-any}
@@ -104,43 +108,53 @@ invariant_of-self-2 c =
     let s = c.self.inside in
     let b : Problem = record { block = instrs_of s.block.now; profile = s.profile } in
     let p = c.args.piece.now in
+    let new = c.plant.new.self in
     let owned = subst (λ (l : MachineOf). IsTrue c.is_own-own.result ↔ ((p.rule ≡ l.rule) × (p.problem ≡ l.problem))) (sym c.self.view_is) c.is_own-own.ensures in
     let i = c.args.node in
     let le : c.args.w ≤ length s.allowances.items = omega (arith, c.requires.worker.1, ap (λ (l : MachineOf). l.workers) c.self.view_is) in
     let out : IsOut s.table i = c.is_out.ensures.0 c.if-not-is_out.false in
     let over : get_or (prefixes s.table) i [] ≡ p.prefix = c.is_over.ensures.0 c.if-not-is_over.false ∙ c.prefix.ensures.value in
-    let few : length p.problem.block ≤ BLOCK_LIMIT = omega (arith, c.count.ensures.value, c.count.ensures.few, ap (λ (q : Problem). length q.block) ((owned.0 c.if-not-own.false).1)) in
-    let lines = piece-lines (opened p) (opened-plain p c.knots-lines.ensures.told) (opened-preorder p c.knots-lines.ensures.preorder) few in
     let was = c.index.ensures ∙ get_or-any s.allowances.items (c.args.w - 1) c.index.result.now 0 (λ n. n) (omega (arith, c.requires.worker.0, le)) in
-    let room = kept-room _ b s.budget s.table s.best s.left s.allowances.items s.spent c.self.invariant (c.args.w - 1) in
     let now = c.index_mut.ensures.value ∙ get_or-any s.allowances.items (c.args.w - 1) c.index_mut.result.now 0 (λ n. n) (omega (arith, c.requires.worker.0, le)) in
-    let best = total_of s.best.problem s.best.numbers in
-    let planted : nodes_of p.problem c.plant.new.self ≡ model.with_state (nodes_of p.problem s.table) i (root_state p.problem best p.prefix (tree_of (opened p))) ++ new_nodes p.problem best p.prefix (tree_of (opened p)) =
-    (subst (λ k. nodes_of p.problem c.plant.new.self ≡ model.with_state (nodes_of p.problem s.table) i (root_state p.problem k p.prefix (tree_of (opened p))) ++ new_nodes p.problem k p.prefix (tree_of (opened p))) c.total-best.ensures.value c.in-Ok.ensures.ok) in
-    let plain = opened-plain p c.knots-lines.ensures.told in
-    let same = same-splits (tree_of p) (tree_of (opened p)) (opened-opens p) in
-    subst (λ n. IsKept s.rule b s.budget c.plant.new.self s.best s.left (set s.allowances.items (c.args.w - 1) (n - c.splits-splits.result)) (s.spent + c.splits-splits.result)) (sym now)
-    (kept-taken s.rule b s.budget s.table s.best s.left s.allowances.items s.spent c.self.invariant c.args.w i p c.requires.worker.0 le c.is_own-own.result owned c.if-not-own.false c.plant.new.self c.splits-splits.result out over (c.splits-splits.ensures ∙ same) (omega (arith, was, c.if-index-splits.false)) plain planted c.in-Ok.ensures.floors (omega (arith, c.in-Ok.ensures.count, opened-length p)) lines)
+    let told = c.knots-lines.ensures.told in
+    let preorder = c.knots-lines.ensures.preorder in
+    let h : IsPlantedAs p c.total-best.result i s.table new = c.in-Ok.ensures.ok in
+    let q = with_lines p h.taken in
+    let opens = taken-opens p h.taken told preorder h.opens in
+    let same = same-splits (tree_of p) (tree_of q) opens in
+    let planted : nodes_of p.problem new ≡ model.with_state (nodes_of p.problem s.table) i (root_state p.problem (total_of s.best.problem s.best.numbers) p.prefix (tree_of q)) ++ new_nodes p.problem (total_of s.best.problem s.best.numbers) p.prefix (tree_of q) =
+    subst (λ k. nodes_of p.problem new ≡ model.with_state (nodes_of p.problem s.table) i (root_state p.problem k p.prefix (tree_of q)) ++ new_nodes p.problem k p.prefix (tree_of q)) c.total-best.ensures.value h.nodes in
+    let piece = taken-is_piece p h.taken told preorder h.opens in
+    let named = taken-are_named p h.taken told preorder h.opens new h.named in
+    let few : length p.problem.block ≤ BLOCK_LIMIT = omega (arith, c.count.ensures.value, c.count.ensures.few, ap (λ (r : Problem). length r.block) ((owned.0 c.if-not-own.false).1)) in
+    let lines = piece-lines (opened p) (opened-plain p told) (opened-preorder p preorder) few in
+    subst (λ n. IsKept s.rule b s.budget new s.best s.left (set s.allowances.items (c.args.w - 1) (n - c.splits-splits.result)) (s.spent + c.splits-splits.result)) (sym now)
+    (kept-taken s.rule b s.budget s.table s.best s.left s.allowances.items s.spent c.self.invariant c.args.w i p c.requires.worker.0 le c.is_own-own.result owned c.if-not-own.false h.taken new c.splits-splits.result out over (c.splits-splits.ensures ∙ same) (omega (arith, was, c.if-index-splits.false)) piece named planted
+    c.in-Ok.ensures.floors c.in-Ok.ensures.count (omega (arith, lines, opened-length p, same-splits (tree_of p) (tree_of (opened p)) (opened-opens p), same)))
 
 pub returns-clause-ok : goal.returns-clause-ok
 returns-clause-ok c =
     let s = c.self.inside in
     let b : Problem = record { block = instrs_of s.block.now; profile = s.profile } in
     let p = c.args.piece.now in
+    let new = c.plant.new.self in
     let owned = subst (λ (l : MachineOf). IsTrue c.is_own-own.result ↔ ((p.rule ≡ l.rule) × (p.problem ≡ l.problem))) (sym c.self.view_is) c.is_own-own.ensures in
     let i = c.args.node in
     let le : c.args.w ≤ length s.allowances.items = omega (arith, c.requires.worker.1, ap (λ (l : MachineOf). l.workers) c.self.view_is) in
     let out : IsOut s.table i = c.is_out.ensures.0 c.if-not-is_out.false in
     let over : get_or (prefixes s.table) i [] ≡ p.prefix = c.is_over.ensures.0 c.if-not-is_over.false ∙ c.prefix.ensures.value in
-    let few : length p.problem.block ≤ BLOCK_LIMIT = omega (arith, c.count.ensures.value, c.count.ensures.few, ap (λ (q : Problem). length q.block) ((owned.0 c.if-not-own.false).1)) in
-    let lines = piece-lines (opened p) (opened-plain p c.knots-lines.ensures.told) (opened-preorder p c.knots-lines.ensures.preorder) few in
     let was = c.index.ensures ∙ get_or-any s.allowances.items (c.args.w - 1) c.index.result.now 0 (λ n. n) (omega (arith, c.requires.worker.0, le)) in
-    let room = kept-room _ b s.budget s.table s.best s.left s.allowances.items s.spent c.self.invariant (c.args.w - 1) in
     let now = c.index_mut.ensures.value ∙ get_or-any s.allowances.items (c.args.w - 1) c.index_mut.result.now 0 (λ n. n) (omega (arith, c.requires.worker.0, le)) in
-    let best = total_of s.best.problem s.best.numbers in
-    let planted : nodes_of p.problem c.plant.new.self ≡ model.with_state (nodes_of p.problem s.table) i (root_state p.problem best p.prefix (tree_of (opened p))) ++ new_nodes p.problem best p.prefix (tree_of (opened p)) =
-    (subst (λ k. nodes_of p.problem c.plant.new.self ≡ model.with_state (nodes_of p.problem s.table) i (root_state p.problem k p.prefix (tree_of (opened p))) ++ new_nodes p.problem k p.prefix (tree_of (opened p))) c.total-best.ensures.value c.in-Ok.ensures.ok) in
-    let plain = opened-plain p c.knots-lines.ensures.told in
-    let same = same-splits (tree_of p) (tree_of (opened p)) (opened-opens p) in
-    subst (λ n. IsTakenMove c.args.self.now c.args.w i p (machine_of s.rule b s.budget c.plant.new.self s.best.numbers s.left (set s.allowances.items (c.args.w - 1) (n - c.splits-splits.result)) (s.spent + c.splits-splits.result))) (sym now)
-    (graft-taken s.rule b s.budget s.table s.best s.left s.allowances.items s.spent c.self.invariant c.args.w i p c.requires.worker.0 le c.is_own-own.result owned c.if-not-own.false c.plant.new.self c.splits-splits.result out over (c.splits-splits.ensures ∙ same) (omega (arith, was, c.if-index-splits.false)) plain planted c.args.self.now c.self.view_is)
+    let told = c.knots-lines.ensures.told in
+    let preorder = c.knots-lines.ensures.preorder in
+    let h : IsPlantedAs p c.total-best.result i s.table new = c.in-Ok.ensures.ok in
+    let q = with_lines p h.taken in
+    let opens = taken-opens p h.taken told preorder h.opens in
+    let same = same-splits (tree_of p) (tree_of q) opens in
+    let planted : nodes_of p.problem new ≡ model.with_state (nodes_of p.problem s.table) i (root_state p.problem (total_of s.best.problem s.best.numbers) p.prefix (tree_of q)) ++ new_nodes p.problem (total_of s.best.problem s.best.numbers) p.prefix (tree_of q) =
+    subst (λ k. nodes_of p.problem new ≡ model.with_state (nodes_of p.problem s.table) i (root_state p.problem k p.prefix (tree_of q)) ++ new_nodes p.problem k p.prefix (tree_of q)) c.total-best.ensures.value h.nodes in
+    let piece = taken-is_piece p h.taken told preorder h.opens in
+    let named = taken-are_named p h.taken told preorder h.opens new h.named in
+    subst (λ n. IsTakenMove c.args.self.now c.args.w i p (machine_of s.rule b s.budget new s.best.numbers s.left (set s.allowances.items (c.args.w - 1) (n - c.splits-splits.result)) (s.spent + c.splits-splits.result))) (sym now)
+    (graft-taken s.rule b s.budget s.table s.best s.left s.allowances.items s.spent c.self.invariant c.args.w i p c.requires.worker.0 le c.is_own-own.result owned c.if-not-own.false h.taken new c.splits-splits.result out over (c.splits-splits.ensures ∙ same) (omega (arith, was, c.if-index-splits.false)) piece named planted
+    c.args.self.now c.self.view_is (opens-length p.knots h.taken h.opens) (omega (arith, some-flat (told_tree p), ap length preorder)) h.root_line opens (taken-outline p h.taken told preorder h.opens) (taken-match p h.taken told preorder h.opens) (taken-preorder p h.taken told preorder h.opens) h.lines)

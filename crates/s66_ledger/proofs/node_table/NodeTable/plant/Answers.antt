@@ -1,10 +1,10 @@
-use Rattle.std.proofs.Common.{ℕ, true, ◌+◌, ◌-◌, ◌≡◌, ◌≢◌, ◌∙◌, ◌++◌, List, ap, arith, refl, sym, subst, length, length-append, map, get_or, heap_items, []}
+use Rattle.std.proofs.Common.{ℕ, true, ◌+◌, ◌-◌, ◌≡◌, ◌∙◌, ◌++◌, List, ap, arith, refl, sym, subst, length, get_or, heap_items, []}
 use Rattle.std.proofs.lemmas.List.{append-nil, length-set}
 use Rattle.std.proofs.lemmas.Result.{on_ok_weaker}
 use Rattle.s66_dep.specs.Members.{numbers_in}
 use Rattle.s66_model.specs.Ledger as model
 use Rattle.s66_model.specs.Ledger.{root_state, new_nodes}
-use Rattle.s66_model.specs.Tree.{Alone, Parted, TreeHolds, flat}
+use Rattle.s66_model.specs.Tree.{Alone, flat}
 use Rattle.s66_model.specs.Told.{Told}
 use Rattle.s66_node.specs.Pieces.{PieceOf, told_tree, tree_of}
 use Rattle.s66_ledger.specs.declared.node.Node.{Node}
@@ -12,24 +12,22 @@ use Rattle.s66_ledger.specs.declared.node.State.{State}
 use Rattle.s66_ledger.specs.declared.node.State.TheVariants as state
 use Rattle.s66_ledger.specs.OpenNodes.{IsOut, AreOpenNodes}
 use Rattle.s66_ledger.specs.LiveNodes.{AreCounted}
-use Rattle.s66_ledger.specs.Nodes.{no_node, node_at, with_state, nodes_of, lines_of, prefixes, HaveFloors, HaveDepths, is_open_state, is_out_state}
+use Rattle.s66_ledger.specs.Nodes.{no_node, node_at, with_state, nodes_of, lines_of, prefixes, HaveFloors, HaveDepths, is_open_state, is_out_state, has_floor}
 use Rattle.s66_ledger.specs.Opened.{opened, IsPlain, open_knot}
 use Rattle.s66_ledger.proofs.Opened.{opened-plain, opened-preorder, opened-lines, opened-length}
-use Rattle.s66_ledger.specs.Planting.{kids_of, told_state}
-use Rattle.s66_ledger.specs.Subtrees.{placed, settled, planted, lines_below, IsPlanted}
+use Rattle.s66_ledger.specs.Planting.{told_state}
+use Rattle.s66_ledger.specs.Subtrees.{lines_below}
+use Rattle.s66_ledger.specs.Closing.{IsSplitUnder, IsPlantedAs}
+use Rattle.s66_ledger.proofs.Closing.{all-open, open-lines_named, planted-split, split-floors, split-count}
 use Rattle.s66_ledger.proofs.Depths.{depths-state}
 use Rattle.s66_ledger.proofs.NodeFloors.{floors-state}
 use Rattle.s66_ledger.proofs.LiveCounts.{counted-set, some-out, one}
 use Rattle.s66_ledger.proofs.OpenHeap.{still-shut, out-shut, is-open}
-use Rattle.s66_ledger.proofs.Planted.{split-root, split-nodes, alone-nodes, tip-root, told-closed}
-use Rattle.s66_ledger.proofs.PlantedNodes.{still-out}
+use Rattle.s66_ledger.proofs.Planted.{split-root, alone-nodes, tip-root, told-closed}
 use Rattle.s66_ledger.proofs.NodePrefixes.{lines-state}
 use Rattle.s66_ledger.proofs.Reading.{settled-told}
-use Rattle.s66_ledger.proofs.Subtrees.{lines-planted, tip-lineless}
+use Rattle.s66_ledger.proofs.Subtrees.{tip-lineless}
 use Rattle.s66_ledger.proofs.node_table.NodeTable.plant.Goals as goal
-
-out-split : (s : State) → s ≡ state.Out → s ≢ state.Split
-out-split s out split = let no : state.Out ≡ state.Split = sym out ∙ split in absurd cc
 
 -- in these nodes the piece stands in the place of one that was out
 abbrev Stands : PieceOf → ℕ → ℕ → List Node → List Node → Type 0
@@ -47,69 +45,59 @@ module _ (p : PieceOf) (best i : ℕ) (s : State) (told : Told) (old new : List 
       ∙ (sym (append-nil (lines_of old)) ∙ ap (λ ls. lines_of old ++ ls) (sym (tip-lineless p (ap length (sym preorder ∙ ap flat alone))))))
 
   alone-floors : HaveFloors p.problem old → HaveFloors p.problem new
-  alone-floors floors = subst (HaveFloors p.problem) (sym moved) (floors-state p.problem old i s out.0 (out-split (node_at old i).state out.1) floors)
+  alone-floors floors = subst (HaveFloors p.problem) (sym moved) (floors-state p.problem old i s out.0 (ap has_floor out.1) floors)
 
   alone-stands : get_or (prefixes old) i [] ≡ p.prefix → IsPlain p → Stands p best i old new
   alone-stands over holds =
       subst (Stands p best i old) (sym moved)
       (alone-nodes p.problem best i p.prefix (told_tree p) old s told out.0 is over holds alone)
 
--- a piece that is split
-module _ (p : PieceOf) (best i : ℕ) (old subtree new : List Node) (out : IsOut old i) (whole : IsPlanted p best old (planted best i old subtree)) (moved : new ≡ with_state (planted best i old subtree) i state.Split) where
-  abbrev all : List Node
-  all = planted best i old subtree
-
-  split-lines : lines_of subtree ≡ lines_below p → lines_of new ≡ lines_of old ++ lines_below p
-  split-lines below =
-      ap lines_of moved ∙ (lines-state all i state.Split ∙ (lines-planted best i old subtree ∙ ap (λ ls. lines_of old ++ ls) below))
-
-  split-floors : HaveFloors p.problem new
-  split-floors =
-      let there : IsOut all i = still-out old (map (placed i (length old)) (map (settled best) subtree)) i out in
-      subst (HaveFloors p.problem) (sym moved) (floors-state p.problem all i state.Split there.0 (out-split (node_at all i).state there.1) whole.floors)
-
-  split-stands : (numbers : List ℕ) → told_tree p ≡ Parted numbers (kids_of (told_tree p)) → Stands p best i old new
-  split-stands numbers parted =
-      subst (Stands p best i old) (sym moved)
-      (split-nodes p.problem best i p.prefix (told_tree p) old all numbers out.0 (omega (arith, length-append old (map (placed i (length old)) (map (settled best) subtree)))) whole.nodes parted)
+pub returns-in-Split-clause-count : goal.returns-in-Split-clause-count
+returns-in-Split-clause-count c =
+    let p = c.args.piece.now in
+    let old = c.args.self.now in
+    let new = c.plant_split.new.self in
+    let i = c.args.root in
+    let many : length c.args.subtree.now + 1 ≡ length p.knots = c.requires.subtree.count ∙ opened-length p in
+    let count : IsSplitUnder c.args.best i old c.args.subtree.now p.knots new → length new + 1 ≡ length old + length p.knots = split-count c.args.best i old c.args.subtree.now new p.knots many in
+    on_ok_weaker c.plant_split.result count c.plant_split.ensures.ok
 
 pub returns-in-Split-clause-floors : goal.returns-in-Split-clause-floors
 returns-in-Split-clause-floors c =
-    let q = c.args.piece.now in
-    let p = opened q in
+    let p = c.args.piece.now in
     let old = c.args.self.now in
     let new = c.plant_split.new.self in
     let i = c.args.root in
-    let whole = c.requires.subtree.anywhere c.args.best i old (record { within = c.requires.out.0; over = c.requires.over; floors = c.requires.floors; depths = subst HaveDepths c.self.view_is c.self.invariant.2; room = omega (arith, c.requires.room, opened-length q) }) in
-    let split : new ≡ with_state (planted c.args.best i old c.args.subtree.now) i state.Split → HaveFloors p.problem new = split-floors p c.args.best i old c.args.subtree.now new c.requires.out whole in
-    on_ok_weaker c.plant_split.result split c.plant_split.ensures.ok
-
-pub returns-in-Split-clause-lines : goal.returns-in-Split-clause-lines
-returns-in-Split-clause-lines c =
-    let q = c.args.piece.now in
-    let p = opened q in
-    let old = c.args.self.now in
-    let new = c.plant_split.new.self in
-    let i = c.args.root in
-    let whole = c.requires.subtree.anywhere c.args.best i old (record { within = c.requires.out.0; over = c.requires.over; floors = c.requires.floors; depths = subst HaveDepths c.self.view_is c.self.invariant.2; room = omega (arith, c.requires.room, opened-length q) }) in
-    let split : new ≡ with_state (planted c.args.best i old c.args.subtree.now) i state.Split → lines_of new ≡ lines_of old ++ lines_below p =
-    λ moved. split-lines p c.args.best i old c.args.subtree.now new c.requires.out whole moved c.requires.subtree.lines in
+    let whole = c.requires.subtree.anywhere c.args.best i old (record { within = c.requires.out.0; over = c.requires.over; floors = c.requires.floors; depths = subst HaveDepths c.self.view_is c.self.invariant.2; room = omega (arith, c.requires.room, opened-length p) }) in
+    let many : length c.args.subtree.now + 1 ≡ length p.knots = c.requires.subtree.count ∙ opened-length p in
+    let split : IsSplitUnder c.args.best i old c.args.subtree.now p.knots new → HaveFloors p.problem new = split-floors c.args.best i old c.args.subtree.now new p.knots many p.problem c.requires.out whole.floors in
     on_ok_weaker c.plant_split.result split c.plant_split.ensures.ok
 
 pub returns-in-Split-clause-ok : goal.returns-in-Split-clause-ok
 returns-in-Split-clause-ok c =
-    let q = c.args.piece.now in
-    let p = opened q in
+    let p = c.args.piece.now in
+    let q = opened p in
     let old = c.args.self.now in
     let new = c.plant_split.new.self in
     let i = c.args.root in
     let knots = c.knots.result.now in
-    let whole = c.requires.subtree.anywhere c.args.best i old (record { within = c.requires.out.0; over = c.requires.over; floors = c.requires.floors; depths = subst HaveDepths c.self.view_is c.self.invariant.2; room = omega (arith, c.requires.room, opened-length q) }) in
+    let whole = c.requires.subtree.anywhere c.args.best i old (record { within = c.requires.out.0; over = c.requires.over; floors = c.requires.floors; depths = subst HaveDepths c.self.view_is c.self.invariant.2; room = omega (arith, c.requires.room, opened-length p) }) in
     let numbers = numbers_in c.in-Split.field-0 in
-    let parted = split-root (told_tree p) knots p.knots (opened-preorder q c.knots.ensures.preorder) (opened-lines knots q c.knots.ensures.value) c.index-knots-0.result c.index-knots-0.result numbers c.index-knots-0.is (ap open_knot c.in-Split.is) in
-    let split : new ≡ with_state (planted c.args.best i old c.args.subtree.now) i state.Split → Stands p c.args.best i old new =
-    λ moved. split-stands p c.args.best i old c.args.subtree.now new c.requires.out whole moved numbers parted in
+    let parts = split-root (told_tree q) knots q.knots (opened-preorder p c.knots.ensures.preorder) (opened-lines knots p c.knots.ensures.value) c.index-knots-0.result c.index-knots-0.result numbers c.index-knots-0.is (ap open_knot c.in-Split.is) in
+    let split : IsSplitUnder c.args.best i old c.args.subtree.now p.knots new → IsPlantedAs p c.args.best i old new =
+    λ under. planted-split p c.knots.ensures.told c.knots.ensures.preorder c.args.best i old c.args.subtree.now new c.requires.out c.requires.subtree whole under numbers parts in
     on_ok_weaker c.plant_split.result split c.plant_split.ensures.ok
+
+-- a piece that isn't split
+alone-planted : (q : PieceOf) (best i : ℕ) (s : State) (told : Told) (old new : List Node) → IsOut old i → told_tree (opened q) ≡ Alone told → s ≡ told_state best told → new ≡ with_state old i s → flat (told_tree (opened q)) ≡ (opened q).knots → get_or (prefixes old) i [] ≡ q.prefix → IsPlain (opened q) → IsPlantedAs q best i old new
+alone-planted q best i s told old new out alone is moved preorder over plain = record {
+  taken = (opened q).knots;
+  opens = all-open q.knots;
+  root_line = refl;
+  lines = alone-lines (opened q) best i s told old new out alone is moved preorder;
+  nodes = alone-stands (opened q) best i s told old new out alone is moved over plain;
+  named = open-lines_named new q.knots;
+}
 
 pub returns-then-is_open : goal.returns-then-is_open
 returns-then-is_open c =
@@ -126,8 +114,7 @@ returns-then-is_open c =
       err = tt;
       count = omega (arith, alone-count p c.args.best i state.Open told old c.give_back.new.self c.requires.out alone now moved (opened-preorder q c.knots.ensures.preorder), opened-length q);
       floors = alone-floors p c.args.best i state.Open told old c.give_back.new.self c.requires.out alone now moved c.requires.floors;
-      lines = alone-lines p c.args.best i state.Open told old c.give_back.new.self c.requires.out alone now moved (opened-preorder q c.knots.ensures.preorder);
-      ok = alone-stands p c.args.best i state.Open told old c.give_back.new.self c.requires.out alone now moved c.requires.over (opened-plain q c.knots.ensures.told);
+      ok = alone-planted q c.args.best i state.Open told old c.give_back.new.self c.requires.out alone now moved (opened-preorder q c.knots.ensures.preorder) c.requires.over (opened-plain q c.knots.ensures.told);
     }
 
 pub invariant_of-self : goal.invariant_of-self
@@ -161,8 +148,7 @@ returns c =
       err = tt;
       count = omega (arith, alone-count p c.args.best i state.Closed told old _ c.requires.out alone now moved (opened-preorder q c.knots.ensures.preorder), opened-length q);
       floors = alone-floors p c.args.best i state.Closed told old _ c.requires.out alone now moved c.requires.floors;
-      lines = alone-lines p c.args.best i state.Closed told old _ c.requires.out alone now moved (opened-preorder q c.knots.ensures.preorder);
-      ok = alone-stands p c.args.best i state.Closed told old _ c.requires.out alone now moved c.requires.over (opened-plain q c.knots.ensures.told);
+      ok = alone-planted q c.args.best i state.Closed told old _ c.requires.out alone now moved (opened-preorder q c.knots.ensures.preorder) c.requires.over (opened-plain q c.knots.ensures.told);
     }
 
 pub overflow_sub-self : goal.overflow_sub-self

@@ -1,4 +1,4 @@
-use Rattle.std.proofs.Common.{◌≡◌, List, [], get_or, inl, inr, refl, sym, ap, subst, ◌∙◌}
+use Rattle.std.proofs.Common.{◌≡◌, List, [], get_or, inl, inr, sym, ap, subst, ◌∙◌}
 use Rattle.s66_model.specs.Tree.{AtTip, flat}
 use Rattle.s66_model.specs.Told.{Told, ToldLeaf, ToldFrontier}
 use Rattle.s66_node.specs.declared.knot.Knot as code
