@@ -58,6 +58,35 @@ fn piece_by<R: AllocGlobal + Abort, L: Least>(
     Ok(piece)
 }
 
+/// A line of a piece without dominated leaves.
+#[derive(Clone, Copy, Debug, PartialEq, Eq)]
+enum Line {
+    Split(Set),
+    Leaf(u32),
+    Frontier(u32),
+}
+
+/// The lines of a piece, none of which is dominated.
+fn lines_of<R: AllocGlobal + Abort>(rt: &R, piece: &Piece) -> Result<Vec<Line>, Fail> {
+    let mut lines = Vec::new(rt.alloc());
+    for knot in piece.knots() {
+        let line = match knot {
+            Knot::Split(numbers) => Some(Line::Split(*numbers)),
+            Knot::Leaf { value } => Some(Line::Leaf(*value)),
+            Knot::Frontier { value } => Some(Line::Frontier(*value)),
+            Knot::Passed { .. } => None,
+        };
+        lines.push(line.expect(rt, "no dominated leaf"))?;
+    }
+    Ok(lines)
+}
+
+/// Checks the lines of a piece.
+fn check_lines<R: AllocGlobal + Abort>(rt: &R, piece: &Piece, lines: &[Line]) -> Result<(), Fail> {
+    assert_eq!(rt; lines_of(rt, piece)?.as_slice(), lines);
+    Ok(())
+}
+
 /// Checks the order of a piece that is timed, and its total.
 fn check_timed<R: Abort>(rt: &R, piece: &Piece, numbers: &[u8], total: u32) {
     let timed = piece.timed().expect(rt, "a whole order");
@@ -68,16 +97,15 @@ fn check_timed<R: Abort>(rt: &R, piece: &Piece, numbers: &[u8], total: u32) {
 /// Three multiplies take 22 in any order, and at least 17 while fewer than three are placed.
 #[test]
 fn expands_prefixes(rt: HostRuntime) -> Result<(), Fail> {
-    let open = Knot::Frontier { value: 17 };
+    let open = Line::Frontier(17);
     let split = piece_of(&rt, MULTIPLIES, &[], 22, 1)?;
     assert_eq!(rt; split.splits(), 1);
-    let knots = [Knot::Split(Set::up_to(3)), open, open, open];
-    assert_eq!(rt; split.knots(), knots.as_slice());
+    check_lines(&rt, &split, &[Line::Split(Set::up_to(3)), open, open, open])?;
     assert!(rt; split.timed().is_none());
     let leaf = piece_of(&rt, MULTIPLIES, &[], 17, 1)?;
-    assert_eq!(rt; leaf.knots(), [Knot::Leaf { value: 17 }].as_slice());
+    check_lines(&rt, &leaf, &[Line::Leaf(17)])?;
     let whole = piece_of(&rt, MULTIPLIES, &[1, 2, 3], 22, 0)?;
-    assert_eq!(rt; whole.knots(), [Knot::Leaf { value: 22 }].as_slice());
+    check_lines(&rt, &whole, &[Line::Leaf(22)])?;
     check_timed(&rt, &whole, &[1, 2, 3], 22);
     Ok(())
 }
@@ -89,7 +117,7 @@ fn expands_by_a_constant(rt: HostRuntime) -> Result<(), Fail> {
         let mut constant = Constant(best);
         let piece = piece_by(&rt, MULTIPLIES, &mut constant, 1)?;
         let same = piece_of(&rt, MULTIPLIES, &[], best, 1)?;
-        assert_eq!(rt; piece.knots(), same.knots());
+        check_lines(&rt, &piece, lines_of(&rt, &same)?.as_slice())?;
         assert_eq!(rt; piece.splits(), same.splits());
         assert_eq!(rt; constant, Constant(best));
     }
@@ -105,9 +133,8 @@ fn expands_by_a_falling_time(rt: HostRuntime) -> Result<(), Fail> {
         is_told: false,
     };
     let piece = piece_by(&rt, MULTIPLIES, &mut falling, 100)?;
-    let leaf = Knot::Leaf { value: 17 };
-    let knots = [Knot::Split(Set::up_to(3)), leaf, leaf, leaf];
-    assert_eq!(rt; piece.knots(), knots.as_slice());
+    let leaf = Line::Leaf(17);
+    check_lines(&rt, &piece, &[Line::Split(Set::up_to(3)), leaf, leaf, leaf])?;
     assert_eq!(rt; piece.splits(), 1);
     assert_eq!(rt; falling.kept, 17);
     assert!(rt; piece.timed().is_none());
@@ -120,20 +147,20 @@ fn expands_to_whole_orders(rt: HostRuntime) -> Result<(), Fail> {
     let one = Set::empty().with(1);
     let two = Set::empty().with(2);
     let three = Set::empty().with(3);
-    let knots = [
-        Knot::Split(one.with(3)),
-        Knot::Split(two.with(3)),
-        Knot::Split(three),
-        Knot::Leaf { value: 16 },
-        Knot::Split(two),
-        Knot::Leaf { value: 12 },
-        Knot::Split(one),
-        Knot::Split(two),
-        Knot::Leaf { value: 13 },
+    let lines = [
+        Line::Split(one.with(3)),
+        Line::Split(two.with(3)),
+        Line::Split(three),
+        Line::Leaf(16),
+        Line::Split(two),
+        Line::Leaf(12),
+        Line::Split(one),
+        Line::Split(two),
+        Line::Leaf(13),
     ];
     let piece = piece_of(&rt, ONE_LOAD, &[], 17, 100)?;
     assert_eq!(rt; piece.splits(), 6);
-    assert_eq!(rt; piece.knots(), knots.as_slice());
+    check_lines(&rt, &piece, &lines)?;
     check_timed(&rt, &piece, &[1, 3, 2], 12);
     Ok(())
 }
