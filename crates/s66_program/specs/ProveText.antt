@@ -1,5 +1,5 @@
 -- To be believed: what `prove` writes for a source, and how it ends: for each block the document of an answer of a search of its orders, of which there may be several.
-use Rattle.std.specs.Prelude.{ℕ, ◌≡◌, List, [], ◌∷◌, Ok, map}
+use Rattle.std.specs.Prelude.{ℕ, ◌≡◌, if◌then◌else◌, List, [], ◌∷◌, Ok, map}
 use Rattle.s66_isa.specs.declared.profile.Profile.{Profile}
 use Rattle.s66_isa.specs.Table.{entries, numbers}
 use Rattle.s66_line.specs.Block.{instrs_of, text_of}
