@@ -10,6 +10,7 @@ use rounds::{sum_of_pushes, sum_of_rounds};
 use s66_isa::Profile;
 use s66_ledger::BUDGET_LIMIT;
 use s66_line::{Block, Source, read_source};
+use s66_model::Rule;
 use s66_pool::{Options, WORKERS_LIMIT};
 use searches::{search_alone, search_by_workers};
 use std::alloc::AllocError;
@@ -41,7 +42,11 @@ fn options_of(words: &[String], nodes: u32) -> Option<Options> {
         Some(word) => word.parse::<u8>().ok()?,
         None => 1,
     };
-    Some(Options { workers, nodes })
+    Some(Options {
+        workers,
+        nodes,
+        rule: Rule::NoneNamed,
+    })
 }
 
 /// The mode that the words of the command line ask for.
@@ -93,6 +98,7 @@ fn run_block<R: AllocGlobal + Threads + Wait + Sync>(
             let within = Options {
                 workers: options.workers.max(1).min(WORKERS_LIMIT),
                 nodes: options.nodes.min(BUDGET_LIMIT),
+                rule: options.rule,
             };
             let counts = search_by_workers(rt, block, &profile, within)?;
             (counts.best as u64, counts)

@@ -14,6 +14,7 @@ use crate::victim::Victim;
 use crate::worker::{Site, work_at};
 use s66_isa::Profile;
 use s66_line::Block;
+use s66_model::Rule;
 use std::alloc::AllocError;
 use std::sync::Wait;
 use std::sync::atomic::AtomicUsize;
@@ -24,14 +25,14 @@ use std::thread::Threads;
 /// and gives the seats back, each in its place. A worker that runs out of memory ends.
 ///
 /// The workers share a hint of the best time, and each has a lane of nodes from which the others may steal. `Err` is out of memory for
-/// these, and comes before a worker has started. Nothing of the options is read.
+/// these, and comes before a worker has started. Of the options only the rule is read.
 pub fn work<'a, R: AllocGlobal + Threads + Wait + Sync, G: Gate + Sync>(
     rt: &R,
     hub: &Hub<'a>,
     mut seats: Vec<Seat<'a>>,
     block: &Block,
     profile: &Profile,
-    _options: Options,
+    options: Options,
     gate: &G,
 ) -> Result<Vec<Seat<'a>>, (AllocError, Vec<Seat<'a>>)>
     requires { All (λ s. s.hub ≡ hub.now.id) seats.items }
@@ -59,7 +60,7 @@ pub fn work<'a, R: AllocGlobal + Threads + Wait + Sync, G: Gate + Sync>(
     };
     seat_members(&mut members, &mut seats, locals);
     let places = members.as_mut_slice();
-    work_at_each(rt, hub, places, block, profile, gate);
+    work_at_each(rt, hub, places, block, profile, options.rule, gate);
     settle(rt, hub, places);
     take_seats(&mut seats, members);
     Ok(seats)
@@ -115,6 +116,7 @@ fn work_at_each<'a, R: AllocGlobal + Threads + Wait + Sync, G: Gate + Sync>(
     members: &mut [Member<'_, 'a>],
     block: &Block,
     profile: &Profile,
+    rule: Rule,
     gate: &G,
 )
     requires here { All (λ m. m.seat.hub ≡ hub.now.id) members.old }
@@ -128,6 +130,7 @@ fn work_at_each<'a, R: AllocGlobal + Threads + Wait + Sync, G: Gate + Sync>(
             rt,
             hub,
             gate,
+            rule,
             searching: AtomicUsize::new(members.len()),
         },
         block,

@@ -1,3 +1,5 @@
+use s66_model::Rule;
+
 /// How a block's orders are searched.
 #[derive(Clone, Copy, Debug, PartialEq, Eq)]
 pub struct Options {
@@ -5,4 +7,6 @@ pub struct Options {
     pub workers: u8,
     /// The most splits of the search, 0 to `BUDGET_LIMIT`.
     pub nodes: u32,
+    /// Which nodes dominated leaves name; by `NoneNamed` no leaf is dominated.
+    pub rule: Rule,
 }

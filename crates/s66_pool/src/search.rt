@@ -1,5 +1,4 @@
 ghost use Rattle.std.specs.Prelude.{◌≡◌, ◌≤◌, IfOk, OnOk};
-ghost use Rattle.s66_model.specs.declared.rule.Rule.TheVariants.{NoneNamed};
 ghost use Rattle.s66_line.specs.Block.{instrs_of};
 ghost use Rattle.s66_ledger.specs.declared.limits.TheConstants.{BUDGET_LIMIT};
 ghost use Rattle.s66_pool.specs.declared.limits.TheConstants.{WORKERS_LIMIT};
@@ -81,12 +80,19 @@ pub fn run<R: AllocGlobal + Threads + Wait + Sync, G: Gate + Sync>(
 ) -> Result<Answer, AllocError>
     requires workers { (1 ≤ options.workers) × (options.workers ≤ WORKERS_LIMIT) }
     requires nodes { options.nodes ≤ BUDGET_LIMIT }
-    ensures rule { IfOk result (λ a. a.rule ≡ NoneNamed) }
+    ensures rule { IfOk result (λ a. a.rule ≡ options.rule) }
     ensures problem { IfOk result (λ a. a.problem ≡ record { block = instrs_of block.now; profile = profile.now }) }
     ensures budget { IfOk result (λ a. a.budget ≡ options.nodes) }
 {
     let alloc = rt.alloc();
-    let mut ledger = Ledger::new(alloc, block, profile, options.nodes, options.workers)?;
+    let mut ledger = Ledger::by_rule(
+        alloc,
+        block,
+        profile,
+        options.rule,
+        options.nodes,
+        options.workers,
+    )?;
     offer_schedules(&mut ledger)?;
     if ledger.bound() < ledger.best() {
         ledger = search_by_workers(rt, ledger, block, profile, options, gate)?;

@@ -10,6 +10,7 @@ use crate::supply::{Needs, Supply};
 use s66_isa::Profile;
 use s66_ledger::{Offered, SCHEDULE_ROUNDS, Ticket};
 use s66_line::Block;
+use s66_model::Rule;
 use s66_node::{Piece, Priority, Walk, schedule_below};
 use s66_time::Timed;
 use std::alloc::{AllocError, Global};
@@ -23,6 +24,8 @@ pub(crate) struct Site<'s, 'a, R, G> {
     pub rt: &'s R,
     pub hub: &'s Hub<'a>,
     pub gate: &'s G,
+    /// Of the hub's dominated leaves.
+    pub rule: Rule,
     /// The number of workers that have nodes, or may have left some open since they last found none.
     pub searching: AtomicUsize,
 }
@@ -228,7 +231,7 @@ impl<'b> Worker<'b> {
             &mut member.local.incumbent,
             self.allowance,
         ) {
-            Ok(piece) => self.hand_in(site, member, ticket, &piece),
+            Ok(piece) => self.hand_in(site, member, ticket, &piece.by_rule(site.rule)),
             Err(AllocError) => give_back(site, &mut member.seat, ticket),
         }
     }

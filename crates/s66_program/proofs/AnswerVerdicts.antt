@@ -1,5 +1,5 @@
 -- A checker finds no fault in the document of an answer.
-use Rattle.std.proofs.Common.{ℕ, zero, suc, ◌+◌, ◌≡◌, ◌≤◌, ◌∙◌, List, [], ◌∷◌, Ok, length, map, refl, sym, ap, ap₂, subst, arith}
+use Rattle.std.proofs.Common.{ℕ, zero, suc, ◌+◌, ◌≡◌, ◌≤◌, ◌∙◌, List, [], ◌∷◌, Ok, length, map, refl, sym, ap₂, subst, arith}
 use Rattle.s66_isa.specs.declared.instr.Instr.{Instr}
 use Rattle.s66_isa.specs.Lists.{Among, rising}
 use Rattle.s66_isa.specs.declared.profile.Profile.{Profile}

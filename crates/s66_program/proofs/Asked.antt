@@ -13,8 +13,8 @@ pub asked-within : (words : List Text) (command : Command) → Asks words comman
 asked-within words (Time trace profile) h = tt
 asked-within words Deps h = tt
 asked-within words (Chart profile) h = tt
-asked-within words (Order workers nodes trace profile) h = search-within words workers nodes h.1
-asked-within words (Prove workers nodes profile) h = search-within words workers nodes h.1
+asked-within words (Order workers nodes rule trace profile) h = search-within words workers nodes h.1
+asked-within words (Prove workers nodes rule profile) h = search-within words workers nodes h.1
 asked-within words Check h = tt
 asked-within words Lint h = tt
 asked-within words (Sum workers nodes profile) h = search-within words workers nodes h.1

@@ -1,5 +1,5 @@
 -- The texts of a block's instructions, one after the other.
-use Rattle.std.proofs.Common.{ℕ, ◌+◌, ◌-◌, ◌≡◌, ◌≤◌, ◌<◌, ◌∙◌, List, [], ◌∷◌, ◌++◌, inl, inr, length, map, ap, sym, subst, arith, append_assoc}
+use Rattle.std.proofs.Common.{ℕ, ◌+◌, ◌-◌, ◌≡◌, ◌<◌, ◌∙◌, List, [], ◌∷◌, ◌++◌, inl, inr, length, map, ap, sym, subst, arith, append_assoc}
 use Rattle.std.proofs.lemmas.Bool.{cases_lt}
 use Rattle.s66_isa.specs.Lists.{rising}
 use Rattle.s66_isa.specs.Table.{instr_at}

@@ -7,7 +7,7 @@ use Rattle.s66_line.specs.Source.{Block}
 use Rattle.s66_model.specs.declared.rule.Rule.{Rule}
 use Rattle.s66_model.specs.Answer.{Answer}
 use Rattle.s66_cert.specs.declared.limits.TheConstants.{SPLIT_LIMIT}
-use Rattle.s66_cert.specs.Document.{Document, AreDocumentsWithin, IsText}
+use Rattle.s66_cert.specs.Document.{AreDocumentsWithin, IsText}
 use Rattle.s66_cert.proofs.OneReading.{one-list}
 use Rattle.s66_checker.specs.Verdict.{verdict}
 use Rattle.s66_program.specs.declared.outcome.Status.{Status}

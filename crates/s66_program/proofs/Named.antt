@@ -1,5 +1,5 @@
 -- Words that clap takes name a subcommand.
-use Rattle.std.proofs.Common.{◌≡◌, ◌⊎◌, inl, inr, ℕ, Bool, cond, true, false, true≢false, ◌||◌, List, [], ◌∷◌, ◌++◌, Option, Some, None, refl, sym, ap, ◌∙◌, subst, Box, box_value, codes, find, fold, drop, is_some, map, option_and_then, option_map, bytes_eq}
+use Rattle.std.proofs.Common.{◌≡◌, ◌⊎◌, inl, inr, ℕ, Bool, cond, true, false, true≢false, ◌||◌, ◌&&◌, List, [], ◌∷◌, ◌++◌, Option, Some, None, refl, sym, ap, ap₂, ◌∙◌, subst, Box, box_value, codes, find, fold, drop, is_some, map, option_and_then, option_map, bytes_eq}
 use Rattle.std.specs.Prelude.{unwrap_or}
 use Rattle.std.specs.Borrow.{Bor}
 use Rattle.std.specs.List.{list_all, list_any}
@@ -18,10 +18,11 @@ use Rattle.clap.specs.Faults.{check_fault, defaults_fault, entered_fault, fault_
 use Rattle.clap.proofs.SimpleLemmas.{is_nil}
 use Rattle.clap.proofs.WalkLemmas.{both, first_value-rows, one_text-rows}
 use Rattle.s66_ledger.specs.declared.limits.TheConstants.{BUDGET_LIMIT}
+use Rattle.s66_model.specs.declared.rule.Rule.{Rule as LeafRule}
 use Rattle.s66_pool.specs.declared.limits.TheConstants.{WORKERS_LIMIT}
 use Rattle.s66_program.specs.declared.limits.TheConstants.{NODES_DEFAULT, WORKERS_DEFAULT}
 use Rattle.s66_program.specs.OptionNumbers.{IsNumber, IsReadAs}
-use Rattle.s66_program.specs.Usage.{AsksFor, GivesProfile, GivesSearch, has_option, option_text, s66_app, subcommand_name}
+use Rattle.s66_program.specs.Usage.{AsksFor, GivesProfile, GivesRule, GivesSearch, gives_both, has_option, option_text, rule_by, rule_unless_both, s66_app, subcommand_name}
 use Rattle.s66_program.proofs.Faults.{first-none, full, second-none}
 use Rattle.s66_program.proofs.Flags.{HasFlag, flag-is}
 use Rattle.s66_program.proofs.OptionRanges.{HasNumber, number-is}
@@ -271,6 +272,65 @@ pub flag-of : (words : List Text) (found : Found) (flag : Bool) (s : Shape) (id 
 flag-of words found flag s id long is options there when-true when-false =
     flag-is id long s.rules options there is.0 (rows_of found) (one_text found id) flag is.1 (one_text-rows found id) when-true when-false
     ∙ sym (ap (λ o. option_map_or (λ (p : Text × List Row). is_given id p.1) o false) is.2)
+
+-- THE FLAGS `--dominate` AND `--dominate-tree`
+
+-- the options have both
+abbrev pub HasRuleFlags : List Rule → Type 0
+HasRuleFlags rules =
+    HasFlag (codes "dominate") (codes "dominate") rules × HasFlag (codes "dominate-tree") (codes "dominate-tree") rules
+    × (is_some (arg_by_id rules (codes "dominate")) ≡ true) × (is_some (arg_by_id rules (codes "dominate-tree")) ≡ true)
+
+-- the options of the subcommand of that name
+abbrev rules_at : Text → List Rule
+rules_at name = option_map_or (λ (s : Shape). s.rules) (subcommand_at name) []
+
+pub order-flags : HasRuleFlags (rules_at (codes "order"))
+order-flags = (
+  (inr refl, (inr refl, (inr refl, (inl refl, (inr refl, (inr refl, (inr refl, tt))))))),
+  (inr refl, (inr refl, (inr refl, (inr refl, (inl refl, (inr refl, (inr refl, tt))))))),
+  refl,
+  refl,
+)
+
+pub prove-flags : HasRuleFlags (rules_at (codes "prove"))
+prove-flags = (
+  (inr refl, (inr refl, (inr refl, (inl refl, (inr refl, (inr refl, tt)))))),
+  (inr refl, (inr refl, (inr refl, (inr refl, (inl refl, (inr refl, tt)))))),
+  refl,
+  refl,
+)
+
+-- a flag as clap tells it of what was found
+abbrev pub IsTold : Found → Text → Bool → Type 0
+IsTold found id flag = (one_text found id ≡ Some (codes "true") → flag ≡ true) × (one_text found id ≡ Some (codes "false") → flag ≡ false)
+
+-- each is what the words give
+flags-of : (words : List Text) (found : Found) (dominate any : Bool) (s : Shape) → IsMatched found words s → HasRuleFlags s.rules →
+    IsTold found (codes "dominate") dominate → IsTold found (codes "dominate-tree") any → rule_unless_both dominate any ≡ rule_unless_both (has_option (codes "dominate") words) (has_option (codes "dominate-tree") words)
+flags-of words found dominate any s is has told any-told =
+    ap₂ rule_unless_both (flag-of words found dominate s (codes "dominate") (codes "dominate") is has.0 has.2 told.0 told.1)
+    (flag-of words found any s (codes "dominate-tree") (codes "dominate-tree") is has.1 has.3 any-told.0 any-told.1)
+
+one-given : (dominate any : Bool) (rule : LeafRule) → Some rule ≡ rule_unless_both dominate any → (rule ≡ rule_by dominate any) × ((dominate && any) ≡ false)
+one-given true true rule is = absurd (true≢false (ap is_some is))
+one-given true false rule is = (ap (λ o. unwrap_or o rule) is, refl)
+one-given false any rule is = (ap (λ o. unwrap_or o rule) is, refl)
+
+pub rule-of : (words : List Text) (found : Found) (dominate any : Bool) (rule : LeafRule) (s : Shape) → IsMatched found words s → HasRuleFlags s.rules →
+    IsTold found (codes "dominate") dominate → IsTold found (codes "dominate-tree") any → Some rule ≡ rule_unless_both dominate any → GivesRule words rule
+rule-of words found dominate any rule s is has told any-told gives =
+    one-given (has_option (codes "dominate") words) (has_option (codes "dominate-tree") words) rule (gives ∙ flags-of words found dominate any s is has told any-told)
+
+both-given : (dominate any : Bool) → None ≡ rule_unless_both dominate any → (dominate && any) ≡ true
+both-given true true is = refl
+both-given true false is = absurd (true≢false (ap is_some (sym is)))
+both-given false any is = absurd (true≢false (ap is_some (sym is)))
+
+pub both-of : (words : List Text) (found : Found) (dominate any : Bool) (s : Shape) → IsMatched found words s → HasRuleFlags s.rules →
+    IsTold found (codes "dominate") dominate → IsTold found (codes "dominate-tree") any → None ≡ rule_unless_both dominate any → gives_both words ≡ true
+both-of words found dominate any s is has told any-told gives =
+    both-given (has_option (codes "dominate") words) (has_option (codes "dominate-tree") words) (gives ∙ flags-of words found dominate any s is has told any-told)
 
 -- the text of a subcommand's profile, as it was found
 pub profile-of : (words : List Text) (found : Found) (s : Shape) (profile : Option (Bor Text)) → IsMatched found words s →

@@ -1,9 +1,8 @@
 -- Blocks that are read again from a printed source take the times of their answers.
-use Rattle.std.proofs.Common.{ℕ, ◌≡◌, ◌∙◌, Bool, List, [], ◌∷◌, Ok, length, map, refl, sym, ap, ap₂, subst}
+use Rattle.std.proofs.Common.{ℕ, ◌≡◌, ◌∙◌, Bool, List, [], ◌∷◌, Ok, map, refl, sym, ap, ap₂, subst}
 use Rattle.std.proofs.lemmas.List.{length-map}
 use Rattle.s66_isa.specs.declared.instr.Instr.{Instr}
 use Rattle.s66_isa.specs.declared.profile.Profile.{Profile}
-use Rattle.s66_line.specs.Printed.{printed}
 use Rattle.s66_line.specs.ReadAgain.{AreComplete, ArePlacedAgain, IsPlacedAgain}
 use Rattle.s66_line.specs.Source.{Entry, Block, source_of}
 use Rattle.s66_line.proofs.ReadAgain.{read-again}

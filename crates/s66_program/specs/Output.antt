@@ -31,8 +31,8 @@ abbrev pub IsWithin : Command → Type 0
 IsWithin (Time trace profile) = Unit {0}
 IsWithin Deps = Unit {0}
 IsWithin (Chart profile) = Unit {0}
-IsWithin (Order workers nodes trace profile) = IsSearchWithin workers nodes
-IsWithin (Prove workers nodes profile) = IsSearchWithin workers nodes
+IsWithin (Order workers nodes rule trace profile) = IsSearchWithin workers nodes
+IsWithin (Prove workers nodes rule profile) = IsSearchWithin workers nodes
 IsWithin Check = Unit {0}
 IsWithin Lint = Unit {0}
 IsWithin (Sum workers nodes profile) = IsSearchWithin workers nodes
@@ -44,8 +44,8 @@ abbrev pub profile_text : Command → Option (List ℕ)
 profile_text (Time trace profile) = option_map (λ text. text.now) profile
 profile_text Deps = None
 profile_text (Chart profile) = option_map (λ text. text.now) profile
-profile_text (Order workers nodes trace profile) = option_map (λ text. text.now) profile
-profile_text (Prove workers nodes profile) = option_map (λ text. text.now) profile
+profile_text (Order workers nodes rule trace profile) = option_map (λ text. text.now) profile
+profile_text (Prove workers nodes rule profile) = option_map (λ text. text.now) profile
 profile_text Check = None
 profile_text Lint = None
 profile_text (Sum workers nodes profile) = option_map (λ text. text.now) profile
@@ -83,8 +83,8 @@ abbrev pub IsOutput : Profile → Command → (input text : List ℕ) → Status
 IsOutput p (Time trace profile) input text status = IsListing p (listing.Times trace) input text × (status ≡ Done)
 IsOutput p Deps input text status = IsListing p listing.Dependences input text × (status ≡ Done)
 IsOutput p (Chart profile) input text status = IsListing p listing.Chart input text × (status ≡ Done)
-IsOutput p (Order workers nodes trace profile) input text status = IsOrderOutput NoneNamed p nodes trace input text status
-IsOutput p (Prove workers nodes profile) input text status = IsProveOutput NoneNamed p nodes input text status
+IsOutput p (Order workers nodes rule trace profile) input text status = IsOrderOutput rule p nodes trace input text status
+IsOutput p (Prove workers nodes rule profile) input text status = IsProveOutput rule p nodes input text status
 IsOutput p Check input text status = IsCheckOutput input text status
 IsOutput p Lint input text status = IsLintOutput input text status
 IsOutput p (Sum workers nodes profile) input text status = IsSumOutput NoneNamed p nodes input text status
@@ -94,8 +94,8 @@ abbrev pub reads_source : Command → Bool
 reads_source (Time trace profile) = true
 reads_source Deps = true
 reads_source (Chart profile) = true
-reads_source (Order workers nodes trace profile) = true
-reads_source (Prove workers nodes profile) = true
+reads_source (Order workers nodes rule trace profile) = true
+reads_source (Prove workers nodes rule profile) = true
 reads_source Check = false
 reads_source Lint = false
 reads_source (Sum workers nodes profile) = true

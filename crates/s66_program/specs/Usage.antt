@@ -1,7 +1,7 @@
 -- To be believed: the command line, by clap's rules: the subcommands `time`, `deps`, `chart`, `order`, `prove`, `check`, `lint`
--- and `sum`, and a version. `time`, `chart`, `order`, `prove` and `sum` have the option `--profile`, the last three also `--workers` and `--nodes`, and
--- `time` and `order` the flag `--trace`.
-use Rattle.std.specs.Prelude.{◌≡◌, ◌≢◌, ◌⊎◌, ◌≤◌, ℕ, Bool, List, [], false, true, Option, Some, codes, option_and_then, pos}
+-- and `sum`, and a version. `time`, `chart`, `order`, `prove` and `sum` have the option `--profile`, the last three also `--workers` and `--nodes`,
+-- `time` and `order` the flag `--trace`, and `order` and `prove` one at most of the flags `--dominate` and `--dominate-tree`.
+use Rattle.std.specs.Prelude.{◌≡◌, ◌≢◌, ◌⊎◌, ◌≤◌, ◌&&◌, if◌then◌else◌, ℕ, Bool, List, [], false, true, Option, None, Some, codes, option_and_then, pos}
 use Rattle.std.specs.Borrow.{Bor}
 use Rattle.std.specs.Option.{option_map, option_map_or}
 use Rattle.std.specs.Str.Parse.{digits_value, without_leading_plus}
@@ -15,6 +15,8 @@ use Rattle.clap.specs.declared.builder.value_parser.ValueParser.TheVariants.{Sig
 use Rattle.clap.specs.declared.error.kind.ErrorKind.{ErrorKind}
 use Rattle.clap.specs.declared.error.kind.ErrorKind.TheVariants as kind
 use Rattle.s66_ledger.specs.declared.limits.TheConstants.{BUDGET_LIMIT}
+use Rattle.s66_model.specs.declared.rule.Rule.{Rule as LeafRule}
+use Rattle.s66_model.specs.declared.rule.Rule.TheVariants.{NoneNamed, WrittenEarlier, ClampedStanding}
 use Rattle.s66_pool.specs.declared.limits.TheConstants.{WORKERS_LIMIT}
 use Rattle.s66_program.specs.declared.limits.TheConstants.{NODES_DEFAULT, WORKERS_DEFAULT}
 use Rattle.s66_program.specs.declared.command.Command.{Command}
@@ -22,8 +24,18 @@ use Rattle.s66_program.specs.declared.command.Command.TheVariants.{Time, Deps, C
 use Rattle.s66_program.specs.declared.usage.Usage.{Usage}
 use Rattle.s66_program.specs.declared.usage.Usage.TheVariants.{Help, Bad, OutOfMemory}
 
+-- a flag by its name
+abbrev pub flag_rule : Text → Rule
+flag_rule name = record (new_rule name) { long = Some name; action = Some SetTrue }
+
 abbrev pub trace_rule : Rule
-trace_rule = record (new_rule (codes "trace")) { long = Some (codes "trace"); action = Some SetTrue }
+trace_rule = flag_rule (codes "trace")
+
+abbrev pub dominate_rule : Rule
+dominate_rule = flag_rule (codes "dominate")
+
+abbrev pub dominate_tree_rule : Rule
+dominate_tree_rule = flag_rule (codes "dominate-tree")
 
 -- an option whose value is a number from the least to the most
 abbrev pub number_rule : Text → ℕ → ℕ → Rule
@@ -52,11 +64,15 @@ chart_app = with_rule (new_app (codes "chart")) profile_rule
 abbrev pub search_app : Text → App
 search_app name = with_rule (with_rule (with_rule (new_app name) workers_rule) nodes_rule) profile_rule
 
+-- a subcommand that searches, and may leave out what is dominated
+abbrev pub dominating_app : Text → App
+dominating_app name = with_rule (with_rule (search_app name) dominate_rule) dominate_tree_rule
+
 abbrev pub order_app : App
-order_app = with_rule (search_app (codes "order")) trace_rule
+order_app = with_rule (dominating_app (codes "order")) trace_rule
 
 abbrev pub prove_app : App
-prove_app = search_app (codes "prove")
+prove_app = dominating_app (codes "prove")
 
 abbrev pub check_app : App
 check_app = new_app (codes "check")
@@ -112,6 +128,26 @@ GivesSearch words workers nodes =
     (workers ≡ option_number (codes "workers") WORKERS_DEFAULT words) × (1 ≤ workers) × (workers ≤ WORKERS_LIMIT)
     × (nodes ≡ option_number (codes "nodes") NODES_DEFAULT words) × (nodes ≤ BUDGET_LIMIT)
 
+-- which nodes dominated leaves name by the flags `--dominate` and `--dominate-tree`
+abbrev pub rule_by : (dominate dominate_tree : Bool) → LeafRule
+rule_by dominate dominate_tree = if dominate_tree then ClampedStanding else (if dominate then WrittenEarlier else NoneNamed)
+
+-- by one of them at most
+abbrev pub rule_unless_both : (dominate dominate_tree : Bool) → Option LeafRule
+rule_unless_both dominate dominate_tree = if dominate && dominate_tree then None else Some (rule_by dominate dominate_tree)
+
+-- by the words
+abbrev pub rule_given : List Text → LeafRule
+rule_given words = rule_by (has_option (codes "dominate") words) (has_option (codes "dominate-tree") words)
+
+-- the words give both flags
+abbrev pub gives_both : List Text → Bool
+gives_both words = has_option (codes "dominate") words && has_option (codes "dominate-tree") words
+
+-- they give a search this rule, by one flag at most
+abbrev pub GivesRule : List Text → LeafRule → Type 0
+GivesRule words rule = (rule ≡ rule_given words) × (gives_both words ≡ false)
+
 -- they give it this text for its profile, if any
 abbrev pub GivesProfile : List Text → Option (Bor Text) → Type 0
 GivesProfile words profile = option_map (λ text. text.now) profile ≡ plain_text (codes "profile") words
@@ -122,9 +158,11 @@ Asks words (Time trace profile) =
     AsksFor words (codes "time") × (trace ≡ has_option (codes "trace") words) × GivesProfile words profile
 Asks words Deps = AsksFor words (codes "deps")
 Asks words (Chart profile) = AsksFor words (codes "chart") × GivesProfile words profile
-Asks words (Order workers nodes trace profile) =
-    AsksFor words (codes "order") × GivesSearch words workers nodes × (trace ≡ has_option (codes "trace") words) × GivesProfile words profile
-Asks words (Prove workers nodes profile) = AsksFor words (codes "prove") × GivesSearch words workers nodes × GivesProfile words profile
+Asks words (Order workers nodes rule trace profile) =
+    AsksFor words (codes "order") × GivesSearch words workers nodes × GivesRule words rule × (trace ≡ has_option (codes "trace") words)
+    × GivesProfile words profile
+Asks words (Prove workers nodes rule profile) =
+    AsksFor words (codes "prove") × GivesSearch words workers nodes × GivesRule words rule × GivesProfile words profile
 Asks words Check = AsksFor words (codes "check")
 Asks words Lint = AsksFor words (codes "lint")
 Asks words (Sum workers nodes profile) = AsksFor words (codes "sum") × GivesSearch words workers nodes × GivesProfile words profile
@@ -139,10 +177,11 @@ IsUsageOf k (Help text) = IsHelp k
 IsUsageOf k (Bad text) = (IsHelp k → ⊥) × (k ≢ kind.OutOfMemory)
 IsUsageOf k OutOfMemory = Unit {0}
 
--- the words are no command: they ask for help, or they have a fault that is no help
+-- the words are no command: they ask for help, or they have a fault that is no help, or they have none but give two flags that exclude one another
 abbrev pub Refuses : List Text → Usage → Type 0
 Refuses words (Help text) = (k : ErrorKind) × IsAmong k (fault_of s66_app words) × IsHelp k
-Refuses words (Bad text) = (k : ErrorKind) × IsAmong k (fault_of s66_app words) × (IsHelp k → ⊥)
+Refuses words (Bad text) =
+    ((k : ErrorKind) × IsAmong k (fault_of s66_app words) × (IsHelp k → ⊥)) ⊎ ((fault_of s66_app words ≡ []) × (gives_both words ≡ true))
 Refuses words OutOfMemory = Unit {0}
 
 abbrev pub usage_code : Usage → ℕ

@@ -1,3 +1,5 @@
+use s66_model::Rule;
+
 /// What the program is asked for.
 #[derive(Clone, Copy, Debug, PartialEq, Eq)]
 pub enum Command<'a> {
@@ -21,6 +23,8 @@ pub enum Command<'a> {
         workers: u8,
         /// The most splits of a block's search, 0 to `BUDGET_LIMIT`.
         nodes: u32,
+        /// Which nodes dominated leaves name; by `NoneNamed` no leaf is dominated.
+        rule: Rule,
         /// Whether the number of splits is told.
         trace: bool,
         /// The text of the profile, if it isn't the standard one.
@@ -32,6 +36,8 @@ pub enum Command<'a> {
         workers: u8,
         /// The most splits of a block's search, 0 to `BUDGET_LIMIT`.
         nodes: u32,
+        /// Which nodes dominated leaves name; by `NoneNamed` no leaf is dominated.
+        rule: Rule,
         /// The text of the profile, if it isn't the standard one.
         profile: Option<&'a str>,
     },

@@ -1,5 +1,4 @@
 ghost use Rattle.std.specs.Prelude.{◌≡◌, if◌then◌else◌, IfOk};
-ghost use Rattle.s66_model.specs.declared.rule.Rule.TheVariants.{NoneNamed};
 ghost use Rattle.s66_program.specs.declared.outcome.Status.TheVariants.{Done, Bounded};
 ghost use Rattle.s66_program.specs.OrderText.{IsOrderOutput};
 ghost use Rattle.s66_program.specs.Output.{IsSearchWithin};
@@ -44,7 +43,7 @@ fn search<R: AllocGlobal + Threads + Wait + Sync>(
     trace: bool,
 ) -> Result<Found, AllocError>
     requires { IsSearchWithin options.workers options.nodes }
-    ensures { IfOk result (λ found. IsPlaced NoneNamed profile.now options.nodes trace block.now found) }
+    ensures { IfOk result (λ found. IsPlaced options.rule profile.now options.nodes trace block.now found) }
 {
     let source = time_of(block, profile, &Order::source(block)).total();
     let answer = run(rt, block, profile, options, &Free)?;
@@ -67,7 +66,7 @@ pub(crate) fn search_all<R: AllocGlobal + Threads + Wait + Sync, O: Observer>(
     observer: &mut O,
 ) -> Result<Vec<Found>, AllocError>
     requires { IsSearchWithin options.workers options.nodes }
-    ensures { IfOk result (λ found. AreAllPlaced NoneNamed profile.now options.nodes trace blocks.now found.items) }
+    ensures { IfOk result (λ found. AreAllPlaced options.rule profile.now options.nodes trace blocks.now found.items) }
 {
     let mut found = Vec::new(rt.alloc());
     for block in blocks {
@@ -116,7 +115,7 @@ pub fn order_output<R: AllocGlobal + Threads + Wait + Sync, O: Observer>(
     observer: &mut O,
 ) -> Result<Output, AllocError>
     requires { IsSearchWithin options.workers options.nodes }
-    ensures { IfOk result (λ output. IsOrderOutput NoneNamed profile.now options.nodes trace source.now output.text.items output.status) }
+    ensures { IfOk result (λ output. IsOrderOutput options.rule profile.now options.nodes trace source.now output.text.items output.status) }
 {
     let alloc = rt.alloc();
     let found = search_all(rt, source.blocks(), profile, options, trace, observer)?;

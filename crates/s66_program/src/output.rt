@@ -16,6 +16,7 @@ use crate::sum_text::sum_output;
 use crate::time_text::push_time_lines;
 use s66_isa::Profile;
 use s66_line::{Block, Source, read_source};
+use s66_model::Rule;
 use s66_pool::Options;
 use s66_time::Timer;
 use std::alloc::{AllocError, Global};
@@ -114,10 +115,15 @@ pub fn output_for<R: AllocGlobal + Threads + Wait + Sync, O: Observer>(
         Command::Order {
             workers,
             nodes,
+            rule,
             trace,
             ..
         } => {
-            let options = Options { workers, nodes };
+            let options = Options {
+                workers,
+                nodes,
+                rule,
+            };
             order_output(
                 rt,
                 &read_source(alloc, input)?,
@@ -127,14 +133,27 @@ pub fn output_for<R: AllocGlobal + Threads + Wait + Sync, O: Observer>(
                 observer,
             )?
         }
-        Command::Prove { workers, nodes, .. } => {
-            let options = Options { workers, nodes };
+        Command::Prove {
+            workers,
+            nodes,
+            rule,
+            ..
+        } => {
+            let options = Options {
+                workers,
+                nodes,
+                rule,
+            };
             prove_output(rt, &read_source(alloc, input)?, profile, options, observer)?
         }
         Command::Check => check_output(alloc, input, observer)?,
         Command::Lint => lint_output(alloc, input)?,
         Command::Sum { workers, nodes, .. } => {
-            let options = Options { workers, nodes };
+            let options = Options {
+                workers,
+                nodes,
+                rule: Rule::NoneNamed,
+            };
             sum_output(rt, &read_source(alloc, input)?, profile, options, observer)?
         }
     };

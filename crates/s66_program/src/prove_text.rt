@@ -1,5 +1,4 @@
 ghost use Rattle.std.specs.Prelude.{◌≡◌, ◌++◌, IfOk, OnOk};
-ghost use Rattle.s66_model.specs.declared.rule.Rule.TheVariants.{NoneNamed};
 ghost use Rattle.s66_cert.specs.Document.{document_text};
 ghost use Rattle.s66_cert.specs.DocumentParts.{document_of};
 ghost use Rattle.s66_program.specs.Output.{IsSearchWithin};
@@ -40,7 +39,7 @@ fn push_proof<R: AllocGlobal + Threads + Wait + Sync>(
     options: Options,
 ) -> Result<bool, AllocError>
     requires { IsSearchWithin options.workers options.nodes }
-    ensures { IfOk result (λ best. IsProved NoneNamed profile.now options.nodes block.now out.old.items out.new.items best) }
+    ensures { IfOk result (λ best. IsProved options.rule profile.now options.nodes block.now out.old.items out.new.items best) }
 {
     let alloc = rt.alloc();
     let answer = run(rt, block, profile, options, &Free)?;
@@ -58,7 +57,7 @@ fn prove_all<R: AllocGlobal + Threads + Wait + Sync, O: Observer>(
     observer: &mut O,
 ) -> Result<Output, AllocError>
     requires { IsSearchWithin options.workers options.nodes }
-    ensures { IfOk result (λ output. AreProved NoneNamed profile.now options.nodes blocks.now output.text.items output.status) }
+    ensures { IfOk result (λ output. AreProved options.rule profile.now options.nodes blocks.now output.text.items output.status) }
 {
     let mut text = Vec::new(rt.alloc());
     let mut all_best = true;
@@ -84,7 +83,7 @@ pub fn prove_output<R: AllocGlobal + Threads + Wait + Sync, O: Observer>(
     observer: &mut O,
 ) -> Result<Output, AllocError>
     requires { IsSearchWithin options.workers options.nodes }
-    ensures { IfOk result (λ output. IsProveOutput NoneNamed profile.now options.nodes source.now output.text.items output.status) }
+    ensures { IfOk result (λ output. IsProveOutput options.rule profile.now options.nodes source.now output.text.items output.status) }
 {
     prove_all(rt, source.blocks(), profile, options, observer)
 }

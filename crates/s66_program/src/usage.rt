@@ -1,9 +1,10 @@
 ghost use Rattle.std.specs.Prelude.{◌≡◌, IfOk, IfErr, List, codes, map};
 ghost use Rattle.clap.specs.Words.{Text, app_of, found_of, kind_of, new_app, one_text};
+ghost use Rattle.clap.specs.declared.error.kind.ErrorKind.TheVariants.{ArgumentConflict};
 ghost use Rattle.s66_ledger.specs.declared.limits.TheConstants.{BUDGET_LIMIT};
 ghost use Rattle.s66_pool.specs.declared.limits.TheConstants.{WORKERS_LIMIT};
 ghost use Rattle.s66_program.specs.declared.limits.TheConstants.{NODES_DEFAULT, WORKERS_DEFAULT};
-ghost use Rattle.s66_program.specs.Usage.{Asks, IsArgumentOf, IsCommandOf, IsUsageOf, Refuses, chart_app, check_app, deps_app, lint_app, nodes_rule, order_app, profile_rule, prove_app, s66_app, search_app, sum_app, time_app, trace_rule, workers_rule};
+ghost use Rattle.s66_program.specs.Usage.{Asks, IsArgumentOf, IsCommandOf, IsUsageOf, Refuses, chart_app, check_app, deps_app, dominating_app, flag_rule, lint_app, nodes_rule, order_app, profile_rule, prove_app, rule_unless_both, s66_app, search_app, sum_app, time_app, workers_rule};
 ghost use Rattle.s66_program.specs.OptionNumbers.{IsNumber, IsReadAs};
 ghost use Rattle.s66_program.specs.declared.usage.Usage.TheVariants.{OutOfMemory};
 
@@ -13,6 +14,7 @@ use clap::error::ErrorKind;
 use clap::{Arg, ArgAction, ArgMatches, Command, Error, value_parser};
 use s66_isa::PROFILE_LIMIT;
 use s66_ledger::BUDGET_LIMIT;
+use s66_model::Rule;
 use s66_pool::WORKERS_LIMIT;
 use std::alloc::{AllocError, Global};
 use std::convert::AsStr;
@@ -134,12 +136,17 @@ The most splits of a block's search, 0 to 1000000 [default: 100000]
 
 A split divides all orders with one beginning by the instruction that comes next.";
 
-/// The flag `--trace`.
-fn trace_flag<'a>(alloc: Global, help: &'a str) -> Arg<'a>
-    ensures { IsArgumentOf trace_rule result }
+const DOMINATE_HELP: &str = "Leaves out beginnings that an earlier one of the same piece dominates";
+
+const DOMINATE_TREE_HELP: &str =
+    "Leaves out beginnings that any other one dominates: proves far more blocks best";
+
+/// A flag by its name.
+fn flag<'a>(alloc: Global, name: &'a str, help: &'a str) -> Arg<'a>
+    ensures { IsArgumentOf (flag_rule name.entry.now) result }
 {
-    Arg::new(alloc, "trace")
-        .long("trace")
+    Arg::new(alloc, name)
+        .long(name)
         .help(help)
         .action(ArgAction::SetTrue)
 }
@@ -217,7 +224,7 @@ fn time_command<'a>(alloc: Global) -> Result<Command<'a>, AllocError>
         TIME_ENDING,
     )
     .arg(profile_option(alloc))?
-    .arg(trace_flag(alloc, "Tells each instruction"))
+    .arg(flag(alloc, "trace", "Tells each instruction"))
 }
 
 /// The subcommand `deps`.
@@ -263,25 +270,40 @@ fn search_command<'a>(
         .arg(profile_option(alloc))
 }
 
+/// A subcommand that searches, with the flags that tell which nodes dominated leaves name.
+fn dominating_command<'a>(
+    alloc: Global,
+    name: &'a str,
+    about: &'a str,
+    usage: &'a str,
+    ending: &'a str,
+) -> Result<Command<'a>, AllocError>
+    ensures { IfOk result (IsCommandOf (dominating_app name.entry.now)) }
+{
+    search_command(alloc, name, about, usage, ending)?
+        .arg(flag(alloc, "dominate", DOMINATE_HELP))?
+        .arg(flag(alloc, "dominate-tree", DOMINATE_TREE_HELP))
+}
+
 /// The subcommand `order`.
 fn order_command<'a>(alloc: Global) -> Result<Command<'a>, AllocError>
     ensures { IfOk result (IsCommandOf order_app) }
 {
-    search_command(
+    dominating_command(
         alloc,
         "order",
         "Writes each block of a source in the best order that was found",
         "s66 order [OPTIONS] < SOURCE",
         ORDER_ENDING,
     )?
-    .arg(trace_flag(alloc, "Tells the number of splits of each block"))
+    .arg(flag(alloc, "trace", "Tells the number of splits of each block"))
 }
 
 /// The subcommand `prove`.
 fn prove_command<'a>(alloc: Global) -> Result<Command<'a>, AllocError>
     ensures { IfOk result (IsCommandOf prove_app) }
 {
-    search_command(
+    dominating_command(
         alloc,
         "prove",
         "Writes a certificate for each block of a source: the best order that was found, and a bound with its proof",
@@ -364,6 +386,29 @@ fn nodes_in(matches: &ArgMatches) -> u32
     matches.get_one("nodes").unwrap_or(NODES_DEFAULT)
 }
 
+/// Which nodes dominated leaves name by the flags `--dominate` and `--dominate-tree`, unless both are given.
+fn rule_of(dominate: bool, dominate_tree: bool) -> Option<Rule>
+    ensures { result ≡ rule_unless_both dominate dominate_tree }
+{
+    match (dominate, dominate_tree) {
+        (false, false) => Some(Rule::NoneNamed),
+        (true, false) => Some(Rule::WrittenEarlier),
+        (false, true) => Some(Rule::ClampedStanding),
+        (true, true) => None,
+    }
+}
+
+/// The mistake of words that give a subcommand both flags.
+fn both_given(alloc: Global, mut command: Command<'_>) -> Usage
+    ensures { IsUsageOf ArgumentConflict result }
+{
+    let message = "the argument '--dominate' cannot be used with '--dominate-tree'";
+    match command.error(ErrorKind::ArgumentConflict, message) {
+        Ok(error) => usage_of(alloc, &error),
+        Err(AllocError) => Usage::OutOfMemory,
+    }
+}
+
 /// The command that the words give, of which the first is the program's name.
 pub fn command_of<'a, S: AsStr>(alloc: Global, words: &'a [S]) -> Result<Asked<'a>, Usage>
     ensures ok { IfOk result (λ command. Asks (map S.text words.entry.now) command) }
@@ -382,17 +427,31 @@ pub fn command_of<'a, S: AsStr>(alloc: Global, words: &'a [S]) -> Result<Asked<'
         Some(("chart", chart)) => Ok(Asked::Chart {
             profile: chart.get_str("profile"),
         }),
-        Some(("order", order)) => Ok(Asked::Order {
-            workers: workers_in(order),
-            nodes: nodes_in(order),
-            trace: order.get_flag("trace"),
-            profile: order.get_str("profile"),
-        }),
-        Some(("prove", prove)) => Ok(Asked::Prove {
-            workers: workers_in(prove),
-            nodes: nodes_in(prove),
-            profile: prove.get_str("profile"),
-        }),
+        Some(("order", order)) => {
+            let dominate = order.get_flag("dominate");
+            let Some(rule) = rule_of(dominate, order.get_flag("dominate-tree")) else {
+                return Err(both_given(alloc, order_command(alloc)?));
+            };
+            Ok(Asked::Order {
+                workers: workers_in(order),
+                nodes: nodes_in(order),
+                rule,
+                trace: order.get_flag("trace"),
+                profile: order.get_str("profile"),
+            })
+        }
+        Some(("prove", prove)) => {
+            let dominate = prove.get_flag("dominate");
+            let Some(rule) = rule_of(dominate, prove.get_flag("dominate-tree")) else {
+                return Err(both_given(alloc, prove_command(alloc)?));
+            };
+            Ok(Asked::Prove {
+                workers: workers_in(prove),
+                nodes: nodes_in(prove),
+                rule,
+                profile: prove.get_str("profile"),
+            })
+        }
         Some(("check", _)) => Ok(Asked::Check),
         Some(("lint", _)) => Ok(Asked::Lint),
         Some(("sum", sum)) => Ok(Asked::Sum {

@@ -1,10 +1,7 @@
-use Rattle.std.proofs.Common.{◌≡◌, ◌∙◌, if◌then◌else◌, List, ap, ap₂, sym, subst, arith, rules}
+use Rattle.std.proofs.Common.{◌≡◌, ◌∙◌, if◌then◌else◌, ap, ap₂, sym, subst, arith, rules}
 use Rattle.s66_dep.specs.Ordered.{Ordered}
 use Rattle.s66_line.specs.Block.{instrs_of}
-use Rattle.s66_model.specs.declared.rule.Rule.{Rule}
 use Rattle.s66_model.specs.declared.rule.Rule.TheVariants.{NoneNamed}
-use Rattle.s66_model.specs.DominatedLeaves.{Ending}
-use Rattle.s66_model.specs.Tree.{Knot}
 use Rattle.s66_model.specs.Answer.{IsAnswer}
 use Rattle.s66_model.specs.Timing.{Problem}
 use Rattle.s66_ledger.specs.Answers.{answer_of}
@@ -12,9 +9,10 @@ use Rattle.s66_cert.specs.Document.{has_dominated_line}
 use Rattle.s66_cert.specs.DocumentParts.{Parts, AreWhole, document_of}
 use Rattle.s66_program.proofs.AnswerDocuments.{parts_under, parts-document, parts-whole, same-parts}
 use Rattle.s66_program.proofs.documents.document_of.Goals as goal
+use Rattle.s66_program.proofs.documents.document_of.Goals.{After-bound}
 
 -- what the claim says, and the answer's own parts
-abbrev claimed : goal.After-bound → Parts
+abbrev claimed : After-bound → Parts
 claimed c = record {
   rule = c.rule_of.result;
   profile = c.from.result.items;
@@ -25,17 +23,15 @@ claimed c = record {
   knots = c.in_ok-tree.tree;
 }
 
-abbrev own : goal.After-bound → Parts
+abbrev own : After-bound → Parts
 own c = parts_under c.args.answer.now.rule c.args.profile.now c.args.block.now (answer_of c.args.answer.now)
 
-same : (c : goal.After-bound) → claimed c ≡ own c
+same : (c : After-bound) → claimed c ≡ own c
 same c =
-    same-parts (claimed c) (own c)
-    (c.rule_of.ensures ∙ ap₂ (λ (r : Rule) (knots : List (Knot Ending)). if has_dominated_line knots then r else NoneNamed) c.rule.ensures c.in_ok-tree.ensures)
-    (search rules) (c.in_ok-texts_of.ensures.texts) c.time.ensures.value c.bound.ensures.value
+    same-parts (claimed c) (own c) (c.rule_of.ensures ∙ ap₂ (λ rule knots. if has_dominated_line knots then rule else NoneNamed) c.rule.ensures c.in_ok-tree.ensures) (search rules) (c.in_ok-texts_of.ensures.texts) c.time.ensures.value c.bound.ensures.value
     (c.in-Ok.ensures.0 ∙ c.numbers.ensures.value ∙ ap (λ (o : Ordered). o.numbers) c.order.ensures) c.in_ok-tree.ensures
 
-is : (c : goal.After-bound) → IsAnswer c.args.answer.now.rule (record { block = instrs_of c.args.block.now; profile = c.args.profile.now }) c.args.answer.now.budget (answer_of c.args.answer.now)
+is : (c : After-bound) → IsAnswer c.args.answer.now.rule (record { block = instrs_of c.args.block.now; profile = c.args.profile.now }) c.args.answer.now.budget (answer_of c.args.answer.now)
 is c = subst (λ (b : Problem). IsAnswer c.args.answer.now.rule b c.args.answer.now.budget (answer_of c.args.answer.now)) c.requires c.time.ensures.answer
 
 pub new-requires : goal.new-requires
