@@ -187,6 +187,13 @@ impl<'a> Ledger<'a> {
         self.machine.splits()
     }
 
+    /// How many nodes it has. They are numbered from 0, in the order in which they are made.
+    pub fn node_count(&self) -> u32
+        ensures { result ≡ length self.now.state.nodes }
+    {
+        self.machine.node_count()
+    }
+
     /// How many nodes are open.
     pub fn open_nodes(&self) -> usize
         ensures { result ≡ tally is_open self.now.state.nodes }

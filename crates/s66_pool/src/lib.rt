@@ -3,6 +3,7 @@
 
 mod calls;
 mod crew;
+mod expander;
 mod gate;
 mod hint;
 mod hub;

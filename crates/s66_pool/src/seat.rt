@@ -8,6 +8,8 @@ use std::marker::Model;
 pub struct Seat<'a> {
     pub(crate) number: u8,
     pub(crate) splits: u32,
+    /// The number of the first node that its last piece made, or a guess.
+    pub(crate) planted: u32,
     pub(crate) token: Token<Box<Ledger<'a>>>,
 }
 
@@ -37,6 +39,7 @@ impl<'a> Seat<'a> {
         Seat {
             number,
             splits,
+            planted: 0,
             token,
         }
     }

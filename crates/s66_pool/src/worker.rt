@@ -1,6 +1,7 @@
 ghost use Rattle.std.specs.Prelude.{◌≡◌, [], IfOk};
 ghost use Rattle.s66_pool.specs.Workers.{IsSameMember, IsSameSeat};
 
+use crate::expander::Expander;
 use crate::gate::Gate;
 use crate::hub::Hub;
 use crate::limits::{CLAIMS_LIMIT, LOOKS, NONES_LIMIT};
@@ -11,7 +12,7 @@ use s66_isa::Profile;
 use s66_ledger::{Offered, SCHEDULE_ROUNDS, Ticket};
 use s66_line::Block;
 use s66_model::Rule;
-use s66_node::{Piece, Priority, Walk, schedule_below};
+use s66_node::Piece;
 use s66_time::Timed;
 use std::alloc::{AllocError, Global};
 use std::sync::Wait;
@@ -33,7 +34,7 @@ pub(crate) struct Site<'s, 'a, R, G> {
 /// A worker of a search, with what it keeps from step to step.
 #[derive(Drop)]
 struct Worker<'b> {
-    walk: Walk<'b>,
+    expander: Expander<'b>,
     /// How many splits are left of what it was granted.
     allowance: u32,
     has_claimed: bool,
@@ -66,7 +67,7 @@ pub(crate) fn work_at<'a, R: AllocGlobal + Wait, G: Gate>(
     requires { member.old.seat.hub ≡ site.now.hub.now.id }
     ensures { IsSameMember member.old member.new }
 {
-    let mut worker = Worker::new(block, profile);
+    let mut worker = Worker::new(site.rt.alloc(), block, profile, site.rule);
     let mut step = Step::Claim;
     for _ in site.rt.forever() {
         step = match step {
@@ -92,9 +93,9 @@ impl<'b> Worker<'b> {
     ghost use Rattle.s66_pool.specs.Workers.{IsSameMember, IsSameSeat};
 
     /// A worker that has done nothing yet.
-    fn new(block: &'b Block<'b>, profile: &Profile) -> Worker<'b> {
+    fn new(alloc: Global, block: &'b Block<'b>, profile: &Profile, rule: Rule) -> Worker<'b> {
         Worker {
-            walk: Walk::new(block, profile),
+            expander: Expander::new(alloc, block, profile, rule),
             allowance: 0,
             has_claimed: false,
             nones: 0,
@@ -221,18 +222,16 @@ impl<'b> Worker<'b> {
         requires { member.old.seat.hub ≡ site.now.hub.now.id }
         ensures { IsSameMember member.old member.new }
     {
-        // the hub may be another block's
-        if !self.walk.try_go_to(ticket.prefix()) {
-            return give_back(site, &mut member.seat, ticket);
-        }
-        match self.walk.expand_with(
+        let expanded = self.expander.expand(
             site.rt.alloc(),
             ticket.prefix(),
             &mut member.local.incumbent,
             self.allowance,
-        ) {
-            Ok(piece) => self.hand_in(site, member, ticket, &piece.by_rule(site.rule)),
-            Err(AllocError) => give_back(site, &mut member.seat, ticket),
+        );
+        match expanded {
+            Some(piece) => self.hand_in(site, member, ticket, &piece),
+            // out of memory, or the hub is another block's
+            None => give_back(site, &mut member.seat, ticket),
         }
     }
 
@@ -274,6 +273,7 @@ impl<'b> Worker<'b> {
             give_back_some(site, &mut member.seat, next);
             return give_back(site, &mut member.seat, ticket);
         };
+        self.expander.settle(ticket.node(), member.seat.planted);
         let step = self.go_on(site, member, needs, supply, next, claimed);
         self.end_round(site, member, step)
     }
@@ -339,7 +339,7 @@ impl<'b> Worker<'b> {
             return true;
         }
         let best = member.local.incumbent.load();
-        match schedule_below(&mut self.walk, Priority::Start, best) {
+        match self.expander.schedule_below(best) {
             Some(timed) => offer(site, member, timed),
             None => true,
         }

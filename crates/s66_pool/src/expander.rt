@@ -1,0 +1,84 @@
+use crate::limits::DOMINATED_PIECE_LIMIT;
+use s66_isa::Profile;
+use s66_line::Block;
+use s66_model::Rule;
+use s66_node::{Least, Marks, Piece, Priority, Walk, schedule_below};
+use s66_time::Timed;
+use std::alloc::Global;
+use std::marker::Model;
+
+/// What a worker expands prefixes with: a walk, and the marks of the prefixes that it has seen, of one block and profile.
+#[derive(Drop)]
+pub(crate) struct Expander<'b> {
+    rule: Rule,
+    walk: Walk<'b>,
+    marks: Marks<'b>,
+}
+
+impl<'b> Model for Expander<'b> {
+    ghost use Rattle.std.specs.Prelude.{◌≡◌};
+    ghost use Rattle.s66_model.specs.Timing.{Problem};
+
+    ghost Value = { Problem };
+
+    ghost view = { λ e. e.walk.problem };
+
+    ghost invariant = { λ e. e.marks.problem ≡ e.walk.problem };
+}
+
+impl<'b> Expander<'b> {
+    ghost use Rattle.std.specs.Prelude.{◌≡◌, ◌≤◌, IfSome};
+    ghost use Rattle.s66_model.specs.Tree.{splits};
+    ghost use Rattle.s66_node.specs.Pieces.{tree_of};
+
+    /// One that has seen nothing yet.
+    pub fn new(alloc: Global, block: &'b Block<'b>, profile: &Profile, rule: Rule) -> Expander<'b> {
+        Expander {
+            rule,
+            walk: Walk::new(block, profile),
+            marks: Marks::new(alloc, block, profile),
+        }
+    }
+
+    /// Expands a prefix by the rule of its dominated leaves; None if it is no beginning of the block's orders, or if out of memory. A
+    /// piece in which any node of the ledger may be named is small, so that what it shows is soon known.
+    pub fn expand<L: Least>(
+        &mut self,
+        alloc: Global,
+        prefix: &[u8],
+        incumbent: &mut L,
+        allowance: u32,
+    ) -> Option<Piece>
+        ensures { IfSome result (λ piece. splits (tree_of piece) ≤ allowance) }
+    {
+        if !self.walk.try_go_to(prefix) {
+            return None;
+        }
+        let rule = self.rule;
+        let piece = match rule {
+            Rule::NoneNamed => self.walk.expand_with(alloc, prefix, incumbent, allowance),
+            Rule::WrittenEarlier => self
+                .walk
+                .expand_dominated(alloc, prefix, incumbent, allowance, &mut self.marks, rule),
+            Rule::ClampedStanding => self.walk.expand_dominated(
+                alloc,
+                prefix,
+                incumbent,
+                allowance.min(DOMINATED_PIECE_LIMIT),
+                &mut self.marks,
+                rule,
+            ),
+        };
+        piece.ok()
+    }
+
+    /// Says which nodes its last piece has become: the node of this number and those from `first` on.
+    pub fn settle(&mut self, root: u32, first: u32) {
+        self.marks.settle(root, first);
+    }
+
+    /// A list schedule from its prefix on, if its time is below the best.
+    pub fn schedule_below(&mut self, best: u32) -> Option<Timed> {
+        schedule_below(&mut self.walk, Priority::Start, best)
+    }
+}
