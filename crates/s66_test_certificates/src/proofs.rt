@@ -1,5 +1,6 @@
 use crate::commands::{check_output, run};
 use crate::documents::{ONE_LOAD, THREE_MULTIPLIES};
+use s66_model::Rule;
 use s66_program::{Command, Status};
 use s66_test_blocks::{MULTIPLIES, SEVEN_MULTIPLIES};
 use std::test::Fail;
@@ -31,6 +32,7 @@ fn proves_worked_rows(rt: HostRuntime) {
     let prove = Command::Prove {
         workers: 1,
         nodes: 100_000,
+        rule: Rule::NoneNamed,
         profile: None,
     };
     for &(source, documents) in PROOFS {
@@ -55,6 +57,7 @@ fn proves_and_checks_large_trees(rt: HostRuntime) -> Result<(), Fail> {
     let prove = Command::Prove {
         workers: 16,
         nodes: 100_000,
+        rule: Rule::NoneNamed,
         profile: None,
     };
     let (result, document) = run(&rt, prove, SEVEN_MULTIPLIES.as_bytes());
@@ -79,6 +82,7 @@ fn proves_and_checks_a_block_of_128(rt: HostRuntime) -> Result<(), Fail> {
     let prove = Command::Prove {
         workers: 1,
         nodes: 0,
+        rule: Rule::NoneNamed,
         profile: None,
     };
     let source = "  BX0 X0\n".repeat(rt.alloc(), 128)?;

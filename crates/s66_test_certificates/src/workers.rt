@@ -3,6 +3,7 @@ ghost use Rattle.s66_pool.specs.declared.limits.TheConstants.{WORKERS_LIMIT};
 
 use crate::commands::{check_output, run};
 use crate::documents::THREE_MULTIPLIES;
+use s66_model::Rule;
 use s66_program::{Command, Status};
 use s66_test_blocks::MULTIPLIES;
 use std::process::Abort;
@@ -24,6 +25,7 @@ fn check_order<R: AllocGlobal + Abort + Threads + Wait + Sync>(rt: &R, workers: 
     let order = Command::Order {
         workers,
         nodes: 10,
+        rule: Rule::NoneNamed,
         trace: true,
         profile: None,
     };
@@ -31,6 +33,7 @@ fn check_order<R: AllocGlobal + Abort + Threads + Wait + Sync>(rt: &R, workers: 
     let order = Command::Order {
         workers,
         nodes: 9,
+        rule: Rule::NoneNamed,
         trace: true,
         profile: None,
     };
@@ -45,12 +48,14 @@ fn check_proof<R: AllocGlobal + Abort + Threads + Wait + Sync>(rt: &R, workers: 
     let prove = Command::Prove {
         workers,
         nodes: 10,
+        rule: Rule::NoneNamed,
         profile: None,
     };
     check_output(rt, prove, MULTIPLIES, Status::Done, THREE_MULTIPLIES);
     let prove = Command::Prove {
         workers,
         nodes: 9,
+        rule: Rule::NoneNamed,
         profile: None,
     };
     let (result, document) = run(rt, prove, MULTIPLIES.as_bytes());

@@ -1,5 +1,6 @@
 use crate::running::run;
 use s66_line::{OverRead, OverWrite};
+use s66_model::Rule;
 use s66_program::{Command, Status, command_of, run_command};
 use std::test::Fail;
 
@@ -27,11 +28,19 @@ const NO_COMMANDS: &[(&[&str], u8)] = &[
     (&["s66", "order", "--nodes", "1000001"], 2),
     (&["s66", "order", "--nodes", "1", "--nodes", "1"], 2),
     (&["s66", "prove", "--workers", "17"], 2),
+    (&["s66", "order", "--dominate", "--dominate"], 2),
+    (&["s66", "order", "--dominate=1"], 2),
+    (&["s66", "order", "--dominate-tree", "--dominate"], 2),
     (&["s66", "prove", "--trace"], 2),
+    (&["s66", "prove", "--dominate-tree", "--dominate-tree"], 2),
+    (&["s66", "prove", "--dominate", "--dominate-tree"], 2),
+    (&["s66", "time", "--dominate"], 2),
     (&["s66", "check", "--nodes", "5"], 2),
     (&["s66", "lint", "--trace"], 2),
     (&["s66", "sum", "--trace"], 2),
     (&["s66", "sum", "--workers", "0"], 2),
+    (&["s66", "sum", "--dominate"], 2),
+    (&["s66", "sum", "--dominate-tree"], 2),
     (&["s66", "help"], 0),
     (&["s66", "--help"], 0),
     (&["s66", "time", "--help"], 0),
@@ -79,6 +88,7 @@ const COMMANDS: &[(&[&str], Command)] = &[
         Command::Prove {
             workers: 4,
             nodes: 7,
+            rule: Rule::NoneNamed,
             profile: Some("no profile"),
         },
     ),
@@ -95,6 +105,7 @@ const COMMANDS: &[(&[&str], Command)] = &[
         Command::Order {
             workers: 4,
             nodes: 100_000,
+            rule: Rule::NoneNamed,
             trace: true,
             profile: Some("--trace"),
         },
@@ -104,6 +115,7 @@ const COMMANDS: &[(&[&str], Command)] = &[
         Command::Order {
             workers: 4,
             nodes: 100_000,
+            rule: Rule::NoneNamed,
             trace: false,
             profile: None,
         },
@@ -113,6 +125,7 @@ const COMMANDS: &[(&[&str], Command)] = &[
         Command::Order {
             workers: 4,
             nodes: 100_000,
+            rule: Rule::NoneNamed,
             trace: true,
             profile: None,
         },
@@ -122,6 +135,7 @@ const COMMANDS: &[(&[&str], Command)] = &[
         Command::Order {
             workers: 1,
             nodes: 0,
+            rule: Rule::NoneNamed,
             trace: false,
             profile: None,
         },
@@ -131,7 +145,46 @@ const COMMANDS: &[(&[&str], Command)] = &[
         Command::Order {
             workers: 16,
             nodes: 1_000_000,
+            rule: Rule::NoneNamed,
             trace: true,
+            profile: None,
+        },
+    ),
+    (
+        &["s66", "order", "--dominate"],
+        Command::Order {
+            workers: 4,
+            nodes: 100_000,
+            rule: Rule::WrittenEarlier,
+            trace: false,
+            profile: None,
+        },
+    ),
+    (
+        &["s66", "order", "--trace", "--dominate-tree", "--nodes", "8"],
+        Command::Order {
+            workers: 4,
+            nodes: 8,
+            rule: Rule::ClampedStanding,
+            trace: true,
+            profile: None,
+        },
+    ),
+    (
+        &["s66", "prove", "--dominate", "--profile=--dominate-tree"],
+        Command::Prove {
+            workers: 4,
+            nodes: 100_000,
+            rule: Rule::WrittenEarlier,
+            profile: Some("--dominate-tree"),
+        },
+    ),
+    (
+        &["s66", "prove", "--dominate-tree"],
+        Command::Prove {
+            workers: 4,
+            nodes: 100_000,
+            rule: Rule::ClampedStanding,
             profile: None,
         },
     ),

@@ -30,6 +30,13 @@ pub(crate) const ROWS: &[Row] = &[
         "* BLOCK 1 COUNT 3 SOURCE 16 TIME 12 BEST\n          SA1 A1+B1\n          BX7 X2\n          BX6 X1\n",
     ),
     (
+        "one load, where any node may dominate",
+        &["s66", "order", "--workers", "1", "--dominate-tree"],
+        ONE_LOAD,
+        0,
+        "* BLOCK 1 COUNT 3 SOURCE 16 TIME 12 BEST\n          SA1 A1+B1\n          BX7 X2\n          BX6 X1\n",
+    ),
+    (
         "three multiplies",
         ORDER_TRACE,
         THREE_MULTIPLIES,

@@ -1,4 +1,4 @@
-use crate::rows::Row;
+use crate::rows::{Row, STORE_THEN_LOAD};
 use crate::running::CHECK;
 
 pub(crate) const ROWS: &[Row] = &[
@@ -24,6 +24,13 @@ pub(crate) const ROWS: &[Row] = &[
         "S66 CERTIFICATE 1\nPROFILE 3 3 4 4 3 10 29 8 3 8 1 1 1 1 2 1 2\nBLOCK 1\nI BX1 X2\nTIME 4\nBOUND 4\nORDER 1\nC 1\nEND\n",
     ),
     (
+        "a store then a load",
+        &["s66", "prove", "--workers", "1", "--dominate"],
+        STORE_THEN_LOAD,
+        0,
+        "S66 CERTIFICATE 1\nPROFILE 3 3 4 4 3 10 29 8 3 8 1 1 1 1 2 1 2\nBLOCK 2\nI SA6 A6+B1\nI SA1 A2+B2\nTIME 9\nBOUND 9\nORDER 1 2\nC 1 2\nEND\n",
+    ),
+    (
         "a document of version 4",
         CHECK,
         "S66 CERTIFICATE 4\n",
@@ -45,6 +52,20 @@ pub(crate) const ROWS: &[Row] = &[
         "error: unexpected argument '--nodes' found\n\nUsage: s66 time [OPTIONS] < SOURCE\n\nFor more information, try '--help'.\n",
     ),
     (
+        "two options that exclude one another",
+        &["a/b", "order", "--dominate", "--dominate-tree"],
+        "  SA1 *+2\n",
+        2,
+        "error: the argument '--dominate' cannot be used with '--dominate-tree'\n\nUsage: s66 order [OPTIONS] < SOURCE\n\nFor more information, try '--help'.\n",
+    ),
+    (
+        "two options that exclude one another",
+        &["s66", "prove", "--dominate-tree", "--dominate"],
+        "  SA1 *+2\n",
+        2,
+        "error: the argument '--dominate' cannot be used with '--dominate-tree'\n\nUsage: s66 prove [OPTIONS] < SOURCE\n\nFor more information, try '--help'.\n",
+    ),
+    (
         "version",
         &["a/b", "--version"],
         "  SA1 *+2\n",
@@ -57,5 +78,19 @@ pub(crate) const ROWS: &[Row] = &[
         "",
         0,
         "Tells on what each instruction of a block depends\n\nUsage: s66 deps < SOURCE\n\nOptions:\n  -h, --help  Print help\n\nExample: s66 deps < SOURCE\n\nStatus: 0 done, 2 usage, 3 the source was refused, 4 out of memory, 6 a read or write failed\n",
+    ),
+    (
+        "help of order",
+        &["s66", "order", "-h"],
+        "",
+        0,
+        "Writes each block of a source in the best order that was found\n\nUsage: s66 order [OPTIONS] < SOURCE\n\nOptions:\n      --workers <N>     How many workers search, 1 to 16 [default: 4]\n      --nodes <N>       The most splits of a block's search, 0 to 1000000 [default: 100000]\n      --profile <TEXT>  The timing profile, a JSON object [default: {}, the standard one]\n      --dominate        Leaves out beginnings that an earlier one of the same piece dominates\n      --dominate-tree   Leaves out beginnings that any other one dominates: proves far more blocks best\n      --trace           Tells the number of splits of each block\n  -h, --help            Print help (see more with '--help')\n\nExample: s66 order --nodes 1000 < SOURCE\n\nStatus: 0 done, 2 usage, 3 the source or the profile was refused, 4 out of memory, 6 a read or write failed, 7 some block is only bounded\n",
+    ),
+    (
+        "help of prove",
+        &["s66", "prove", "-h"],
+        "",
+        0,
+        "Writes a certificate for each block of a source: the best order that was found, and a bound with its proof\n\nUsage: s66 prove [OPTIONS] < SOURCE\n\nOptions:\n      --workers <N>     How many workers search, 1 to 16 [default: 4]\n      --nodes <N>       The most splits of a block's search, 0 to 1000000 [default: 100000]\n      --profile <TEXT>  The timing profile, a JSON object [default: {}, the standard one]\n      --dominate        Leaves out beginnings that an earlier one of the same piece dominates\n      --dominate-tree   Leaves out beginnings that any other one dominates: proves far more blocks best\n  -h, --help            Print help (see more with '--help')\n\nExample: s66 prove --nodes 1000 < SOURCE\n\nStatus: 0 done, 2 usage, 3 the source or the profile was refused, 4 out of memory, 6 a read or write failed, 7 some block is only bounded\n",
     ),
 ];
