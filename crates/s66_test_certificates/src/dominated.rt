@@ -1,9 +1,16 @@
+ghost use Rattle.std.specs.Prelude.{◌≤◌};
+ghost use Rattle.s66_pool.specs.declared.limits.TheConstants.{WORKERS_LIMIT};
+
 use crate::commands::check_output;
 use crate::documents::{ONE_DOMINATED, THREE_DOMINATED, THREE_MULTIPLIES};
 use crate::verdicts::{altered, check_denied, check_refused};
 use s66_cert::CertError;
+use s66_model::Rule;
 use s66_program::{Command, Status};
+use std::process::Abort;
+use std::sync::Wait;
 use std::test::Fail;
+use std::thread::Threads;
 
 /// What of a document with one dominated leaf is altered, and the verdict, in both versions.
 const ALTERED_LEAVES: &[(&str, &str, &str)] = &[
@@ -80,5 +87,48 @@ fn refuses_other_versions(rt: HostRuntime) -> Result<(), Fail> {
         let none = altered(&rt, THREE_MULTIPLIES, "CERTIFICATE 1", version)?;
         check_refused(&rt, none.as_str(), CertError::BadLine { line: 26 });
     }
+    Ok(())
+}
+
+/// Three that don't differ.
+const THREE_ALIKE: &str = "  SB0 B1\n  SB0 B1\n  SB0 B1\n";
+
+/// What `order` prints of them if it leaves out what is dominated: without that it takes 10 splits.
+const SEVEN_SPLITS: &str =
+    "* BLOCK 1 COUNT 3 SOURCE 8 TIME 8 BEST\n* SPLITS 7\n          SB0 B1\n          SB0 B1\n          SB0 B1\n";
+
+/// Checks that dominated beginnings aren't split, and are leaves of the certificate.
+fn check_left_out<R: AllocGlobal + Abort + Threads + Wait + Sync>(
+    rt: &R,
+    workers: u8,
+    rule: Rule,
+    document: &str,
+)
+    requires { (1 ≤ workers) × (workers ≤ WORKERS_LIMIT) }
+{
+    let order = Command::Order {
+        workers,
+        nodes: 100,
+        rule,
+        trace: true,
+        profile: None,
+    };
+    check_output(rt, order, THREE_ALIKE, Status::Done, SEVEN_SPLITS);
+    let prove = Command::Prove {
+        workers,
+        nodes: 100,
+        rule,
+        profile: None,
+    };
+    check_output(rt, prove, THREE_ALIKE, Status::Done, document);
+}
+
+#[test]
+fn leaves_out_what_is_dominated(rt: HostRuntime) -> Result<(), Fail> {
+    let second = altered(&rt, THREE_DOMINATED, "CERTIFICATE 3", "CERTIFICATE 2")?;
+    check_left_out(&rt, 1, Rule::WrittenEarlier, second.as_str());
+    check_left_out(&rt, 16, Rule::WrittenEarlier, second.as_str());
+    check_left_out(&rt, 1, Rule::ClampedStanding, THREE_DOMINATED);
+    check_left_out(&rt, 16, Rule::ClampedStanding, THREE_DOMINATED);
     Ok(())
 }
