@@ -46,7 +46,7 @@ overflow_add-seat g c =
     let p = book c.seat.inside.token in
     let call = grafted c.take-ledger.result.value c.deref_mut.result.now c.graft_at.new.self c.deref_mut.ensures.value p c.seat.inside.number c.seat.invariant.1 c.take-ledger.ensures.agrees
     c.args.node c.args.piece.now c.in_default-graft_at.ensures.ok in
-    let now : c.deref.result.now ≡ c.graft_at.new.self = c.deref.ensures in
+    let now : c.deref-2.result.now ≡ c.graft_at.new.self = c.deref-2.ensures in
     omega (
       arith,
       keeps-within c.take-ledger.result.value c.graft_at.new.self p _ c.take-ledger.ensures.agrees call.0,
