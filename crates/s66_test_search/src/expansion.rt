@@ -28,6 +28,33 @@ impl Least for Falling {
     }
 }
 
+/// A line of a piece's tree, as `Knot` has it, but without the name of a node.
+#[derive(Clone, Copy, Debug, PartialEq, Eq)]
+enum Line {
+    Split(Set),
+    Leaf { value: u32 },
+    Frontier { value: u32 },
+    Passed { value: u32 },
+}
+
+fn line_of(knot: &Knot) -> Line {
+    match knot {
+        Knot::Split(numbers) => Line::Split(*numbers),
+        Knot::Leaf { value } => Line::Leaf { value: *value },
+        Knot::Frontier { value } => Line::Frontier { value: *value },
+        Knot::Passed { value, .. } => Line::Passed { value: *value },
+    }
+}
+
+/// The lines of a piece's tree.
+fn lines_of<R: AllocGlobal>(rt: &R, piece: &Piece) -> Result<Vec<Line>, Fail> {
+    let mut lines = Vec::new(rt.alloc());
+    for knot in piece.knots() {
+        lines.push(line_of(knot))?;
+    }
+    Ok(lines)
+}
+
 /// What a prefix of a source's only block gives, for a best time and a number of splits that are allowed.
 fn piece_of<R: AllocGlobal + Abort>(
     rt: &R,
@@ -68,16 +95,22 @@ fn check_timed<R: Abort>(rt: &R, piece: &Piece, numbers: &[u8], total: u32) {
 /// Three multiplies take 22 in any order, and at least 17 while fewer than three are placed.
 #[test]
 fn expands_prefixes(rt: HostRuntime) -> Result<(), Fail> {
-    let open = Knot::Frontier { value: 17 };
+    let open = Line::Frontier { value: 17 };
     let split = piece_of(&rt, MULTIPLIES, &[], 22, 1)?;
     assert_eq!(rt; split.splits(), 1);
-    let knots = [Knot::Split(Set::up_to(3)), open, open, open];
-    assert_eq!(rt; split.knots(), knots.as_slice());
+    let lines = [Line::Split(Set::up_to(3)), open, open, open];
+    assert_eq!(rt; lines_of(&rt, &split)?.as_slice(), lines.as_slice());
     assert!(rt; split.timed().is_none());
     let leaf = piece_of(&rt, MULTIPLIES, &[], 17, 1)?;
-    assert_eq!(rt; leaf.knots(), [Knot::Leaf { value: 17 }].as_slice());
+    assert_eq!(rt;
+        lines_of(&rt, &leaf)?.as_slice(),
+        [Line::Leaf { value: 17 }].as_slice()
+    );
     let whole = piece_of(&rt, MULTIPLIES, &[1, 2, 3], 22, 0)?;
-    assert_eq!(rt; whole.knots(), [Knot::Leaf { value: 22 }].as_slice());
+    assert_eq!(rt;
+        lines_of(&rt, &whole)?.as_slice(),
+        [Line::Leaf { value: 22 }].as_slice()
+    );
     check_timed(&rt, &whole, &[1, 2, 3], 22);
     Ok(())
 }
@@ -89,7 +122,10 @@ fn expands_by_a_constant(rt: HostRuntime) -> Result<(), Fail> {
         let mut constant = Constant(best);
         let piece = piece_by(&rt, MULTIPLIES, &mut constant, 1)?;
         let same = piece_of(&rt, MULTIPLIES, &[], best, 1)?;
-        assert_eq!(rt; piece.knots(), same.knots());
+        assert_eq!(rt;
+            lines_of(&rt, &piece)?.as_slice(),
+            lines_of(&rt, &same)?.as_slice()
+        );
         assert_eq!(rt; piece.splits(), same.splits());
         assert_eq!(rt; constant, Constant(best));
     }
@@ -105,9 +141,9 @@ fn expands_by_a_falling_time(rt: HostRuntime) -> Result<(), Fail> {
         is_told: false,
     };
     let piece = piece_by(&rt, MULTIPLIES, &mut falling, 100)?;
-    let leaf = Knot::Leaf { value: 17 };
-    let knots = [Knot::Split(Set::up_to(3)), leaf, leaf, leaf];
-    assert_eq!(rt; piece.knots(), knots.as_slice());
+    let leaf = Line::Leaf { value: 17 };
+    let lines = [Line::Split(Set::up_to(3)), leaf, leaf, leaf];
+    assert_eq!(rt; lines_of(&rt, &piece)?.as_slice(), lines.as_slice());
     assert_eq!(rt; piece.splits(), 1);
     assert_eq!(rt; falling.kept, 17);
     assert!(rt; piece.timed().is_none());
@@ -120,20 +156,20 @@ fn expands_to_whole_orders(rt: HostRuntime) -> Result<(), Fail> {
     let one = Set::empty().with(1);
     let two = Set::empty().with(2);
     let three = Set::empty().with(3);
-    let knots = [
-        Knot::Split(one.with(3)),
-        Knot::Split(two.with(3)),
-        Knot::Split(three),
-        Knot::Leaf { value: 16 },
-        Knot::Split(two),
-        Knot::Leaf { value: 12 },
-        Knot::Split(one),
-        Knot::Split(two),
-        Knot::Leaf { value: 13 },
+    let lines = [
+        Line::Split(one.with(3)),
+        Line::Split(two.with(3)),
+        Line::Split(three),
+        Line::Leaf { value: 16 },
+        Line::Split(two),
+        Line::Leaf { value: 12 },
+        Line::Split(one),
+        Line::Split(two),
+        Line::Leaf { value: 13 },
     ];
     let piece = piece_of(&rt, ONE_LOAD, &[], 17, 100)?;
     assert_eq!(rt; piece.splits(), 6);
-    assert_eq!(rt; piece.knots(), knots.as_slice());
+    assert_eq!(rt; lines_of(&rt, &piece)?.as_slice(), lines.as_slice());
     check_timed(&rt, &piece, &[1, 3, 2], 12);
     Ok(())
 }
