@@ -7,6 +7,7 @@ use crate::hub::open_hub;
 use s66_isa::Profile;
 use s66_ledger::BUDGET_LIMIT;
 use s66_line::{Block, read_source};
+use s66_model::Rule;
 use s66_pool::{Free, Gate, Options, Seat, run, work};
 use s66_test_blocks::{MULTIPLIES, only_block};
 use std::process::Abort;
@@ -33,7 +34,11 @@ fn check_run<R: AllocGlobal + Abort + Threads + Wait + Sync, G: Gate + Sync>(
 {
     let source = read_source(rt.alloc(), MULTIPLIES.as_bytes())?;
     let block = only_block(&source).expect(rt, "one block");
-    let options = Options { workers, nodes };
+    let options = Options {
+        workers,
+        nodes,
+        rule: Rule::NoneNamed,
+    };
     let answer = run(rt, block, &Profile::standard(), options, gate)?;
     let told = (answer.time(), answer.bound(), answer.splits());
     assert_eq!(rt; told, (22, 22, 10));
@@ -99,6 +104,7 @@ fn search_all<R: AllocGlobal + Abort + Threads + Wait + Sync, G: Gate + Sync>(
     let options = Options {
         workers,
         nodes: BUDGET_LIMIT,
+        rule: Rule::NoneNamed,
     };
     let (hub, seats) = open_hub(rt, block, BUDGET_LIMIT, workers);
     let Ok(seats) = work(rt, &hub, seats, block, &profile, options, gate) else {
