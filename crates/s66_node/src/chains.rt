@@ -31,11 +31,8 @@ impl Chains {
 
     /// Which list is that of a hash.
     fn list_of(&self, hash: u64) -> usize {
-        let count = self.firsts.len();
-        if count == 0 {
-            return 0;
-        }
-        (hash % count as u64) as usize
+        // the high bits of a hash differ most
+        ((hash >> 32).wrapping_mul(self.firsts.len() as u64) >> 32) as usize
     }
 
     /// The first place of the list of a hash.
