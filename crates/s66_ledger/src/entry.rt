@@ -65,13 +65,13 @@ pub enum Entry {
 pub enum Refusal {
     /// The node wasn't out.
     NotOut,
-    /// The piece is over another prefix than the node's, or of another block or profile.
+    /// The piece is over another prefix than the node's, or of another block, profile or rule.
     OtherPrefix,
     /// The piece has more splits than the worker's allowance.
     OverAllowance,
 }
 
-/// Why the machine refused the piece; None for want of memory, of which no entry is made.
+/// Why the machine refused the piece; None if out of memory, of which no entry is made.
 pub(crate) fn refusal_of(why: GraftError) -> Option<Refusal>
     ensures some { IfSome result (λ refusal. why ≡ error_of refusal) }
     ensures none { IfNone result (why ≡ error.OutOfMemory) }

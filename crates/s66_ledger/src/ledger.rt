@@ -37,7 +37,7 @@ impl<'a> Model for Ledger<'a> {
     ghost invariant = { λ l. IsRecorded (with_history l.machine l.history.entries.items l.history.bytes.items) };
 }
 
-/// Puts the bytes of a piece's root behind those that are kept: its prefix and the byte of its line. `Err` is want of memory.
+/// Puts the bytes of a piece's root behind those that are kept: its prefix and the byte of its line. `Err` is out of memory.
 fn keep_root(bytes: &mut Vec<u8>, piece: &Piece) -> Result<(), AllocError>
     ensures ok { OnOk result (bytes.new.items ≡ bytes.old.items ++ root_bytes (opened piece.now)) }
     ensures err { OnErr result (bytes.new.items ≡ bytes.old.items) }
@@ -417,7 +417,7 @@ impl<'a> Ledger<'a> {
     /// whole orders among the nodes, and goes on until no open node's floor is below the best time, or the budget is spent and no
     /// whole order is below it. The history is dropped first, and nothing of this is recorded.
     ///
-    /// The time is that of expanding what it claims, and linear in the number of nodes. `Err` is want of memory.
+    /// The time is that of expanding what it claims, and linear in the number of nodes. `Err` is out of memory.
     pub fn finish(self, alloc: Global) -> Result<Answer, AllocError>
         requires { 1 ≤ self.workers }
         ensures rule { IfOk result (λ a. a.rule ≡ self.entry.rule) }

@@ -389,7 +389,7 @@ impl<'a> Machine<'a> {
     /// whole orders among the nodes, and goes on until no open node's floor is below the best time, or the budget is spent and no
     /// whole order is below it.
     ///
-    /// The time is that of expanding what it claims, and linear in the number of nodes. `Err` is want of memory.
+    /// The time is that of expanding what it claims, and linear in the number of nodes. `Err` is out of memory.
     pub fn finish(mut self, alloc: Global) -> Result<Answer, AllocError>
         requires { 1 ≤ self.workers }
         ensures rule { IfOk result (λ a. a.rule ≡ self.entry.rule) }

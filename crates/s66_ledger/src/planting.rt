@@ -10,7 +10,7 @@ ghost use Rattle.s66_node.specs.SeenKnots.{seen, seen_knot};
 use crate::node::{Node, State};
 use crate::path;
 use crate::rank::rank_of;
-use s66_node::{Knot, PASSED, Place};
+use s66_node::{Knot, PASSED};
 use std::alloc::AllocError;
 use std::collections::BinaryHeap;
 
@@ -73,11 +73,7 @@ fn closed(nodes: &[Node], root: u32, first: u32, knot: &Knot, node: Node) -> Nod
     let Knot::Passed { name, .. } = knot else {
         return node;
     };
-    let named = match name.place {
-        Place::Line(0) => root,
-        Place::Line(line) => first.saturating_add(line - 1),
-        Place::Node(number) => number,
-    };
+    let named = name.place.number(root, first);
     if !is_named(nodes, named, name.numbers.as_slice()) {
         return node;
     }

@@ -24,13 +24,13 @@ impl Offered {
     }
 }
 
-/// Why a piece wasn't taken: nodes, best order and allowances are as before, and the history has the refusal, but for want of memory,
-/// which changes nothing.
+/// Why a piece wasn't taken: nodes, best order and allowances are as before, and the history has the refusal, unless it is
+/// out of memory, which changes nothing.
 #[derive(Clone, Copy, Debug, Drop, Error, PartialEq, Eq)]
 pub enum GraftError {
     #[error("the node is not handed out")]
     NotOut,
-    #[error("the piece is over another prefix than the node's, or of another block or profile")]
+    #[error("the piece is over another prefix than the node's, or of another block, profile or rule")]
     OtherPrefix,
     #[error("the piece has more splits than the worker's allowance")]
     OverAllowance,
@@ -38,8 +38,8 @@ pub enum GraftError {
     OutOfMemory,
 }
 
-/// Why a node wasn't taken back: nodes, best order and allowances are as before, and the history has the refusal, but for want of
-/// memory, which changes nothing.
+/// Why a node wasn't taken back: nodes, best order and allowances are as before, and the history has the refusal, unless it is out
+/// of memory, which changes nothing.
 #[derive(Clone, Copy, Debug, Drop, Error, PartialEq, Eq)]
 pub enum BackError {
     #[error("the node is not handed out")]

@@ -38,7 +38,7 @@ pub enum Reply {
     Taken,
     /// The node isn't out.
     NotOut,
-    /// The piece is over another prefix than the node's, or of another block or profile.
+    /// The piece is over another prefix than the node's, or of another block, profile or rule.
     OtherPrefix,
     /// The piece has more splits than the worker's allowance.
     OverAllowance,
@@ -61,7 +61,7 @@ impl Ledger<'_> {
     ghost use Rattle.s66_ledger.specs.Grafts.{IsGraftAt};
     ghost use Rattle.s66_ledger.specs.Steps.{IsEventOf, worker_of, reply_of};
 
-    /// Does what the event asks, as the call of its name does; a refusal is a reply. `Err` is want of memory, and changes nothing.
+    /// Does what the event asks, as the call of its name does; a refusal is a reply. `Err` is out of memory, and changes nothing.
     pub fn step(&mut self, event: Event) -> Result<Reply, AllocError>
         requires { (1 ≤ worker_of event) × (worker_of event ≤ self.old.workers) }
         ensures ok { IfOk result (λ reply. (e : model.Event) × IsEventOf self.old.rule self.old.problem event (reply_of reply) e × IsEvent self.old e (reply_of reply) self.new) }

@@ -114,7 +114,7 @@ fn nodes_below(alloc: Global, numbers: Set, piece: &Piece) -> Result<Vec<Node>, 
 }
 
 impl Subtree {
-    /// Of this piece, in time linear in its lines. `Err` is want of memory; a piece of `PIECE_LINES_LIMIT` lines or more gets it in
+    /// Of this piece, in time linear in its lines. `Err` is out of memory; a piece of `PIECE_LINES_LIMIT` lines or more gets it in
     /// any case.
     pub fn of(alloc: Global, piece: &Piece) -> Result<Subtree, AllocError>
         ensures { IfOk result (IsSubtreeOf (opened piece.now)) }

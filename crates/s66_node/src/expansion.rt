@@ -50,7 +50,7 @@ fn timed_of(
 /// least one of its whole orders, timed. Times are in minor cycles.
 ///
 /// The tables of the block are made once, in time quadratic in its length. Each split then costs a push, a floor and an undo for
-/// each of its children, and a look at each instruction. It takes no lock and waits for nobody. `Err` is want of memory, and
+/// each of its children, and a look at each instruction. It takes no lock and waits for nobody. `Err` is out of memory, and
 /// leaves nothing behind.
 pub fn expand(
     alloc: Global,
@@ -179,7 +179,8 @@ impl Walk<'_> {
     ///
     /// Where earlier nodes are named, the marks are forgotten first, and then those of the prefixes that are split here are
     /// kept. Where others are named too, those of the prefixes that are split or stay open are kept, beside the marks that
-    /// were there; but those of lines that weren't settled are forgotten first. On `Err` some may have been kept.
+    /// were there; but those of lines that weren't settled are forgotten first. On `Err` some may have been kept. By
+    /// `NoneNamed` no prefix is dominated, and `expand_with` is cheaper.
     pub fn expand_dominated<L: Least>(
         &mut self,
         alloc: Global,

@@ -24,6 +24,17 @@ pub enum Place {
     Node(u32),
 }
 
+impl Place {
+    /// The number of that node in a ledger in which the piece's root has the number `root`, and its other lines those from `first` on.
+    pub fn number(self, root: u32, first: u32) -> u32 {
+        match self {
+            Place::Line(0) => root,
+            Place::Line(line) => first.saturating_add(line - 1),
+            Place::Node(number) => number,
+        }
+    }
+}
+
 /// A node that dominates a prefix.
 #[derive(Debug, Drop)]
 pub struct Name {

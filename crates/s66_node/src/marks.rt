@@ -38,7 +38,7 @@ struct Entry {
 
 /// Marks of beginnings of a block's legal orders, found by the sets of their numbers.
 ///
-/// At most 65,536 are kept in all, and of those that are compared clamped at most 16 of one set. Where memory runs out, or
+/// At most 65,536 are kept in all, and of those that are compared clamped at most 16 of one set. If memory runs out, or
 /// there are as many, a mark isn't kept.
 #[derive(Debug, Drop)]
 pub struct Marks<'a> {
@@ -186,22 +186,13 @@ fn put_entry(entries: &mut Vec<Entry>, index: usize, entry: Entry) -> Result<(),
     Ok(())
 }
 
-/// The node of a line, where that of the root is `root` and the others are from `first` on.
-fn settled(place: Place, root: u32, first: u32) -> Place {
-    match place {
-        Place::Line(0) => Place::Node(root),
-        Place::Line(line) => Place::Node(first.saturating_add(line - 1)),
-        Place::Node(node) => Place::Node(node),
-    }
-}
-
 /// Makes nodes of lines, at these entries.
 fn settle_places(places: &mut Vec<Place>, unsettled: &[u32], root: u32, first: u32) {
     for index in unsettled {
         let index = *index as usize;
         if index < places.len() {
             let place = places[index];
-            places[index] = settled(place, root, first);
+            places[index] = Place::Node(place.number(root, first));
         }
     }
 }
