@@ -40,8 +40,9 @@ impl<'b> Expander<'b> {
         }
     }
 
-    /// Expands a prefix by the rule of its dominated leaves; None if it is no beginning of the block's orders, or if out of memory. A
-    /// piece in which any node of the ledger may be named is small, so that what it shows is soon known.
+    /// Expands a prefix by the rule of dominated leaves, within an allowance of splits, while the best time may fall. None if it is no
+    /// beginning of the block's orders, or if out of memory; it may be asked again. A piece in which any node of the ledger may be
+    /// named has at most `DOMINATED_PIECE_LIMIT` splits, so that the nodes that it makes are soon known.
     pub fn expand<L: Least>(
         &mut self,
         alloc: Global,
@@ -55,24 +56,21 @@ impl<'b> Expander<'b> {
             return None;
         }
         let rule = self.rule;
+        let most = match rule {
+            Rule::NoneNamed | Rule::WrittenEarlier => allowance,
+            Rule::ClampedStanding => allowance.min(DOMINATED_PIECE_LIMIT),
+        };
         let piece = match rule {
-            Rule::NoneNamed => self.walk.expand_with(alloc, prefix, incumbent, allowance),
-            Rule::WrittenEarlier => self
+            Rule::NoneNamed => self.walk.expand_with(alloc, prefix, incumbent, most),
+            Rule::WrittenEarlier | Rule::ClampedStanding => self
                 .walk
-                .expand_dominated(alloc, prefix, incumbent, allowance, &mut self.marks, rule),
-            Rule::ClampedStanding => self.walk.expand_dominated(
-                alloc,
-                prefix,
-                incumbent,
-                allowance.min(DOMINATED_PIECE_LIMIT),
-                &mut self.marks,
-                rule,
-            ),
+                .expand_dominated(alloc, prefix, incumbent, most, &mut self.marks, rule),
         };
         piece.ok()
     }
 
-    /// Says which nodes its last piece has become: the node of this number and those from `first` on.
+    /// Says which nodes of the ledger its last piece has become: the node of this number, and those from `first` on. A piece of which
+    /// that isn't said is forgotten by the next.
     pub fn settle(&mut self, root: u32, first: u32) {
         self.marks.settle(root, first);
     }

@@ -70,7 +70,7 @@ fn search_by_workers<'a, R: AllocGlobal + Threads + Wait + Sync, G: Gate + Sync>
 /// other. However their steps fall, what comes is an answer for that many splits. Where a list schedule takes no more than the
 /// bound, nothing is left to search, and no worker starts.
 ///
-/// `Err` is want of memory of the caller's own part.
+/// `Err` is out of memory in the caller's own part.
 pub fn run<R: AllocGlobal + Threads + Wait + Sync, G: Gate + Sync>(
     rt: &R,
     block: &Block,

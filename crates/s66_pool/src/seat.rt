@@ -8,7 +8,7 @@ use std::marker::Model;
 pub struct Seat<'a> {
     pub(crate) number: u8,
     pub(crate) splits: u32,
-    /// The number of the first node that its last piece made, or a guess.
+    /// How many nodes there were before its last graft: the number of the first one that it made, if it was taken.
     pub(crate) planted: u32,
     pub(crate) token: Token<Box<Ledger<'a>>>,
 }

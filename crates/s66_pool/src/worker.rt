@@ -82,7 +82,7 @@ pub(crate) fn work_at<'a, R: AllocGlobal + Wait, G: Gate>(
     if worker.found_none() {
         site.searching.fetch_sub(1, Ordering::SeqCst);
     }
-    // an allowance that stays for want of memory is taken back when the ledger is finished
+    // an allowance that stays since memory ran out is taken back when the ledger is finished
     let _ = site.hub.retire(site.rt, &mut member.seat);
 }
 
