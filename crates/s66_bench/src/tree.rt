@@ -30,7 +30,7 @@ pub fn grow(
     Ok(Counts {
         splits: piece.splits(),
         // each line but the first is of a child
-        pushes: piece.knots().len().saturating_sub(1),
+        pushes: piece.vertices().len().saturating_sub(1),
         best,
     })
 }

@@ -3,11 +3,11 @@ use Rattle.std.proofs.Common.{◌≡◌, ◌≤◌, ◌<◌, ◌+◌, ◌-◌, �
 use Rattle.std.proofs.lemmas.Bool.{cond-false, leb-false, leb-true, lt-leb}
 use Rattle.std.specs.Prelude.{Result, Ok, Err}
 use Rattle.s66_isa.specs.declared.limits.TheConstants.{BLOCK_LIMIT}
-use Rattle.s66_model.specs.Tree.{AtTip, AtSplit}
+use Rattle.s66_model.specs.Tree.{AtTerminal, AtSplit}
 use Rattle.s66_cert.specs.Document.{Document, IsTextWithin}
 use Rattle.s66_cert.specs.Faults.{IsLine, AreLines, with_newlines, BeginsWithin, Begins, HasLine, IsBadLine, IsSplitTooMany, IsCut, IsFault}
 use Rattle.s66_cert.specs.Lines.{Line, Header, Profile, Block, Instruction, Time, Bound, Order, OfTree, End, line_of}
-use Rattle.s66_cert.specs.Reading.{State, start, place_of_tree, with_knot, is_allowed, wants_dominated, step_at, step_if, step, and_then, steps, ended, is_header, read_within, whole_lines, last_bytes}
+use Rattle.s66_cert.specs.Reading.{State, start, place_of_tree, with_vertex, is_allowed, wants_dominated, step_at, step_if, step, and_then, steps, ended, is_header, read_within, whole_lines, last_bytes}
 use Rattle.s66_cert.specs.declared.limits.TheConstants.{SPLIT_LIMIT}
 use Rattle.s66_cert.specs.declared.error.CertError.{CertError}
 use Rattle.s66_cert.specs.declared.error.CertError.TheVariants.{BadLine, Truncated, TooManyNodes, OutOfMemory}
@@ -43,9 +43,9 @@ outcome-at s AtInstruction (Instruction text) = IsGood _ refl (λ most. refl)
 outcome-at s AtTime (Time time) = IsGood _ refl (λ most. refl)
 outcome-at s AtBound (Bound bound) = IsGood _ refl (λ most. refl)
 outcome-at s AtOrder (Order numbers) = IsGood _ refl (λ most. refl)
-outcome-at s AtTree (OfTree (AtTip ending)) = outcome-test s _ (is_allowed s.part.rule (AtTip ending)) refl
+outcome-at s AtTree (OfTree (AtTerminal ending)) = outcome-test s _ (is_allowed s.part.rule (AtTerminal ending)) refl
 outcome-at s AtTree (OfTree (AtSplit numbers)) =
-    IsSplit (record { count = suc s.count; documents = s.documents; place = place_of_tree (s.left - 1 + length numbers); part = with_knot s.part (AtSplit numbers); left = s.left - 1 + length numbers; splits = suc s.splits }) refl (λ most. refl)
+    IsSplit (record { count = suc s.count; documents = s.documents; place = place_of_tree (s.left - 1 + length numbers); part = with_vertex s.part (AtSplit numbers); left = s.left - 1 + length numbers; splits = suc s.splits }) refl (λ most. refl)
 outcome-at s AtEnd End = outcome-unless s _ (wants_dominated s.part) refl
 outcome-at s place l = IsBad (λ most. refl)
 

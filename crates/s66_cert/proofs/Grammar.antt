@@ -5,12 +5,12 @@ use Rattle.std.proofs.lemmas.List.{append-nil, map-append}
 use Rattle.std.specs.Prelude.{Result, Ok}
 use Rattle.s66_model.specs.declared.rule.Rule.{Rule}
 use Rattle.s66_model.specs.Leaves.{Whole}
-use Rattle.s66_model.specs.Tree.{Tree, Alone, Parted, Kids, NoMore, Unsplit, Split, Knot, AtTip, AtSplit, flat_kids, flat, kid_splits, splits}
+use Rattle.s66_model.specs.Tree.{Tree, Alone, Parted, Siblings, NoMore, Unsplit, Split, Vertex, AtTerminal, AtSplit, flat_siblings, flat, sibling_splits, splits}
 use Rattle.s66_model.specs.DominatedLeaves.{Ending, Bounding}
-use Rattle.s66_model.specs.Preorder.{KidsMatch, TreeMatches}
+use Rattle.s66_model.specs.Preorder.{SiblingsMatch, TreeMatches}
 use Rattle.s66_model.proofs.Forests.{read-flat}
-use Rattle.s66_cert.specs.Document.{Document, IsDocumentWithin, AreDocumentsWithin, AreInstructions, KidsFit, TreeFits, has_dominated_line, has_dominated, names_nodes}
-use Rattle.s66_cert.proofs.DocumentLines.{open_lines, document_lines, documents_lines, instructions_of, knots_of}
+use Rattle.s66_cert.specs.Document.{Document, IsDocumentWithin, AreDocumentsWithin, AreInstructions, SiblingsFit, TreeFits, has_dominated_line, has_dominated, names_nodes}
+use Rattle.s66_cert.proofs.DocumentLines.{open_lines, document_lines, documents_lines, instructions_of, vertices_of}
 use Rattle.s66_cert.specs.Lines.{Line, Header, Profile, Block, Instruction, Time, Bound, Order, OfTree, End, bytes_of, IsInRange}
 use Rattle.s66_cert.specs.DocumentParts.{Parts, tree_of}
 use Rattle.s66_cert.specs.Reading.{nothing, State, place_of_instruction, place_of_tree, is_allowed, wants_dominated, step_at, step_if, and_then, steps}
@@ -22,17 +22,17 @@ use Rattle.s66_cert.proofs.States.{at, place-instruction, place-tree}
 
 -- THE TREE OF ITS LINES
 
-kids-match : (limit : ℕ) (ns : List ℕ) (kids : Kids Ending) → KidsFit limit ns kids → KidsMatch ns kids
-kids-match limit [] NoMore fits = tt
-kids-match limit [] (Unsplit leaf kids) fits = absurd fits
-kids-match limit [] (Split numbers sub kids) fits = absurd fits
-kids-match limit (n ∷ ns) NoMore fits = absurd fits
-kids-match limit (n ∷ ns) (Unsplit leaf kids) fits = kids-match limit ns kids fits.1
-kids-match limit (n ∷ ns) (Split numbers sub kids) fits = (kids-match limit numbers sub fits.1, kids-match limit ns kids fits.2)
+siblings-match : (limit : ℕ) (ns : List ℕ) (siblings : Siblings Ending) → SiblingsFit limit ns siblings → SiblingsMatch ns siblings
+siblings-match limit [] NoMore fits = tt
+siblings-match limit [] (Unsplit leaf siblings) fits = absurd fits
+siblings-match limit [] (Split numbers sub siblings) fits = absurd fits
+siblings-match limit (n ∷ ns) NoMore fits = absurd fits
+siblings-match limit (n ∷ ns) (Unsplit leaf siblings) fits = siblings-match limit ns siblings fits.1
+siblings-match limit (n ∷ ns) (Split numbers sub siblings) fits = (siblings-match limit numbers sub fits.1, siblings-match limit ns siblings fits.2)
 
 tree-match : (limit : ℕ) (tree : Tree Ending) → TreeFits limit tree → TreeMatches tree
 tree-match limit (Alone leaf) fits = tt
-tree-match limit (Parted numbers kids) fits = kids-match limit numbers kids fits.1
+tree-match limit (Parted numbers siblings) fits = siblings-match limit numbers siblings fits.1
 
 pub tree-again : (limit : ℕ) (tree : Tree Ending) → TreeFits limit tree → tree_of (flat tree) ≡ tree
 tree-again limit tree fits = read-flat (Bounding Whole) tree (tree-match limit tree fits)
@@ -44,9 +44,9 @@ module _ (limit most : ℕ) (narrow : limit < 2 ^ 64) where
   step-line s t l lines is made =
       ap (λ (o : Option Line). and_then (step_if most s o) (λ t. steps limit most t lines)) (line-again limit l narrow is) ∙ ap (λ (r : Result State CertError). and_then r (λ t. steps limit most t lines)) made
 
-  knots-cut : (xs ys : List (Knot Ending)) (lines : List (List ℕ)) → map bytes_of (knots_of (xs ++ ys)) ++ lines ≡ map bytes_of (knots_of xs) ++ (map bytes_of (knots_of ys) ++ lines)
-  knots-cut [] ys lines = refl
-  knots-cut (x ∷ xs) ys lines = ap (λ z. bytes_of (OfTree x) ∷ z) (knots-cut xs ys lines)
+  vertices-cut : (xs ys : List (Vertex Ending)) (lines : List (List ℕ)) → map bytes_of (vertices_of (xs ++ ys)) ++ lines ≡ map bytes_of (vertices_of xs) ++ (map bytes_of (vertices_of ys) ++ lines)
+  vertices-cut [] ys lines = refl
+  vertices-cut (x ∷ xs) ys lines = ap (λ z. bytes_of (OfTree x) ∷ z) (vertices-cut xs ys lines)
 
   -- INSTRUCTIONS
 
@@ -79,68 +79,68 @@ module _ (limit most : ℕ) (narrow : limit < 2 ^ 64) where
   -- THE TREE
 
   -- with so many trees to come
-  abbrev in_tree : ℕ → List Document → Parts → List (Knot Ending) → ℕ → ℕ → State
-  in_tree count documents part knots left splits = at count documents (place_of_tree left) (record part { knots = knots }) left splits
+  abbrev in_tree : ℕ → List Document → Parts → List (Vertex Ending) → ℕ → ℕ → State
+  in_tree count documents part vertices left splits = at count documents (place_of_tree left) (record part { vertices = vertices }) left splits
 
-  tip-step : (count left splits : ℕ) (documents : List Document) (part : Parts) (knots : List (Knot Ending)) (ending : Ending) → is_allowed part.rule (AtTip ending) ≡ true →
-      step_at most (in_tree count documents part knots (suc left) splits) (place_of_tree (suc left)) (OfTree (AtTip ending)) ≡ Ok (in_tree (suc count) documents part (knots ++ AtTip ending ∷ []) left splits)
-  tip-step count left splits documents part knots ending is =
+  terminal-step : (count left splits : ℕ) (documents : List Document) (part : Parts) (vertices : List (Vertex Ending)) (ending : Ending) → is_allowed part.rule (AtTerminal ending) ≡ true →
+      step_at most (in_tree count documents part vertices (suc left) splits) (place_of_tree (suc left)) (OfTree (AtTerminal ending)) ≡ Ok (in_tree (suc count) documents part (vertices ++ AtTerminal ending ∷ []) left splits)
+  terminal-step count left splits documents part vertices ending is =
       let less : suc left - 1 ≡ left = omega arith in
       rw (place-tree left) (rw is (rw less refl))
 
-  split-step : (count left to splits : ℕ) (documents : List Document) (part : Parts) (knots : List (Knot Ending)) (numbers : List ℕ) → splits < most → to ≡ length numbers + left →
-      step_at most (in_tree count documents part knots (suc left) splits) (place_of_tree (suc left)) (OfTree (AtSplit numbers)) ≡ Ok (in_tree (suc count) documents part (knots ++ AtSplit numbers ∷ []) to (suc splits))
-  split-step count left to splits documents part knots numbers few e =
+  split-step : (count left to splits : ℕ) (documents : List Document) (part : Parts) (vertices : List (Vertex Ending)) (numbers : List ℕ) → splits < most → to ≡ length numbers + left →
+      step_at most (in_tree count documents part vertices (suc left) splits) (place_of_tree (suc left)) (OfTree (AtSplit numbers)) ≡ Ok (in_tree (suc count) documents part (vertices ++ AtSplit numbers ∷ []) to (suc splits))
+  split-step count left to splits documents part vertices numbers few e =
       let less : suc left - 1 + length numbers ≡ to = omega arith in
       rw (place-tree left) (rw (lt-leb most splits few) (rw less refl))
 
-  kids-run : (count to left here splits after : ℕ) (documents : List Document) (part : Parts) (knots : List (Knot Ending)) (ns : List ℕ) (kids : Kids Ending) (lines : List (List ℕ)) →
-      KidsFit limit ns kids → to ≡ count + length (flat_kids kids) → here ≡ length ns + left → after ≡ splits + kid_splits kids → after ≤ most →
-      (has_dominated_line (flat_kids kids) ≡ true → names_nodes part.rule ≡ true) →
-      steps limit most (in_tree count documents part knots here splits) (map bytes_of (knots_of (flat_kids kids)) ++ lines)
-      ≡ steps limit most (in_tree to documents part (knots ++ flat_kids kids) left after) lines
-  kids-run count to left here splits after documents part knots [] NoMore lines fits e f g few named =
+  siblings-run : (count to left here splits after : ℕ) (documents : List Document) (part : Parts) (vertices : List (Vertex Ending)) (ns : List ℕ) (siblings : Siblings Ending) (lines : List (List ℕ)) →
+      SiblingsFit limit ns siblings → to ≡ count + length (flat_siblings siblings) → here ≡ length ns + left → after ≡ splits + sibling_splits siblings → after ≤ most →
+      (has_dominated_line (flat_siblings siblings) ≡ true → names_nodes part.rule ≡ true) →
+      steps limit most (in_tree count documents part vertices here splits) (map bytes_of (vertices_of (flat_siblings siblings)) ++ lines)
+      ≡ steps limit most (in_tree to documents part (vertices ++ flat_siblings siblings) left after) lines
+  siblings-run count to left here splits after documents part vertices [] NoMore lines fits e f g few named =
       let same : to ≡ count = omega arith in
       let less : here ≡ left = omega arith in
       let none : after ≡ splits = omega arith in
-      rw (same, less, none, append-nil knots) refl
-  kids-run count to left here splits after documents part knots [] (Unsplit ending kids) lines fits e f g few named = absurd fits
-  kids-run count to left here splits after documents part knots [] (Split numbers sub kids) lines fits e f g few named = absurd fits
-  kids-run count to left here splits after documents part knots (n ∷ ns) NoMore lines fits e f g few named = absurd fits
-  kids-run count to left here splits after documents part knots (n ∷ ns) (Unsplit ending kids) lines fits e f g few named =
+      rw (same, less, none, append-nil vertices) refl
+  siblings-run count to left here splits after documents part vertices [] (Unsplit ending siblings) lines fits e f g few named = absurd fits
+  siblings-run count to left here splits after documents part vertices [] (Split numbers sub siblings) lines fits e f g few named = absurd fits
+  siblings-run count to left here splits after documents part vertices (n ∷ ns) NoMore lines fits e f g few named = absurd fits
+  siblings-run count to left here splits after documents part vertices (n ∷ ns) (Unsplit ending siblings) lines fits e f g few named =
       let more : here ≡ suc (length ns + left) = omega arith in
-      let joined : (knots ++ AtTip ending ∷ []) ++ flat_kids kids ≡ knots ++ AtTip ending ∷ flat_kids kids = append_assoc knots (AtTip ending ∷ []) (flat_kids kids) in
+      let joined : (vertices ++ AtTerminal ending ∷ []) ++ flat_siblings siblings ≡ vertices ++ AtTerminal ending ∷ flat_siblings siblings = append_assoc vertices (AtTerminal ending ∷ []) (flat_siblings siblings) in
       rw more (
-      step-line (in_tree count documents part knots (suc (length ns + left)) splits) (in_tree (suc count) documents part (knots ++ AtTip ending ∷ []) (length ns + left) splits) (OfTree (AtTip ending)) (map bytes_of (knots_of (flat_kids kids)) ++ lines) fits.0 (tip-step count (length ns + left) splits documents part knots ending (first-allowed part.rule ending (flat_kids kids) named))
-      ∙ kids-run (suc count) to left (length ns + left) splits after documents part (knots ++ AtTip ending ∷ []) ns kids lines fits.1 (omega arith) refl g few (later-allowed part.rule ending (flat_kids kids) named)
-      ∙ ap (λ (k : List (Knot Ending)). steps limit most (in_tree to documents part k left after) lines) joined
+      step-line (in_tree count documents part vertices (suc (length ns + left)) splits) (in_tree (suc count) documents part (vertices ++ AtTerminal ending ∷ []) (length ns + left) splits) (OfTree (AtTerminal ending)) (map bytes_of (vertices_of (flat_siblings siblings)) ++ lines) fits.0 (terminal-step count (length ns + left) splits documents part vertices ending (first-allowed part.rule ending (flat_siblings siblings) named))
+      ∙ siblings-run (suc count) to left (length ns + left) splits after documents part (vertices ++ AtTerminal ending ∷ []) ns siblings lines fits.1 (omega arith) refl g few (later-allowed part.rule ending (flat_siblings siblings) named)
+      ∙ ap (λ (k : List (Vertex Ending)). steps limit most (in_tree to documents part k left after) lines) joined
       )
-  kids-run count to left here splits after documents part knots (n ∷ ns) (Split numbers sub kids) lines fits e f g few named =
+  siblings-run count to left here splits after documents part vertices (n ∷ ns) (Split numbers sub siblings) lines fits e f g few named =
       let more : here ≡ suc (length ns + left) = omega arith in
       let trees : ℕ = length numbers + (length ns + left) in
-      let count2 : ℕ = suc count + length (flat_kids sub) in
-      let splits2 : ℕ = suc splits + kid_splits sub in
-      let before : List (Knot Ending) = knots ++ AtSplit numbers ∷ [] in
-      let joined : (before ++ flat_kids sub) ++ flat_kids kids ≡ knots ++ AtSplit numbers ∷ (flat_kids sub ++ flat_kids kids) =
-      append_assoc before (flat_kids sub) (flat_kids kids) ∙ append_assoc knots (AtSplit numbers ∷ []) (flat_kids sub ++ flat_kids kids) in
-      let cut : map bytes_of (knots_of (flat_kids sub ++ flat_kids kids)) ++ lines ≡ map bytes_of (knots_of (flat_kids sub)) ++ (map bytes_of (knots_of (flat_kids kids)) ++ lines) = knots-cut (flat_kids sub) (flat_kids kids) lines in
+      let count2 : ℕ = suc count + length (flat_siblings sub) in
+      let splits2 : ℕ = suc splits + sibling_splits sub in
+      let before : List (Vertex Ending) = vertices ++ AtSplit numbers ∷ [] in
+      let joined : (before ++ flat_siblings sub) ++ flat_siblings siblings ≡ vertices ++ AtSplit numbers ∷ (flat_siblings sub ++ flat_siblings siblings) =
+      append_assoc before (flat_siblings sub) (flat_siblings siblings) ∙ append_assoc vertices (AtSplit numbers ∷ []) (flat_siblings sub ++ flat_siblings siblings) in
+      let cut : map bytes_of (vertices_of (flat_siblings sub ++ flat_siblings siblings)) ++ lines ≡ map bytes_of (vertices_of (flat_siblings sub)) ++ (map bytes_of (vertices_of (flat_siblings siblings)) ++ lines) = vertices-cut (flat_siblings sub) (flat_siblings siblings) lines in
       rw more (
-      step-line (in_tree count documents part knots (suc (length ns + left)) splits) (in_tree (suc count) documents part before trees (suc splits)) (OfTree (AtSplit numbers)) (map bytes_of (knots_of (flat_kids sub ++ flat_kids kids)) ++ lines) fits.0 (split-step count (length ns + left) trees splits documents part knots numbers (omega arith) refl)
+      step-line (in_tree count documents part vertices (suc (length ns + left)) splits) (in_tree (suc count) documents part before trees (suc splits)) (OfTree (AtSplit numbers)) (map bytes_of (vertices_of (flat_siblings sub ++ flat_siblings siblings)) ++ lines) fits.0 (split-step count (length ns + left) trees splits documents part vertices numbers (omega arith) refl)
       ∙ ap (λ (l : List (List ℕ)). steps limit most (in_tree (suc count) documents part before trees (suc splits)) l) cut
-      ∙ kids-run (suc count) count2 (length ns + left) trees (suc splits) splits2 documents part before numbers sub (map bytes_of (knots_of (flat_kids kids)) ++ lines) fits.1 refl refl refl (omega arith) (λ has. named (front-dominated (flat_kids sub) (flat_kids kids) has))
-      ∙ kids-run count2 to left (length ns + left) splits2 after documents part (before ++ flat_kids sub) ns kids lines fits.2 (omega (arith, length-append {A = Knot Ending})) refl (omega arith) few (λ has. named (rest-dominated (flat_kids sub) (flat_kids kids) has))
-      ∙ ap (λ (k : List (Knot Ending)). steps limit most (in_tree to documents part k left after) lines) joined
+      ∙ siblings-run (suc count) count2 (length ns + left) trees (suc splits) splits2 documents part before numbers sub (map bytes_of (vertices_of (flat_siblings siblings)) ++ lines) fits.1 refl refl refl (omega arith) (λ has. named (front-dominated (flat_siblings sub) (flat_siblings siblings) has))
+      ∙ siblings-run count2 to left (length ns + left) splits2 after documents part (before ++ flat_siblings sub) ns siblings lines fits.2 (omega (arith, length-append {A = Vertex Ending})) refl (omega arith) few (λ has. named (rest-dominated (flat_siblings sub) (flat_siblings siblings) has))
+      ∙ ap (λ (k : List (Vertex Ending)). steps limit most (in_tree to documents part k left after) lines) joined
       )
 
   tree-run : (count : ℕ) (documents : List Document) (part : Parts) (tree : Tree Ending) (lines : List (List ℕ)) → TreeFits limit tree → splits tree ≤ most → (has_dominated tree ≡ true → names_nodes part.rule ≡ true) →
-      (to : ℕ) × (steps limit most (in_tree count documents part [] 1 0) (map bytes_of (knots_of (flat tree)) ++ lines) ≡ steps limit most (in_tree to documents part (flat tree) 0 (splits tree)) lines)
+      (to : ℕ) × (steps limit most (in_tree count documents part [] 1 0) (map bytes_of (vertices_of (flat tree)) ++ lines) ≡ steps limit most (in_tree to documents part (flat tree) 0 (splits tree)) lines)
   tree-run count documents part (Alone ending) lines fits few named =
-      (suc count, step-line (in_tree count documents part [] 1 0) (in_tree (suc count) documents part (AtTip ending ∷ []) 0 0) (OfTree (AtTip ending)) lines fits (tip-step count 0 0 documents part [] ending (first-allowed part.rule ending [] named)))
-  tree-run count documents part (Parted numbers kids) lines fits few named =
+      (suc count, step-line (in_tree count documents part [] 1 0) (in_tree (suc count) documents part (AtTerminal ending ∷ []) 0 0) (OfTree (AtTerminal ending)) lines fits (terminal-step count 0 0 documents part [] ending (first-allowed part.rule ending [] named)))
+  tree-run count documents part (Parted numbers siblings) lines fits few named =
       let trees : ℕ = length numbers + 0 in (
-        suc count + length (flat_kids kids),
-        step-line (in_tree count documents part [] 1 0) (in_tree (suc count) documents part (AtSplit numbers ∷ []) trees 1) (OfTree (AtSplit numbers)) (map bytes_of (knots_of (flat_kids kids)) ++ lines) fits.0 (split-step count 0 trees 0 documents part [] numbers (omega arith) refl)
-            ∙ kids-run (suc count) (suc count + length (flat_kids kids)) 0 trees 1 (1 + kid_splits kids) documents part (AtSplit numbers ∷ []) numbers kids lines fits.1 refl refl refl few named,
+        suc count + length (flat_siblings siblings),
+        step-line (in_tree count documents part [] 1 0) (in_tree (suc count) documents part (AtSplit numbers ∷ []) trees 1) (OfTree (AtSplit numbers)) (map bytes_of (vertices_of (flat_siblings siblings)) ++ lines) fits.0 (split-step count 0 trees 0 documents part [] numbers (omega arith) refl)
+            ∙ siblings-run (suc count) (suc count + length (flat_siblings siblings)) 0 trees 1 (1 + sibling_splits siblings) documents part (AtSplit numbers ∷ []) numbers siblings lines fits.1 refl refl refl few named,
       )
 
   -- DOCUMENTS
@@ -150,7 +150,7 @@ module _ (limit most : ℕ) (narrow : limit < 2 ^ 64) where
   between count documents = at count documents AtHeader nothing 0 0
 
   abbrev heading : Document → Parts
-  heading d = record { rule = d.rule; profile = d.profile; block = d.block; time = d.time; bound = d.bound; numbers = d.numbers; knots = [] }
+  heading d = record { rule = d.rule; profile = d.profile; block = d.block; time = d.time; bound = d.bound; numbers = d.numbers; vertices = [] }
 
   lines-cut : (xs ys : List Line) (lines : List (List ℕ)) → map bytes_of (xs ++ ys) ++ lines ≡ map bytes_of xs ++ (map bytes_of ys ++ lines)
   lines-cut xs ys lines = ap (λ (front : List (List ℕ)). front ++ lines) (map-append bytes_of xs ys) ∙ append_assoc (map bytes_of xs) (map bytes_of ys) lines
@@ -193,13 +193,13 @@ module _ (limit most : ℕ) (narrow : limit < 2 ^ 64) where
       (to : ℕ) × (steps limit most (between count documents) (map bytes_of (open_lines d) ++ lines) ≡ steps limit most (in_tree to documents (heading d) (flat d.tree) 0 (splits d.tree)) lines)
   open-run count documents d other lines is named =
       let front : List Line = Header d.rule ∷ Profile d.profile ∷ Block (length d.block) ∷ (instructions_of d.block ++ Time d.time ∷ Bound d.bound ∷ Order d.numbers ∷ []) in
-      let whole : open_lines d ≡ front ++ knots_of (flat d.tree) =
-      ap (λ (l : List Line). Header d.rule ∷ Profile d.profile ∷ Block (length d.block) ∷ l) (sym (append_assoc (instructions_of d.block) (Time d.time ∷ Bound d.bound ∷ Order d.numbers ∷ []) (knots_of (flat d.tree)))) in
-      let one = heading-run count documents d other (map bytes_of (knots_of (flat d.tree)) ++ lines) is in
+      let whole : open_lines d ≡ front ++ vertices_of (flat d.tree) =
+      ap (λ (l : List Line). Header d.rule ∷ Profile d.profile ∷ Block (length d.block) ∷ l) (sym (append_assoc (instructions_of d.block) (Time d.time ∷ Bound d.bound ∷ Order d.numbers ∷ []) (vertices_of (flat d.tree)))) in
+      let one = heading-run count documents d other (map bytes_of (vertices_of (flat d.tree)) ++ lines) is in
       let two = tree-run one.0 documents (heading d) d.tree lines is.tree is.splits named in (
         two.0,
         ap (λ (l : List Line). steps limit most (between count documents) (map bytes_of l ++ lines)) whole
-            ∙ ap (λ (l : List (List ℕ)). steps limit most (between count documents) l) (lines-cut front (knots_of (flat d.tree)) lines)
+            ∙ ap (λ (l : List (List ℕ)). steps limit most (between count documents) l) (lines-cut front (vertices_of (flat d.tree)) lines)
             ∙ one.1 ∙ two.1,
       )
 
@@ -208,7 +208,7 @@ module _ (limit most : ℕ) (narrow : limit < 2 ^ 64) where
   document-run count documents d lines is =
       let run = open-run count documents d d.rule (bytes_of End ∷ lines) is (λ has. is.rule ∙ has) in
       let same : tree_of (flat d.tree) ≡ d.tree = tree-again limit d.tree is.tree in
-      let none : wants_dominated (record (heading d) { knots = flat d.tree }) ≡ false = not-wanting (names_nodes d.rule) (has_dominated d.tree) is.rule in (
+      let none : wants_dominated (record (heading d) { vertices = flat d.tree }) ≡ false = not-wanting (names_nodes d.rule) (has_dominated d.tree) is.rule in (
         suc run.0,
         ap (λ (l : List (List ℕ)). steps limit most (between count documents) l) (lines-cut (open_lines d) (End ∷ []) lines)
             ∙ run.1

@@ -9,12 +9,12 @@ use Rattle.s66_line.proofs.Wholes.{every-append}
 use Rattle.s66_model.specs.declared.rule.Rule.{Rule}
 use Rattle.s66_model.specs.declared.rule.Rule.TheVariants.{NoneNamed, WrittenEarlier, ClampedStanding}
 use Rattle.s66_model.specs.Leaves.{Whole, Chain, Load, Parcels}
-use Rattle.s66_model.specs.Tree.{Tree, Alone, Parted, Kids, NoMore, Unsplit, Split, Knot, AtTip, AtSplit, flat, flat_kids}
+use Rattle.s66_model.specs.Tree.{Tree, Alone, Parted, Siblings, NoMore, Unsplit, Split, Vertex, AtTerminal, AtSplit, flat, flat_siblings}
 use Rattle.s66_model.specs.DominatedLeaves.{Ending, Bounding, Dominated}
-use Rattle.s66_cert.specs.Document.{Document, IsDocumentWithin, AreDocumentsWithin, AreIn, AreInstructions, KidsFit, TreeFits, kind_name, version}
+use Rattle.s66_cert.specs.Document.{Document, IsDocumentWithin, AreDocumentsWithin, AreIn, AreInstructions, SiblingsFit, TreeFits, kind_name, version}
 use Rattle.s66_cert.specs.Faults.{IsLine, AreLines}
 use Rattle.s66_cert.specs.Lines.{Line, Header, Profile, Block, Instruction, Time, Bound, Order, OfTree, End, bytes_of, IsInRange}
-use Rattle.s66_cert.proofs.DocumentLines.{documents_lines, document_lines, open_lines, instructions_of, knots_of}
+use Rattle.s66_cert.proofs.DocumentLines.{documents_lines, document_lines, open_lines, instructions_of, vertices_of}
 use Rattle.s66_cert.proofs.NumberTexts.{decimal-clear}
 
 decimal-line : (n : ℕ) → n < 2 ^ 64 → IsLine (decimal n)
@@ -46,11 +46,11 @@ is-line limit (Instruction text) narrow is = one-line text is
 is-line limit (Time time) narrow is = decimal-line time (omega (arith, is))
 is-line limit (Bound bound) narrow is = decimal-line bound (omega (arith, is))
 is-line limit (Order numbers) narrow is = after_blanks-line 1 limit numbers narrow is.2
-is-line limit (OfTree (AtTip (Bounding Whole))) narrow is = refl
-is-line limit (OfTree (AtTip (Bounding (Chain numbers)))) narrow is = after_blanks-line 1 limit numbers narrow is.2
-is-line limit (OfTree (AtTip (Bounding (Load kind)))) narrow is = kind-line kind
-is-line limit (OfTree (AtTip (Bounding Parcels))) narrow is = refl
-is-line limit (OfTree (AtTip (Dominated name))) narrow is = after_blanks-line 1 limit name narrow is.2
+is-line limit (OfTree (AtTerminal (Bounding Whole))) narrow is = refl
+is-line limit (OfTree (AtTerminal (Bounding (Chain numbers)))) narrow is = after_blanks-line 1 limit numbers narrow is.2
+is-line limit (OfTree (AtTerminal (Bounding (Load kind)))) narrow is = kind-line kind
+is-line limit (OfTree (AtTerminal (Bounding Parcels))) narrow is = refl
+is-line limit (OfTree (AtTerminal (Dominated name))) narrow is = after_blanks-line 1 limit name narrow is.2
 is-line limit (OfTree (AtSplit numbers)) narrow is = after_blanks-line 1 limit numbers narrow is.2
 is-line limit End narrow is = refl
 
@@ -68,21 +68,21 @@ instructions-range : (limit : ℕ) (texts : List (List ℕ)) → AreInstructions
 instructions-range limit [] are = tt
 instructions-range limit (text ∷ texts) are = (are.0, instructions-range limit texts are.1)
 
-knots-append : (limit : ℕ) (xs ys : List (Knot Ending)) → AreInRange limit (knots_of xs) → AreInRange limit (knots_of ys) → AreInRange limit (knots_of (xs ++ ys))
-knots-append limit [] ys h k = k
-knots-append limit (x ∷ xs) ys h k = (h.0, knots-append limit xs ys h.1 k)
+vertices-append : (limit : ℕ) (xs ys : List (Vertex Ending)) → AreInRange limit (vertices_of xs) → AreInRange limit (vertices_of ys) → AreInRange limit (vertices_of (xs ++ ys))
+vertices-append limit [] ys h k = k
+vertices-append limit (x ∷ xs) ys h k = (h.0, vertices-append limit xs ys h.1 k)
 
-kids-range : (limit : ℕ) (ns : List ℕ) (kids : Kids Ending) → KidsFit limit ns kids → AreInRange limit (knots_of (flat_kids kids))
-kids-range limit [] NoMore fits = tt
-kids-range limit [] (Unsplit leaf kids) fits = absurd fits
-kids-range limit [] (Split numbers sub kids) fits = absurd fits
-kids-range limit (n ∷ ns) NoMore fits = absurd fits
-kids-range limit (n ∷ ns) (Unsplit leaf kids) fits = (fits.0, kids-range limit ns kids fits.1)
-kids-range limit (n ∷ ns) (Split numbers sub kids) fits = (fits.0, knots-append limit (flat_kids sub) (flat_kids kids) (kids-range limit numbers sub fits.1) (kids-range limit ns kids fits.2))
+siblings-range : (limit : ℕ) (ns : List ℕ) (siblings : Siblings Ending) → SiblingsFit limit ns siblings → AreInRange limit (vertices_of (flat_siblings siblings))
+siblings-range limit [] NoMore fits = tt
+siblings-range limit [] (Unsplit leaf siblings) fits = absurd fits
+siblings-range limit [] (Split numbers sub siblings) fits = absurd fits
+siblings-range limit (n ∷ ns) NoMore fits = absurd fits
+siblings-range limit (n ∷ ns) (Unsplit leaf siblings) fits = (fits.0, siblings-range limit ns siblings fits.1)
+siblings-range limit (n ∷ ns) (Split numbers sub siblings) fits = (fits.0, vertices-append limit (flat_siblings sub) (flat_siblings siblings) (siblings-range limit numbers sub fits.1) (siblings-range limit ns siblings fits.2))
 
-tree-range : (limit : ℕ) (tree : Tree Ending) → TreeFits limit tree → AreInRange limit (knots_of (flat tree))
+tree-range : (limit : ℕ) (tree : Tree Ending) → TreeFits limit tree → AreInRange limit (vertices_of (flat tree))
 tree-range limit (Alone leaf) fits = (fits, tt)
-tree-range limit (Parted numbers kids) fits = (fits.0, kids-range limit numbers kids fits.1)
+tree-range limit (Parted numbers siblings) fits = (fits.0, siblings-range limit numbers siblings fits.1)
 
 -- whatever the rule
 open-range : (limit most : ℕ) (d : Document) (other : Rule) → IsDocumentWithin limit most (record d { rule = other }) → AreInRange limit (open_lines d)

@@ -14,7 +14,7 @@ use Rattle.s66_isa.specs.declared.instr.Kind.TheVariants.{Boolean, Shift, Add, L
 use Rattle.s66_model.specs.declared.rule.Rule.{Rule}
 use Rattle.s66_model.specs.declared.rule.Rule.TheVariants.{NoneNamed, WrittenEarlier, ClampedStanding}
 use Rattle.s66_model.specs.Leaves.{Whole, Chain, Load, Parcels}
-use Rattle.s66_model.specs.Tree.{AtTip, AtSplit}
+use Rattle.s66_model.specs.Tree.{AtTerminal, AtSplit}
 use Rattle.s66_model.specs.DominatedLeaves.{Bounding, Dominated}
 use Rattle.s66_cert.specs.Document.{AreIn, AreNumbers, kind_name, version}
 use Rattle.s66_isa.specs.declared.limits.TheConstants.{PROFILE_LENGTH, PROFILE_LIMIT}
@@ -72,13 +72,13 @@ line-again limit (Time time) narrow is = ap (option_map Time) (number-again 0 TI
 line-again limit (Bound bound) narrow is = ap (option_map Bound) (number-again 0 TIME_LIMIT bound (omega (arith, is)) (omega arith) is)
 line-again limit (Order []) narrow is = absurd (omega (arith, is.0))
 line-again limit (Order (n ∷ ns)) narrow is = ap (option_map Order) (block_numbers-again limit n ns narrow is)
-line-again limit (OfTree (AtTip (Bounding Whole))) narrow is = refl
-line-again limit (OfTree (AtTip (Bounding (Chain [])))) narrow is = absurd (omega (arith, is.0))
-line-again limit (OfTree (AtTip (Bounding (Chain (n ∷ ns))))) narrow is = ap (option_map (λ ns. OfTree (AtTip (Bounding (Chain ns))))) (block_numbers-again limit n ns narrow is)
-line-again limit (OfTree (AtTip (Bounding (Load kind)))) narrow is = ap (option_map (λ kind. OfTree (AtTip (Bounding (Load kind))))) (kind-again kind)
-line-again limit (OfTree (AtTip (Bounding Parcels))) narrow is = refl
-line-again limit (OfTree (AtTip (Dominated []))) narrow is = absurd (omega (arith, is.0))
-line-again limit (OfTree (AtTip (Dominated (n ∷ ns)))) narrow is = ap (option_map (λ ns. OfTree (AtTip (Dominated ns)))) (block_numbers-again limit n ns narrow is)
+line-again limit (OfTree (AtTerminal (Bounding Whole))) narrow is = refl
+line-again limit (OfTree (AtTerminal (Bounding (Chain [])))) narrow is = absurd (omega (arith, is.0))
+line-again limit (OfTree (AtTerminal (Bounding (Chain (n ∷ ns))))) narrow is = ap (option_map (λ ns. OfTree (AtTerminal (Bounding (Chain ns))))) (block_numbers-again limit n ns narrow is)
+line-again limit (OfTree (AtTerminal (Bounding (Load kind)))) narrow is = ap (option_map (λ kind. OfTree (AtTerminal (Bounding (Load kind))))) (kind-again kind)
+line-again limit (OfTree (AtTerminal (Bounding Parcels))) narrow is = refl
+line-again limit (OfTree (AtTerminal (Dominated []))) narrow is = absurd (omega (arith, is.0))
+line-again limit (OfTree (AtTerminal (Dominated (n ∷ ns)))) narrow is = ap (option_map (λ ns. OfTree (AtTerminal (Dominated ns)))) (block_numbers-again limit n ns narrow is)
 line-again limit (OfTree (AtSplit [])) narrow is = absurd (omega (arith, is.0))
 line-again limit (OfTree (AtSplit (n ∷ ns))) narrow is = ap (option_map (λ ns. OfTree (AtSplit ns))) (block_numbers-again limit n ns narrow is)
 line-again limit End narrow is = refl
@@ -130,15 +130,15 @@ kind-is (Some name) kind h =
     one key this other hit miss h = by (bytes_eq name key) (bytes_eq-Decides name key).0 h
       where
         by : (test : Bool) → (test ≡ true → name ≡ key) → cond test (Some this) other ≡ Some kind → 32 ∷ name ≡ 32 ∷ kind_name kind
-        by true told h = let e : this ≡ kind = (cc) in hit (told refl) ∙ ap (λ k. 32 ∷ kind_name k) e
-        by false told h = miss h
+        by true stated h = let e : this ≡ kind = (cc) in hit (stated refl) ∙ ap (λ k. 32 ∷ kind_name k) e
+        by false stated h = miss h
 
 named : (name key : List ℕ) (x y : Option Line) (l : Line) (P : Type 0) → (name ≡ key → x ≡ Some l → P) → (y ≡ Some l → P) → cond (bytes_eq name key) x y ≡ Some l → P
 named name key x y l P hit miss h = by (bytes_eq name key) (bytes_eq-Decides name key).0 h
   where
     by : (test : Bool) → (test ≡ true → name ≡ key) → cond test x y ≡ Some l → P
-    by true told h = hit (told refl) h
-    by false told h = miss h
+    by true stated h = hit (stated refl) h
+    by false stated h = miss h
 
 -- a line of one word
 word-line : (limit : ℕ) (name key : List ℕ) (rest : Option (List ℕ)) (line l : Line) → bytes_of line ≡ key → IsInRange limit line → name ≡ key → alone line rest ≡ Some l → Spells limit (name ++ tail_of rest) l
@@ -162,9 +162,9 @@ number-line limit low high name key (Some r) f l fits written range same h =
     let is = number-is low high n r fits read in
     rw (← e) (ap (λ x. x ++ 32 ∷ r) same ∙ ap (λ x. key ++ 32 ∷ x) is.0 ∙ sym (written n), range n is.1 is.2)
 
-load-line : (limit : ℕ) (name : List ℕ) (rest : Option (List ℕ)) (l : Line) → name ≡ codes "U" → option_map (λ kind. OfTree (AtTip (Bounding (Load kind)))) (kind_in rest) ≡ Some l → Spells limit (name ++ tail_of rest) l
+load-line : (limit : ℕ) (name : List ℕ) (rest : Option (List ℕ)) (l : Line) → name ≡ codes "U" → option_map (λ kind. OfTree (AtTerminal (Bounding (Load kind)))) (kind_in rest) ≡ Some l → Spells limit (name ++ tail_of rest) l
 load-line limit name rest l same h =
-    let (kind, read, e) = map-is (λ kind. OfTree (AtTip (Bounding (Load kind)))) (kind_in rest) l h in
+    let (kind, read, e) = map-is (λ kind. OfTree (AtTerminal (Bounding (Load kind)))) (kind_in rest) l h in
     rw (← e) (ap (λ x. x ++ tail_of rest) same ∙ ap (λ x. codes "U" ++ x) (kind-is rest kind read), tt)
 
 instruction-line : (limit : ℕ) (name : List ℕ) (rest : Option (List ℕ)) (l : Line) → name ≡ codes "I" → instruction_in rest ≡ Some l → Spells limit (name ++ tail_of rest) l
@@ -189,12 +189,12 @@ header-line limit name (Some r) l same h =
 with-is : (limit : ℕ) (name : List ℕ) (rest : Option (List ℕ)) (l : Line) → limit < 2 ^ 64 → line_with limit name rest ≡ Some l → Spells limit (name ++ tail_of rest) l
 with-is limit name rest l narrow h =
     let P : Type 0 = Spells limit (name ++ tail_of rest) l in
-    named name (codes "T") _ _ l P (word-line limit name (codes "T") rest (OfTree (AtTip (Bounding Whole))) l refl tt)
+    named name (codes "T") _ _ l P (word-line limit name (codes "T") rest (OfTree (AtTerminal (Bounding Whole))) l refl tt)
     (named name (codes "S") _ _ l P (list-line limit 1 limit 1 limit name (codes "S") rest (λ ns. OfTree (AtSplit ns)) l narrow (λ ns. refl) (λ ns a b are. (a, b, are)))
-    (named name (codes "C") _ _ l P (list-line limit 1 limit 1 limit name (codes "C") rest (λ ns. OfTree (AtTip (Bounding (Chain ns)))) l narrow (λ ns. refl) (λ ns a b are. (a, b, are)))
-    (named name (codes "D") _ _ l P (list-line limit 1 limit 1 limit name (codes "D") rest (λ ns. OfTree (AtTip (Dominated ns))) l narrow (λ ns. refl) (λ ns a b are. (a, b, are)))
+    (named name (codes "C") _ _ l P (list-line limit 1 limit 1 limit name (codes "C") rest (λ ns. OfTree (AtTerminal (Bounding (Chain ns)))) l narrow (λ ns. refl) (λ ns a b are. (a, b, are)))
+    (named name (codes "D") _ _ l P (list-line limit 1 limit 1 limit name (codes "D") rest (λ ns. OfTree (AtTerminal (Dominated ns))) l narrow (λ ns. refl) (λ ns a b are. (a, b, are)))
     (named name (codes "U") _ _ l P (load-line limit name rest l)
-    (named name (codes "P") _ _ l P (word-line limit name (codes "P") rest (OfTree (AtTip (Bounding Parcels))) l refl tt)
+    (named name (codes "P") _ _ l P (word-line limit name (codes "P") rest (OfTree (AtTerminal (Bounding Parcels))) l refl tt)
     (named name (codes "I") _ _ l P (instruction-line limit name rest l)
     (named name (codes "S66") _ _ l P (header-line limit name rest l)
     (named name (codes "PROFILE") _ _ l P (list-line limit 1 PROFILE_LIMIT PROFILE_LENGTH PROFILE_LENGTH name (codes "PROFILE") rest Profile l (omega arith) (λ ns. refl) (λ ns a b are. (omega arith, are)))

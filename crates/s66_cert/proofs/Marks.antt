@@ -4,7 +4,7 @@ use Rattle.std.proofs.lemmas.List.{take-append-le, drop-append-le, drop-drop, le
 use Rattle.s66_isa.proofs.Lists.{weigh-append}
 use Rattle.s66_isa.specs.Lists.{some_of, weigh}
 use Rattle.s66_cert.specs.Document.{has_dominated_line}
-use Rattle.s66_cert.specs.Marks.{number_count, is_dominated, marked, knots_of, begins_from, AreCounted, AreKept}
+use Rattle.s66_cert.specs.Marks.{number_count, is_dominated, marked, vertices_of, begins_from, AreCounted, AreKept}
 use Rattle.s66_cert.specs.declared.tree.Mark.{Mark}
 use Rattle.s66_cert.specs.declared.tree.Mark.TheVariants as mark
 
@@ -18,7 +18,7 @@ marked-more mark.Parcels numbers more h = refl
 marked-more (mark.Dominated count) numbers more h = rw (take-append-le count numbers more h) refl
 
 -- a leaf is dominated where a mark is
-pub dominated_marks : (ms : List Mark) (numbers : List ℕ) → has_dominated_line (knots_of ms numbers) ≡ some_of is_dominated ms
+pub dominated_marks : (ms : List Mark) (numbers : List ℕ) → has_dominated_line (vertices_of ms numbers) ≡ some_of is_dominated ms
 dominated_marks [] numbers = refl
 dominated_marks (mark.Split count ∷ ms) numbers = dominated_marks ms (drop count numbers)
 dominated_marks (mark.Whole ∷ ms) numbers = dominated_marks ms (drop 0 numbers)
@@ -47,17 +47,17 @@ counted-rest m ms numbers h = omega (arith, length-drop (number_count m) numbers
 pub counted-append : (ms : List Mark) (numbers : List ℕ) (m : Mark) (more : List ℕ) → AreCounted ms numbers → number_count m ≡ length more → AreCounted (ms ++ m ∷ []) (numbers ++ more)
 counted-append ms numbers m more h e = omega (arith, weigh-append number_count ms (m ∷ []), length-append numbers more, h, e)
 
-pub knots-append : (ms : List Mark) (numbers : List ℕ) (m : Mark) (more : List ℕ) → AreCounted ms numbers → knots_of (ms ++ m ∷ []) (numbers ++ more) ≡ knots_of ms numbers ++ marked m more ∷ []
-knots-append [] [] m more h = refl
-knots-append [] (n ∷ ns) m more h = absurd (omega (arith, h))
-knots-append (k ∷ ms) numbers m more h =
+pub vertices-append : (ms : List Mark) (numbers : List ℕ) (m : Mark) (more : List ℕ) → AreCounted ms numbers → vertices_of (ms ++ m ∷ []) (numbers ++ more) ≡ vertices_of ms numbers ++ marked m more ∷ []
+vertices-append [] [] m more h = refl
+vertices-append [] (n ∷ ns) m more h = absurd (omega (arith, h))
+vertices-append (k ∷ ms) numbers m more h =
     let few : number_count k ≤ length numbers = omega (arith, h) in
     rw (marked-more k numbers more few) (rw (drop-append-le (number_count k) numbers more few)
-    (ap (λ knots. marked k numbers ∷ knots) (knots-append ms (drop (number_count k) numbers) m more (counted-rest k ms numbers h))))
+    (ap (λ vertices. marked k numbers ∷ vertices) (vertices-append ms (drop (number_count k) numbers) m more (counted-rest k ms numbers h))))
 
 -- WHERE THE NUMBERS BEGIN
 
-pub line_count : (ms : List Mark) (numbers : List ℕ) → length (knots_of ms numbers) ≡ length ms
+pub line_count : (ms : List Mark) (numbers : List ℕ) → length (vertices_of ms numbers) ≡ length ms
 line_count [] numbers = refl
 line_count (m ∷ ms) numbers = omega (arith, line_count ms (drop (number_count m) numbers))
 
@@ -92,12 +92,12 @@ within-at (m ∷ ms) (suc place) d lt = omega (arith, within-at ms place d (omeg
 
 -- the line at a place, and those behind it
 drop-at : (ms : List Mark) (numbers : List ℕ) (place : ℕ) (d : Mark) → place < length ms →
-    drop place (knots_of ms numbers) ≡ marked (get_or ms place d) (drop (weigh number_count (take place ms)) numbers) ∷ drop (suc place) (knots_of ms numbers)
+    drop place (vertices_of ms numbers) ≡ marked (get_or ms place d) (drop (weigh number_count (take place ms)) numbers) ∷ drop (suc place) (vertices_of ms numbers)
 drop-at [] numbers place d lt = absurd (omega arith)
 drop-at (m ∷ ms) numbers zero d lt = refl
 drop-at (m ∷ ms) numbers (suc place) d lt =
     drop-at ms (drop (number_count m) numbers) place d (omega arith)
-    ∙ ap (λ ns. marked (get_or ms place d) ns ∷ drop (suc place) (knots_of ms (drop (number_count m) numbers))) (drop-drop (weigh number_count (take place ms)) (number_count m) numbers)
+    ∙ ap (λ ns. marked (get_or ms place d) ns ∷ drop (suc place) (vertices_of ms (drop (number_count m) numbers))) (drop-drop (weigh number_count (take place ms)) (number_count m) numbers)
 
 pub kept_count : (ms : List Mark) (numbers begins : List ℕ) → AreKept ms numbers begins → length begins ≡ length ms
 kept_count ms numbers begins are = ap length are.placed ∙ begins-count 0 ms
@@ -113,8 +113,8 @@ module _ (ms : List Mark) (numbers begins : List ℕ) (place : ℕ) (d : Mark) (
   pub count-within : number_count (get_or ms place d) ≤ length (drop (get_or begins place 0) numbers)
   count-within = omega (arith, begin-is, within-at ms place d lt, are.counted, length-drop (get_or begins place 0) numbers)
 
-  pub line-is : drop place (knots_of ms numbers) ≡ marked (get_or ms place d) (take (number_count (get_or ms place d)) (drop (get_or begins place 0) numbers)) ∷ drop (place + 1) (knots_of ms numbers)
+  pub line-is : drop place (vertices_of ms numbers) ≡ marked (get_or ms place d) (take (number_count (get_or ms place d)) (drop (get_or begins place 0) numbers)) ∷ drop (place + 1) (vertices_of ms numbers)
   line-is =
       let next : suc place ≡ place + 1 = omega arith in
       drop-at ms numbers place d lt
-      ∙ rw (← begin-is, next) (ap (λ k. k ∷ drop (place + 1) (knots_of ms numbers)) (sym (marked-taken (get_or ms place d) (drop (get_or begins place 0) numbers))))
+      ∙ rw (← begin-is, next) (ap (λ k. k ∷ drop (place + 1) (vertices_of ms numbers)) (sym (marked-taken (get_or ms place d) (drop (get_or begins place 0) numbers))))

@@ -15,8 +15,8 @@ pub documents-or_fault : (text : List ℕ) → ((ds : List Document) × IsText B
 documents-or_fault text = by (read_of text) refl
   where
     by : (read : Result (List Document) CertError) → read_of text ≡ read → ((ds : List Document) × IsText BLOCK_LIMIT text ds) ⊎ ((e : CertError) × IsFault text e)
-    by (Ok ds) told = inl (ds, read-sound SPLIT_LIMIT text ds told)
-    by (Err e) told = inr (e, fault-is SPLIT_LIMIT text e refl told)
+    by (Ok ds) stated = inl (ds, read-sound SPLIT_LIMIT text ds stated)
+    by (Err e) stated = inr (e, fault-is SPLIT_LIMIT text e refl stated)
 
 other-answers : (ds : List Document) (e : CertError) (read : Result (List Document) CertError) → read ≡ Ok ds → read ≡ Err e → ⊥
 other-answers ds e read h k = let same = sym h ∙ k in (cc)

@@ -3,7 +3,7 @@ use Rattle.std.proofs.Common.{◌≡◌, ◌≤◌, ◌+◌, ◌*◌, ◌^◌, �
 use Rattle.std.specs.Prelude.{Err}
 use Rattle.s66_isa.specs.declared.limits.TheConstants.{BLOCK_LIMIT}
 use Rattle.s66_model.specs.declared.rule.Rule.{Rule}
-use Rattle.s66_model.specs.Tree.{Knot, AtTip, AtSplit}
+use Rattle.s66_model.specs.Tree.{Vertex, AtTerminal, AtSplit}
 use Rattle.s66_model.specs.DominatedLeaves.{Ending, Bounding, Dominated}
 use Rattle.s66_cert.specs.Fine.{Leave, split_count, IsPart, IsFine}
 use Rattle.s66_cert.specs.Lines.{Header, Profile, Block, Instruction, Time, Bound, Order, OfTree, End}
@@ -43,19 +43,19 @@ pub other_order : (most : ℕ) (s : State) (place : Place) (numbers : List ℕ) 
 other_order most s AtOrder numbers other = absurd (other refl)
 other_order most s place numbers other = refl
 
-pub other_knot : (most : ℕ) (s : State) (place : Place) (knot : Knot Ending) → (place ≡ AtTree → ⊥) → step_at most s place (OfTree knot) ≡ Err (BadLine (suc s.count))
-other_knot most s AtTree knot other = absurd (other refl)
-other_knot most s place knot other = refl
+pub other_vertex : (most : ℕ) (s : State) (place : Place) (vertex : Vertex Ending) → (place ≡ AtTree → ⊥) → step_at most s place (OfTree vertex) ≡ Err (BadLine (suc s.count))
+other_vertex most s AtTree vertex other = absurd (other refl)
+other_vertex most s place vertex other = refl
 
 pub other_end : (most : ℕ) (s : State) (place : Place) → (place ≡ AtEnd → ⊥) → step_at most s place End ≡ Err (BadLine (suc s.count))
 other_end most s AtEnd other = absurd (other refl)
 other_end most s place other = refl
 
 -- a dominated leaf where the rule names no nodes
-pub refused_knot : (most : ℕ) (s : State) (knot : Knot Ending) → is_allowed s.part.rule knot ≡ false → step_at most s AtTree (OfTree knot) ≡ Err (BadLine (suc s.count))
-refused_knot most s (AtTip (Bounding leaf)) h = absurd (cc)
-refused_knot most s (AtTip (Dominated name)) h = rw h refl
-refused_knot most s (AtSplit numbers) h = absurd (cc)
+pub refused_vertex : (most : ℕ) (s : State) (vertex : Vertex Ending) → is_allowed s.part.rule vertex ≡ false → step_at most s AtTree (OfTree vertex) ≡ Err (BadLine (suc s.count))
+refused_vertex most s (AtTerminal (Bounding leaf)) h = absurd (cc)
+refused_vertex most s (AtTerminal (Dominated name)) h = rw h refl
+refused_vertex most s (AtSplit numbers) h = absurd (cc)
 
 -- the last line where a dominated leaf is wanting
 pub wanting_end : (most : ℕ) (s : State) → wants_dominated s.part ≡ true → step_at most s AtEnd End ≡ Err (BadLine (suc s.count))
@@ -73,19 +73,19 @@ pub some_tree : (most : ℕ) (s : State) → s.place ≡ AtTree → IsFine most 
 some_tree most s e fine = (part-at most s AtTree e fine).0
 
 -- each split leaves at most BLOCK_LIMIT trees
-leave-few : (n left : ℕ) (knots : List (Knot Ending)) → Leave n knots left → left ≤ n + BLOCK_LIMIT * split_count knots
+leave-few : (n left : ℕ) (vertices : List (Vertex Ending)) → Leave n vertices left → left ≤ n + BLOCK_LIMIT * split_count vertices
 leave-few n left [] h = omega (arith, h)
-leave-few zero left (AtTip ending ∷ knots) h = absurd h
-leave-few zero left (AtSplit numbers ∷ knots) h = absurd h
-leave-few (suc n) left (AtTip ending ∷ knots) h = omega (arith, leave-few n left knots h.1)
-leave-few (suc n) left (AtSplit numbers ∷ knots) h = omega (arith, leave-few (length numbers + n) left knots h.1, h.0.1)
+leave-few zero left (AtTerminal ending ∷ vertices) h = absurd h
+leave-few zero left (AtSplit numbers ∷ vertices) h = absurd h
+leave-few (suc n) left (AtTerminal ending ∷ vertices) h = omega (arith, leave-few n left vertices h.1)
+leave-few (suc n) left (AtSplit numbers ∷ vertices) h = omega (arith, leave-few (length numbers + n) left vertices h.1, h.0.1)
 
 pub few_trees : (s : State) → s.place ≡ AtTree → IsFine SPLIT_LIMIT s → s.left ≤ 2 ^ 32
 few_trees s e fine =
     let is = part-at SPLIT_LIMIT s AtTree e fine in
-    omega (arith, leave-few 1 s.left s.part.knots is.1.4, is.1.5, is.1.6)
+    omega (arith, leave-few 1 s.left s.part.vertices is.1.4, is.1.5, is.1.6)
 
 pub whole_end : (s : State) → s.place ≡ AtEnd → IsFine SPLIT_LIMIT s → wants_dominated s.part ≡ false → AreWhole s.part
 whole_end s e fine none =
     let h = part-at SPLIT_LIMIT s AtEnd e fine in
-    record { document = whole-document SPLIT_LIMIT s.part s.splits h none; preorder = (whole-tree s.part.knots h.4).0 }
+    record { document = whole-document SPLIT_LIMIT s.part s.splits h none; preorder = (whole-tree s.part.vertices h.4).0 }

@@ -4,50 +4,50 @@ use Rattle.std.proofs.lemmas.List.{append-nil}
 use Rattle.s66_isa.specs.Lists.{after_blanks}
 use Rattle.s66_isa.specs.declared.limits.TheConstants.{BLOCK_LIMIT}
 use Rattle.s66_model.specs.Leaves.{Whole, Chain, Load, Parcels}
-use Rattle.s66_model.specs.Tree.{Tree, Alone, Parted, Kids, NoMore, Unsplit, Split, Knot, AtTip, AtSplit, flat, flat_kids}
+use Rattle.s66_model.specs.Tree.{Tree, Alone, Parted, Siblings, NoMore, Unsplit, Split, Vertex, AtTerminal, AtSplit, flat, flat_siblings}
 use Rattle.s66_model.specs.DominatedLeaves.{Ending, Bounding, Dominated}
-use Rattle.s66_cert.specs.Document.{IsLeafLine, KidsFit, TreeFits, version, document_text, leaf_line, instruction_lines, tree_lines}
+use Rattle.s66_cert.specs.Document.{IsLeafLine, SiblingsFit, TreeFits, version, document_text, leaf_line, instruction_lines, tree_lines}
 use Rattle.s66_cert.specs.Pages.{AreShort, IsPrinted, opening, claim_lines}
 use Rattle.s66_cert.proofs.Pages.{IsUnderway, printed-here, underway-more}
 use Rattle.s66_cert.specs.DocumentParts.{Parts, AreWhole, IsShort, document_of, tree_of}
 
 -- THE LINES OF A TREE HAVE FEW NUMBERS
 
-leaf-short : (ending : Ending) → IsLeafLine BLOCK_LIMIT ending → IsShort (AtTip ending)
+leaf-short : (ending : Ending) → IsLeafLine BLOCK_LIMIT ending → IsShort (AtTerminal ending)
 leaf-short (Bounding Whole) fits = tt
 leaf-short (Bounding (Chain numbers)) fits = fits.1
 leaf-short (Bounding (Load kind)) fits = tt
 leaf-short (Bounding Parcels) fits = tt
 leaf-short (Dominated name) fits = fits.1
 
-short-both : (knots more : List (Knot Ending)) → AreShort knots → AreShort more → AreShort (knots ++ more)
+short-both : (vertices more : List (Vertex Ending)) → AreShort vertices → AreShort more → AreShort (vertices ++ more)
 short-both [] more short others = others
-short-both (knot ∷ knots) more (short, shorts) others = (short, short-both knots more shorts others)
+short-both (vertex ∷ vertices) more (short, shorts) others = (short, short-both vertices more shorts others)
 
-kids-short : (numbers : List ℕ) (kids : Kids Ending) → KidsFit BLOCK_LIMIT numbers kids → AreShort (flat_kids kids)
-kids-short [] NoMore fit = tt
-kids-short (n ∷ ns) (Unsplit leaf kids) fit = (leaf-short leaf fit.0, kids-short ns kids fit.1)
-kids-short (n ∷ ns) (Split numbers sub kids) fit =
-    (fit.0.1, short-both (flat_kids sub) (flat_kids kids) (kids-short numbers sub fit.1) (kids-short ns kids fit.2))
-kids-short [] (Unsplit leaf kids) fit = absurd fit
-kids-short [] (Split numbers sub kids) fit = absurd fit
-kids-short (n ∷ ns) NoMore fit = absurd fit
+siblings-short : (numbers : List ℕ) (siblings : Siblings Ending) → SiblingsFit BLOCK_LIMIT numbers siblings → AreShort (flat_siblings siblings)
+siblings-short [] NoMore fit = tt
+siblings-short (n ∷ ns) (Unsplit leaf siblings) fit = (leaf-short leaf fit.0, siblings-short ns siblings fit.1)
+siblings-short (n ∷ ns) (Split numbers sub siblings) fit =
+    (fit.0.1, short-both (flat_siblings sub) (flat_siblings siblings) (siblings-short numbers sub fit.1) (siblings-short ns siblings fit.2))
+siblings-short [] (Unsplit leaf siblings) fit = absurd fit
+siblings-short [] (Split numbers sub siblings) fit = absurd fit
+siblings-short (n ∷ ns) NoMore fit = absurd fit
 
 tree-short : (tree : Tree Ending) → TreeFits BLOCK_LIMIT tree → AreShort (flat tree)
 tree-short (Alone leaf) fits = (leaf-short leaf fits, tt)
-tree-short (Parted numbers kids) fits = (fits.0.1, kids-short numbers kids fits.1)
+tree-short (Parted numbers siblings) fits = (fits.0.1, siblings-short numbers siblings fits.1)
 
-pub lines-short : (p : Parts) → AreWhole p → AreShort p.knots
-lines-short p whole = subst AreShort whole.preorder (tree-short (tree_of p.knots) whole.document.tree)
+pub lines-short : (p : Parts) → AreWhole p → AreShort p.vertices
+lines-short p whole = subst AreShort whole.preorder (tree-short (tree_of p.vertices) whole.document.tree)
 
 -- A LINE, AND THEN THE OTHERS
 
 apart : (line others : List ℕ) → line ++ others ≡ (line ++ []) ++ others
 apart line others = ap (λ t. t ++ others) (sym (append-nil line))
 
-pub first-tree-line : (knot : Knot Ending) (knots : List (Knot Ending)) → tree_lines (knot ∷ knots) ≡ tree_lines (knot ∷ []) ++ tree_lines knots
-first-tree-line (AtTip leaf) knots = apart (leaf_line leaf) (tree_lines knots)
-first-tree-line (AtSplit numbers) knots = apart (codes "S" ++ after_blanks numbers ++ codes "\n") (tree_lines knots)
+pub first-tree-line : (vertex : Vertex Ending) (vertices : List (Vertex Ending)) → tree_lines (vertex ∷ vertices) ≡ tree_lines (vertex ∷ []) ++ tree_lines vertices
+first-tree-line (AtTerminal leaf) vertices = apart (leaf_line leaf) (tree_lines vertices)
+first-tree-line (AtSplit numbers) vertices = apart (codes "S" ++ after_blanks numbers ++ codes "\n") (tree_lines vertices)
 
 pub first-instruction : (text : List ℕ) (texts : List (List ℕ)) → instruction_lines (text ∷ texts) ≡ instruction_lines (text ∷ []) ++ instruction_lines texts
 first-instruction text texts = apart (codes "I " ++ text ++ codes "\n") (instruction_lines texts)
@@ -55,7 +55,7 @@ first-instruction text texts = apart (codes "I " ++ text ++ codes "\n") (instruc
 -- THE PARTS
 
 abbrev pub after_claim : Parts → List ℕ
-after_claim p = tree_lines p.knots ++ codes "END\n"
+after_claim p = tree_lines p.vertices ++ codes "END\n"
 
 abbrev pub after_block : Parts → List ℕ
 after_block p = claim_lines p ++ after_claim p
@@ -68,8 +68,8 @@ right-nested a version r profile b count c block d time e bound f numbers g tree
 pub document-parts : (p : Parts) → AreWhole p → document_text (document_of p) ≡ opening p ++ (instruction_lines p.block ++ after_block p)
 document-parts p whole =
     right-nested (codes "S66 CERTIFICATE ") (decimal (version p.rule)) (codes "\nPROFILE") (after_blanks p.profile) (codes "\nBLOCK ") (decimal (length p.block)) (codes "\n") (instruction_lines p.block) (codes "TIME ") (decimal p.time)
-    (codes "\nBOUND ") (decimal p.bound) (codes "\nORDER") (after_blanks p.numbers) (codes "\n") (tree_lines (flat (tree_of p.knots))) (codes "END\n")
-    ∙ ap (λ knots. opening p ++ (instruction_lines p.block ++ (claim_lines p ++ (tree_lines knots ++ codes "END\n")))) whole.preorder
+    (codes "\nBOUND ") (decimal p.bound) (codes "\nORDER") (after_blanks p.numbers) (codes "\n") (tree_lines (flat (tree_of p.vertices))) (codes "END\n")
+    ∙ ap (λ vertices. opening p ++ (instruction_lines p.block ++ (claim_lines p ++ (tree_lines vertices ++ codes "END\n")))) whole.preorder
 
 -- all before the instructions stands on the page
 pub opened : (old : Option (List ℕ)) (p : Parts) (page : List ℕ) (block : List (List ℕ)) → AreWhole p → page ≡ opening p → block ≡ p.block →
@@ -90,7 +90,7 @@ pub claim-left : (p : Parts) {old mid new : Option (List ℕ)} {page next : List
     IsLeft p old new next (after_claim p)
 claim-left p {old} {mid} {new} {page} {next} left printed = underway-more old mid new [] page next (document_text (document_of p)) (claim_lines p) (after_claim p) left printed
 
-pub tree-left : (p : Parts) {old mid new : Option (List ℕ)} {page next : List ℕ} {knots : List (Knot Ending)} → knots ≡ p.knots → IsLeft p old mid page (after_claim p) →
-    IsPrinted mid new page next (tree_lines knots) → IsLeft p old new next (codes "END\n")
-tree-left p {old} {mid} {new} {page} {next} {knots} same left printed =
-    underway-more old mid new [] page next (document_text (document_of p)) (tree_lines p.knots) (codes "END\n") left (rw (← same) printed)
+pub tree-left : (p : Parts) {old mid new : Option (List ℕ)} {page next : List ℕ} {vertices : List (Vertex Ending)} → vertices ≡ p.vertices → IsLeft p old mid page (after_claim p) →
+    IsPrinted mid new page next (tree_lines vertices) → IsLeft p old new next (codes "END\n")
+tree-left p {old} {mid} {new} {page} {next} {vertices} same left printed =
+    underway-more old mid new [] page next (document_text (document_of p)) (tree_lines p.vertices) (codes "END\n") left (rw (← same) printed)

@@ -6,7 +6,7 @@ use Rattle.s66_isa.specs.declared.limits.TheConstants.{BLOCK_LIMIT}
 use Rattle.s66_model.specs.declared.rule.Rule.{Rule}
 use Rattle.s66_model.specs.declared.rule.Rule.TheVariants.{NoneNamed}
 use Rattle.s66_model.specs.Leaves.{Whole}
-use Rattle.s66_model.specs.Tree.{AtTip}
+use Rattle.s66_model.specs.Tree.{AtTerminal}
 use Rattle.s66_model.specs.DominatedLeaves.{Bounding}
 use Rattle.s66_line.specs.InstructionText.{IsInstruction}
 use Rattle.s66_line.proofs.InstructionTexts.{instruction}
@@ -16,7 +16,7 @@ use Rattle.s66_cert.specs.Faults.{AreLines, with_newlines, IsOpenWithin, BeginsW
 use Rattle.s66_cert.specs.Fine.{HasTree, IsPart}
 use Rattle.s66_cert.specs.Lines.{Line, Header, Profile, Block, Instruction, Time, Bound, Order, OfTree, bytes_of, IsInRange}
 use Rattle.s66_cert.specs.DocumentParts.{Parts, document_of}
-use Rattle.s66_cert.specs.Reading.{nothing, State, start, place_of_instruction, place_of_tree, with_knot, step_at, step, and_then, steps, whole_lines}
+use Rattle.s66_cert.specs.Reading.{nothing, State, start, place_of_instruction, place_of_tree, with_vertex, step_at, step, and_then, steps, whole_lines}
 use Rattle.s66_cert.specs.declared.error.CertError.{CertError}
 use Rattle.s66_cert.specs.declared.place.Place.{Place}
 use Rattle.s66_cert.specs.declared.place.Place.TheVariants.{AtHeader, AtProfile, AtBlock, AtInstruction, AtTime, AtBound, AtOrder, AtTree, AtEnd}
@@ -50,19 +50,19 @@ module _ (most : ℕ) where
   tree-ends : (left count : ℕ) (documents : List Document) (part : Parts) (splits : ℕ) → Ends most (at count documents AtTree part left splits)
   tree-ends zero count documents part splits =
       let less : 0 - 1 ≡ 0 = refl in
-      put most (at count documents AtTree part 0 splits) (at (suc count) documents AtEnd (with_knot part (AtTip (Bounding Whole))) 0 splits) (OfTree (AtTip (Bounding Whole))) tt refl (end-ends (suc count) documents (with_knot part (AtTip (Bounding Whole))) 0 splits)
+      put most (at count documents AtTree part 0 splits) (at (suc count) documents AtEnd (with_vertex part (AtTerminal (Bounding Whole))) 0 splits) (OfTree (AtTerminal (Bounding Whole))) tt refl (end-ends (suc count) documents (with_vertex part (AtTerminal (Bounding Whole))) 0 splits)
   tree-ends (suc left) count documents part splits =
       let less : suc left - 1 ≡ left = omega arith in
-      put most (at count documents AtTree part (suc left) splits) (at (suc count) documents (place_of_tree left) (with_knot part (AtTip (Bounding Whole))) left splits) (OfTree (AtTip (Bounding Whole))) tt (rw less refl)
-      (by left (tree-ends left (suc count) documents (with_knot part (AtTip (Bounding Whole))) splits))
+      put most (at count documents AtTree part (suc left) splits) (at (suc count) documents (place_of_tree left) (with_vertex part (AtTerminal (Bounding Whole))) left splits) (OfTree (AtTerminal (Bounding Whole))) tt (rw less refl)
+      (by left (tree-ends left (suc count) documents (with_vertex part (AtTerminal (Bounding Whole))) splits))
     where
-      by : (left : ℕ) → Ends most (at (suc count) documents AtTree (with_knot part (AtTip (Bounding Whole))) left splits) → Ends most (at (suc count) documents (place_of_tree left) (with_knot part (AtTip (Bounding Whole))) left splits)
-      by zero e = end-ends (suc count) documents (with_knot part (AtTip (Bounding Whole))) 0 splits
+      by : (left : ℕ) → Ends most (at (suc count) documents AtTree (with_vertex part (AtTerminal (Bounding Whole))) left splits) → Ends most (at (suc count) documents (place_of_tree left) (with_vertex part (AtTerminal (Bounding Whole))) left splits)
+      by zero e = end-ends (suc count) documents (with_vertex part (AtTerminal (Bounding Whole))) 0 splits
       by (suc left) e = rw (place-tree left) e
 
   order-ends : (count : ℕ) (documents : List Document) (part : Parts) (left splits : ℕ) → Ends most (at count documents AtOrder part left splits)
   order-ends count documents part left splits =
-      let next : Parts = record part { numbers = 1 ∷ []; knots = [] } in
+      let next : Parts = record part { numbers = 1 ∷ []; vertices = [] } in
       put most (at count documents AtOrder part left splits) (at (suc count) documents AtTree next 1 0) (Order (1 ∷ [])) (omega arith) refl (tree-ends 1 (suc count) documents next 0)
 
   bound-ends : (count : ℕ) (documents : List Document) (part : Parts) (left splits : ℕ) → Ends most (at count documents AtBound part left splits)

@@ -99,5 +99,5 @@ pub below : (count most : ℕ) → count ≤ most → (count ≡ most → ⊥) �
 below count most le differs = by (leb most count) refl
   where
     by : (t : Bool) → leb most count ≡ t → count < most
-    by true told = absurd (differs (omega (arith, le, leb-true most count told)))
-    by false told = leb-false most count told
+    by true stated = absurd (differs (omega (arith, le, leb-true most count stated)))
+    by false stated = leb-false most count stated

@@ -7,17 +7,17 @@ use Rattle.s66_isa.specs.declared.limits.TheConstants.{BLOCK_LIMIT}
 use Rattle.s66_model.specs.declared.rule.Rule.{Rule}
 use Rattle.s66_model.specs.declared.rule.Rule.TheVariants.{NoneNamed}
 use Rattle.s66_model.specs.Leaves.{Whole}
-use Rattle.s66_model.specs.Tree.{Tree, Alone, Parted, Kids, NoMore, Unsplit, Split, Knot, AtTip, AtSplit, flat_kids, flat, kid_splits, splits}
+use Rattle.s66_model.specs.Tree.{Tree, Alone, Parted, Siblings, NoMore, Unsplit, Split, Vertex, AtTerminal, AtSplit, flat_siblings, flat, sibling_splits, splits}
 use Rattle.s66_model.specs.DominatedLeaves.{Ending, Bounding}
 use Rattle.s66_line.specs.InstructionText.{IsInstruction}
-use Rattle.s66_cert.specs.Document.{Document, IsDocumentWithin, AreDocumentsWithin, AreNumbers, AreInstructions, IsLeafLine, KidsFit, TreeFits, IsTextWithin, documents_text, has_dominated_line, names_nodes}
+use Rattle.s66_cert.specs.Document.{Document, IsDocumentWithin, AreDocumentsWithin, AreNumbers, AreInstructions, IsLeafLine, SiblingsFit, TreeFits, IsTextWithin, documents_text, has_dominated_line, names_nodes}
 use Rattle.s66_cert.specs.Faults.{with_newlines, IsOpenWithin}
 use Rattle.s66_cert.specs.Lines.{Line, Header, Profile, Block, Instruction, Time, Bound, Order, OfTree, End, bytes_of, IsInRange, line_of}
 use Rattle.s66_cert.specs.DocumentParts.{Parts, document_of, tree_of}
-use Rattle.s66_model.specs.Preorder.{forest, first_tree, first_kids, later_kids}
-use Rattle.s66_cert.specs.Reading.{nothing, State, start, place_of_instruction, place_of_tree, with_knot, is_allowed, wants_dominated, knot_step, step_at, step_if, step, and_then, steps, ended, is_header, read_within, whole_lines, last_bytes}
+use Rattle.s66_model.specs.Preorder.{forest, first_tree, first_siblings, later_siblings}
+use Rattle.s66_cert.specs.Reading.{nothing, State, start, place_of_instruction, place_of_tree, with_vertex, is_allowed, wants_dominated, vertex_step, step_at, step_if, step, and_then, steps, ended, is_header, read_within, whole_lines, last_bytes}
 use Rattle.s66_cert.specs.Fine.{Leave, split_count, HasTree, IsPart, IsFine}
-use Rattle.s66_cert.proofs.DocumentLines.{open_lines, document_lines, documents_lines, instructions_of, knots_of}
+use Rattle.s66_cert.proofs.DocumentLines.{open_lines, document_lines, documents_lines, instructions_of, vertices_of}
 use Rattle.s66_cert.specs.declared.error.CertError.{CertError}
 use Rattle.s66_cert.specs.declared.error.CertError.TheVariants.{BadLine, Truncated, TooManyNodes}
 use Rattle.s66_cert.specs.declared.place.Place.{Place}
@@ -30,73 +30,73 @@ use Rattle.s66_cert.proofs.States.{at, place-instruction, place-tree}
 
 -- TREES TO COME
 
-leave-tip : (n left : ℕ) (knots : List (Knot Ending)) (leaf : Ending) → IsLeafLine BLOCK_LIMIT leaf → Leave n knots (suc left) → Leave n (knots ++ AtTip leaf ∷ []) left
-leave-tip zero left [] leaf is h = absurd (omega (arith, h))
-leave-tip (suc n) left [] leaf is h = (is, omega (arith, h))
-leave-tip zero left (AtTip other ∷ knots) leaf is h = absurd h
-leave-tip zero left (AtSplit numbers ∷ knots) leaf is h = absurd h
-leave-tip (suc n) left (AtTip other ∷ knots) leaf is h = (h.0, leave-tip n left knots leaf is h.1)
-leave-tip (suc n) left (AtSplit numbers ∷ knots) leaf is h = (h.0, leave-tip (length numbers + n) left knots leaf is h.1)
+leave-terminal : (n left : ℕ) (vertices : List (Vertex Ending)) (leaf : Ending) → IsLeafLine BLOCK_LIMIT leaf → Leave n vertices (suc left) → Leave n (vertices ++ AtTerminal leaf ∷ []) left
+leave-terminal zero left [] leaf is h = absurd (omega (arith, h))
+leave-terminal (suc n) left [] leaf is h = (is, omega (arith, h))
+leave-terminal zero left (AtTerminal other ∷ vertices) leaf is h = absurd h
+leave-terminal zero left (AtSplit numbers ∷ vertices) leaf is h = absurd h
+leave-terminal (suc n) left (AtTerminal other ∷ vertices) leaf is h = (h.0, leave-terminal n left vertices leaf is h.1)
+leave-terminal (suc n) left (AtSplit numbers ∷ vertices) leaf is h = (h.0, leave-terminal (length numbers + n) left vertices leaf is h.1)
 
-leave-split : (n left to : ℕ) (knots : List (Knot Ending)) (numbers : List ℕ) → AreNumbers BLOCK_LIMIT numbers → Leave n knots (suc left) → to ≡ length numbers + left → Leave n (knots ++ AtSplit numbers ∷ []) to
+leave-split : (n left to : ℕ) (vertices : List (Vertex Ending)) (numbers : List ℕ) → AreNumbers BLOCK_LIMIT numbers → Leave n vertices (suc left) → to ≡ length numbers + left → Leave n (vertices ++ AtSplit numbers ∷ []) to
 leave-split zero left to [] numbers is h e = absurd (omega (arith, h))
 leave-split (suc n) left to [] numbers is h e = (is, omega (arith, h))
-leave-split zero left to (AtTip other ∷ knots) numbers is h e = absurd h
-leave-split zero left to (AtSplit others ∷ knots) numbers is h e = absurd h
-leave-split (suc n) left to (AtTip other ∷ knots) numbers is h e = (h.0, leave-split n left to knots numbers is h.1 e)
-leave-split (suc n) left to (AtSplit others ∷ knots) numbers is h e = (h.0, leave-split (length others + n) left to knots numbers is h.1 e)
+leave-split zero left to (AtTerminal other ∷ vertices) numbers is h e = absurd h
+leave-split zero left to (AtSplit others ∷ vertices) numbers is h e = absurd h
+leave-split (suc n) left to (AtTerminal other ∷ vertices) numbers is h e = (h.0, leave-split n left to vertices numbers is h.1 e)
+leave-split (suc n) left to (AtSplit others ∷ vertices) numbers is h e = (h.0, leave-split (length others + n) left to vertices numbers is h.1 e)
 
 -- THE TREE OF ALL ITS LINES
 
 -- the front of trees that fit
-fit-cut : (ns ms : List ℕ) (kids : Kids Ending) → KidsFit BLOCK_LIMIT (ns ++ ms) kids → KidsFit BLOCK_LIMIT ns (first_kids ns kids) × KidsFit BLOCK_LIMIT ms (later_kids ns kids)
-fit-cut [] ms kids h = (tt, h)
+fit-cut : (ns ms : List ℕ) (siblings : Siblings Ending) → SiblingsFit BLOCK_LIMIT (ns ++ ms) siblings → SiblingsFit BLOCK_LIMIT ns (first_siblings ns siblings) × SiblingsFit BLOCK_LIMIT ms (later_siblings ns siblings)
+fit-cut [] ms siblings h = (tt, h)
 fit-cut (n ∷ ns) ms NoMore h = absurd h
-fit-cut (n ∷ ns) ms (Unsplit leaf kids) h = let rest = fit-cut ns ms kids h.1 in ((h.0, rest.0), rest.1)
-fit-cut (n ∷ ns) ms (Split numbers sub kids) h = let rest = fit-cut ns ms kids h.2 in ((h.0, h.1, rest.0), rest.1)
+fit-cut (n ∷ ns) ms (Unsplit leaf siblings) h = let rest = fit-cut ns ms siblings h.1 in ((h.0, rest.0), rest.1)
+fit-cut (n ∷ ns) ms (Split numbers sub siblings) h = let rest = fit-cut ns ms siblings h.2 in ((h.0, h.1, rest.0), rest.1)
 
-forest-fits : (n : ℕ) (ms : List ℕ) (knots : List (Knot Ending)) → Leave n knots 0 → length ms ≡ n → KidsFit BLOCK_LIMIT ms (forest knots)
+forest-fits : (n : ℕ) (ms : List ℕ) (vertices : List (Vertex Ending)) → Leave n vertices 0 → length ms ≡ n → SiblingsFit BLOCK_LIMIT ms (forest vertices)
 forest-fits n [] [] h e = tt
 forest-fits n (m ∷ ms) [] h e = absurd (omega (arith, h))
-forest-fits zero ms (AtTip leaf ∷ knots) h e = absurd h
-forest-fits zero ms (AtSplit numbers ∷ knots) h e = absurd h
-forest-fits (suc n) [] (AtTip leaf ∷ knots) h e = absurd (omega arith)
-forest-fits (suc n) [] (AtSplit numbers ∷ knots) h e = absurd (omega arith)
-forest-fits (suc n) (m ∷ ms) (AtTip leaf ∷ knots) h e = (h.0, forest-fits n ms knots h.1 (omega arith))
-forest-fits (suc n) (m ∷ ms) (AtSplit numbers ∷ knots) h e =
-    let all : KidsFit BLOCK_LIMIT (numbers ++ ms) (forest knots) = forest-fits (length numbers + n) (numbers ++ ms) knots h.1 (omega (arith, length-append {A = ℕ} numbers ms)) in
-    let both = fit-cut numbers ms (forest knots) all in
+forest-fits zero ms (AtTerminal leaf ∷ vertices) h e = absurd h
+forest-fits zero ms (AtSplit numbers ∷ vertices) h e = absurd h
+forest-fits (suc n) [] (AtTerminal leaf ∷ vertices) h e = absurd (omega arith)
+forest-fits (suc n) [] (AtSplit numbers ∷ vertices) h e = absurd (omega arith)
+forest-fits (suc n) (m ∷ ms) (AtTerminal leaf ∷ vertices) h e = (h.0, forest-fits n ms vertices h.1 (omega arith))
+forest-fits (suc n) (m ∷ ms) (AtSplit numbers ∷ vertices) h e =
+    let all : SiblingsFit BLOCK_LIMIT (numbers ++ ms) (forest vertices) = forest-fits (length numbers + n) (numbers ++ ms) vertices h.1 (omega (arith, length-append {A = ℕ} numbers ms)) in
+    let both = fit-cut numbers ms (forest vertices) all in
     (h.0, both.0, both.1)
 
-count-append : (xs ys : List (Knot Ending)) → split_count (xs ++ ys) ≡ split_count xs + split_count ys
+count-append : (xs ys : List (Vertex Ending)) → split_count (xs ++ ys) ≡ split_count xs + split_count ys
 count-append [] ys = omega arith
-count-append (AtTip leaf ∷ xs) ys = count-append xs ys
+count-append (AtTerminal leaf ∷ xs) ys = count-append xs ys
 count-append (AtSplit numbers ∷ xs) ys = omega (arith, count-append xs ys)
 
-kids-count : (kids : Kids Ending) → split_count (flat_kids kids) ≡ kid_splits kids
-kids-count NoMore = refl
-kids-count (Unsplit leaf kids) = kids-count kids
-kids-count (Split numbers sub kids) = omega (arith, count-append (flat_kids sub) (flat_kids kids), kids-count sub, kids-count kids)
+siblings-count : (siblings : Siblings Ending) → split_count (flat_siblings siblings) ≡ sibling_splits siblings
+siblings-count NoMore = refl
+siblings-count (Unsplit leaf siblings) = siblings-count siblings
+siblings-count (Split numbers sub siblings) = omega (arith, count-append (flat_siblings sub) (flat_siblings siblings), siblings-count sub, siblings-count siblings)
 
 tree-count : (tree : Tree Ending) → split_count (flat tree) ≡ splits tree
 tree-count (Alone leaf) = refl
-tree-count (Parted numbers kids) = omega (arith, kids-count kids)
+tree-count (Parted numbers siblings) = omega (arith, siblings-count siblings)
 
 -- one tree
-one-tree : (kids : Kids Ending) (m : ℕ) → KidsFit BLOCK_LIMIT (m ∷ []) kids → (flat (first_tree (Alone (Bounding Whole)) kids) ≡ flat_kids kids) × TreeFits BLOCK_LIMIT (first_tree (Alone (Bounding Whole)) kids)
+one-tree : (siblings : Siblings Ending) (m : ℕ) → SiblingsFit BLOCK_LIMIT (m ∷ []) siblings → (flat (first_tree (Alone (Bounding Whole)) siblings) ≡ flat_siblings siblings) × TreeFits BLOCK_LIMIT (first_tree (Alone (Bounding Whole)) siblings)
 one-tree NoMore m h = absurd h
 one-tree (Unsplit leaf NoMore) m h = (refl, h.0)
-one-tree (Unsplit leaf (Unsplit other kids)) m h = absurd h.1
-one-tree (Unsplit leaf (Split numbers sub kids)) m h = absurd h.1
-one-tree (Split numbers sub NoMore) m h = (ap (λ x. AtSplit numbers ∷ x) (sym (append-nil (flat_kids sub))), (h.0, h.1))
-one-tree (Split numbers sub (Unsplit other kids)) m h = absurd h.2
-one-tree (Split numbers sub (Split others more kids)) m h = absurd h.2
+one-tree (Unsplit leaf (Unsplit other siblings)) m h = absurd h.1
+one-tree (Unsplit leaf (Split numbers sub siblings)) m h = absurd h.1
+one-tree (Split numbers sub NoMore) m h = (ap (λ x. AtSplit numbers ∷ x) (sym (append-nil (flat_siblings sub))), (h.0, h.1))
+one-tree (Split numbers sub (Unsplit other siblings)) m h = absurd h.2
+one-tree (Split numbers sub (Split others more siblings)) m h = absurd h.2
 
-pub whole-tree : (knots : List (Knot Ending)) → Leave 1 knots 0 → (flat (tree_of knots) ≡ knots) × TreeFits BLOCK_LIMIT (tree_of knots) × (splits (tree_of knots) ≡ split_count knots)
-whole-tree knots h =
-    let one = one-tree (forest knots) 0 (forest-fits 1 (0 ∷ []) knots h refl) in
-    let flat-is : flat (tree_of knots) ≡ knots = one.0 ∙ flat-forest knots in
-    (flat-is, one.1, sym (tree-count (tree_of knots)) ∙ ap split_count flat-is)
+pub whole-tree : (vertices : List (Vertex Ending)) → Leave 1 vertices 0 → (flat (tree_of vertices) ≡ vertices) × TreeFits BLOCK_LIMIT (tree_of vertices) × (splits (tree_of vertices) ≡ split_count vertices)
+whole-tree vertices h =
+    let one = one-tree (forest vertices) 0 (forest-fits 1 (0 ∷ []) vertices h refl) in
+    let flat-is : flat (tree_of vertices) ≡ vertices = one.0 ∙ flat-forest vertices in
+    (flat-is, one.1, sym (tree-count (tree_of vertices)) ∙ ap split_count flat-is)
 
 -- WHAT WAS READ OF A DOCUMENT
 
@@ -112,8 +112,8 @@ part_lines AtInstruction o left = heading_lines o (length o.block + left) []
 part_lines AtTime o left = heading_lines o (length o.block) []
 part_lines AtBound o left = heading_lines o (length o.block) (Time o.time ∷ [])
 part_lines AtOrder o left = heading_lines o (length o.block) (Time o.time ∷ Bound o.bound ∷ [])
-part_lines AtTree o left = heading_lines o (length o.block) (Time o.time ∷ Bound o.bound ∷ Order o.numbers ∷ knots_of o.knots)
-part_lines AtEnd o left = heading_lines o (length o.block) (Time o.time ∷ Bound o.bound ∷ Order o.numbers ∷ knots_of o.knots)
+part_lines AtTree o left = heading_lines o (length o.block) (Time o.time ∷ Bound o.bound ∷ Order o.numbers ∷ vertices_of o.vertices)
+part_lines AtEnd o left = heading_lines o (length o.block) (Time o.time ∷ Bound o.bound ∷ Order o.numbers ∷ vertices_of o.vertices)
 
 -- ONE LINE MORE
 
@@ -126,9 +126,9 @@ instructions-more : (texts : List (List ℕ)) (text : List ℕ) (more : List Lin
 instructions-more [] text more = refl
 instructions-more (other ∷ texts) text more = ap (λ x. Instruction other ∷ x) (instructions-more texts text more)
 
-knots-more : (knots : List (Knot Ending)) (knot : Knot Ending) → knots_of (knots ++ knot ∷ []) ≡ knots_of knots ++ OfTree knot ∷ []
-knots-more [] knot = refl
-knots-more (other ∷ knots) knot = ap (λ x. OfTree other ∷ x) (knots-more knots knot)
+vertices-more : (vertices : List (Vertex Ending)) (vertex : Vertex Ending) → vertices_of (vertices ++ vertex ∷ []) ≡ vertices_of vertices ++ OfTree vertex ∷ []
+vertices-more [] vertex = refl
+vertices-more (other ∷ vertices) vertex = ap (λ x. OfTree other ∷ x) (vertices-more vertices vertex)
 
 texts-more : (texts : List (List ℕ)) (text : List ℕ) → AreInstructions texts → IsInstruction text → AreInstructions (texts ++ text ∷ [])
 texts-more [] text are is = (is, tt)
@@ -168,21 +168,21 @@ instruction-sound most count documents part (suc (suc left)) splits text is are 
     (ap (λ n. heading_lines (record part { block = part.block ++ text ∷ [] }) n []) sum ∙ ap (λ x. Header part.rule ∷ Profile part.profile ∷ Block (length part.block + suc (suc left)) ∷ x) (instructions-more part.block text []) ∙ heading-more part (length part.block + suc (suc left)) [] (Instruction text))))
 
 -- a line of the tree, after which so many trees are to come
-tree-sound : (most count : ℕ) (documents : List Document) (part : Parts) (left to splits after : ℕ) (knot : Knot Ending) → AreDocumentsWithin BLOCK_LIMIT most documents → IsPart most AtTree part left splits →
-    Leave 1 (part.knots ++ knot ∷ []) to → after ≡ split_count (part.knots ++ knot ∷ []) → after ≤ most → is_allowed part.rule knot ≡ true →
-    Sounds most (at count documents AtTree part left splits) (at (suc count) documents (place_of_tree to) (with_knot part knot) to after) (OfTree knot)
-tree-sound most count documents part left to splits after knot are h leave counted few allowed =
-    let front : List Line = Time part.time ∷ Bound part.bound ∷ Order part.numbers ∷ knots_of part.knots in
-    let more : heading_lines (with_knot part knot) (length part.block) (Time part.time ∷ Bound part.bound ∷ Order part.numbers ∷ knots_of (part.knots ++ knot ∷ [])) ≡ heading_lines part (length part.block) front ++ OfTree knot ∷ [] =
-    ap (λ x. heading_lines part (length part.block) (Time part.time ∷ Bound part.bound ∷ Order part.numbers ∷ x)) (knots-more part.knots knot) ∙ heading-more part (length part.block) front (OfTree knot) in
-    let has : HasTree most (with_knot part knot) to after = (h.1.0, h.1.1, h.1.2, h.1.3, leave, counted, few, allowed-more part.rule part.knots knot h.1.7 allowed) in
+tree-sound : (most count : ℕ) (documents : List Document) (part : Parts) (left to splits after : ℕ) (vertex : Vertex Ending) → AreDocumentsWithin BLOCK_LIMIT most documents → IsPart most AtTree part left splits →
+    Leave 1 (part.vertices ++ vertex ∷ []) to → after ≡ split_count (part.vertices ++ vertex ∷ []) → after ≤ most → is_allowed part.rule vertex ≡ true →
+    Sounds most (at count documents AtTree part left splits) (at (suc count) documents (place_of_tree to) (with_vertex part vertex) to after) (OfTree vertex)
+tree-sound most count documents part left to splits after vertex are h leave counted few allowed =
+    let front : List Line = Time part.time ∷ Bound part.bound ∷ Order part.numbers ∷ vertices_of part.vertices in
+    let more : heading_lines (with_vertex part vertex) (length part.block) (Time part.time ∷ Bound part.bound ∷ Order part.numbers ∷ vertices_of (part.vertices ++ vertex ∷ [])) ≡ heading_lines part (length part.block) front ++ OfTree vertex ∷ [] =
+    ap (λ x. heading_lines part (length part.block) (Time part.time ∷ Bound part.bound ∷ Order part.numbers ∷ x)) (vertices-more part.vertices vertex) ∙ heading-more part (length part.block) front (OfTree vertex) in
+    let has : HasTree most (with_vertex part vertex) to after = (h.1.0, h.1.1, h.1.2, h.1.3, leave, counted, few, allowed-more part.rule part.vertices vertex h.1.7 allowed) in
     by to has more
   where
-    by : (to : ℕ) → HasTree most (with_knot part knot) to after → part_lines AtTree (with_knot part knot) to ≡ part_lines AtTree part left ++ OfTree knot ∷ [] →
-        Sounds most (at count documents AtTree part left splits) (at (suc count) documents (place_of_tree to) (with_knot part knot) to after) (OfTree knot)
-    by zero has more = same-documents most (at count documents AtTree part left splits) (at (suc count) documents AtEnd (with_knot part knot) 0 after) (OfTree knot) are refl has more
+    by : (to : ℕ) → HasTree most (with_vertex part vertex) to after → part_lines AtTree (with_vertex part vertex) to ≡ part_lines AtTree part left ++ OfTree vertex ∷ [] →
+        Sounds most (at count documents AtTree part left splits) (at (suc count) documents (place_of_tree to) (with_vertex part vertex) to after) (OfTree vertex)
+    by zero has more = same-documents most (at count documents AtTree part left splits) (at (suc count) documents AtEnd (with_vertex part vertex) 0 after) (OfTree vertex) are refl has more
     by (suc to) has more =
-        rw (place-tree to) (same-documents most (at count documents AtTree part left splits) (at (suc count) documents AtTree (with_knot part knot) (suc to) after) (OfTree knot) are refl (omega arith, has) more)
+        rw (place-tree to) (same-documents most (at count documents AtTree part left splits) (at (suc count) documents AtTree (with_vertex part vertex) (suc to) after) (OfTree vertex) are refl (omega arith, has) more)
 
 chosen-true : {X : Type 0} (test : Bool) (e : CertError) (x y : X) → cond test (Ok x) (Err e) ≡ Ok y → (test ≡ true) × (x ≡ y)
 chosen-true true e x y h = (refl, (cc))
@@ -192,21 +192,21 @@ chosen-false : {X : Type 0} (test : Bool) (e : CertError) (x y : X) → cond tes
 chosen-false true e x y h = absurd (cc)
 chosen-false false e x y h = (refl, (cc))
 
-knot-sound : (most count : ℕ) (documents : List Document) (part : Parts) (left splits : ℕ) (t : State) (knot : Knot Ending) → IsInRange BLOCK_LIMIT (OfTree knot) → AreDocumentsWithin BLOCK_LIMIT most documents → IsPart most AtTree part left splits →
-    knot_step most (at count documents AtTree part left splits) knot ≡ Ok t → Sounds most (at count documents AtTree part left splits) t (OfTree knot)
-knot-sound most count documents part zero splits t knot is are h made = absurd (omega (arith, h.0))
-knot-sound most count documents part (suc left) splits t (AtTip leaf) is are h made =
+vertex-sound : (most count : ℕ) (documents : List Document) (part : Parts) (left splits : ℕ) (t : State) (vertex : Vertex Ending) → IsInRange BLOCK_LIMIT (OfTree vertex) → AreDocumentsWithin BLOCK_LIMIT most documents → IsPart most AtTree part left splits →
+    vertex_step most (at count documents AtTree part left splits) vertex ≡ Ok t → Sounds most (at count documents AtTree part left splits) t (OfTree vertex)
+vertex-sound most count documents part zero splits t vertex is are h made = absurd (omega (arith, h.0))
+vertex-sound most count documents part (suc left) splits t (AtTerminal leaf) is are h made =
     let less : suc left - 1 ≡ left = omega arith in
-    let got = chosen-true (is_allowed part.rule (AtTip leaf)) (BadLine (suc count)) (at (suc count) documents (place_of_tree (suc left - 1)) (with_knot part (AtTip leaf)) (suc left - 1) splits) t made in
-    let leave : Leave 1 (part.knots ++ AtTip leaf ∷ []) left = leave-tip 1 left part.knots leaf is h.1.4 in
-    subst (λ (u : State). Sounds most (at count documents AtTree part (suc left) splits) u (OfTree (AtTip leaf))) got.1
-    (rw less (tree-sound most count documents part (suc left) left splits splits (AtTip leaf) are h leave (omega (arith, count-append part.knots (AtTip leaf ∷ []), h.1.5)) h.1.6 got.0))
-knot-sound most count documents part (suc left) splits t (AtSplit numbers) is are h made =
-    let got = chosen-false (leb most splits) TooManyNodes (at (suc count) documents (place_of_tree (suc left - 1 + length numbers)) (with_knot part (AtSplit numbers)) (suc left - 1 + length numbers) (suc splits)) t made in
+    let got = chosen-true (is_allowed part.rule (AtTerminal leaf)) (BadLine (suc count)) (at (suc count) documents (place_of_tree (suc left - 1)) (with_vertex part (AtTerminal leaf)) (suc left - 1) splits) t made in
+    let leave : Leave 1 (part.vertices ++ AtTerminal leaf ∷ []) left = leave-terminal 1 left part.vertices leaf is h.1.4 in
+    subst (λ (u : State). Sounds most (at count documents AtTree part (suc left) splits) u (OfTree (AtTerminal leaf))) got.1
+    (rw less (tree-sound most count documents part (suc left) left splits splits (AtTerminal leaf) are h leave (omega (arith, count-append part.vertices (AtTerminal leaf ∷ []), h.1.5)) h.1.6 got.0))
+vertex-sound most count documents part (suc left) splits t (AtSplit numbers) is are h made =
+    let got = chosen-false (leb most splits) TooManyNodes (at (suc count) documents (place_of_tree (suc left - 1 + length numbers)) (with_vertex part (AtSplit numbers)) (suc left - 1 + length numbers) (suc splits)) t made in
     let few : splits < most = leb-false most splits got.0 in
-    let leave : Leave 1 (part.knots ++ AtSplit numbers ∷ []) (suc left - 1 + length numbers) = leave-split 1 left (suc left - 1 + length numbers) part.knots numbers is h.1.4 (omega arith) in
+    let leave : Leave 1 (part.vertices ++ AtSplit numbers ∷ []) (suc left - 1 + length numbers) = leave-split 1 left (suc left - 1 + length numbers) part.vertices numbers is h.1.4 (omega arith) in
     subst (λ (u : State). Sounds most (at count documents AtTree part (suc left) splits) u (OfTree (AtSplit numbers))) got.1
-    (tree-sound most count documents part (suc left) (suc left - 1 + length numbers) splits (suc splits) (AtSplit numbers) are h leave (omega (arith, count-append part.knots (AtSplit numbers ∷ []), h.1.5)) (omega arith) refl)
+    (tree-sound most count documents part (suc left) (suc left - 1 + length numbers) splits (suc splits) (AtSplit numbers) are h leave (omega (arith, count-append part.vertices (AtSplit numbers ∷ []), h.1.5)) (omega arith) refl)
 
 within-more : (most : ℕ) (ds : List Document) (d : Document) → AreDocumentsWithin BLOCK_LIMIT most ds → IsDocumentWithin BLOCK_LIMIT most d → AreDocumentsWithin BLOCK_LIMIT most (ds ++ d ∷ [])
 within-more most [] d are is = (is, tt)
@@ -217,9 +217,9 @@ documents-more [] d = append-nil (document_lines d)
 documents-more (other ∷ ds) d = ap (λ x. document_lines other ++ x) (documents-more ds d) ∙ sym (append_assoc (document_lines other) (documents_lines ds) (document_lines d))
 
 -- the parts by this rule are a document
-by-rule : (most : ℕ) (part : Parts) (splits : ℕ) (rule : Rule) → HasTree most part 0 splits → names_nodes rule ≡ has_dominated_line part.knots → IsDocumentWithin BLOCK_LIMIT most (record (document_of part) { rule = rule })
+by-rule : (most : ℕ) (part : Parts) (splits : ℕ) (rule : Rule) → HasTree most part 0 splits → names_nodes rule ≡ has_dominated_line part.vertices → IsDocumentWithin BLOCK_LIMIT most (record (document_of part) { rule = rule })
 by-rule most part splits rule h named =
-    let tree = whole-tree part.knots h.4 in
+    let tree = whole-tree part.vertices h.4 in
     record {
       profile = h.0.0;
       block = (h.0.1, h.0.2, h.0.3);
@@ -232,19 +232,19 @@ by-rule most part splits rule h named =
     }
 
 pub whole-document : (most : ℕ) (part : Parts) (splits : ℕ) → HasTree most part 0 splits → wants_dominated part ≡ false → IsDocumentWithin BLOCK_LIMIT most (document_of part)
-whole-document most part splits h none = by-rule most part splits part.rule h (names-exactly (names_nodes part.rule) (has_dominated_line part.knots) h.7 none)
+whole-document most part splits h none = by-rule most part splits part.rule h (names-exactly (names_nodes part.rule) (has_dominated_line part.vertices) h.7 none)
 
 pub open-document : (most : ℕ) (part : Parts) (splits : ℕ) → HasTree most part 0 splits → IsOpenWithin BLOCK_LIMIT most (document_of part)
-open-document most part splits h = by (has_dominated_line part.knots) refl
+open-document most part splits h = by (has_dominated_line part.vertices) refl
   where
-    by : (has : Bool) → has_dominated_line part.knots ≡ has → IsOpenWithin BLOCK_LIMIT most (document_of part)
+    by : (has : Bool) → has_dominated_line part.vertices ≡ has → IsOpenWithin BLOCK_LIMIT most (document_of part)
     by true e = inl (by-rule most part splits part.rule h (h.7 e ∙ sym e))
     by false e = inr (by-rule most part splits NoneNamed h (sym e))
 
 -- the lines of the open document, where only the last is to come
 pub open-is : (part : Parts) (left splits most : ℕ) → HasTree most part 0 splits → part_lines AtEnd part left ≡ open_lines (document_of part)
 open-is part left splits most h =
-    ap (λ (k : List (Knot Ending)). heading_lines part (length part.block) (Time part.time ∷ Bound part.bound ∷ Order part.numbers ∷ knots_of k)) (sym (whole-tree part.knots h.4).0)
+    ap (λ (k : List (Vertex Ending)). heading_lines part (length part.block) (Time part.time ∷ Bound part.bound ∷ Order part.numbers ∷ vertices_of k)) (sym (whole-tree part.vertices h.4).0)
 
 end-sound : (most count : ℕ) (documents : List Document) (part : Parts) (left splits : ℕ) → AreDocumentsWithin BLOCK_LIMIT most documents → IsPart most AtEnd part left splits →
     wants_dominated part ≡ false →
@@ -287,10 +287,10 @@ step-sound most count documents AtBound part left splits t (Bound bound) is are 
     subst (λ (u : State). Sounds most (at count documents AtBound part left splits) u (Bound bound)) e
     (same-documents most (at count documents AtBound part left splits) (at (suc count) documents AtOrder (record part { bound = bound }) 0 0) (Bound bound) are refl (h.0, h.1, is) (heading-more part (length part.block) (Time part.time ∷ []) (Bound bound)))
 step-sound most count documents AtOrder part left splits t (Order numbers) is are h made =
-    let e : at (suc count) documents AtTree (record part { numbers = numbers; knots = [] }) 1 0 ≡ t = (cc) in
+    let e : at (suc count) documents AtTree (record part { numbers = numbers; vertices = [] }) 1 0 ≡ t = (cc) in
     subst (λ (u : State). Sounds most (at count documents AtOrder part left splits) u (Order numbers)) e
-    (same-documents most (at count documents AtOrder part left splits) (at (suc count) documents AtTree (record part { numbers = numbers; knots = [] }) 1 0) (Order numbers) are refl (omega arith, (h.0, h.1, h.2, is, refl, refl, omega arith, λ has. absurd (cc))) (heading-more part (length part.block) (Time part.time ∷ Bound part.bound ∷ []) (Order numbers)))
-step-sound most count documents AtTree part left splits t (OfTree knot) is are h made = knot-sound most count documents part left splits t knot is are h made
+    (same-documents most (at count documents AtOrder part left splits) (at (suc count) documents AtTree (record part { numbers = numbers; vertices = [] }) 1 0) (Order numbers) are refl (omega arith, (h.0, h.1, h.2, is, refl, refl, omega arith, λ has. absurd (cc))) (heading-more part (length part.block) (Time part.time ∷ Bound part.bound ∷ []) (Order numbers)))
+step-sound most count documents AtTree part left splits t (OfTree vertex) is are h made = vertex-sound most count documents part left splits t vertex is are h made
 step-sound most count documents AtEnd part left splits t End is are h made =
     let got = chosen-false (wants_dominated part) (BadLine (suc count)) (at (suc count) (documents ++ document_of part ∷ []) AtHeader nothing 0 0) t made in
     subst (λ (u : State). Sounds most (at count documents AtEnd part left splits) u End) got.1 (end-sound most count documents part left splits are h got.0)

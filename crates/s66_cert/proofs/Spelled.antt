@@ -26,8 +26,8 @@ pub instruction-not : (text : List ℕ) → ¬ IsInstruction text → is_instruc
 instruction-not text is_none = by_test (is_instruction text) refl
   where
     by_test : (t : Bool) → is_instruction text ≡ t → t ≡ false
-    by_test true told = absurd (is_none (instruction-is text told))
-    by_test false told = refl
+    by_test true stated = absurd (is_none (instruction-is text stated))
+    by_test false stated = refl
 
 -- what is none is no line of a document
 pub refused : (rest : Option (List ℕ)) (text : List ℕ) → rest ≡ Some text → ¬ IsInstruction text → None ≡ instruction_in rest

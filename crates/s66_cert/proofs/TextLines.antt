@@ -5,13 +5,13 @@ use Rattle.std.proofs.lemmas.List.{append-nil, map-append}
 use Rattle.std.specs.Prelude.{codes, decimal}
 use Rattle.s66_isa.specs.Lists.{every, after_blanks}
 use Rattle.s66_model.specs.Leaves.{Whole, Chain, Load, Parcels}
-use Rattle.s66_model.specs.Tree.{Knot, AtTip, AtSplit, flat}
+use Rattle.s66_model.specs.Tree.{Vertex, AtTerminal, AtSplit, flat}
 use Rattle.s66_model.specs.DominatedLeaves.{Ending, Bounding, Dominated}
 use Rattle.s66_cert.specs.Document.{Document, tree_lines, leaf_line, instruction_lines, version, text_before_end, document_text, documents_text}
 use Rattle.s66_cert.specs.Faults.{IsLine, AreLines, with_newlines}
 use Rattle.s66_cert.specs.Lines.{Line, End, bytes_of, leaf_bytes}
 use Rattle.s66_cert.specs.Reading.{whole_lines, last_bytes}
-use Rattle.s66_cert.proofs.DocumentLines.{open_lines, document_lines, documents_lines, instructions_of, knots_of}
+use Rattle.s66_cert.proofs.DocumentLines.{open_lines, document_lines, documents_lines, instructions_of, vertices_of}
 
 line-parts : (b : ℕ) (line : List ℕ) → IsLine (b ∷ line) → (eqb b 10 ≡ false) × IsLine line
 line-parts b line h = let both = and_parts (not (eqb b 10)) (every (λ b. not (eqb b 10)) line) h in (not-true (eqb b 10) both.0, both.1)
@@ -101,10 +101,10 @@ leaf-text (Bounding (Load kind)) more = simp append_assoc
 leaf-text (Bounding Parcels) more = refl
 leaf-text (Dominated name) more = simp append_assoc
 
-tree-text : (knots : List (Knot Ending)) → tree_lines knots ≡ with_newlines (map bytes_of (knots_of knots))
+tree-text : (vertices : List (Vertex Ending)) → tree_lines vertices ≡ with_newlines (map bytes_of (vertices_of vertices))
 tree-text [] = refl
-tree-text (AtTip ending ∷ knots) = ap (λ x. leaf_line ending ++ x) (tree-text knots) ∙ leaf-text ending (with_newlines (map bytes_of (knots_of knots)))
-tree-text (AtSplit numbers ∷ knots) = ap (λ x. codes "S" ++ after_blanks numbers ++ codes "\n" ++ x) (tree-text knots) ∙ simp append_assoc
+tree-text (AtTerminal ending ∷ vertices) = ap (λ x. leaf_line ending ++ x) (tree-text vertices) ∙ leaf-text ending (with_newlines (map bytes_of (vertices_of vertices)))
+tree-text (AtSplit numbers ∷ vertices) = ap (λ x. codes "S" ++ after_blanks numbers ++ codes "\n" ++ x) (tree-text vertices) ∙ simp append_assoc
 
 lines-append : (xs ys : List Line) → with_newlines (map bytes_of (xs ++ ys)) ≡ with_newlines (map bytes_of xs) ++ with_newlines (map bytes_of ys)
 lines-append xs ys = ap with_newlines (map-append bytes_of xs ys) ∙ newlines-append (map bytes_of xs) (map bytes_of ys)

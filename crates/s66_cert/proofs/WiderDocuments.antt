@@ -1,9 +1,9 @@
 -- Documents of blocks of a limit are documents of any greater limit.
 use Rattle.std.proofs.Common.{◌≤◌, ℕ, List, [], ◌∷◌, arith}
 use Rattle.s66_model.specs.Leaves.{Whole, Chain, Load, Parcels}
-use Rattle.s66_model.specs.Tree.{Tree, Alone, Parted, Kids, NoMore, Unsplit, Split}
+use Rattle.s66_model.specs.Tree.{Tree, Alone, Parted, Siblings, NoMore, Unsplit, Split}
 use Rattle.s66_model.specs.DominatedLeaves.{Ending, Bounding, Dominated}
-use Rattle.s66_cert.specs.Document.{Document, AreIn, AreNumbers, IsLeafLine, KidsFit, TreeFits, IsDocumentWithin, AreDocumentsWithin, IsTextWithin}
+use Rattle.s66_cert.specs.Document.{Document, AreIn, AreNumbers, IsLeafLine, SiblingsFit, TreeFits, IsDocumentWithin, AreDocumentsWithin, IsTextWithin}
 
 module _ (limit wide : ℕ) (wider : limit ≤ wide) where
   wide-in : (ns : List ℕ) → AreIn 1 limit ns → AreIn 1 wide ns
@@ -20,17 +20,17 @@ module _ (limit wide : ℕ) (wider : limit ≤ wide) where
   wide-leaf (Bounding Parcels) is = tt
   wide-leaf (Dominated name) is = wide-numbers name is
 
-  wide-kids : (ns : List ℕ) (kids : Kids Ending) → KidsFit limit ns kids → KidsFit wide ns kids
-  wide-kids [] NoMore fits = tt
-  wide-kids [] (Unsplit leaf kids) fits = fits
-  wide-kids [] (Split numbers sub kids) fits = fits
-  wide-kids (n ∷ ns) NoMore fits = fits
-  wide-kids (n ∷ ns) (Unsplit leaf kids) fits = (wide-leaf leaf fits.0, wide-kids ns kids fits.1)
-  wide-kids (n ∷ ns) (Split numbers sub kids) fits = (wide-numbers numbers fits.0, wide-kids numbers sub fits.1, wide-kids ns kids fits.2)
+  wide-siblings : (ns : List ℕ) (siblings : Siblings Ending) → SiblingsFit limit ns siblings → SiblingsFit wide ns siblings
+  wide-siblings [] NoMore fits = tt
+  wide-siblings [] (Unsplit leaf siblings) fits = fits
+  wide-siblings [] (Split numbers sub siblings) fits = fits
+  wide-siblings (n ∷ ns) NoMore fits = fits
+  wide-siblings (n ∷ ns) (Unsplit leaf siblings) fits = (wide-leaf leaf fits.0, wide-siblings ns siblings fits.1)
+  wide-siblings (n ∷ ns) (Split numbers sub siblings) fits = (wide-numbers numbers fits.0, wide-siblings numbers sub fits.1, wide-siblings ns siblings fits.2)
 
   wide-tree : (tree : Tree Ending) → TreeFits limit tree → TreeFits wide tree
   wide-tree (Alone leaf) fits = wide-leaf leaf fits
-  wide-tree (Parted numbers kids) fits = (wide-numbers numbers fits.0, wide-kids numbers kids fits.1)
+  wide-tree (Parted numbers siblings) fits = (wide-numbers numbers fits.0, wide-siblings numbers siblings fits.1)
 
   pub wide-document : (most more : ℕ) (d : Document) → most ≤ more → IsDocumentWithin limit most d → IsDocumentWithin wide more d
   wide-document most more d le is =

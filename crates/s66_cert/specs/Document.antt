@@ -5,7 +5,7 @@ use Rattle.s66_isa.specs.declared.instr.Kind.TheVariants.{Boolean, Shift, Add, L
 use Rattle.s66_model.specs.declared.rule.Rule.{Rule}
 use Rattle.s66_model.specs.declared.rule.Rule.TheVariants.{NoneNamed, WrittenEarlier, ClampedStanding}
 use Rattle.s66_model.specs.Leaves.{Whole, Chain, Load, Parcels}
-use Rattle.s66_model.specs.Tree.{Tree, Alone, Parted, Kids, NoMore, Unsplit, Split, Knot, AtTip, AtSplit, flat, splits}
+use Rattle.s66_model.specs.Tree.{Tree, Alone, Parted, Siblings, NoMore, Unsplit, Split, Vertex, AtTerminal, AtSplit, flat, splits}
 use Rattle.s66_model.specs.DominatedLeaves.{Ending, Bounding, Dominated}
 use Rattle.s66_isa.specs.Lists.{after_blanks}
 use Rattle.s66_line.specs.InstructionText.{IsInstruction}
@@ -41,26 +41,26 @@ IsLeafLine limit (Bounding Parcels) = Unit {0}
 IsLeafLine limit (Dominated name) = AreNumbers limit name
 
 -- a tree for each number of a split
-abbrev pub KidsFit : ℕ → List ℕ → Kids Ending → Type 0
-KidsFit limit [] NoMore = Unit {0}
-KidsFit limit (n ∷ ns) (Unsplit leaf kids) = IsLeafLine limit leaf × KidsFit limit ns kids
-KidsFit limit (n ∷ ns) (Split numbers sub kids) = AreNumbers limit numbers × KidsFit limit numbers sub × KidsFit limit ns kids
-KidsFit limit [] (Unsplit leaf kids) = ⊥
-KidsFit limit [] (Split numbers sub kids) = ⊥
-KidsFit limit (n ∷ ns) NoMore = ⊥
+abbrev pub SiblingsFit : ℕ → List ℕ → Siblings Ending → Type 0
+SiblingsFit limit [] NoMore = Unit {0}
+SiblingsFit limit (n ∷ ns) (Unsplit leaf siblings) = IsLeafLine limit leaf × SiblingsFit limit ns siblings
+SiblingsFit limit (n ∷ ns) (Split numbers sub siblings) = AreNumbers limit numbers × SiblingsFit limit numbers sub × SiblingsFit limit ns siblings
+SiblingsFit limit [] (Unsplit leaf siblings) = ⊥
+SiblingsFit limit [] (Split numbers sub siblings) = ⊥
+SiblingsFit limit (n ∷ ns) NoMore = ⊥
 
 abbrev pub TreeFits : ℕ → Tree Ending → Type 0
 TreeFits limit (Alone leaf) = IsLeafLine limit leaf
-TreeFits limit (Parted numbers kids) = AreNumbers limit numbers × KidsFit limit numbers kids
+TreeFits limit (Parted numbers siblings) = AreNumbers limit numbers × SiblingsFit limit numbers siblings
 
 -- DOMINATED LEAVES
 
 -- whether one of these lines is a dominated leaf
-abbrev pub has_dominated_line : List (Knot Ending) → Bool
+abbrev pub has_dominated_line : List (Vertex Ending) → Bool
 has_dominated_line [] = false
-has_dominated_line (AtTip (Bounding leaf) ∷ knots) = has_dominated_line knots
-has_dominated_line (AtTip (Dominated name) ∷ knots) = true
-has_dominated_line (AtSplit numbers ∷ knots) = has_dominated_line knots
+has_dominated_line (AtTerminal (Bounding leaf) ∷ vertices) = has_dominated_line vertices
+has_dominated_line (AtTerminal (Dominated name) ∷ vertices) = true
+has_dominated_line (AtSplit numbers ∷ vertices) = has_dominated_line vertices
 
 -- whether a leaf of the tree is dominated
 abbrev pub has_dominated : Tree Ending → Bool
@@ -111,10 +111,10 @@ leaf_line (Bounding (Load kind)) = codes "U " ++ kind_name kind ++ codes "\n"
 leaf_line (Bounding Parcels) = codes "P\n"
 leaf_line (Dominated name) = codes "D" ++ after_blanks name ++ codes "\n"
 
-abbrev pub tree_lines : List (Knot Ending) → List ℕ
+abbrev pub tree_lines : List (Vertex Ending) → List ℕ
 tree_lines [] = []
-tree_lines (AtTip leaf ∷ knots) = leaf_line leaf ++ tree_lines knots
-tree_lines (AtSplit numbers ∷ knots) = codes "S" ++ after_blanks numbers ++ codes "\n" ++ tree_lines knots
+tree_lines (AtTerminal leaf ∷ vertices) = leaf_line leaf ++ tree_lines vertices
+tree_lines (AtSplit numbers ∷ vertices) = codes "S" ++ after_blanks numbers ++ codes "\n" ++ tree_lines vertices
 
 abbrev pub instruction_lines : List (List ℕ) → List ℕ
 instruction_lines [] = []

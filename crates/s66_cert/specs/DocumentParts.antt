@@ -3,7 +3,7 @@ use Rattle.std.specs.Prelude.{◌≡◌, ◌≤◌, ℕ, List, [], ◌∷◌, le
 use Rattle.s66_isa.specs.declared.limits.TheConstants.{BLOCK_LIMIT}
 use Rattle.s66_model.specs.declared.rule.Rule.{Rule}
 use Rattle.s66_model.specs.Leaves.{Whole, Chain, Load, Parcels}
-use Rattle.s66_model.specs.Tree.{Tree, Knot, AtTip, AtSplit, flat}
+use Rattle.s66_model.specs.Tree.{Tree, Vertex, AtTerminal, AtSplit, flat}
 use Rattle.s66_model.specs.DominatedLeaves.{Ending, Bounding, Dominated}
 use Rattle.s66_model.specs.Preorder.{read_tree}
 use Rattle.s66_cert.specs.Document.{Document, IsDocument}
@@ -17,40 +17,40 @@ pub record Parts : Type 0 where
   pub time : ℕ
   pub bound : ℕ
   pub numbers : List ℕ
-  pub knots : List (Knot Ending)
+  pub vertices : List (Vertex Ending)
 
 -- the tree of which these are the lines
-abbrev pub tree_of : List (Knot Ending) → Tree Ending
-tree_of knots = read_tree (Bounding Whole) knots
+abbrev pub tree_of : List (Vertex Ending) → Tree Ending
+tree_of vertices = read_tree (Bounding Whole) vertices
 
 abbrev pub document_of : Parts → Document
-document_of p = record { rule = p.rule; profile = p.profile; block = p.block; time = p.time; bound = p.bound; numbers = p.numbers; tree = tree_of p.knots }
+document_of p = record { rule = p.rule; profile = p.profile; block = p.block; time = p.time; bound = p.bound; numbers = p.numbers; tree = tree_of p.vertices }
 
 -- the parts of a document: their lines are those of one whole tree
 pub record AreWhole (p : Parts) : Type 0 where
   pub document : IsDocument BLOCK_LIMIT (document_of p)
-  pub preorder : flat (tree_of p.knots) ≡ p.knots
+  pub preorder : flat (tree_of p.vertices) ≡ p.vertices
 
 -- A LINE OF A TREE
 
-abbrev pub knot_of : TreeLine → Knot Ending
-knot_of (line.Split numbers) = AtSplit numbers.now
-knot_of line.Whole = AtTip (Bounding Whole)
-knot_of (line.Chain numbers) = AtTip (Bounding (Chain numbers.now))
-knot_of (line.Load kind) = AtTip (Bounding (Load kind))
-knot_of line.Parcels = AtTip (Bounding Parcels)
-knot_of (line.Dominated numbers) = AtTip (Dominated numbers.now)
+abbrev pub vertex_of : TreeLine → Vertex Ending
+vertex_of (line.Split numbers) = AtSplit numbers.now
+vertex_of line.Whole = AtTerminal (Bounding Whole)
+vertex_of (line.Chain numbers) = AtTerminal (Bounding (Chain numbers.now))
+vertex_of (line.Load kind) = AtTerminal (Bounding (Load kind))
+vertex_of line.Parcels = AtTerminal (Bounding Parcels)
+vertex_of (line.Dominated numbers) = AtTerminal (Dominated numbers.now)
 
 -- no more numbers than a block has instructions
-abbrev pub IsShort : Knot Ending → Type 0
+abbrev pub IsShort : Vertex Ending → Type 0
 IsShort (AtSplit numbers) = length numbers ≤ BLOCK_LIMIT
-IsShort (AtTip (Bounding Whole)) = Unit {0}
-IsShort (AtTip (Bounding (Chain numbers))) = length numbers ≤ BLOCK_LIMIT
-IsShort (AtTip (Bounding (Load kind))) = Unit {0}
-IsShort (AtTip (Bounding Parcels)) = Unit {0}
-IsShort (AtTip (Dominated name)) = length name ≤ BLOCK_LIMIT
+IsShort (AtTerminal (Bounding Whole)) = Unit {0}
+IsShort (AtTerminal (Bounding (Chain numbers))) = length numbers ≤ BLOCK_LIMIT
+IsShort (AtTerminal (Bounding (Load kind))) = Unit {0}
+IsShort (AtTerminal (Bounding Parcels)) = Unit {0}
+IsShort (AtTerminal (Dominated name)) = length name ≤ BLOCK_LIMIT
 
 -- the next of these lines is answered, and those behind it are left; none only where there is none
-abbrev pub IsNextLine : List (Knot Ending) → Option TreeLine → List (Knot Ending) → Type 0
+abbrev pub IsNextLine : List (Vertex Ending) → Option TreeLine → List (Vertex Ending) → Type 0
 IsNextLine old None new = (old ≡ []) × (new ≡ [])
-IsNextLine old (Some line) new = old ≡ knot_of line ∷ new
+IsNextLine old (Some line) new = old ≡ vertex_of line ∷ new

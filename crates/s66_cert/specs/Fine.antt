@@ -1,7 +1,7 @@
 -- Used by contracts: what was read of documents is in range.
 use Rattle.std.specs.Prelude.{◌≡◌, ◌≤◌, ◌+◌, ℕ, zero, suc, true, List, [], ◌∷◌, length}
 use Rattle.s66_isa.specs.declared.limits.TheConstants.{BLOCK_LIMIT}
-use Rattle.s66_model.specs.Tree.{Knot, AtTip, AtSplit}
+use Rattle.s66_model.specs.Tree.{Vertex, AtTerminal, AtSplit}
 use Rattle.s66_model.specs.DominatedLeaves.{Ending}
 use Rattle.s66_cert.specs.Document.{AreDocumentsWithin, AreIn, AreNumbers, AreInstructions, IsLeafLine, has_dominated_line, names_nodes}
 use Rattle.s66_cert.specs.DocumentParts.{Parts}
@@ -12,18 +12,18 @@ use Rattle.s66_cert.specs.declared.place.Place.{Place}
 use Rattle.s66_cert.specs.declared.place.Place.TheVariants.{AtHeader, AtProfile, AtBlock, AtInstruction, AtTime, AtBound, AtOrder, AtTree, AtEnd}
 
 -- of n trees these lines leave so many to come
-abbrev pub Leave : ℕ → List (Knot Ending) → ℕ → Type 0
+abbrev pub Leave : ℕ → List (Vertex Ending) → ℕ → Type 0
 Leave n [] left = n ≡ left
-Leave (suc n) (AtTip leaf ∷ knots) left = IsLeafLine BLOCK_LIMIT leaf × Leave n knots left
-Leave (suc n) (AtSplit numbers ∷ knots) left = AreNumbers BLOCK_LIMIT numbers × Leave (length numbers + n) knots left
-Leave zero (AtTip leaf ∷ knots) left = ⊥
-Leave zero (AtSplit numbers ∷ knots) left = ⊥
+Leave (suc n) (AtTerminal leaf ∷ vertices) left = IsLeafLine BLOCK_LIMIT leaf × Leave n vertices left
+Leave (suc n) (AtSplit numbers ∷ vertices) left = AreNumbers BLOCK_LIMIT numbers × Leave (length numbers + n) vertices left
+Leave zero (AtTerminal leaf ∷ vertices) left = ⊥
+Leave zero (AtSplit numbers ∷ vertices) left = ⊥
 
 -- how many of these lines are splits
-abbrev pub split_count : List (Knot Ending) → ℕ
+abbrev pub split_count : List (Vertex Ending) → ℕ
 split_count [] = 0
-split_count (AtTip leaf ∷ knots) = split_count knots
-split_count (AtSplit numbers ∷ knots) = suc (split_count knots)
+split_count (AtTerminal leaf ∷ vertices) = split_count vertices
+split_count (AtSplit numbers ∷ vertices) = suc (split_count vertices)
 
 abbrev pub HasProfile : Parts → Type 0
 HasProfile p = (length p.profile ≡ PROFILE_LENGTH) × AreIn 1 PROFILE_LIMIT p.profile
@@ -33,11 +33,11 @@ HasBlock p = HasProfile p × (1 ≤ length p.block) × (length p.block ≤ BLOCK
 
 -- a leaf is dominated only by a rule that names nodes
 abbrev pub IsAllowed : Parts → Type 0
-IsAllowed p = has_dominated_line p.knots ≡ true → names_nodes p.rule ≡ true
+IsAllowed p = has_dominated_line p.vertices ≡ true → names_nodes p.rule ≡ true
 
 abbrev pub HasTree : ℕ → Parts → ℕ → ℕ → Type 0
 HasTree most p left splits =
-    HasBlock p × (p.time ≤ TIME_LIMIT) × (p.bound ≤ TIME_LIMIT) × AreNumbers BLOCK_LIMIT p.numbers × Leave 1 p.knots left × (splits ≡ split_count p.knots) × (splits ≤ most) × IsAllowed p
+    HasBlock p × (p.time ≤ TIME_LIMIT) × (p.bound ≤ TIME_LIMIT) × AreNumbers BLOCK_LIMIT p.numbers × Leave 1 p.vertices left × (splits ≡ split_count p.vertices) × (splits ≤ most) × IsAllowed p
 
 -- what its lines said is in range, by which line comes next
 abbrev pub IsPart : ℕ → Place → Parts → ℕ → ℕ → Type 0

@@ -8,7 +8,7 @@ use Rattle.s66_isa.specs.Lists.{every, after_blanks}
 use Rattle.s66_model.specs.declared.rule.Rule.{Rule}
 use Rattle.s66_model.specs.declared.rule.Rule.TheVariants.{NoneNamed, WrittenEarlier, ClampedStanding}
 use Rattle.s66_model.specs.Leaves.{Whole, Chain, Load, Parcels}
-use Rattle.s66_model.specs.Tree.{Knot, AtTip, AtSplit}
+use Rattle.s66_model.specs.Tree.{Vertex, AtTerminal, AtSplit}
 use Rattle.s66_model.specs.DominatedLeaves.{Ending, Bounding, Dominated}
 use Rattle.s66_line.specs.InstructionText.{spelling, operation_in, operand_in, IsInstruction}
 use Rattle.s66_line.specs.Operand.{instr_of}
@@ -25,7 +25,7 @@ pub data Line : Type 0 where
   Time : (time : ℕ) → Line
   Bound : (bound : ℕ) → Line
   Order : (numbers : List ℕ) → Line
-  OfTree : (knot : Knot Ending) → Line
+  OfTree : (vertex : Vertex Ending) → Line
   End : Line
 
 -- ITS BYTES, without the newline
@@ -37,9 +37,9 @@ leaf_bytes (Bounding (Load kind)) = codes "U " ++ kind_name kind
 leaf_bytes (Bounding Parcels) = codes "P"
 leaf_bytes (Dominated name) = codes "D" ++ after_blanks name
 
-abbrev pub knot_bytes : Knot Ending → List ℕ
-knot_bytes (AtTip leaf) = leaf_bytes leaf
-knot_bytes (AtSplit numbers) = codes "S" ++ after_blanks numbers
+abbrev pub vertex_bytes : Vertex Ending → List ℕ
+vertex_bytes (AtTerminal leaf) = leaf_bytes leaf
+vertex_bytes (AtSplit numbers) = codes "S" ++ after_blanks numbers
 
 abbrev pub bytes_of : Line → List ℕ
 bytes_of (Header rule) = codes "S66 CERTIFICATE " ++ decimal (version rule)
@@ -49,14 +49,14 @@ bytes_of (Instruction text) = codes "I " ++ text
 bytes_of (Time time) = codes "TIME " ++ decimal time
 bytes_of (Bound bound) = codes "BOUND " ++ decimal bound
 bytes_of (Order numbers) = codes "ORDER" ++ after_blanks numbers
-bytes_of (OfTree knot) = knot_bytes knot
+bytes_of (OfTree vertex) = vertex_bytes vertex
 bytes_of End = codes "END"
 
 -- ITS RANGES
 
-abbrev pub IsKnot : ℕ → Knot Ending → Type 0
-IsKnot limit (AtTip leaf) = IsLeafLine limit leaf
-IsKnot limit (AtSplit numbers) = AreNumbers limit numbers
+abbrev pub IsVertex : ℕ → Vertex Ending → Type 0
+IsVertex limit (AtTerminal leaf) = IsLeafLine limit leaf
+IsVertex limit (AtSplit numbers) = AreNumbers limit numbers
 
 abbrev pub IsInRange : ℕ → Line → Type 0
 IsInRange limit (Header rule) = Unit {0}
@@ -66,7 +66,7 @@ IsInRange limit (Instruction text) = IsInstruction text
 IsInRange limit (Time time) = time ≤ TIME_LIMIT
 IsInRange limit (Bound bound) = bound ≤ TIME_LIMIT
 IsInRange limit (Order numbers) = AreNumbers limit numbers
-IsInRange limit (OfTree knot) = IsKnot limit knot
+IsInRange limit (OfTree vertex) = IsVertex limit vertex
 IsInRange limit End = Unit {0}
 
 -- WORDS, with one blank between two
@@ -186,12 +186,12 @@ header_in (Some rest) =
 -- what a line says whose first word is this, and what stands after its blank
 abbrev pub line_with : ℕ → List ℕ → Option (List ℕ) → Option Line
 line_with limit name rest =
-    if bytes_eq name (codes "T") then alone (OfTree (AtTip (Bounding Whole))) rest
+    if bytes_eq name (codes "T") then alone (OfTree (AtTerminal (Bounding Whole))) rest
     else (if bytes_eq name (codes "S") then option_map (λ ns. OfTree (AtSplit ns)) (block_numbers limit rest)
-    else (if bytes_eq name (codes "C") then option_map (λ ns. OfTree (AtTip (Bounding (Chain ns)))) (block_numbers limit rest)
-    else (if bytes_eq name (codes "D") then option_map (λ ns. OfTree (AtTip (Dominated ns))) (block_numbers limit rest)
-    else (if bytes_eq name (codes "U") then option_map (λ kind. OfTree (AtTip (Bounding (Load kind)))) (kind_in rest)
-    else (if bytes_eq name (codes "P") then alone (OfTree (AtTip (Bounding Parcels))) rest
+    else (if bytes_eq name (codes "C") then option_map (λ ns. OfTree (AtTerminal (Bounding (Chain ns)))) (block_numbers limit rest)
+    else (if bytes_eq name (codes "D") then option_map (λ ns. OfTree (AtTerminal (Dominated ns))) (block_numbers limit rest)
+    else (if bytes_eq name (codes "U") then option_map (λ kind. OfTree (AtTerminal (Bounding (Load kind)))) (kind_in rest)
+    else (if bytes_eq name (codes "P") then alone (OfTree (AtTerminal (Bounding Parcels))) rest
     else (if bytes_eq name (codes "I") then instruction_in rest
     else (if bytes_eq name (codes "S66") then header_in rest
     else (if bytes_eq name (codes "PROFILE") then option_map Profile (profile_in rest)

@@ -2,7 +2,7 @@
 use Rattle.std.specs.Prelude.{◌≡◌, ◌+◌, ℕ, Bool, true, false, List, [], ◌∷◌, length, take, drop}
 use Rattle.s66_isa.specs.Lists.{weigh}
 use Rattle.s66_model.specs.Leaves.{Whole, Chain, Load, Parcels}
-use Rattle.s66_model.specs.Tree.{Knot, AtTip, AtSplit}
+use Rattle.s66_model.specs.Tree.{Vertex, AtTerminal, AtSplit}
 use Rattle.s66_model.specs.DominatedLeaves.{Ending, Bounding, Dominated}
 use Rattle.s66_cert.specs.declared.tree.Mark.{Mark}
 use Rattle.s66_cert.specs.declared.tree.Mark.TheVariants as mark
@@ -25,18 +25,18 @@ is_dominated mark.Parcels = false
 is_dominated (mark.Dominated count) = true
 
 -- with its numbers, the first of these
-abbrev pub marked : Mark → List ℕ → Knot Ending
+abbrev pub marked : Mark → List ℕ → Vertex Ending
 marked (mark.Split count) numbers = AtSplit (take count numbers)
-marked mark.Whole numbers = AtTip (Bounding Whole)
-marked (mark.Chain count) numbers = AtTip (Bounding (Chain (take count numbers)))
-marked (mark.Load kind) numbers = AtTip (Bounding (Load kind))
-marked mark.Parcels numbers = AtTip (Bounding Parcels)
-marked (mark.Dominated count) numbers = AtTip (Dominated (take count numbers))
+marked mark.Whole numbers = AtTerminal (Bounding Whole)
+marked (mark.Chain count) numbers = AtTerminal (Bounding (Chain (take count numbers)))
+marked (mark.Load kind) numbers = AtTerminal (Bounding (Load kind))
+marked mark.Parcels numbers = AtTerminal (Bounding Parcels)
+marked (mark.Dominated count) numbers = AtTerminal (Dominated (take count numbers))
 
 -- the numbers of the lines stand one after the other
-abbrev pub knots_of : List Mark → List ℕ → List (Knot Ending)
-knots_of [] numbers = []
-knots_of (mark ∷ marks) numbers = marked mark numbers ∷ knots_of marks (drop (number_count mark) numbers)
+abbrev pub vertices_of : List Mark → List ℕ → List (Vertex Ending)
+vertices_of [] numbers = []
+vertices_of (mark ∷ marks) numbers = marked mark numbers ∷ vertices_of marks (drop (number_count mark) numbers)
 
 -- where the numbers of each line begin, those of the first at n
 abbrev pub begins_from : ℕ → List Mark → List ℕ

@@ -1,27 +1,27 @@
 -- Used by contracts: where the tree of each line of a tree ends, and the places of nodes among the lines.
 use Rattle.std.specs.Prelude.{◌≡◌, ◌<◌, ◌≤◌, ℕ, zero, suc, List, [], ◌∷◌, length, drop, get_or, Option, None, Some}
-use Rattle.s66_model.specs.Tree.{Tree, Kids, Knot, AtTip, AtSplit}
+use Rattle.s66_model.specs.Tree.{Tree, Siblings, Vertex, AtTerminal, AtSplit}
 use Rattle.s66_model.specs.DominatedLeaves.{Ending}
 use Rattle.s66_model.specs.NodeNames.{node_at}
-use Rattle.s66_model.specs.Preorder.{forest, later_kids}
+use Rattle.s66_model.specs.Preorder.{forest, later_siblings}
 use Rattle.s66_cert.specs.DocumentParts.{tree_of}
 
 -- WHERE TREES END
 
 -- the trees beside each other that the lines from a place on are
-abbrev pub trees_from : List (Knot Ending) → ℕ → Kids Ending
-trees_from knots place = forest (drop place knots)
+abbrev pub trees_from : List (Vertex Ending) → ℕ → Siblings Ending
+trees_from vertices place = forest (drop place vertices)
 
 -- the tree of the line at a place ends there: at its end the trees go on that stand behind it
-pub record IsEnd (knots : List (Knot Ending)) (place end : ℕ) : Type 0 where
+pub record IsEnd (vertices : List (Vertex Ending)) (place end : ℕ) : Type 0 where
   pub behind : place < end
-  pub within : end ≤ length knots
-  pub others : trees_from knots end ≡ later_kids (0 ∷ []) (trees_from knots place)
+  pub within : end ≤ length vertices
+  pub others : trees_from vertices end ≡ later_siblings (0 ∷ []) (trees_from vertices place)
 
 -- the ends of the trees of all lines from the first on
-pub record AreEnds (first : ℕ) (ends : List ℕ) (knots : List (Knot Ending)) : Type 0 where
-  pub count : length ends ≡ length knots
-  pub each : (place : ℕ) → first ≤ place → place < length knots → IsEnd knots place (get_or ends place 0)
+pub record AreEnds (first : ℕ) (ends : List ℕ) (vertices : List (Vertex Ending)) : Type 0 where
+  pub count : length ends ≡ length vertices
+  pub each : (place : ℕ) → first ≤ place → place < length vertices → IsEnd vertices place (get_or ends place 0)
 
 -- the end of the last of so many trees, of which the first begins at a place; behind the last line there are none
 abbrev pub end_behind : List ℕ → ℕ → ℕ → ℕ
@@ -29,18 +29,18 @@ end_behind ends zero place = place
 end_behind ends (suc n) place = end_behind ends n (get_or ends place place)
 
 -- how many trees follow a line as its children
-abbrev pub kid_count : Knot Ending → ℕ
-kid_count (AtTip ending) = 0
-kid_count (AtSplit numbers) = length numbers
+abbrev pub sibling_count : Vertex Ending → ℕ
+sibling_count (AtTerminal ending) = 0
+sibling_count (AtSplit numbers) = length numbers
 
 -- WHERE NODES STAND
 
 -- the tree of the line at a place
-abbrev pub tree_at : List (Knot Ending) → ℕ → Tree Ending
-tree_at knots place = tree_of (drop place knots)
+abbrev pub tree_at : List (Vertex Ending) → ℕ → Tree Ending
+tree_at vertices place = tree_of (drop place vertices)
 
 -- the first child of this number of the line at a place stands there; none only where it has none
-abbrev pub IsChildAt : List (Knot Ending) → ℕ → ℕ → Option ℕ → Type 0
-IsChildAt knots place number None = (path : List ℕ) → node_at [] (tree_at knots place) (number ∷ path) ≡ None
-IsChildAt knots place number (Some kid) =
-    (kid < length knots) × ((path : List ℕ) → node_at [] (tree_at knots place) (number ∷ path) ≡ node_at [] (tree_at knots kid) path)
+abbrev pub IsChildAt : List (Vertex Ending) → ℕ → ℕ → Option ℕ → Type 0
+IsChildAt vertices place number None = (path : List ℕ) → node_at [] (tree_at vertices place) (number ∷ path) ≡ None
+IsChildAt vertices place number (Some sibling) =
+    (sibling < length vertices) × ((path : List ℕ) → node_at [] (tree_at vertices place) (number ∷ path) ≡ node_at [] (tree_at vertices sibling) path)

@@ -3,7 +3,7 @@ use Rattle.std.specs.Prelude.{◌≡◌, ℕ, List, [], ◌∷◌, ◌++◌, Opt
 use Rattle.std.specs.Io.KnownBytes.{Appends}
 use Rattle.s66_isa.specs.Lists.{after_blanks}
 use Rattle.s66_line.specs.Devices.{Writer, WriteFails}
-use Rattle.s66_model.specs.Tree.{Knot}
+use Rattle.s66_model.specs.Tree.{Vertex}
 use Rattle.s66_model.specs.DominatedLeaves.{Ending}
 use Rattle.s66_cert.specs.Document.{version}
 use Rattle.s66_cert.specs.DocumentParts.{Parts, IsShort}
@@ -29,6 +29,6 @@ opening p = codes "S66 CERTIFICATE " ++ decimal (version p.rule) ++ codes "\nPRO
 abbrev pub claim_lines : Parts → List ℕ
 claim_lines p = codes "TIME " ++ decimal p.time ++ codes "\nBOUND " ++ decimal p.bound ++ codes "\nORDER" ++ after_blanks p.numbers ++ codes "\n"
 
-abbrev pub AreShort : List (Knot Ending) → Type 0
+abbrev pub AreShort : List (Vertex Ending) → Type 0
 AreShort [] = Unit {0}
-AreShort (knot ∷ knots) = IsShort knot × AreShort knots
+AreShort (vertex ∷ vertices) = IsShort vertex × AreShort vertices

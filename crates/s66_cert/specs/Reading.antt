@@ -3,7 +3,7 @@ use Rattle.std.specs.Prelude.{◌+◌, ◌-◌, ◌==◌, ◌&&◌, if◌then◌
 use Rattle.s66_isa.specs.declared.limits.TheConstants.{BLOCK_LIMIT}
 use Rattle.s66_model.specs.declared.rule.Rule.{Rule}
 use Rattle.s66_model.specs.declared.rule.Rule.TheVariants.{NoneNamed}
-use Rattle.s66_model.specs.Tree.{Knot, AtTip, AtSplit}
+use Rattle.s66_model.specs.Tree.{Vertex, AtTerminal, AtSplit}
 use Rattle.s66_model.specs.DominatedLeaves.{Ending, Bounding, Dominated}
 use Rattle.s66_cert.specs.Document.{Document, has_dominated_line, names_nodes}
 use Rattle.s66_cert.specs.Lines.{Line, Header, Profile, Block, Instruction, Time, Bound, Order, OfTree, End, line_of}
@@ -18,7 +18,7 @@ use Rattle.s66_cert.specs.declared.place.Place.TheVariants.{AtHeader, AtProfile,
 
 -- nothing of a document
 abbrev pub nothing : Parts
-nothing = record { rule = NoneNamed; profile = []; block = []; time = 0; bound = 0; numbers = []; knots = [] }
+nothing = record { rule = NoneNamed; profile = []; block = []; time = 0; bound = 0; numbers = []; vertices = [] }
 
 pub record State : Type 0 where
   -- how many lines were read
@@ -49,26 +49,26 @@ place_of_instruction left = if left == 0 then AtTime else AtInstruction
 abbrev pub place_of_tree : ℕ → Place
 place_of_tree left = if left == 0 then AtEnd else AtTree
 
-abbrev pub with_knot : Parts → Knot Ending → Parts
-with_knot p knot = record p { knots = p.knots ++ knot ∷ [] }
+abbrev pub with_vertex : Parts → Vertex Ending → Parts
+with_vertex p vertex = record p { vertices = p.vertices ++ vertex ∷ [] }
 
 -- a dominated leaf comes only by a rule that names nodes
-abbrev pub is_allowed : Rule → Knot Ending → Bool
-is_allowed rule (AtTip (Bounding leaf)) = true
-is_allowed rule (AtTip (Dominated name)) = names_nodes rule
+abbrev pub is_allowed : Rule → Vertex Ending → Bool
+is_allowed rule (AtTerminal (Bounding leaf)) = true
+is_allowed rule (AtTerminal (Dominated name)) = names_nodes rule
 is_allowed rule (AtSplit numbers) = true
 
-abbrev pub knot_step : ℕ → State → Knot Ending → Result State CertError
-knot_step most s (AtTip ending) =
-    if is_allowed s.part.rule (AtTip ending) then next s (place_of_tree (s.left - 1)) (with_knot s.part (AtTip ending)) (s.left - 1) s.splits
+abbrev pub vertex_step : ℕ → State → Vertex Ending → Result State CertError
+vertex_step most s (AtTerminal ending) =
+    if is_allowed s.part.rule (AtTerminal ending) then next s (place_of_tree (s.left - 1)) (with_vertex s.part (AtTerminal ending)) (s.left - 1) s.splits
     else bad s
-knot_step most s (AtSplit numbers) =
+vertex_step most s (AtSplit numbers) =
     if nat_le most s.splits then Err TooManyNodes
-    else next s (place_of_tree (s.left - 1 + length numbers)) (with_knot s.part (AtSplit numbers)) (s.left - 1 + length numbers) (suc s.splits)
+    else next s (place_of_tree (s.left - 1 + length numbers)) (with_vertex s.part (AtSplit numbers)) (s.left - 1 + length numbers) (suc s.splits)
 
 -- nodes are named by the rule, and no leaf is dominated
 abbrev pub wants_dominated : Parts → Bool
-wants_dominated p = names_nodes p.rule && not (has_dominated_line p.knots)
+wants_dominated p = names_nodes p.rule && not (has_dominated_line p.vertices)
 
 abbrev pub end_step : State → Result State CertError
 end_step s =
@@ -83,8 +83,8 @@ step_at most s AtBlock (Block count) = next s AtInstruction (record s.part { blo
 step_at most s AtInstruction (Instruction text) = next s (place_of_instruction (s.left - 1)) (record s.part { block = s.part.block ++ text ∷ [] }) (s.left - 1) 0
 step_at most s AtTime (Time time) = next s AtBound (record s.part { time = time }) 0 0
 step_at most s AtBound (Bound bound) = next s AtOrder (record s.part { bound = bound }) 0 0
-step_at most s AtOrder (Order numbers) = next s AtTree (record s.part { numbers = numbers; knots = [] }) 1 0
-step_at most s AtTree (OfTree knot) = knot_step most s knot
+step_at most s AtOrder (Order numbers) = next s AtTree (record s.part { numbers = numbers; vertices = [] }) 1 0
+step_at most s AtTree (OfTree vertex) = vertex_step most s vertex
 step_at most s AtEnd End = end_step s
 step_at most s place line = bad s
 

@@ -30,7 +30,7 @@ impl Model for Claim {
 
     ghost Value = { Parts };
 
-    ghost view = { λ c. record { rule = c.rule; profile = c.profile.items; block = c.block.items; time = c.time; bound = c.bound; numbers = c.order.items; knots = c.tree } };
+    ghost view = { λ c. record { rule = c.rule; profile = c.profile.items; block = c.block.items; time = c.time; bound = c.bound; numbers = c.order.items; vertices = c.tree } };
 }
 
 /// A certificate: what it claims of a block under a profile, and a tree that shows it. It is one whole tree of at most
@@ -51,16 +51,16 @@ impl Model for Document {
 
     ghost Value = { Parts };
 
-    ghost view = { λ d. record { rule = d.rule; profile = d.profile.items; block = d.block.items; time = d.time; bound = d.bound; numbers = d.order.items; knots = d.tree } };
+    ghost view = { λ d. record { rule = d.rule; profile = d.profile.items; block = d.block.items; time = d.time; bound = d.bound; numbers = d.order.items; vertices = d.tree } };
 
-    ghost invariant = { λ d. AreWhole (record { rule = d.rule; profile = d.profile.items; block = d.block.items; time = d.time; bound = d.bound; numbers = d.order.items; knots = d.tree }) };
+    ghost invariant = { λ d. AreWhole (record { rule = d.rule; profile = d.profile.items; block = d.block.items; time = d.time; bound = d.bound; numbers = d.order.items; vertices = d.tree }) };
 }
 
 impl Document {
     ghost use Rattle.std.specs.Prelude.{◌≡◌, []};
     ghost use Rattle.std.specs.Option.{option_map};
     ghost use Rattle.s66_model.specs.NodeNames.{node_at};
-    ghost use Rattle.s66_cert.specs.DocumentParts.{AreWhole, document_of, knot_of};
+    ghost use Rattle.s66_cert.specs.DocumentParts.{AreWhole, document_of, vertex_of};
 
     /// The document that says this. Its numbers have to be in their ranges, its texts those of instructions, and the
     /// lines of its tree those of one whole tree of at most `SPLIT_LIMIT` splits. Its rule names nodes exactly where a leaf
@@ -138,7 +138,7 @@ impl Document {
 
     /// The lines of the tree.
     pub fn tree(&self) -> TreeLines<'_>
-        ensures value { result ≡ self.now.knots }
+        ensures value { result ≡ self.now.vertices }
         ensures whole { AreWhole self.now }
     {
         self.tree.lines()
@@ -148,7 +148,7 @@ impl Document {
     /// number that comes next. It is found by jumps over whole trees, one for each earlier sibling on the way.
     #[tactic(auto, using(crate::proofs::FewLines::some_lines))]
     pub fn node_at(&self, name: &[u8]) -> Option<TreeLine<'_>>
-        ensures { option_map knot_of result ≡ node_at [] (document_of self.now).tree name.now }
+        ensures { option_map vertex_of result ≡ node_at [] (document_of self.now).tree name.now }
     {
         self.tree.node_at(name)
     }

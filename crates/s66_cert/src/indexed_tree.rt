@@ -1,13 +1,13 @@
 ghost use Rattle.std.specs.Prelude.{◌≡◌, get_or};
-ghost use Rattle.s66_cert.specs.DocumentParts.{knot_of};
-ghost use Rattle.s66_cert.specs.NodePlaces.{end_behind, kid_count};
+ghost use Rattle.s66_cert.specs.DocumentParts.{vertex_of};
+ghost use Rattle.s66_cert.specs.NodePlaces.{end_behind, sibling_count};
 
 use crate::tree::{KeptLines, Tree, TreeLine, TreeLines};
 use std::marker::Model;
 
 /// How many trees follow a line as its children.
-fn kid_count(line: TreeLine<'_>) -> usize
-    ensures { result ≡ kid_count (knot_of line.entry) }
+fn sibling_count(line: TreeLine<'_>) -> usize
+    ensures { result ≡ sibling_count (vertex_of line.entry) }
 {
     match line {
         TreeLine::Split(numbers) => numbers.len(),
@@ -48,11 +48,11 @@ pub(crate) struct IndexedTree {
 
 impl Model for IndexedTree {
     ghost use Rattle.std.specs.Prelude.{List};
-    ghost use Rattle.s66_model.specs.Tree.{Knot};
+    ghost use Rattle.s66_model.specs.Tree.{Vertex};
     ghost use Rattle.s66_model.specs.DominatedLeaves.{Ending};
     ghost use Rattle.s66_cert.specs.NodePlaces.{AreEnds};
 
-    ghost Value = { List (Knot Ending) };
+    ghost Value = { List (Vertex Ending) };
 
     ghost view = { λ t. t.lines };
 
@@ -63,7 +63,7 @@ impl IndexedTree {
     ghost use Rattle.std.specs.Prelude.{◌≡◌, ◌<◌, ◌≤◌, ◌^◌, [], length};
     ghost use Rattle.std.specs.Option.{option_map};
     ghost use Rattle.s66_model.specs.NodeNames.{node_at};
-    ghost use Rattle.s66_cert.specs.DocumentParts.{knot_of, tree_of};
+    ghost use Rattle.s66_cert.specs.DocumentParts.{vertex_of, tree_of};
     ghost use Rattle.s66_cert.specs.NodePlaces.{IsChildAt};
 
     /// The same lines, in one pass over them; nothing is allocated.
@@ -75,7 +75,7 @@ impl IndexedTree {
         let mut place = lines.len();
         while place > 0 {
             place -= 1;
-            let count = kid_count(lines.at(place));
+            let count = sibling_count(lines.at(place));
             ends[place] = end_behind(ends.as_slice(), count, place + 1) as u32;
         }
         IndexedTree { lines, ends }
@@ -96,15 +96,15 @@ impl IndexedTree {
         let TreeLine::Split(numbers) = self.lines.at(place) else {
             return None;
         };
-        let mut kid = place + 1;
+        let mut sibling = place + 1;
         for last in numbers {
-            if kid >= self.lines.len() {
+            if sibling >= self.lines.len() {
                 return None;
             }
             if *last == number {
-                return Some(kid);
+                return Some(sibling);
             }
-            kid = self.ends[kid] as usize;
+            sibling = self.ends[sibling] as usize;
         }
         None
     }
@@ -112,7 +112,7 @@ impl IndexedTree {
     /// The line of the node of this name.
     pub(crate) fn node_at(&self, name: &[u8]) -> Option<TreeLine<'_>>
         requires { 1 ≤ length self.now }
-        ensures { option_map knot_of result ≡ node_at [] (tree_of self.now) name.now }
+        ensures { option_map vertex_of result ≡ node_at [] (tree_of self.now) name.now }
     {
         let mut place = 0;
         for number in name {

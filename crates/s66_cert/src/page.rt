@@ -2,10 +2,10 @@ ghost use Rattle.std.specs.Prelude.{◌≡◌, ◌+◌, ◌-◌, ◌^◌, ◌<�
 ghost use Rattle.s66_isa.specs.Lists.{after_blanks};
 ghost use Rattle.s66_isa.specs.declared.limits.TheConstants.{BLOCK_LIMIT};
 ghost use Rattle.s66_line.specs.declared.limits.TheConstants.{TEXT_LIMIT};
-ghost use Rattle.s66_model.specs.Tree.{AtTip, Knot};
+ghost use Rattle.s66_model.specs.Tree.{AtTerminal, Vertex};
 ghost use Rattle.s66_cert.specs.Document.{kind_name, instruction_lines, tree_lines};
 ghost use Rattle.s66_cert.specs.Pages.{Printed};
-ghost use Rattle.s66_cert.specs.DocumentParts.{knot_of, IsShort};
+ghost use Rattle.s66_cert.specs.DocumentParts.{vertex_of, IsShort};
 
 use crate::tree::TreeLine;
 use arrayvec::ArrayVec;
@@ -132,9 +132,9 @@ impl Page {
 
     /// Prints a line of a tree.
     pub(crate) fn tree_line(&mut self, line: TreeLine<'_>)
-        requires short { IsShort (knot_of line) }
+        requires short { IsShort (vertex_of line) }
         requires room { length self.old + LINE_ROOM ≤ PAGE_SIZE }
-        ensures { self.new ≡ self.old ++ tree_lines (knot_of line.entry ∷ []) }
+        ensures { self.new ≡ self.old ++ tree_lines (vertex_of line.entry ∷ []) }
     {
         match line {
             TreeLine::Split(numbers) => self.numbered_line(b"S", numbers),

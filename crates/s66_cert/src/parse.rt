@@ -3,7 +3,7 @@ ghost use Rattle.std.specs.Str.{bytes_eq};
 ghost use Rattle.std.specs.Option.{option_map};
 ghost use Rattle.s66_isa.specs.declared.limits.TheConstants.{BLOCK_LIMIT};
 ghost use Rattle.s66_model.specs.Leaves.{Chain, Load};
-ghost use Rattle.s66_model.specs.Tree.{AtTip, AtSplit};
+ghost use Rattle.s66_model.specs.Tree.{AtTerminal, AtSplit};
 ghost use Rattle.s66_model.specs.DominatedLeaves.{Bounding, Dominated};
 ghost use Rattle.s66_cert.specs.Lines.{line_of, block_numbers, profile_in, one_number, instruction_in, kind_in, header_in, alone, OfTree};
 ghost use Rattle.s66_cert.specs.Lines as line;
@@ -123,13 +123,13 @@ fn split_line(rest: Option<&[u8]>) -> Option<LineOf<'_>>
 }
 
 fn chain_line(rest: Option<&[u8]>) -> Option<LineOf<'_>>
-    ensures { option_map said result ≡ option_map (λ ns. OfTree (AtTip (Bounding (Chain ns)))) (block_numbers BLOCK_LIMIT (option_map (λ r. r.now) rest.entry)) }
+    ensures { option_map said result ≡ option_map (λ ns. OfTree (AtTerminal (Bounding (Chain ns)))) (block_numbers BLOCK_LIMIT (option_map (λ r. r.now) rest.entry)) }
 {
     Some(LineOf::Chain(block_numbers(rest)?))
 }
 
 fn dominated_line(rest: Option<&[u8]>) -> Option<LineOf<'_>>
-    ensures { option_map said result ≡ option_map (λ ns. OfTree (AtTip (Dominated ns))) (block_numbers BLOCK_LIMIT (option_map (λ r. r.now) rest.entry)) }
+    ensures { option_map said result ≡ option_map (λ ns. OfTree (AtTerminal (Dominated ns))) (block_numbers BLOCK_LIMIT (option_map (λ r. r.now) rest.entry)) }
 {
     Some(LineOf::Dominated(block_numbers(rest)?))
 }
@@ -147,7 +147,7 @@ fn profile_line(rest: Option<&[u8]>) -> Option<LineOf<'_>>
 }
 
 fn load_line(rest: Option<&[u8]>) -> Option<LineOf<'_>>
-    ensures { option_map said result ≡ option_map (λ kind. OfTree (AtTip (Bounding (Load kind)))) (kind_in (option_map (λ r. r.now) rest.entry)) }
+    ensures { option_map said result ≡ option_map (λ kind. OfTree (AtTerminal (Bounding (Load kind)))) (kind_in (option_map (λ r. r.now) rest.entry)) }
 {
     Some(LineOf::Load(kind_in(rest)?))
 }

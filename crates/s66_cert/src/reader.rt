@@ -2,8 +2,8 @@ ghost use Rattle.std.specs.Prelude.{suc, false, ◌≡◌, ◌≤◌, ◌<◌, �
 ghost use Rattle.s66_isa.specs.declared.limits.TheConstants.{BLOCK_LIMIT};
 ghost use Rattle.s66_cert.specs.Document.{names_nodes};
 ghost use Rattle.s66_cert.specs.Fine.{IsFine};
-ghost use Rattle.s66_cert.specs.Lines.{IsInRange, IsKnot, Header, Profile, Block, Instruction, Time, Bound, Order, OfTree, End};
-ghost use Rattle.s66_cert.specs.DocumentParts.{AreWhole, knot_of};
+ghost use Rattle.s66_cert.specs.Lines.{IsInRange, IsVertex, Header, Profile, Block, Instruction, Time, Bound, Order, OfTree, End};
+ghost use Rattle.s66_cert.specs.DocumentParts.{AreWhole, vertex_of};
 ghost use Rattle.s66_cert.specs.DocumentReader.{state, Steps, StepsEnd};
 ghost use Rattle.s66_cert.specs.Reading.{nothing, start, is_allowed, wants_dominated, step_at, step, steps, whole_lines, last_bytes};
 ghost use Rattle.s66_cert.specs.Said.{said};
@@ -52,7 +52,7 @@ fn names_nodes(rule: Rule) -> bool
 
 /// Whether the line may come by this rule.
 fn is_allowed(rule: Rule, line: TreeLine<'_>) -> bool
-    ensures { result ≡ is_allowed rule (knot_of line.entry) }
+    ensures { result ≡ is_allowed rule (vertex_of line.entry) }
 {
     match line {
         TreeLine::Dominated(_) => names_nodes(rule),
@@ -132,27 +132,27 @@ impl Reader {
     }
 
     /// Reads a line of the tree where one comes.
-    #[tactic(auto, using(crate::proofs::Places::refused_knot))]
-    fn take_knot(&mut self, knot: TreeLine<'_>) -> Result<(), CertError>
+    #[tactic(auto, using(crate::proofs::Places::refused_vertex))]
+    fn take_vertex(&mut self, vertex: TreeLine<'_>) -> Result<(), CertError>
         requires lines { self.old.lines < 2 ^ 64 - 1 }
         requires some { 1 ≤ self.old.left }
         requires few { self.old.left ≤ 2 ^ 32 }
-        requires numbers { IsKnot BLOCK_LIMIT (knot_of knot) }
-        ensures { Steps (state self.new) result (step_at SPLIT_LIMIT (state self.old) AtTree (OfTree (knot_of knot.entry))) }
+        requires numbers { IsVertex BLOCK_LIMIT (vertex_of vertex) }
+        ensures { Steps (state self.new) result (step_at SPLIT_LIMIT (state self.old) AtTree (OfTree (vertex_of vertex.entry))) }
     {
-        if !is_allowed(self.claim.rule, knot) {
+        if !is_allowed(self.claim.rule, vertex) {
             return Err(self.bad_line());
         }
         let mut left = self.left - 1;
         let mut splits = self.splits;
-        if let TreeLine::Split(numbers) = knot {
+        if let TreeLine::Split(numbers) = vertex {
             if splits >= SPLIT_LIMIT {
                 return Err(CertError::TooManyNodes);
             }
             splits += 1;
             left += numbers.len() as u64;
         }
-        self.claim.tree.push(knot)?;
+        self.claim.tree.push(vertex)?;
         let place = if left == 0 {
             Place::AtEnd
         } else {
@@ -286,15 +286,15 @@ impl Reader {
         }
     }
 
-    #[tactic(auto, using(crate::proofs::Places::other_knot, crate::proofs::Places::some_tree, crate::proofs::Places::few_trees))]
-    fn knot(&mut self, knot: TreeLine<'_>) -> Result<(), CertError>
+    #[tactic(auto, using(crate::proofs::Places::other_vertex, crate::proofs::Places::some_tree, crate::proofs::Places::few_trees))]
+    fn vertex(&mut self, vertex: TreeLine<'_>) -> Result<(), CertError>
         requires lines { self.old.lines < 2 ^ 64 - 1 }
         requires fine { IsFine SPLIT_LIMIT (state self.old) }
-        requires numbers { IsKnot BLOCK_LIMIT (knot_of knot) }
-        ensures { Steps (state self.new) result (step_at SPLIT_LIMIT (state self.old) self.old.place (OfTree (knot_of knot.entry))) }
+        requires numbers { IsVertex BLOCK_LIMIT (vertex_of vertex) }
+        ensures { Steps (state self.new) result (step_at SPLIT_LIMIT (state self.old) self.old.place (OfTree (vertex_of vertex.entry))) }
     {
         match self.place {
-            Place::AtTree => self.take_knot(knot),
+            Place::AtTree => self.take_vertex(vertex),
             _ => Err(self.bad_line()),
         }
     }
@@ -331,12 +331,12 @@ impl Reader {
             LineOf::Time(time) => self.time(time),
             LineOf::Bound(bound) => self.bound(bound),
             LineOf::Order(numbers) => self.order(alloc, numbers),
-            LineOf::Split(numbers) => self.knot(TreeLine::Split(numbers.as_slice())),
-            LineOf::Whole => self.knot(TreeLine::Whole),
-            LineOf::Chain(numbers) => self.knot(TreeLine::Chain(numbers.as_slice())),
-            LineOf::Dominated(numbers) => self.knot(TreeLine::Dominated(numbers.as_slice())),
-            LineOf::Load(kind) => self.knot(TreeLine::Load(kind)),
-            LineOf::Parcels => self.knot(TreeLine::Parcels),
+            LineOf::Split(numbers) => self.vertex(TreeLine::Split(numbers.as_slice())),
+            LineOf::Whole => self.vertex(TreeLine::Whole),
+            LineOf::Chain(numbers) => self.vertex(TreeLine::Chain(numbers.as_slice())),
+            LineOf::Dominated(numbers) => self.vertex(TreeLine::Dominated(numbers.as_slice())),
+            LineOf::Load(kind) => self.vertex(TreeLine::Load(kind)),
+            LineOf::Parcels => self.vertex(TreeLine::Parcels),
             LineOf::End => self.end(alloc),
         }
     }

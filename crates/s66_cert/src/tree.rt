@@ -1,7 +1,7 @@
 ghost use Rattle.std.specs.Prelude.{◌≡◌, ◌<◌, ◌+◌, ◌∷◌, drop, length};
 ghost use Rattle.s66_isa.specs.Lists.{some_of};
-ghost use Rattle.s66_cert.specs.DocumentParts.{knot_of};
-ghost use Rattle.s66_cert.specs.Marks.{is_dominated, knots_of, AreKept};
+ghost use Rattle.s66_cert.specs.DocumentParts.{vertex_of};
+ghost use Rattle.s66_cert.specs.Marks.{is_dominated, vertices_of, AreKept};
 
 use s66_isa::Kind;
 use std::alloc::{AllocError, Global};
@@ -37,7 +37,7 @@ pub(crate) enum Mark {
 
 impl Mark {
     ghost use Rattle.std.specs.Prelude.{◌≡◌, length};
-    ghost use Rattle.s66_cert.specs.DocumentParts.{knot_of};
+    ghost use Rattle.s66_cert.specs.DocumentParts.{vertex_of};
     ghost use Rattle.s66_cert.specs.Marks.{number_count, is_dominated, marked};
 
     /// How many numbers its line has.
@@ -59,7 +59,7 @@ impl Mark {
     /// Its line with these numbers.
     fn with(self, numbers: &[u8]) -> TreeLine<'_>
         requires { number_count self ≡ length numbers.now }
-        ensures { knot_of result ≡ marked self numbers.now }
+        ensures { vertex_of result ≡ marked self numbers.now }
     {
         match self {
             Mark::Split(_) => TreeLine::Split(numbers),
@@ -89,7 +89,7 @@ fn some_dominated(marks: &[Mark]) -> bool
 fn line_at<'a>(marks: &[Mark], numbers: &'a [u8], begins: &[usize], place: usize) -> TreeLine<'a>
     requires kept { AreKept marks.now numbers.now begins.now }
     requires within { place < length marks.now }
-    ensures { drop place (knots_of marks.now numbers.now) ≡ knot_of result ∷ drop (place + 1) (knots_of marks.now numbers.now) }
+    ensures { drop place (vertices_of marks.now numbers.now) ≡ vertex_of result ∷ drop (place + 1) (vertices_of marks.now numbers.now) }
 {
     let mark = marks[place];
     let begin = begins[place];
@@ -109,13 +109,13 @@ pub(crate) struct KeptLines {
 
 impl Model for KeptLines {
     ghost use Rattle.std.specs.Prelude.{List};
-    ghost use Rattle.s66_model.specs.Tree.{Knot};
+    ghost use Rattle.s66_model.specs.Tree.{Vertex};
     ghost use Rattle.s66_model.specs.DominatedLeaves.{Ending};
-    ghost use Rattle.s66_cert.specs.Marks.{knots_of, AreKept};
+    ghost use Rattle.s66_cert.specs.Marks.{vertices_of, AreKept};
 
-    ghost Value = { List (Knot Ending) };
+    ghost Value = { List (Vertex Ending) };
 
-    ghost view = { λ t. knots_of t.marks.items t.numbers.items };
+    ghost view = { λ t. vertices_of t.marks.items t.numbers.items };
 
     ghost invariant = { λ t. AreKept t.marks.items t.numbers.items t.begins.items };
 }
@@ -123,7 +123,7 @@ impl Model for KeptLines {
 impl KeptLines {
     ghost use Rattle.std.specs.Prelude.{◌≡◌, ◌<◌, ◌+◌, ◌++◌, [], ◌∷◌, drop, length, OnOk, OnErr};
     ghost use Rattle.s66_cert.specs.Document.{has_dominated_line};
-    ghost use Rattle.s66_cert.specs.DocumentParts.{knot_of, IsShort};
+    ghost use Rattle.s66_cert.specs.DocumentParts.{vertex_of, IsShort};
     ghost use Rattle.s66_cert.specs.Marks.{number_count, marked};
 
     /// No lines.
@@ -154,8 +154,8 @@ impl KeptLines {
 
     /// Appends a line of at most `BLOCK_LIMIT` numbers. Where memory is refused the lines are as before.
     fn push(&mut self, line: TreeLine<'_>) -> Result<(), AllocError>
-        requires { IsShort (knot_of line) }
-        ensures pushed { OnOk result (self.new ≡ self.old ++ knot_of line.entry ∷ []) }
+        requires { IsShort (vertex_of line) }
+        ensures pushed { OnOk result (self.new ≡ self.old ++ vertex_of line.entry ∷ []) }
         ensures same { OnErr result (self.new ≡ self.old) }
     {
         match line {
@@ -182,7 +182,7 @@ impl KeptLines {
     #[tactic(auto, using(crate::proofs::Marks::line_count))]
     pub(crate) fn at(&self, place: usize) -> TreeLine<'_>
         requires { place < length self.now }
-        ensures { drop place self.now ≡ knot_of result ∷ drop (place + 1) self.now }
+        ensures { drop place self.now ≡ vertex_of result ∷ drop (place + 1) self.now }
     {
         line_at(
             self.marks.as_slice(),
@@ -221,10 +221,10 @@ pub struct Tree {
 
 impl Model for Tree {
     ghost use Rattle.std.specs.Prelude.{◌≡◌, List, length};
-    ghost use Rattle.s66_model.specs.Tree.{Knot};
+    ghost use Rattle.s66_model.specs.Tree.{Vertex};
     ghost use Rattle.s66_model.specs.DominatedLeaves.{Ending};
 
-    ghost Value = { List (Knot Ending) };
+    ghost Value = { List (Vertex Ending) };
 
     ghost view = { λ t. t.lines };
 
@@ -234,7 +234,7 @@ impl Model for Tree {
 impl Tree {
     ghost use Rattle.std.specs.Prelude.{◌≡◌, ◌++◌, [], ◌∷◌, length, OnOk, OnErr};
     ghost use Rattle.s66_cert.specs.Document.{has_dominated_line};
-    ghost use Rattle.s66_cert.specs.DocumentParts.{knot_of, IsShort};
+    ghost use Rattle.s66_cert.specs.DocumentParts.{vertex_of, IsShort};
 
     /// No lines.
     pub fn new(alloc: Global) -> Tree
@@ -248,8 +248,8 @@ impl Tree {
 
     /// Appends a line of at most `BLOCK_LIMIT` numbers. Where memory is refused the lines are as before.
     pub fn push(&mut self, line: TreeLine<'_>) -> Result<(), AllocError>
-        requires { IsShort (knot_of line) }
-        ensures pushed { OnOk result (self.new ≡ self.old ++ knot_of line.entry ∷ []) }
+        requires { IsShort (vertex_of line) }
+        ensures pushed { OnOk result (self.new ≡ self.old ++ vertex_of line.entry ∷ []) }
         ensures same { OnErr result (self.new ≡ self.old) }
     {
         self.room.reserve(1)?;
@@ -290,13 +290,13 @@ pub struct TreeLines<'a> {
 
 impl<'a> Model for TreeLines<'a> {
     ghost use Rattle.std.specs.Prelude.{List};
-    ghost use Rattle.s66_model.specs.Tree.{Knot};
+    ghost use Rattle.s66_model.specs.Tree.{Vertex};
     ghost use Rattle.s66_model.specs.DominatedLeaves.{Ending};
-    ghost use Rattle.s66_cert.specs.Marks.{knots_of, AreCounted};
+    ghost use Rattle.s66_cert.specs.Marks.{vertices_of, AreCounted};
 
-    ghost Value = { List (Knot Ending) };
+    ghost Value = { List (Vertex Ending) };
 
-    ghost view = { λ t. knots_of t.marks.now t.numbers.now };
+    ghost view = { λ t. vertices_of t.marks.now t.numbers.now };
 
     ghost invariant = { λ t. AreCounted t.marks.now t.numbers.now };
 }

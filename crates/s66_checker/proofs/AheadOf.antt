@@ -48,12 +48,12 @@ run-within block prefix (m ∷ ns) n goes is =
     ]
 
 -- marks tell whether two beginnings are of one set
-pub set-told : (block : List Instr) (own other : Marks) (ns ms : List ℕ) (told : Bool) → length block ≤ BLOCK_LIMIT → IsBeginning block ns → IsBeginning block ms →
+pub set-stated : (block : List Instr) (own other : Marks) (ns ms : List ℕ) (stated : Bool) → length block ≤ BLOCK_LIMIT → IsBeginning block ns → IsBeginning block ms →
     ((m : ℕ) → 1 ≤ m → m ≤ BLOCK_LIMIT → is_marked own m ≡ has m ns) → ((m : ℕ) → 1 ≤ m → m ≤ BLOCK_LIMIT → is_marked other m ≡ has m ms) →
-    IsTrue told ↔ ((m : ℕ) → 1 ≤ m → m ≤ BLOCK_LIMIT → is_marked own m ≡ is_marked other m) → told ≡ is_same_set ns ms
-set-told block own other ns ms told few begins_ns begins_ms marked_ns marked_ms is =
-    same_from_decides told (is_same_set ns ms)
-    (Decides-like told
+    IsTrue stated ↔ ((m : ℕ) → 1 ≤ m → m ≤ BLOCK_LIMIT → is_marked own m ≡ is_marked other m) → stated ≡ is_same_set ns ms
+set-stated block own other ns ms stated few begins_ns begins_ms marked_ns marked_ms is =
+    same_from_decides stated (is_same_set ns ms)
+    (Decides-like stated
     (λ (same : (m : ℕ) → 1 ≤ m → m ≤ BLOCK_LIMIT → is_marked own m ≡ is_marked other m) n.
     let within = λ (low : 1 ≤ n) (high : n ≤ length block). (let last : n ≤ BLOCK_LIMIT = omega (arith, high, few) in sym (marked_ns n low last) ∙ same n low last ∙ marked_ms n low last) in
     has-both ns ms n

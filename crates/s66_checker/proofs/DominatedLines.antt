@@ -10,7 +10,7 @@ use Rattle.s66_model.specs.Digits.{HaveDigits}
 use Rattle.s66_model.specs.Dominance.{IsSameSet}
 use Rattle.s66_model.specs.NodeNames.{node_at}
 use Rattle.s66_model.specs.DominatedLeaves.{Ending, Bounding, Dominated, IsEarlier, may_be_named, DominatesByRule, EndingShows}
-use Rattle.s66_model.specs.Tree.{AtTip}
+use Rattle.s66_model.specs.Tree.{AtTerminal}
 use Rattle.s66_cert.specs.Document.{Document}
 use Rattle.s66_checker.specs.declared.verdict.Reason.TheVariants as fault
 use Rattle.s66_checker.specs.Dominating.{dominates_by}
@@ -79,7 +79,7 @@ name-parts : (d : Document) (at name : List ℕ) →
 name-parts d at name =
     Decides-and _ _ (Decides-and _ _ (Decides-and _ _ ((λ h. h), λ h. h) ((λ h. h), λ h. h)) (goes_on-Decides (problem_of d).block [] name)) (same_set-Decides name at)
 
-pub ending-shows : (d : Document) (at : List ℕ) (ending : Ending) → IsBeginning (problem_of d).block at → (line_fault d at (AtTip ending) ≡ None) ↔ EndingShows d.rule (problem_of d) d.bound [] d.tree at ending
+pub ending-shows : (d : Document) (at : List ℕ) (ending : Ending) → IsBeginning (problem_of d).block at → (line_fault d at (AtTerminal ending) ≡ None) ↔ EndingShows d.rule (problem_of d) d.bound [] d.tree at ending
 ending-shows d at (Bounding leaf) begins = leaf-shows (problem_of d) d.bound at leaf begins
 ending-shows d at (Dominated name) begins =
     let b : Problem = problem_of d in

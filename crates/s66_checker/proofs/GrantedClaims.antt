@@ -5,16 +5,16 @@ use Rattle.std.specs.Prelude.{nat_lt, ◌==◌}
 use Rattle.s66_isa.specs.Lists.{Among}
 use Rattle.s66_model.specs.Timing.{Problem, total_of}
 use Rattle.s66_model.specs.LegalOrder.{is_ready, ready, IsBeginning}
-use Rattle.s66_model.specs.Tree.{Tree, Alone, Parted, Kids, NoMore, Unsplit, Split, Knot, KidsHold, TreeHolds}
+use Rattle.s66_model.specs.Tree.{Tree, Alone, Parted, Siblings, NoMore, Unsplit, Split, Vertex, SiblingsHold, TreeHolds}
 use Rattle.s66_model.specs.DominatedLeaves.{Ending, EndingShows}
 use Rattle.s66_model.proofs.Remaining.{ready-among, step-begins}
-use Rattle.s66_cert.specs.Document.{Document, KidsFit, TreeFits}
+use Rattle.s66_cert.specs.Document.{Document, SiblingsFit, TreeFits}
 use Rattle.s66_checker.specs.declared.verdict.Verdict.{Verdict}
 use Rattle.s66_checker.specs.declared.verdict.Verdict.TheVariants.{Yes, No}
 use Rattle.s66_checker.specs.declared.verdict.Reason.{Reason}
 use Rattle.s66_checker.specs.declared.verdict.Reason.TheVariants as fault
 use Rattle.s66_checker.specs.TrueClaims.{IsTrueClaim}
-use Rattle.s66_checker.specs.Verdict.{problem_of, is_legal_order, kids_placed, tree_placed, line_fault, unless, lines_verdict, time_line, bound_line, order_line, tree_line, verdict}
+use Rattle.s66_checker.specs.Verdict.{problem_of, is_legal_order, siblings_placed, tree_placed, line_fault, unless, lines_verdict, time_line, bound_line, order_line, tree_line, verdict}
 use Rattle.s66_checker.proofs.Faultless.{passed, is_legal_order-Decides, split-shows, ready-short}
 use Rattle.s66_checker.proofs.DominatedLines.{ending-shows}
 
@@ -36,34 +36,34 @@ module _ (d : Document) where
   Shown at ending = EndingShows d.rule (problem_of d) d.bound [] d.tree at ending
 
   -- none of these lines has a fault
-  abbrev Pass : List (List ℕ × Knot Ending) → Type 0
+  abbrev Pass : List (List ℕ × Vertex Ending) → Type 0
   Pass [] = Unit {0}
   Pass (at ∷ later) = (line_fault d at.0 at.1 ≡ None) × Pass later
 
-  pass-append : (lines later : List (List ℕ × Knot Ending)) → Pass (lines ++ later) ↔ (Pass lines × Pass later)
+  pass-append : (lines later : List (List ℕ × Vertex Ending)) → Pass (lines ++ later) ↔ (Pass lines × Pass later)
   pass-append [] later = ((λ h. (tt, h)), λ h. h.1)
   pass-append (at ∷ lines) later =
       let rest = pass-append lines later in
       ((λ h. (let both = rest.0 h.1 in ((h.0, both.0), both.1))), λ h. (h.0.0, rest.1 (h.0.1, h.1)))
 
-  kids-show : (limit : ℕ) (kids : Kids Ending) (prefix ns : List ℕ) → KidsFit limit ns kids → IsBeginning b.block prefix → AreReady b prefix ns →
-      Pass (kids_placed prefix ns kids) ↔ KidsHold b.block Shown prefix ns kids
+  siblings-show : (limit : ℕ) (siblings : Siblings Ending) (prefix ns : List ℕ) → SiblingsFit limit ns siblings → IsBeginning b.block prefix → AreReady b prefix ns →
+      Pass (siblings_placed prefix ns siblings) ↔ SiblingsHold b.block Shown prefix ns siblings
   unfolding AreReady
-  kids-show limit NoMore prefix [] fit begins are = ((λ h. tt), λ h. tt)
-  kids-show limit NoMore prefix (n ∷ ns) fit begins are = absurd fit
-  kids-show limit (Unsplit ending kids) prefix [] fit begins are = absurd fit
-  kids-show limit (Unsplit ending kids) prefix (n ∷ ns) fit begins are =
+  siblings-show limit NoMore prefix [] fit begins are = ((λ h. tt), λ h. tt)
+  siblings-show limit NoMore prefix (n ∷ ns) fit begins are = absurd fit
+  siblings-show limit (Unsplit ending siblings) prefix [] fit begins are = absurd fit
+  siblings-show limit (Unsplit ending siblings) prefix (n ∷ ns) fit begins are =
       let here = ending-shows d (prefix ++ n ∷ []) ending (step-begins b.block prefix n begins (are n (inl refl))) in
-      let later = kids-show limit kids prefix ns fit.1 begins (λ m among. are m (inr among)) in
+      let later = siblings-show limit siblings prefix ns fit.1 begins (λ m among. are m (inr among)) in
       ((λ h. (here.0 h.0, later.0 h.1)), λ h. (here.1 h.0, later.1 h.1))
-  kids-show limit (Split numbers sub kids) prefix [] fit begins are = absurd fit
-  kids-show limit (Split numbers sub kids) prefix (n ∷ ns) fit begins are =
+  siblings-show limit (Split numbers sub siblings) prefix [] fit begins are = absurd fit
+  siblings-show limit (Split numbers sub siblings) prefix (n ∷ ns) fit begins are =
       let child = prefix ++ n ∷ [] in
       let begins2 : IsBeginning b.block child = step-begins b.block prefix n begins (are n (inl refl)) in
       let here = split-shows d child numbers in
-      let below = λ (e : numbers ≡ ready b.block child). kids-show limit sub child numbers fit.1 begins2 (are-ready b child numbers e) in
-      let later = kids-show limit kids prefix ns fit.2 begins (λ m among. are m (inr among)) in
-      let parts = pass-append (kids_placed child numbers sub) (kids_placed prefix ns kids) in (
+      let below = λ (e : numbers ≡ ready b.block child). siblings-show limit sub child numbers fit.1 begins2 (are-ready b child numbers e) in
+      let later = siblings-show limit siblings prefix ns fit.2 begins (λ m among. are m (inr among)) in
+      let parts = pass-append (siblings_placed child numbers sub) (siblings_placed prefix ns siblings) in (
         (λ h. (let e = here.0 h.0 in
             let both = parts.0 h.1 in
             (ready-short b child numbers begins2 e fit.0.0, e, (below e).0 both.0, later.0 both.1))),
@@ -74,9 +74,9 @@ module _ (d : Document) where
   tree-shows limit (Alone ending) fit =
       let here = ending-shows d [] ending tt in
       ((λ h. here.0 h.0), λ h. (here.1 h, tt))
-  tree-shows limit (Parted numbers kids) fit =
+  tree-shows limit (Parted numbers siblings) fit =
       let here = split-shows d [] numbers in
-      let below = λ (e : numbers ≡ ready b.block []). kids-show limit kids [] numbers fit.1 tt (are-ready b [] numbers e) in (
+      let below = λ (e : numbers ≡ ready b.block []). siblings-show limit siblings [] numbers fit.1 tt (are-ready b [] numbers e) in (
         (λ h. (let e = here.0 h.0 in (ready-short b [] numbers tt e fit.0.0, e, (below e).0 h.1))),
         λ h. (here.1 h.1, (below h.1).1 h.2),
       )
@@ -87,7 +87,7 @@ unless-yes : (line : ℕ) (found : Option Reason) (later : Verdict) (time bound 
 unless-yes line None later time bound = ((λ h. (refl, h)), λ h. h.1)
 unless-yes line (Some reason) later time bound = ((λ h. absurd (cc)), λ h. absurd (cc))
 
-lines-yes : (d : Document) (lines : List (List ℕ × Knot Ending)) (line time bound : ℕ) → (lines_verdict d line lines ≡ Yes time bound) ↔ (Pass d lines × (time ≡ d.time) × (bound ≡ d.bound))
+lines-yes : (d : Document) (lines : List (List ℕ × Vertex Ending)) (line time bound : ℕ) → (lines_verdict d line lines ≡ Yes time bound) ↔ (Pass d lines × (time ≡ d.time) × (bound ≡ d.bound))
 lines-yes d [] line time bound = ((λ h. (tt, (cc), (cc))), λ h. (cc))
 lines-yes d (at ∷ lines) line time bound =
     let here = unless-yes line (line_fault d at.0 at.1) (lines_verdict d (suc line) lines) time bound in
@@ -106,13 +106,13 @@ verdict-yes limit d time bound fit =
     let order = passed (not legal) (No (order_line d) fault.Order) after_order (Yes time bound) (λ h. (cc)) in
     let total = passed (not times) (No (time_line d) fault.Time) after_time (Yes time bound) (λ h. (cc)) in
     let within = passed high (No (bound_line d) fault.Bound) lines (Yes time bound) (λ h. (cc)) in
-    let told = lines-yes d (tree_placed [] d.tree) (tree_line d) time bound in
+    let stated = lines-yes d (tree_placed [] d.tree) (tree_line d) time bound in
     let shows = tree-shows d limit d.tree fit in
     let is_legal = is_legal_order-Decides b.block d.numbers in (
       (λ h. (let one = order.0 h in
           let two = total.0 one.1 in
           let three = within.0 two.1 in
-          let four = told.0 three.1 in (
+          let four = stated.0 three.1 in (
             four.1,
             four.2,
             record {
@@ -129,7 +129,7 @@ verdict-yes limit d time bound fit =
               not_from_true times (eq-eqb (total_of b d.numbers) d.time claim.time),
               within.1 (
                 le-ltb d.time d.bound claim.bound,
-                told.1 (shows.1 claim.tree, h.0, h.1),
+                stated.1 (shows.1 claim.tree, h.0, h.1),
               ),
             ),
           )),

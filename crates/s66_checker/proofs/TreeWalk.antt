@@ -6,7 +6,7 @@ use Rattle.s66_isa.specs.Lists.{Among}
 use Rattle.s66_model.specs.Timing.{Problem}
 use Rattle.s66_model.specs.LegalOrder.{is_ready, ready}
 use Rattle.s66_model.specs.Later.{IsNextReady, children, later}
-use Rattle.s66_model.specs.Tree.{Knot, AtTip, AtSplit}
+use Rattle.s66_model.specs.Tree.{Vertex, AtTerminal, AtSplit}
 use Rattle.s66_model.specs.DominatedLeaves.{Ending}
 use Rattle.s66_model.proofs.Later.{replaced, dropped, split-first}
 use Rattle.s66_model.proofs.Remaining.{ready-among}
@@ -41,7 +41,7 @@ first-of : (ns : List ℕ) (n : ℕ) → Some n ≡ slice_get ns 0 → (rest : L
 first-of [] n h = absurd (cc)
 first-of (m ∷ ns) n h = (ns, (cc))
 
-module _ (block : List Instr) (prefix : List ℕ) (knot : Knot Ending) (numbers : List ℕ) (is : knot ≡ AtSplit numbers) (has : HasReady block prefix knot) where
+module _ (block : List Instr) (prefix : List ℕ) (vertex : Vertex Ending) (numbers : List ℕ) (is : vertex ≡ AtSplit numbers) (has : HasReady block prefix vertex) where
   ready-numbers : numbers ≡ ready block prefix
   ready-numbers = subst (λ k. HasReady block prefix k) is has
 
@@ -52,56 +52,56 @@ module _ (block : List Instr) (prefix : List ℕ) (knot : Knot Ending) (numbers 
       ready-among block prefix n (subst (λ ns. Among n ns) (sym cut ∙ ready-numbers) (inl refl))
 
   -- and stands in hand
-  pub first-taken : (n : ℕ) → Some n ≡ slice_get numbers 0 → (prefix ++ n ∷ []) ∷ later block [] (prefix ++ n ∷ []) ≡ after_line block prefix knot
+  pub first-taken : (n : ℕ) → Some n ≡ slice_get numbers 0 → (prefix ++ n ∷ []) ∷ later block [] (prefix ++ n ∷ []) ≡ after_line block prefix vertex
   first-taken n first =
       let (more, cut) = first-of numbers n first in
       split-first block prefix n more (sym ready-numbers ∙ cut) ∙ ap (λ ns. children prefix ns ++ later block [] prefix) (sym cut) ∙ sym (ap (after_line block prefix) is)
 
 -- FROM LINE TO LINE
 
-module _ (d : Document) (number : ℕ) (at : Checked) (same : at.problem ≡ problem_of d) (lines knots : List (Knot Ending)) (knot : Knot Ending) (first : lines ≡ knot ∷ knots) (found : Option Reason) (told : found ≡ line_fault d at.numbers knot) where
+module _ (d : Document) (number : ℕ) (at : Checked) (same : at.problem ≡ problem_of d) (lines vertices : List (Vertex Ending)) (vertex : Vertex Ending) (first : lines ≡ vertex ∷ vertices) (found : Option Reason) (stated : found ≡ line_fault d at.numbers vertex) where
   -- a fault ends the walk
   pub line-refused : (reason : Reason) → found ≡ Some reason → No number reason ≡ lines_verdict d number (placed lines (coming (problem_of d).block true at.numbers))
   line-refused reason some =
-      by knot (sym told ∙ some) ∙ ap (λ ks. lines_verdict d number (placed ks (coming (problem_of d).block true at.numbers))) (sym first)
+      by vertex (sym stated ∙ some) ∙ ap (λ ks. lines_verdict d number (placed ks (coming (problem_of d).block true at.numbers))) (sym first)
     where
-      by : (k : Knot Ending) → line_fault d at.numbers k ≡ Some reason → No number reason ≡ lines_verdict d number (placed (k ∷ knots) (coming (problem_of d).block true at.numbers))
-      by (AtTip ending) h = rw h refl
+      by : (k : Vertex Ending) → line_fault d at.numbers k ≡ Some reason → No number reason ≡ lines_verdict d number (placed (k ∷ vertices) (coming (problem_of d).block true at.numbers))
+      by (AtTerminal ending) h = rw h refl
       by (AtSplit numbers) h = rw h refl
 
   module _ (none : found ≡ None) where
-    pub split-ready : HasReady at.problem.block at.numbers knot
-    split-ready = by knot (sym told ∙ none)
+    pub split-ready : HasReady at.problem.block at.numbers vertex
+    split-ready = by vertex (sym stated ∙ none)
       where
-        by : (k : Knot Ending) → line_fault d at.numbers k ≡ None → HasReady at.problem.block at.numbers k
-        by (AtTip ending) h = tt
+        by : (k : Vertex Ending) → line_fault d at.numbers k ≡ None → HasReady at.problem.block at.numbers k
+        by (AtTerminal ending) h = tt
         by (AtSplit numbers) h = (split-shows d at.numbers numbers).0 h ∙ ap (λ (b : Problem). ready b.block at.numbers) (sym same)
 
     -- without a fault it goes on
-    pub line-passed : (more other : Bool) (next : List ℕ) → coming at.problem.block more next ≡ after_line at.problem.block at.numbers knot → more ≡ other →
-        lines_verdict d (number + 1) (placed knots (coming (problem_of d).block other next)) ≡ lines_verdict d number (placed lines (coming (problem_of d).block true at.numbers))
+    pub line-passed : (more other : Bool) (next : List ℕ) → coming at.problem.block more next ≡ after_line at.problem.block at.numbers vertex → more ≡ other →
+        lines_verdict d (number + 1) (placed vertices (coming (problem_of d).block other next)) ≡ lines_verdict d number (placed lines (coming (problem_of d).block true at.numbers))
     line-passed more other next goes is =
-        by knot (sym told ∙ none)
-        (subst (λ (b : Problem). coming b.block other next ≡ after_line b.block at.numbers knot) same (ap (λ m. coming at.problem.block m next) (sym is) ∙ goes))
+        by vertex (sym stated ∙ none)
+        (subst (λ (b : Problem). coming b.block other next ≡ after_line b.block at.numbers vertex) same (ap (λ m. coming at.problem.block m next) (sym is) ∙ goes))
         ∙ ap (λ ks. lines_verdict d number (placed ks (coming (problem_of d).block true at.numbers))) (sym first)
       where
-        by : (k : Knot Ending) → line_fault d at.numbers k ≡ None → coming (problem_of d).block other next ≡ after_line (problem_of d).block at.numbers k →
-            lines_verdict d (number + 1) (placed knots (coming (problem_of d).block other next)) ≡ lines_verdict d number (placed (k ∷ knots) (coming (problem_of d).block true at.numbers))
-        by (AtTip ending) h e = let one : number + 1 ≡ suc number = omega arith in rw (h, e, one) refl
+        by : (k : Vertex Ending) → line_fault d at.numbers k ≡ None → coming (problem_of d).block other next ≡ after_line (problem_of d).block at.numbers k →
+            lines_verdict d (number + 1) (placed vertices (coming (problem_of d).block other next)) ≡ lines_verdict d number (placed (k ∷ vertices) (coming (problem_of d).block true at.numbers))
+        by (AtTerminal ending) h e = let one : number + 1 ≡ suc number = omega arith in rw (h, e, one) refl
         by (AtSplit numbers) h e = let one : number + 1 ≡ suc number = omega arith in rw (h, e, one) refl
 
 -- nothing is left to come
-pub none-left : (d : Document) (number time bound : ℕ) (knots : List (Knot Ending)) (prefixes : List (List ℕ)) → time ≡ d.time → bound ≡ d.bound → (knots ≡ []) ⊎ (prefixes ≡ []) →
-    Yes time bound ≡ lines_verdict d number (placed knots prefixes)
-none-left d number time bound knots prefixes same equal none =
+pub none-left : (d : Document) (number time bound : ℕ) (vertices : List (Vertex Ending)) (prefixes : List (List ℕ)) → time ≡ d.time → bound ≡ d.bound → (vertices ≡ []) ⊎ (prefixes ≡ []) →
+    Yes time bound ≡ lines_verdict d number (placed vertices prefixes)
+none-left d number time bound vertices prefixes same equal none =
     rw (same, equal) (elim none [
-      | inl no_knot ↦ rw no_knot refl
-      | inr no_prefix ↦ rw (no_prefix, none-placed knots) refl
+      | inl no_vertex ↦ rw no_vertex refl
+      | inr no_prefix ↦ rw (no_prefix, none-placed vertices) refl
     ])
 
 -- THE FIRST LINE
 
-module _ (p : Parts) (whole : AreWhole p) (start : Checked) (at : start ≡ record { problem = problem_of (document_of p); numbers = [] }) (count : ℕ) (counted : count ≡ length start.problem.block) (lines : List (Knot Ending)) (all : lines ≡ p.knots) where
+module _ (p : Parts) (whole : AreWhole p) (start : Checked) (at : start ≡ record { problem = problem_of (document_of p); numbers = [] }) (count : ℕ) (counted : count ≡ length start.problem.block) (lines : List (Vertex Ending)) (all : lines ≡ p.vertices) where
   d : Document
   d = document_of p
 
@@ -119,4 +119,4 @@ module _ (p : Parts) (whole : AreWhole p) (start : Checked) (at : start ≡ reco
   pub walk-ends : count + 7 + length lines ≤ BLOCK_LIMIT + 8 + SPLIT_LIMIT * BLOCK_LIMIT
   unfolding d
   walk-ends =
-      omega (arith, at-line, whole.document.block.1, few-lines BLOCK_LIMIT d.tree whole.document.tree, whole.document.splits, ap (λ (ks : List (Knot Ending)). length ks) (all ∙ sym whole.preorder))
+      omega (arith, at-line, whole.document.block.1, few-lines BLOCK_LIMIT d.tree whole.document.tree, whole.document.splits, ap (λ (ks : List (Vertex Ending)). length ks) (all ∙ sym whole.preorder))

@@ -14,7 +14,7 @@ use Rattle.s66_checker.specs.Dominating.{is_no_later, is_same_set, dominates_by}
 use Rattle.s66_checker.specs.KeptPrefix.{IsPrefix}
 use Rattle.s66_checker.specs.Marked.{is_marked}
 use Rattle.s66_checker.specs.declared.marks.Marks.{Marks}
-use Rattle.s66_checker.proofs.AheadOf.{set-told, ahead-is, written-late, written-is}
+use Rattle.s66_checker.proofs.AheadOf.{set-stated, ahead-is, written-late, written-is}
 
 -- what a prefix keeps of its numbers
 pub record Keeps (b : Problem) (numbers : List ℕ) (own : Profile) (placed : Marks) (xs : List Point) : Type 0 where
@@ -29,10 +29,10 @@ keeps block profile rows all placed ns xs is =
     record { profile = refl; few = is.few; begins = is.begins; marked = is.marked; timed = is.timed }
 
 -- the marks of both tell whether they are of one set
-pub same-told : (b : Problem) (name at : List ℕ) (profile other_profile : Profile) (placed other_placed : Marks) (xs ys : List Point) (told : Bool) → Keeps b name profile placed xs → Keeps b at other_profile other_placed ys →
-    IsTrue told ↔ ((m : ℕ) → 1 ≤ m → m ≤ BLOCK_LIMIT → is_marked placed m ≡ is_marked other_placed m) → told ≡ is_same_set name at
-same-told b name at profile other_profile placed other_placed xs ys told named there is =
-    set-told b.block placed other_placed name at told named.few named.begins there.begins named.marked there.marked is
+pub same-stated : (b : Problem) (name at : List ℕ) (profile other_profile : Profile) (placed other_placed : Marks) (xs ys : List Point) (stated : Bool) → Keeps b name profile placed xs → Keeps b at other_profile other_placed ys →
+    IsTrue stated ↔ ((m : ℕ) → 1 ≤ m → m ≤ BLOCK_LIMIT → is_marked placed m ≡ is_marked other_placed m) → stated ≡ is_same_set name at
+same-stated b name at profile other_profile placed other_placed xs ys stated named there is =
+    set-stated b.block placed other_placed name at stated named.few named.begins there.begins named.marked there.marked is
 
 module _ (b : Problem) (name at : List ℕ) (profile other_profile : Profile) (placed other_placed : Marks) (xs ys : List Point) (named : Keeps b name profile placed xs) (there : Keeps b at other_profile other_placed ys) where
   points-are : (c : Clamp) (no_later : Bool) → no_later ≡ is_no_later profile c (reverse xs) (reverse ys) → no_later ≡ is_no_later b.profile c (points_of b name) (points_of b at)
@@ -44,12 +44,12 @@ module _ (b : Problem) (name at : List ℕ) (profile other_profile : Profile) (p
   pub later-total : is_same_set name at ≡ true → total_of b at < total_of b name → false ≡ dominates_by WrittenEarlier b name at
   later-total one late = written-late b name at there.begins named.begins one (lt-leb (total_of b name) (total_of b at) late)
 
-  pub written-told : is_same_set name at ≡ true → total_of b name ≤ total_of b at → (no_later : Bool) → no_later ≡ is_no_later profile no_clamp (reverse xs) (reverse ys) → no_later ≡ dominates_by WrittenEarlier b name at
-  written-told one le no_later is =
+  pub written-stated : is_same_set name at ≡ true → total_of b name ≤ total_of b at → (no_later : Bool) → no_later ≡ is_no_later profile no_clamp (reverse xs) (reverse ys) → no_later ≡ dominates_by WrittenEarlier b name at
+  written-stated one le no_later is =
       points-are no_clamp no_later is ∙ written-is b name at there.begins named.begins one (le-leb (total_of b name) (total_of b at) le)
 
-  pub clamped-told : is_same_set name at ≡ true → (now : ℕ) → now ≡ next (points_of b at) → (no_later : Bool) → no_later ≡ is_no_later profile (clamp_at now) (reverse xs) (reverse ys) → no_later ≡ dominates_by ClampedStanding b name at
-  clamped-told one now e no_later is =
+  pub clamped-stated : is_same_set name at ≡ true → (now : ℕ) → now ≡ next (points_of b at) → (no_later : Bool) → no_later ≡ is_no_later profile (clamp_at now) (reverse xs) (reverse ys) → no_later ≡ dominates_by ClampedStanding b name at
+  clamped-stated one now e no_later is =
       points-are (clamp_at now) no_later is
       ∙ ap (λ k. is_no_later b.profile (clamp_at k) (points_of b name) (points_of b at)) e
       ∙ sym (ahead-is b name at there.begins named.begins one (clamp_at (next (points_of b at))))

@@ -18,17 +18,17 @@ use Rattle.s66_checker.proofs.FreeUnits.{first-time, second-time}
 use Rattle.s66_checker.proofs.NoLater.{le-Decides, places-Decides}
 
 -- what is told of each place
-pub places-told : (count clamp : ℕ) (xs ys us vs : List ℕ) (told : Bool) → us ≡ xs → vs ≡ ys → IsTrue told ↔ ((i : ℕ) → i < count → get_or us i 0 ≤ max (get_or vs i 0) clamp) → told ≡ are_places_no_later count clamp xs ys
-places-told count clamp xs ys us vs told own other is =
-    same_from_decides told (are_places_no_later count clamp us vs) is (places-Decides count clamp us vs)
+pub places-stated : (count clamp : ℕ) (xs ys us vs : List ℕ) (stated : Bool) → us ≡ xs → vs ≡ ys → IsTrue stated ↔ ((i : ℕ) → i < count → get_or us i 0 ≤ max (get_or vs i 0) clamp) → stated ≡ are_places_no_later count clamp xs ys
+places-stated count clamp xs ys us vs stated own other is =
+    same_from_decides stated (are_places_no_later count clamp us vs) is (places-Decides count clamp us vs)
     ∙ ap (λ zs. are_places_no_later count clamp zs vs) own
     ∙ ap (are_places_no_later count clamp xs) other
 
 -- one kind less is left where its test passes
-pub kinds-step : (profile : Profile) (clamp : ℕ) (q p : List Point) (i copies : ℕ) (told : Bool) → i < length all_kinds → copies ≡ copies_of profile (get_or all_kinds i Boolean) →
-    told ≡ are_places_no_later copies clamp (free_times (get_or all_kinds i Boolean) q) (free_times (get_or all_kinds i Boolean) p) → told ≡ true →
+pub kinds-step : (profile : Profile) (clamp : ℕ) (q p : List Point) (i copies : ℕ) (stated : Bool) → i < length all_kinds → copies ≡ copies_of profile (get_or all_kinds i Boolean) →
+    stated ≡ are_places_no_later copies clamp (free_times (get_or all_kinds i Boolean) q) (free_times (get_or all_kinds i Boolean) p) → stated ≡ true →
     every (λ kind. are_places_no_later (copies_of profile kind) clamp (free_times kind q) (free_times kind p)) (drop (i + 1) all_kinds) ≡ every (λ kind. are_places_no_later (copies_of profile kind) clamp (free_times kind q) (free_times kind p)) (drop i all_kinds)
-kinds-step profile clamp q p i copies told lt known is passes =
+kinds-step profile clamp q p i copies stated lt known is passes =
     let test = λ (kind : Kind). are_places_no_later (copies_of profile kind) clamp (free_times kind q) (free_times kind p) in
     let kind : Kind = get_or all_kinds i Boolean in
     let here : test kind ≡ true = ap (λ n. are_places_no_later n clamp (free_times kind q) (free_times kind p)) (sym known) ∙ sym is ∙ passes in
@@ -80,12 +80,12 @@ module _ (kind : Kind) (xs ys : List Point) (w v : Words) (place copies clamp : 
       ((λ e. absurd (true≢false (sym e))), λ (each : (i : ℕ) → i < copies → Within i). absurd (omega (arith, later, first.1 (each 0 (omega (arith, some))))))
       decides
 
-  pub one-told : copies ≡ 1 → (get_or w.free place idle).all ≤ max (get_or v.free place idle).all clamp → true ≡ Test
-  one-told one no_later =
+  pub one-stated : copies ≡ 1 → (get_or w.free place idle).all ≤ max (get_or v.free place idle).all clamp → true ≡ Test
+  one-stated one no_later =
       sym (decides.1 (λ i lt. subst (λ j. Within j) (omega (arith, lt, one)) (first.0 no_later)))
 
-  pub two-told : copies ≡ 2 → (get_or w.free place idle).all ≤ max (get_or v.free place idle).all clamp → (most : ℕ) → most ≡ max (get_or v.free place idle).all_but_one clamp → leb (get_or w.free place idle).all_but_one most ≡ Test
-  two-told two no_later most e =
+  pub two-stated : copies ≡ 2 → (get_or w.free place idle).all ≤ max (get_or v.free place idle).all clamp → (most : ℕ) → most ≡ max (get_or v.free place idle).all_but_one clamp → leb (get_or w.free place idle).all_but_one most ≡ Test
+  two-stated two no_later most e =
       ap (leb (get_or w.free place idle).all_but_one) e
       ∙ same_from_decides (leb (get_or w.free place idle).all_but_one (max (get_or v.free place idle).all_but_one clamp)) Test
       (Decides-like (leb (get_or w.free place idle).all_but_one (max (get_or v.free place idle).all_but_one clamp))

@@ -28,10 +28,10 @@ Tells words f = (r : Reg) → r.digit ≤ 7 → word_of words r ≡ f r
 abbrev pub AreWithin : List ℕ → List ℕ → ℕ → Type 0
 AreWithin ws vs clamp = (i : ℕ) → i < 24 → get_or ws i 0 ≤ max (get_or vs i 0) clamp
 
-registers-told : (f g : Reg → ℕ) (ws vs : List ℕ) (clamp : ℕ) (told : Bool) → Tells ws f → Tells vs g → IsTrue told ↔ AreWithin ws vs clamp → told ≡ are_registers_no_later clamp f g
-registers-told f g ws vs clamp told own other is =
-    same_from_decides told (are_registers_no_later clamp f g)
-    (Decides-like told
+registers-stated : (f g : Reg → ℕ) (ws vs : List ℕ) (clamp : ℕ) (stated : Bool) → Tells ws f → Tells vs g → IsTrue stated ↔ AreWithin ws vs clamp → stated ≡ are_registers_no_later clamp f g
+registers-stated f g ws vs clamp stated own other is =
+    same_from_decides stated (are_registers_no_later clamp f g)
+    (Decides-like stated
     (λ within r low. omega (arith, own r low, other r low, within (index_of r) (index-few r low)))
     (λ each i lt.
     let r : Reg = register_at i in
@@ -41,14 +41,14 @@ registers-told f g ws vs clamp told own other is =
     (registers-Decides clamp f g)
 
 module _ (xs ys : List Point) (w v : Words) (own : AreWords xs w) (other : AreWords ys v) where
-  pub writers-told : (clamp : ℕ) (told : Bool) → IsTrue told ↔ AreWithin w.done.words v.done.words clamp → told ≡ are_registers_no_later clamp (done_of (reverse xs)) (done_of (reverse ys))
-  writers-told clamp told is =
-      registers-told (done_of (reverse xs)) (done_of (reverse ys)) w.done.words v.done.words clamp told
+  pub writers-stated : (clamp : ℕ) (stated : Bool) → IsTrue stated ↔ AreWithin w.done.words v.done.words clamp → stated ≡ are_registers_no_later clamp (done_of (reverse xs)) (done_of (reverse ys))
+  writers-stated clamp stated is =
+      registers-stated (done_of (reverse xs)) (done_of (reverse ys)) w.done.words v.done.words clamp stated
       (λ r low. own.done r low ∙ sym (greatest-reverse (λ (p : Point). done_at p r) xs)) (λ r low. other.done r low ∙ sym (greatest-reverse (λ (p : Point). done_at p r) ys)) is
 
-  pub readers-told : (clamp : ℕ) (told : Bool) → IsTrue told ↔ AreWithin w.read.words v.read.words clamp → told ≡ are_registers_no_later clamp (readers_wait (reverse xs)) (readers_wait (reverse ys))
-  readers-told clamp told is =
-      registers-told (readers_wait (reverse xs)) (readers_wait (reverse ys)) w.read.words v.read.words clamp told
+  pub readers-stated : (clamp : ℕ) (stated : Bool) → IsTrue stated ↔ AreWithin w.read.words v.read.words clamp → stated ≡ are_registers_no_later clamp (readers_wait (reverse xs)) (readers_wait (reverse ys))
+  readers-stated clamp stated is =
+      registers-stated (readers_wait (reverse xs)) (readers_wait (reverse ys)) w.read.words v.read.words clamp stated
       (λ r low. own.read r low ∙ sym (greatest-reverse (λ (p : Point). cond {A = ℕ} (has_reg r p.row.reads) (p.start + 1) 0) xs))
       (λ r low. other.read r low ∙ sym (greatest-reverse (λ (p : Point). cond {A = ℕ} (has_reg r p.row.reads) (p.start + 1) 0) ys)) is
 
@@ -64,14 +64,14 @@ pair-load memory.None = refl
 pair-load memory.Load = refl
 pair-load memory.Store = refl
 
-pub references-told : (xs : List Point) (w : Words) → AreWords xs w → w.store ≡ references_wait (reverse xs)
-references-told xs w are =
+pub references-stated : (xs : List Point) (w : Words) → AreWords xs w → w.store ≡ references_wait (reverse xs)
+references-stated xs w are =
     are.store
     ∙ greatest-same (λ (p : Point). cond {A = ℕ} (memory_pair p.row.memory memory.Store) (p.start + 1) 0) (λ (p : Point). cond {A = ℕ} (touches p.row.memory) (p.start + 1) 0) xs (λ p among. ap (λ b. cond {A = ℕ} b (p.start + 1) 0) (pair-store p.row.memory))
     ∙ sym (greatest-reverse (λ (p : Point). cond {A = ℕ} (touches p.row.memory) (p.start + 1) 0) xs)
 
-pub stores-told : (xs : List Point) (w : Words) → AreWords xs w → w.load ≡ stores_wait (reverse xs)
-stores-told xs w are =
+pub stores-stated : (xs : List Point) (w : Words) → AreWords xs w → w.load ≡ stores_wait (reverse xs)
+stores-stated xs w are =
     are.load
     ∙ greatest-same (λ (p : Point). cond {A = ℕ} (memory_pair p.row.memory memory.Load) (p.start + 1) 0) (λ (p : Point). cond {A = ℕ} (stores p.row.memory) (p.start + 1) 0) xs (λ p among. ap (λ b. cond {A = ℕ} b (p.start + 1) 0) (pair-load p.row.memory))
     ∙ sym (greatest-reverse (λ (p : Point). cond {A = ℕ} (stores p.row.memory) (p.start + 1) 0) xs)
@@ -100,21 +100,21 @@ module _ (profile : Profile) (c : Clamp) (q p : List Point) where
   abbrev pub Stores : Bool
   Stores = leb (stores_wait q) (max (stores_wait p) c.others)
 
-  pub writers-fail : (told : Bool) → told ≡ Writers → told ≡ false → false ≡ is_no_later profile c q p
-  writers-fail told e h = third-fails Slot Phase Writers Readers Units References Stores (sym e ∙ h)
+  pub writers-fail : (stated : Bool) → stated ≡ Writers → stated ≡ false → false ≡ is_no_later profile c q p
+  writers-fail stated e h = third-fails Slot Phase Writers Readers Units References Stores (sym e ∙ h)
 
-  pub readers-fail : (told : Bool) → told ≡ Readers → told ≡ false → false ≡ is_no_later profile c q p
-  readers-fail told e h = fourth-fails Slot Phase Writers Readers Units References Stores (sym e ∙ h)
+  pub readers-fail : (stated : Bool) → stated ≡ Readers → stated ≡ false → false ≡ is_no_later profile c q p
+  readers-fail stated e h = fourth-fails Slot Phase Writers Readers Units References Stores (sym e ∙ h)
 
-  pub units-fail : (told : Bool) → told ≡ Units → told ≡ false → false ≡ is_no_later profile c q p
-  units-fail told e h = fifth-fails Slot Phase Writers Readers Units References Stores (sym e ∙ h)
+  pub units-fail : (stated : Bool) → stated ≡ Units → stated ≡ false → false ≡ is_no_later profile c q p
+  units-fail stated e h = fifth-fails Slot Phase Writers Readers Units References Stores (sym e ∙ h)
 
   pub references-fail : max (references_wait p) c.others < references_wait q → false ≡ is_no_later profile c q p
   references-fail late = sixth-fails Slot Phase Writers Readers Units References Stores (lt-leb (references_wait q) (max (references_wait p) c.others) late)
 
   pub stores-left : next q ≤ next p → place_in_word q ≡ place_in_word p → (writers readers units : Bool) → writers ≡ Writers → writers ≡ true → readers ≡ Readers → readers ≡ true → units ≡ Units → units ≡ true →
-      references_wait q ≤ max (references_wait p) c.others → (told : Bool) → told ≡ Stores → told ≡ is_no_later profile c q p
-  stores-left slot phase writers readers units ew hw er hr eu hu references told e =
+      references_wait q ≤ max (references_wait p) c.others → (stated : Bool) → stated ≡ Stores → stated ≡ is_no_later profile c q p
+  stores-left slot phase writers readers units ew hw er hr eu hu references stated e =
       e
       ∙ last-left Slot Phase Writers Readers Units References Stores (le-leb (next q) (next p) slot) (eq-eqb (place_in_word q) (place_in_word p) phase) (sym ew ∙ hw) (sym er ∙ hr) (sym eu ∙ hu)
       (le-leb (references_wait q) (max (references_wait p) c.others) references)

@@ -5,7 +5,7 @@ use Rattle.s66_isa.specs.Table.{instr}
 use Rattle.s66_model.specs.Timing.{Problem}
 use Rattle.s66_model.specs.declared.rule.Rule.{Rule}
 use Rattle.s66_model.specs.Leaves.{Leaf, Whole, Chain, Parcels}
-use Rattle.s66_model.specs.Tree.{Tree, Alone, Parted, Kids, NoMore, Unsplit, Split}
+use Rattle.s66_model.specs.Tree.{Tree, Alone, Parted, Siblings, NoMore, Unsplit, Split}
 use Rattle.s66_model.specs.DominatedLeaves.{Ending, Bounding, Dominated}
 use Rattle.s66_model.specs.Examples.{late_reader_tree, increments_load}
 use Rattle.s66_cert.specs.Document.{Document}
@@ -39,16 +39,16 @@ load_and_multiplies = record {
 
 -- THREE MULTIPLIES WITH ANOTHER TREE, the first line of which is line 10
 
-abbrev pub multiplies_split : List ℕ → Kids Ending → Document
-multiplies_split numbers kids = record three_multiplies { tree = Parted numbers kids }
+abbrev pub multiplies_split : List ℕ → Siblings Ending → Document
+multiplies_split numbers siblings = record three_multiplies { tree = Parted numbers siblings }
 
 -- what stands after 1
-abbrev pub second_line : (Kids Ending → Kids Ending) → Document
-second_line kid = multiplies_split (1 ∷ 2 ∷ 3 ∷ []) (kid (after_one 1 3 (after_one 1 2 NoMore)))
+abbrev pub second_line : (Siblings Ending → Siblings Ending) → Document
+second_line sibling = multiplies_split (1 ∷ 2 ∷ 3 ∷ []) (sibling (after_one 1 3 (after_one 1 2 NoMore)))
 
 -- what stands after 1 and 2
-abbrev pub third_line : (Kids Ending → Kids Ending) → Document
-third_line kid = second_line (Split (2 ∷ 3 ∷ []) (kid (Split (2 ∷ []) (Unsplit (Bounding Whole) NoMore) NoMore)))
+abbrev pub third_line : (Siblings Ending → Siblings Ending) → Document
+third_line sibling = second_line (Split (2 ∷ 3 ∷ []) (sibling (Split (2 ∷ []) (Unsplit (Bounding Whole) NoMore) NoMore)))
 
 -- what stands after 3, 2 and 1
 abbrev pub last_leaf : Leaf → Document
@@ -58,11 +58,11 @@ last_leaf leaf =
 -- LATE READER WITH ANOTHER TREE, the first line of which is line 11
 
 -- 1 3 2 names this node, and 1 4 is as given
-abbrev pub late_naming : Rule → List ℕ → Kids Ending → Document
+abbrev pub late_naming : Rule → List ℕ → Siblings Ending → Document
 late_naming rule name fourth = record (late_reader rule) { tree = late_reader_tree name fourth }
 
-abbrev pub third_bounding : Kids Ending → Kids Ending
-third_bounding kids = Unsplit (Bounding (Chain (3 ∷ []))) kids
+abbrev pub third_bounding : Siblings Ending → Siblings Ending
+third_bounding siblings = Unsplit (Bounding (Chain (3 ∷ []))) siblings
 
 -- 1 2 3 4 names itself
 abbrev pub late_order : Rule → Document

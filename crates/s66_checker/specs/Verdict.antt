@@ -9,7 +9,7 @@ use Rattle.s66_model.specs.declared.rule.Rule.TheVariants.{NoneNamed, WrittenEar
 use Rattle.s66_model.specs.Timing.{Problem, total_of}
 use Rattle.s66_model.specs.LegalOrder.{is_remaining, ready}
 use Rattle.s66_model.specs.Leaves.{Leaf, Whole, Chain, Load, Parcels, value, is_linked}
-use Rattle.s66_model.specs.Tree.{Tree, Alone, Parted, Kids, NoMore, Unsplit, Split, Knot, AtTip, AtSplit}
+use Rattle.s66_model.specs.Tree.{Tree, Alone, Parted, Siblings, NoMore, Unsplit, Split, Vertex, AtTerminal, AtSplit}
 use Rattle.s66_model.specs.NodeNames.{node_at}
 use Rattle.s66_model.specs.DominatedLeaves.{Ending, Bounding, Dominated, may_be_named}
 use Rattle.s66_cert.specs.Document.{Document}
@@ -31,16 +31,16 @@ is_legal_order block order = is_beginning block order && length order == length 
 
 -- THE LINES OF ITS TREE in preorder, each with its prefix
 
-abbrev pub kids_placed : List ℕ → List ℕ → Kids Ending → List (List ℕ × Knot Ending)
-kids_placed prefix [] kids = []
-kids_placed prefix (n ∷ ns) NoMore = []
-kids_placed prefix (n ∷ ns) (Unsplit ending kids) = (prefix ++ n ∷ [], AtTip ending) ∷ kids_placed prefix ns kids
-kids_placed prefix (n ∷ ns) (Split numbers sub kids) =
-    (prefix ++ n ∷ [], AtSplit numbers) ∷ (kids_placed (prefix ++ n ∷ []) numbers sub ++ kids_placed prefix ns kids)
+abbrev pub siblings_placed : List ℕ → List ℕ → Siblings Ending → List (List ℕ × Vertex Ending)
+siblings_placed prefix [] siblings = []
+siblings_placed prefix (n ∷ ns) NoMore = []
+siblings_placed prefix (n ∷ ns) (Unsplit ending siblings) = (prefix ++ n ∷ [], AtTerminal ending) ∷ siblings_placed prefix ns siblings
+siblings_placed prefix (n ∷ ns) (Split numbers sub siblings) =
+    (prefix ++ n ∷ [], AtSplit numbers) ∷ (siblings_placed (prefix ++ n ∷ []) numbers sub ++ siblings_placed prefix ns siblings)
 
-abbrev pub tree_placed : List ℕ → Tree Ending → List (List ℕ × Knot Ending)
-tree_placed prefix (Alone ending) = (prefix, AtTip ending) ∷ []
-tree_placed prefix (Parted numbers kids) = (prefix, AtSplit numbers) ∷ kids_placed prefix numbers kids
+abbrev pub tree_placed : List ℕ → Tree Ending → List (List ℕ × Vertex Ending)
+tree_placed prefix (Alone ending) = (prefix, AtTerminal ending) ∷ []
+tree_placed prefix (Parted numbers siblings) = (prefix, AtSplit numbers) ∷ siblings_placed prefix numbers siblings
 
 -- FAULTS OF A LEAF
 
@@ -106,10 +106,10 @@ dominated_fault d at name =
 -- FAULTS OF A LINE
 
 -- a split's children are exactly the ready numbers, rising
-abbrev pub line_fault : Document → List ℕ → Knot Ending → Option Reason
+abbrev pub line_fault : Document → List ℕ → Vertex Ending → Option Reason
 line_fault d at (AtSplit numbers) = if bytes_eq numbers (ready (problem_of d).block at) then None else Some fault.Children
-line_fault d at (AtTip (Bounding leaf)) = leaf_fault (problem_of d) d.bound at leaf
-line_fault d at (AtTip (Dominated name)) = dominated_fault d at name
+line_fault d at (AtTerminal (Bounding leaf)) = leaf_fault (problem_of d) d.bound at leaf
+line_fault d at (AtTerminal (Dominated name)) = dominated_fault d at name
 
 -- THE VERDICT, with the number of the line, from 1
 
@@ -118,7 +118,7 @@ unless line None later = later
 unless line (Some reason) later = No line reason
 
 -- of these lines, the first of which has this number
-abbrev pub lines_verdict : Document → ℕ → List (List ℕ × Knot Ending) → Verdict
+abbrev pub lines_verdict : Document → ℕ → List (List ℕ × Vertex Ending) → Verdict
 lines_verdict d line [] = Yes d.time d.bound
 lines_verdict d line (at ∷ later) = unless line (line_fault d at.0 at.1) (lines_verdict d (suc line) later)
 

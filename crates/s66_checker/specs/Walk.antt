@@ -3,7 +3,7 @@ use Rattle.std.specs.Prelude.{◌≡◌, ℕ, Bool, true, false, List, [], ◌�
 use Rattle.s66_isa.specs.declared.instr.Instr.{Instr}
 use Rattle.s66_model.specs.LegalOrder.{ready}
 use Rattle.s66_model.specs.Later.{children, later}
-use Rattle.s66_model.specs.Tree.{Knot, AtTip, AtSplit}
+use Rattle.s66_model.specs.Tree.{Vertex, AtTerminal, AtSplit}
 use Rattle.s66_model.specs.DominatedLeaves.{Ending}
 
 -- what is to come where the walk goes on with this prefix, and where it has ended
@@ -12,11 +12,11 @@ coming block true prefix = prefix ∷ later block [] prefix
 coming block false prefix = []
 
 -- what is to come after a line at this prefix
-abbrev pub after_line : List Instr → List ℕ → Knot Ending → List (List ℕ)
-after_line block prefix (AtTip ending) = later block [] prefix
+abbrev pub after_line : List Instr → List ℕ → Vertex Ending → List (List ℕ)
+after_line block prefix (AtTerminal ending) = later block [] prefix
 after_line block prefix (AtSplit numbers) = children prefix numbers ++ later block [] prefix
 
 -- where it is a split, it has the ready numbers
-abbrev pub HasReady : List Instr → List ℕ → Knot Ending → Type 0
-HasReady block prefix (AtTip ending) = Unit {0}
+abbrev pub HasReady : List Instr → List ℕ → Vertex Ending → Type 0
+HasReady block prefix (AtTerminal ending) = Unit {0}
 HasReady block prefix (AtSplit numbers) = numbers ≡ ready block prefix

@@ -18,7 +18,7 @@ use s66_isa::Kind;
 
 impl Prefix {
     ghost use Rattle.std.specs.Prelude.{◌≡◌};
-    ghost use Rattle.s66_cert.specs.DocumentParts.{document_of, knot_of};
+    ghost use Rattle.s66_cert.specs.DocumentParts.{document_of, vertex_of};
     ghost use Rattle.s66_checker.specs.Verdict.{problem_of, line_fault};
 
     /// What is wrong with a line of a document's tree that stands at the prefix, where anything is: a leaf's value is to
@@ -31,7 +31,7 @@ impl Prefix {
     ) -> Option<Reason>
         requires problem { self.now.problem ≡ problem_of (document_of document.now) }
         requires same { named.old.problem ≡ self.now.problem }
-        ensures value { result ≡ line_fault (document_of document.now) self.now.numbers (knot_of line.entry) }
+        ensures value { result ≡ line_fault (document_of document.now) self.now.numbers (vertex_of line.entry) }
         ensures same { named.new.problem ≡ named.old.problem }
     {
         let bound = document.bound();

@@ -3,7 +3,7 @@
 ghost use Rattle.std.specs.Prelude.{◌≡◌, IsTrue};
 ghost use Rattle.std.specs.Option.{option_map};
 ghost use Rattle.s66_model.specs.DominatedLeaves.{may_be_named};
-ghost use Rattle.s66_cert.specs.DocumentParts.{document_of, knot_of};
+ghost use Rattle.s66_cert.specs.DocumentParts.{document_of, vertex_of};
 ghost use Rattle.s66_checker.specs.Verdict.{problem_of, is_early_enough, is_name};
 
 use crate::prefix::Prefix;
@@ -12,7 +12,7 @@ use s66_model::Rule;
 
 /// Whether a rule lets this node be named, by its line.
 fn may_be_named(rule: Rule, node: Option<TreeLine<'_>>) -> bool
-    ensures { result ≡ may_be_named rule (option_map knot_of node.entry) }
+    ensures { result ≡ may_be_named rule (option_map vertex_of node.entry) }
 {
     let Some(line) = node else {
         return false;

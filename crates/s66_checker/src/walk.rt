@@ -1,6 +1,6 @@
 ghost use Rattle.std.specs.Prelude.{◌≡◌, []};
 ghost use Rattle.s66_model.specs.Later.{IsNextReady, later};
-ghost use Rattle.s66_cert.specs.DocumentParts.{document_of, knot_of};
+ghost use Rattle.s66_cert.specs.DocumentParts.{document_of, vertex_of};
 ghost use Rattle.s66_checker.specs.Verdict.{problem_of, tree_placed, tree_line, lines_verdict};
 ghost use Rattle.s66_checker.specs.Walk.{coming, after_line, HasReady};
 
@@ -40,8 +40,8 @@ fn advance(prefix: &mut Prefix) -> bool
 
 /// Goes on to the prefix after a line, and answers whether there is one.
 fn go_on(prefix: &mut Prefix, line: TreeLine<'_>) -> bool
-    requires { HasReady prefix.old.problem.block prefix.old.numbers (knot_of line) }
-    ensures next { coming prefix.old.problem.block result prefix.new.numbers ≡ after_line prefix.old.problem.block prefix.old.numbers (knot_of line.entry) }
+    requires { HasReady prefix.old.problem.block prefix.old.numbers (vertex_of line) }
+    ensures next { coming prefix.old.problem.block result prefix.new.numbers ≡ after_line prefix.old.problem.block prefix.old.numbers (vertex_of line.entry) }
     ensures problem { prefix.new.problem ≡ prefix.old.problem }
 {
     if let TreeLine::Split(numbers) = line {

@@ -7,7 +7,7 @@ use Rattle.s66_line.proofs.OperationLaw.{among-at}
 use Rattle.s66_model.specs.Timing.{Problem}
 use Rattle.s66_model.specs.LegalOrder.{is_ready, ready, IsBeginning, IsIncomplete}
 use Rattle.s66_model.specs.Leaves.{floor}
-use Rattle.s66_model.specs.Tree.{AtTip, AtSplit, flat}
+use Rattle.s66_model.specs.Tree.{AtTerminal, AtSplit, flat}
 use Rattle.s66_model.specs.Later.{children, later}
 use Rattle.s66_model.proofs.TreeLines.{lines-unsplit, lines-split, lines-tree, lines-both}
 use Rattle.s66_model.specs.DominatedLeaves.{Bounding, Dominated}
@@ -223,15 +223,15 @@ module _ (b : Problem) (xs : List Node) (tree : AreOneTree b xs) (i : ℕ) (at :
   split-line numbers split all next =
       let is : cut_there at ≡ true = split-here b xs tree i at stands split in
       let part : length at ≤ length b.block = omega (arith, split-incomplete b xs tree at is) in
-      ap (λ knots. knots ++ lines_from b xs (later b.block [] at)) (lines-split b.block cut_there (ending_at b (nodes_of b xs)) at is part)
+      ap (λ vertices. vertices ++ lines_from b xs (later b.block [] at)) (lines-split b.block cut_there (ending_at b (nodes_of b xs)) at is part)
       ∙ (ap (λ ns. AtSplit ns ∷ (lines_from b xs (children at ns) ++ lines_from b xs (later b.block [] at))) (sym all)
-      ∙ ap (λ knots. AtSplit numbers ∷ knots) (sym (lines-both b.block cut_there (ending_at b (nodes_of b xs)) (children at numbers) (later b.block [] at)) ∙ ap (lines_from b xs) (sym next)))
+      ∙ ap (λ vertices. AtSplit numbers ∷ vertices) (sym (lines-both b.block cut_there (ending_at b (nodes_of b xs)) (children at numbers) (later b.block [] at)) ∙ ap (lines_from b xs) (sym next)))
 
-  pub tip-line : (node_at xs i).state ≢ state.Split → to ≡ later b.block [] at →
-      lines_from b xs (at ∷ later b.block [] at) ≡ AtTip (ending_at b (nodes_of b xs) at) ∷ lines_from b xs to
-  tip-line other next =
-      ap (λ knots. knots ++ lines_from b xs (later b.block [] at)) (lines-unsplit b.block cut_there (ending_at b (nodes_of b xs)) at (unsplit-here b xs tree i at stands other))
-      ∙ ap (λ ats. AtTip (ending_at b (nodes_of b xs) at) ∷ lines_from b xs ats) (sym next)
+  pub terminal-line : (node_at xs i).state ≢ state.Split → to ≡ later b.block [] at →
+      lines_from b xs (at ∷ later b.block [] at) ≡ AtTerminal (ending_at b (nodes_of b xs) at) ∷ lines_from b xs to
+  terminal-line other next =
+      ap (λ vertices. vertices ++ lines_from b xs (later b.block [] at)) (lines-unsplit b.block cut_there (ending_at b (nodes_of b xs)) at (unsplit-here b xs tree i at stands other))
+      ∙ ap (λ ats. AtTerminal (ending_at b (nodes_of b xs) at) ∷ lines_from b xs ats) (sym next)
 
 -- where it is appended, these follow
 pub line-appended : {K : Type 0} (old new : List K) (k : K) (all rest : List K) → new ≡ old ++ k ∷ [] → all ≡ k ∷ rest → new ++ rest ≡ old ++ all

@@ -43,7 +43,7 @@ child-parent nodes parent (suc k) some =
 
 pub links-next : (nodes : List Node) (last before : List ℕ) (k p value : ℕ) → AreLinks nodes last before k → k < length nodes → p < length nodes → p ≡ parent_of nodes k → value ≡ get_or last p 0 →
     AreLinks nodes (set last p k) (set before k value) (k + 1)
-links-next nodes last before k p value links within above is told = record {
+links-next nodes last before k p value links within above is stated = record {
   last_child = last-child;
   sibling = sibling;
   lasts = length-set last p k ∙ links.lasts;
@@ -58,7 +58,7 @@ links-next nodes last before k p value links within above is told = record {
 
     sibling : (j : ℕ) → j < k + 1 → get_or (set before k value) j 0 ≡ child_below nodes (parent_of nodes j) j
     sibling j lt = elim (cases_eq j k) [
-      | inl e ↦ rw e (get_or-set_same before k value 0 (omega (arith, links.siblings, within)) ∙ (told ∙ (links.last_child p above ∙ ap (λ q. child_below nodes q k) is)))
+      | inl e ↦ rw e (get_or-set_same before k value 0 (omega (arith, links.siblings, within)) ∙ (stated ∙ (links.last_child p above ∙ ap (λ q. child_below nodes q k) is)))
       | inr ne ↦ get_or-set_other before k j value 0 ne ∙ links.sibling j (omega (arith, lt, ne))
     ]
 
@@ -71,8 +71,8 @@ pub record IsAtOrPast (nodes : List Node) (above last child : ℕ) : Type 0 wher
   pub parent : parent_of nodes child ≡ above
 
 pub last-past : (nodes : List Node) (lasts before : List ℕ) (above last child : ℕ) → AreLinks nodes lasts before (length nodes) → above < length nodes → HasChild nodes above last → child ≡ get_or lasts above 0 → IsAtOrPast nodes above last child
-last-past nodes lasts before above last child links lt has told =
-    let is : child ≡ child_below nodes above (length nodes) = told ∙ links.last_child above lt in
+last-past nodes lasts before above last child links lt has stated =
+    let is : child ≡ child_below nodes above (length nodes) = stated ∙ links.last_child above lt in
     let past : (other : HasChild nodes above last) → other.child ≤ child = λ other. omega (arith, is, child-last nodes above (length nodes) other.child other.is.within other.is.parent) in
     let some : 0 < child = omega (arith, past has, has.is.some) in
     record {
@@ -85,9 +85,9 @@ module _ (nodes : List Node) (lasts before : List ℕ) (above last child next : 
   pub child-here : (node_at nodes child).number ≡ last → IsChild nodes above last child
   child-here e = record { some = omega (arith, past.some has, has.is.some); within = past.within; parent = past.parent; number = e }
 
-  module _ (ne : (node_at nodes child).number ≢ last) (told : next ≡ get_or before child 0) where
+  module _ (ne : (node_at nodes child).number ≢ last) (stated : next ≡ get_or before child 0) where
     is-below : next ≡ child_below nodes above child
-    is-below = told ∙ (links.sibling child past.within ∙ ap (λ p. child_below nodes p child) past.parent)
+    is-below = stated ∙ (links.sibling child past.within ∙ ap (λ p. child_below nodes p child) past.parent)
 
     others : (other : HasChild nodes above last) → other.child < child
     others other =

@@ -9,21 +9,21 @@ use Rattle.s66_isa.specs.Table.{numbers}
 use Rattle.s66_model.specs.declared.rule.Rule.{Rule}
 use Rattle.s66_model.specs.Timing.{Problem, total_of}
 use Rattle.s66_model.specs.LegalOrder.{ready, is_ready}
-use Rattle.s66_model.specs.Tree.{Tree, Alone, Parted, Kids, NoMore, Unsplit, Split, Knot, KidsHold, TreeHolds, flat_kids, flat, kid_splits, splits}
-use Rattle.s66_model.specs.Piece.{Tip, IsPiece}
+use Rattle.s66_model.specs.Tree.{Tree, Alone, Parted, Siblings, NoMore, Unsplit, Split, Vertex, SiblingsHold, TreeHolds, flat_siblings, flat, sibling_splits, splits}
+use Rattle.s66_model.specs.Piece.{Terminal, IsPiece}
 use Rattle.s66_model.specs.Ledger as model
 use Rattle.s66_model.specs.Ledger.{Graft, Taken, NotOut, OtherPrefix, OverAllowance, Moves, root_state, new_nodes, AreNamed}
 use Rattle.s66_model.proofs.Beginnings.{length-rising}
 use Rattle.s66_time.specs.TimedOrder.{TimedOrder}
-use Rattle.s66_model.specs.Told.{Told, tip_of}
-use Rattle.s66_node.specs.Pieces.{PieceOf, told_tree, tree_of}
+use Rattle.s66_model.specs.Stated.{Stated, terminal_of}
+use Rattle.s66_node.specs.Pieces.{PieceOf, stated_tree, tree_of}
 use Rattle.s66_model.proofs.TreesHold.{seen-splits}
 use Rattle.s66_model.proofs.Forests.{tree-match}
 use Rattle.s66_ledger.specs.declared.node.Node.{Node}
 use Rattle.s66_ledger.specs.Nodes.{prefixes, nodes_of, lines_of, HaveFloors}
 use Rattle.s66_ledger.specs.Subtrees.{lines_below}
 use Rattle.s66_ledger.specs.DominatedNodes.{names_in}
-use Rattle.s66_node.specs.Outlines.{line_name, outline_of, names_of, IsOutlineOf}
+use Rattle.s66_node.specs.Skeletons.{line_name, skeleton_of, names_of, IsSkeletonOf}
 use Rattle.s66_model.specs.Preorder.{TreeMatches}
 use Rattle.s66_model.specs.Recorded.{TreeOpens}
 use Rattle.s66_ledger.proofs.Names.{take-map, grafted-names}
@@ -49,24 +49,24 @@ ready-few block prefix =
     passing-few test [] = omega arith
     passing-few test (n ∷ ns) = omega (arith, at-most (test n), passing-few test ns)
 
-module _ (block : List Instr) (Q : List ℕ → Told → Type 0) (few : length block ≤ BLOCK_LIMIT) where
-  kids-lines : (prefix ns : List ℕ) (kids : Kids Told) → KidsHold block Q prefix ns kids → length (flat_kids kids) ≤ length ns + BLOCK_LIMIT * kid_splits kids
-  kids-lines prefix [] NoMore h = omega arith
-  kids-lines prefix (n ∷ ns) NoMore h = absurd h
-  kids-lines prefix [] (Unsplit t kids) h = absurd h
-  kids-lines prefix (n ∷ ns) (Unsplit t kids) h = omega (arith, kids-lines prefix ns kids h.1)
-  kids-lines prefix [] (Split numbers sub kids) h = absurd h
-  kids-lines prefix (n ∷ ns) (Split numbers sub kids) h =
-      omega (arith, kids-lines (prefix ++ n ∷ []) numbers sub h.2, kids-lines prefix ns kids h.3, length-append (flat_kids sub) (flat_kids kids), ap length h.1, ready-few block (prefix ++ n ∷ []), few)
+module _ (block : List Instr) (Q : List ℕ → Stated → Type 0) (few : length block ≤ BLOCK_LIMIT) where
+  siblings-lines : (prefix ns : List ℕ) (siblings : Siblings Stated) → SiblingsHold block Q prefix ns siblings → length (flat_siblings siblings) ≤ length ns + BLOCK_LIMIT * sibling_splits siblings
+  siblings-lines prefix [] NoMore h = omega arith
+  siblings-lines prefix (n ∷ ns) NoMore h = absurd h
+  siblings-lines prefix [] (Unsplit t siblings) h = absurd h
+  siblings-lines prefix (n ∷ ns) (Unsplit t siblings) h = omega (arith, siblings-lines prefix ns siblings h.1)
+  siblings-lines prefix [] (Split numbers sub siblings) h = absurd h
+  siblings-lines prefix (n ∷ ns) (Split numbers sub siblings) h =
+      omega (arith, siblings-lines (prefix ++ n ∷ []) numbers sub h.2, siblings-lines prefix ns siblings h.3, length-append (flat_siblings sub) (flat_siblings siblings), ap length h.1, ready-few block (prefix ++ n ∷ []), few)
 
-  tree-lines : (prefix : List ℕ) (tree : Tree Told) → TreeHolds block Q prefix tree → length (flat tree) ≤ 1 + BLOCK_LIMIT * splits tree
+  tree-lines : (prefix : List ℕ) (tree : Tree Stated) → TreeHolds block Q prefix tree → length (flat tree) ≤ 1 + BLOCK_LIMIT * splits tree
   tree-lines prefix (Alone t) h = omega arith
-  tree-lines prefix (Parted numbers kids) h = omega (arith, kids-lines prefix numbers kids h.2, ap length h.1, ready-few block prefix, few)
+  tree-lines prefix (Parted numbers siblings) h = omega (arith, siblings-lines prefix numbers siblings h.2, ap length h.1, ready-few block prefix, few)
 
 -- a piece has at most a line for its root and one for each child of a split
-pub piece-lines : (p : PieceOf) → IsPlain p → flat (told_tree p) ≡ p.knots → length p.problem.block ≤ BLOCK_LIMIT → length p.knots ≤ 1 + BLOCK_LIMIT * splits (tree_of p)
-piece-lines p told lines few =
-    omega (arith, ap length lines, tree-lines p.problem.block (PlainHolds p.problem) few p.prefix (told_tree p) told, seen-splits (tip_of p.problem) (told_tree p) p.prefix (tree-match p.problem.block (PlainHolds p.problem) (told_tree p) p.prefix told))
+pub piece-lines : (p : PieceOf) → IsPlain p → flat (stated_tree p) ≡ p.vertices → length p.problem.block ≤ BLOCK_LIMIT → length p.vertices ≤ 1 + BLOCK_LIMIT * splits (tree_of p)
+piece-lines p stated lines few =
+    omega (arith, ap length lines, tree-lines p.problem.block (PlainHolds p.problem) few p.prefix (stated_tree p) stated, seen-splits (terminal_of p.problem) (stated_tree p) p.prefix (tree-match p.problem.block (PlainHolds p.problem) (stated_tree p) p.prefix stated))
 
 -- REPLIES
 
@@ -75,7 +75,7 @@ module _ (rule : Rule) (b : Problem) (budget : ℕ) (nodes : List Node) (best : 
   here = machine_of rule b budget nodes best.numbers left allowances spent
 
   -- what is taken of it
-  abbrev whole : Tree Tip
+  abbrev whole : Tree Terminal
   whole = tree_of (opened p)
 
   prefix-is : i < length nodes → (model.node_at (nodes_of b nodes) i).prefix ≡ get_or (prefixes nodes) i []
@@ -108,18 +108,18 @@ module _ (rule : Rule) (b : Problem) (budget : ℕ) (nodes : List Node) (best : 
     pub piece-floors : HaveFloors p.problem nodes
     piece-floors = subst (λ (q : Problem). HaveFloors q nodes) (sym same) h.floors
 
-    module _ (taken : List (Knot Told)) (new : List Node) (count : ℕ) (out : IsOut nodes i) (over : get_or (prefixes nodes) i [] ≡ p.prefix) (counts : count ≡ splits (tree_of (with_lines p taken))) (within : count ≤ get_or allowances (w - 1) 0) (piece : IsPiece p.rule p.problem p.prefix (tree_of (with_lines p taken))) (named : AreNamed p.rule p.problem (nodes_of p.problem new) p.prefix (tree_of (with_lines p taken))) (planted : nodes_of p.problem new ≡ model.with_state (nodes_of p.problem nodes) i (root_state p.problem (total_of best.problem best.numbers) p.prefix (tree_of (with_lines p taken))) ++ new_nodes p.problem (total_of best.problem best.numbers) p.prefix (tree_of (with_lines p taken))) where
+    module _ (taken : List (Vertex Stated)) (new : List Node) (count : ℕ) (out : IsOut nodes i) (over : get_or (prefixes nodes) i [] ≡ p.prefix) (counts : count ≡ splits (tree_of (with_lines p taken))) (within : count ≤ get_or allowances (w - 1) 0) (piece : IsPiece p.rule p.problem p.prefix (tree_of (with_lines p taken))) (named : AreNamed p.rule p.problem (nodes_of p.problem new) p.prefix (tree_of (with_lines p taken))) (attached : nodes_of p.problem new ≡ model.with_state (nodes_of p.problem nodes) i (root_state p.problem (total_of best.problem best.numbers) p.prefix (tree_of (with_lines p taken))) ++ new_nodes p.problem (total_of best.problem best.numbers) p.prefix (tree_of (with_lines p taken))) where
       abbrev after : MachineOf
       after = machine_of rule b budget new best.numbers left (set allowances (w - 1) (get_or allowances (w - 1) 0 - count)) (spent + count)
 
       -- as it is taken
-      abbrev part : Tree Tip
+      abbrev part : Tree Terminal
       part = tree_of (with_lines p taken)
 
       made : nodes_of b new ≡ model.with_state (nodes_of b nodes) i (root_state b (total_of b best.numbers) p.prefix part) ++ new_nodes b (total_of b best.numbers) p.prefix part
       made =
           subst (λ (q : Problem). nodes_of b new ≡ model.with_state (nodes_of b nodes) i (root_state b (total_of q best.numbers) p.prefix part) ++ new_nodes b (total_of q best.numbers) p.prefix part) h.own
-          (subst (λ (q : Problem). nodes_of q new ≡ model.with_state (nodes_of q nodes) i (root_state q (total_of best.problem best.numbers) p.prefix part) ++ new_nodes q (total_of best.problem best.numbers) p.prefix part) same planted)
+          (subst (λ (q : Problem). nodes_of q new ≡ model.with_state (nodes_of q nodes) i (root_state q (total_of best.problem best.numbers) p.prefix part) ++ new_nodes q (total_of best.problem best.numbers) p.prefix part) same attached)
 
       taken-moves : Moves rule b (state_of b nodes best.numbers left allowances spent) (Graft w i true p.prefix (splits part) (Some part)) Taken after.state
       taken-moves =
@@ -131,9 +131,9 @@ module _ (rule : Rule) (b : Problem) (budget : ℕ) (nodes : List Node) (best : 
           subst (λ r. AreNamed r b (nodes_of b new) p.prefix part) (owns.0 mine).0 (subst (λ (q : Problem). AreNamed p.rule q (nodes_of q new) p.prefix part) same named) in
           (is-out b nodes best.numbers left allowances spent i out, (refl, sym over ∙ sym (prefix-is out.0)), omega (arith, counts, within), refl, is_piece, state, are_named)
 
-      pub graft-taken : (l : MachineOf) → here ≡ l → length taken ≡ length p.knots → 0 < length p.knots → take 1 taken ≡ take 1 (opened p).knots → TreeOpens (tree_of p) part → IsOutlineOf (with_lines p taken) (outline_of (with_lines p taken)) (names_of (with_lines p taken)) → TreeMatches (told_tree (with_lines p taken)) → flat (told_tree (with_lines p taken)) ≡ taken → lines_of new ≡ lines_of nodes ++ lines_below (with_lines p taken) → IsTakenMove l w i p after
-      graft-taken l is many some root opens outline match preorder lines =
-          let nameless : take 1 (names_of (with_lines p taken)) ≡ [] ∷ [] = take-map line_name taken ∙ (ap (map line_name) root ∙ (sym (take-map line_name (opened p).knots) ∙ opened-nameless p some)) in
+      pub graft-taken : (l : MachineOf) → here ≡ l → length taken ≡ length p.vertices → 0 < length p.vertices → take 1 taken ≡ take 1 (opened p).vertices → TreeOpens (tree_of p) part → IsSkeletonOf (with_lines p taken) (skeleton_of (with_lines p taken)) (names_of (with_lines p taken)) → TreeMatches (stated_tree (with_lines p taken)) → flat (stated_tree (with_lines p taken)) ≡ taken → lines_of new ≡ lines_of nodes ++ lines_below (with_lines p taken) → IsTakenMove l w i p after
+      graft-taken l is many some root opens skeleton match preorder lines =
+          let nameless : take 1 (names_of (with_lines p taken)) ≡ [] ∷ [] = take-map line_name taken ∙ (ap (map line_name) root ∙ (sym (take-map line_name (opened p).vertices) ∙ opened-nameless p some)) in
           subst (λ (l : MachineOf). IsTakenMove l w i p after) is
           (record {
             rule = (owns.0 mine).0;
@@ -142,7 +142,7 @@ module _ (rule : Rule) (b : Problem) (budget : ℕ) (nodes : List Node) (best : 
             count = many;
             root = root;
             opens = opens;
-            outline = outline;
+            skeleton = skeleton;
             lines = lines;
             names =
                 ap names_in made
@@ -150,7 +150,7 @@ module _ (rule : Rule) (b : Problem) (budget : ℕ) (nodes : List Node) (best : 
             move = (refl, refl, length-set allowances (w - 1) (get_or allowances (w - 1) 0 - count), ((one, le), taken-moves), refl);
           })
 
-      pub kept-taken : HaveFloors p.problem new → length new + 1 ≡ length nodes + length p.knots → length p.knots ≤ 1 + BLOCK_LIMIT * splits part → IsKept rule b budget new best left (set allowances (w - 1) (get_or allowances (w - 1) 0 - count)) (spent + count)
+      pub kept-taken : HaveFloors p.problem new → length new + 1 ≡ length nodes + length p.vertices → length p.vertices ≤ 1 + BLOCK_LIMIT * splits part → IsKept rule b budget new best left (set allowances (w - 1) (get_or allowances (w - 1) 0 - count)) (spent + count)
       kept-taken floors made lines =
           kept-next rule b budget nodes best left allowances spent h new best left (set allowances (w - 1) (get_or allowances (w - 1) 0 - count)) (spent + count) (Graft w i true p.prefix (splits part) (Some part)) Taken h.own
           (subst (λ (q : Problem). HaveFloors q new) same floors) (omega (arith, made, lines, counts, h.room)) (length-set allowances (w - 1) (get_or allowances (w - 1) 0 - count)) ((one, le), taken-moves)

@@ -13,8 +13,8 @@ pub mod LiveCounts
 pub mod LiveFloors
 pub mod OpenHeap
 pub mod Opened
-pub mod Planted
-pub mod PlantedNodes
+pub mod Attached
+pub mod AttachedNodes
 pub mod NodePrefixes
 pub mod Names
 pub mod NamedLines

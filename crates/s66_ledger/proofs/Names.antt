@@ -5,12 +5,12 @@ use Rattle.s66_model.specs.declared.rule.Rule.{Rule}
 use Rattle.s66_model.specs.Timing.{Problem}
 use Rattle.s66_model.specs.Leaves.{Leaf, floor, value}
 use Rattle.s66_model.specs.DominatedLeaves.{Bounding}
-use Rattle.s66_model.specs.Tree.{Tree, Alone, Parted, Kids, NoMore, Unsplit, Split, Knot, AtTip, flat_kids, flat}
-use Rattle.s66_model.specs.Preorder.{KidsMatch, TreeMatches}
-use Rattle.s66_model.specs.Told.{Told, ToldLeaf, ToldFrontier, ToldPassed, tip_of, kids_seen, tree_seen}
-use Rattle.s66_model.specs.Ledger.{Ledger, Node, State, Open, Out, Closed, node_at, with_state, state_of, root_state, kid_nodes, new_nodes, Event, Grant, Claim, Graft, Offer, Back, Retire, Reply, Granted, Claimed, Taken, NotOut, OtherPrefix, OverAllowance, Lower, NotLower, OtherBlock, Returned, Retired, Moves}
-use Rattle.s66_node.specs.Outlines.{line_name, names_of}
-use Rattle.s66_node.specs.Pieces.{PieceOf, told_tree, tree_of}
+use Rattle.s66_model.specs.Tree.{Tree, Alone, Parted, Siblings, NoMore, Unsplit, Split, Vertex, AtTerminal, flat_siblings, flat}
+use Rattle.s66_model.specs.Preorder.{SiblingsMatch, TreeMatches}
+use Rattle.s66_model.specs.Stated.{Stated, StatedLeaf, StatedFrontier, StatedPassed, terminal_of, siblings_seen, tree_seen}
+use Rattle.s66_model.specs.Ledger.{Ledger, Node, State, Open, Out, Closed, node_at, with_state, state_of, root_state, sibling_nodes, new_nodes, Event, Grant, Claim, Graft, Offer, Back, Retire, Reply, Granted, Claimed, Taken, NotOut, OtherPrefix, OverAllowance, Lower, NotLower, OtherBlock, Returned, Retired, Moves}
+use Rattle.s66_node.specs.Skeletons.{line_name, names_of}
+use Rattle.s66_node.specs.Pieces.{PieceOf, stated_tree, tree_of}
 use Rattle.s66_ledger.specs.DominatedNodes.{state_name, names_in}
 
 pub take-map : {X Y : Type 0} (f : X → Y) (xs : List X) → take 1 (map f xs) ≡ map f (take 1 xs)
@@ -67,42 +67,42 @@ module _ (b : Problem) (best : ℕ) where
       by true = refl
       by false = refl
 
-  tip-name : (at : List ℕ) (told : Told) → state_name (state_of b best at (tip_of b at told)) ≡ line_name (AtTip told)
-  tip-name at (ToldLeaf v) = leaf-name at (floor b at)
-  tip-name at (ToldFrontier v) = refl
-  tip-name at (ToldPassed v name) = refl
+  terminal-name : (at : List ℕ) (stated : Stated) → state_name (state_of b best at (terminal_of b at stated)) ≡ line_name (AtTerminal stated)
+  terminal-name at (StatedLeaf v) = leaf-name at (floor b at)
+  terminal-name at (StatedFrontier v) = refl
+  terminal-name at (StatedPassed v name) = refl
 
-  kids-named : (kids : Kids Told) (at ns : List ℕ) → KidsMatch ns kids → names_in (kid_nodes b best at ns (kids_seen (tip_of b) at ns kids)) ≡ map line_name (flat_kids kids)
-  kids-named NoMore at [] h = refl
-  kids-named NoMore at (n ∷ ns) h = absurd h
-  kids-named (Unsplit told kids) at [] h = absurd h
-  kids-named (Unsplit told kids) at (n ∷ ns) h = rw (tip-name (at ++ n ∷ []) told, kids-named kids at ns h) refl
-  kids-named (Split numbers sub kids) at [] h = absurd h
-  kids-named (Split numbers sub kids) at (n ∷ ns) h =
+  siblings-named : (siblings : Siblings Stated) (at ns : List ℕ) → SiblingsMatch ns siblings → names_in (sibling_nodes b best at ns (siblings_seen (terminal_of b) at ns siblings)) ≡ map line_name (flat_siblings siblings)
+  siblings-named NoMore at [] h = refl
+  siblings-named NoMore at (n ∷ ns) h = absurd h
+  siblings-named (Unsplit stated siblings) at [] h = absurd h
+  siblings-named (Unsplit stated siblings) at (n ∷ ns) h = rw (terminal-name (at ++ n ∷ []) stated, siblings-named siblings at ns h) refl
+  siblings-named (Split numbers sub siblings) at [] h = absurd h
+  siblings-named (Split numbers sub siblings) at (n ∷ ns) h =
       let below = at ++ n ∷ [] in
       ap (λ names. [] ∷ names)
-      (map-append (λ (x : Node). state_name x.state) (kid_nodes b best below numbers (kids_seen (tip_of b) below numbers sub)) (kid_nodes b best at ns (kids_seen (tip_of b) at ns kids))
-      ∙ (rw (kids-named sub below numbers h.0, kids-named kids at ns h.1) refl
-      ∙ sym (map-append line_name (flat_kids sub) (flat_kids kids))))
+      (map-append (λ (x : Node). state_name x.state) (sibling_nodes b best below numbers (siblings_seen (terminal_of b) below numbers sub)) (sibling_nodes b best at ns (siblings_seen (terminal_of b) at ns siblings))
+      ∙ (rw (siblings-named sub below numbers h.0, siblings-named siblings at ns h.1) refl
+      ∙ sym (map-append line_name (flat_siblings sub) (flat_siblings siblings))))
 
-  tree-named : (tree : Tree Told) (at : List ℕ) → TreeMatches tree → names_in (new_nodes b best at (tree_seen (tip_of b) at tree)) ≡ drop 1 (map line_name (flat tree))
-  tree-named (Alone told) at h = refl
-  tree-named (Parted numbers kids) at h = kids-named kids at numbers h
+  tree-named : (tree : Tree Stated) (at : List ℕ) → TreeMatches tree → names_in (new_nodes b best at (tree_seen (terminal_of b) at tree)) ≡ drop 1 (map line_name (flat tree))
+  tree-named (Alone stated) at h = refl
+  tree-named (Parted numbers siblings) at h = siblings-named siblings at numbers h
 
-  root-named : (tree : Tree Told) (at : List ℕ) → take 1 (map line_name (flat tree)) ≡ [] ∷ [] → state_name (root_state b best at (tree_seen (tip_of b) at tree)) ≡ []
-  root-named (Alone told) at h = let none : line_name (AtTip told) ≡ [] = cc in tip-name at told ∙ none
-  root-named (Parted numbers kids) at h = refl
+  root-named : (tree : Tree Stated) (at : List ℕ) → take 1 (map line_name (flat tree)) ≡ [] ∷ [] → state_name (root_state b best at (tree_seen (terminal_of b) at tree)) ≡ []
+  root-named (Alone stated) at h = let none : line_name (AtTerminal stated) ≡ [] = cc in terminal-name at stated ∙ none
+  root-named (Parted numbers siblings) at h = refl
 
   -- in the place of a node that was out
-  pub grafted-names : (p : PieceOf) (nodes : List Node) (i : ℕ) → p.problem ≡ b → (node_at nodes i).state ≡ Out → TreeMatches (told_tree p) → flat (told_tree p) ≡ p.knots → take 1 (names_of p) ≡ [] ∷ [] →
+  pub grafted-names : (p : PieceOf) (nodes : List Node) (i : ℕ) → p.problem ≡ b → (node_at nodes i).state ≡ Out → TreeMatches (stated_tree p) → flat (stated_tree p) ≡ p.vertices → take 1 (names_of p) ≡ [] ∷ [] →
       names_in (with_state nodes i (root_state b best p.prefix (tree_of p)) ++ new_nodes b best p.prefix (tree_of p)) ≡ names_in nodes ++ drop 1 (names_of p)
   grafted-names p nodes i own out match preorder root =
-      let tree = told_tree p in
-      let seen : tree_of p ≡ tree_seen (tip_of b) p.prefix tree = ap (λ q. tree_seen (tip_of q) p.prefix tree) own in
+      let tree = stated_tree p in
+      let seen : tree_of p ≡ tree_seen (terminal_of b) p.prefix tree = ap (λ q. tree_seen (terminal_of q) p.prefix tree) own in
       let none : state_name (root_state b best p.prefix (tree_of p)) ≡ [] =
-      ap (λ t. state_name (root_state b best p.prefix t)) seen ∙ root-named tree p.prefix (ap (λ (ks : List (Knot Told)). take 1 (map line_name ks)) preorder ∙ root) in
+      ap (λ t. state_name (root_state b best p.prefix t)) seen ∙ root-named tree p.prefix (ap (λ (ks : List (Vertex Stated)). take 1 (map line_name ks)) preorder ∙ root) in
       let below : names_in (new_nodes b best p.prefix (tree_of p)) ≡ drop 1 (names_of p) =
-      ap (λ t. names_in (new_nodes b best p.prefix t)) seen ∙ (tree-named tree p.prefix match ∙ ap (λ (ks : List (Knot Told)). drop 1 (map line_name ks)) preorder) in
+      ap (λ t. names_in (new_nodes b best p.prefix t)) seen ∙ (tree-named tree p.prefix match ∙ ap (λ (ks : List (Vertex Stated)). drop 1 (map line_name ks)) preorder) in
       map-append (λ (x : Node). state_name x.state) (with_state nodes i (root_state b best p.prefix (tree_of p))) (new_nodes b best p.prefix (tree_of p))
       ∙ (ap (λ names. names ++ names_in (new_nodes b best p.prefix (tree_of p))) (names-set nodes i (root_state b best p.prefix (tree_of p)) (ap state_name out) none)
       ∙ ap (λ names. names_in nodes ++ names) below)

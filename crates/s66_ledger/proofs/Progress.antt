@@ -5,7 +5,7 @@ use Rattle.s66_model.specs.declared.rule.Rule.{Rule}
 use Rattle.s66_model.specs.Timing.{Problem, total_of}
 use Rattle.s66_model.specs.Leaves.{Whole, value, floor_value}
 use Rattle.s66_model.specs.Tree.{Tree, Alone, Parted, splits}
-use Rattle.s66_model.specs.Piece.{Tip, Carries, Frontier, Passed}
+use Rattle.s66_model.specs.Piece.{Terminal, Carries, Frontier, Passed}
 use Rattle.s66_model.specs.Expansion.{IsExpansion}
 use Rattle.s66_model.specs.Ledger.{Ledger, Node, Claim, Back, Claimed, Returned, best_time, allowance, is_open, node_at}
 use Rattle.s66_model.specs.Coverage.{Covers}
@@ -26,7 +26,7 @@ use Rattle.s66_ledger.proofs.Rounds.{leads-graft, claim-within, claim-back, graf
 
 -- A PIECE GAINS: its tree has a split, or its least whole order is below the best time
 
-abbrev Gains : Problem → ℕ → Tree Tip → Option TimedOrder → Type 0
+abbrev Gains : Problem → ℕ → Tree Terminal → Option TimedOrder → Type 0
 Gains b best tree timed = (1 ≤ splits tree) ⊎ ((t : TimedOrder) × (timed ≡ Some t) × (total_of b t.numbers < best))
 
 whole-gains : (b : Problem) (best : ℕ) (prefix : List ℕ) (timed : Option TimedOrder) → total_of b prefix < best → IsBestTimed b prefix (Alone (Carries Whole)) timed → Gains b best (Alone (Carries Whole)) timed
@@ -34,8 +34,8 @@ whole-gains b best prefix None below is = absurd cc
 whole-gains b best prefix (Some t) below (own, (inl same, least)) = inr (t, refl, omega (arith, below, ap (total_of b) same))
 whole-gains b best prefix (Some t) below (own, (inr past, least)) = absurd past
 
-pub expansion-gains : (rule : Rule) (b : Problem) (best allowance : ℕ) (prefix : List ℕ) (tree : Tree Tip) (timed : Option TimedOrder) → IsExpansion rule b best best allowance prefix tree → 1 ≤ allowance → floor_value b prefix < best → IsBestTimed b prefix tree timed → Gains b best tree timed
-expansion-gains rule b best allowance prefix (Parted numbers kids) timed h some below is = inl (omega arith)
+pub expansion-gains : (rule : Rule) (b : Problem) (best allowance : ℕ) (prefix : List ℕ) (tree : Tree Terminal) (timed : Option TimedOrder) → IsExpansion rule b best best allowance prefix tree → 1 ≤ allowance → floor_value b prefix < best → IsBestTimed b prefix tree timed → Gains b best tree timed
+expansion-gains rule b best allowance prefix (Parted numbers siblings) timed h some below is = inl (omega arith)
 expansion-gains rule b best allowance prefix (Alone Frontier) timed h some below is = absurd (omega (arith, h.due some h.piece.0 below))
 expansion-gains rule b best allowance prefix (Alone (Passed name)) timed h some below is =
     (let stands = root-stands rule b best prefix (Alone (Passed name)) h.piece.0 in absurd cc)

@@ -6,14 +6,14 @@ use Rattle.s66_isa.specs.Lists.{weigh, rising}
 use Rattle.s66_isa.proofs.Lists.{weigh-append}
 use Rattle.s66_model.specs.declared.rule.Rule.{Rule}
 use Rattle.s66_model.specs.Timing.{Problem, total_of}
-use Rattle.s66_model.specs.Tree.{Tree, Knot, splits}
-use Rattle.s66_model.specs.Told.{Told}
-use Rattle.s66_model.specs.Piece.{Tip}
+use Rattle.s66_model.specs.Tree.{Tree, Vertex, splits}
+use Rattle.s66_model.specs.Stated.{Stated}
+use Rattle.s66_model.specs.Piece.{Terminal}
 use Rattle.s66_model.specs.Ledger.{Ledger, Node, Event, Graft, Offer, Reply, Taken, Moves, Run, opening}
 use Rattle.s66_model.specs.Recorded.{IsOwn, IsOwnPiece, IsOfferOf, graft_event}
 use Rattle.s66_model.specs.Accounts.{Account, account_of}
 use Rattle.s66_model.proofs.Histories.{run-next, history-spent}
-use Rattle.s66_node.specs.Outlines.{line_byte, line_name, names_of, outline_of, outline_prefix, outline_tree}
+use Rattle.s66_node.specs.Skeletons.{line_byte, line_name, names_of, skeleton_of, skeleton_prefix, skeleton_tree}
 use Rattle.s66_node.specs.Pieces.{PieceOf, tree_of}
 use Rattle.s66_ledger.specs.declared.entry.Entry.{Entry}
 use Rattle.s66_ledger.specs.declared.entry.Refusal.{Refusal}
@@ -49,7 +49,7 @@ entries-next b (e ∷ es) bytes lines names entry own own_lines own_names all al
     let lines_rest : weigh line_count es ≡ length (drop (line_count e) lines) = omega (arith, all_lines, length-drop (line_count e) lines) in
     let names_rest : weigh line_count es ≡ length (drop (line_count e) names) = omega (arith, all_names, length-drop (line_count e) names) in
     rw (take-append-le (byte_count e) bytes own within, drop-append-le (byte_count e) bytes own within, take-append-le (line_count e) lines own_lines lines_within, drop-append-le (line_count e) lines own_lines lines_within, take-append-le (line_count e) names own_names names_within, drop-append-le (line_count e) names own_names names_within)
-    (ap (λ told. entry_of b e (take (byte_count e) bytes) (take (line_count e) lines) (take (line_count e) names) ∷ told) (entries-next b es (drop (byte_count e) bytes) (drop (line_count e) lines) (drop (line_count e) names) entry own own_lines own_names rest lines_rest names_rest counted lines_counted names_counted))
+    (ap (λ stated. entry_of b e (take (byte_count e) bytes) (take (line_count e) lines) (take (line_count e) names) ∷ stated) (entries-next b es (drop (byte_count e) bytes) (drop (line_count e) lines) (drop (line_count e) names) entry own own_lines own_names rest lines_rest names_rest counted lines_counted names_counted))
 
 -- room is reserved, and the entry pushed with its own bytes; the machine has its lines, with their names
 module _ (m next : MachineOf) (before reserved after : List Entry) (bytes all : List ℕ) (entry : Entry) (own own_lines : List ℕ) (own_names : List (List ℕ)) (event : Event) (reply : Reply) (moved : IsMove m event reply next) (more : next.lines ≡ m.lines ++ own_lines) (named : names_in next.state.nodes ≡ names_in m.state.nodes ++ own_names) (is : entry_of m.problem entry own own_lines own_names ≡ (event, reply)) (same : reserved ≡ before) (pushed : after ≡ reserved ++ entry ∷ []) (put : all ≡ bytes ++ own) (counted : byte_count entry ≡ length own) (lines_counted : line_count entry ≡ length own_lines) (names_counted : line_count entry ≡ length own_names) (kept : IsRecorded (with_history m before bytes)) where
@@ -128,8 +128,8 @@ is-other (offered.NotLower least) = false
 -- what is answered to an offer tells it
 pub offered-own : (rule : Rule) (b p : Problem) (old new : Ledger) (w : ℕ) (order : List ℕ) (event : Event) (answer : Offered) (own : Bool) → IsOfferOf b w p order event → Moves rule b old event (offered_reply answer) new → (answer ≡ offered.OtherBlock → own ≡ false) → (answer ≢ offered.OtherBlock → own ≡ true) → IsOwn b p own
 offered-own rule b p old new w order event answer own (other, owns, is) moves foreign ours =
-    let told : Moves rule b old (Offer w other order (total_of p order)) (offered_reply answer) new = subst (λ e. Moves rule b old e (offered_reply answer) new) is moves in
-    subst (IsOwn b p) (sym (same answer told foreign ours)) owns
+    let stated : Moves rule b old (Offer w other order (total_of p order)) (offered_reply answer) new = subst (λ e. Moves rule b old e (offered_reply answer) new) is moves in
+    subst (IsOwn b p) (sym (same answer stated foreign ours)) owns
   where
     same : (a : Offered) → Moves rule b old (Offer w other order (total_of p order)) (offered_reply a) new → (a ≡ offered.OtherBlock → own ≡ false) → (a ≢ offered.OtherBlock → own ≡ true) → own ≡ other
     same offered.Lower h foreign ours = ours (λ e. true≢false (sym (ap is-other e))) ∙ sym h.0.0
@@ -138,38 +138,38 @@ offered-own rule b p old new w order event answer own (other, owns, is) moves fo
 
 -- ENTRIES
 
-abbrev told : Event → Reply → Event × Reply
-told event reply = (event, reply)
+abbrev stated : Event → Reply → Event × Reply
+stated event reply = (event, reply)
 
-pub offer-entry : (b p : Problem) (w : ℕ) (order numbers : List ℕ) (own : Bool) (time : ℕ) (reply : Reply) (event : Event) → IsOwn b p own → numbers ≡ order → time ≡ total_of p order → IsOfferOf b w p order event → told (Offer w own numbers time) reply ≡ told event reply
+pub offer-entry : (b p : Problem) (w : ℕ) (order numbers : List ℕ) (own : Bool) (time : ℕ) (reply : Reply) (event : Event) → IsOwn b p own → numbers ≡ order → time ≡ total_of p order → IsOfferOf b w p order event → stated (Offer w own numbers time) reply ≡ stated event reply
 offer-entry b p w order numbers own time reply event owns same total (other, others, is) =
-    ap (λ ns. told (Offer w own ns time) reply) same
-    ∙ (ap (λ t. told (Offer w own order t) reply) total
-    ∙ (ap (λ o. told (Offer w o order (total_of p order)) reply) (own-same b p own other owns others)
-    ∙ ap (λ e. told e reply) (sym is)))
+    ap (λ ns. stated (Offer w own ns time) reply) same
+    ∙ (ap (λ t. stated (Offer w own order t) reply) total
+    ∙ (ap (λ o. stated (Offer w o order (total_of p order)) reply) (own-same b p own other owns others)
+    ∙ ap (λ e. stated e reply) (sym is)))
 
 module _ (m next : MachineOf) (w i : ℕ) (p : PieceOf) (count : ℕ) (counts : count ≡ splits (tree_of p)) where
   -- the bytes of the root and of the lines below it, and their names, tell what is taken of the piece
-  pub taken-entry : (outline : List ℕ) (names : List (List ℕ)) (depth : ℕ) (h : IsTakenMove m w i p next) → outline ≡ outline_of (with_lines p h.taken) → names ≡ names_of (with_lines p h.taken) → depth ≡ length p.prefix → told (Graft w i true (outline_prefix depth outline) count (Some (outline_tree m.problem depth outline names))) Taken ≡ told (taken_event w i p h.taken) Taken
-  taken-entry outline names depth h all named deep =
-      let whole : Tree Tip = tree_of (with_lines p h.taken) in
+  pub taken-entry : (skeleton : List ℕ) (names : List (List ℕ)) (depth : ℕ) (h : IsTakenMove m w i p next) → skeleton ≡ skeleton_of (with_lines p h.taken) → names ≡ names_of (with_lines p h.taken) → depth ≡ length p.prefix → stated (Graft w i true (skeleton_prefix depth skeleton) count (Some (skeleton_tree m.problem depth skeleton names))) Taken ≡ stated (taken_event w i p h.taken) Taken
+  taken-entry skeleton names depth h all named deep =
+      let whole : Tree Terminal = tree_of (with_lines p h.taken) in
       let same_count : count ≡ splits whole = counts ∙ same-splits (tree_of p) whole h.opens in
-      let prefix : outline_prefix depth outline ≡ p.prefix = rw (all, deep) h.outline.0 in
-      let tree : outline_tree m.problem depth outline names ≡ whole = ap (λ b. outline_tree b depth outline names) (sym h.problem) ∙ rw (all, named, deep) h.outline.1 in
-      ap (λ t. told (Graft w i true (outline_prefix depth outline) count (Some t)) Taken) tree
-      ∙ (ap (λ n. told (Graft w i true (outline_prefix depth outline) n (Some whole)) Taken) same_count
-      ∙ ap (λ at. told (Graft w i true at (splits whole) (Some whole)) Taken) prefix)
+      let prefix : skeleton_prefix depth skeleton ≡ p.prefix = rw (all, deep) h.skeleton.0 in
+      let tree : skeleton_tree m.problem depth skeleton names ≡ whole = ap (λ b. skeleton_tree b depth skeleton names) (sym h.problem) ∙ rw (all, named, deep) h.skeleton.1 in
+      ap (λ t. stated (Graft w i true (skeleton_prefix depth skeleton) count (Some t)) Taken) tree
+      ∙ (ap (λ n. stated (Graft w i true (skeleton_prefix depth skeleton) n (Some whole)) Taken) same_count
+      ∙ ap (λ at. stated (Graft w i true at (splits whole) (Some whole)) Taken) prefix)
 
   pub refused-move : (why : Refusal) → IsRefusedMove m w i p (error_of why) next → IsGraftMove m w i p (refusal_reply why) next
   refused-move refusal.NotOut h = h
   refused-move refusal.OtherPrefix h = h
   refused-move refusal.OverAllowance h = h
 
-  pub refused-entry : (own : Bool) (why : Refusal) → IsOwnPiece m.rule m.problem p.rule p.problem own → (h : IsGraftMove m w i p (refusal_reply why) next) → told (Graft w i own p.prefix count None) (refusal_reply why) ≡ told h.0 (refusal_reply why)
+  pub refused-entry : (own : Bool) (why : Refusal) → IsOwnPiece m.rule m.problem p.rule p.problem own → (h : IsGraftMove m w i p (refusal_reply why) next) → stated (Graft w i own p.prefix count None) (refusal_reply why) ≡ stated h.0 (refusal_reply why)
   refused-entry own why owned (event, (other, taken, owns, opens, is), move) =
-      ap (λ n. told (Graft w i own p.prefix n None) (refusal_reply why)) (counts ∙ same-splits (tree_of p) taken opens)
-      ∙ (ap (λ o. told (Graft w i o p.prefix (splits taken) None) (refusal_reply why)) (own-piece_same m.rule m.problem p.rule p.problem own other owned owns)
-      ∙ ap (λ e. told e (refusal_reply why)) (sym (is ∙ without-tree why)))
+      ap (λ n. stated (Graft w i own p.prefix n None) (refusal_reply why)) (counts ∙ same-splits (tree_of p) taken opens)
+      ∙ (ap (λ o. stated (Graft w i o p.prefix (splits taken) None) (refusal_reply why)) (own-piece_same m.rule m.problem p.rule p.problem own other owned owns)
+      ∙ ap (λ e. stated e (refusal_reply why)) (sym (is ∙ without-tree why)))
     where
       without-tree : (r : Refusal) → graft_event w i other p.prefix taken (refusal_reply r) ≡ Graft w i other p.prefix (splits taken) None
       without-tree refusal.NotOut = refl
@@ -179,16 +179,16 @@ module _ (m next : MachineOf) (w i : ℕ) (p : PieceOf) (count : ℕ) (counts : 
 -- the bytes of a root are put behind those that are kept, and its line's taken off
 pub prefix-kept : (p : PieceOf) (kept put left : List ℕ) (n depth : ℕ) → put ≡ kept ++ root_bytes p → n ≡ length kept → depth ≡ length p.prefix → left ≡ take (n + depth) put → left ≡ kept ++ p.prefix
 prefix-kept p kept put left n depth is count deep cut =
-    cut ∙ (rw (is, count, deep) (take-append-add kept (root_bytes p) (length p.prefix)) ∙ ap (λ at. kept ++ at) (take-append_seam p.prefix (take 1 (map line_byte p.knots))))
+    cut ∙ (rw (is, count, deep) (take-append-add kept (root_bytes p) (length p.prefix)) ∙ ap (λ at. kept ++ at) (take-append_seam p.prefix (take 1 (map line_byte p.vertices))))
 
 -- a piece's root has a line
-pub root-counted : (p : PieceOf) → 0 < length p.knots → length p.prefix + 1 ≡ length (root_bytes p)
+pub root-counted : (p : PieceOf) → 0 < length p.vertices → length p.prefix + 1 ≡ length (root_bytes p)
 root-counted p some =
-    omega (arith, some, length-append p.prefix (take 1 (map line_byte p.knots)), length-take 1 (map line_byte p.knots), length-map p.knots line_byte)
+    omega (arith, some, length-append p.prefix (take 1 (map line_byte p.vertices)), length-take 1 (map line_byte p.vertices), length-map p.vertices line_byte)
 
-pub root-outline : (p : PieceOf) → root_bytes p ++ lines_below p ≡ outline_of p
-root-outline p =
-    append_assoc p.prefix (take 1 (map line_byte p.knots)) (lines_below p) ∙ ap (λ lines. p.prefix ++ lines) (take-append-drop 1 (map line_byte p.knots))
+pub root-skeleton : (p : PieceOf) → root_bytes p ++ lines_below p ≡ skeleton_of p
+root-skeleton p =
+    append_assoc p.prefix (take 1 (map line_byte p.vertices)) (lines_below p) ∙ ap (λ lines. p.prefix ++ lines) (take-append-drop 1 (map line_byte p.vertices))
 
 -- THE LINES THAT ARE TAKEN
 
@@ -197,28 +197,28 @@ module _ (m next : MachineOf) (w i : ℕ) (p : PieceOf) (nodes : List node.Node)
   taken_piece = with_lines p h.taken
 
   some : 0 < length h.taken
-  some = omega (arith, of.count, h.count, length-map p.knots open_line)
+  some = omega (arith, of.count, h.count, length-map p.vertices open_line)
 
   -- the root's is the same
   pub taken-root : root_bytes (opened p) ≡ root_bytes taken_piece
   taken-root =
-      ap (λ bytes. p.prefix ++ bytes) (take-map line_byte (opened p).knots ∙ (ap (map line_byte) (sym h.root) ∙ sym (take-map line_byte h.taken)))
+      ap (λ bytes. p.prefix ++ bytes) (take-map line_byte (opened p).vertices ∙ (ap (map line_byte) (sym h.root) ∙ sym (take-map line_byte h.taken)))
 
   pub taken-root_counted : length p.prefix + 1 ≡ length (root_bytes taken_piece)
   taken-root_counted = root-counted taken_piece some
 
   -- a node for each line below the root, with its byte and its name
   pub taken-lines_counted : length nodes ≡ length (lines_below taken_piece)
-  taken-lines_counted = omega (arith, of.count, h.count, length-map p.knots open_line, length-drop 1 (map line_byte h.taken), length-map h.taken line_byte)
+  taken-lines_counted = omega (arith, of.count, h.count, length-map p.vertices open_line, length-drop 1 (map line_byte h.taken), length-map h.taken line_byte)
 
   pub taken-names_counted : length nodes ≡ length (drop 1 (names_of taken_piece))
-  taken-names_counted = omega (arith, of.count, h.count, length-map p.knots open_line, length-drop 1 (names_of taken_piece), length-map h.taken line_name)
+  taken-names_counted = omega (arith, of.count, h.count, length-map p.vertices open_line, length-drop 1 (names_of taken_piece), length-map h.taken line_name)
 
   -- the root has no name
   pub taken-names : [] ∷ drop 1 (names_of taken_piece) ≡ names_of taken_piece
-  taken-names = by h.taken p.knots h.root some
+  taken-names = by h.taken p.vertices h.root some
     where
-      by : (ts ks : List (Knot Told)) → take 1 ts ≡ take 1 (map open_line ks) → 0 < length ts → [] ∷ drop 1 (map line_name ts) ≡ map line_name ts
+      by : (ts ks : List (Vertex Stated)) → take 1 ts ≡ take 1 (map open_line ks) → 0 < length ts → [] ∷ drop 1 (map line_name ts) ≡ map line_name ts
       by [] ks is lt = absurd (omega arith)
       by (t ∷ ts) [] is lt = absurd cc
       by (t ∷ ts) (k ∷ ks) is lt =

@@ -12,11 +12,11 @@ use Rattle.s66_ledger.specs.declared.reply.Offered.{Offered}
 use Rattle.s66_ledger.specs.declared.reply.Offered.TheVariants as offered
 use Rattle.s66_ledger.specs.Replies.{offered_reply}
 use Rattle.s66_model.specs.Leaves.{value}
-use Rattle.s66_model.specs.Tree.{Tree, Alone, Parted, Kids, NoMore, Unsplit, Split, splits}
-use Rattle.s66_model.specs.Piece.{Tip, Carries, Frontier, Passed, IsPiece}
+use Rattle.s66_model.specs.Tree.{Tree, Alone, Parted, Siblings, NoMore, Unsplit, Split, splits}
+use Rattle.s66_model.specs.Piece.{Terminal, Carries, Frontier, Passed, IsPiece}
 use Rattle.s66_model.specs.Expansion.{whole_orders}
 use Rattle.s66_model.specs.DominatedLeaves.{Bounding}
-use Rattle.s66_model.specs.Ledger.{Ledger, Node, State, Open, Out, Cut, Closed, Grant, Claim, Graft, Back, Granted, Claimed, Taken, OverAllowance, Returned, no_node, node_at, with_state, is_out_state, is_out, is_live_state, best_time, allowance, share_of, state_of, root_state, kid_nodes, new_nodes, after_offer, after_graft, Offer, Moves, Event}
+use Rattle.s66_model.specs.Ledger.{Ledger, Node, State, Open, Out, Cut, Closed, Grant, Claim, Graft, Back, Granted, Claimed, Taken, OverAllowance, Returned, no_node, node_at, with_state, is_out_state, is_out, is_live_state, best_time, allowance, share_of, state_of, root_state, sibling_nodes, new_nodes, after_offer, after_graft, Offer, Moves, Event}
 use Rattle.s66_model.specs.Coverage.{Covers}
 use Rattle.s66_node.specs.Pieces.{PieceOf, tree_of}
 use Rattle.s66_ledger.specs.Tickets.{TicketOf}
@@ -50,35 +50,35 @@ none-among (x ∷ nodes) none node (inr later) = none-among nodes (omega (arith,
 
 -- NEW NODES are open, closed or split
 
-tip-not-out : (b : Problem) (best : ℕ) (at : List ℕ) (tip : Tip) → is_out_state (state_of b best at tip) ≡ false
-tip-not-out b best at (Carries leaf) = closed-or-open (nat_le best (value b at leaf))
+terminal-not-out : (b : Problem) (best : ℕ) (at : List ℕ) (terminal : Terminal) → is_out_state (state_of b best at terminal) ≡ false
+terminal-not-out b best at (Carries leaf) = closed-or-open (nat_le best (value b at leaf))
   where
     closed-or-open : (t : Bool) → is_out_state (cond t (Closed (Bounding leaf)) Open) ≡ false
     closed-or-open true = refl
     closed-or-open false = refl
-tip-not-out b best at Frontier = refl
-tip-not-out b best at (Passed name) = refl
+terminal-not-out b best at Frontier = refl
+terminal-not-out b best at (Passed name) = refl
 
-root-not-out : (b : Problem) (best : ℕ) (at : List ℕ) (tree : Tree Tip) → is_out_state (root_state b best at tree) ≡ false
-root-not-out b best at (Alone tip) = tip-not-out b best at tip
-root-not-out b best at (Parted numbers kids) = refl
+root-not-out : (b : Problem) (best : ℕ) (at : List ℕ) (tree : Tree Terminal) → is_out_state (root_state b best at tree) ≡ false
+root-not-out b best at (Alone terminal) = terminal-not-out b best at terminal
+root-not-out b best at (Parted numbers siblings) = refl
 
-kids-not-out : (b : Problem) (best : ℕ) (at ns : List ℕ) (kids : Kids Tip) → tally is_out (kid_nodes b best at ns kids) ≡ 0
-kids-not-out b best at [] kids = refl
-kids-not-out b best at (n ∷ ns) NoMore = refl
-kids-not-out b best at (n ∷ ns) (Unsplit tip kids) =
-    omega (arith, ap (λ t. cond {A = ℕ} t 1 0) (tip-not-out b best (at ++ n ∷ []) tip), kids-not-out b best at ns kids)
-kids-not-out b best at (n ∷ ns) (Split numbers sub kids) =
+siblings-not-out : (b : Problem) (best : ℕ) (at ns : List ℕ) (siblings : Siblings Terminal) → tally is_out (sibling_nodes b best at ns siblings) ≡ 0
+siblings-not-out b best at [] siblings = refl
+siblings-not-out b best at (n ∷ ns) NoMore = refl
+siblings-not-out b best at (n ∷ ns) (Unsplit terminal siblings) =
+    omega (arith, ap (λ t. cond {A = ℕ} t 1 0) (terminal-not-out b best (at ++ n ∷ []) terminal), siblings-not-out b best at ns siblings)
+siblings-not-out b best at (n ∷ ns) (Split numbers sub siblings) =
     omega (
       arith,
-      tally-append is_out (kid_nodes b best (at ++ n ∷ []) numbers sub) (kid_nodes b best at ns kids),
-      kids-not-out b best (at ++ n ∷ []) numbers sub,
-      kids-not-out b best at ns kids,
+      tally-append is_out (sibling_nodes b best (at ++ n ∷ []) numbers sub) (sibling_nodes b best at ns siblings),
+      siblings-not-out b best (at ++ n ∷ []) numbers sub,
+      siblings-not-out b best at ns siblings,
     )
 
-new-not-out : (b : Problem) (best : ℕ) (at : List ℕ) (tree : Tree Tip) → tally is_out (new_nodes b best at tree) ≡ 0
-new-not-out b best at (Alone tip) = refl
-new-not-out b best at (Parted numbers kids) = kids-not-out b best at numbers kids
+new-not-out : (b : Problem) (best : ℕ) (at : List ℕ) (tree : Tree Terminal) → tally is_out (new_nodes b best at tree) ≡ 0
+new-not-out b best at (Alone terminal) = refl
+new-not-out b best at (Parted numbers siblings) = siblings-not-out b best at numbers siblings
 
 -- A GRANT
 
@@ -188,10 +188,10 @@ offer-moved rule b old new w own order time (offered.NotLower least) h = h.3 ∙
 offer-moved rule b old new w own order time offered.OtherBlock h = h.1 ∙ ap (after_offer old) (sym (ap (λ (l : Ledger). l.best) h.1))
 
 pub offer-offers : (old new : MachineOf) (w : ℕ) (timed : TimedOrder) (answer : Offered) → ((event : Event) × IsOfferOf old.problem w timed.problem timed.numbers event × IsMove old event (offered_reply answer) new) → IsOffering old new
-offer-offers old new w timed answer (event, (own, iff, told), h) =
+offer-offers old new w timed answer (event, (own, iff, stated), h) =
     record {
       leads = event-leads old new event (offered_reply answer) h;
-      same = offer-moved old.rule old.problem old.state new.state w own timed.numbers (total_of timed.problem timed.numbers) answer (subst (λ (e : Event). Moves old.rule old.problem old.state e (offered_reply answer) new.state) told h.3.1);
+      same = offer-moved old.rule old.problem old.state new.state w own timed.numbers (total_of timed.problem timed.numbers) answer (subst (λ (e : Event). Moves old.rule old.problem old.state e (offered_reply answer) new.state) stated h.3.1);
     }
 
 pub offer-nowhere : (l : MachineOf) → IsOffering l l

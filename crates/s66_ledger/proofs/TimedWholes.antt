@@ -7,10 +7,10 @@ use Rattle.s66_model.specs.declared.rule.Rule.{Rule}
 use Rattle.s66_model.specs.Timing.{Problem, total_of}
 use Rattle.s66_model.specs.LegalOrder.{IsComplete}
 use Rattle.s66_model.specs.Leaves.{value, floor_value}
-use Rattle.s66_model.specs.Tree.{Tree, Alone, Parted, Kids, NoMore, Unsplit, Split, KidsHold, kid_values}
-use Rattle.s66_model.specs.Piece.{Tip, Carries, Frontier, Passed, TipHolds, IsPiece}
+use Rattle.s66_model.specs.Tree.{Tree, Alone, Parted, Siblings, NoMore, Unsplit, Split, SiblingsHold, sibling_values}
+use Rattle.s66_model.specs.Piece.{Terminal, Carries, Frontier, Passed, TerminalHolds, IsPiece}
 use Rattle.s66_model.specs.Expansion.{whole_at, whole_orders}
-use Rattle.s66_model.specs.Ledger.{Ledger, Node, State, no_node, node_at, is_live_state, is_live, with_state, best_time, IsOut, root_state, kid_nodes, new_nodes, after_graft}
+use Rattle.s66_model.specs.Ledger.{Ledger, Node, State, no_node, node_at, is_live_state, is_live, with_state, best_time, IsOut, root_state, sibling_nodes, new_nodes, after_graft}
 use Rattle.s66_model.proofs.Floors.{floor-whole}
 use Rattle.s66_time.specs.TimedOrder.{TimedOrder}
 use Rattle.s66_node.specs.Pieces.{IsBestTimed}
@@ -41,49 +41,49 @@ wholes-moved b time nodes i state lt was wholes =
 
 -- A PIECE'S NODES, where none of its whole orders takes less time
 
-pub least-timed : (b : Problem) (time : ℕ) (prefix : List ℕ) (tree : Tree Tip) (timed : Option TimedOrder) → IsBestTimed b prefix tree timed → ((t : TimedOrder) → timed ≡ Some t → time ≤ total_of b t.numbers) → (order : List ℕ) → Among order (whole_orders prefix tree) → time ≤ total_of b order
+pub least-timed : (b : Problem) (time : ℕ) (prefix : List ℕ) (tree : Tree Terminal) (timed : Option TimedOrder) → IsBestTimed b prefix tree timed → ((t : TimedOrder) → timed ≡ Some t → time ≤ total_of b t.numbers) → (order : List ℕ) → Among order (whole_orders prefix tree) → time ≤ total_of b order
 least-timed b time prefix tree None none at_most order among = absurd (subst (Among order) none among)
 least-timed b time prefix tree (Some t) least at_most order among = omega (arith, at_most t refl, least.1.1 order among)
 
-tip-timed : (rule : Rule) (b : Problem) (time : ℕ) (prefix : List ℕ) (tree : Tree Tip) (at : List ℕ) (tip : Tip) → TipHolds rule b prefix tree at tip → ((order : List ℕ) → Among order (whole_at at tip) → time ≤ total_of b order) → IsComplete b.block at → time ≤ floor_value b at
-tip-timed rule b time prefix tree at (Carries leaf) is each whole =
+terminal-timed : (rule : Rule) (b : Problem) (time : ℕ) (prefix : List ℕ) (tree : Tree Terminal) (at : List ℕ) (terminal : Terminal) → TerminalHolds rule b prefix tree at terminal → ((order : List ℕ) → Among order (whole_at at terminal) → time ≤ total_of b order) → IsComplete b.block at → time ≤ floor_value b at
+terminal-timed rule b time prefix tree at (Carries leaf) is each whole =
     let same = floor-whole b at whole in
     omega (arith, ap (value b at) same, subst (λ t. (order : List ℕ) → Among order (whole_at at (Carries t)) → time ≤ total_of b order) (is ∙ same) each at (inl refl))
-tip-timed rule b time prefix tree at Frontier part each whole = absurd (omega (arith, part, whole))
-tip-timed rule b time prefix tree at (Passed name) holds each whole = absurd (omega (arith, dominated-part rule b name at holds.0, whole))
+terminal-timed rule b time prefix tree at Frontier part each whole = absurd (omega (arith, part, whole))
+terminal-timed rule b time prefix tree at (Passed name) holds each whole = absurd (omega (arith, dominated-part rule b name at holds.0, whole))
 
 module _ (rule : Rule) (b : Problem) (time best : ℕ) where
   abbrev AreTimed : List (List ℕ) → Type 0
   AreTimed orders = (order : List ℕ) → Among order orders → time ≤ total_of b order
 
   -- of a piece over this prefix, with this tree
-  kids-timed : (prefix : List ℕ) (tree : Tree Tip) (kids : Kids Tip) (at ns : List ℕ) → KidsHold b.block (TipHolds rule b prefix tree) at ns kids → AreTimed (kid_values whole_at at ns kids) → (node : Node) → Among node (kid_nodes b best at ns kids) → IsTimedNode b time node
-  kids-timed prefix tree kids at [] holds each node among = absurd among
-  kids-timed prefix tree NoMore at (n ∷ ns) holds each node among = absurd among
-  kids-timed prefix tree (Unsplit tip kids) at (n ∷ ns) holds each node (inl e) = λ live whole.
+  siblings-timed : (prefix : List ℕ) (tree : Tree Terminal) (siblings : Siblings Terminal) (at ns : List ℕ) → SiblingsHold b.block (TerminalHolds rule b prefix tree) at ns siblings → AreTimed (sibling_values whole_at at ns siblings) → (node : Node) → Among node (sibling_nodes b best at ns siblings) → IsTimedNode b time node
+  siblings-timed prefix tree siblings at [] holds each node among = absurd among
+  siblings-timed prefix tree NoMore at (n ∷ ns) holds each node among = absurd among
+  siblings-timed prefix tree (Unsplit terminal siblings) at (n ∷ ns) holds each node (inl e) = λ live whole.
       let longer = at ++ n ∷ [] in
       let same = ap (λ (x : Node). x.prefix) e in
-      let first : AreTimed (whole_at longer tip) = λ order among. each order (among-front order (whole_at longer tip) (kid_values whole_at at ns kids) among) in
-      subst (λ p. time ≤ floor_value b p) (sym same) (tip-timed rule b time prefix tree longer tip holds.0 first (subst (IsComplete b.block) same whole))
-  kids-timed prefix tree (Unsplit tip kids) at (n ∷ ns) holds each node (inr later) =
-      kids-timed prefix tree kids at ns holds.1 (λ order among. each order (among-rest order (whole_at (at ++ n ∷ []) tip) (kid_values whole_at at ns kids) among)) node later
-  kids-timed prefix tree (Split numbers sub kids) at (n ∷ ns) holds each node (inl e) = λ live. absurd (true≢false (sym live ∙ ap is_live e))
-  kids-timed prefix tree (Split numbers sub kids) at (n ∷ ns) holds each node (inr later) =
+      let first : AreTimed (whole_at longer terminal) = λ order among. each order (among-front order (whole_at longer terminal) (sibling_values whole_at at ns siblings) among) in
+      subst (λ p. time ≤ floor_value b p) (sym same) (terminal-timed rule b time prefix tree longer terminal holds.0 first (subst (IsComplete b.block) same whole))
+  siblings-timed prefix tree (Unsplit terminal siblings) at (n ∷ ns) holds each node (inr later) =
+      siblings-timed prefix tree siblings at ns holds.1 (λ order among. each order (among-rest order (whole_at (at ++ n ∷ []) terminal) (sibling_values whole_at at ns siblings) among)) node later
+  siblings-timed prefix tree (Split numbers sub siblings) at (n ∷ ns) holds each node (inl e) = λ live. absurd (true≢false (sym live ∙ ap is_live e))
+  siblings-timed prefix tree (Split numbers sub siblings) at (n ∷ ns) holds each node (inr later) =
       let longer = at ++ n ∷ [] in
-      let below = kid_values whole_at longer numbers sub in
-      let beside = kid_values whole_at at ns kids in
-      among-either node (kid_nodes b best longer numbers sub) (kid_nodes b best at ns kids) (IsTimedNode b time node)
-      (kids-timed prefix tree sub longer numbers holds.2 (λ order among. each order (among-front order below beside among)) node)
-      (kids-timed prefix tree kids at ns holds.3 (λ order among. each order (among-rest order below beside among)) node)
+      let below = sibling_values whole_at longer numbers sub in
+      let beside = sibling_values whole_at at ns siblings in
+      among-either node (sibling_nodes b best longer numbers sub) (sibling_nodes b best at ns siblings) (IsTimedNode b time node)
+      (siblings-timed prefix tree sub longer numbers holds.2 (λ order among. each order (among-front order below beside among)) node)
+      (siblings-timed prefix tree siblings at ns holds.3 (λ order among. each order (among-rest order below beside among)) node)
       later
 
-  new-timed : (prefix : List ℕ) (tree : Tree Tip) → IsPiece rule b prefix tree → AreTimed (whole_orders prefix tree) → (node : Node) → Among node (new_nodes b best prefix tree) → IsTimedNode b time node
-  new-timed prefix (Alone tip) piece each node among = absurd among
-  new-timed prefix (Parted numbers kids) piece each node among = kids-timed prefix (Parted numbers kids) kids prefix numbers piece.2 each node among
+  new-timed : (prefix : List ℕ) (tree : Tree Terminal) → IsPiece rule b prefix tree → AreTimed (whole_orders prefix tree) → (node : Node) → Among node (new_nodes b best prefix tree) → IsTimedNode b time node
+  new-timed prefix (Alone terminal) piece each node among = absurd among
+  new-timed prefix (Parted numbers siblings) piece each node among = siblings-timed prefix (Parted numbers siblings) siblings prefix numbers piece.2 each node among
 
 -- A GRAFT of a piece whose whole orders aren't below the best time
 
-pub wholes-grafted : (rule : Rule) (b : Problem) (l : Ledger) (w i : ℕ) (prefix : List ℕ) (tree : Tree Tip) → IsOut l i → IsPiece rule b prefix tree → ((order : List ℕ) → Among order (whole_orders prefix tree) → best_time b l ≤ total_of b order) → WholesAreTimed b l → WholesAreTimed b (after_graft b l w i prefix tree)
+pub wholes-grafted : (rule : Rule) (b : Problem) (l : Ledger) (w i : ℕ) (prefix : List ℕ) (tree : Tree Terminal) → IsOut l i → IsPiece rule b prefix tree → ((order : List ℕ) → Among order (whole_orders prefix tree) → best_time b l ≤ total_of b order) → WholesAreTimed b l → WholesAreTimed b (after_graft b l w i prefix tree)
 wholes-grafted rule b l w i prefix tree out piece each wholes node among =
     let best = best_time b l in
     let root = root_state b best prefix tree in

@@ -55,14 +55,14 @@ at-most rule b old new w own order time offered.OtherBlock is same h = absurd (t
 
 -- the order of a complete prefix is offered
 pub timed-now : (old new : MachineOf) (w i : ℕ) (timed : TimedOrder) (answer : Offered) → timed ≡ record { problem = old.problem; numbers = (model.node_at old.state.nodes i).prefix } → ((event : Event) × IsOfferOf old.problem w timed.problem timed.numbers event × IsMove old event (offered_reply answer) new) → IsTiming old i new
-timed-now old new w i timed answer is (event, (own, iff, told), h) =
+timed-now old new w i timed answer is (event, (own, iff, stated), h) =
     let b = old.problem in
     let at = (model.node_at old.state.nodes i).prefix in
     let problem : timed.problem ≡ b = ap (λ (t : TimedOrder). t.problem) is in
     let numbers : timed.numbers ≡ at = ap (λ (t : TimedOrder). t.numbers) is in
-    let step : Moves old.rule b old.state (Offer w own timed.numbers (total_of timed.problem timed.numbers)) (offered_reply answer) new.state = subst (λ (e : Event). Moves old.rule b old.state e (offered_reply answer) new.state) told h.3.1 in
+    let step : Moves old.rule b old.state (Offer w own timed.numbers (total_of timed.problem timed.numbers)) (offered_reply answer) new.state = subst (λ (e : Event). Moves old.rule b old.state e (offered_reply answer) new.state) stated h.3.1 in
     let fast = at-most old.rule b old.state new.state w own timed.numbers (total_of timed.problem timed.numbers) answer (iff.1 problem) (ap (λ p. total_of p timed.numbers) problem) step in
-    let offers = offer-offers old new w timed answer (event, (own, iff, told), h) in
+    let offers = offer-offers old new w timed answer (event, (own, iff, stated), h) in
     record {
       offers = offers;
       timed =

@@ -5,7 +5,7 @@ use Rattle.s66_isa.specs.Lists.{Among}
 use Rattle.s66_model.specs.Timing.{Problem}
 use Rattle.s66_model.specs.LegalOrder.{IsBeginning}
 use Rattle.s66_model.specs.DominatedLeaves.{Ending}
-use Rattle.s66_model.specs.Tree.{Knot}
+use Rattle.s66_model.specs.Tree.{Vertex}
 use Rattle.s66_model.specs.Ledger as model
 use Rattle.s66_model.specs.Later.{later}
 use Rattle.s66_model.specs.NodeTable.{IsTable}
@@ -16,7 +16,7 @@ use Rattle.s66_ledger.specs.LedgerMachine.{state_of}
 use Rattle.s66_ledger.specs.Nodes.{nodes_of, prefixes}
 
 -- of the trees that the nodes have at these prefixes
-abbrev pub lines_from : Problem → List Node → List (List ℕ) → List (Knot Ending)
+abbrev pub lines_from : Problem → List Node → List (List ℕ) → List (Vertex Ending)
 lines_from b nodes ats = lines_of b.block (is_split_at (nodes_of b nodes)) (ending_at b (nodes_of b nodes)) ats
 
 -- the prefix and those after it, if there is more; else none
@@ -25,7 +25,7 @@ to_come block true prefix = prefix ∷ later block [] prefix
 to_come block false prefix = []
 
 -- their lines
-abbrev pub lines_left : Problem → List Node → Bool → List ℕ → List (Knot Ending)
+abbrev pub lines_left : Problem → List Node → Bool → List ℕ → List (Vertex Ending)
 lines_left b nodes more prefix = lines_from b nodes (to_come b.block more prefix)
 
 -- THE NODES

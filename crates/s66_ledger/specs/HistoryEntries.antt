@@ -3,7 +3,7 @@ use Rattle.std.specs.Prelude.{ℕ, true, Some, None, if◌then◌else◌, ◌+�
 use Rattle.s66_model.specs.Timing.{Problem}
 use Rattle.s66_model.specs.Ledger as model
 use Rattle.s66_model.specs.Ledger.{Event, Reply, Granted, Claimed, Returned, NotOut, Retired, Taken}
-use Rattle.s66_node.specs.Outlines.{outline_prefix, outline_tree}
+use Rattle.s66_node.specs.Skeletons.{skeleton_prefix, skeleton_tree}
 use Rattle.s66_ledger.specs.declared.entry.Entry.{Entry}
 use Rattle.s66_ledger.specs.declared.entry.Entry.TheVariants as entry
 use Rattle.s66_ledger.specs.declared.entry.Refusal.{Refusal}
@@ -47,8 +47,8 @@ abbrev pub entry_of : Problem → Entry → List ℕ → List ℕ → List (List
 entry_of b (entry.Grant w splits) own_bytes own_lines own_names = (model.Grant w, Granted splits)
 entry_of b (entry.Claim w node) own_bytes own_lines own_names = (model.Claim w, Claimed node)
 entry_of b (entry.Taken w node depth lines splits) own_bytes own_lines own_names =
-    let outline = own_bytes ++ own_lines in
-    (model.Graft w node true (outline_prefix depth outline) splits (Some (outline_tree b depth outline ([] ∷ own_names))), Taken)
+    let skeleton = own_bytes ++ own_lines in
+    (model.Graft w node true (skeleton_prefix depth skeleton) splits (Some (skeleton_tree b depth skeleton ([] ∷ own_names))), Taken)
 entry_of b (entry.Refused w node own depth splits why) own_bytes own_lines own_names = (model.Graft w node own own_bytes splits None, refusal_reply why)
 entry_of b (entry.Offer w own count time offered) own_bytes own_lines own_names = (model.Offer w own own_bytes time, offered_reply offered)
 entry_of b (entry.Back w node returned) own_bytes own_lines own_names = (model.Back w node, if returned then Returned else NotOut)

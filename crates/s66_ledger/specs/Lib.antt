@@ -15,7 +15,7 @@ pub mod LiveNodes
 pub mod Nodes
 pub mod OpenNodes
 pub mod Opened
-pub mod Planting
+pub mod Attaching
 pub mod Replies
 pub mod Steps
 pub mod Subtrees

@@ -3,49 +3,49 @@ use Rattle.std.specs.Prelude.{ℕ, ◌≡◌, ◌⊎◌, List, [], ◌∷◌, ma
 use Rattle.s66_model.specs.Timing.{Problem}
 use Rattle.s66_model.specs.LegalOrder.{IsIncomplete}
 use Rattle.s66_model.specs.Leaves.{floor_value}
-use Rattle.s66_model.specs.Tree.{TreeHolds, Knot, AtTip, AtSplit}
-use Rattle.s66_model.specs.Told.{Told, ToldLeaf, ToldFrontier, ToldPassed}
-use Rattle.s66_node.specs.declared.knot.Knot as code
-use Rattle.s66_node.specs.SeenKnots.{seen_knot}
-use Rattle.s66_node.specs.Pieces.{PieceOf, told_tree}
+use Rattle.s66_model.specs.Tree.{TreeHolds, Vertex, AtTerminal, AtSplit}
+use Rattle.s66_model.specs.Stated.{Stated, StatedLeaf, StatedFrontier, StatedPassed}
+use Rattle.s66_node.specs.declared.vertex.Vertex as code
+use Rattle.s66_node.specs.SeenVertices.{seen_vertex}
+use Rattle.s66_node.specs.Pieces.{PieceOf, stated_tree}
 
-abbrev pub open_told : Told → Told
-open_told (ToldLeaf value) = ToldLeaf value
-open_told (ToldFrontier value) = ToldFrontier value
-open_told (ToldPassed value name) = ToldFrontier value
+abbrev pub open_stated : Stated → Stated
+open_stated (StatedLeaf value) = StatedLeaf value
+open_stated (StatedFrontier value) = StatedFrontier value
+open_stated (StatedPassed value name) = StatedFrontier value
 
-abbrev pub open_line : Knot Told → Knot Told
+abbrev pub open_line : Vertex Stated → Vertex Stated
 open_line (AtSplit numbers) = AtSplit numbers
-open_line (AtTip told) = AtTip (open_told told)
+open_line (AtTerminal stated) = AtTerminal (open_stated stated)
 
 abbrev pub opened : PieceOf → PieceOf
-opened p = record p { knots = map open_line p.knots }
+opened p = record p { vertices = map open_line p.vertices }
 
 -- the piece with other lines
-abbrev pub with_lines : PieceOf → List (Knot Told) → PieceOf
-with_lines p lines = record p { knots = lines }
+abbrev pub with_lines : PieceOf → List (Vertex Stated) → PieceOf
+with_lines p lines = record p { vertices = lines }
 
 -- each line is taken as it is, or is put into the frontier if its prefix is dominated
-abbrev pub LinesOpen : (lines taken : List (Knot Told)) → Type 0
+abbrev pub LinesOpen : (lines taken : List (Vertex Stated)) → Type 0
 LinesOpen [] [] = Unit {0}
 LinesOpen (k ∷ ks) (t ∷ ts) = ((t ≡ k) ⊎ (t ≡ open_line k)) × LinesOpen ks ts
 LinesOpen [] (t ∷ ts) = ⊥
 LinesOpen (k ∷ ks) [] = ⊥
 
 -- a value is the floor's, no complete prefix is in the frontier, and none is dominated
-abbrev pub PlainHolds : Problem → List ℕ → Told → Type 0
-PlainHolds b at (ToldLeaf value) = value ≡ floor_value b at
-PlainHolds b at (ToldFrontier value) = (value ≡ floor_value b at) × IsIncomplete b.block at
-PlainHolds b at (ToldPassed value name) = ⊥
+abbrev pub PlainHolds : Problem → List ℕ → Stated → Type 0
+PlainHolds b at (StatedLeaf value) = value ≡ floor_value b at
+PlainHolds b at (StatedFrontier value) = (value ≡ floor_value b at) × IsIncomplete b.block at
+PlainHolds b at (StatedPassed value name) = ⊥
 
--- and so it is of each tip of a piece
+-- and so it is of each terminal of a piece
 abbrev pub IsPlain : PieceOf → Type 0
-IsPlain p = TreeHolds p.problem.block (PlainHolds p.problem) p.prefix (told_tree p)
+IsPlain p = TreeHolds p.problem.block (PlainHolds p.problem) p.prefix (stated_tree p)
 
 -- THE LINES of a piece as code keeps them, opened
 
-abbrev pub open_knot : code.Knot → Knot Told
-open_knot knot = open_line (seen_knot knot)
+abbrev pub open_vertex : code.Vertex → Vertex Stated
+open_vertex vertex = open_line (seen_vertex vertex)
 
-abbrev pub open_lines : List code.Knot → List (Knot Told)
-open_lines knots = map open_knot knots
+abbrev pub open_lines : List code.Vertex → List (Vertex Stated)
+open_lines vertices = map open_vertex vertices

@@ -2,7 +2,7 @@
 use Rattle.std.specs.Prelude.{ℕ, zero, suc, ◌+◌, ◌-◌, ◌^◌, ◌≡◌, ◌<◌, if◌then◌else◌, nat_le, min, List, [], ◌++◌, length, get_or, map, take, drop}
 use Rattle.s66_model.specs.Ledger.{new_nodes}
 use Rattle.s66_node.specs.Pieces.{PieceOf, tree_of}
-use Rattle.s66_node.specs.Outlines.{line_byte}
+use Rattle.s66_node.specs.Skeletons.{line_byte}
 use Rattle.s66_ledger.specs.declared.node.Node.{Node}
 use Rattle.s66_ledger.specs.declared.node.State.{State}
 use Rattle.s66_ledger.specs.declared.node.State.TheVariants as state
@@ -29,8 +29,8 @@ abbrev pub settled : ℕ → Node → Node
 settled best node = record node { state = settled_state best node.value node.state }
 
 -- under a node that is there, behind all that there are, for this best time
-abbrev pub planted : (best root : ℕ) → (made nodes : List Node) → List Node
-planted best root made nodes = made ++ map (placed root (length made)) (map (settled best) nodes)
+abbrev pub attached : (best root : ℕ) → (made nodes : List Node) → List Node
+attached best root made nodes = made ++ map (placed root (length made)) (map (settled best) nodes)
 
 -- nodes of which one has the piece's prefix, with room for the piece's
 pub record CanBeOver (p : PieceOf) (root : ℕ) (made : List Node) : Type 0 where
@@ -38,10 +38,10 @@ pub record CanBeOver (p : PieceOf) (root : ℕ) (made : List Node) : Type 0 wher
   pub over : get_or (prefixes made) root [] ≡ p.prefix
   pub floors : HaveFloors p.problem made
   pub depths : HaveDepths made
-  pub room : length made + length p.knots < 2 ^ 32
+  pub room : length made + length p.vertices < 2 ^ 32
 
 -- with the nodes of the piece behind those that there are
-pub record IsPlanted (p : PieceOf) (best : ℕ) (made all : List Node) : Type 0 where
+pub record IsAttached (p : PieceOf) (best : ℕ) (made all : List Node) : Type 0 where
   pub floors : HaveFloors p.problem all
   pub depths : HaveDepths all
   pub nodes : nodes_of p.problem all ≡ nodes_of p.problem made ++ new_nodes p.problem best p.prefix (tree_of p)
@@ -49,14 +49,14 @@ pub record IsPlanted (p : PieceOf) (best : ℕ) (made all : List Node) : Type 0 
 -- THE LINES of a piece: the bytes of those below its root
 
 abbrev pub lines_below : PieceOf → List ℕ
-lines_below p = drop 1 (map line_byte p.knots)
+lines_below p = drop 1 (map line_byte p.vertices)
 
 -- its prefix, by its numbers, and the byte of its root's line
 abbrev pub root_bytes : PieceOf → List ℕ
-root_bytes p = p.prefix ++ take 1 (map line_byte p.knots)
+root_bytes p = p.prefix ++ take 1 (map line_byte p.vertices)
 
--- wherever they are planted, they are the nodes of the piece
+-- wherever they are attached, they are the nodes of the piece
 pub record IsSubtreeOf (p : PieceOf) (nodes : List Node) : Type 0 where
-  pub count : length nodes + 1 ≡ length p.knots
+  pub count : length nodes + 1 ≡ length p.vertices
   pub lines : lines_of nodes ≡ lines_below p
-  pub anywhere : (best root : ℕ) (made : List Node) → CanBeOver p root made → IsPlanted p best made (planted best root made nodes)
+  pub anywhere : (best root : ℕ) (made : List Node) → CanBeOver p root made → IsAttached p best made (attached best root made nodes)

@@ -43,7 +43,7 @@ fn keep_root(bytes: &mut Vec<u8>, piece: &Piece) -> Result<(), AllocError>
     ensures err { OnErr result (bytes.new.items ≡ bytes.old.items) }
 {
     let prefix = piece.prefix();
-    let line = byte_of(&piece.knots()[0]);
+    let line = byte_of(&piece.vertices()[0]);
     bytes.reserve(prefix.len() + 1)?;
     bytes.extend_from_slice(prefix)?;
     bytes.push_reserved(line);
@@ -161,7 +161,7 @@ impl<'a> Ledger<'a> {
         &self.history
     }
 
-    /// What the line of a piece says that made the node of this number, as `Knot::byte` tells it: of each piece that was taken, the
+    /// What the line of a piece says that made the node of this number, as `Vertex::byte` tells it: of each piece that was taken, the
     /// history leaves these bytes to the nodes. No line made node 0. None where there is no such node.
     pub fn line(&self, node: u32) -> Option<u8>
         ensures { result ≡ slice_get self.now.lines node }

@@ -3,6 +3,7 @@
 #![tactic(auto)]
 
 mod answer;
+mod attaching;
 mod entry;
 mod history;
 mod ledger;
@@ -14,7 +15,6 @@ mod machine;
 mod node;
 mod node_table;
 mod path;
-mod planting;
 mod rank;
 mod reply;
 mod search;

@@ -5,7 +5,7 @@ ghost use Rattle.s66_model.specs.Later.{children, later};
 ghost use Rattle.s66_model.specs.LegalOrder.{is_ready, ready};
 ghost use Rattle.s66_model.specs.NodeTree.{is_split_at, ending_at};
 ghost use Rattle.s66_model.specs.DominatedLeaves.{Bounding};
-ghost use Rattle.s66_model.specs.Tree.{AtTip};
+ghost use Rattle.s66_model.specs.Tree.{AtTerminal};
 ghost use Rattle.s66_ledger.specs.AnswerLines.{AreOneTree, StandsAt, lines_left, to_come};
 ghost use Rattle.s66_ledger.specs.Links.{AreLinks};
 ghost use Rattle.s66_ledger.specs.Nodes.{node_at, nodes_of, HaveFloors};
@@ -22,7 +22,7 @@ use std::alloc::AllocError;
 
 /// Appends the line of a leaf, which doesn't tell its value.
 fn push_leaf(tree: &mut Tree, leaf: &Leaf) -> Result<(), AllocError>
-    ensures { OnOk result (tree.new ≡ tree.old ++ AtTip (Bounding (leaf_of leaf.now)) ∷ []) }
+    ensures { OnOk result (tree.new ≡ tree.old ++ AtTerminal (Bounding (leaf_of leaf.now)) ∷ []) }
 {
     match leaf {
         Leaf::Whole { .. } => tree.push(TreeLine::Whole),
@@ -33,12 +33,17 @@ fn push_leaf(tree: &mut Tree, leaf: &Leaf) -> Result<(), AllocError>
 }
 
 /// Appends the line of the prefix at which the walk stands, which isn't split: that of its floor, or of its name if it is dominated.
-fn push_tip(nodes: &[Node], walk: &Walk<'_>, node: usize, tree: &mut Tree) -> Result<(), AllocError>
+fn push_terminal(
+    nodes: &[Node],
+    walk: &Walk<'_>,
+    node: usize,
+    tree: &mut Tree,
+) -> Result<(), AllocError>
     requires tree { AreOneTree walk.now.problem nodes.now }
     requires floors { HaveFloors walk.now.problem nodes.now }
     requires stands { StandsAt nodes.now node walk.now.numbers }
     requires unsplit { (node_at nodes.now node).state ≢ state.Split }
-    ensures { OnOk result (tree.new ≡ tree.old ++ AtTip (ending_at walk.now.problem (nodes_of walk.now.problem nodes.now) walk.now.numbers) ∷ []) }
+    ensures { OnOk result (tree.new ≡ tree.old ++ AtTerminal (ending_at walk.now.problem (nodes_of walk.now.problem nodes.now) walk.now.numbers) ∷ []) }
 {
     if let State::Dominated = nodes[node].state {
         // proof only: so a name fits
@@ -72,7 +77,7 @@ pub fn push_line(
         tree.push(TreeLine::Split(numbers.numbers().as_slice()))?;
         return Ok(go_below(nodes, links, numbers, walk, node));
     }
-    push_tip(nodes, walk, *node, tree)?;
+    push_terminal(nodes, walk, *node, tree)?;
     Ok(go_on(nodes, links, walk, node))
 }
 

@@ -361,7 +361,7 @@ impl<'a> Machine<'a> {
         prove!(self.block.count() <= BLOCK_LIMIT);
         let own = self.is_own(piece);
         // proof only: its lines are those of a piece's tree
-        let _lines = piece.knots();
+        let _lines = piece.vertices();
         if !self.table.is_out(node) {
             return Err(GraftError::NotOut);
         }
@@ -377,7 +377,7 @@ impl<'a> Machine<'a> {
             return Err(GraftError::OverAllowance);
         }
         let best = self.best.total();
-        let Ok(()) = self.table.plant(node, best, piece, subtree) else {
+        let Ok(()) = self.table.attach(node, best, piece, subtree) else {
             return Err(GraftError::OutOfMemory);
         };
         self.allowances[at] -= splits;

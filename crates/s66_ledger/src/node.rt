@@ -47,7 +47,7 @@ pub struct Node {
 
 impl Node {
     ghost use Rattle.std.specs.Prelude.{◌≡◌};
-    ghost use Rattle.s66_node.specs.declared.knot.TheConstants.{FRONTIER};
+    ghost use Rattle.s66_node.specs.declared.vertex.TheConstants.{FRONTIER};
     ghost use Rattle.s66_ledger.specs.declared.node.Node.{Node};
 
     /// The empty prefix, open.

@@ -1,11 +1,11 @@
+use crate::attaching::{append, set_state, settled_state};
 use crate::node::{Node, State};
-use crate::planting::{append, set_state, settled_state};
 use crate::rank::rank_of;
 use crate::subtree::{Subtree, state_of, value_of};
 use crate::{live, path};
 use arrayvec::ArrayVec;
 use s66_isa::BLOCK_LIMIT;
-use s66_node::{Knot, Piece};
+use s66_node::{Piece, Vertex};
 use std::alloc::{AllocError, Global};
 use std::collections::BinaryHeap;
 use std::marker::Model;
@@ -43,10 +43,10 @@ impl NodeTable {
     ghost use Rattle.s66_ledger.specs.LiveNodes.{live_values};
     ghost use Rattle.s66_isa.specs.declared.limits.TheConstants.{BLOCK_LIMIT};
     ghost use Rattle.s66_ledger.specs.declared.node.State.{State};
-    ghost use Rattle.s66_ledger.specs.Closing.{IsSplitUnder, IsPlantedAs};
-    ghost use Rattle.s66_node.specs.declared.knot.TheConstants.{FRONTIER};
+    ghost use Rattle.s66_ledger.specs.Closing.{IsSplitUnder, IsAttachedAs};
+    ghost use Rattle.s66_node.specs.declared.vertex.TheConstants.{FRONTIER};
     ghost use Rattle.s66_ledger.specs.Opened.{opened};
-    ghost use Rattle.s66_ledger.specs.Subtrees.{IsSubtreeOf, planted};
+    ghost use Rattle.s66_ledger.specs.Subtrees.{IsSubtreeOf, attached};
     ghost use Rattle.s66_ledger.specs.Nodes.{is_open, is_live_state, name_at, node_at, with_state, prefixes, nodes_of, lines_of, HaveFloors, HaveDepths};
     ghost use Rattle.s66_ledger.specs.OpenNodes.{IsOut, ranked};
 
@@ -217,7 +217,7 @@ impl NodeTable {
     /// root, and the piece's other prefixes become nodes; dominated ones are closed where the nodes of their names are found, and else
     /// open. In time linear in the piece's lines and their names, with a logarithm of the number of open
     /// nodes for each that is open. `Err` leaves all as it was.
-    pub fn plant(
+    pub fn attach(
         &mut self,
         root: u32,
         best: u32,
@@ -227,20 +227,20 @@ impl NodeTable {
         requires out { IsOut self.old root }
         requires over { get_or (prefixes self.old) root [] ≡ piece.now.prefix }
         requires floors { HaveFloors piece.now.problem self.old }
-        requires room { length self.old + length piece.now.knots < 2 ^ 32 }
+        requires room { length self.old + length piece.now.vertices < 2 ^ 32 }
         requires subtree { IsSubtreeOf (opened piece.now) subtree.now }
         ensures err { OnErr result (self.new ≡ self.old) }
-        ensures count { OnOk result (length self.new + 1 ≡ length self.old + length piece.now.knots) }
+        ensures count { OnOk result (length self.new + 1 ≡ length self.old + length piece.now.vertices) }
         ensures floors { OnOk result (HaveFloors piece.now.problem self.new) }
-        ensures ok { OnOk result (IsPlantedAs piece.now best root self.old self.new) }
+        ensures ok { OnOk result (IsAttachedAs piece.now best root self.old self.new) }
     {
         // proof only: the nodes have depths
         let _ = &self.nodes;
-        let knot = &piece.knots()[0];
-        if let Knot::Split(_) = knot {
-            return self.plant_split(root, best, piece, subtree);
+        let vertex = &piece.vertices()[0];
+        if let Vertex::Split(_) = vertex {
+            return self.attach_split(root, best, piece, subtree);
         }
-        if settled_state(state_of(knot), value_of(knot), best).is_open() {
+        if settled_state(state_of(vertex), value_of(vertex), best).is_open() {
             self.give_back(root)?;
             return Ok(());
         }
@@ -250,7 +250,7 @@ impl NodeTable {
     }
 
     /// Splits a node that is handed out: these nodes stand under it.
-    fn plant_split(
+    fn attach_split(
         &mut self,
         root: u32,
         best: u32,
@@ -259,10 +259,10 @@ impl NodeTable {
     ) -> Result<(), AllocError>
         requires out { IsOut self.old root }
         requires room { length self.old + length subtree.now < 2 ^ 32 }
-        requires lines { length subtree.now + 1 ≡ length piece.now.knots }
-        requires depths { HaveDepths (planted best root self.old subtree.now) }
+        requires lines { length subtree.now + 1 ≡ length piece.now.vertices }
+        requires depths { HaveDepths (attached best root self.old subtree.now) }
         ensures err { OnErr result (self.new ≡ self.old) }
-        ensures ok { OnOk result (IsSplitUnder best root self.old subtree.now piece.now.knots self.new) }
+        ensures ok { OnOk result (IsSplitUnder best root self.old subtree.now piece.now.vertices self.new) }
     {
         let deepest = append(
             &mut self.nodes,
@@ -270,7 +270,7 @@ impl NodeTable {
             self.deepest,
             root,
             best,
-            piece.knots(),
+            piece.vertices(),
             subtree.nodes(),
         )?;
         self.deepest = deepest;

@@ -1,11 +1,11 @@
 ghost use Rattle.std.specs.Prelude.{◌≡◌, ◌<◌, length, IfOk};
 ghost use Rattle.s66_dep.specs.Members.{numbers_in};
 ghost use Rattle.s66_model.specs.Tree.{Parted};
-ghost use Rattle.s66_node.specs.Outlines.{line_byte};
-ghost use Rattle.s66_node.specs.Pieces.{told_tree};
-ghost use Rattle.s66_node.specs.SeenKnots.{seen_knot};
+ghost use Rattle.s66_node.specs.Skeletons.{line_byte};
+ghost use Rattle.s66_node.specs.Pieces.{stated_tree};
+ghost use Rattle.s66_node.specs.SeenVertices.{seen_vertex};
 ghost use Rattle.s66_ledger.specs.Opened.{open_line, opened};
-ghost use Rattle.s66_ledger.specs.Planting.{kids_of, knot_value, made_state};
+ghost use Rattle.s66_ledger.specs.Attaching.{siblings_of, vertex_value, made_state};
 ghost use Rattle.s66_ledger.specs.Subtrees.{IsSubtreeOf};
 ghost use Rattle.s66_ledger.specs.declared.limits.TheConstants.{PIECE_LINES_LIMIT};
 
@@ -14,7 +14,7 @@ use crate::node::{Node, State};
 use arrayvec::ArrayVec;
 use s66_dep::Set;
 use s66_isa::BLOCK_LIMIT;
-use s66_node::{FRONTIER, Knot, Piece};
+use s66_node::{FRONTIER, Piece, Vertex};
 use std::alloc::{AllocError, Global};
 use std::marker::Model;
 
@@ -45,46 +45,46 @@ pub(crate) struct Place {
 }
 
 /// What the node of a piece's line is, where it isn't known whether its value is below the best time.
-pub fn state_of(knot: &Knot) -> State
-    ensures { result ≡ made_state knot.now }
+pub fn state_of(vertex: &Vertex) -> State
+    ensures { result ≡ made_state vertex.now }
 {
-    match knot {
-        Knot::Split(_) => State::Split,
-        Knot::Leaf { .. } => State::Closed,
-        Knot::Frontier { .. } | Knot::Passed { .. } => State::Open,
+    match vertex {
+        Vertex::Split(_) => State::Split,
+        Vertex::Leaf { .. } => State::Closed,
+        Vertex::Frontier { .. } | Vertex::Passed { .. } => State::Open,
     }
 }
 
 /// The byte of a piece's line, and of one in the frontier if its prefix is dominated.
-pub fn byte_of(knot: &Knot) -> u8
-    ensures { result ≡ line_byte (open_line (seen_knot knot.now)) }
+pub fn byte_of(vertex: &Vertex) -> u8
+    ensures { result ≡ line_byte (open_line (seen_vertex vertex.now)) }
 {
-    match knot {
-        Knot::Passed { .. } => FRONTIER,
-        Knot::Split(_) | Knot::Leaf { .. } | Knot::Frontier { .. } => knot.byte(),
+    match vertex {
+        Vertex::Passed { .. } => FRONTIER,
+        Vertex::Split(_) | Vertex::Leaf { .. } | Vertex::Frontier { .. } => vertex.byte(),
     }
 }
 
 /// The floor's value that a piece's line tells, 0 of a split.
-pub fn value_of(knot: &Knot) -> u32
-    ensures { result ≡ knot_value knot.now }
+pub fn value_of(vertex: &Vertex) -> u32
+    ensures { result ≡ vertex_value vertex.now }
 {
-    match knot {
-        Knot::Split(_) => 0,
-        Knot::Leaf { value } => *value,
-        Knot::Frontier { value } | Knot::Passed { value, .. } => *value,
+    match vertex {
+        Vertex::Split(_) => 0,
+        Vertex::Leaf { value } => *value,
+        Vertex::Frontier { value } | Vertex::Passed { value, .. } => *value,
     }
 }
 
 /// The nodes below a root that is split into these numbers, in time linear in the piece's lines.
 fn nodes_below(alloc: Global, numbers: Set, piece: &Piece) -> Result<Vec<Node>, AllocError>
-    requires split { told_tree (opened piece.now) ≡ Parted (numbers_in numbers) (kids_of (told_tree (opened piece.now))) }
-    requires few { length piece.now.knots < PIECE_LINES_LIMIT }
+    requires split { stated_tree (opened piece.now) ≡ Parted (numbers_in numbers) (siblings_of (stated_tree (opened piece.now))) }
+    requires few { length piece.now.vertices < PIECE_LINES_LIMIT }
     ensures { IfOk result (λ nodes. IsSubtreeOf (opened piece.now) nodes.items) }
 {
-    let knots = piece.knots();
+    let vertices = piece.vertices();
     let above = piece.prefix().len() as u8;
-    let mut nodes = Vec::with_capacity(alloc, knots.len())?;
+    let mut nodes = Vec::with_capacity(alloc, vertices.len())?;
     let mut places: ArrayVec<Place, BLOCK_LIMIT> = ArrayVec::new();
     places.push(Place {
         node: 0,
@@ -93,16 +93,16 @@ fn nodes_below(alloc: Global, numbers: Set, piece: &Piece) -> Result<Vec<Node>, 
     while let Some(mut place) = places.pop() {
         if let Some(number) = place.left.pop_first() {
             places.push(place);
-            let knot = &knots[nodes.len() + 1];
+            let vertex = &vertices[nodes.len() + 1];
             nodes.push_reserved(Node {
                 parent: place.node,
-                value: value_of(knot),
+                value: value_of(vertex),
                 number,
                 depth: above + places.len() as u8,
-                line: byte_of(knot),
-                state: state_of(knot),
+                line: byte_of(vertex),
+                state: state_of(vertex),
             });
-            if let Knot::Split(numbers) = knot {
+            if let Vertex::Split(numbers) = vertex {
                 places.push(Place {
                     node: nodes.len() as u32,
                     left: *numbers,
@@ -119,13 +119,15 @@ impl Subtree {
     pub fn of(alloc: Global, piece: &Piece) -> Result<Subtree, AllocError>
         ensures { IfOk result (IsSubtreeOf (opened piece.now)) }
     {
-        let knots = piece.knots();
-        if PIECE_LINES_LIMIT <= knots.len() {
+        let vertices = piece.vertices();
+        if PIECE_LINES_LIMIT <= vertices.len() {
             return Err(AllocError);
         }
-        let nodes = match &knots[0] {
-            Knot::Split(numbers) => nodes_below(alloc, *numbers, piece)?,
-            Knot::Leaf { .. } | Knot::Frontier { .. } | Knot::Passed { .. } => Vec::new(alloc),
+        let nodes = match &vertices[0] {
+            Vertex::Split(numbers) => nodes_below(alloc, *numbers, piece)?,
+            Vertex::Leaf { .. } | Vertex::Frontier { .. } | Vertex::Passed { .. } => Vec::new(
+                alloc,
+            ),
         };
         Ok(Subtree { nodes })
     }

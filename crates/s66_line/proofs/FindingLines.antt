@@ -4,45 +4,45 @@ use Rattle.std.proofs.lemmas.Bool.{false_from_ne_true, le-ltb, lt-ltb, or_right}
 use Rattle.memchr.specs.Find.{IsLastByte, Nowhere, Passes, is_byte}
 use Rattle.s66_isa.specs.Lists.{some_of}
 use Rattle.s66_line.specs.Fields.{lines_from}
-use Rattle.s66_line.specs.Findings.{Told, is_comma, last_part, may_continue, told_at, told_from, told_line, told_lines, told_past}
+use Rattle.s66_line.specs.Findings.{Stated, is_comma, last_part, may_continue, stated_at, stated_from, stated_line, stated_lines, stated_past}
 use Rattle.s66_line.specs.declared.limits.TheConstants.{SOURCE_LINES_LIMIT}
 use Rattle.s66_line.proofs.LineCuts.{IsFirstNewline, lines_from-found}
 
 -- LINES
 
-told_lines-append : (a b : List Told) → told_lines (a ++ b) ≡ told_lines a ++ told_lines b
-told_lines-append [] b = refl
-told_lines-append (t ∷ a) b = ap (λ more. told_line t ++ more) (told_lines-append a b) ∙ sym (append_assoc (told_line t) (told_lines a) (told_lines b))
+stated_lines-append : (a b : List Stated) → stated_lines (a ++ b) ≡ stated_lines a ++ stated_lines b
+stated_lines-append [] b = refl
+stated_lines-append (t ∷ a) b = ap (λ more. stated_line t ++ more) (stated_lines-append a b) ∙ sym (append_assoc (stated_line t) (stated_lines a) (stated_lines b))
 
 within-limit : (number : ℕ) (after : Bool) (line : List ℕ) (lines : List (List ℕ)) → number ≤ SOURCE_LINES_LIMIT →
-    told_from number after (line ∷ lines) ≡ told_at number after line ++ told_from (suc number) (may_continue after line) lines
+    stated_from number after (line ∷ lines) ≡ stated_at number after line ++ stated_from (suc number) (may_continue after line) lines
 within-limit number after line lines h = rw (le-ltb SOURCE_LINES_LIMIT number h) refl
 
 pub past-limit : (number : ℕ) (after : Bool) (line : List ℕ) (lines : List (List ℕ)) → SOURCE_LINES_LIMIT < number →
-    told_from number after (line ∷ lines) ≡ told_past number line
+    stated_from number after (line ∷ lines) ≡ stated_past number line
 past-limit number after line lines h = rw (lt-ltb SOURCE_LINES_LIMIT number h) refl
 
 -- what is told of a line, and then of those after it
-pub told-line : (out : List ℕ) (number : ℕ) (after : Bool) (line : List ℕ) (lines : List (List ℕ)) → number ≤ SOURCE_LINES_LIMIT →
-    (out ++ told_lines (told_at number after line)) ++ told_lines (told_from (suc number) (may_continue after line) lines)
-    ≡ out ++ told_lines (told_from number after (line ∷ lines))
-told-line out number after line lines h =
-    append_assoc out (told_lines (told_at number after line)) (told_lines (told_from (suc number) (may_continue after line) lines))
+pub stated-line : (out : List ℕ) (number : ℕ) (after : Bool) (line : List ℕ) (lines : List (List ℕ)) → number ≤ SOURCE_LINES_LIMIT →
+    (out ++ stated_lines (stated_at number after line)) ++ stated_lines (stated_from (suc number) (may_continue after line) lines)
+    ≡ out ++ stated_lines (stated_from number after (line ∷ lines))
+stated-line out number after line lines h =
+    append_assoc out (stated_lines (stated_at number after line)) (stated_lines (stated_from (suc number) (may_continue after line) lines))
     ∙ ap (λ more. out ++ more)
-    (sym (told_lines-append (told_at number after line) (told_from (suc number) (may_continue after line) lines))
-    ∙ ap told_lines (sym (within-limit number after line lines h)))
+    (sym (stated_lines-append (stated_at number after line) (stated_from (suc number) (may_continue after line) lines))
+    ∙ ap stated_lines (sym (within-limit number after line lines h)))
 
-pub told-found : (out bytes : List ℕ) (k number : ℕ) (after : Bool) → IsFirstNewline bytes (Some k) → number ≤ SOURCE_LINES_LIMIT →
-    (out ++ told_lines (told_at number after (take k bytes))) ++ told_lines (told_from (suc number) (may_continue after (take k bytes)) (lines_from [] (drop (k + 1) bytes)))
-    ≡ out ++ told_lines (told_from number after (lines_from [] bytes))
-told-found out bytes k number after first h =
-    told-line out number after (take k bytes) (lines_from [] (drop (k + 1) bytes)) h
-    ∙ ap (λ lines. out ++ told_lines (told_from number after lines)) (sym (lines_from-found [] bytes k first))
+pub stated-found : (out bytes : List ℕ) (k number : ℕ) (after : Bool) → IsFirstNewline bytes (Some k) → number ≤ SOURCE_LINES_LIMIT →
+    (out ++ stated_lines (stated_at number after (take k bytes))) ++ stated_lines (stated_from (suc number) (may_continue after (take k bytes)) (lines_from [] (drop (k + 1) bytes)))
+    ≡ out ++ stated_lines (stated_from number after (lines_from [] bytes))
+stated-found out bytes k number after first h =
+    stated-line out number after (take k bytes) (lines_from [] (drop (k + 1) bytes)) h
+    ∙ ap (λ lines. out ++ stated_lines (stated_from number after lines)) (sym (lines_from-found [] bytes k first))
 
 pub past-found : (bytes : List ℕ) (k number : ℕ) (after : Bool) → IsFirstNewline bytes (Some k) → SOURCE_LINES_LIMIT < number →
-    told_past number (take k bytes) ≡ told_from number after (lines_from [] bytes)
+    stated_past number (take k bytes) ≡ stated_from number after (lines_from [] bytes)
 past-found bytes k number after first h =
-    sym (ap (told_from number after) (lines_from-found [] bytes k first) ∙ past-limit number after (take k bytes) (lines_from [] (drop (k + 1) bytes)) h)
+    sym (ap (stated_from number after) (lines_from-found [] bytes k first) ∙ past-limit number after (take k bytes) (lines_from [] (drop (k + 1) bytes)) h)
 
 -- COMMAS
 

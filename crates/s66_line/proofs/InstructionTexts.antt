@@ -56,8 +56,8 @@ operand-of operation (b ∷ operand) h k =
 -- WORDS IN UPPER CASE
 
 no_blank-first : (t : Bool) (b : ℕ) (bytes : List ℕ) → is_blank b ≡ t → every is_no_blank (word bytes) ≡ true → every is_no_blank (word (b ∷ bytes)) ≡ true
-no_blank-first true b bytes told h = rw told refl
-no_blank-first false b bytes told h = rw (told, told) h
+no_blank-first true b bytes stated h = rw stated refl
+no_blank-first false b bytes stated h = rw (stated, stated) h
 
 pub no_blank-word : (bytes : List ℕ) → every is_no_blank (word bytes) ≡ true
 no_blank-word [] = refl

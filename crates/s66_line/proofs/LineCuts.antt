@@ -21,10 +21,10 @@ nowhere : (b : ℕ) (bytes : List ℕ) → IsFirstNewline (b ∷ bytes) None →
 nowhere b bytes h = λ i low below. h (suc i) (omega arith) (omega (arith, below))
 
 pub lines_from-here : (line bytes : List ℕ) (b : ℕ) → (b == 10) ≡ true → lines_from line (b ∷ bytes) ≡ line ∷ lines_from [] bytes
-lines_from-here line bytes b told = rw told refl
+lines_from-here line bytes b stated = rw stated refl
 
 pub lines_from-later : (line bytes : List ℕ) (b : ℕ) → (b == 10) ≡ false → lines_from line (b ∷ bytes) ≡ lines_from (line ++ b ∷ []) bytes
-lines_from-later line bytes b told = rw told refl
+lines_from-later line bytes b stated = rw stated refl
 
 -- the line that is begun ends there
 pub lines_from-found : (line bytes : List ℕ) (k : ℕ) → IsFirstNewline bytes (Some k) → lines_from line bytes ≡ (line ++ take k bytes) ∷ lines_from [] (drop (k + 1) bytes)

@@ -76,13 +76,13 @@ label-no b bytes other = rw other refl
 -- the columns before the location field, and the field
 label-cut-by : (t : Bool) (b : ℕ) (bytes : List ℕ) → (b == 32) ≡ t →
     take (length (b ∷ bytes) - length (from_location (b ∷ bytes)) + length (word (from_location (b ∷ bytes)))) (b ∷ bytes) ≡ label_bytes (b ∷ bytes)
-label-cut-by true b bytes told =
+label-cut-by true b bytes stated =
     let one : suc (length bytes) - length bytes + length (word bytes) ≡ suc (length (word bytes)) = omega arith in
-    let here : b ≡ 32 = eqb-true b 32 told in
-    rw (from_location-yes b bytes told, label-yes b bytes told, one, take-word bytes, here) refl
-label-cut-by false b bytes told =
+    let here : b ≡ 32 = eqb-true b 32 stated in
+    rw (from_location-yes b bytes stated, label-yes b bytes stated, one, take-word bytes, here) refl
+label-cut-by false b bytes stated =
     let none : suc (length bytes) - suc (length bytes) + length (word (b ∷ bytes)) ≡ length (word (b ∷ bytes)) = omega arith in
-    rw (from_location-no b bytes told, label-no b bytes told, none) (take-word (b ∷ bytes))
+    rw (from_location-no b bytes stated, label-no b bytes stated, none) (take-word (b ∷ bytes))
 
 pub label-cut : (line : List ℕ) → take (length line - length (from_location line) + length (word (from_location line))) line ≡ label_bytes line
 label-cut [] = refl
@@ -113,11 +113,11 @@ fits-from : (blank : Bool) (b : ℕ) (bytes : List ℕ) → is_blank b ≡ blank
     (0 < length (word (skip_blanks (after_word bytes))) → length (word bytes) + length (word (skip_blanks (after_word bytes))) < length bytes) →
     0 < length (word (skip_blanks (cond blank (b ∷ bytes) (after_word bytes)))) →
     length (cond blank [] (b ∷ word bytes)) + length (word (skip_blanks (cond blank (b ∷ bytes) (after_word bytes)))) < suc (length bytes)
-fits-from true b bytes told ih h =
+fits-from true b bytes stated ih h =
     let w = word-length (skip_blanks bytes) in
     let s = skip_blanks-length bytes in
-    rw (skip_blanks-yes b bytes told) (omega (arith, w, s))
-fits-from false b bytes told ih h = let rest = ih h in omega (arith, rest)
+    rw (skip_blanks-yes b bytes stated) (omega (arith, w, s))
+fits-from false b bytes stated ih h = let rest = ih h in omega (arith, rest)
 
 -- operation, a blank and operand are no longer than the bytes that they come from
 pub spelling-fits : (bytes : List ℕ) → 0 < length (word (skip_blanks (after_word bytes))) → length (word bytes) + length (word (skip_blanks (after_word bytes))) < length bytes
@@ -142,12 +142,12 @@ behind-word : (bytes : List ℕ) → length (skip_blanks (after_word bytes)) ≤
 behind-word bytes = let s = skip_blanks-length (after_word bytes) in let a = after_word-length bytes in omega (arith, s, a)
 
 behind-first : (blank : Bool) (b : ℕ) (bytes : List ℕ) → is_blank b ≡ blank → length (skip_blanks (after_word (b ∷ bytes))) ≤ length bytes
-behind-first true b bytes told = rw (after_word-yes b bytes told, skip_blanks-yes b bytes told) (skip_blanks-length bytes)
-behind-first false b bytes told = rw (after_word-no b bytes told) (behind-word bytes)
+behind-first true b bytes stated = rw (after_word-yes b bytes stated, skip_blanks-yes b bytes stated) (skip_blanks-length bytes)
+behind-first false b bytes stated = rw (after_word-no b bytes stated) (behind-word bytes)
 
 behind-column : (t : Bool) (b : ℕ) (bytes : List ℕ) → (b == 32) ≡ t → length (skip_blanks (after_word (from_location (b ∷ bytes)))) ≤ length bytes
-behind-column true b bytes told = rw (from_location-yes b bytes told) (behind-word bytes)
-behind-column false b bytes told = rw (from_location-no b bytes told) (behind-first (is_blank b) b bytes refl)
+behind-column true b bytes stated = rw (from_location-yes b bytes stated) (behind-word bytes)
+behind-column false b bytes stated = rw (from_location-no b bytes stated) (behind-first (is_blank b) b bytes refl)
 
 pub from_operation_within : (line : List ℕ) → length (skip_blanks (after_word (from_location line))) ≤ length line - 1
 from_operation_within [] = omega arith

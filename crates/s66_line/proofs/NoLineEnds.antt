@@ -29,9 +29,9 @@ passes-ends_no_line : (test : ℕ → Bool) → test 10 ≡ false → test 13 �
 passes-ends_no_line test newline return b h = by_test (b == 10) (b == 13) refl refl
   where
     by_test : (t u : Bool) → (b == 10) ≡ t → (b == 13) ≡ u → not (t || u) ≡ true
-    by_test true u told other = absurd (true≢false (sym h ∙ ap test (eqb-true b 10 told) ∙ newline))
-    by_test false true other told = absurd (true≢false (sym h ∙ ap test (eqb-true b 13 told) ∙ return))
-    by_test false false told other = refl
+    by_test true u stated other = absurd (true≢false (sym h ∙ ap test (eqb-true b 10 stated) ∙ newline))
+    by_test false true other stated = absurd (true≢false (sym h ∙ ap test (eqb-true b 13 stated) ∙ return))
+    by_test false false stated other = refl
 
 two : (a d : ℕ) → ends_no_line a ≡ true → ends_no_line d ≡ true → EndsNoLine (a ∷ d ∷ [])
 two a d h k = rw (h, k) refl
@@ -129,10 +129,10 @@ cut-ends_no_line test passes minus term (b ∷ bytes) h =
     by_sign : (t : Bool) → is_sign b ≡ t → (every (λ (t : Bool × List ℕ). test t.1) (terms_from (b == 45) [] bytes) ≡ true → EndsNoLine [] × EndsNoLine bytes) →
         (every (λ (t : Bool × List ℕ). test t.1) (terms_from minus (term ++ b ∷ []) bytes) ≡ true → EndsNoLine (term ++ b ∷ []) × EndsNoLine bytes) →
         every (λ (t : Bool × List ℕ). test t.1) (if t then (minus, term) ∷ terms_from (b == 45) [] bytes else terms_from minus (term ++ b ∷ []) bytes) ≡ true → EndsNoLine term × EndsNoLine (b ∷ bytes)
-    by_sign true told cut longer h =
+    by_sign true stated cut longer h =
         let both = and_parts (test term) (every (λ (t : Bool × List ℕ). test t.1) (terms_from (b == 45) [] bytes)) h in
-        (passes term both.0, one-more b bytes (sign-ends_no_line b told) (cut both.1).1)
-    by_sign false told cut longer h =
+        (passes term both.0, one-more b bytes (sign-ends_no_line b stated) (cut both.1).1)
+    by_sign false stated cut longer h =
         let rest = longer h in
         let both = and_parts (every ends_no_line term) (ends_no_line b) (sym (every-push ends_no_line term b) ∙ rest.0) in
         (both.0, one-more b bytes both.1 rest.1)
@@ -142,8 +142,8 @@ terms-ends_no_line test passes [] h = refl
 terms-ends_no_line test passes (b ∷ bytes) h = by_sign (is_sign b) refl h
   where
     by_sign : (t : Bool) → is_sign b ≡ t → every (λ (t : Bool × List ℕ). test t.1) (if t then terms_from (b == 45) [] bytes else terms_from false [] (b ∷ bytes)) ≡ true → EndsNoLine (b ∷ bytes)
-    by_sign true told h = one-more b bytes (sign-ends_no_line b told) (cut-ends_no_line test passes (b == 45) [] bytes h).1
-    by_sign false told h = (cut-ends_no_line test passes false [] (b ∷ bytes) h).1
+    by_sign true stated h = one-more b bytes (sign-ends_no_line b stated) (cut-ends_no_line test passes (b == 45) [] bytes h).1
+    by_sign false stated h = (cut-ends_no_line test passes false [] (b ∷ bytes) h).1
 
 expression-ends_no_line : (text : List ℕ) → is_expression text ≡ true → EndsNoLine text
 expression-ends_no_line text h = terms-ends_no_line is_constant is_constant-ends_no_line text (and_parts (is_filled text) (every (λ t. is_constant t.1) (terms_of text)) h).1
@@ -257,9 +257,9 @@ operation-ends_no_line (p ∷ q ∷ d ∷ []) =
     either _ (is_octal d) _ _ (λ e. letters (syntax_of p q) refl e) (λ e. tt)
   where
     letters : (syntax : Option Syntax) → syntax_of p q ≡ syntax → is_octal d ≡ true → IfSome {T = Syntax × ℕ} (option_and_then (λ s. Some (s, d - 48)) syntax) (λ o. IsWord (p ∷ q ∷ d ∷ []))
-    letters None told e = tt
-    letters (Some s) told e =
-        (one-more p (q ∷ d ∷ []) (first-letter p q (ap is_some told)) (two q d (second-letter p q (ap is_some told)) (passes-ends_no_line is_octal refl refl d e)), refl)
+    letters None stated e = tt
+    letters (Some s) stated e =
+        (one-more p (q ∷ d ∷ []) (first-letter p q (ap is_some stated)) (two q d (second-letter p q (ap is_some stated)) (passes-ends_no_line is_octal refl refl d e)), refl)
 operation-ends_no_line other = tt
 
 -- AN INSTRUCTION

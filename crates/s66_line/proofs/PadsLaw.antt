@@ -82,19 +82,19 @@ twice false true = refl
 twice false false = refl
 
 nothing_past : (t u a : Bool) → u ≡ false → ((t && false || a) || u) ≡ a
-nothing_past true true a told = cc
-nothing_past false true a told = cc
-nothing_past true false true told = refl
-nothing_past true false false told = refl
-nothing_past false false true told = refl
-nothing_past false false false told = refl
+nothing_past true true a stated = cc
+nothing_past false true a stated = cc
+nothing_past true false true stated = refl
+nothing_past true false false stated = refl
+nothing_past false false true stated = refl
+nothing_past false false false stated = refl
 
 exchanged_past : (t u a : Bool) → u ≡ false → ((t && true || a) || u) ≡ (a || t)
-exchanged_past t true a told = cc
-exchanged_past true false true told = refl
-exchanged_past true false false told = refl
-exchanged_past false false true told = refl
-exchanged_past false false false told = refl
+exchanged_past t true a stated = cc
+exchanged_past true false true stated = refl
+exchanged_past true false false stated = refl
+exchanged_past false false true stated = refl
+exchanged_past false false false stated = refl
 
 -- READING, from any line on
 
@@ -147,10 +147,10 @@ next-pad true u n dropped ns ms some same more = rw (same, more) (ap (λ xs. dro
 next-pad false u n dropped ns ms some same more = rw (same, more) refl
 
 settled-pad : (u : Bool) (n : ℕ) (dropped ns ms : List ℕ) → u ≡ true → ns ≡ ms → (dropped ++ n ∷ []) ++ ns ≡ dropped ++ (if u then n ∷ ms else ms)
-settled-pad u n dropped ns ms told more = rw (told, more) (append_assoc dropped (n ∷ []) ms)
+settled-pad u n dropped ns ms stated more = rw (stated, more) (append_assoc dropped (n ∷ []) ms)
 
 settles : (u : Bool) (dropped ns ms some : List ℕ) → u ≡ true → ns ≡ ms → (dropped ++ some) ++ ns ≡ dropped ++ ((if u then some else []) ++ ms)
-settles u dropped ns ms some told more = rw (told, more) (append_assoc dropped some ms)
+settles u dropped ns ms some stated more = rw (stated, more) (append_assoc dropped some ms)
 
 settles-new : (u : Bool) (dropped ns ms some : List ℕ) → u ≡ false → ns ≡ ms → (dropped ++ []) ++ ns ≡ dropped ++ ((if u then some else []) ++ ms)
 settles-new u dropped ns ms some none more = rw (none, more, append-nil dropped) refl

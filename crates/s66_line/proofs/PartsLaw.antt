@@ -115,8 +115,8 @@ cut-joins l next more parts joins (inr h) cut = absurd (joins (ap (λ n. n % BLO
 
 cut-either : (t : Bool) (l next : Line) (more : List Line) (parts : List (List Line)) → eqb (next.index % BLOCK_LIMIT) 0 ≡ t → After l.run (suc l.index) next → Cut ((next ∷ more) ∷ parts) →
     Cut (if t then (l ∷ []) ∷ (next ∷ more) ∷ parts else (l ∷ next ∷ more) ∷ parts)
-cut-either true l next more parts told h cut = cut-begins l next more parts (eqb-true (next.index % BLOCK_LIMIT) 0 told) h cut
-cut-either false l next more parts told h cut = cut-joins l next more parts (eqb-false (next.index % BLOCK_LIMIT) 0 told) h cut
+cut-either true l next more parts stated h cut = cut-begins l next more parts (eqb-true (next.index % BLOCK_LIMIT) 0 stated) h cut
+cut-either false l next more parts stated h cut = cut-joins l next more parts (eqb-false (next.index % BLOCK_LIMIT) 0 stated) h cut
 
 Cut-put : (l : Line) (parts : List (List Line)) → Starts l.run (suc l.index) parts → Cut parts → Cut (put_before l parts)
 Cut-put l [] h cut = (tt, (let below = mod_below l.index BLOCK_LIMIT (omega arith) in omega (arith, below)), tt, tt)

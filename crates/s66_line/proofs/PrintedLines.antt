@@ -90,9 +90,9 @@ of-instructions (l ∷ lines) m among = by_test (is_instruction l.class) refl (o
   where
     by_test : (t : Bool) → is_instruction l.class ≡ t → (Among m (instructions lines) → Among m lines × (is_instruction m.class ≡ true)) →
         Among m (if t then l ∷ instructions lines else instructions lines) → Among m (l ∷ lines) × (is_instruction m.class ≡ true)
-    by_test true told later (inl same) = (inl same, ap (λ (x : Line). is_instruction x.class) same ∙ told)
-    by_test true told later (inr among) = (inr (later among).0, (later among).1)
-    by_test false told later among = (inr (later among).0, (later among).1)
+    by_test true stated later (inl same) = (inl same, ap (λ (x : Line). is_instruction x.class) same ∙ stated)
+    by_test true stated later (inr among) = (inr (later among).0, (later among).1)
+    by_test false stated later among = (inr (later among).0, (later among).1)
 
 Rising-after : (low : ℕ) (xs ys : List Line) → Rising low (xs ++ ys) → Rising low ys
 Rising-after low [] ys h = h
@@ -189,7 +189,7 @@ Before-push low (m ∷ lines) l h last = (omega (arith, h.0), Before-push low li
 -- NOTES
 
 inside : (comment : Bool) (first n last : ℕ) → comment ≡ true → first < n → n < last → (comment && nat_lt first n && nat_lt n last) ≡ true
-inside comment first n last told after before = rw (told, lt-ltb first n after, lt-ltb n last before) refl
+inside comment first n last stated after before = rw (stated, lt-ltb first n after, lt-ltb n last before) refl
 
 notes-before : (block : Block) (low : ℕ) (xs ys : List Line) → Before low xs → low ≤ suc (line_of block 1) → notes_text block (xs ++ ys) ≡ notes_text block ys
 notes-before block low [] ys h first = refl
@@ -227,60 +227,60 @@ no-note-after l low ((a ∷ more) ∷ parts) one h at =
 -- ROLES, by the class
 
 comment-kept : (all : List Line) (l : Line) → l.class ≡ Comment → is_dropped all l ≡ false
-comment-kept all l told = rw told refl
+comment-kept all l stated = rw stated refl
 
 abbrev copied_by : Class → Bool → Bool → Bool
 copied_by c note block = is_other_class c || (is_comment_class c && not note || is_pad_class c && not block)
 
 comment-copied : (all : List Line) (l : Line) → l.class ≡ Comment → is_note all l ≡ false → copied_text all l ≡ copied_line l
-comment-copied all l told none =
-    ap (λ c. if copied_by c (is_note all l) (has_block all l) then copied_line l else []) told ∙ ap (λ t. if copied_by Comment t (has_block all l) then copied_line l else []) none
+comment-copied all l stated none =
+    ap (λ c. if copied_by c (is_note all l) (has_block all l) then copied_line l else []) stated ∙ ap (λ t. if copied_by Comment t (has_block all l) then copied_line l else []) none
 
 note-moved : (all : List Line) (l : Line) → l.class ≡ Comment → is_note all l ≡ true → copied_text all l ≡ []
-note-moved all l told one =
-    ap (λ c. if copied_by c (is_note all l) (has_block all l) then copied_line l else []) told ∙ ap (λ t. if copied_by Comment t (has_block all l) then copied_line l else []) one
+note-moved all l stated one =
+    ap (λ c. if copied_by c (is_note all l) (has_block all l) then copied_line l else []) stated ∙ ap (λ t. if copied_by Comment t (has_block all l) then copied_line l else []) one
 
 other-kept : (all : List Line) (l : Line) → l.class ≡ Other → is_dropped all l ≡ false
-other-kept all l told = rw told refl
+other-kept all l stated = rw stated refl
 
 other-copied : (all : List Line) (l : Line) → l.class ≡ Other → copied_text all l ≡ copied_line l
-other-copied all l told = rw told refl
+other-copied all l stated = rw stated refl
 
 pad-dropped : (all : List Line) (l : Line) (located : Bool) → l.class ≡ Pad located → has_block all l ≡ true → is_dropped all l ≡ true
-pad-dropped all l located told here = rw (told, here) refl
+pad-dropped all l located stated here = rw (stated, here) refl
 
 pad-not_copied : (all : List Line) (l : Line) (located : Bool) → l.class ≡ Pad located → has_block all l ≡ true → copied_text all l ≡ []
-pad-not_copied all l located told here = rw (told, here) refl
+pad-not_copied all l located stated here = rw (stated, here) refl
 
 pad-kept : (all : List Line) (l : Line) (located : Bool) → l.class ≡ Pad located → has_block all l ≡ false → is_dropped all l ≡ false
-pad-kept all l located told none = rw (told, none) refl
+pad-kept all l located stated none = rw (stated, none) refl
 
 pad-copied : (all : List Line) (l : Line) (located : Bool) → l.class ≡ Pad located → has_block all l ≡ false → copied_text all l ≡ copied_line l
-pad-copied all l located told none = rw (told, none) refl
+pad-copied all l located stated none = rw (stated, none) refl
 
 instruction-kept : (all : List Line) (l : Line) (located : Bool) (n : Instr) → l.class ≡ Instruction located n → is_dropped all l ≡ false
-instruction-kept all l located n told = rw told refl
+instruction-kept all l located n stated = rw stated refl
 
 pub instruction-not_copied : (all : List Line) (l : Line) (located : Bool) (n : Instr) → l.class ≡ Instruction located n → copied_text all l ≡ []
-instruction-not_copied all l located n told = rw told refl
+instruction-not_copied all l located n stated = rw stated refl
 
 no-note-of_code : (l : Line) (block : Block) → is_comment_class l.class ≡ false → is_note_of l block ≡ false
-no-note-of_code l block told = rw told refl
+no-note-of_code l block stated = rw stated refl
 
 instructions-yes : (l : Line) (lines : List Line) → is_instruction l.class ≡ true → instructions (l ∷ lines) ≡ l ∷ instructions lines
-instructions-yes l lines told = rw told refl
+instructions-yes l lines stated = rw stated refl
 
 instructions-no : (l : Line) (lines : List Line) → is_instruction l.class ≡ false → instructions (l ∷ lines) ≡ instructions lines
-instructions-no l lines told = rw told refl
+instructions-no l lines stated = rw stated refl
 
 -- one instruction of the run is enough
 has-instruction : (run : ℕ) (m : Line) (lines : List Line) → Among m lines → is_instruction m.class ≡ true → m.run ≡ run → some_of (λ (x : Line). eqb x.run run && is_instruction x.class) lines ≡ true
-has-instruction run m [] among told same = absurd among
-has-instruction run m (l ∷ lines) (inl here) told same =
-    rw (eq-eqb l.run run (sym (ap (λ (x : Line). x.run) here) ∙ same), sym (ap (λ (x : Line). is_instruction x.class) here) ∙ told) refl
-has-instruction run m (l ∷ lines) (inr among) told same =
+has-instruction run m [] among stated same = absurd among
+has-instruction run m (l ∷ lines) (inl here) stated same =
+    rw (eq-eqb l.run run (sym (ap (λ (x : Line). x.run) here) ∙ same), sym (ap (λ (x : Line). is_instruction x.class) here) ∙ stated) refl
+has-instruction run m (l ∷ lines) (inr among) stated same =
     elim (eqb l.run run && is_instruction l.class) as (λ t. (t || some_of (λ (x : Line). eqb x.run run && is_instruction x.class) lines) ≡ true)
-    [ true ↦ refl | false ↦ has-instruction run m lines among told same ]
+    [ true ↦ refl | false ↦ has-instruction run m lines among stated same ]
 
 -- A LINE THAT IS NO FIRST INSTRUCTION of a block
 
@@ -359,8 +359,8 @@ record Ahead (all lines : List Line) (x : Line) (q : List Line) (parts : List (L
 
 ahead-open : (all lines : List Line) (l x : Line) (q : List Line) (parts : List (List Line)) (count : ℕ) → is_instruction l.class ≡ false → Ordered (suc (suc count)) (run_behind l) lines →
     instructions (l ∷ lines) ≡ x ∷ q ++ all_of parts → Ahead all lines x q parts count
-ahead-open all lines l x q parts count told ordered left =
-    let here : instructions lines ≡ x ∷ q ++ all_of parts = sym (instructions-no l lines told) ∙ left in
+ahead-open all lines l x q parts count stated ordered left =
+    let here : instructions lines ≡ x ∷ q ++ all_of parts = sym (instructions-no l lines stated) ∙ left in
     let rising : Rising (suc (suc count)) (x ∷ q ++ all_of parts) = subst (Rising (suc (suc count))) here (rising-instructions (suc (suc count)) lines (Rising-ordered (suc (suc count)) (run_behind l) lines ordered)) in
     let behind = Rising-behind (suc (suc count)) x q (all_of parts) rising in
     record { left = here; next = rising.0; last = behind.0; rising = behind.1 }
@@ -386,10 +386,10 @@ Open-next all before lines l ended block x q parts ps count run k at ahead begun
 }
 
 with-note : (t : Bool) (copied notes lines text other : List ℕ) → t ≡ true → other ≡ text → copied ++ (notes ++ (lines ++ text)) ≡ ((if t then copied else []) ++ notes) ++ (lines ++ other)
-with-note t copied notes lines text other told same = rw (told, same) (sym (append_assoc copied notes (lines ++ text)))
+with-note t copied notes lines text other stated same = rw (stated, same) (sym (append_assoc copied notes (lines ++ text)))
 
 without-note : (t : Bool) (copied notes lines text other : List ℕ) → t ≡ false → other ≡ text → notes ++ (lines ++ text) ≡ ((if t then copied else []) ++ notes) ++ (lines ++ other)
-without-note t copied notes lines text other told same = rw (told, same) refl
+without-note t copied notes lines text other stated same = rw (stated, same) refl
 
 nothing-first : (first text : List ℕ) → first ≡ [] → first ++ text ≡ text
 nothing-first first text h = rw h refl
@@ -397,12 +397,12 @@ nothing-first first text h = rw h refl
 -- A LINE WHILE A BLOCK IS BEGUN
 
 open-comment : (all lines : List Line) (l : Line) → l.class ≡ Comment → Opens all lines → Opens all (l ∷ lines)
-open-comment all lines l told opens before ended block x q parts p ps count run n k at begun =
-    let kept : is_dropped all l ≡ false = comment-kept all l told in
-    let ahead = ahead-open all lines l x q parts count (rw told refl) at.ordered.2 begun.left in
+open-comment all lines l stated opens before ended block x q parts p ps count run n k at begun =
+    let kept : is_dropped all l ≡ false = comment-kept all l stated in
+    let ahead = ahead-open all lines l x q parts count (rw stated refl) at.ordered.2 begun.left in
     let number : l.number ≡ suc count = at.ordered.0 in
     let last = line_of-end block k x q begun.entries in
-    let here : is_note_of l block ≡ true = inside (is_comment_class l.class) (line_of block 1) l.number (line_of block (length block.entries)) (rw told refl) (omega (arith, begun.first, number)) (omega (arith, number, ahead.next, ahead.last, last)) in
+    let here : is_note_of l block ≡ true = inside (is_comment_class l.class) (line_of block 1) l.number (line_of block (length block.entries)) (rw stated refl) (omega (arith, begun.first, number)) (omega (arith, number, ahead.next, ahead.last, last)) in
     let noted : is_note all l ≡ true = ap (λ blocks. some_of (is_note_of l) blocks) begun.blocks ∙ some-note l ended block (map block_of parts) here in
     ap (λ dropped. text_of (printer (block ∷ map block_of parts) (p ∷ ps) dropped n k count) (bytes_in (l ∷ lines))) (dropped-no all lines l kept)
     ∙ step-copied (printer (block ∷ map block_of parts) (p ∷ ps) (dropped_in all lines) n k count) l.bytes (bytes_in lines)
@@ -412,7 +412,7 @@ open-comment all lines l told opens before ended block x q parts p ps count run 
     (Open-next all before lines l ended block x q parts ps count run k at ahead begun))
     ∙ with-note (is_note_of l block) (copied_line l) (notes_text block lines) (instruction_lines block block.label p.order) (text_of_lines all (suc n) (map block_of parts) ps lines) (text_of_lines all (suc n) (map block_of parts) ps (l ∷ lines)) here
     (text-on all (suc n) parts ps l lines (suc (last_number x q)) begun.one begun.placed ahead.rising (omega (arith, number, ahead.next, ahead.last))
-    ∙ nothing-first (copied_text all l) _ (note-moved all l told noted))
+    ∙ nothing-first (copied_text all l) _ (note-moved all l stated noted))
 
 -- the next instruction is of the run of the line
 same-run : (all before lines : List Line) (l : Line) (ended : List Block) (block : Block) (x : Line) (q : List Line) (parts : List (List Line)) (ps : List Placed) (count run k : ℕ) →
@@ -421,37 +421,37 @@ same-run all before lines l ended block x q parts ps count run k at ahead begun 
     (run-instruction (suc (suc count)) (run_behind l) lines x at.ordered.2 (subst (Among x) (sym ahead.left) (inl refl)), omega (arith, begun.up_to, at.ordered.1))
 
 open-other : (all lines : List Line) (l : Line) → l.class ≡ Other → Opens all (l ∷ lines)
-open-other all lines l told before ended block x q parts p ps count run n k at begun =
-    let ahead = ahead-open all lines l x q parts count (rw told refl) at.ordered.2 begun.left in
+open-other all lines l stated before ended block x q parts p ps count run n k at begun =
+    let ahead = ahead-open all lines l x q parts count (rw stated refl) at.ordered.2 begun.left in
     let runs = same-run all before lines l ended block x q parts ps count run k at ahead begun in
-    let later : run_behind l ≡ suc l.run = rw told refl in
+    let later : run_behind l ≡ suc l.run = rw stated refl in
     absurd (omega (arith, runs.0, runs.1, later))
 
 refused-none : (number : ℕ) (c : Class) → c ≡ Refused → operand_refusal number c ≡ None → ⊥
-refused-none number Refused told h = cc
-refused-none number Comment told h = cc
-refused-none number Other told h = cc
-refused-none number (Pad located) told h = cc
-refused-none number (Instruction located n) told h = cc
+refused-none number Refused stated h = cc
+refused-none number Comment stated h = cc
+refused-none number Other stated h = cc
+refused-none number (Pad located) stated h = cc
+refused-none number (Instruction located n) stated h = cc
 
 open-pad : (all lines : List Line) (l : Line) (located : Bool) → l.class ≡ Pad located → Opens all lines → Opens all (l ∷ lines)
-open-pad all lines l located told opens before ended block x q parts p ps count run n k at begun =
-    let ahead = ahead-open all lines l x q parts count (rw told refl) at.ordered.2 begun.left in
+open-pad all lines l located stated opens before ended block x q parts p ps count run n k at begun =
+    let ahead = ahead-open all lines l x q parts count (rw stated refl) at.ordered.2 begun.left in
     let number : l.number ≡ suc count = at.ordered.0 in
     let runs = same-run all before lines l ended block x q parts ps count run k at ahead begun in
     let among = of-instructions lines x (subst (Among x) (sym ahead.left) (inl refl)) in
     let here : has_block all l ≡ true = has-instruction l.run x all (subst (Among x) (sym at.whole) (among-rest x before (l ∷ lines) (inr among.0))) among.1 (omega (arith, runs.0, runs.1, run_behind-le l)) in
-    ap (λ dropped. text_of (printer (block ∷ map block_of parts) (p ∷ ps) dropped n k count) (bytes_in (l ∷ lines))) (dropped-yes all lines l (pad-dropped all l located told here))
+    ap (λ dropped. text_of (printer (block ∷ map block_of parts) (p ∷ ps) dropped n k count) (bytes_in (l ∷ lines))) (dropped-yes all lines l (pad-dropped all l located stated here))
     ∙ step-skipped (printer (block ∷ map block_of parts) (p ∷ ps) (l.number ∷ dropped_in all lines) n k count) l.bytes (bytes_in lines) (eq-eqb l.number (suc count) number)
     ∙ opens (before ++ l ∷ []) ended block x q parts p ps (suc count) (run_behind l) n k (At-next all before lines l count run at) (Open-next all before lines l ended block x q parts ps count run k at ahead begun)
     ∙ without-note (is_note_of l block) (copied_line l) (notes_text block lines) (instruction_lines block block.label p.order) (text_of_lines all (suc n) (map block_of parts) ps lines) (text_of_lines all (suc n) (map block_of parts) ps (l ∷ lines))
-    (no-note-of_code l block (rw told refl))
+    (no-note-of_code l block (rw stated refl))
     (text-on all (suc n) parts ps l lines (suc (last_number x q)) begun.one begun.placed ahead.rising (omega (arith, number, ahead.next, ahead.last))
-    ∙ nothing-first (copied_text all l) _ (pad-not_copied all l located told here))
+    ∙ nothing-first (copied_text all l) _ (pad-not_copied all l located stated here))
 
 -- the lines that are left after an instruction
 rest-left : (l x : Line) (lines xs : List Line) → is_instruction l.class ≡ true → instructions (l ∷ lines) ≡ x ∷ xs → (l ≡ x) × (instructions lines ≡ xs)
-rest-left l x lines xs told left = first-line l x (instructions lines) xs (sym (instructions-yes l lines told) ∙ left)
+rest-left l x lines xs stated left = first-line l x (instructions lines) xs (sym (instructions-yes l lines stated) ∙ left)
 
 in-place-last : (n k : ℕ) (block : Block) (p : Placed) → 0 < k → suc k ≡ length block.entries → text_in_place n k block p ≡ instruction_lines block block.label p.order
 in-place-last n k block p some last = rw (ne_eqb k 0 (λ none. absurd (omega (arith, none, some))), eq-eqb (suc k) (length block.entries) last) refl
@@ -461,10 +461,10 @@ in-place-between n k block p some more =
     rw (ne_eqb k 0 (λ none. absurd (omega (arith, none, some))), ne_eqb (suc k) (length block.entries) (λ last. absurd (omega (arith, last, more)))) refl
 
 last-lines : (t : Bool) (place copied notes lines text other : List ℕ) → place ≡ lines → t ≡ false → notes ≡ [] → other ≡ text → place ++ text ≡ ((if t then copied else []) ++ notes) ++ (lines ++ other)
-last-lines t place copied notes lines text other at told none same = rw (at, told, none, same) refl
+last-lines t place copied notes lines text other at stated none same = rw (at, stated, none, same) refl
 
 between-lines : (t : Bool) (place copied notes lines text other : List ℕ) → place ≡ [] → t ≡ false → other ≡ text → place ++ (notes ++ (lines ++ text)) ≡ ((if t then copied else []) ++ notes) ++ (lines ++ other)
-between-lines t place copied notes lines text other at told same = rw (at, told, same) refl
+between-lines t place copied notes lines text other at stated same = rw (at, stated, same) refl
 
 -- the last instruction
 open-last : (all lines : List Line) (l : Line) (located : Bool) (i : Instr) → l.class ≡ Instruction located i → Closes all lines →
@@ -472,9 +472,9 @@ open-last : (all lines : List Line) (l : Line) (located : Bool) (i : Instr) → 
     At all before (l ∷ lines) count run → Open all (l ∷ lines) ended block x [] parts ps count run k →
     text_of (printer (block ∷ map block_of parts) (p ∷ ps) (dropped_in all lines) n k count) (bytes_in (l ∷ lines))
     ≡ notes_text block (l ∷ lines) ++ (instruction_lines block block.label p.order ++ text_of_lines all (suc n) (map block_of parts) ps (l ∷ lines))
-open-last all lines l located i told closes before ended block x parts p ps count run n k at begun =
+open-last all lines l located i stated closes before ended block x parts p ps count run n k at begun =
     let number : l.number ≡ suc count = at.ordered.0 in
-    let rests = rest-left l x lines (all_of parts) (rw told refl) begun.left in
+    let rests = rest-left l x lines (all_of parts) (rw stated refl) begun.left in
     let here : line_of block (suc k) ≡ x.number = line_of-left block.label block.entries k (entry_of x) [] begun.entries in
     let same : x.number ≡ suc count = sym (ap (λ (y : Line). y.number) rests.0) ∙ number in
     let size : length block.entries ≡ k + 1 = length-left block.entries k (entry_of x) [] begun.entries in
@@ -493,9 +493,9 @@ open-last all lines l located i told closes before ended block x parts p ps coun
     }))
     ∙ last-lines (is_note_of l block) (text_in_place n k block p) (copied_line l) (notes_text block lines) (instruction_lines block block.label p.order) (text_of_lines all (suc n) (map block_of parts) ps lines) (text_of_lines all (suc n) (map block_of parts) ps (l ∷ lines))
     (in-place-last n k block p begun.some (omega (arith, size)))
-    (no-note-of_code l block (rw told refl))
+    (no-note-of_code l block (rw stated refl))
     (notes-past block (suc (suc count)) (run_behind l) lines at.ordered.2 (omega (arith, last, same)))
-    (text-on all (suc n) parts ps l lines (suc (suc count)) begun.one begun.placed rising (omega (arith, number)) ∙ nothing-first (copied_text all l) _ (instruction-not_copied all l located i told))
+    (text-on all (suc n) parts ps l lines (suc (suc count)) begun.one begun.placed rising (omega (arith, number)) ∙ nothing-first (copied_text all l) _ (instruction-not_copied all l located i stated))
 
 -- one between the first and the last
 open-between : (all lines : List Line) (l : Line) (located : Bool) (i : Instr) → l.class ≡ Instruction located i → Opens all lines →
@@ -503,9 +503,9 @@ open-between : (all lines : List Line) (l : Line) (located : Bool) (i : Instr) �
     At all before (l ∷ lines) count run → Open all (l ∷ lines) ended block x (y ∷ q) parts ps count run k →
     text_of (printer (block ∷ map block_of parts) (p ∷ ps) (dropped_in all lines) n k count) (bytes_in (l ∷ lines))
     ≡ notes_text block (l ∷ lines) ++ (instruction_lines block block.label p.order ++ text_of_lines all (suc n) (map block_of parts) ps (l ∷ lines))
-open-between all lines l located i told opens before ended block x y q parts p ps count run n k at begun =
+open-between all lines l located i stated opens before ended block x y q parts p ps count run n k at begun =
     let number : l.number ≡ suc count = at.ordered.0 in
-    let rests = rest-left l x lines (y ∷ q ++ all_of parts) (rw told refl) begun.left in
+    let rests = rest-left l x lines (y ∷ q ++ all_of parts) (rw stated refl) begun.left in
     let here : line_of block (suc k) ≡ x.number = line_of-left block.label block.entries k (entry_of x) (map entry_of (y ∷ q)) begun.entries in
     let same : x.number ≡ suc count = sym (ap (λ (z : Line). z.number) rests.0) ∙ number in
     let size : length block.entries ≡ k + suc (suc (length (map entry_of q))) = length-left block.entries k (entry_of x) (map entry_of (y ∷ q)) begun.entries in
@@ -529,23 +529,23 @@ open-between all lines l located i told opens before ended block x y q parts p p
     }))
     ∙ between-lines (is_note_of l block) (text_in_place n k block p) (copied_line l) (notes_text block lines) (instruction_lines block block.label p.order) (text_of_lines all (suc n) (map block_of parts) ps lines) (text_of_lines all (suc n) (map block_of parts) ps (l ∷ lines))
     (in-place-between n k block p begun.some (omega (arith, size)))
-    (no-note-of_code l block (rw told refl))
-    (text-on all (suc n) parts ps l lines (suc (last_number y q)) begun.one begun.placed behind.1 (omega (arith, number, rising.0, behind.0)) ∙ nothing-first (copied_text all l) _ (instruction-not_copied all l located i told))
+    (no-note-of_code l block (rw stated refl))
+    (text-on all (suc n) parts ps l lines (suc (last_number y q)) begun.one begun.placed behind.1 (omega (arith, number, rising.0, behind.0)) ∙ nothing-first (copied_text all l) _ (instruction-not_copied all l located i stated))
 
 open-instruction : (all lines : List Line) (l : Line) (located : Bool) (i : Instr) → l.class ≡ Instruction located i → Opens all lines → Closes all lines → Opens all (l ∷ lines)
-open-instruction all lines l located i told opens closes before ended block x [] parts p ps count run n k at begun =
-    ap (λ dropped. text_of (printer (block ∷ map block_of parts) (p ∷ ps) dropped n k count) (bytes_in (l ∷ lines))) (dropped-no all lines l (instruction-kept all l located i told))
-    ∙ open-last all lines l located i told closes before ended block x parts p ps count run n k at begun
-open-instruction all lines l located i told opens closes before ended block x (y ∷ q) parts p ps count run n k at begun =
-    ap (λ dropped. text_of (printer (block ∷ map block_of parts) (p ∷ ps) dropped n k count) (bytes_in (l ∷ lines))) (dropped-no all lines l (instruction-kept all l located i told))
-    ∙ open-between all lines l located i told opens before ended block x y q parts p ps count run n k at begun
+open-instruction all lines l located i stated opens closes before ended block x [] parts p ps count run n k at begun =
+    ap (λ dropped. text_of (printer (block ∷ map block_of parts) (p ∷ ps) dropped n k count) (bytes_in (l ∷ lines))) (dropped-no all lines l (instruction-kept all l located i stated))
+    ∙ open-last all lines l located i stated closes before ended block x parts p ps count run n k at begun
+open-instruction all lines l located i stated opens closes before ended block x (y ∷ q) parts p ps count run n k at begun =
+    ap (λ dropped. text_of (printer (block ∷ map block_of parts) (p ∷ ps) dropped n k count) (bytes_in (l ∷ lines))) (dropped-no all lines l (instruction-kept all l located i stated))
+    ∙ open-between all lines l located i stated opens before ended block x y q parts p ps count run n k at begun
 
 open-line : (c : Class) (all lines : List Line) (l : Line) → l.class ≡ c → Opens all lines → Closes all lines → Opens all (l ∷ lines)
-open-line Comment all lines l told opens closes = open-comment all lines l told opens
-open-line Other all lines l told opens closes = open-other all lines l told
-open-line Refused all lines l told opens closes = λ before ended block x q parts p ps count run n k at begun. absurd (refused-none l.number l.class told (operand-none (l ∷ lines) l at.taken (inl refl)))
-open-line (Pad located) all lines l told opens closes = open-pad all lines l located told opens
-open-line (Instruction located i) all lines l told opens closes = open-instruction all lines l located i told opens closes
+open-line Comment all lines l stated opens closes = open-comment all lines l stated opens
+open-line Other all lines l stated opens closes = open-other all lines l stated
+open-line Refused all lines l stated opens closes = λ before ended block x q parts p ps count run n k at begun. absurd (refused-none l.number l.class stated (operand-none (l ∷ lines) l at.taken (inl refl)))
+open-line (Pad located) all lines l stated opens closes = open-pad all lines l located stated opens
+open-line (Instruction located i) all lines l stated opens closes = open-instruction all lines l located i stated opens closes
 
 -- A LINE WHILE NO BLOCK IS BEGUN
 
@@ -556,58 +556,58 @@ not-first ((m ∷ more) ∷ parts) number low one rising below = ne_eqb m.number
 
 Closed-next : (all lines : List Line) (l : Line) (ended : List Block) (parts : List (List Line)) (ps : List Placed) (count : ℕ) → is_instruction l.class ≡ false →
     Closed all (l ∷ lines) ended parts ps count → Closed all lines ended parts ps (suc count)
-Closed-next all lines l ended parts ps count told closed = record {
+Closed-next all lines l ended parts ps count stated closed = record {
   blocks = closed.blocks;
   behind = Ended-later (suc count) ended closed.behind;
   one = closed.one;
-  left = sym (instructions-no l lines told) ∙ closed.left;
+  left = sym (instructions-no l lines stated) ∙ closed.left;
   placed = closed.placed;
 }
 
 -- the instructions to come stand behind the next line
 rising-closed : (lines : List Line) (l : Line) (parts : List (List Line)) (count : ℕ) → is_instruction l.class ≡ false → Ordered (suc (suc count)) (run_behind l) lines → instructions (l ∷ lines) ≡ all_of parts →
     Rising (suc (suc count)) (all_of parts)
-rising-closed lines l parts count told ordered left =
-    subst (Rising (suc (suc count))) (sym (instructions-no l lines told) ∙ left) (rising-instructions (suc (suc count)) lines (Rising-ordered (suc (suc count)) (run_behind l) lines ordered))
+rising-closed lines l parts count stated ordered left =
+    subst (Rising (suc (suc count))) (sym (instructions-no l lines stated) ∙ left) (rising-instructions (suc (suc count)) lines (Rising-ordered (suc (suc count)) (run_behind l) lines ordered))
 
 closed-copied : (all lines : List Line) (l : Line) → is_instruction l.class ≡ false → is_dropped all l ≡ false → Closes all lines →
     (before : List Line) (ended : List Block) (parts : List (List Line)) (ps : List Placed) (count run n : ℕ) → At all before (l ∷ lines) count run → Closed all (l ∷ lines) ended parts ps count →
     copied_text all l ≡ copied_line l →
     text_of (printer (map block_of parts) ps (dropped_in all (l ∷ lines)) n 0 count) (bytes_in (l ∷ lines)) ≡ text_of_lines all n (map block_of parts) ps (l ∷ lines)
-closed-copied all lines l told kept closes before ended parts ps count run n at closed copied =
-    let rising = rising-closed lines l parts count told at.ordered.2 closed.left in
+closed-copied all lines l stated kept closes before ended parts ps count run n at closed copied =
+    let rising = rising-closed lines l parts count stated at.ordered.2 closed.left in
     ap (λ dropped. text_of (printer (map block_of parts) ps dropped n 0 count) (bytes_in (l ∷ lines))) (dropped-no all lines l kept)
     ∙ step-copied (printer (map block_of parts) ps (dropped_in all lines) n 0 count) l.bytes (bytes_in lines)
     (later-dropped all (suc count) (suc (suc count)) (run_behind l) lines (omega arith) at.ordered.2)
     (not-first parts (suc count) (suc (suc count)) closed.one rising (omega arith))
-    ∙ ap (λ text. copied_line l ++ text) (closes (before ++ l ∷ []) ended parts ps (suc count) (run_behind l) n (At-next all before lines l count run at) (Closed-next all lines l ended parts ps count told closed))
+    ∙ ap (λ text. copied_line l ++ text) (closes (before ++ l ∷ []) ended parts ps (suc count) (run_behind l) n (At-next all before lines l count run at) (Closed-next all lines l ended parts ps count stated closed))
     ∙ ap (λ first. first ++ text_of_lines all n (map block_of parts) ps lines) (sym copied)
     ∙ sym (text-on all n parts ps l lines (suc (suc count)) closed.one closed.placed rising (omega (arith, at.ordered.0)))
 
 closed-comment : (all lines : List Line) (l : Line) → l.class ≡ Comment → Closes all lines → Closes all (l ∷ lines)
-closed-comment all lines l told closes before ended parts ps count run n at closed =
-    let rising = rising-closed lines l parts count (rw told refl) at.ordered.2 closed.left in
+closed-comment all lines l stated closes before ended parts ps count run n at closed =
+    let rising = rising-closed lines l parts count (rw stated refl) at.ordered.2 closed.left in
     let free : is_note all l ≡ false =
     ap (λ blocks. some_of (is_note_of l) blocks) closed.blocks
     ∙ no-note-before l (suc count) ended (map block_of parts) closed.behind (omega (arith, at.ordered.0))
     ∙ no-note-after l (suc (suc count)) parts closed.one rising (omega (arith, at.ordered.0))
     in
-    closed-copied all lines l (rw told refl) (comment-kept all l told) closes before ended parts ps count run n at closed (comment-copied all l told free)
+    closed-copied all lines l (rw stated refl) (comment-kept all l stated) closes before ended parts ps count run n at closed (comment-copied all l stated free)
 
 closed-other : (all lines : List Line) (l : Line) → l.class ≡ Other → Closes all lines → Closes all (l ∷ lines)
-closed-other all lines l told closes before ended parts ps count run n at closed =
-    closed-copied all lines l (rw told refl) (other-kept all l told) closes before ended parts ps count run n at closed (other-copied all l told)
+closed-other all lines l stated closes before ended parts ps count run n at closed =
+    closed-copied all lines l (rw stated refl) (other-kept all l stated) closes before ended parts ps count run n at closed (other-copied all l stated)
 
 closed-pad : (all lines : List Line) (l : Line) (located here : Bool) → l.class ≡ Pad located → has_block all l ≡ here → Closes all lines → Closes all (l ∷ lines)
-closed-pad all lines l located true told here closes before ended parts ps count run n at closed =
-    let rising = rising-closed lines l parts count (rw told refl) at.ordered.2 closed.left in
-    ap (λ dropped. text_of (printer (map block_of parts) ps dropped n 0 count) (bytes_in (l ∷ lines))) (dropped-yes all lines l (pad-dropped all l located told here))
+closed-pad all lines l located true stated here closes before ended parts ps count run n at closed =
+    let rising = rising-closed lines l parts count (rw stated refl) at.ordered.2 closed.left in
+    ap (λ dropped. text_of (printer (map block_of parts) ps dropped n 0 count) (bytes_in (l ∷ lines))) (dropped-yes all lines l (pad-dropped all l located stated here))
     ∙ step-skipped (printer (map block_of parts) ps (l.number ∷ dropped_in all lines) n 0 count) l.bytes (bytes_in lines) (eq-eqb l.number (suc count) at.ordered.0)
-    ∙ closes (before ++ l ∷ []) ended parts ps (suc count) (run_behind l) n (At-next all before lines l count run at) (Closed-next all lines l ended parts ps count (rw told refl) closed)
-    ∙ sym (nothing-first (copied_text all l) _ (pad-not_copied all l located told here))
+    ∙ closes (before ++ l ∷ []) ended parts ps (suc count) (run_behind l) n (At-next all before lines l count run at) (Closed-next all lines l ended parts ps count (rw stated refl) closed)
+    ∙ sym (nothing-first (copied_text all l) _ (pad-not_copied all l located stated here))
     ∙ sym (text-on all n parts ps l lines (suc (suc count)) closed.one closed.placed rising (omega (arith, at.ordered.0)))
-closed-pad all lines l located false told here closes before ended parts ps count run n at closed =
-    closed-copied all lines l (rw told refl) (pad-kept all l located told here) closes before ended parts ps count run n at closed (pad-copied all l located told here)
+closed-pad all lines l located false stated here closes before ended parts ps count run n at closed =
+    closed-copied all lines l (rw stated refl) (pad-kept all l located stated here) closes before ended parts ps count run n at closed (pad-copied all l located stated here)
 
 -- the first instruction of a block
 pub text-first : (all : List Line) (n : ℕ) (block : Block) (blocks : List Block) (p : Placed) (ps : List Placed) (l : Line) (lines : List Line) → line_of block 1 ≡ l.number →
@@ -616,11 +616,11 @@ text-first all n block blocks p ps l lines same = rw (eq-eqb (line_of block 1) l
 
 notes-begun : (all before lines : List Line) (l : Line) (block : Block) (count run : ℕ) → At all before (l ∷ lines) count run → line_of block 1 ≡ suc count → is_comment_class l.class ≡ false →
     notes_text block all ≡ notes_text block lines
-notes-begun all before lines l block count run at first told =
+notes-begun all before lines l block count run at first stated =
     ap (notes_text block) at.whole ∙ notes-before block (suc count) before (l ∷ lines) at.below (omega (arith, first)) ∙ none
   where
     none : notes_text block (l ∷ lines) ≡ notes_text block lines
-    none = rw (no-note-of_code l block told) refl
+    none = rw (no-note-of_code l block stated) refl
 
 first-lines : (place head notes lines text : List ℕ) → place ≡ head ++ lines → notes ≡ [] → place ++ text ≡ head ++ notes ++ lines ++ text
 first-lines place head notes lines text at none = rw (at, none, append-nil head) refl
@@ -633,9 +633,9 @@ closed-alone : (all lines : List Line) (l : Line) (located : Bool) (i : Instr) �
     (before : List Line) (ended : List Block) (m : Line) (parts : List (List Line)) (p : Placed) (ps : List Placed) (count run n : ℕ) →
     At all before (l ∷ lines) count run → Closed all (l ∷ lines) ended ((m ∷ []) ∷ parts) (p ∷ ps) count →
     text_of (printer (map block_of ((m ∷ []) ∷ parts)) (p ∷ ps) (dropped_in all lines) n 0 count) (bytes_in (l ∷ lines)) ≡ text_of_lines all n (map block_of ((m ∷ []) ∷ parts)) (p ∷ ps) (l ∷ lines)
-closed-alone all lines l located i told closes before ended m parts p ps count run n at closed =
+closed-alone all lines l located i stated closes before ended m parts p ps count run n at closed =
     let block : Block = block_of (m ∷ []) in
-    let rests = rest-left l m lines (all_of parts) (rw told refl) closed.left in
+    let rests = rest-left l m lines (all_of parts) (rw stated refl) closed.left in
     let same : m.number ≡ l.number = sym (ap (λ (y : Line). y.number) rests.0) in
     let number : m.number ≡ suc count = same ∙ at.ordered.0 in
     step-last (printer (block ∷ map block_of parts) (p ∷ ps) (dropped_in all lines) n 0 count) l.bytes (bytes_in lines)
@@ -649,16 +649,16 @@ closed-alone all lines l located i told closes before ended m parts p ps count r
       placed = closed.placed.1;
     }))
     ∙ first-lines (text_in_place n 0 block p) (report n (length block.entries) p) (notes_text block all) (instruction_lines block block.label p.order) (text_of_lines all (suc n) (map block_of parts) ps lines) refl
-    (notes-begun all before lines l block count run at number (rw told refl) ∙ notes-past block (suc (suc count)) (run_behind l) lines at.ordered.2 (omega (arith, number)))
+    (notes-begun all before lines l block count run at number (rw stated refl) ∙ notes-past block (suc (suc count)) (run_behind l) lines at.ordered.2 (omega (arith, number)))
     ∙ sym (text-first all n block (map block_of parts) p ps l lines same)
 
 closed-first : (all lines : List Line) (l : Line) (located : Bool) (i : Instr) → l.class ≡ Instruction located i → Opens all lines →
     (before : List Line) (ended : List Block) (m y : Line) (q : List Line) (parts : List (List Line)) (p : Placed) (ps : List Placed) (count run n : ℕ) →
     At all before (l ∷ lines) count run → Closed all (l ∷ lines) ended ((m ∷ y ∷ q) ∷ parts) (p ∷ ps) count →
     text_of (printer (map block_of ((m ∷ y ∷ q) ∷ parts)) (p ∷ ps) (dropped_in all lines) n 0 count) (bytes_in (l ∷ lines)) ≡ text_of_lines all n (map block_of ((m ∷ y ∷ q) ∷ parts)) (p ∷ ps) (l ∷ lines)
-closed-first all lines l located i told opens before ended m y q parts p ps count run n at closed =
+closed-first all lines l located i stated opens before ended m y q parts p ps count run n at closed =
     let block : Block = block_of (m ∷ y ∷ q) in
-    let rests = rest-left l m lines (y ∷ q ++ all_of parts) (rw told refl) closed.left in
+    let rests = rest-left l m lines (y ∷ q ++ all_of parts) (rw stated refl) closed.left in
     let same : m.number ≡ l.number = sym (ap (λ (z : Line). z.number) rests.0) in
     let number : m.number ≡ suc count = same ∙ at.ordered.0 in
     let more : eqb 1 (length block.entries) ≡ false = ne_eqb 1 (length block.entries) (λ last. absurd (omega (arith, last))) in
@@ -678,7 +678,7 @@ closed-first all lines l located i told opens before ended m y q parts p ps coun
       placed = closed.placed.1;
     }))
     ∙ first-place (text_in_place n 0 block p) (report n (length block.entries) p) (notes_text block lines) (notes_text block all) (instruction_lines block block.label p.order) (text_of_lines all (suc n) (map block_of parts) ps lines)
-    (rw more (append-nil (report n (length block.entries) p))) (notes-begun all before lines l block count run at number (rw told refl))
+    (rw more (append-nil (report n (length block.entries) p))) (notes-begun all before lines l block count run at number (rw stated refl))
     ∙ sym (text-first all n block (map block_of parts) p ps l lines same)
 
 no_line : (l : Line) (lines : List Line) → l ∷ lines ≡ [] → ⊥
@@ -687,23 +687,23 @@ no_line l lines h = cc
 closed-part : (all lines : List Line) (l : Line) (located : Bool) (i : Instr) → l.class ≡ Instruction located i → Opens all lines → Closes all lines →
     (before : List Line) (ended : List Block) (parts : List (List Line)) (ps : List Placed) (count run n : ℕ) → At all before (l ∷ lines) count run → Closed all (l ∷ lines) ended parts ps count →
     text_of (printer (map block_of parts) ps (dropped_in all lines) n 0 count) (bytes_in (l ∷ lines)) ≡ text_of_lines all n (map block_of parts) ps (l ∷ lines)
-closed-part all lines l located i told opens closes before ended [] ps count run n at closed = absurd (no_line l (instructions lines) (sym (instructions-yes l lines (rw told refl)) ∙ closed.left))
-closed-part all lines l located i told opens closes before ended ([] ∷ parts) ps count run n at closed = absurd closed.one
-closed-part all lines l located i told opens closes before ended ((m ∷ more) ∷ parts) [] count run n at closed = absurd closed.placed
-closed-part all lines l located i told opens closes before ended ((m ∷ []) ∷ parts) (p ∷ ps) count run n at closed = closed-alone all lines l located i told closes before ended m parts p ps count run n at closed
-closed-part all lines l located i told opens closes before ended ((m ∷ y ∷ q) ∷ parts) (p ∷ ps) count run n at closed = closed-first all lines l located i told opens before ended m y q parts p ps count run n at closed
+closed-part all lines l located i stated opens closes before ended [] ps count run n at closed = absurd (no_line l (instructions lines) (sym (instructions-yes l lines (rw stated refl)) ∙ closed.left))
+closed-part all lines l located i stated opens closes before ended ([] ∷ parts) ps count run n at closed = absurd closed.one
+closed-part all lines l located i stated opens closes before ended ((m ∷ more) ∷ parts) [] count run n at closed = absurd closed.placed
+closed-part all lines l located i stated opens closes before ended ((m ∷ []) ∷ parts) (p ∷ ps) count run n at closed = closed-alone all lines l located i stated closes before ended m parts p ps count run n at closed
+closed-part all lines l located i stated opens closes before ended ((m ∷ y ∷ q) ∷ parts) (p ∷ ps) count run n at closed = closed-first all lines l located i stated opens before ended m y q parts p ps count run n at closed
 
 closed-instruction : (all lines : List Line) (l : Line) (located : Bool) (i : Instr) → l.class ≡ Instruction located i → Opens all lines → Closes all lines → Closes all (l ∷ lines)
-closed-instruction all lines l located i told opens closes before ended parts ps count run n at closed =
-    ap (λ dropped. text_of (printer (map block_of parts) ps dropped n 0 count) (bytes_in (l ∷ lines))) (dropped-no all lines l (instruction-kept all l located i told))
-    ∙ closed-part all lines l located i told opens closes before ended parts ps count run n at closed
+closed-instruction all lines l located i stated opens closes before ended parts ps count run n at closed =
+    ap (λ dropped. text_of (printer (map block_of parts) ps dropped n 0 count) (bytes_in (l ∷ lines))) (dropped-no all lines l (instruction-kept all l located i stated))
+    ∙ closed-part all lines l located i stated opens closes before ended parts ps count run n at closed
 
 closed-line : (c : Class) (all lines : List Line) (l : Line) → l.class ≡ c → Opens all lines → Closes all lines → Closes all (l ∷ lines)
-closed-line Comment all lines l told opens closes = closed-comment all lines l told closes
-closed-line Other all lines l told opens closes = closed-other all lines l told closes
-closed-line Refused all lines l told opens closes = λ before ended parts ps count run n at closed. absurd (refused-none l.number l.class told (operand-none (l ∷ lines) l at.taken (inl refl)))
-closed-line (Pad located) all lines l told opens closes = closed-pad all lines l located (has_block all l) told refl closes
-closed-line (Instruction located i) all lines l told opens closes = closed-instruction all lines l located i told opens closes
+closed-line Comment all lines l stated opens closes = closed-comment all lines l stated closes
+closed-line Other all lines l stated opens closes = closed-other all lines l stated closes
+closed-line Refused all lines l stated opens closes = λ before ended parts ps count run n at closed. absurd (refused-none l.number l.class stated (operand-none (l ∷ lines) l at.taken (inl refl)))
+closed-line (Pad located) all lines l stated opens closes = closed-pad all lines l located (has_block all l) stated refl closes
+closed-line (Instruction located i) all lines l stated opens closes = closed-instruction all lines l located i stated opens closes
 
 -- ALL LINES
 

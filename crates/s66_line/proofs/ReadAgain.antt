@@ -81,12 +81,12 @@ fits-next : (lines : List (List ℕ)) → Fits lines → (number run index : ℕ
 fits-next lines fits number run index label = by_full (eqb (suc (index % BLOCK_LIMIT)) BLOCK_LIMIT) refl
   where
     by_full : (t : Bool) → eqb (suc (index % BLOCK_LIMIT)) BLOCK_LIMIT ≡ t → suc (index % BLOCK_LIMIT) + length (left (parts_from number run (suc index) label true lines)) ≤ BLOCK_LIMIT
-    by_full true told =
-        let all = eqb-true (suc (index % BLOCK_LIMIT)) BLOCK_LIMIT told in
+    by_full true stated =
+        let all = eqb-true (suc (index % BLOCK_LIMIT)) BLOCK_LIMIT stated in
         let none = ap (λ (ls : List Line). length ls) (none-left lines number run (suc index) label true (full-index index (index % BLOCK_LIMIT) refl all)) in
         omega (arith, all, none)
-    by_full false told =
-        let next = next-index index (index % BLOCK_LIMIT) refl (eqb-false (suc (index % BLOCK_LIMIT)) BLOCK_LIMIT told) in
+    by_full false stated =
+        let next = next-index index (index % BLOCK_LIMIT) refl (eqb-false (suc (index % BLOCK_LIMIT)) BLOCK_LIMIT stated) in
         let few = fits number run (suc index) label true in
         omega (arith, next, few)
 
@@ -142,11 +142,11 @@ sound-instructions (line ∷ lines) number run index label after h =
   where
     by_class : (c : Class) → class_of after line ≡ c → every is_inside line ≡ true → AreSoundLines (instructions (classes_from (suc number) (run_after run c) (place_after index c) (label_after label c line) (is_code c) lines)) →
         AreSoundLines (instructions (from_class number run index label c line lines))
-    by_class Comment told inside rest = rest
-    by_class Other told inside rest = rest
-    by_class Refused told inside rest = rest
-    by_class (Pad located) told inside rest = rest
-    by_class (Instruction located n) told inside rest = ((spells-of_class after line located n told, every-from_operation is_inside (body line) (every-trimmed is_inside is_return line inside)), rest)
+    by_class Comment stated inside rest = rest
+    by_class Other stated inside rest = rest
+    by_class Refused stated inside rest = rest
+    by_class (Pad located) stated inside rest = rest
+    by_class (Instruction located n) stated inside rest = ((spells-of_class after line located n stated, every-from_operation is_inside (body line) (every-trimmed is_inside is_return line inside)), rest)
 
 sound-left : (lines : List Line) → AreSoundLines lines → AreSoundLines (left (parts_of lines))
 sound-left [] h = tt
@@ -241,7 +241,7 @@ copied-line : (all : List Line) (n : ℕ) (parts : List (List Line)) (ps : List 
     every is_inside l.bytes ≡ true → operand_refusal l.number l.class ≡ None → FirstFrom (suc l.number) parts → ArePlaced (map block_of parts) ps → read_text t all n parts ps (l ∷ lines) ≡ Ok again →
     (read_text t all n parts ps lines ≡ Ok again)
     ⊎ (and_then (by_class t l.class (label_bytes (body l.bytes)) (from_operation (body l.bytes))) (λ u. read_text u all n parts ps lines) ≡ Ok again)
-copied-line all n parts ps l lines after t again told inside accepted first placed h =
+copied-line all n parts ps l lines after t again stated inside accepted first placed h =
     by_copied (is_copied all l) (read-as t _ _ again (text-copied all n parts ps l lines first placed) h)
   where
     by_copied : (copied : Bool) → read_from t (lines_of ((if copied then copied_line l else []) ++ text_of_lines all n (map block_of parts) ps lines)) ≡ Ok again →
@@ -249,25 +249,25 @@ copied-line all n parts ps l lines after t again told inside accepted first plac
         ⊎ (and_then (by_class t l.class (label_bytes (body l.bytes)) (from_operation (body l.bytes))) (λ u. read_text u all n parts ps lines) ≡ Ok again)
     by_copied false h = inl h
     by_copied true h =
-        inr (ap (λ c. and_then (by_class t c (label_bytes (body l.bytes)) (from_operation (body l.bytes))) (λ u. read_text u all n parts ps lines)) (sym told)
-        ∙ read-copied t after l.bytes (text_of_lines all n (map block_of parts) ps lines) l.number again inside (ap (operand_refusal l.number) told ∙ accepted) h)
+        inr (ap (λ c. and_then (by_class t c (label_bytes (body l.bytes)) (from_operation (body l.bytes))) (λ u. read_text u all n parts ps lines)) (sym stated)
+        ∙ read-copied t after l.bytes (text_of_lines all n (map block_of parts) ps lines) l.number again inside (ap (operand_refusal l.number) stated ∙ accepted) h)
 
 reads-comment : (line : List ℕ) (lines : List (List ℕ)) → Reads lines → ReadsClass Comment line lines
-reads-comment line lines reads all n number run index label after ps t again told inside source insides taken is placed complete ready h =
+reads-comment line lines reads all n number run index label after ps t again stated inside source insides taken is placed complete ready h =
     let l : Line = record { number = number; bytes = line; class = Comment; run = run; index = index; label = label } in
     let rest : List Line = classes_from (suc number) run index label false lines in
     let parts : List (List Line) = behind (parts_from (suc number) run index label false lines) in
-    elim (copied-line all n parts ps l rest after t again told inside refl (first-from lines (suc number) run index label false) placed h) [
+    elim (copied-line all n parts ps l rest after t again stated inside refl (first-from lines (suc number) run index label false) placed h) [
       | inl kept ↦ reads all n (suc number) run index label false ps t again source insides (rest-taken l rest taken) is placed complete ready kept
       | inr step ↦ reads all n (suc number) run index label false ps (count_line false t) again source insides (rest-taken l rest taken) is placed complete ready step
     ]
 
 reads-pad : (line : List ℕ) (lines : List (List ℕ)) → Reads lines → ReadsClass (Pad false) line lines
-reads-pad line lines reads all n number run index label after ps t again told inside source insides taken is placed complete ready h =
+reads-pad line lines reads all n number run index label after ps t again stated inside source insides taken is placed complete ready h =
     let l : Line = record { number = number; bytes = line; class = Pad false; run = run; index = index; label = label } in
     let rest : List Line = classes_from (suc number) run index label true lines in
     let parts : List (List Line) = behind (parts_from (suc number) run index label true lines) in
-    elim (copied-line all n parts ps l rest after t again told inside refl (first-from lines (suc number) run index label true) placed h) [
+    elim (copied-line all n parts ps l rest after t again stated inside refl (first-from lines (suc number) run index label true) placed h) [
       | inl kept ↦ reads all n (suc number) run index label true ps t again source insides (rest-taken l rest taken) is placed complete ready kept
       | inr step ↦ reads all n (suc number) run index label true ps (count_line true t) again source insides (rest-taken l rest taken) is placed complete ready step
     ]
@@ -279,13 +279,13 @@ ready-labelled lines number run label after t some =
     (λ here empty. absurd (true≢false (sym some ∙ ap is_filled empty)), λ all. absurd (omega (arith, none, all)))
 
 reads-labelled_pad : (line : List ℕ) (lines : List (List ℕ)) → Reads lines → ReadsClass (Pad true) line lines
-reads-labelled_pad line lines reads all n number run index label after ps t again told inside source insides taken is placed complete ready h =
+reads-labelled_pad line lines reads all n number run index label after ps t again stated inside source insides taken is placed complete ready h =
     let new : List ℕ = label_bytes (body line) in
     let l : Line = record { number = number; bytes = line; class = Pad true; run = suc run; index = 0; label = new } in
     let rest : List Line = classes_from (suc number) (suc run) 0 new true lines in
     let parts : List (List Line) = behind (parts_from (suc number) (suc run) 0 new true lines) in
-    let fresh_label = label-of_code after line (ap begins_run told) inside in
-    elim (copied-line all n parts ps l rest after t again told inside refl (first-from lines (suc number) (suc run) 0 new true) placed h) [
+    let fresh_label = label-of_code after line (ap begins_run stated) inside in
+    elim (copied-line all n parts ps l rest after t again stated inside refl (first-from lines (suc number) (suc run) 0 new true) placed h) [
       | inl kept ↦ reads all n (suc number) (suc run) 0 new true ps t again source insides (rest-taken l rest taken) fresh_label.0 placed complete (ready-labelled lines (suc number) (suc run) new true t fresh_label.1) kept
       | inr step ↦
           reads all n (suc number) (suc run) 0 new true ps (count_line true (begin_run new t)) again source insides (rest-taken l rest taken) fresh_label.0 placed complete
@@ -293,16 +293,16 @@ reads-labelled_pad line lines reads all n number run index label after ps t agai
     ]
 
 reads-other : (line : List ℕ) (lines : List (List ℕ)) → Reads lines → ReadsClass Other line lines
-reads-other line lines reads all n number run index label after ps t again told inside source insides taken is placed complete ready h =
+reads-other line lines reads all n number run index label after ps t again stated inside source insides taken is placed complete ready h =
     let l : Line = record { number = number; bytes = line; class = Other; run = run; index = index; label = label } in
     let rest : List Line = classes_from (suc number) (suc run) 0 [] false lines in
     let parts : List (List Line) = behind (parts_from (suc number) (suc run) 0 [] false lines) in
     let text : List ℕ = text_of_lines all n (map block_of parts) ps rest in
     let copied : read_from t (lines_of ((body line ++ codes "\n") ++ text)) ≡ Ok again =
     read-as t _ _ again (text-copied all n parts ps l rest (first-from lines (suc number) (suc run) 0 [] false) placed) h in
-    let step = read-copied t after line text number again inside (ap (operand_refusal number) told) copied in
+    let step = read-copied t after line text number again inside (ap (operand_refusal number) stated) copied in
     reads all n (suc number) (suc run) 0 [] false ps (count_line false (end_block t)) again source insides (rest-taken l rest taken) (refl, refl) placed complete (λ here empty. (refl, refl), λ all. (refl, refl))
-    (ap (λ c. and_then (by_class t c (label_bytes (body line)) (from_operation (body line))) (λ u. read_from u (lines_of text))) (sym told) ∙ step)
+    (ap (λ c. and_then (by_class t c (label_bytes (body line)) (from_operation (body line))) (λ u. read_from u (lines_of text))) (sym stated) ∙ step)
 
 -- AN INSTRUCTION
 
@@ -360,18 +360,18 @@ ready-more : (lines : List (List ℕ)) (number run index count : ℕ) (label : L
 ready-more lines number run index count label t inside one ready = by_full (eqb (suc (index % BLOCK_LIMIT)) BLOCK_LIMIT) refl
   where
     by_full : (full : Bool) → eqb (suc (index % BLOCK_LIMIT)) BLOCK_LIMIT ≡ full → Ready (suc index) label (length (left (parts_from number run (suc index) label true lines))) t
-    by_full true told =
-        let all = eqb-true (suc (index % BLOCK_LIMIT)) BLOCK_LIMIT told in
+    by_full true stated =
+        let all = eqb-true (suc (index % BLOCK_LIMIT)) BLOCK_LIMIT stated in
         let begins = full-index index (index % BLOCK_LIMIT) refl all in
         let none = ap (λ (ls : List Line). length ls) (none-left lines number run (suc index) label true begins) in
         (λ here empty. ready.1 (omega (arith, all, none, one)), λ many. absurd (omega (arith, begins, none, many)))
-    by_full false told =
-        let next = next-index index (index % BLOCK_LIMIT) refl (eqb-false (suc (index % BLOCK_LIMIT)) BLOCK_LIMIT told) in
+    by_full false stated =
+        let next = next-index index (index % BLOCK_LIMIT) refl (eqb-false (suc (index % BLOCK_LIMIT)) BLOCK_LIMIT stated) in
         (λ here empty. absurd (omega (arith, next, here)), λ many. ready.1 (omega (arith, next, many, one)))
 
 sound-line : (after : Bool) (l : Line) (located : Bool) (i : Instr) → l.class ≡ Instruction located i → class_of after l.bytes ≡ Instruction located i → every is_inside l.bytes ≡ true → AreSoundLines (l ∷ [])
-sound-line after l located i is told inside =
-    let spelled : Spells (from_operation (body l.bytes)) (instr_in l.class) = subst (λ c. Spells (from_operation (body l.bytes)) (instr_in c)) (sym is) (spells-of_class after l.bytes located i told) in
+sound-line after l located i is stated inside =
+    let spelled : Spells (from_operation (body l.bytes)) (instr_in l.class) = subst (λ c. Spells (from_operation (body l.bytes)) (instr_in c)) (sym is) (spells-of_class after l.bytes located i stated) in
     ((spelled, every-from_operation is_inside (body l.bytes) (every-trimmed is_inside is_return l.bytes inside)), tt)
 
 -- one instruction, whether its block begins with it or before
@@ -383,7 +383,7 @@ reads-put : (lines : List (List ℕ)) → Reads lines → (all : List Line) (n r
     AreComplete (map block_of (behind (put_before l (parts_after run l lines)))) ps →
     read_text t all n (behind (put_before l (parts_after run l lines))) ps (l ∷ lines_after run l lines) ≡ Ok again →
     Follows (behind (put_before l (parts_after run l lines))) ps (open_blocks t) again
-reads-put lines reads all n run l located i ps t again told source insides taken is sound new more placed complete h =
+reads-put lines reads all n run l located i ps t again stated source insides taken is sound new more placed complete h =
     let rest : List Line = lines_after run l lines in
     let parts : List (List Line) = parts_after run l lines in
     let cut = behind-put l parts in
@@ -405,43 +405,43 @@ reads-put lines reads all n run l located i ps t again told source insides taken
         reads all n (suc l.number) run (suc l.index) l.label true ps t again source insides taken is placed complete (more (eqb-false (l.index % BLOCK_LIMIT) 0 here))
         (read-as t _ _ again
         (text-copied all n (behind parts) ps l rest (first-from lines (suc l.number) run (suc l.index) l.label true) placed
-        ∙ ap (λ copied. copied ++ text_of_lines all n (map block_of (behind parts)) ps rest) (instruction-not_copied all l located i told)) h)
+        ∙ ap (λ copied. copied ++ text_of_lines all n (map block_of (behind parts)) ps rest) (instruction-not_copied all l located i stated)) h)
 
 reads-instruction : (i : Instr) (line : List ℕ) (lines : List (List ℕ)) → Reads lines → ReadsClass (Instruction false i) line lines
-reads-instruction i line lines reads all n number run index label after ps t again told inside source insides taken is placed complete ready h =
+reads-instruction i line lines reads all n number run index label after ps t again stated inside source insides taken is placed complete ready h =
     let l : Line = record { number = number; bytes = line; class = Instruction false i; run = run; index = index; label = label } in
     let rest : List Line = classes_from (suc number) run (suc index) label true lines in
     let parts : List (List Line) = parts_from (suc number) run (suc index) label true lines in
     let one : (index % BLOCK_LIMIT ≡ 0 → ⊥) → length (left (put_before l parts)) ≡ suc (length (left parts)) =
     λ later. ap (λ (ls : List Line). length ls) (left-put l parts ∙ ap (λ begins. if begins then [] else l ∷ left parts) (ne_eqb (index % BLOCK_LIMIT) 0 (λ at. absurd (later at)))) in
-    reads-put lines reads all n run l false i ps t again refl source insides (rest-taken l rest taken) is (sound-line after l false i refl told inside) ready.0
+    reads-put lines reads all n run l false i ps t again refl source insides (rest-taken l rest taken) is (sound-line after l false i refl stated inside) ready.0
     (λ later. ready-more lines (suc number) run index (length (left (put_before l parts))) label t later (one later) ready) placed complete h
 
 reads-labelled : (i : Instr) (line : List ℕ) (lines : List (List ℕ)) → Reads lines → ReadsClass (Instruction true i) line lines
-reads-labelled i line lines reads all n number run index label after ps t again told inside source insides taken is placed complete ready h =
+reads-labelled i line lines reads all n number run index label after ps t again stated inside source insides taken is placed complete ready h =
     let new : List ℕ = label_bytes (body line) in
     let l : Line = record { number = number; bytes = line; class = Instruction true i; run = suc run; index = 0; label = new } in
     let rest : List Line = classes_from (suc number) (suc run) 1 new true lines in
-    let fresh_label = label-of_code after line (ap begins_run told) inside in
-    reads-put lines reads all n (suc run) l true i ps t again refl source insides (rest-taken l rest taken) fresh_label.0 (sound-line after l true i refl told inside)
+    let fresh_label = label-of_code after line (ap begins_run stated) inside in
+    reads-put lines reads all n (suc run) l true i ps t again refl source insides (rest-taken l rest taken) fresh_label.0 (sound-line after l true i refl stated inside)
     (λ here empty. absurd (true≢false (sym fresh_label.1 ∙ ap is_filled empty))) (λ later. absurd (later refl)) placed complete h
 
 -- ALL LINES
 
 none-refused : (number : ℕ) (lines : List Line) (l : Line) → l.class ≡ Refused → refusal (l ∷ lines) ≡ None → ⊥
-none-refused number lines l told taken = some-refused l.number l.class told (operand-none (l ∷ lines) l taken (inl refl))
+none-refused number lines l stated taken = some-refused l.number l.class stated (operand-none (l ∷ lines) l taken (inl refl))
   where
     some-refused : (number : ℕ) (c : Class) → c ≡ Refused → operand_refusal number c ≡ None → ⊥
-    some-refused number Comment told h = cc
-    some-refused number Other told h = cc
-    some-refused number Refused told h = cc
-    some-refused number (Pad located) told h = cc
-    some-refused number (Instruction located i) told h = cc
+    some-refused number Comment stated h = cc
+    some-refused number Other stated h = cc
+    some-refused number Refused stated h = cc
+    some-refused number (Pad located) stated h = cc
+    some-refused number (Instruction located i) stated h = cc
 
 reads-class : (c : Class) (line : List ℕ) (lines : List (List ℕ)) → Reads lines → ReadsClass c line lines
 reads-class Comment line lines reads = reads-comment line lines reads
 reads-class Other line lines reads = reads-other line lines reads
-reads-class Refused line lines reads = λ all n number run index label after ps t again told inside source insides taken is placed complete ready h.
+reads-class Refused line lines reads = λ all n number run index label after ps t again stated inside source insides taken is placed complete ready h.
     absurd (none-refused number (classes_from (suc number) run index label false lines) (record { number = number; bytes = line; class = Refused; run = run; index = index; label = label }) refl taken)
 reads-class (Pad true) line lines reads = reads-labelled_pad line lines reads
 reads-class (Pad false) line lines reads = reads-pad line lines reads

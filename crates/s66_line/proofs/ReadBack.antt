@@ -23,9 +23,9 @@ trim-kept test b bytes h = rw h refl
 
 trim-by : (t : Bool) (test : ℕ → Bool) (b : ℕ) (bytes : List ℕ) → every test (b ∷ bytes) ≡ t → trim test (trim test bytes) ≡ trim test bytes →
     trim test (if t then [] else b ∷ trim test bytes) ≡ (if t then [] else b ∷ trim test bytes)
-trim-by true test b bytes told ih = refl
-trim-by false test b bytes told ih =
-    trim-kept test b (trim test bytes) (first-passes (test b) test bytes (every-trim test bytes) told) ∙ ap (λ bs. b ∷ bs) ih
+trim-by true test b bytes stated ih = refl
+trim-by false test b bytes stated ih =
+    trim-kept test b (trim test bytes) (first-passes (test b) test bytes (every-trim test bytes) stated) ∙ ap (λ bs. b ∷ bs) ih
 
 -- nothing more is cut off
 pub trim-twice : (test : ℕ → Bool) (bytes : List ℕ) → trim test (trim test bytes) ≡ trim test bytes

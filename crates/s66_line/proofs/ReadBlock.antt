@@ -104,7 +104,7 @@ entry_now block n t = record { instr = instr_at (instrs_of block) n; line = suc 
 
 fed-last : (full : Bool) (block : Block) (n : ℕ) (t : State) (text : List ℕ) (again : List Block) → eqb (length (t.entries ++ entry_now block n t ∷ [])) BLOCK_LIMIT ≡ full →
     read_from (count_line true (if full then end_block (with_one (entry_now block n t) t) else with_one (entry_now block n t) t)) (lines_of text) ≡ Ok again → Fed block (n ∷ []) t text again
-fed-last true block n t text again told h = record {
+fed-last true block n t text again stated h = record {
   state = count_line true (end_block (with_one (entry_now block n t) t));
   read = h;
   made = entry_now block n t ∷ [];
@@ -113,14 +113,14 @@ fed-last true block n t text again told h = record {
   bytes = refl;
   full = λ all. (refl, refl);
 }
-fed-last false block n t text again told h = record {
+fed-last false block n t text again stated h = record {
   state = count_line true (with_one (entry_now block n t) t);
   read = h;
   made = entry_now block n t ∷ [];
   whole = with_open-push t.blocks t.label t.entries (entry_now block n t);
   instrs = refl;
   bytes = refl;
-  full = λ all. absurd (eqb-false (length (t.entries ++ entry_now block n t ∷ [])) BLOCK_LIMIT told (omega (arith, all, length-push t.entries (entry_now block n t))));
+  full = λ all. absurd (eqb-false (length (t.entries ++ entry_now block n t ∷ [])) BLOCK_LIMIT stated (omega (arith, all, length-push t.entries (entry_now block n t))));
 }
 
 -- one instruction, and then the others

@@ -43,8 +43,8 @@ read-step t line lines again h =
 -- a line of this class, and then the rest
 pub read-class : (t : State) (line text : List ℕ) (c : Class) (again : List Block) → every is_inside line ≡ true → class_of t.after line ≡ c → read_from t (lines_of ((line ++ codes "\n") ++ text)) ≡ Ok again →
     and_then (by_class t c (label_bytes (body line)) (from_operation (body line))) (λ u. read_from u (lines_of text)) ≡ Ok again
-read-class t line text c again inside told h =
-    ap (λ k. and_then (by_class t k (label_bytes (body line)) (from_operation (body line))) (λ u. read_from u (lines_of text))) (sym told)
+read-class t line text c again inside stated h =
+    ap (λ k. and_then (by_class t k (label_bytes (body line)) (from_operation (body line))) (λ u. read_from u (lines_of text))) (sym stated)
     ∙ read-step t line (lines_of text) again (ap (read_from t) (sym (ap lines_of (append_assoc line (10 ∷ []) text) ∙ lines_of-line line text inside)) ∙ h)
 
 -- A COPIED LINE is of its class again
@@ -195,5 +195,5 @@ passes-notes block [] h = passes-nothing
 passes-notes block (l ∷ lines) h = passes-append (if is_note_of l block then copied_line l else []) (notes_text block lines) (by_note (is_note_of l block) refl) (passes-notes block lines h.1)
   where
     by_note : (t : Bool) → is_note_of l block ≡ t → Passes (if t then copied_line l else [])
-    by_note true told = passes-line h.0.1.0 l.bytes h.0.0 (sym (ap is_comment_class h.0.1.1) ∙ note-comment l block told)
-    by_note false told = passes-nothing
+    by_note true stated = passes-line h.0.1.0 l.bytes h.0.0 (sym (ap is_comment_class h.0.1.1) ∙ note-comment l block stated)
+    by_note false stated = passes-nothing

@@ -25,7 +25,7 @@ trim-all test [] h = refl
 trim-all test (b ∷ bytes) h = rw h refl
 
 trim-front : (b : ℕ) (bytes : List ℕ) → is_blank b ≡ false → ends_no_line b ≡ true → trim is_trailing (b ∷ bytes) ≡ b ∷ trim is_trailing bytes
-trim-front b bytes told h = trim-kept is_trailing b bytes (first (is_blank b) (is_return b) told (or_parts (is_newline b) (is_return b) (not-true (is_newline b || is_return b) h)).1)
+trim-front b bytes stated h = trim-kept is_trailing b bytes (first (is_blank b) (is_return b) stated (or_parts (is_newline b) (is_return b) (not-true (is_newline b || is_return b) h)).1)
   where
     first : (blank return : Bool) → blank ≡ false → return ≡ false → ((blank || return) && every is_trailing bytes) ≡ false
     first blank return h k = rw (h, k) refl
@@ -36,10 +36,10 @@ word-trimmed (b ∷ bytes) h = by_blank (is_blank b) refl (word-trimmed bytes) h
   where
     by_blank : (t : Bool) → is_blank b ≡ t → (EndsNoLine (word bytes) → word (trim is_trailing bytes) ≡ word bytes) → EndsNoLine (if t then [] else b ∷ word bytes) →
         word (trim is_trailing (b ∷ bytes)) ≡ (if t then [] else b ∷ word bytes)
-    by_blank true told ih h = elim (every is_trailing (b ∷ bytes)) as (λ e. word (if e then [] else b ∷ trim is_trailing bytes) ≡ []) [ true ↦ refl | false ↦ rw told refl ]
-    by_blank false told ih h =
+    by_blank true stated ih h = elim (every is_trailing (b ∷ bytes)) as (λ e. word (if e then [] else b ∷ trim is_trailing bytes) ≡ []) [ true ↦ refl | false ↦ rw stated refl ]
+    by_blank false stated ih h =
         let both = and_parts (ends_no_line b) (every ends_no_line (word bytes)) h in
-        ap word (trim-front b bytes told both.0) ∙ (rw told (ap (λ w. b ∷ w) (ih both.1)))
+        ap word (trim-front b bytes stated both.0) ∙ (rw stated (ap (λ w. b ∷ w) (ih both.1)))
 
 after_word-trimmed : (bytes : List ℕ) → EndsNoLine (word bytes) → after_word (trim is_trailing bytes) ≡ trim is_trailing (after_word bytes)
 after_word-trimmed [] h = refl
@@ -47,11 +47,11 @@ after_word-trimmed (b ∷ bytes) h = by_blank (is_blank b) refl (after_word-trim
   where
     by_blank : (t : Bool) → is_blank b ≡ t → (EndsNoLine (word bytes) → after_word (trim is_trailing bytes) ≡ trim is_trailing (after_word bytes)) → EndsNoLine (if t then [] else b ∷ word bytes) →
         after_word (trim is_trailing (b ∷ bytes)) ≡ trim is_trailing (if t then b ∷ bytes else after_word bytes)
-    by_blank true told ih h =
-        elim (every is_trailing (b ∷ bytes)) as (λ e. after_word (if e then [] else b ∷ trim is_trailing bytes) ≡ (if e then [] else b ∷ trim is_trailing bytes)) [ true ↦ refl | false ↦ rw told refl ]
-    by_blank false told ih h =
+    by_blank true stated ih h =
+        elim (every is_trailing (b ∷ bytes)) as (λ e. after_word (if e then [] else b ∷ trim is_trailing bytes) ≡ (if e then [] else b ∷ trim is_trailing bytes)) [ true ↦ refl | false ↦ rw stated refl ]
+    by_blank false stated ih h =
         let both = and_parts (ends_no_line b) (every ends_no_line (word bytes)) h in
-        ap after_word (trim-front b bytes told both.0) ∙ (rw told (ih both.1))
+        ap after_word (trim-front b bytes stated both.0) ∙ (rw stated (ih both.1))
 
 skip_blanks-trimmed : (bytes : List ℕ) → skip_blanks (trim is_trailing bytes) ≡ trim is_trailing (skip_blanks bytes)
 skip_blanks-trimmed [] = refl
@@ -59,10 +59,10 @@ skip_blanks-trimmed (b ∷ bytes) = by_blank (is_blank b) (every is_trailing (b 
   where
     by_blank : (t e : Bool) → is_blank b ≡ t → every is_trailing (b ∷ bytes) ≡ e → skip_blanks (trim is_trailing bytes) ≡ trim is_trailing (skip_blanks bytes) →
         skip_blanks (if e then [] else b ∷ trim is_trailing bytes) ≡ trim is_trailing (if t then skip_blanks bytes else b ∷ bytes)
-    by_blank true true told all ih = ap skip_blanks (sym (trim-all is_trailing bytes (and_parts (is_trailing b) (every is_trailing bytes) all).1)) ∙ ih
-    by_blank true false told all ih = rw told ih
-    by_blank false true told all ih = sym (trim-all is_trailing (b ∷ bytes) all)
-    by_blank false false told all ih = skip_blanks-no b (trim is_trailing bytes) told ∙ sym (trim-kept is_trailing b bytes all)
+    by_blank true true stated all ih = ap skip_blanks (sym (trim-all is_trailing bytes (and_parts (is_trailing b) (every is_trailing bytes) all).1)) ∙ ih
+    by_blank true false stated all ih = rw stated ih
+    by_blank false true stated all ih = sym (trim-all is_trailing (b ∷ bytes) all)
+    by_blank false false stated all ih = skip_blanks-no b (trim is_trailing bytes) stated ∙ sym (trim-kept is_trailing b bytes all)
 
 -- WHAT REMAINS of the bytes that spell an instruction
 
@@ -111,8 +111,8 @@ not-all : (bytes : List ℕ) → is_filled (word (trim is_trailing bytes)) ≡ t
 not-all bytes h = by_test (every is_trailing bytes) refl
   where
     by_test : (t : Bool) → every is_trailing bytes ≡ t → t ≡ false
-    by_test true told = absurd (true≢false (sym h ∙ ap (λ w. is_filled (word w)) (trim-all is_trailing bytes told)))
-    by_test false told = refl
+    by_test true stated = absurd (true≢false (sym h ∙ ap (λ w. is_filled (word w)) (trim-all is_trailing bytes stated)))
+    by_test false stated = refl
 
 -- NO CARRIAGE RETURN AT THE END
 
@@ -145,8 +145,8 @@ ends-well [] h = absurd (true≢false h)
 ends-well (b ∷ bytes) h = subst EndsWell (sym (trim-kept is_trailing b bytes h)) (by_rest (every is_trailing bytes) refl h (ends-well bytes))
   where
     by_rest : (t : Bool) → every is_trailing bytes ≡ t → (is_trailing b && t) ≡ false → (every is_trailing bytes ≡ false → EndsWell (trim is_trailing bytes)) → EndsWell (b ∷ trim is_trailing bytes)
-    by_rest true told h later = subst (λ bs. EndsWell (b ∷ bs)) (sym (trim-all is_trailing bytes told)) (ends-alone b (neither (is_blank b) (is_return b) h))
-    by_rest false told h later = ends-front b (trim is_trailing bytes) (later told)
+    by_rest true stated h later = subst (λ bs. EndsWell (b ∷ bs)) (sym (trim-all is_trailing bytes stated)) (ends-alone b (neither (is_blank b) (is_return b) h))
+    by_rest false stated h later = ends-front b (trim is_trailing bytes) (later stated)
 
 body-again : (front bytes : List ℕ) (n : Instr) → Spells bytes n → body (front ++ trim is_trailing bytes) ≡ front ++ trim is_trailing bytes
 body-again front bytes n spells =
@@ -266,8 +266,8 @@ padding : (count : ℕ) → (k : ℕ) × ((if nat_lt count 10 then replicate {A 
 padding count = by_width (nat_lt count 10) refl
   where
     by_width : (t : Bool) → nat_lt count 10 ≡ t → (k : ℕ) × ((if t then replicate {A = ℕ} (10 - count) 32 else 32 ∷ []) ≡ 32 ∷ replicate k 32)
-    by_width true told = (9 - count, let less = ltb-true count 10 told in let one : 10 - count ≡ suc (9 - count) = omega (arith, less) in ap (λ m. replicate {A = ℕ} m 32) one)
-    by_width false told = (0, refl)
+    by_width true stated = (9 - count, let less = ltb-true count 10 stated in let one : 10 - count ≡ suc (9 - count) = omega (arith, less) in ap (λ m. replicate {A = ℕ} m 32) one)
+    by_width false stated = (0, refl)
 
 with-label : (b : ℕ) (name bytes : List ℕ) (n : Instr) → is_label (b ∷ name) ≡ true → Spells bytes n → IsRead (label_field (b ∷ name) ++ trim is_trailing bytes) (b ∷ name) bytes n
 with-label b name bytes n is spells =
@@ -280,15 +280,15 @@ with-label b name bytes n is spells =
     by_column : (k : ℕ) (t : Bool) → (b == 32) ≡ t → (if t then is_filled name && every is_no_blank name else (every is_no_blank (b ∷ name) && not (b == 42) && not (b == 44))) ≡ true →
         body (b ∷ (name ++ 32 ∷ (replicate k 32 ++ trim is_trailing bytes))) ≡ b ∷ (name ++ 32 ∷ (replicate k 32 ++ trim is_trailing bytes)) →
         IsRead (b ∷ (name ++ 32 ∷ (replicate k 32 ++ trim is_trailing bytes))) (b ∷ name) bytes n
-    by_column k true told is kept =
+    by_column k true stated is kept =
         let both = and_parts (is_filled name) (every is_no_blank name) is in
-        let here : b ≡ 32 = eqb-true b 32 told in
+        let here : b ≡ 32 = eqb-true b 32 stated in
         subst (λ c. IsRead (c ∷ (name ++ 32 ∷ (replicate k 32 ++ trim is_trailing bytes))) (c ∷ name) bytes n) (sym here)
         (in-second name bytes k n both.0 both.1 spells (subst (λ c. body (c ∷ (name ++ 32 ∷ (replicate k 32 ++ trim is_trailing bytes))) ≡ c ∷ (name ++ 32 ∷ (replicate k 32 ++ trim is_trailing bytes))) here kept))
-    by_column k false told is kept =
+    by_column k false stated is kept =
         let outer = and_parts (every is_no_blank (b ∷ name) && not (b == 42)) (not (b == 44)) is in
         let inner = and_parts (every is_no_blank (b ∷ name)) (not (b == 42)) outer.0 in
-        in-first b name bytes k n told (not-true (b == 42) inner.1) (not-true (b == 44) outer.1) inner.0 spells kept
+        in-first b name bytes k n stated (not-true (b == 42) inner.1) (not-true (b == 44) outer.1) inner.0 spells kept
 
 pub read-line : (label bytes : List ℕ) (n : Instr) → IsLabel label → Spells bytes n → IsRead (label_field label ++ trim is_trailing bytes) label bytes n
 read-line [] bytes n is spells = unlabelled bytes n spells
@@ -361,12 +361,12 @@ label-of_body (b ∷ bytes) code first here = by_column (b == 32) (is_blank b) r
   where
     by_column : (t blank : Bool) → (b == 32) ≡ t → is_blank b ≡ blank → nat_lt 0 (length (word (if t then bytes else b ∷ bytes))) ≡ true →
         (is_label (if t then 32 ∷ word bytes else (if blank then [] else b ∷ word bytes)) ≡ true) × (is_filled (if t then 32 ∷ word bytes else (if blank then [] else b ∷ word bytes)) ≡ true)
-    by_column true blank told known here = (and_from (is_filled (word bytes)) (every is_no_blank (word bytes)) (filled-from (word bytes) here) (no_blank-word bytes), refl)
-    by_column false true told known here = absurd (true≢false (sym (filled-from (word (b ∷ bytes)) here) ∙ ap (λ t. is_filled (if t then [] else b ∷ word bytes)) known))
-    by_column false false told known here =
+    by_column true blank stated known here = (and_from (is_filled (word bytes)) (every is_no_blank (word bytes)) (filled-from (word bytes) here) (no_blank-word bytes), refl)
+    by_column false true stated known here = absurd (true≢false (sym (filled-from (word (b ∷ bytes)) here) ∙ ap (λ t. is_filled (if t then [] else b ∷ word bytes)) known))
+    by_column false false stated known here =
         let star : (b == 42) ≡ false = no-star (b == 42) (blanks (b ∷ bytes) == length (b ∷ bytes) || nat_le 29 (blanks (b ∷ bytes))) code in
         let words : every is_no_blank (b ∷ word bytes) ≡ true = and_from (is_no_blank b) (every is_no_blank (word bytes)) (ap not known) (no_blank-word bytes) in (
-          ap (λ t. if t then is_filled (word bytes) && every is_no_blank (word bytes) else (every is_no_blank (b ∷ word bytes) && not (b == 42) && not (b == 44))) told
+          ap (λ t. if t then is_filled (word bytes) && every is_no_blank (word bytes) else (every is_no_blank (b ∷ word bytes) && not (b == 42) && not (b == 44))) stated
               ∙ and_from (every is_no_blank (b ∷ word bytes) && not (b == 42)) (not (b == 44)) (and_from (every is_no_blank (b ∷ word bytes)) (not (b == 42)) words (ap not star)) (ap not first),
           refl,
         )

@@ -27,7 +27,7 @@ last-inside [] h = refl
 last-inside (b ∷ line) h = and_from (every is_inside (b ∷ line)) true h refl
 
 inside-other : (b : ℕ) → (b == 10) ≡ false → every is_inside (b ∷ []) ≡ true
-inside-other b told = rw told refl
+inside-other b stated = rw stated refl
 
 -- the line that is begun has no newline, and so on with each byte
 
@@ -35,26 +35,26 @@ abbrev Whole : List ℕ → List ℕ → Type 0
 Whole line text = AreLines (line ++ text) (lines_from line text)
 
 whole-newline : (line bytes : List ℕ) (b : ℕ) → (b == 10) ≡ true → every is_inside line ≡ true → Whole [] bytes → Whole line (b ∷ bytes)
-whole-newline line bytes b told h rest = record {
+whole-newline line bytes b stated h rest = record {
   ended = line ∷ rest.ended;
   last = rest.last;
-  whole = ap₂ (λ c more. line ++ c ∷ more) (eqb-true b 10 told) rest.whole ∙ sym (append_assoc line (10 ∷ with_newlines rest.ended) rest.last);
-  cut = lines_from-here line bytes b told ∙ ap (λ lines. line ∷ lines) rest.cut;
-  no_newline = rw (lines_from-here line bytes b told) (and_from (every is_inside line) (every (every is_inside) (lines_from [] bytes)) h rest.no_newline);
+  whole = ap₂ (λ c more. line ++ c ∷ more) (eqb-true b 10 stated) rest.whole ∙ sym (append_assoc line (10 ∷ with_newlines rest.ended) rest.last);
+  cut = lines_from-here line bytes b stated ∙ ap (λ lines. line ∷ lines) rest.cut;
+  no_newline = rw (lines_from-here line bytes b stated) (and_from (every is_inside line) (every (every is_inside) (lines_from [] bytes)) h rest.no_newline);
 }
 
 whole-other : (line bytes : List ℕ) (b : ℕ) → (b == 10) ≡ false → Whole (line ++ b ∷ []) bytes → Whole line (b ∷ bytes)
-whole-other line bytes b told rest = record {
+whole-other line bytes b stated rest = record {
   ended = rest.ended;
   last = rest.last;
   whole = sym (append_assoc line (b ∷ []) bytes) ∙ rest.whole;
-  cut = lines_from-later line bytes b told ∙ rest.cut;
-  no_newline = rw (lines_from-later line bytes b told) rest.no_newline;
+  cut = lines_from-later line bytes b stated ∙ rest.cut;
+  no_newline = rw (lines_from-later line bytes b stated) rest.no_newline;
 }
 
 whole-step : (t : Bool) (line bytes : List ℕ) (b : ℕ) → (b == 10) ≡ t → every is_inside line ≡ true → Whole [] bytes → (every is_inside (line ++ b ∷ []) ≡ true → Whole (line ++ b ∷ []) bytes) → Whole line (b ∷ bytes)
-whole-step true line bytes b told h begin_run more = whole-newline line bytes b told h begin_run
-whole-step false line bytes b told h begin_run more = whole-other line bytes b told (more (every-append is_inside line (b ∷ []) h (inside-other b told)))
+whole-step true line bytes b stated h begin_run more = whole-newline line bytes b stated h begin_run
+whole-step false line bytes b stated h begin_run more = whole-other line bytes b stated (more (every-append is_inside line (b ∷ []) h (inside-other b stated)))
 
 whole-from : (line text : List ℕ) → every is_inside line ≡ true → Whole line text
 whole-from line [] h = record { ended = []; last = line; whole = append-nil line; cut = refl; no_newline = last-inside line h }
@@ -83,8 +83,8 @@ blanks-whole (b ∷ bytes) =
     [ true ↦ ap (λ more. b ∷ more) (blanks-whole bytes) | false ↦ refl ]
 
 leading-first : (t : Bool) (b : ℕ) (bytes : List ℕ) → is_blank b ≡ t → every is_blank (leading bytes) ≡ true → every is_blank (leading (b ∷ bytes)) ≡ true
-leading-first true b bytes told h = rw (told, told) h
-leading-first false b bytes told h = rw told refl
+leading-first true b bytes stated h = rw (stated, stated) h
+leading-first false b bytes stated h = rw stated refl
 
 leading-blank : (bytes : List ℕ) → every is_blank (leading bytes) ≡ true
 leading-blank [] = refl
@@ -92,16 +92,16 @@ leading-blank (b ∷ bytes) = leading-first (is_blank b) b bytes refl (leading-b
 
 -- a word ends where a blank follows, or nothing
 after-first : (t : Bool) (b : ℕ) (bytes : List ℕ) → is_blank b ≡ t → word (after_word bytes) ≡ [] → word (after_word (b ∷ bytes)) ≡ []
-after-first true b bytes told h = rw (told, told) refl
-after-first false b bytes told h = rw told h
+after-first true b bytes stated h = rw (stated, stated) refl
+after-first false b bytes stated h = rw stated h
 
 after-none : (bytes : List ℕ) → word (after_word bytes) ≡ []
 after-none [] = refl
 after-none (b ∷ bytes) = after-first (is_blank b) b bytes refl (after-none bytes)
 
 label-by : (t : Bool) (b : ℕ) (bytes : List ℕ) → (b == 32) ≡ t → b ∷ bytes ≡ label_bytes (b ∷ bytes) ++ after_word (from_location (b ∷ bytes))
-label-by true b bytes told = rw (label-yes b bytes told, from_location-yes b bytes told) (ap₂ (λ c more. c ∷ more) (eqb-true b 32 told) (word-whole bytes))
-label-by false b bytes told = rw (label-no b bytes told, from_location-no b bytes told) (word-whole (b ∷ bytes))
+label-by true b bytes stated = rw (label-yes b bytes stated, from_location-yes b bytes stated) (ap₂ (λ c more. c ∷ more) (eqb-true b 32 stated) (word-whole bytes))
+label-by false b bytes stated = rw (label-no b bytes stated, from_location-no b bytes stated) (word-whole (b ∷ bytes))
 
 label-whole : (line : List ℕ) → line ≡ label_bytes line ++ after_word (from_location line)
 label-whole [] = refl

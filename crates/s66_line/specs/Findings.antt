@@ -88,40 +88,40 @@ finding_of class line = None
 
 -- WHAT IS TOLD, a line of text for each
 
-pub data Told : Type 0 where
-  TooLong : ℕ → Told
-  TooManyLines : Told
+pub data Stated : Type 0 where
+  TooLong : ℕ → Stated
+  TooManyLines : Stated
   -- what was found in the line of this number, its operation and its operand
-  Found : ℕ → Finding → List ℕ → List ℕ → Told
+  Found : ℕ → Finding → List ℕ → List ℕ → Stated
 
-abbrev pub told_of : ℕ → Option Finding → List ℕ → List Told
-told_of number None line = []
-told_of number (Some finding) line = Found number finding (operation line) (operand line) ∷ []
+abbrev pub stated_of : ℕ → Option Finding → List ℕ → List Stated
+stated_of number None line = []
+stated_of number (Some finding) line = Found number finding (operation line) (operand line) ∷ []
 
 abbrev pub is_too_long : List ℕ → Bool
 is_too_long line = nat_lt LINE_BYTES_LIMIT (length line)
 
 -- of the line of this number; after: the line directly before is code
-abbrev pub told_at : ℕ → Bool → List ℕ → List Told
-told_at number after line =
-    if is_too_long line then TooLong number ∷ [] else told_of number (finding_of (class_of after line) (body line)) (body line)
+abbrev pub stated_at : ℕ → Bool → List ℕ → List Stated
+stated_at number after line =
+    if is_too_long line then TooLong number ∷ [] else stated_of number (finding_of (class_of after line) (body line)) (body line)
 
 -- a comma in column 1 of the next line would continue it, which isn't said of a line that is too long
 abbrev pub may_continue : Bool → List ℕ → Bool
 may_continue after line = if is_too_long line then false else is_code (class_of after line)
 
 -- of the first line past the limit
-abbrev pub told_past : ℕ → List ℕ → List Told
-told_past number line = if is_too_long line then TooLong number ∷ TooManyLines ∷ [] else TooManyLines ∷ []
+abbrev pub stated_past : ℕ → List ℕ → List Stated
+stated_past number line = if is_too_long line then TooLong number ∷ TooManyLines ∷ [] else TooManyLines ∷ []
 
-abbrev pub told_from : ℕ → Bool → List (List ℕ) → List Told
-told_from number after [] = []
-told_from number after (line ∷ lines) =
-    if nat_lt SOURCE_LINES_LIMIT number then told_past number line else told_at number after line ++ told_from (suc number) (may_continue after line) lines
+abbrev pub stated_from : ℕ → Bool → List (List ℕ) → List Stated
+stated_from number after [] = []
+stated_from number after (line ∷ lines) =
+    if nat_lt SOURCE_LINES_LIMIT number then stated_past number line else stated_at number after line ++ stated_from (suc number) (may_continue after line) lines
 
 -- all that is told of a source
-abbrev pub told : List ℕ → List Told
-told text = told_from 1 false (lines_of text)
+abbrev pub stated : List ℕ → List Stated
+stated text = stated_from 1 false (lines_of text)
 
 -- THE TEXT
 
@@ -135,34 +135,34 @@ words_of NotAnInstruction = codes " NOT AN INSTRUCTION"
 words_of CountsLines = codes " COUNTS LINES"
 
 -- the operand is told where it is bad
-abbrev pub told_operand : Finding → List ℕ → List ℕ
-told_operand BadOperand operand = operand
-told_operand finding operand = []
+abbrev pub stated_operand : Finding → List ℕ → List ℕ
+stated_operand BadOperand operand = operand
+stated_operand finding operand = []
 
 abbrev pub finding_text : Finding → List ℕ → List ℕ → List ℕ
-finding_text finding operation operand = words_of finding ++ after_blank operation ++ after_blank (told_operand finding operand)
+finding_text finding operation operand = words_of finding ++ after_blank operation ++ after_blank (stated_operand finding operand)
 
-abbrev pub told_line : Told → List ℕ
-told_line (TooLong number) = refusal_line (error.LineTooLong number) ++ codes "\n"
-told_line TooManyLines = refusal_line error.TooLarge ++ codes "\n"
-told_line (Found number finding operation operand) = codes "LINE " ++ decimal number ++ finding_text finding operation operand ++ codes "\n"
+abbrev pub stated_line : Stated → List ℕ
+stated_line (TooLong number) = refusal_line (error.LineTooLong number) ++ codes "\n"
+stated_line TooManyLines = refusal_line error.TooLarge ++ codes "\n"
+stated_line (Found number finding operation operand) = codes "LINE " ++ decimal number ++ finding_text finding operation operand ++ codes "\n"
 
-abbrev pub told_lines : List Told → List ℕ
-told_lines [] = []
-told_lines (t ∷ ts) = told_line t ++ told_lines ts
+abbrev pub stated_lines : List Stated → List ℕ
+stated_lines [] = []
+stated_lines (t ∷ ts) = stated_line t ++ stated_lines ts
 
 -- the findings in a source
 abbrev pub findings_text : List ℕ → List ℕ
-findings_text text = told_lines (told text)
+findings_text text = stated_lines (stated text)
 
 -- WHAT IS REFUSED of what is told
 
-abbrev pub refusal_told : Told → Option SourceError
-refusal_told (TooLong number) = Some (error.LineTooLong number)
-refusal_told TooManyLines = Some error.TooLarge
-refusal_told (Found number BadOperand operation operand) = Some (error.BadOperand number)
-refusal_told (Found number finding operation operand) = None
+abbrev pub refusal_stated : Stated → Option SourceError
+refusal_stated (TooLong number) = Some (error.LineTooLong number)
+refusal_stated TooManyLines = Some error.TooLarge
+refusal_stated (Found number BadOperand operation operand) = Some (error.BadOperand number)
+refusal_stated (Found number finding operation operand) = None
 
-abbrev pub first_refusal : List Told → Option SourceError
+abbrev pub first_refusal : List Stated → Option SourceError
 first_refusal [] = None
-first_refusal (t ∷ ts) = or_else (refusal_told t) (first_refusal ts)
+first_refusal (t ∷ ts) = or_else (refusal_stated t) (first_refusal ts)

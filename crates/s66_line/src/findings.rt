@@ -4,7 +4,7 @@ ghost use Rattle.s66_isa.specs.Lists.{every};
 ghost use Rattle.s66_line.specs.Fields.{body, lines_from, upper};
 ghost use Rattle.s66_line.specs.Fields as fields;
 ghost use Rattle.s66_line.specs.Source.{class_of};
-ghost use Rattle.s66_line.specs.Findings.{after_blank, counts_lines, finding_by_fields, finding_of, finding_text, findings_text, is_decimal, is_no_digit, is_numeral, is_one_of, is_slip, last_part, may_continue, told_at, told_from, told_line, told_lines, told_of, told_operand, told_past, words_of};
+ghost use Rattle.s66_line.specs.Findings.{after_blank, counts_lines, finding_by_fields, finding_of, finding_text, findings_text, is_decimal, is_no_digit, is_numeral, is_one_of, is_slip, last_part, may_continue, stated_at, stated_from, stated_line, stated_lines, stated_of, stated_operand, stated_past, words_of};
 ghost use Rattle.s66_line.specs.Refusals.{refusal_line};
 ghost use Rattle.s66_line.specs.declared.limits.TheConstants.{LINE_BYTES_LIMIT, SOURCE_LINES_LIMIT, TEXT_LIMIT};
 
@@ -168,8 +168,8 @@ fn words_of(finding: Finding) -> &'static [u8]
 }
 
 /// The operand, where it is told.
-fn told_operand(finding: Finding, operand: &[u8]) -> &[u8]
-    ensures { result.now ≡ told_operand finding operand.now }
+fn stated_operand(finding: Finding, operand: &[u8]) -> &[u8]
+    ensures { result.now ≡ stated_operand finding operand.now }
 {
     match finding {
         Finding::BadOperand => operand,
@@ -187,7 +187,7 @@ fn push_finding(
 {
     out.extend_from_slice(words_of(finding))?;
     push_word(out, operation)?;
-    push_word(out, told_operand(finding, operand))
+    push_word(out, stated_operand(finding, operand))
 }
 
 /// The class of a line, where the line directly before it is code or not.
@@ -199,9 +199,9 @@ fn class_at(after_code: bool, line: &[u8]) -> Class
 }
 
 /// What is told of the line of a number, which is of this class.
-fn push_told(out: &mut Vec<u8>, number: u32, class: &Class, line: &[u8]) -> Result<(), AllocError>
+fn push_stated(out: &mut Vec<u8>, number: u32, class: &Class, line: &[u8]) -> Result<(), AllocError>
     requires { length line.now ≤ LINE_BYTES_LIMIT }
-    ensures { OnOk result (out.new.items ≡ out.old.items ++ told_lines (told_of number (finding_of class.now (body line.now)) (body line.now))) }
+    ensures { OnOk result (out.new.items ≡ out.old.items ++ stated_lines (stated_of number (finding_of class.now (body line.now)) (body line.now))) }
 {
     let body = body_of(line);
     let (operation, operand) = operation_and_operand(fields_of(body).from_operation);
@@ -234,7 +234,7 @@ impl Findings {
     /// Reads the next line, which isn't past the limit.
     fn take_line(&mut self, line: &[u8]) -> Result<(), AllocError>
         requires { self.old.lines < SOURCE_LINES_LIMIT }
-        ensures out { OnOk result (self.new.out.items ≡ self.old.out.items ++ told_lines (told_at (suc self.old.lines) self.old.after_code line.now)) }
+        ensures out { OnOk result (self.new.out.items ≡ self.old.out.items ++ stated_lines (stated_at (suc self.old.lines) self.old.after_code line.now)) }
         ensures lines { OnOk result (self.new.lines ≡ suc self.old.lines) }
         ensures after_code { OnOk result (self.new.after_code ≡ may_continue self.old.after_code line.now) }
     {
@@ -246,13 +246,13 @@ impl Findings {
         }
         let class = class_at(self.after_code, line);
         self.after_code = class.is_code();
-        push_told(&mut self.out, number, &class, line)
+        push_stated(&mut self.out, number, &class, line)
     }
 
     /// Reads the first line past the limit.
     fn take_past(&mut self, line: &[u8]) -> Result<(), AllocError>
         requires { self.old.lines ≡ SOURCE_LINES_LIMIT }
-        ensures { OnOk result (self.new.out.items ≡ self.old.out.items ++ told_lines (told_past (suc self.old.lines) line.now)) }
+        ensures { OnOk result (self.new.out.items ≡ self.old.out.items ++ stated_lines (stated_past (suc self.old.lines) line.now)) }
     {
         if line.len() > LINE_BYTES_LIMIT {
             let line = self.lines + 1;
@@ -264,7 +264,7 @@ impl Findings {
     /// Reads a last line that lacks its newline, if there is one.
     fn take_last(&mut self, line: &[u8]) -> Result<(), AllocError>
         requires { self.old.lines ≤ SOURCE_LINES_LIMIT }
-        ensures { OnOk result (self.new.out.items ≡ self.old.out.items ++ told_lines (told_from (suc self.old.lines) self.old.after_code (lines_from line.now []))) }
+        ensures { OnOk result (self.new.out.items ≡ self.old.out.items ++ stated_lines (stated_from (suc self.old.lines) self.old.after_code (lines_from line.now []))) }
     {
         if line.is_empty() {
             return Ok(());
@@ -278,7 +278,7 @@ impl Findings {
     /// Reads the lines of a text, and none after the first that is past the limit.
     fn take_all(&mut self, text: &[u8]) -> Result<(), AllocError>
         requires { self.old.lines ≤ SOURCE_LINES_LIMIT }
-        ensures { OnOk result (self.new.out.items ≡ self.old.out.items ++ told_lines (told_from (suc self.old.lines) self.old.after_code (lines_from [] text.now))) }
+        ensures { OnOk result (self.new.out.items ≡ self.old.out.items ++ stated_lines (stated_from (suc self.old.lines) self.old.after_code (lines_from [] text.now))) }
     {
         let mut rest = text;
         while let Some(end) = memchr(b'\n', rest) {
@@ -295,7 +295,7 @@ impl Findings {
 /// What is told of a source, which may be any text: a line for each line that is refused and for each that may not do what was
 /// meant, in their order, of the first `SOURCE_LINES_LIMIT` lines. Empty where nothing is told. `Err` is want of memory.
 pub fn findings_in(alloc: Global, text: &[u8]) -> Result<Vec<u8>, AllocError>
-    ensures { IfOk result (λ told. told.items ≡ findings_text text.now) }
+    ensures { IfOk result (λ stated. stated.items ≡ findings_text text.now) }
 {
     let mut findings = Findings {
         out: Vec::new(alloc),

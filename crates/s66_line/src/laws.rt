@@ -4,7 +4,7 @@ ghost use Rattle.s66_isa.specs.declared.instr.Instr.{Instr};
 ghost use Rattle.s66_isa.specs.declared.reg.Bank.{Bank};
 ghost use Rattle.s66_isa.specs.Table.{instr, instr_at};
 ghost use Rattle.s66_isa.specs.Lists.{Among, tally, every, rising};
-ghost use Rattle.s66_line.specs.Findings.{findings_text, first_refusal, told, told_from, told_lines};
+ghost use Rattle.s66_line.specs.Findings.{findings_text, first_refusal, stated, stated_from, stated_lines};
 ghost use Rattle.s66_line.specs.Fields.{is_blank, is_newline, upper_byte, upper, body, lines_of, AreLines, HasFields};
 ghost use Rattle.s66_line.specs.InstructionText.{IsInstruction, IsTextOf};
 ghost use Rattle.s66_line.specs.Operand.{register_of, is_constant, constant_of, instr_of, set_form_of};
@@ -86,7 +86,7 @@ pub fn copied_law()
 
 /// A source is refused for the first refusal among what is told of it, and accepted if there is none; so it is if nothing is told.
 pub fn findings_law()
-    ensures told { (text : List ℕ) → source_of text ≡ unless_refused (first_refusal (told text)) (blocks_of (classed_lines text)) }
+    ensures stated { (text : List ℕ) → source_of text ≡ unless_refused (first_refusal (stated text)) (blocks_of (classed_lines text)) }
     ensures nothing { (text : List ℕ) → findings_text text ≡ [] → source_of text ≡ Ok (blocks_of (classed_lines text)) }
 {}
 
@@ -111,8 +111,8 @@ pub fn findings_examples()
         codes "LINE 5 COUNTS LINES ifpl\n" }
     ensures too_long { findings_text (codes "  BX1 X2" ++ replicate 193 32 ++ codes "\n,X3\n  BX8\n") ≡ codes "LINE 1 TOO LONG\n" ++ codes "LINE 3 NOT AN INSTRUCTION BX8\n" }
     ensures as_long { findings_text (codes "  BX1 X2" ++ replicate 192 32 ++ codes "\n") ≡ [] }
-    ensures at_the_limit { told_lines (told_from 20000 false (codes "  BX1" ∷ codes "  BX2" ∷ codes "  BX3" ∷ [])) ≡ codes "LINE 20000 BAD OPERAND BX1\n" ++ codes "TOO MANY LINES\n" }
-    ensures past_the_limit { told_lines (told_from 20001 false (replicate 201 42 ∷ [])) ≡ codes "LINE 20001 TOO LONG\n" ++ codes "TOO MANY LINES\n" }
+    ensures at_the_limit { stated_lines (stated_from 20000 false (codes "  BX1" ∷ codes "  BX2" ∷ codes "  BX3" ∷ [])) ≡ codes "LINE 20000 BAD OPERAND BX1\n" ++ codes "TOO MANY LINES\n" }
+    ensures past_the_limit { stated_lines (stated_from 20001 false (replicate 201 42 ∷ [])) ≡ codes "LINE 20001 TOO LONG\n" ++ codes "TOO MANY LINES\n" }
 {}
 
 /// Where a printed source is accepted when it is read again, its blocks are those of the source, each in its placed order. It

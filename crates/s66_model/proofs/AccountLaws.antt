@@ -10,7 +10,7 @@ use Rattle.s66_model.specs.declared.rule.Rule.{Rule}
 use Rattle.s66_model.specs.Timing.{Problem}
 use Rattle.s66_model.specs.Ledger.{Ledger, Event, Grant, Claim, Graft, Offer, Back, Retire, Reply, Granted, Claimed, Taken, NotOut, OtherPrefix, OverAllowance, Lower, NotLower, OtherBlock, Returned, Retired, worker, opening, best_time, Moves, Step, Run}
 use Rattle.s66_model.specs.Recorded.{spends, spent_by}
-use Rattle.s66_model.specs.Accounts.{brief, entries_of, last_brief, Account, account_of, counted, no_account, Summary, summary_of, account_at, Passbook, Agrees, opened, least_after, after_event, after_reading}
+use Rattle.s66_model.specs.Accounts.{brief, entries_of, last_brief, Account, account_of, counted, no_account, Summary, summary_of, account_at, SeatRecord, Agrees, opened, least_after, after_event, after_reading}
 use Rattle.s66_model.proofs.Beginnings.{length-rising}
 use Rattle.s66_model.proofs.Histories.{history-spent}
 use Rattle.s66_model.proofs.LedgerRuns.{step-falls}
@@ -121,7 +121,7 @@ best-known rule b old (Back w i) Returned new least h le = omega (arith, ap (bes
 best-known rule b old (Retire w) Retired new least h le = omega (arith, ap (best_time b) h, le)
 best-known rule b old event reply new least h le = absurd h
 
-module _ (rule : Rule) (b : Problem) (budget workers : ℕ) (h : List (Event × Reply)) (old : Ledger) (event : Event) (reply : Reply) (new : Ledger) (p : Passbook) where
+module _ (rule : Rule) (b : Problem) (budget workers : ℕ) (h : List (Event × Reply)) (old : Ledger) (event : Event) (reply : Reply) (new : Ledger) (p : SeatRecord) where
   abbrev before : Summary
   before = summary_of rule b budget workers h old
 
@@ -160,7 +160,7 @@ module _ (rule : Rule) (b : Problem) (budget workers : ℕ) (h : List (Event × 
       }
 
 -- a reading of the best time
-pub agrees-read : (s : Summary) (p : Passbook) → Agrees s p → Agrees s (after_reading p s.best)
+pub agrees-read : (s : Summary) (p : SeatRecord) → Agrees s p → Agrees s (after_reading p s.best)
 agrees-read s p is =
     record {
       worker = is.worker;

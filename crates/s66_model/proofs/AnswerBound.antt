@@ -6,7 +6,7 @@ use Rattle.s66_model.specs.Timing.{Problem}
 use Rattle.s66_model.specs.LegalOrder.{is_ready, ready, IsBeginning}
 use Rattle.s66_model.specs.BestAndBound.{IsBound, IsBest}
 use Rattle.s66_model.specs.Leaves.{value, MayStand, floor}
-use Rattle.s66_model.specs.Tree.{Kids, NoMore, Unsplit, Split, Tree, Alone, Parted, KidsHold, TreeHolds, kid_values, tree_values}
+use Rattle.s66_model.specs.Tree.{Siblings, NoMore, Unsplit, Split, Tree, Alone, Parted, SiblingsHold, TreeHolds, sibling_values, tree_values}
 use Rattle.s66_model.specs.DominatedLeaves.{Ending, Bounding, Dominated, EndingShows, ShowsBy}
 use Rattle.s66_model.specs.Answer.{Answer, MayEnd, ending_values, IsAnswer, IsBestAnswer}
 use Rattle.s66_isa.proofs.Lists.{least-le, among-front, among-rest}
@@ -31,34 +31,34 @@ module _ (stands : (b : Problem) (prefix : List ℕ) → IsBeginning b.block pre
         (subst (λ x. MayStand b at x) (sym is) (stands b at begins), below (value b at leaf) (inl refl))
     ending-shows at (Dominated name) begins is below = is
 
-    kids-show : (kids : Kids Ending) (prefix ns : List ℕ) → KidsHold b.block (MayEnd rule b whole) prefix ns kids → IsBeginning b.block prefix → AreReady b prefix ns → IsBelow low (kid_values (ending_values b) prefix ns kids) → KidsHold b.block (EndingShows rule b low [] whole) prefix ns kids
-    kids-show NoMore prefix [] holds begins are below = tt
-    kids-show NoMore prefix (n ∷ ns) holds begins are below = holds
-    kids-show (Unsplit ending kids) prefix [] holds begins are below = holds
-    kids-show (Unsplit ending kids) prefix (n ∷ ns) holds begins are below =
+    siblings-show : (siblings : Siblings Ending) (prefix ns : List ℕ) → SiblingsHold b.block (MayEnd rule b whole) prefix ns siblings → IsBeginning b.block prefix → AreReady b prefix ns → IsBelow low (sibling_values (ending_values b) prefix ns siblings) → SiblingsHold b.block (EndingShows rule b low [] whole) prefix ns siblings
+    siblings-show NoMore prefix [] holds begins are below = tt
+    siblings-show NoMore prefix (n ∷ ns) holds begins are below = holds
+    siblings-show (Unsplit ending siblings) prefix [] holds begins are below = holds
+    siblings-show (Unsplit ending siblings) prefix (n ∷ ns) holds begins are below =
         let longer = prefix ++ n ∷ [] in
         let begins2 : IsBeginning b.block longer = step-begins b.block prefix n begins (are n (inl refl)) in
-        let others = kid_values (ending_values b) prefix ns kids in (
+        let others = sibling_values (ending_values b) prefix ns siblings in (
           ending-shows longer ending begins2 holds.0 (λ v among. below v (among-front v (ending_values b longer ending) others among)),
-          kids-show kids prefix ns holds.1 begins (λ m among. are m (inr among)) (λ v among. below v (among-rest v (ending_values b longer ending) others among)),
+          siblings-show siblings prefix ns holds.1 begins (λ m among. are m (inr among)) (λ v among. below v (among-rest v (ending_values b longer ending) others among)),
         )
-    kids-show (Split numbers sub kids) prefix [] holds begins are below = holds
-    kids-show (Split numbers sub kids) prefix (n ∷ ns) holds begins are below =
+    siblings-show (Split numbers sub siblings) prefix [] holds begins are below = holds
+    siblings-show (Split numbers sub siblings) prefix (n ∷ ns) holds begins are below =
         let longer = prefix ++ n ∷ [] in
         let begins2 : IsBeginning b.block longer = step-begins b.block prefix n begins (are n (inl refl)) in
-        let inner = kid_values (ending_values b) longer numbers sub in
-        let others = kid_values (ending_values b) prefix ns kids in (
+        let inner = sibling_values (ending_values b) longer numbers sub in
+        let others = sibling_values (ending_values b) prefix ns siblings in (
           holds.0,
           holds.1,
-          kids-show sub longer numbers holds.2 begins2 (split-ready b longer numbers holds.1) (λ v among. below v (among-front v inner others among)),
-          kids-show kids prefix ns holds.3 begins (λ m among. are m (inr among)) (λ v among. below v (among-rest v inner others among)),
+          siblings-show sub longer numbers holds.2 begins2 (split-ready b longer numbers holds.1) (λ v among. below v (among-front v inner others among)),
+          siblings-show siblings prefix ns holds.3 begins (λ m among. are m (inr among)) (λ v among. below v (among-rest v inner others among)),
         )
 
     -- a tree whose values are all at least low shows it
     pub tree-shows : (tree : Tree Ending) → TreeHolds b.block (MayEnd rule b whole) [] tree → IsBelow low (tree_values (ending_values b) [] tree) → TreeHolds b.block (EndingShows rule b low [] whole) [] tree
     tree-shows (Alone ending) holds below = ending-shows [] ending tt holds below
-    tree-shows (Parted numbers kids) holds below =
-        (holds.0, holds.1, kids-show kids [] numbers holds.2 tt (split-ready b [] numbers holds.1) below)
+    tree-shows (Parted numbers siblings) holds below =
+        (holds.0, holds.1, siblings-show siblings [] numbers holds.2 tt (split-ready b [] numbers holds.1) below)
 
   pub answer-shown : (rule : Rule) (b : Problem) (budget : ℕ) (a : Answer) → IsAnswer rule b budget a → ShowsBy rule b a.bound [] a.tree
   answer-shown rule b budget a is =

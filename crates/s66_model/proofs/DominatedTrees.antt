@@ -6,9 +6,9 @@ use Rattle.s66_model.specs.declared.rule.Rule.TheVariants.{NoneNamed, WrittenEar
 use Rattle.s66_model.specs.Timing.{Problem, total_of, points_of, next}
 use Rattle.s66_model.specs.LegalOrder.{IsLegal, Completes, IsBeginning, IsOrder}
 use Rattle.s66_model.specs.Leaves.{Leaf}
-use Rattle.s66_model.specs.Tree.{Kids, NoMore, Unsplit, Split, Tree, Alone, Parted, KidsHold, TreeHolds, LeafShows, Shows}
+use Rattle.s66_model.specs.Tree.{Siblings, NoMore, Unsplit, Split, Tree, Alone, Parted, SiblingsHold, TreeHolds, LeafShows, Shows}
 use Rattle.s66_model.specs.Dominance.{IsNoWorse, clamp_at}
-use Rattle.s66_model.specs.DominatedLeaves.{Ending, Bounding, Dominated, IsEarlier, EndingShows, ShowsBy, kids_bounding, tree_bounding}
+use Rattle.s66_model.specs.DominatedLeaves.{Ending, Bounding, Dominated, IsEarlier, EndingShows, ShowsBy, siblings_bounding, tree_bounding}
 use Rattle.s66_model.proofs.LegalOrders.{GoesOn-join, order-legal, legal-order}
 use Rattle.s66_model.proofs.Remaining.{legal-parts}
 use Rattle.s66_model.proofs.Trees.{leaf-sound}
@@ -77,7 +77,7 @@ module _ (b : Problem) (low : ℕ) (prefix : List ℕ) (tree : Tree Ending) (sho
 
   root-low : (t : Tree Ending) (rest : List ℕ) → TreeHolds b.block (EndingShows ClampedStanding b low prefix tree) prefix t → IsBeginning b.block prefix → Completes b.block prefix rest → low ≤ total_of b (prefix ++ rest)
   root-low (Alone ending) rest holds begins whole = ending-low (length b.block) prefix ending rest (standing-low (length b.block)) (omega arith) holds begins whole
-  root-low (Parted numbers kids) rest holds begins whole = standing-low (length b.block) prefix rest (omega arith) (inr (numbers, kids, holds.0, holds.1, holds.2)) begins whole
+  root-low (Parted numbers siblings) rest holds begins whole = standing-low (length b.block) prefix rest (omega arith) (inr (numbers, siblings, holds.0, holds.1, holds.2)) begins whole
 
 -- WITHOUT NAMES
 
@@ -100,26 +100,26 @@ shown-below ClampedStanding b low prefix rest tree shows legal =
 -- WITHOUT DOMINATED LEAVES
 
 module _ (rule : Rule) (b : Problem) (low : ℕ) (prefix : List ℕ) (tree : Tree Ending) where
-  kids-bounding : (kids : Kids Leaf) (at ns : List ℕ) → KidsHold b.block (LeafShows b low) at ns kids → KidsHold b.block (EndingShows rule b low prefix tree) at ns (kids_bounding kids)
-  kids-bounding NoMore at [] h = tt
-  kids-bounding NoMore at (n ∷ ns) h = absurd h
-  kids-bounding (Unsplit leaf kids) at [] h = absurd h
-  kids-bounding (Unsplit leaf kids) at (n ∷ ns) h = (h.0, kids-bounding kids at ns h.1)
-  kids-bounding (Split numbers sub kids) at [] h = absurd h
-  kids-bounding (Split numbers sub kids) at (n ∷ ns) h = (h.0, h.1, kids-bounding sub (at ++ n ∷ []) numbers h.2, kids-bounding kids at ns h.3)
+  siblings-bounding : (siblings : Siblings Leaf) (at ns : List ℕ) → SiblingsHold b.block (LeafShows b low) at ns siblings → SiblingsHold b.block (EndingShows rule b low prefix tree) at ns (siblings_bounding siblings)
+  siblings-bounding NoMore at [] h = tt
+  siblings-bounding NoMore at (n ∷ ns) h = absurd h
+  siblings-bounding (Unsplit leaf siblings) at [] h = absurd h
+  siblings-bounding (Unsplit leaf siblings) at (n ∷ ns) h = (h.0, siblings-bounding siblings at ns h.1)
+  siblings-bounding (Split numbers sub siblings) at [] h = absurd h
+  siblings-bounding (Split numbers sub siblings) at (n ∷ ns) h = (h.0, h.1, siblings-bounding sub (at ++ n ∷ []) numbers h.2, siblings-bounding siblings at ns h.3)
 
-  bounding-kids : (kids : Kids Leaf) (at ns : List ℕ) → KidsHold b.block (EndingShows rule b low prefix tree) at ns (kids_bounding kids) → KidsHold b.block (LeafShows b low) at ns kids
-  bounding-kids NoMore at [] h = tt
-  bounding-kids NoMore at (n ∷ ns) h = absurd h
-  bounding-kids (Unsplit leaf kids) at [] h = absurd h
-  bounding-kids (Unsplit leaf kids) at (n ∷ ns) h = (h.0, bounding-kids kids at ns h.1)
-  bounding-kids (Split numbers sub kids) at [] h = absurd h
-  bounding-kids (Split numbers sub kids) at (n ∷ ns) h = (h.0, h.1, bounding-kids sub (at ++ n ∷ []) numbers h.2, bounding-kids kids at ns h.3)
+  bounding-siblings : (siblings : Siblings Leaf) (at ns : List ℕ) → SiblingsHold b.block (EndingShows rule b low prefix tree) at ns (siblings_bounding siblings) → SiblingsHold b.block (LeafShows b low) at ns siblings
+  bounding-siblings NoMore at [] h = tt
+  bounding-siblings NoMore at (n ∷ ns) h = absurd h
+  bounding-siblings (Unsplit leaf siblings) at [] h = absurd h
+  bounding-siblings (Unsplit leaf siblings) at (n ∷ ns) h = (h.0, bounding-siblings siblings at ns h.1)
+  bounding-siblings (Split numbers sub siblings) at [] h = absurd h
+  bounding-siblings (Split numbers sub siblings) at (n ∷ ns) h = (h.0, h.1, bounding-siblings sub (at ++ n ∷ []) numbers h.2, bounding-siblings siblings at ns h.3)
 
 pub tree-bounding : (rule : Rule) (b : Problem) (low : ℕ) (prefix : List ℕ) (tree : Tree Leaf) → Shows b low prefix tree → ShowsBy rule b low prefix (tree_bounding tree)
 tree-bounding rule b low prefix (Alone leaf) h = h
-tree-bounding rule b low prefix (Parted numbers kids) h = (h.0, h.1, kids-bounding rule b low prefix (tree_bounding (Parted numbers kids)) kids prefix numbers h.2)
+tree-bounding rule b low prefix (Parted numbers siblings) h = (h.0, h.1, siblings-bounding rule b low prefix (tree_bounding (Parted numbers siblings)) siblings prefix numbers h.2)
 
 pub bounding-tree : (rule : Rule) (b : Problem) (low : ℕ) (prefix : List ℕ) (tree : Tree Leaf) → ShowsBy rule b low prefix (tree_bounding tree) → Shows b low prefix tree
 bounding-tree rule b low prefix (Alone leaf) h = h
-bounding-tree rule b low prefix (Parted numbers kids) h = (h.0, h.1, bounding-kids rule b low prefix (tree_bounding (Parted numbers kids)) kids prefix numbers h.2)
+bounding-tree rule b low prefix (Parted numbers siblings) h = (h.0, h.1, bounding-siblings rule b low prefix (tree_bounding (Parted numbers siblings)) siblings prefix numbers h.2)

@@ -8,7 +8,7 @@ use Rattle.s66_model.specs.Timing.{Problem}
 use Rattle.s66_model.specs.LegalOrder.{IsBeginning, IsComplete}
 use Rattle.s66_model.specs.BestAndBound.{IsBound}
 use Rattle.s66_model.specs.Leaves.{Leaf, Whole, value, floor, floor_value, MayStand}
-use Rattle.s66_model.specs.Tree.{Kids, NoMore, Unsplit, Split, Tree, Alone, Parted, KidsHold, TreeHolds, kid_values, tree_values}
+use Rattle.s66_model.specs.Tree.{Siblings, NoMore, Unsplit, Split, Tree, Alone, Parted, SiblingsHold, TreeHolds, sibling_values, tree_values}
 use Rattle.s66_model.specs.DominatedLeaves.{Ending, Bounding, Dominated}
 use Rattle.s66_model.specs.Answer.{source_time, MayEnd, ending_values, IsAnswer}
 use Rattle.s66_model.specs.Ledger.{Ledger, Node, State, Open, Out, Cut, Closed, is_cut, is_cut_state, is_live, is_live_state, node_at, no_node, with_state, root_state, new_nodes, best_time, opening, Event, Grant, Claim, Graft, Offer, Back, Retire, Reply, Granted, Claimed, Taken, NotOut, OtherPrefix, OverAllowance, Lower, NotLower, OtherBlock, Returned, Retired, Moves, Run}
@@ -96,19 +96,19 @@ module _ (b : Problem) (low : ℕ) where
   abbrev AreAbove : List ℕ → Ending → Type 0
   AreAbove at ending = (v : ℕ) → Among v (ending_values b at ending) → low ≤ v
 
-  kids-each : (kids : Kids Ending) (prefix ns : List ℕ) → KidsHold b.block AreAbove prefix ns kids → (v : ℕ) → Among v (kid_values (ending_values b) prefix ns kids) → low ≤ v
-  kids-each kids prefix [] h v among = absurd among
-  kids-each NoMore prefix (n ∷ ns) h v among = absurd among
-  kids-each (Unsplit ending kids) prefix (n ∷ ns) h v among =
-      append-each low (ending_values b (prefix ++ n ∷ []) ending) (kid_values (ending_values b) prefix ns kids) h.0 (kids-each kids prefix ns h.1) v among
-  kids-each (Split numbers sub kids) prefix (n ∷ ns) h v among =
-      append-each low (kid_values (ending_values b) (prefix ++ n ∷ []) numbers sub) (kid_values (ending_values b) prefix ns kids)
-      (kids-each sub (prefix ++ n ∷ []) numbers h.2) (kids-each kids prefix ns h.3) v among
+  siblings-each : (siblings : Siblings Ending) (prefix ns : List ℕ) → SiblingsHold b.block AreAbove prefix ns siblings → (v : ℕ) → Among v (sibling_values (ending_values b) prefix ns siblings) → low ≤ v
+  siblings-each siblings prefix [] h v among = absurd among
+  siblings-each NoMore prefix (n ∷ ns) h v among = absurd among
+  siblings-each (Unsplit ending siblings) prefix (n ∷ ns) h v among =
+      append-each low (ending_values b (prefix ++ n ∷ []) ending) (sibling_values (ending_values b) prefix ns siblings) h.0 (siblings-each siblings prefix ns h.1) v among
+  siblings-each (Split numbers sub siblings) prefix (n ∷ ns) h v among =
+      append-each low (sibling_values (ending_values b) (prefix ++ n ∷ []) numbers sub) (sibling_values (ending_values b) prefix ns siblings)
+      (siblings-each sub (prefix ++ n ∷ []) numbers h.2) (siblings-each siblings prefix ns h.3) v among
 
   -- what is at most each value
   tree-each : (tree : Tree Ending) → TreeHolds b.block AreAbove [] tree → (v : ℕ) → Among v (tree_values (ending_values b) [] tree) → low ≤ v
   tree-each (Alone ending) h v among = h v among
-  tree-each (Parted numbers kids) h v among = kids-each kids [] numbers h.2 v among
+  tree-each (Parted numbers siblings) h v among = siblings-each siblings [] numbers h.2 v among
 
 -- THE ANSWER
 

@@ -7,10 +7,10 @@ use Rattle.s66_model.specs.declared.rule.Rule.TheVariants.{NoneNamed, WrittenEar
 use Rattle.s66_model.specs.Timing.{Problem, total_of}
 use Rattle.s66_model.specs.LegalOrder.{IsLegal, IsBeginning, is_ready}
 use Rattle.s66_model.specs.Leaves.{Leaf, value, floor, floor_value}
-use Rattle.s66_model.specs.Tree.{Tree, Alone, Parted, Kids, NoMore, Unsplit, Split, KidsHold, splits}
+use Rattle.s66_model.specs.Tree.{Tree, Alone, Parted, Siblings, NoMore, Unsplit, Split, SiblingsHold, splits}
 use Rattle.s66_model.specs.DominatedLeaves.{Ending, Bounding, Dominated, IsEarlier}
-use Rattle.s66_model.specs.Piece.{Tip, Carries, Frontier, Passed, TipHolds, IsPiece}
-use Rattle.s66_model.specs.Ledger.{Ledger, Node, State, Open, Out, Cut, Closed, is_cut, is_cut_state, is_open_state, node_at, no_node, with_state, best_time, IsWorker, allowance, share_of, opening, after_grant, after_retire, after_move, after_offer, after_graft, state_of, root_state, kid_nodes, new_nodes, may_name, HasNamed, TipIsNamed, AreNamed, IsOut}
+use Rattle.s66_model.specs.Piece.{Terminal, Carries, Frontier, Passed, TerminalHolds, IsPiece}
+use Rattle.s66_model.specs.Ledger.{Ledger, Node, State, Open, Out, Cut, Closed, is_cut, is_cut_state, is_open_state, node_at, no_node, with_state, best_time, IsWorker, allowance, share_of, opening, after_grant, after_retire, after_move, after_offer, after_graft, state_of, root_state, sibling_nodes, new_nodes, may_name, HasNamed, TerminalIsNamed, AreNamed, IsOut}
 use Rattle.s66_model.specs.Coverage.{begins, covers, ClosedHolds, NodeHolds, NodesHold, Covers}
 use Rattle.s66_isa.proofs.Lists.{tally-append, tally-set, weigh-set, among-front}
 use Rattle.s66_model.proofs.Beginnings.{source-legal}
@@ -123,42 +123,42 @@ module _ (rule : Rule) (b : Problem) where
   closed-either best all at leaf begins is false le other e = absurd (open_closed other e)
 
   -- in a piece over this prefix, with this tree, whose names are those of nodes
-  module _ (best : ℕ) (all : List Node) (root : List ℕ) (whole : Tree Tip) where
-    tip-holds : (at : List ℕ) (tip : Tip) → IsBeginning b.block at → TipHolds rule b root whole at tip → TipIsNamed rule all at tip → NodeHolds rule b best all (record { prefix = at; state = state_of b best at tip })
-    tip-holds at (Carries leaf) is holds named =
+  module _ (best : ℕ) (all : List Node) (root : List ℕ) (whole : Tree Terminal) where
+    terminal-holds : (at : List ℕ) (terminal : Terminal) → IsBeginning b.block at → TerminalHolds rule b root whole at terminal → TerminalIsNamed rule all at terminal → NodeHolds rule b best all (record { prefix = at; state = state_of b best at terminal })
+    terminal-holds at (Carries leaf) is holds named =
         (is, closed-either best all at leaf is holds (leb best (value b at leaf)) (leb-true best (value b at leaf)))
-    tip-holds at Frontier is holds named = (is, λ ending e. absurd (open_closed ending e))
-    tip-holds at (Passed name) is holds named =
+    terminal-holds at Frontier is holds named = (is, λ ending e. absurd (open_closed ending e))
+    terminal-holds at (Passed name) is holds named =
         (is, λ ending e. (let same : Dominated name ≡ ending = cc in subst (ClosedHolds rule b best all at) same (holds.0, named)))
 
-    kids-hold : (kids : Kids Tip) (prefix ns : List ℕ) → IsBeginning b.block prefix → ((n : ℕ) → Among n ns → is_ready b.block prefix n ≡ true) → KidsHold b.block (TipHolds rule b root whole) prefix ns kids → KidsHold b.block (TipIsNamed rule all) prefix ns kids → NodesHold rule b best all (kid_nodes b best prefix ns kids)
-    kids-hold NoMore prefix [] is each holds named = tt
-    kids-hold NoMore prefix (n ∷ ns) is each holds named = absurd holds
-    kids-hold (Unsplit tip kids) prefix [] is each holds named = absurd holds
-    kids-hold (Unsplit tip kids) prefix (n ∷ ns) is each holds named =
-        (tip-holds (prefix ++ n ∷ []) tip (step-begins b.block prefix n is (each n (inl refl))) holds.0 named.0, kids-hold kids prefix ns is (λ m among. each m (inr among)) holds.1 named.1)
-    kids-hold (Split numbers sub kids) prefix [] is each holds named = absurd holds
-    kids-hold (Split numbers sub kids) prefix (n ∷ ns) is each holds named =
+    siblings-hold : (siblings : Siblings Terminal) (prefix ns : List ℕ) → IsBeginning b.block prefix → ((n : ℕ) → Among n ns → is_ready b.block prefix n ≡ true) → SiblingsHold b.block (TerminalHolds rule b root whole) prefix ns siblings → SiblingsHold b.block (TerminalIsNamed rule all) prefix ns siblings → NodesHold rule b best all (sibling_nodes b best prefix ns siblings)
+    siblings-hold NoMore prefix [] is each holds named = tt
+    siblings-hold NoMore prefix (n ∷ ns) is each holds named = absurd holds
+    siblings-hold (Unsplit terminal siblings) prefix [] is each holds named = absurd holds
+    siblings-hold (Unsplit terminal siblings) prefix (n ∷ ns) is each holds named =
+        (terminal-holds (prefix ++ n ∷ []) terminal (step-begins b.block prefix n is (each n (inl refl))) holds.0 named.0, siblings-hold siblings prefix ns is (λ m among. each m (inr among)) holds.1 named.1)
+    siblings-hold (Split numbers sub siblings) prefix [] is each holds named = absurd holds
+    siblings-hold (Split numbers sub siblings) prefix (n ∷ ns) is each holds named =
         let at = prefix ++ n ∷ [] in
         let is2 : IsBeginning b.block at = step-begins b.block prefix n is (each n (inl refl)) in
-        let below = kids-hold sub at numbers is2 (λ m among. ready-among b.block at m (subst (Among m) holds.1 among)) holds.2 named.2 in
-        ((is2, λ ending e. absurd (cut_closed ending e)), holds-append rule b best all (kid_nodes b best at numbers sub) (kid_nodes b best prefix ns kids) below (kids-hold kids prefix ns is (λ m among. each m (inr among)) holds.3 named.3))
+        let below = siblings-hold sub at numbers is2 (λ m among. ready-among b.block at m (subst (Among m) holds.1 among)) holds.2 named.2 in
+        ((is2, λ ending e. absurd (cut_closed ending e)), holds-append rule b best all (sibling_nodes b best at numbers sub) (sibling_nodes b best prefix ns siblings) below (siblings-hold siblings prefix ns is (λ m among. each m (inr among)) holds.3 named.3))
 
-  root-holds : (best : ℕ) (all : List Node) (prefix : List ℕ) (tree : Tree Tip) → IsBeginning b.block prefix → IsPiece rule b prefix tree → AreNamed rule b all prefix tree → NodeHolds rule b best all (record { prefix = prefix; state = root_state b best prefix tree })
-  root-holds best all prefix (Alone tip) is holds named = tip-holds best all prefix (Alone tip) prefix tip is holds named
-  root-holds best all prefix (Parted numbers kids) is holds named = (is, λ ending e. absurd (cut_closed ending e))
+  root-holds : (best : ℕ) (all : List Node) (prefix : List ℕ) (tree : Tree Terminal) → IsBeginning b.block prefix → IsPiece rule b prefix tree → AreNamed rule b all prefix tree → NodeHolds rule b best all (record { prefix = prefix; state = root_state b best prefix tree })
+  root-holds best all prefix (Alone terminal) is holds named = terminal-holds best all prefix (Alone terminal) prefix terminal is holds named
+  root-holds best all prefix (Parted numbers siblings) is holds named = (is, λ ending e. absurd (cut_closed ending e))
 
-  new-hold : (best : ℕ) (all : List Node) (prefix : List ℕ) (tree : Tree Tip) → IsBeginning b.block prefix → IsPiece rule b prefix tree → AreNamed rule b all prefix tree → NodesHold rule b best all (new_nodes b best prefix tree)
-  new-hold best all prefix (Alone tip) is holds named = tt
-  new-hold best all prefix (Parted numbers kids) is holds named =
-      kids-hold best all prefix (Parted numbers kids) kids prefix numbers is (λ n among. ready-among b.block prefix n (subst (Among n) holds.1 among)) holds.2 named.2
+  new-hold : (best : ℕ) (all : List Node) (prefix : List ℕ) (tree : Tree Terminal) → IsBeginning b.block prefix → IsPiece rule b prefix tree → AreNamed rule b all prefix tree → NodesHold rule b best all (new_nodes b best prefix tree)
+  new-hold best all prefix (Alone terminal) is holds named = tt
+  new-hold best all prefix (Parted numbers siblings) is holds named =
+      siblings-hold best all prefix (Parted numbers siblings) siblings prefix numbers is (λ n among. ready-among b.block prefix n (subst (Among n) holds.1 among)) holds.2 named.2
 
 carries-stands : (leaf : Leaf) (t : Bool) → may_name ClampedStanding (cond t (Closed (Bounding leaf)) Open) ≡ true
 carries-stands leaf true = refl
 carries-stands leaf false = refl
 
 -- a piece's root isn't dominated
-pub root-stands : (rule : Rule) (b : Problem) (best : ℕ) (prefix : List ℕ) (tree : Tree Tip) → IsPiece rule b prefix tree → may_name ClampedStanding (root_state b best prefix tree) ≡ true
+pub root-stands : (rule : Rule) (b : Problem) (best : ℕ) (prefix : List ℕ) (tree : Tree Terminal) → IsPiece rule b prefix tree → may_name ClampedStanding (root_state b best prefix tree) ≡ true
 root-stands rule b best prefix (Alone (Carries leaf)) h = carries-stands leaf (leb best (value b prefix leaf))
 root-stands rule b best prefix (Alone Frontier) h = refl
 root-stands NoneNamed b best prefix (Alone (Passed name)) h = absurd h.1
@@ -166,7 +166,7 @@ root-stands WrittenEarlier b best prefix (Alone (Passed name)) h =
     let (path, is) = node-begins prefix (Alone (Passed name)) name h.1 in
     absurd (never-earlier prefix path (subst (λ x. IsEarlier x prefix) is h.0.1))
 root-stands ClampedStanding b best prefix (Alone (Passed name)) h = absurd (omega (arith, h.1))
-root-stands rule b best prefix (Parted numbers kids) h = refl
+root-stands rule b best prefix (Parted numbers siblings) h = refl
 
 -- CLAIM AND BACK, which change one node's state
 
@@ -231,23 +231,23 @@ module _ (rule : Rule) (b : Problem) (budget : ℕ) where
 
   -- GRAFT, which puts a piece's nodes in place of one
 
-  after_graft-once : (l : Ledger) (i : ℕ) (tree : Tree Tip) (order : List ℕ) → IsLegal b.block order → IsOut l i → IsPiece rule b (node_at l.nodes i).prefix tree → tally (covers order) l.nodes ≡ 1 → tally (covers order) (with_state l.nodes i (root_state b (best_time b l) (node_at l.nodes i).prefix tree) ++ new_nodes b (best_time b l) (node_at l.nodes i).prefix tree) ≡ 1
+  after_graft-once : (l : Ledger) (i : ℕ) (tree : Tree Terminal) (order : List ℕ) → IsLegal b.block order → IsOut l i → IsPiece rule b (node_at l.nodes i).prefix tree → tally (covers order) l.nodes ≡ 1 → tally (covers order) (with_state l.nodes i (root_state b (best_time b l) (node_at l.nodes i).prefix tree) ++ new_nodes b (best_time b l) (node_at l.nodes i).prefix tree) ≡ 1
   after_graft-once l i tree order legal out piece h =
       let at = (node_at l.nodes i).prefix in
       let best = best_time b l in
       let node : Node = record { prefix = at; state = root_state b best at tree } in
       let before : covers order (node_at l.nodes i) ≡ begins at order = rw (ap is_cut_state out.1) refl in
-      omega (arith, tally-append (covers order) (set l.nodes i node) (new_nodes b best at tree), tally-set (covers order) l.nodes i node no_node out.0, ap (λ t. cond {A = ℕ} t 1 0) before, tree-once b order legal best (TipHolds rule b at tree) at tree piece)
+      omega (arith, tally-append (covers order) (set l.nodes i node) (new_nodes b best at tree), tally-set (covers order) l.nodes i node no_node out.0, ap (λ t. cond {A = ℕ} t 1 0) before, tree-once b order legal best (TerminalHolds rule b at tree) at tree piece)
 
-  after_graft-spent : (l : Ledger) (i : ℕ) (tree : Tree Tip) → IsOut l i → IsPiece rule b (node_at l.nodes i).prefix tree → l.spent ≡ tally is_cut l.nodes → l.spent + splits tree ≡ tally is_cut (with_state l.nodes i (root_state b (best_time b l) (node_at l.nodes i).prefix tree) ++ new_nodes b (best_time b l) (node_at l.nodes i).prefix tree)
+  after_graft-spent : (l : Ledger) (i : ℕ) (tree : Tree Terminal) → IsOut l i → IsPiece rule b (node_at l.nodes i).prefix tree → l.spent ≡ tally is_cut l.nodes → l.spent + splits tree ≡ tally is_cut (with_state l.nodes i (root_state b (best_time b l) (node_at l.nodes i).prefix tree) ++ new_nodes b (best_time b l) (node_at l.nodes i).prefix tree)
   after_graft-spent l i tree out piece h =
       let at = (node_at l.nodes i).prefix in
       let best = best_time b l in
       let node : Node = record { prefix = at; state = root_state b best at tree } in
       let before : is_cut (node_at l.nodes i) ≡ false = ap is_cut_state out.1 in
-      omega (arith, tally-append is_cut (set l.nodes i node) (new_nodes b best at tree), tally-set is_cut l.nodes i node no_node out.0, ap (λ t. cond {A = ℕ} t 1 0) before, tree-cut b best (TipHolds rule b at tree) at tree piece)
+      omega (arith, tally-append is_cut (set l.nodes i node) (new_nodes b best at tree), tally-set is_cut l.nodes i node no_node out.0, ap (λ t. cond {A = ℕ} t 1 0) before, tree-cut b best (TerminalHolds rule b at tree) at tree piece)
 
-  pub after_graft-covers : (l : Ledger) (w i : ℕ) (tree : Tree Tip) → IsWorker l w → IsOut l i → splits tree ≤ allowance l w → IsPiece rule b (node_at l.nodes i).prefix tree → AreNamed rule b (after_graft b l w i (node_at l.nodes i).prefix tree).nodes (node_at l.nodes i).prefix tree → Covers rule b budget l → Covers rule b budget (after_graft b l w i (node_at l.nodes i).prefix tree)
+  pub after_graft-covers : (l : Ledger) (w i : ℕ) (tree : Tree Terminal) → IsWorker l w → IsOut l i → splits tree ≤ allowance l w → IsPiece rule b (node_at l.nodes i).prefix tree → AreNamed rule b (after_graft b l w i (node_at l.nodes i).prefix tree).nodes (node_at l.nodes i).prefix tree → Covers rule b budget l → Covers rule b budget (after_graft b l w i (node_at l.nodes i).prefix tree)
   after_graft-covers l w i tree worker out le piece named c =
       let at = (node_at l.nodes i).prefix in
       let best = best_time b l in

@@ -6,7 +6,7 @@ use Rattle.s66_isa.specs.Lists.{tally, weigh, Among}
 use Rattle.s66_model.specs.Timing.{Problem}
 use Rattle.s66_model.specs.LegalOrder.{is_ready, ready, GoesOn, IsBeginning, IsIncomplete}
 use Rattle.s66_model.specs.Leaves.{floor, floor_value}
-use Rattle.s66_model.specs.Tree.{Kids, NoMore, Unsplit, Split, Tree, Alone, Parted, KidsHold, TreeHolds, kid_splits, splits, kids_split_at, split_at, kid_values, tree_values}
+use Rattle.s66_model.specs.Tree.{Siblings, NoMore, Unsplit, Split, Tree, Alone, Parted, SiblingsHold, TreeHolds, sibling_splits, splits, siblings_split_at, split_at, sibling_values, tree_values}
 use Rattle.s66_model.specs.DominatedLeaves.{Ending, Bounding}
 use Rattle.s66_model.specs.Answer.{ending_values}
 use Rattle.s66_model.specs.Ledger.{Ledger, Node, State, Open, Out, Cut, Closed, is_cut, is_cut_state}
@@ -17,7 +17,7 @@ use Rattle.s66_isa.proofs.Lists.{tally-none, tally-same, among-front, among-rest
 use Rattle.s66_model.proofs.LegalOrders.{GoesOn-append, ready-parts}
 use Rattle.s66_model.proofs.Remaining.{among-ready, ready-among}
 use Rattle.s66_model.proofs.OnceCovered.{and_true, begins-rest, rising-once}
-use Rattle.s66_model.proofs.GrownTrees.{KidsFit, TreeFits, tree-fits}
+use Rattle.s66_model.proofs.GrownTrees.{SiblingsFit, TreeFits, tree-fits}
 use Rattle.s66_model.proofs.OneTree.{same-is}
 
 -- LISTS
@@ -218,22 +218,22 @@ module _ (b : Problem) (l : Ledger) (table : IsTable b l) (beginnings : (node : 
 
   -- AS MANY SPLITS
 
-  kids-count : (kids : Kids Ending) (prefix ns : List ℕ) → KidsFit b (is_split_at l.nodes) (ending_at b l.nodes) prefix ns kids → kid_splits kids ≡ weigh (λ n. below l.nodes (prefix ++ n ∷ [])) ns
-  kids-count NoMore prefix [] h = refl
-  kids-count NoMore prefix (n ∷ ns) h = absurd h
-  kids-count (Unsplit leaf kids) prefix [] h = absurd h
-  kids-count (Unsplit leaf kids) prefix (n ∷ ns) h =
-      omega (arith, kids-count kids prefix ns h.2, none-below (prefix ++ n ∷ []) (uncut (prefix ++ n ∷ []) h.0))
-  kids-count (Split numbers sub kids) prefix [] h = absurd h
-  kids-count (Split numbers sub kids) prefix (n ∷ ns) h =
+  siblings-count : (siblings : Siblings Ending) (prefix ns : List ℕ) → SiblingsFit b (is_split_at l.nodes) (ending_at b l.nodes) prefix ns siblings → sibling_splits siblings ≡ weigh (λ n. below l.nodes (prefix ++ n ∷ [])) ns
+  siblings-count NoMore prefix [] h = refl
+  siblings-count NoMore prefix (n ∷ ns) h = absurd h
+  siblings-count (Unsplit leaf siblings) prefix [] h = absurd h
+  siblings-count (Unsplit leaf siblings) prefix (n ∷ ns) h =
+      omega (arith, siblings-count siblings prefix ns h.2, none-below (prefix ++ n ∷ []) (uncut (prefix ++ n ∷ []) h.0))
+  siblings-count (Split numbers sub siblings) prefix [] h = absurd h
+  siblings-count (Split numbers sub siblings) prefix (n ∷ ns) h =
       let at = prefix ++ n ∷ [] in
-      let inner : kid_splits sub ≡ weigh (λ m. below l.nodes (at ++ m ∷ [])) (ready b.block at) = kids-count sub at numbers h.2 ∙ ap (λ ms. weigh (λ m. below l.nodes (at ++ m ∷ [])) ms) h.1 in
-      omega (arith, kids-count kids prefix ns h.3, inner, split-below at h.0)
+      let inner : sibling_splits sub ≡ weigh (λ m. below l.nodes (at ++ m ∷ [])) (ready b.block at) = siblings-count sub at numbers h.2 ∙ ap (λ ms. weigh (λ m. below l.nodes (at ++ m ∷ [])) ms) h.1 in
+      omega (arith, siblings-count siblings prefix ns h.3, inner, split-below at h.0)
 
   tree-count : (tree : Tree Ending) → TreeFits b (is_split_at l.nodes) (ending_at b l.nodes) tree → splits tree ≡ below l.nodes []
   tree-count (Alone leaf) h = sym (none-below [] (uncut [] h.0))
-  tree-count (Parted numbers kids) h =
-      omega (arith, kids-count kids [] numbers h.2, ap (λ ms. weigh (λ m. below l.nodes (m ∷ [])) ms) h.1, split-below [] h.0)
+  tree-count (Parted numbers siblings) h =
+      omega (arith, siblings-count siblings [] numbers h.2, ap (λ ms. weigh (λ m. below l.nodes (m ∷ [])) ms) h.1, split-below [] h.0)
 
   pub node_tree-splits : splits (node_tree b l.nodes) ≡ tally is_cut l.nodes
   node_tree-splits =
@@ -258,20 +258,20 @@ module _ (b : Problem) (l : Ledger) (table : IsTable b l) (beginnings : (node : 
     children-stand at ns is e n among =
         omega (arith, ltb-true 0 (cuts at) is, table.children at n (ready-among b.block at n (subst (λ ms. Among n ms) e among)))
 
-    kids-hold : (kids : Kids Ending) (prefix ns : List ℕ) → ((n : ℕ) → Among n ns → 0 < standing (prefix ++ n ∷ [])) → KidsFit b (is_split_at l.nodes) (ending_at b l.nodes) prefix ns kids → KidsHold b.block Q prefix ns kids
-    kids-hold NoMore prefix [] stand h = tt
-    kids-hold NoMore prefix (n ∷ ns) stand h = absurd h
-    kids-hold (Unsplit leaf kids) prefix [] stand h = absurd h
-    kids-hold (Unsplit leaf kids) prefix (n ∷ ns) stand h =
-        (leaf-holds (prefix ++ n ∷ []) leaf (stand n (inl refl)) h.0 h.1, kids-hold kids prefix ns (λ m among. stand m (inr among)) h.2)
-    kids-hold (Split numbers sub kids) prefix [] stand h = absurd h
-    kids-hold (Split numbers sub kids) prefix (n ∷ ns) stand h =
+    siblings-hold : (siblings : Siblings Ending) (prefix ns : List ℕ) → ((n : ℕ) → Among n ns → 0 < standing (prefix ++ n ∷ [])) → SiblingsFit b (is_split_at l.nodes) (ending_at b l.nodes) prefix ns siblings → SiblingsHold b.block Q prefix ns siblings
+    siblings-hold NoMore prefix [] stand h = tt
+    siblings-hold NoMore prefix (n ∷ ns) stand h = absurd h
+    siblings-hold (Unsplit leaf siblings) prefix [] stand h = absurd h
+    siblings-hold (Unsplit leaf siblings) prefix (n ∷ ns) stand h =
+        (leaf-holds (prefix ++ n ∷ []) leaf (stand n (inl refl)) h.0 h.1, siblings-hold siblings prefix ns (λ m among. stand m (inr among)) h.2)
+    siblings-hold (Split numbers sub siblings) prefix [] stand h = absurd h
+    siblings-hold (Split numbers sub siblings) prefix (n ∷ ns) stand h =
         let at = prefix ++ n ∷ [] in
-        ((split-part at h.0).0, h.1, kids-hold sub at numbers (children-stand at numbers h.0 h.1) h.2, kids-hold kids prefix ns (λ m among. stand m (inr among)) h.3)
+        ((split-part at h.0).0, h.1, siblings-hold sub at numbers (children-stand at numbers h.0 h.1) h.2, siblings-hold siblings prefix ns (λ m among. stand m (inr among)) h.3)
 
     tree-hold : (tree : Tree Ending) → TreeFits b (is_split_at l.nodes) (ending_at b l.nodes) tree → TreeHolds b.block Q [] tree
     tree-hold (Alone leaf) h = leaf-holds [] leaf (omega (arith, table.root)) h.0 h.1
-    tree-hold (Parted numbers kids) h = ((split-part [] h.0).0, h.1, kids-hold kids [] numbers (children-stand [] numbers h.0 h.1) h.2)
+    tree-hold (Parted numbers siblings) h = ((split-part [] h.0).0, h.1, siblings-hold siblings [] numbers (children-stand [] numbers h.0 h.1) h.2)
 
     pub node_tree-holds : TreeHolds b.block Q [] (node_tree b l.nodes)
     node_tree-holds = tree-hold (node_tree b l.nodes) fits
@@ -282,71 +282,71 @@ module _ (b : Problem) (l : Ledger) (table : IsTable b l) (beginnings : (node : 
   abbrev values_at : List ℕ → List ℕ
   values_at x = ending_values b x (ending_at b l.nodes x)
 
-  abbrev IsInKids : List ℕ → List ℕ → List ℕ → Kids Ending → Type 0
-  IsInKids x prefix ns kids =
-      (IsSplit x × Among x (kids_split_at prefix ns kids)) ⊎ (IsUnsplit x × ((v : ℕ) → Among v (values_at x) → Among v (kid_values (ending_values b) prefix ns kids)))
+  abbrev IsInSiblings : List ℕ → List ℕ → List ℕ → Siblings Ending → Type 0
+  IsInSiblings x prefix ns siblings =
+      (IsSplit x × Among x (siblings_split_at prefix ns siblings)) ⊎ (IsUnsplit x × ((v : ℕ) → Among v (values_at x) → Among v (sibling_values (ending_values b) prefix ns siblings)))
 
-  -- so it is in the kids with more before them
-  behind-unsplit : (x prefix ns : List ℕ) (n : ℕ) (leaf : Ending) (kids : Kids Ending) → IsInKids x prefix ns kids → IsInKids x prefix (n ∷ ns) (Unsplit leaf kids)
-  behind-unsplit x prefix ns n leaf kids (inl (is, among)) = inl (is, among)
-  behind-unsplit x prefix ns n leaf kids (inr (off, among)) =
-      inr (off, λ v is. among-rest v (ending_values b (prefix ++ n ∷ []) leaf) (kid_values (ending_values b) prefix ns kids) (among v is))
+  -- so it is in the siblings with more before them
+  behind-unsplit : (x prefix ns : List ℕ) (n : ℕ) (leaf : Ending) (siblings : Siblings Ending) → IsInSiblings x prefix ns siblings → IsInSiblings x prefix (n ∷ ns) (Unsplit leaf siblings)
+  behind-unsplit x prefix ns n leaf siblings (inl (is, among)) = inl (is, among)
+  behind-unsplit x prefix ns n leaf siblings (inr (off, among)) =
+      inr (off, λ v is. among-rest v (ending_values b (prefix ++ n ∷ []) leaf) (sibling_values (ending_values b) prefix ns siblings) (among v is))
 
-  behind-split : (x prefix ns : List ℕ) (n : ℕ) (numbers : List ℕ) (sub kids : Kids Ending) → IsInKids x prefix ns kids → IsInKids x prefix (n ∷ ns) (Split numbers sub kids)
-  behind-split x prefix ns n numbers sub kids (inl (is, among)) =
-      inl (is, inr (among-rest x (kids_split_at (prefix ++ n ∷ []) numbers sub) (kids_split_at prefix ns kids) among))
-  behind-split x prefix ns n numbers sub kids (inr (off, among)) =
-      inr (off, λ v is. among-rest v (kid_values (ending_values b) (prefix ++ n ∷ []) numbers sub) (kid_values (ending_values b) prefix ns kids) (among v is))
+  behind-split : (x prefix ns : List ℕ) (n : ℕ) (numbers : List ℕ) (sub siblings : Siblings Ending) → IsInSiblings x prefix ns siblings → IsInSiblings x prefix (n ∷ ns) (Split numbers sub siblings)
+  behind-split x prefix ns n numbers sub siblings (inl (is, among)) =
+      inl (is, inr (among-rest x (siblings_split_at (prefix ++ n ∷ []) numbers sub) (siblings_split_at prefix ns siblings) among))
+  behind-split x prefix ns n numbers sub siblings (inr (off, among)) =
+      inr (off, λ v is. among-rest v (sibling_values (ending_values b) (prefix ++ n ∷ []) numbers sub) (sibling_values (ending_values b) prefix ns siblings) (among v is))
 
-  within-split : (x prefix ns : List ℕ) (n : ℕ) (numbers : List ℕ) (sub kids : Kids Ending) → IsInKids x (prefix ++ n ∷ []) numbers sub → IsInKids x prefix (n ∷ ns) (Split numbers sub kids)
-  within-split x prefix ns n numbers sub kids (inl (is, among)) =
-      inl (is, inr (among-front x (kids_split_at (prefix ++ n ∷ []) numbers sub) (kids_split_at prefix ns kids) among))
-  within-split x prefix ns n numbers sub kids (inr (off, among)) =
-      inr (off, λ v is. among-front v (kid_values (ending_values b) (prefix ++ n ∷ []) numbers sub) (kid_values (ending_values b) prefix ns kids) (among v is))
+  within-split : (x prefix ns : List ℕ) (n : ℕ) (numbers : List ℕ) (sub siblings : Siblings Ending) → IsInSiblings x (prefix ++ n ∷ []) numbers sub → IsInSiblings x prefix (n ∷ ns) (Split numbers sub siblings)
+  within-split x prefix ns n numbers sub siblings (inl (is, among)) =
+      inl (is, inr (among-front x (siblings_split_at (prefix ++ n ∷ []) numbers sub) (siblings_split_at prefix ns siblings) among))
+  within-split x prefix ns n numbers sub siblings (inr (off, among)) =
+      inr (off, λ v is. among-front v (sibling_values (ending_values b) (prefix ++ n ∷ []) numbers sub) (sibling_values (ending_values b) prefix ns siblings) (among v is))
 
-  at-unsplit : (prefix ns : List ℕ) (n : ℕ) (leaf : Ending) (kids : Kids Ending) (ms : List ℕ) → IsUnsplit (prefix ++ n ∷ []) → leaf ≡ ending_at b l.nodes (prefix ++ n ∷ []) → GoesOn b.block (prefix ++ n ∷ []) ms → 0 < standing ((prefix ++ n ∷ []) ++ ms) → IsInKids ((prefix ++ n ∷ []) ++ ms) prefix (n ∷ ns) (Unsplit leaf kids)
-  at-unsplit prefix ns n leaf kids [] off is goes some =
+  at-unsplit : (prefix ns : List ℕ) (n : ℕ) (leaf : Ending) (siblings : Siblings Ending) (ms : List ℕ) → IsUnsplit (prefix ++ n ∷ []) → leaf ≡ ending_at b l.nodes (prefix ++ n ∷ []) → GoesOn b.block (prefix ++ n ∷ []) ms → 0 < standing ((prefix ++ n ∷ []) ++ ms) → IsInSiblings ((prefix ++ n ∷ []) ++ ms) prefix (n ∷ ns) (Unsplit leaf siblings)
+  at-unsplit prefix ns n leaf siblings [] off is goes some =
       let at = prefix ++ n ∷ [] in
-      subst (λ x. IsInKids x prefix (n ∷ ns) (Unsplit leaf kids)) (sym (append-nil at)) (subst (λ f. IsInKids at prefix (n ∷ ns) (Unsplit f kids)) (sym is) (inr (off, λ v there. among-front v (values_at at) (kid_values (ending_values b) prefix ns kids) there)))
-  at-unsplit prefix ns n leaf kids (m ∷ ms) off is goes some =
+      subst (λ x. IsInSiblings x prefix (n ∷ ns) (Unsplit leaf siblings)) (sym (append-nil at)) (subst (λ f. IsInSiblings at prefix (n ∷ ns) (Unsplit f siblings)) (sym is) (inr (off, λ v there. among-front v (values_at at) (sibling_values (ending_values b) prefix ns siblings) there)))
+  at-unsplit prefix ns n leaf siblings (m ∷ ms) off is goes some =
       absurd (omega (arith, some, none-along ms (prefix ++ n ∷ []) m goes (uncut (prefix ++ n ∷ []) off)))
 
-  kids-reach : (kids : Kids Ending) (prefix ns : List ℕ) → KidsFit b (is_split_at l.nodes) (ending_at b l.nodes) prefix ns kids → (n : ℕ) (ms : List ℕ) → Among n ns → GoesOn b.block (prefix ++ n ∷ []) ms → 0 < standing ((prefix ++ n ∷ []) ++ ms) → IsInKids ((prefix ++ n ∷ []) ++ ms) prefix ns kids
-  kids-reach kids prefix [] h n ms among goes some = absurd among
-  kids-reach NoMore prefix (k ∷ ns) h n ms among goes some = absurd h
-  kids-reach (Unsplit leaf kids) prefix (k ∷ ns) h n ms (inl e) goes some =
-      subst (λ j. IsInKids ((prefix ++ n ∷ []) ++ ms) prefix (j ∷ ns) (Unsplit leaf kids)) e
-      (at-unsplit prefix ns n leaf kids ms (subst (λ j. IsUnsplit (prefix ++ j ∷ [])) (sym e) h.0) (subst (λ j. leaf ≡ ending_at b l.nodes (prefix ++ j ∷ [])) (sym e) h.1) goes some)
-  kids-reach (Unsplit leaf kids) prefix (k ∷ ns) h n ms (inr past) goes some =
-      behind-unsplit ((prefix ++ n ∷ []) ++ ms) prefix ns k leaf kids (kids-reach kids prefix ns h.2 n ms past goes some)
-  kids-reach (Split numbers sub kids) prefix (k ∷ ns) h n [] (inl e) goes some =
+  siblings-reach : (siblings : Siblings Ending) (prefix ns : List ℕ) → SiblingsFit b (is_split_at l.nodes) (ending_at b l.nodes) prefix ns siblings → (n : ℕ) (ms : List ℕ) → Among n ns → GoesOn b.block (prefix ++ n ∷ []) ms → 0 < standing ((prefix ++ n ∷ []) ++ ms) → IsInSiblings ((prefix ++ n ∷ []) ++ ms) prefix ns siblings
+  siblings-reach siblings prefix [] h n ms among goes some = absurd among
+  siblings-reach NoMore prefix (k ∷ ns) h n ms among goes some = absurd h
+  siblings-reach (Unsplit leaf siblings) prefix (k ∷ ns) h n ms (inl e) goes some =
+      subst (λ j. IsInSiblings ((prefix ++ n ∷ []) ++ ms) prefix (j ∷ ns) (Unsplit leaf siblings)) e
+      (at-unsplit prefix ns n leaf siblings ms (subst (λ j. IsUnsplit (prefix ++ j ∷ [])) (sym e) h.0) (subst (λ j. leaf ≡ ending_at b l.nodes (prefix ++ j ∷ [])) (sym e) h.1) goes some)
+  siblings-reach (Unsplit leaf siblings) prefix (k ∷ ns) h n ms (inr past) goes some =
+      behind-unsplit ((prefix ++ n ∷ []) ++ ms) prefix ns k leaf siblings (siblings-reach siblings prefix ns h.2 n ms past goes some)
+  siblings-reach (Split numbers sub siblings) prefix (k ∷ ns) h n [] (inl e) goes some =
       let at = prefix ++ n ∷ [] in
       let is : IsSplit at = subst (λ j. IsSplit (prefix ++ j ∷ [])) (sym e) h.0 in
-      subst (λ x. IsInKids x prefix (k ∷ ns) (Split numbers sub kids)) (sym (append-nil at)) (inl (is, inl (ap (λ j. prefix ++ j ∷ []) e)))
-  kids-reach (Split numbers sub kids) prefix (k ∷ ns) h n (m ∷ ms) (inl e) goes some =
+      subst (λ x. IsInSiblings x prefix (k ∷ ns) (Split numbers sub siblings)) (sym (append-nil at)) (inl (is, inl (ap (λ j. prefix ++ j ∷ []) e)))
+  siblings-reach (Split numbers sub siblings) prefix (k ∷ ns) h n (m ∷ ms) (inl e) goes some =
       let at = prefix ++ k ∷ [] in
       let same : (at ++ m ∷ []) ++ ms ≡ (prefix ++ n ∷ []) ++ m ∷ ms = append_assoc at (m ∷ []) ms ∙ ap (λ j. (prefix ++ j ∷ []) ++ m ∷ ms) (sym e) in
       let goes2 : GoesOn b.block at (m ∷ ms) = subst (λ j. GoesOn b.block (prefix ++ j ∷ []) (m ∷ ms)) e goes in
       let next : Among m numbers = subst (λ ks. Among m ks) (sym h.1) (among-ready b.block at m goes2.0) in
-      subst (λ x. IsInKids x prefix (k ∷ ns) (Split numbers sub kids)) same
-      (within-split ((at ++ m ∷ []) ++ ms) prefix ns k numbers sub kids (kids-reach sub at numbers h.2 m ms next goes2.1 (subst (λ x. 0 < standing x) (sym same) some)))
-  kids-reach (Split numbers sub kids) prefix (k ∷ ns) h n ms (inr past) goes some =
-      behind-split ((prefix ++ n ∷ []) ++ ms) prefix ns k numbers sub kids (kids-reach kids prefix ns h.3 n ms past goes some)
+      subst (λ x. IsInSiblings x prefix (k ∷ ns) (Split numbers sub siblings)) same
+      (within-split ((at ++ m ∷ []) ++ ms) prefix ns k numbers sub siblings (siblings-reach sub at numbers h.2 m ms next goes2.1 (subst (λ x. 0 < standing x) (sym same) some)))
+  siblings-reach (Split numbers sub siblings) prefix (k ∷ ns) h n ms (inr past) goes some =
+      behind-split ((prefix ++ n ∷ []) ++ ms) prefix ns k numbers sub siblings (siblings-reach siblings prefix ns h.3 n ms past goes some)
 
   abbrev IsInTree : List ℕ → Tree Ending → Type 0
   IsInTree x tree =
       (IsSplit x × Among x (split_at [] tree)) ⊎ (IsUnsplit x × ((v : ℕ) → Among v (values_at x) → Among v (tree_values (ending_values b) [] tree)))
 
-  behind-root : (x numbers : List ℕ) (kids : Kids Ending) → IsInKids x [] numbers kids → IsInTree x (Parted numbers kids)
-  behind-root x numbers kids (inl (is, among)) = inl (is, inr among)
-  behind-root x numbers kids (inr (off, among)) = inr (off, among)
+  behind-root : (x numbers : List ℕ) (siblings : Siblings Ending) → IsInSiblings x [] numbers siblings → IsInTree x (Parted numbers siblings)
+  behind-root x numbers siblings (inl (is, among)) = inl (is, inr among)
+  behind-root x numbers siblings (inr (off, among)) = inr (off, among)
 
   tree-reach : (tree : Tree Ending) → TreeFits b (is_split_at l.nodes) (ending_at b l.nodes) tree → (x : List ℕ) → IsBeginning b.block x → 0 < standing x → IsInTree x tree
   tree-reach (Alone leaf) h [] goes some = subst (λ f. IsInTree [] (Alone f)) (sym h.1) (inr (h.0, λ v is. is))
   tree-reach (Alone leaf) h (n ∷ ns) goes some = absurd (omega (arith, some, none-along ns [] n goes (uncut [] h.0)))
-  tree-reach (Parted numbers kids) h [] goes some = inl (h.0, inl refl)
-  tree-reach (Parted numbers kids) h (n ∷ ns) goes some =
-      behind-root (n ∷ ns) numbers kids (kids-reach kids [] numbers h.2 n ns (subst (λ ms. Among n ms) (sym h.1) (among-ready b.block [] n goes.0)) goes.1 some)
+  tree-reach (Parted numbers siblings) h [] goes some = inl (h.0, inl refl)
+  tree-reach (Parted numbers siblings) h (n ∷ ns) goes some =
+      behind-root (n ∷ ns) numbers siblings (siblings-reach siblings [] numbers h.2 n ns (subst (λ ms. Among n ms) (sym h.1) (among-ready b.block [] n goes.0)) goes.1 some)
 
   -- where nodes are split the tree is
   pub node_tree-keeps : (x : List ℕ) → IsBeginning b.block x → 0 < cuts x → Among x (split_at [] (node_tree b l.nodes))

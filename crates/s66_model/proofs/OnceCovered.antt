@@ -5,10 +5,10 @@ use Rattle.s66_isa.specs.Lists.{tally, rising}
 use Rattle.s66_model.specs.Timing.{Problem}
 use Rattle.s66_model.specs.LegalOrder.{IsLegal, IsIncomplete, is_ready, ready, GoesOn}
 use Rattle.s66_model.specs.Leaves.{Leaf, value}
-use Rattle.s66_model.specs.Tree.{Tree, Alone, Parted, Kids, NoMore, Unsplit, Split, KidsHold, TreeHolds, kid_splits, splits}
+use Rattle.s66_model.specs.Tree.{Tree, Alone, Parted, Siblings, NoMore, Unsplit, Split, SiblingsHold, TreeHolds, sibling_splits, splits}
 use Rattle.s66_model.specs.DominatedLeaves.{Bounding}
-use Rattle.s66_model.specs.Piece.{Tip, Carries, Frontier, Passed}
-use Rattle.s66_model.specs.Ledger.{Open, Closed, is_cut, state_of, kid_nodes, root_state, new_nodes}
+use Rattle.s66_model.specs.Piece.{Terminal, Carries, Frontier, Passed}
+use Rattle.s66_model.specs.Ledger.{Open, Closed, is_cut, state_of, sibling_nodes, root_state, new_nodes}
 use Rattle.s66_model.specs.Coverage.{begins, covers}
 use Rattle.s66_isa.proofs.Lists.{tally-append, tally-none, tally-same}
 use Rattle.s66_model.proofs.LegalOrders.{legal-order, GoesOn-append, ready-parts}
@@ -92,30 +92,30 @@ module _ (b : Problem) (order : List ℕ) (legal : IsLegal b.block order) where
         | inr is ↦ rw (is, tally-none (λ n. begins (prefix ++ n ∷ []) order) (λ n. begins-not prefix (n ∷ []) order is) (ready b.block prefix)) refl
       ]
 
-  uncut : (best : ℕ) (at : List ℕ) (tip : Tip) → covers order (record { prefix = at; state = state_of b best at tip }) ≡ begins at order
+  uncut : (best : ℕ) (at : List ℕ) (terminal : Terminal) → covers order (record { prefix = at; state = state_of b best at terminal }) ≡ begins at order
   uncut best at (Carries leaf) = uncut_either order at leaf (leb best (value b at leaf))
   uncut best at Frontier = refl
   uncut best at (Passed name) = refl
 
-  kids-once : (best : ℕ) (Q : List ℕ → Tip → Type 0) (kids : Kids Tip) (prefix ns : List ℕ) → KidsHold b.block Q prefix ns kids → tally (covers order) (kid_nodes b best prefix ns kids) ≡ tally (λ n. begins (prefix ++ n ∷ []) order) ns
-  kids-once best Q NoMore prefix [] holds = refl
-  kids-once best Q NoMore prefix (n ∷ ns) holds = absurd holds
-  kids-once best Q (Unsplit tip kids) prefix [] holds = refl
-  kids-once best Q (Unsplit tip kids) prefix (n ∷ ns) holds =
-      rw (uncut best (prefix ++ n ∷ []) tip) (omega (arith, kids-once best Q kids prefix ns holds.1))
-  kids-once best Q (Split numbers sub kids) prefix [] holds = refl
-  kids-once best Q (Split numbers sub kids) prefix (n ∷ ns) holds =
+  siblings-once : (best : ℕ) (Q : List ℕ → Terminal → Type 0) (siblings : Siblings Terminal) (prefix ns : List ℕ) → SiblingsHold b.block Q prefix ns siblings → tally (covers order) (sibling_nodes b best prefix ns siblings) ≡ tally (λ n. begins (prefix ++ n ∷ []) order) ns
+  siblings-once best Q NoMore prefix [] holds = refl
+  siblings-once best Q NoMore prefix (n ∷ ns) holds = absurd holds
+  siblings-once best Q (Unsplit terminal siblings) prefix [] holds = refl
+  siblings-once best Q (Unsplit terminal siblings) prefix (n ∷ ns) holds =
+      rw (uncut best (prefix ++ n ∷ []) terminal) (omega (arith, siblings-once best Q siblings prefix ns holds.1))
+  siblings-once best Q (Split numbers sub siblings) prefix [] holds = refl
+  siblings-once best Q (Split numbers sub siblings) prefix (n ∷ ns) holds =
       let at = prefix ++ n ∷ [] in
-      let below : tally (covers order) (kid_nodes b best at numbers sub) ≡ tally (λ m. begins (at ++ m ∷ []) order) numbers = kids-once best Q sub at numbers holds.2 in
+      let below : tally (covers order) (sibling_nodes b best at numbers sub) ≡ tally (λ m. begins (at ++ m ∷ []) order) numbers = siblings-once best Q sub at numbers holds.2 in
       let one : tally (λ m. begins (at ++ m ∷ []) order) numbers ≡ cond (begins at order) 1 0 = rw holds.1 (ready-once at holds.0) in
-      omega (arith, below, one, kids-once best Q kids prefix ns holds.3, tally-append (covers order) (kid_nodes b best at numbers sub) (kid_nodes b best prefix ns kids))
+      omega (arith, below, one, siblings-once best Q siblings prefix ns holds.3, tally-append (covers order) (sibling_nodes b best at numbers sub) (sibling_nodes b best prefix ns siblings))
 
   -- the root and the new nodes together cover an order that begins with the prefix once
-  pub tree-once : (best : ℕ) (Q : List ℕ → Tip → Type 0) (prefix : List ℕ) (tree : Tree Tip) → TreeHolds b.block Q prefix tree → cond (covers order (record { prefix = prefix; state = root_state b best prefix tree })) 1 0 + tally (covers order) (new_nodes b best prefix tree) ≡ cond (begins prefix order) 1 0
-  tree-once best Q prefix (Alone tip) holds = rw (uncut best prefix tip) (omega arith)
-  tree-once best Q prefix (Parted numbers kids) holds =
+  pub tree-once : (best : ℕ) (Q : List ℕ → Terminal → Type 0) (prefix : List ℕ) (tree : Tree Terminal) → TreeHolds b.block Q prefix tree → cond (covers order (record { prefix = prefix; state = root_state b best prefix tree })) 1 0 + tally (covers order) (new_nodes b best prefix tree) ≡ cond (begins prefix order) 1 0
+  tree-once best Q prefix (Alone terminal) holds = rw (uncut best prefix terminal) (omega arith)
+  tree-once best Q prefix (Parted numbers siblings) holds =
       let one : tally (λ m. begins (prefix ++ m ∷ []) order) numbers ≡ cond (begins prefix order) 1 0 = rw holds.1 (ready-once prefix holds.0) in
-      omega (arith, one, kids-once best Q kids prefix numbers holds.2)
+      omega (arith, one, siblings-once best Q siblings prefix numbers holds.2)
 
 -- THE SPLIT NODES ARE THE SPLITS
 
@@ -123,21 +123,21 @@ cut_either : (at : List ℕ) (leaf : Leaf) (t : Bool) → is_cut (record { prefi
 cut_either at leaf true = refl
 cut_either at leaf false = refl
 
-pub cut_none : (b : Problem) (best : ℕ) (at : List ℕ) (tip : Tip) → is_cut (record { prefix = at; state = state_of b best at tip }) ≡ false
+pub cut_none : (b : Problem) (best : ℕ) (at : List ℕ) (terminal : Terminal) → is_cut (record { prefix = at; state = state_of b best at terminal }) ≡ false
 cut_none b best at (Carries leaf) = cut_either at leaf (leb best (value b at leaf))
 cut_none b best at Frontier = refl
 cut_none b best at (Passed name) = refl
 
-kids-cut : (b : Problem) (best : ℕ) (Q : List ℕ → Tip → Type 0) (kids : Kids Tip) (prefix ns : List ℕ) → KidsHold b.block Q prefix ns kids → tally is_cut (kid_nodes b best prefix ns kids) ≡ kid_splits kids
-kids-cut b best Q NoMore prefix [] holds = refl
-kids-cut b best Q NoMore prefix (n ∷ ns) holds = absurd holds
-kids-cut b best Q (Unsplit tip kids) prefix [] holds = absurd holds
-kids-cut b best Q (Unsplit tip kids) prefix (n ∷ ns) holds =
-    rw (cut_none b best (prefix ++ n ∷ []) tip) (omega (arith, kids-cut b best Q kids prefix ns holds.1))
-kids-cut b best Q (Split numbers sub kids) prefix [] holds = absurd holds
-kids-cut b best Q (Split numbers sub kids) prefix (n ∷ ns) holds =
-    omega (arith, kids-cut b best Q sub (prefix ++ n ∷ []) numbers holds.2, kids-cut b best Q kids prefix ns holds.3, tally-append is_cut (kid_nodes b best (prefix ++ n ∷ []) numbers sub) (kid_nodes b best prefix ns kids))
+siblings-cut : (b : Problem) (best : ℕ) (Q : List ℕ → Terminal → Type 0) (siblings : Siblings Terminal) (prefix ns : List ℕ) → SiblingsHold b.block Q prefix ns siblings → tally is_cut (sibling_nodes b best prefix ns siblings) ≡ sibling_splits siblings
+siblings-cut b best Q NoMore prefix [] holds = refl
+siblings-cut b best Q NoMore prefix (n ∷ ns) holds = absurd holds
+siblings-cut b best Q (Unsplit terminal siblings) prefix [] holds = absurd holds
+siblings-cut b best Q (Unsplit terminal siblings) prefix (n ∷ ns) holds =
+    rw (cut_none b best (prefix ++ n ∷ []) terminal) (omega (arith, siblings-cut b best Q siblings prefix ns holds.1))
+siblings-cut b best Q (Split numbers sub siblings) prefix [] holds = absurd holds
+siblings-cut b best Q (Split numbers sub siblings) prefix (n ∷ ns) holds =
+    omega (arith, siblings-cut b best Q sub (prefix ++ n ∷ []) numbers holds.2, siblings-cut b best Q siblings prefix ns holds.3, tally-append is_cut (sibling_nodes b best (prefix ++ n ∷ []) numbers sub) (sibling_nodes b best prefix ns siblings))
 
-pub tree-cut : (b : Problem) (best : ℕ) (Q : List ℕ → Tip → Type 0) (prefix : List ℕ) (tree : Tree Tip) → TreeHolds b.block Q prefix tree → cond (is_cut (record { prefix = prefix; state = root_state b best prefix tree })) 1 0 + tally is_cut (new_nodes b best prefix tree) ≡ splits tree
-tree-cut b best Q prefix (Alone tip) holds = rw (cut_none b best prefix tip) (omega arith)
-tree-cut b best Q prefix (Parted numbers kids) holds = omega (arith, kids-cut b best Q kids prefix numbers holds.2)
+pub tree-cut : (b : Problem) (best : ℕ) (Q : List ℕ → Terminal → Type 0) (prefix : List ℕ) (tree : Tree Terminal) → TreeHolds b.block Q prefix tree → cond (is_cut (record { prefix = prefix; state = root_state b best prefix tree })) 1 0 + tally is_cut (new_nodes b best prefix tree) ≡ splits tree
+tree-cut b best Q prefix (Alone terminal) holds = rw (cut_none b best prefix terminal) (omega arith)
+tree-cut b best Q prefix (Parted numbers siblings) holds = omega (arith, siblings-cut b best Q siblings prefix numbers holds.2)

@@ -6,10 +6,10 @@ use Rattle.s66_isa.specs.Table.{numbers}
 use Rattle.s66_model.specs.declared.rule.Rule.{Rule}
 use Rattle.s66_model.specs.Timing.{Problem, total_of}
 use Rattle.s66_model.specs.LegalOrder.{is_ready, ready, IsBeginning, IsIncomplete}
-use Rattle.s66_model.specs.Tree.{Kids, NoMore, Unsplit, Split, Tree, Alone, Parted, KidsHold, TreeHolds}
-use Rattle.s66_model.specs.Piece.{Tip, TipHolds, IsPiece}
+use Rattle.s66_model.specs.Tree.{Siblings, NoMore, Unsplit, Split, Tree, Alone, Parted, SiblingsHold, TreeHolds}
+use Rattle.s66_model.specs.Piece.{Terminal, TerminalHolds, IsPiece}
 use Rattle.s66_model.specs.Answer.{source_time}
-use Rattle.s66_model.specs.Ledger.{Ledger, Node, State, Open, Out, Cut, is_cut, is_cut_state, node_at, no_node, with_state, state_of, root_state, kid_nodes, new_nodes, best_time, after_move, after_graft, opening, IsOut, Event, Grant, Claim, Graft, Offer, Back, Retire, Reply, Granted, Claimed, Taken, NotOut, OtherPrefix, OverAllowance, Lower, NotLower, OtherBlock, Returned, Retired, Moves, Run}
+use Rattle.s66_model.specs.Ledger.{Ledger, Node, State, Open, Out, Cut, is_cut, is_cut_state, node_at, no_node, with_state, state_of, root_state, sibling_nodes, new_nodes, best_time, after_move, after_graft, opening, IsOut, Event, Grant, Claim, Graft, Offer, Back, Retire, Reply, Granted, Claimed, Taken, NotOut, OtherPrefix, OverAllowance, Lower, NotLower, OtherBlock, Returned, Retired, Moves, Run}
 use Rattle.s66_model.specs.Coverage.{NodesHold}
 use Rattle.s66_model.specs.NodeTable.{same_numbers, stands_at, is_cut_at, IsTable}
 use Rattle.s66_isa.proofs.Lists.{tally-append, tally-set, tally-none, tally-same}
@@ -61,25 +61,25 @@ module _ (b : Problem) (at : List ℕ) (m : ℕ) (now : is_ready b.block at m �
       tally-same (λ n. same_numbers (prefix ++ n ∷ []) (at ++ m ∷ [])) (λ n. same_numbers prefix at && eqb n m) (λ n. same-push prefix at n m) (ready b.block prefix)
       ∙ ready-same_by prefix (same_numbers prefix at) (λ e. sym (same-is prefix at e))
 
-  kids-table : (best : ℕ) (Q : List ℕ → Tip → Type 0) (kids : Kids Tip) (prefix ns : List ℕ) → KidsHold b.block Q prefix ns kids → tally (stands_at (at ++ m ∷ [])) (kid_nodes b best prefix ns kids) ≡ tally (is_cut_at at) (kid_nodes b best prefix ns kids) + tally (λ n. same_numbers (prefix ++ n ∷ []) (at ++ m ∷ [])) ns
-  kids-table best Q NoMore prefix [] holds = refl
-  kids-table best Q NoMore prefix (n ∷ ns) holds = absurd holds
-  kids-table best Q (Unsplit tip kids) prefix [] holds = absurd holds
-  kids-table best Q (Unsplit tip kids) prefix (n ∷ ns) holds =
-      rw (cut_none b best (prefix ++ n ∷ []) tip) (omega (arith, kids-table best Q kids prefix ns holds.1))
-  kids-table best Q (Split numbers sub kids) prefix [] holds = absurd holds
-  kids-table best Q (Split numbers sub kids) prefix (n ∷ ns) holds =
+  siblings-table : (best : ℕ) (Q : List ℕ → Terminal → Type 0) (siblings : Siblings Terminal) (prefix ns : List ℕ) → SiblingsHold b.block Q prefix ns siblings → tally (stands_at (at ++ m ∷ [])) (sibling_nodes b best prefix ns siblings) ≡ tally (is_cut_at at) (sibling_nodes b best prefix ns siblings) + tally (λ n. same_numbers (prefix ++ n ∷ []) (at ++ m ∷ [])) ns
+  siblings-table best Q NoMore prefix [] holds = refl
+  siblings-table best Q NoMore prefix (n ∷ ns) holds = absurd holds
+  siblings-table best Q (Unsplit terminal siblings) prefix [] holds = absurd holds
+  siblings-table best Q (Unsplit terminal siblings) prefix (n ∷ ns) holds =
+      rw (cut_none b best (prefix ++ n ∷ []) terminal) (omega (arith, siblings-table best Q siblings prefix ns holds.1))
+  siblings-table best Q (Split numbers sub siblings) prefix [] holds = absurd holds
+  siblings-table best Q (Split numbers sub siblings) prefix (n ∷ ns) holds =
       let here = prefix ++ n ∷ [] in
       let one : tally (λ k. same_numbers (here ++ k ∷ []) (at ++ m ∷ [])) numbers ≡ cond (same_numbers here at) 1 0 = rw holds.1 (ready-same here) in
-      omega (arith, one, kids-table best Q sub here numbers holds.2, kids-table best Q kids prefix ns holds.3, tally-append (stands_at (at ++ m ∷ [])) (kid_nodes b best here numbers sub) (kid_nodes b best prefix ns kids), tally-append (is_cut_at at) (kid_nodes b best here numbers sub) (kid_nodes b best prefix ns kids))
+      omega (arith, one, siblings-table best Q sub here numbers holds.2, siblings-table best Q siblings prefix ns holds.3, tally-append (stands_at (at ++ m ∷ [])) (sibling_nodes b best here numbers sub) (sibling_nodes b best prefix ns siblings), tally-append (is_cut_at at) (sibling_nodes b best here numbers sub) (sibling_nodes b best prefix ns siblings))
 
-  new-table : (best : ℕ) (Q : List ℕ → Tip → Type 0) (prefix : List ℕ) (tree : Tree Tip) → TreeHolds b.block Q prefix tree → tally (stands_at (at ++ m ∷ [])) (new_nodes b best prefix tree) ≡ tally (is_cut_at at) (new_nodes b best prefix tree) + cond (is_cut_at at (record { prefix = prefix; state = root_state b best prefix tree })) 1 0
-  new-table best Q prefix (Alone tip) holds = rw (cut_none b best prefix tip) refl
-  new-table best Q prefix (Parted numbers kids) holds =
+  new-table : (best : ℕ) (Q : List ℕ → Terminal → Type 0) (prefix : List ℕ) (tree : Tree Terminal) → TreeHolds b.block Q prefix tree → tally (stands_at (at ++ m ∷ [])) (new_nodes b best prefix tree) ≡ tally (is_cut_at at) (new_nodes b best prefix tree) + cond (is_cut_at at (record { prefix = prefix; state = root_state b best prefix tree })) 1 0
+  new-table best Q prefix (Alone terminal) holds = rw (cut_none b best prefix terminal) refl
+  new-table best Q prefix (Parted numbers siblings) holds =
       let one : tally (λ k. same_numbers (prefix ++ k ∷ []) (at ++ m ∷ [])) numbers ≡ cond (same_numbers prefix at) 1 0 = rw holds.1 (ready-same prefix) in
-      omega (arith, one, kids-table best Q kids prefix numbers holds.2)
+      omega (arith, one, siblings-table best Q siblings prefix numbers holds.2)
 
-  graft-children : (best : ℕ) (Q : List ℕ → Tip → Type 0) (nodes : List Node) (i : ℕ) (tree : Tree Tip) → i < length nodes → (node_at nodes i).state ≡ Out → TreeHolds b.block Q (node_at nodes i).prefix tree → tally (stands_at (at ++ m ∷ [])) nodes ≡ tally (is_cut_at at) nodes → tally (stands_at (at ++ m ∷ [])) (with_state nodes i (root_state b best (node_at nodes i).prefix tree) ++ new_nodes b best (node_at nodes i).prefix tree) ≡ tally (is_cut_at at) (with_state nodes i (root_state b best (node_at nodes i).prefix tree) ++ new_nodes b best (node_at nodes i).prefix tree)
+  graft-children : (best : ℕ) (Q : List ℕ → Terminal → Type 0) (nodes : List Node) (i : ℕ) (tree : Tree Terminal) → i < length nodes → (node_at nodes i).state ≡ Out → TreeHolds b.block Q (node_at nodes i).prefix tree → tally (stands_at (at ++ m ∷ [])) nodes ≡ tally (is_cut_at at) nodes → tally (stands_at (at ++ m ∷ [])) (with_state nodes i (root_state b best (node_at nodes i).prefix tree) ++ new_nodes b best (node_at nodes i).prefix tree) ≡ tally (is_cut_at at) (with_state nodes i (root_state b best (node_at nodes i).prefix tree) ++ new_nodes b best (node_at nodes i).prefix tree)
   graft-children best Q nodes i tree lt out piece h =
       let prefix = (node_at nodes i).prefix in
       let y : Node = record { prefix = prefix; state = root_state b best prefix tree } in
@@ -88,17 +88,17 @@ module _ (b : Problem) (at : List ℕ) (m : ℕ) (now : is_ready b.block at m �
 
 -- THE ROOT
 
-kids-no_root : (b : Problem) (best : ℕ) (kids : Kids Tip) (prefix ns : List ℕ) → tally (stands_at []) (kid_nodes b best prefix ns kids) ≡ 0
-kids-no_root b best kids prefix [] = refl
-kids-no_root b best NoMore prefix (n ∷ ns) = refl
-kids-no_root b best (Unsplit tip kids) prefix (n ∷ ns) = rw (push_nil prefix n) (omega (arith, kids-no_root b best kids prefix ns))
-kids-no_root b best (Split numbers sub kids) prefix (n ∷ ns) =
+siblings-no_root : (b : Problem) (best : ℕ) (siblings : Siblings Terminal) (prefix ns : List ℕ) → tally (stands_at []) (sibling_nodes b best prefix ns siblings) ≡ 0
+siblings-no_root b best siblings prefix [] = refl
+siblings-no_root b best NoMore prefix (n ∷ ns) = refl
+siblings-no_root b best (Unsplit terminal siblings) prefix (n ∷ ns) = rw (push_nil prefix n) (omega (arith, siblings-no_root b best siblings prefix ns))
+siblings-no_root b best (Split numbers sub siblings) prefix (n ∷ ns) =
     rw (push_nil prefix n)
-    (omega (arith, tally-append (stands_at []) (kid_nodes b best (prefix ++ n ∷ []) numbers sub) (kid_nodes b best prefix ns kids), kids-no_root b best sub (prefix ++ n ∷ []) numbers, kids-no_root b best kids prefix ns))
+    (omega (arith, tally-append (stands_at []) (sibling_nodes b best (prefix ++ n ∷ []) numbers sub) (sibling_nodes b best prefix ns siblings), siblings-no_root b best sub (prefix ++ n ∷ []) numbers, siblings-no_root b best siblings prefix ns))
 
-new-no_root : (b : Problem) (best : ℕ) (prefix : List ℕ) (tree : Tree Tip) → tally (stands_at []) (new_nodes b best prefix tree) ≡ 0
-new-no_root b best prefix (Alone tip) = refl
-new-no_root b best prefix (Parted numbers kids) = kids-no_root b best kids prefix numbers
+new-no_root : (b : Problem) (best : ℕ) (prefix : List ℕ) (tree : Tree Terminal) → tally (stands_at []) (new_nodes b best prefix tree) ≡ 0
+new-no_root b best prefix (Alone terminal) = refl
+new-no_root b best prefix (Parted numbers siblings) = siblings-no_root b best siblings prefix numbers
 
 state-stands : (at : List ℕ) (nodes : List Node) (i : ℕ) (state : State) → i < length nodes → tally (stands_at at) (with_state nodes i state) ≡ tally (stands_at at) nodes
 state-stands at nodes i state lt =
@@ -124,25 +124,25 @@ cuts-append : (b : Problem) (nodes others : List Node) → CutsHold b nodes → 
 cuts-append b [] others h k = k
 cuts-append b (x ∷ nodes) others h k = (h.0, cuts-append b nodes others h.1 k)
 
-uncut : (b : Problem) (best : ℕ) (at : List ℕ) (tip : Tip) → state_of b best at tip ≢ Cut
-uncut b best at tip e = true≢false (sym (ap is_cut_state e) ∙ cut_none b best at tip)
+uncut : (b : Problem) (best : ℕ) (at : List ℕ) (terminal : Terminal) → state_of b best at terminal ≢ Cut
+uncut b best at terminal e = true≢false (sym (ap is_cut_state e) ∙ cut_none b best at terminal)
 
-kids-cuts : (b : Problem) (best : ℕ) (Q : List ℕ → Tip → Type 0) (kids : Kids Tip) (prefix ns : List ℕ) → KidsHold b.block Q prefix ns kids → CutsHold b (kid_nodes b best prefix ns kids)
-kids-cuts b best Q NoMore prefix [] h = tt
-kids-cuts b best Q NoMore prefix (n ∷ ns) h = absurd h
-kids-cuts b best Q (Unsplit tip kids) prefix [] h = absurd h
-kids-cuts b best Q (Unsplit tip kids) prefix (n ∷ ns) h = (λ e. absurd (uncut b best (prefix ++ n ∷ []) tip e), kids-cuts b best Q kids prefix ns h.1)
-kids-cuts b best Q (Split numbers sub kids) prefix [] h = absurd h
-kids-cuts b best Q (Split numbers sub kids) prefix (n ∷ ns) h =
-    (λ e. h.0, cuts-append b (kid_nodes b best (prefix ++ n ∷ []) numbers sub) (kid_nodes b best prefix ns kids) (kids-cuts b best Q sub (prefix ++ n ∷ []) numbers h.2) (kids-cuts b best Q kids prefix ns h.3))
+siblings-cuts : (b : Problem) (best : ℕ) (Q : List ℕ → Terminal → Type 0) (siblings : Siblings Terminal) (prefix ns : List ℕ) → SiblingsHold b.block Q prefix ns siblings → CutsHold b (sibling_nodes b best prefix ns siblings)
+siblings-cuts b best Q NoMore prefix [] h = tt
+siblings-cuts b best Q NoMore prefix (n ∷ ns) h = absurd h
+siblings-cuts b best Q (Unsplit terminal siblings) prefix [] h = absurd h
+siblings-cuts b best Q (Unsplit terminal siblings) prefix (n ∷ ns) h = (λ e. absurd (uncut b best (prefix ++ n ∷ []) terminal e), siblings-cuts b best Q siblings prefix ns h.1)
+siblings-cuts b best Q (Split numbers sub siblings) prefix [] h = absurd h
+siblings-cuts b best Q (Split numbers sub siblings) prefix (n ∷ ns) h =
+    (λ e. h.0, cuts-append b (sibling_nodes b best (prefix ++ n ∷ []) numbers sub) (sibling_nodes b best prefix ns siblings) (siblings-cuts b best Q sub (prefix ++ n ∷ []) numbers h.2) (siblings-cuts b best Q siblings prefix ns h.3))
 
-new-cuts : (b : Problem) (best : ℕ) (Q : List ℕ → Tip → Type 0) (prefix : List ℕ) (tree : Tree Tip) → TreeHolds b.block Q prefix tree → CutsHold b (new_nodes b best prefix tree)
-new-cuts b best Q prefix (Alone tip) h = tt
-new-cuts b best Q prefix (Parted numbers kids) h = kids-cuts b best Q kids prefix numbers h.2
+new-cuts : (b : Problem) (best : ℕ) (Q : List ℕ → Terminal → Type 0) (prefix : List ℕ) (tree : Tree Terminal) → TreeHolds b.block Q prefix tree → CutsHold b (new_nodes b best prefix tree)
+new-cuts b best Q prefix (Alone terminal) h = tt
+new-cuts b best Q prefix (Parted numbers siblings) h = siblings-cuts b best Q siblings prefix numbers h.2
 
-root-cuts : (b : Problem) (best : ℕ) (Q : List ℕ → Tip → Type 0) (prefix : List ℕ) (tree : Tree Tip) → TreeHolds b.block Q prefix tree → root_state b best prefix tree ≡ Cut → IsIncomplete b.block prefix
-root-cuts b best Q prefix (Alone tip) h e = absurd (uncut b best prefix tip e)
-root-cuts b best Q prefix (Parted numbers kids) h e = h.0
+root-cuts : (b : Problem) (best : ℕ) (Q : List ℕ → Terminal → Type 0) (prefix : List ℕ) (tree : Tree Terminal) → TreeHolds b.block Q prefix tree → root_state b best prefix tree ≡ Cut → IsIncomplete b.block prefix
+root-cuts b best Q prefix (Alone terminal) h e = absurd (uncut b best prefix terminal e)
+root-cuts b best Q prefix (Parted numbers siblings) h e = h.0
 
 -- NO NODE STANDS AT A PREFIX THAT IS NO BEGINNING
 
@@ -202,11 +202,11 @@ module _ (rule : Rule) (b : Problem) where
         first = h.first;
       }
 
-  after_graft-keeps : (l : Ledger) (w i : ℕ) (tree : Tree Tip) → IsOut l i → IsPiece rule b (node_at l.nodes i).prefix tree → Keeps b l → Keeps b (after_graft b l w i (node_at l.nodes i).prefix tree)
+  after_graft-keeps : (l : Ledger) (w i : ℕ) (tree : Tree Terminal) → IsOut l i → IsPiece rule b (node_at l.nodes i).prefix tree → Keeps b l → Keeps b (after_graft b l w i (node_at l.nodes i).prefix tree)
   after_graft-keeps l w i tree out piece h =
       let prefix = (node_at l.nodes i).prefix in
       let best = best_time b l in
-      let Q = TipHolds rule b prefix tree in
+      let Q = TerminalHolds rule b prefix tree in
       let state = root_state b best prefix tree in
       let node : Node = record { prefix = prefix; state = state } in
       record {

@@ -5,8 +5,8 @@ use Rattle.std.proofs.lemmas.List.{append-nil}
 use Rattle.s66_isa.specs.declared.instr.Instr.{Instr}
 use Rattle.s66_model.specs.LegalOrder.{ready, IsIncomplete}
 use Rattle.s66_model.specs.Leaves.{Leaf}
-use Rattle.s66_model.specs.Tree.{Kids, NoMore, Unsplit, Split, Tree, Alone, Parted, KidsHold, TreeHolds}
-use Rattle.s66_model.specs.NodeNames.{tip_at, kid_at, node_at, is_node}
+use Rattle.s66_model.specs.Tree.{Siblings, NoMore, Unsplit, Split, Tree, Alone, Parted, SiblingsHold, TreeHolds}
+use Rattle.s66_model.specs.NodeNames.{terminal_at, sibling_at, node_at, is_node}
 use Rattle.s66_model.specs.DominatedLeaves.{Ending, Bounding, Dominated, is_standing}
 
 -- a node's name goes on from the prefix
@@ -25,50 +25,50 @@ node-begins (n ∷ prefix) tree (m ∷ name) h =
 -- what a node that is no dominated leaf has: a leaf that bounds, or children
 abbrev pub Standing : (List ℕ → Ending → Type 0) → List Instr → List ℕ → Type 0
 Standing Q block at =
-    ((leaf : Leaf) × Q at (Bounding leaf)) ⊎ ((numbers : List ℕ) × (kids : Kids Ending) × IsIncomplete block at × (numbers ≡ ready block at) × KidsHold block Q at numbers kids)
+    ((leaf : Leaf) × Q at (Bounding leaf)) ⊎ ((numbers : List ℕ) × (siblings : Siblings Ending) × IsIncomplete block at × (numbers ≡ ready block at) × SiblingsHold block Q at numbers siblings)
 
 module _ (block : List Instr) (Q : List ℕ → Ending → Type 0) where
-  tip-stands : (tip : Ending) (at path : List ℕ) → Q at tip → is_standing (tip_at tip path) ≡ true → Standing Q block (at ++ path)
-  tip-stands (Bounding leaf) at [] holds h = inl (leaf, subst (λ x. Q x (Bounding leaf)) (sym (append-nil at)) holds)
-  tip-stands (Bounding leaf) at (n ∷ path) holds h = absurd cc
-  tip-stands (Dominated name) at [] holds h = absurd cc
-  tip-stands (Dominated name) at (n ∷ path) holds h = absurd cc
+  terminal-stands : (terminal : Ending) (at path : List ℕ) → Q at terminal → is_standing (terminal_at terminal path) ≡ true → Standing Q block (at ++ path)
+  terminal-stands (Bounding leaf) at [] holds h = inl (leaf, subst (λ x. Q x (Bounding leaf)) (sym (append-nil at)) holds)
+  terminal-stands (Bounding leaf) at (n ∷ path) holds h = absurd cc
+  terminal-stands (Dominated name) at [] holds h = absurd cc
+  terminal-stands (Dominated name) at (n ∷ path) holds h = absurd cc
 
   longer : (at path : List ℕ) (n : ℕ) → Standing Q block ((at ++ n ∷ []) ++ path) → Standing Q block (at ++ n ∷ path)
   longer at path n h = subst (λ x. Standing Q block x) (append_assoc at (n ∷ []) path) h
 
-  kid-stands : (kids : Kids Ending) (at ns : List ℕ) (n : ℕ) (path : List ℕ) → KidsHold block Q at ns kids → is_standing (kid_at ns kids (n ∷ path)) ≡ true → Standing Q block (at ++ n ∷ path)
-  kid-stands NoMore at [] n path holds h = absurd cc
-  kid-stands NoMore at (m ∷ ns) n path holds h = absurd holds
-  kid-stands (Unsplit tip kids) at [] n path holds h = absurd holds
-  kid-stands (Unsplit tip kids) at (m ∷ ns) n path holds h =
+  sibling-stands : (siblings : Siblings Ending) (at ns : List ℕ) (n : ℕ) (path : List ℕ) → SiblingsHold block Q at ns siblings → is_standing (sibling_at ns siblings (n ∷ path)) ≡ true → Standing Q block (at ++ n ∷ path)
+  sibling-stands NoMore at [] n path holds h = absurd cc
+  sibling-stands NoMore at (m ∷ ns) n path holds h = absurd holds
+  sibling-stands (Unsplit terminal siblings) at [] n path holds h = absurd holds
+  sibling-stands (Unsplit terminal siblings) at (m ∷ ns) n path holds h =
       elim (cases_Bool (eqb m n)) [
         | inl is ↦
-            (let hold : Q (at ++ n ∷ []) tip = subst (λ x. Q (at ++ x ∷ []) tip) (eqb-true m n is) holds.0 in
-            longer at path n (tip-stands tip (at ++ n ∷ []) path hold (rw is at h)))
-        | inr is ↦ kid-stands kids at ns n path holds.1 (rw is at h)
+            (let hold : Q (at ++ n ∷ []) terminal = subst (λ x. Q (at ++ x ∷ []) terminal) (eqb-true m n is) holds.0 in
+            longer at path n (terminal-stands terminal (at ++ n ∷ []) path hold (rw is at h)))
+        | inr is ↦ sibling-stands siblings at ns n path holds.1 (rw is at h)
       ]
-  kid-stands (Split numbers sub kids) at [] n path holds h = absurd holds
-  kid-stands (Split numbers sub kids) at (m ∷ ns) n [] holds h =
+  sibling-stands (Split numbers sub siblings) at [] n path holds h = absurd holds
+  sibling-stands (Split numbers sub siblings) at (m ∷ ns) n [] holds h =
       elim (cases_Bool (eqb m n)) [
         | inl is ↦
             (let e : m ≡ n = eqb-true m n is in
-            inr (numbers, sub, subst (λ x. IsIncomplete block (at ++ x ∷ [])) e holds.0, subst (λ x. numbers ≡ ready block (at ++ x ∷ [])) e holds.1, subst (λ x. KidsHold block Q (at ++ x ∷ []) numbers sub) e holds.2))
-        | inr is ↦ kid-stands kids at ns n [] holds.3 (rw is at h)
+            inr (numbers, sub, subst (λ x. IsIncomplete block (at ++ x ∷ [])) e holds.0, subst (λ x. numbers ≡ ready block (at ++ x ∷ [])) e holds.1, subst (λ x. SiblingsHold block Q (at ++ x ∷ []) numbers sub) e holds.2))
+        | inr is ↦ sibling-stands siblings at ns n [] holds.3 (rw is at h)
       ]
-  kid-stands (Split numbers sub kids) at (m ∷ ns) n (k ∷ path) holds h =
+  sibling-stands (Split numbers sub siblings) at (m ∷ ns) n (k ∷ path) holds h =
       elim (cases_Bool (eqb m n)) [
         | inl is ↦
-            (let below : KidsHold block Q (at ++ n ∷ []) numbers sub = subst (λ x. KidsHold block Q (at ++ x ∷ []) numbers sub) (eqb-true m n is) holds.2 in
-            longer at (k ∷ path) n (kid-stands sub (at ++ n ∷ []) numbers k path below (rw is at h)))
-        | inr is ↦ kid-stands kids at ns n (k ∷ path) holds.3 (rw is at h)
+            (let below : SiblingsHold block Q (at ++ n ∷ []) numbers sub = subst (λ x. SiblingsHold block Q (at ++ x ∷ []) numbers sub) (eqb-true m n is) holds.2 in
+            longer at (k ∷ path) n (sibling-stands sub (at ++ n ∷ []) numbers k path below (rw is at h)))
+        | inr is ↦ sibling-stands siblings at ns n (k ∷ path) holds.3 (rw is at h)
       ]
 
   stands-after : (prefix front : List ℕ) (tree : Tree Ending) (name : List ℕ) → TreeHolds block Q (front ++ prefix) tree → is_standing (node_at prefix tree name) ≡ true → Standing Q block (front ++ name)
-  stands-after [] front (Alone tip) name holds h = tip-stands tip front name (rw (append-nil front) at holds) h
-  stands-after [] front (Parted numbers kids) [] holds h = inr (numbers, kids, holds.0, holds.1, holds.2)
-  stands-after [] front (Parted numbers kids) (n ∷ path) holds h =
-      kid-stands kids front numbers n path (subst (λ x. KidsHold block Q x numbers kids) (append-nil front) holds.2) h
+  stands-after [] front (Alone terminal) name holds h = terminal-stands terminal front name (rw (append-nil front) at holds) h
+  stands-after [] front (Parted numbers siblings) [] holds h = inr (numbers, siblings, holds.0, holds.1, holds.2)
+  stands-after [] front (Parted numbers siblings) (n ∷ path) holds h =
+      sibling-stands siblings front numbers n path (subst (λ x. SiblingsHold block Q x numbers siblings) (append-nil front) holds.2) h
   stands-after (n ∷ prefix) front tree [] holds h = absurd cc
   stands-after (n ∷ prefix) front tree (m ∷ name) holds h =
       elim (cases_Bool (eqb n m)) [

@@ -88,7 +88,7 @@ account_at s w = get_or s.accounts (w - 1) no_account
 -- WHAT A SEAT KEEPS
 
 -- of worker who: the ledger's rule, block, profile and budget, the worker's account, and the least time that the seat opened with, read, offered or was answered
-pub record Passbook : Type 0 where
+pub record SeatRecord : Type 0 where
   pub who : ℕ
   pub rule : Rule
   pub problem : Problem
@@ -97,7 +97,7 @@ pub record Passbook : Type 0 where
   pub least : ℕ
 
 -- it says what the ledger says, whose best time isn't above its least
-pub record Agrees (s : Summary) (p : Passbook) : Type 0 where
+pub record Agrees (s : Summary) (p : SeatRecord) : Type 0 where
   pub worker : (1 ≤ p.who) × (p.who ≤ length s.accounts)
   pub rule : p.rule ≡ s.rule
   pub problem : p.problem ≡ s.problem
@@ -106,7 +106,7 @@ pub record Agrees (s : Summary) (p : Passbook) : Type 0 where
   pub least : s.best ≤ p.least
 
 -- as it opens
-abbrev pub opened : Summary → ℕ → Passbook
+abbrev pub opened : Summary → ℕ → SeatRecord
 opened s w =
     record {
       who = w;
@@ -124,9 +124,9 @@ least_after least (Offer w own order time) (NotLower answer) = min least (min ti
 least_after least event reply = least
 
 -- after an event of its worker
-abbrev pub after_event : Passbook → Event → Reply → Passbook
+abbrev pub after_event : SeatRecord → Event → Reply → SeatRecord
 after_event p event reply = record p { account = counted p.account event reply; least = least_after p.least event reply }
 
 -- after the best time was read
-abbrev pub after_reading : Passbook → ℕ → Passbook
+abbrev pub after_reading : SeatRecord → ℕ → SeatRecord
 after_reading p best = record p { least = min p.least best }

@@ -5,7 +5,7 @@ use Rattle.s66_model.specs.declared.rule.Rule.TheVariants.{NoneNamed, WrittenEar
 use Rattle.s66_model.specs.Timing.{Problem}
 use Rattle.s66_model.specs.LegalOrder.{IsIncomplete}
 use Rattle.s66_model.specs.Leaves.{Leaf}
-use Rattle.s66_model.specs.Tree.{Kids, NoMore, Unsplit, Split, Tree, Alone, Parted, Knot, AtTip, AtSplit, TreeHolds, LeafShows}
+use Rattle.s66_model.specs.Tree.{Siblings, NoMore, Unsplit, Split, Tree, Alone, Parted, Vertex, AtTerminal, AtSplit, TreeHolds, LeafShows}
 use Rattle.s66_model.specs.Dominance.{Dominates, DominatesClamped}
 use Rattle.s66_model.specs.NodeNames.{node_at, is_node}
 
@@ -23,17 +23,17 @@ IsEarlier (n ∷ ns) [] = ⊥
 IsEarlier (n ∷ ns) (m ∷ ms) = (n < m) ⊎ ((n ≡ m) × IsEarlier ns ms)
 
 -- it is a node, and no dominated leaf
-abbrev pub is_standing : Option (Knot Ending) → Bool
+abbrev pub is_standing : Option (Vertex Ending) → Bool
 is_standing None = false
 is_standing (Some (AtSplit numbers)) = true
-is_standing (Some (AtTip (Bounding leaf))) = true
-is_standing (Some (AtTip (Dominated name))) = false
+is_standing (Some (AtTerminal (Bounding leaf))) = true
+is_standing (Some (AtTerminal (Dominated name))) = false
 
 -- what may be named where this is found
-abbrev pub may_be_named : Rule → Option (Knot Ending) → Bool
-may_be_named NoneNamed knot = false
-may_be_named WrittenEarlier knot = is_node knot
-may_be_named ClampedStanding knot = is_standing knot
+abbrev pub may_be_named : Rule → Option (Vertex Ending) → Bool
+may_be_named NoneNamed vertex = false
+may_be_named WrittenEarlier vertex = is_node vertex
+may_be_named ClampedStanding vertex = is_standing vertex
 
 -- the name dominates an incomplete prefix, as the rule asks
 abbrev pub DominatesByRule : Rule → Problem → List ℕ → List ℕ → Type 0
@@ -56,11 +56,11 @@ ShowsBy rule b low prefix tree = TreeHolds b.block (EndingShows rule b low prefi
 
 -- A TREE WITHOUT DOMINATED LEAVES
 
-abbrev pub kids_bounding : Kids Leaf → Kids Ending
-kids_bounding NoMore = NoMore
-kids_bounding (Unsplit leaf kids) = Unsplit (Bounding leaf) (kids_bounding kids)
-kids_bounding (Split numbers sub kids) = Split numbers (kids_bounding sub) (kids_bounding kids)
+abbrev pub siblings_bounding : Siblings Leaf → Siblings Ending
+siblings_bounding NoMore = NoMore
+siblings_bounding (Unsplit leaf siblings) = Unsplit (Bounding leaf) (siblings_bounding siblings)
+siblings_bounding (Split numbers sub siblings) = Split numbers (siblings_bounding sub) (siblings_bounding siblings)
 
 abbrev pub tree_bounding : Tree Leaf → Tree Ending
 tree_bounding (Alone leaf) = Alone (Bounding leaf)
-tree_bounding (Parted numbers kids) = Parted numbers (kids_bounding kids)
+tree_bounding (Parted numbers siblings) = Parted numbers (siblings_bounding siblings)

@@ -16,10 +16,10 @@ use Rattle.s66_model.specs.Meaning.{Term, Initial, Computed, Terms, NoTerms, The
 use Rattle.s66_model.specs.Timing.{Problem, Point, row_at, points_of, latest_result}
 use Rattle.s66_model.specs.Leaves.{Leaf, Whole, Chain, Load, link, load, chain, longest_chain, floor, floor_value}
 use Rattle.s66_model.specs.Tails.{longest_tail}
-use Rattle.s66_model.specs.Tree.{Tree, Parted, Kids, NoMore, Unsplit, Split}
+use Rattle.s66_model.specs.Tree.{Tree, Parted, Siblings, NoMore, Unsplit, Split}
 use Rattle.s66_model.specs.Answer.{Answer}
 use Rattle.s66_model.specs.DominatedLeaves.{Ending, Bounding, Dominated, tree_bounding}
-use Rattle.s66_model.specs.Piece.{Tip, Carries, Frontier}
+use Rattle.s66_model.specs.Piece.{Terminal, Carries, Frontier}
 use Rattle.s66_model.specs.Ledger.{State, Open, Out, Cut, Closed, Node, Ledger, Event, Grant, Claim, Graft, Offer, Reply, Granted, Claimed, Taken, NotOut, NotLower, Step, Run}
 
 abbrev pub standard_problem : List Instr → Problem
@@ -296,13 +296,13 @@ answer order time bound splits tree =
     record { order = order; time = time; bound = bound; splits = splits; tree = tree_bounding tree }
 
 -- both orders of the last two numbers
-abbrev pub both_orders : {M : Type 0} → M → ℕ → ℕ → Kids M
-both_orders tip m n = Split (n ∷ []) (Unsplit tip NoMore) (Split (m ∷ []) (Unsplit tip NoMore) NoMore)
+abbrev pub both_orders : {M : Type 0} → M → ℕ → ℕ → Siblings M
+both_orders terminal m n = Split (n ∷ []) (Unsplit terminal NoMore) (Split (m ∷ []) (Unsplit terminal NoMore) NoMore)
 
 -- the tree of three_multiplies that is split down to each order
 abbrev pub every_order : {M : Type 0} → M → Tree M
-every_order tip =
-    Parted (1 ∷ 2 ∷ 3 ∷ []) (Split (2 ∷ 3 ∷ []) (both_orders tip 2 3) (Split (1 ∷ 3 ∷ []) (both_orders tip 1 3) (Split (1 ∷ 2 ∷ []) (both_orders tip 1 2) NoMore)))
+every_order terminal =
+    Parted (1 ∷ 2 ∷ 3 ∷ []) (Split (2 ∷ 3 ∷ []) (both_orders terminal 2 3) (Split (1 ∷ 3 ∷ []) (both_orders terminal 1 3) (Split (1 ∷ 2 ∷ []) (both_orders terminal 1 2) NoMore)))
 
 -- the same without the last split: the floor of 3 2 stands there
 abbrev pub all_but_one : Tree Leaf
@@ -321,25 +321,25 @@ load_tree =
 
 -- its tree that is split down to each order: 16, 12 and 13
 abbrev pub load_orders : {M : Type 0} → M → Tree M
-load_orders tip =
-    Parted (1 ∷ 3 ∷ []) (Split (2 ∷ 3 ∷ []) (both_orders tip 2 3) (Split (1 ∷ []) (Split (2 ∷ []) (Unsplit tip NoMore) NoMore) NoMore))
+load_orders terminal =
+    Parted (1 ∷ 3 ∷ []) (Split (2 ∷ 3 ∷ []) (both_orders terminal 2 3) (Split (1 ∷ []) (Split (2 ∷ []) (Unsplit terminal NoMore) NoMore) NoMore))
 
 -- load_tree as a piece for the best time 16: below that is the floor of 3, which is the frontier
-abbrev pub load_piece : Tree Tip
+abbrev pub load_piece : Tree Terminal
 load_piece =
     Parted (1 ∷ 3 ∷ []) (Split (2 ∷ 3 ∷ []) (Unsplit (Carries (Load Boolean)) (Split (2 ∷ []) (Unsplit (Carries Whole) NoMore) NoMore)) (Unsplit Frontier NoMore))
 
--- so many children that aren't split, with the same tip
-abbrev pub children : {M : Type 0} → ℕ → M → Kids M
-children zero tip = NoMore
-children (suc count) tip = Unsplit tip (children count tip)
+-- so many children that aren't split, with the same terminal
+abbrev pub children : {M : Type 0} → ℕ → M → Siblings M
+children zero terminal = NoMore
+children (suc count) terminal = Unsplit terminal (children count terminal)
 
 -- the empty prefix of three_multiplies split, and the same without the child 3
 abbrev pub one_split : {M : Type 0} → M → Tree M
-one_split tip = Parted (1 ∷ 2 ∷ 3 ∷ []) (children 3 tip)
+one_split terminal = Parted (1 ∷ 2 ∷ 3 ∷ []) (children 3 terminal)
 
 abbrev pub child_omitted : {M : Type 0} → M → Tree M
-child_omitted tip = Parted (1 ∷ 2 ∷ []) (children 2 tip)
+child_omitted terminal = Parted (1 ∷ 2 ∷ []) (children 2 terminal)
 
 -- TREES WITH DOMINATED LEAVES
 
@@ -348,7 +348,7 @@ abbrev pub ByBoth : (Rule → Type 0) → Type 0
 ByBoth holds = holds WrittenEarlier × holds ClampedStanding
 
 -- of late_reader: 1 3 2 is dominated by the node of this name, and 1 4 is as given
-abbrev pub late_reader_tree : List ℕ → Kids Ending → Tree Ending
+abbrev pub late_reader_tree : List ℕ → Siblings Ending → Tree Ending
 late_reader_tree name fourth =
     Parted (1 ∷ 2 ∷ 4 ∷ [])
     (Split (2 ∷ 3 ∷ 4 ∷ [])
@@ -357,10 +357,10 @@ late_reader_tree name fourth =
     (children 2 (Bounding (Chain (1 ∷ 3 ∷ [])))))
 
 -- 1 4 has a leaf, or is split, and 1 4 2 is dominated by 1 2 4
-abbrev pub fourth_bounding : Kids Ending
+abbrev pub fourth_bounding : Siblings Ending
 fourth_bounding = Unsplit (Bounding (Chain (3 ∷ []))) NoMore
 
-abbrev pub fourth_split : Kids Ending
+abbrev pub fourth_split : Siblings Ending
 fourth_split = Split (2 ∷ 3 ∷ []) (Unsplit (Dominated (1 ∷ 2 ∷ 4 ∷ [])) (Unsplit (Bounding (Chain (2 ∷ []))) NoMore)) NoMore
 
 -- a leaf: the load of the Increment units

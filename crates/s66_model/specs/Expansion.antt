@@ -7,19 +7,19 @@ use Rattle.s66_model.specs.LegalOrder.{IsComplete, IsIncomplete}
 use Rattle.s66_model.specs.Leaves.{Whole, Chain, Load, Parcels, value, floor, floor_value}
 use Rattle.s66_model.specs.Tree.{Tree, TreeHolds, splits, split_at, tree_values}
 use Rattle.s66_model.specs.DominatedLeaves.{DominatesByRule}
-use Rattle.s66_model.specs.Piece.{Tip, Carries, Frontier, Passed, IsNamedIn}
+use Rattle.s66_model.specs.Piece.{Terminal, Carries, Frontier, Passed, IsNamedIn}
 
 -- The best time may fall while the tree is grown, from high to low. Where it doesn't, low is high.
 
 -- a leaf is the floor, of a complete prefix or of a value that is at least low; in the frontier stands an incomplete prefix whose floor is below high, and so is that of a dominated one, which has a name as the rule asks
-abbrev pub TipHoldsWhile : Rule → Problem → ℕ → ℕ → List ℕ → Tree Tip → List ℕ → Tip → Type 0
-TipHoldsWhile rule b high low prefix tree at (Carries leaf) = (leaf ≡ floor b at) × (IsComplete b.block at ⊎ (low ≤ value b at leaf))
-TipHoldsWhile rule b high low prefix tree at Frontier = IsIncomplete b.block at × (floor_value b at < high)
-TipHoldsWhile rule b high low prefix tree at (Passed name) = (DominatesByRule rule b name at × IsNamedIn rule prefix tree at name) × (floor_value b at < high)
+abbrev pub TerminalHoldsWhile : Rule → Problem → ℕ → ℕ → List ℕ → Tree Terminal → List ℕ → Terminal → Type 0
+TerminalHoldsWhile rule b high low prefix tree at (Carries leaf) = (leaf ≡ floor b at) × (IsComplete b.block at ⊎ (low ≤ value b at leaf))
+TerminalHoldsWhile rule b high low prefix tree at Frontier = IsIncomplete b.block at × (floor_value b at < high)
+TerminalHoldsWhile rule b high low prefix tree at (Passed name) = (DominatesByRule rule b name at × IsNamedIn rule prefix tree at name) × (floor_value b at < high)
 
-pub record IsExpansion (rule : Rule) (b : Problem) (high low allowance : ℕ) (prefix : List ℕ) (tree : Tree Tip) : Type 0 where
+pub record IsExpansion (rule : Rule) (b : Problem) (high low allowance : ℕ) (prefix : List ℕ) (tree : Tree Terminal) : Type 0 where
   -- a tree over the prefix whose splits have exactly the ready children
-  pub piece : TreeHolds b.block (TipHoldsWhile rule b high low prefix tree) prefix tree
+  pub piece : TreeHolds b.block (TerminalHoldsWhile rule b high low prefix tree) prefix tree
   -- of at most so many splits
   pub within : splits tree ≤ allowance
   -- a prefix whose floor is at least the best time isn't split
@@ -29,7 +29,7 @@ pub record IsExpansion (rule : Rule) (b : Problem) (high low allowance : ℕ) (p
 
 -- WHOLE ORDERS
 
-abbrev pub whole_at : List ℕ → Tip → List (List ℕ)
+abbrev pub whole_at : List ℕ → Terminal → List (List ℕ)
 whole_at prefix (Carries Whole) = prefix ∷ []
 whole_at prefix (Carries (Chain numbers)) = []
 whole_at prefix (Carries (Load kind)) = []
@@ -38,11 +38,11 @@ whole_at prefix Frontier = []
 whole_at prefix (Passed name) = []
 
 -- the prefixes of a tree that carry a leaf T, in preorder
-abbrev pub whole_orders : List ℕ → Tree Tip → List (List ℕ)
+abbrev pub whole_orders : List ℕ → Tree Terminal → List (List ℕ)
 whole_orders prefix tree = tree_values whole_at prefix tree
 
 -- one of the least total among them, and none where there are none
-abbrev pub IsBestWhole : Problem → List ℕ → Tree Tip → Option (List ℕ) → Type 0
+abbrev pub IsBestWhole : Problem → List ℕ → Tree Terminal → Option (List ℕ) → Type 0
 IsBestWhole b prefix tree None = whole_orders prefix tree ≡ []
 IsBestWhole b prefix tree (Some order) =
     Among order (whole_orders prefix tree) × ((other : List ℕ) → Among other (whole_orders prefix tree) → total_of b order ≤ total_of b other)

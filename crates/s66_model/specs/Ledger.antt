@@ -7,9 +7,9 @@ use Rattle.s66_model.specs.declared.rule.Rule.TheVariants.{NoneNamed, WrittenEar
 use Rattle.s66_model.specs.Timing.{Problem, total_of}
 use Rattle.s66_model.specs.LegalOrder.{IsLegal}
 use Rattle.s66_model.specs.Leaves.{value}
-use Rattle.s66_model.specs.Tree.{Tree, Alone, Parted, Kids, NoMore, Unsplit, Split, splits, TreeHolds}
+use Rattle.s66_model.specs.Tree.{Tree, Alone, Parted, Siblings, NoMore, Unsplit, Split, splits, TreeHolds}
 use Rattle.s66_model.specs.DominatedLeaves.{Ending, Bounding, Dominated}
-use Rattle.s66_model.specs.Piece.{Tip, Carries, Frontier, Passed, IsPiece}
+use Rattle.s66_model.specs.Piece.{Terminal, Carries, Frontier, Passed, IsPiece}
 
 -- NODES
 
@@ -111,7 +111,7 @@ opening b budget workers =
 pub data Event : Type 0 where
   Grant : (w : ℕ) → Event
   Claim : (w : ℕ) → Event
-  Graft : (w node : ℕ) (own : Bool) (prefix : List ℕ) (splits : ℕ) (tree : Option (Tree Tip)) → Event
+  Graft : (w node : ℕ) (own : Bool) (prefix : List ℕ) (splits : ℕ) (tree : Option (Tree Terminal)) → Event
   Offer : (w : ℕ) (own : Bool) (order : List ℕ) (time : ℕ) → Event
   Back : (w node : ℕ) → Event
   Retire : (w : ℕ) → Event
@@ -160,30 +160,30 @@ abbrev pub after_offer : Ledger → List ℕ → Ledger
 after_offer l order = record l { best = order }
 
 -- an unsplit prefix is closed if it carries a leaf of value at least the best time or is dominated, else open
-abbrev pub state_of : Problem → ℕ → List ℕ → Tip → State
+abbrev pub state_of : Problem → ℕ → List ℕ → Terminal → State
 state_of b best prefix (Carries leaf) = if nat_le best (value b prefix leaf) then Closed (Bounding leaf) else Open
 state_of b best prefix Frontier = Open
 state_of b best prefix (Passed name) = Closed (Dominated name)
 
-abbrev pub root_state : Problem → ℕ → List ℕ → Tree Tip → State
-root_state b best prefix (Alone tip) = state_of b best prefix tip
-root_state b best prefix (Parted numbers kids) = Cut
+abbrev pub root_state : Problem → ℕ → List ℕ → Tree Terminal → State
+root_state b best prefix (Alone terminal) = state_of b best prefix terminal
+root_state b best prefix (Parted numbers siblings) = Cut
 
 -- the piece's other prefixes, in preorder
-abbrev pub kid_nodes : Problem → ℕ → List ℕ → List ℕ → Kids Tip → List Node
-kid_nodes b best prefix [] kids = []
-kid_nodes b best prefix (n ∷ ns) NoMore = []
-kid_nodes b best prefix (n ∷ ns) (Unsplit tip kids) =
-    record { prefix = prefix ++ n ∷ []; state = state_of b best (prefix ++ n ∷ []) tip } ∷ kid_nodes b best prefix ns kids
-kid_nodes b best prefix (n ∷ ns) (Split numbers sub kids) =
-    record { prefix = prefix ++ n ∷ []; state = Cut } ∷ (kid_nodes b best (prefix ++ n ∷ []) numbers sub ++ kid_nodes b best prefix ns kids)
+abbrev pub sibling_nodes : Problem → ℕ → List ℕ → List ℕ → Siblings Terminal → List Node
+sibling_nodes b best prefix [] siblings = []
+sibling_nodes b best prefix (n ∷ ns) NoMore = []
+sibling_nodes b best prefix (n ∷ ns) (Unsplit terminal siblings) =
+    record { prefix = prefix ++ n ∷ []; state = state_of b best (prefix ++ n ∷ []) terminal } ∷ sibling_nodes b best prefix ns siblings
+sibling_nodes b best prefix (n ∷ ns) (Split numbers sub siblings) =
+    record { prefix = prefix ++ n ∷ []; state = Cut } ∷ (sibling_nodes b best (prefix ++ n ∷ []) numbers sub ++ sibling_nodes b best prefix ns siblings)
 
-abbrev pub new_nodes : Problem → ℕ → List ℕ → Tree Tip → List Node
-new_nodes b best prefix (Alone tip) = []
-new_nodes b best prefix (Parted numbers kids) = kid_nodes b best prefix numbers kids
+abbrev pub new_nodes : Problem → ℕ → List ℕ → Tree Terminal → List Node
+new_nodes b best prefix (Alone terminal) = []
+new_nodes b best prefix (Parted numbers siblings) = sibling_nodes b best prefix numbers siblings
 
 -- the piece's splits are spent, the node takes the state of the piece's root, and the piece's other prefixes become nodes
-abbrev pub after_graft : Problem → Ledger → ℕ → ℕ → List ℕ → Tree Tip → Ledger
+abbrev pub after_graft : Problem → Ledger → ℕ → ℕ → List ℕ → Tree Terminal → Ledger
 after_graft b l w i prefix tree =
     record l {
       nodes = with_state l.nodes i (root_state b (best_time b l) prefix tree) ++ new_nodes b (best_time b l) prefix tree;
@@ -206,14 +206,14 @@ may_name ClampedStanding (Closed (Dominated name)) = false
 abbrev pub HasNamed : Rule → List Node → List ℕ → Type 0
 HasNamed rule nodes name = (node : Node) × Among node nodes × (node.prefix ≡ name) × (may_name rule node.state ≡ true)
 
-abbrev pub TipIsNamed : Rule → List Node → List ℕ → Tip → Type 0
-TipIsNamed rule nodes at (Carries leaf) = Unit {0}
-TipIsNamed rule nodes at Frontier = Unit {0}
-TipIsNamed rule nodes at (Passed name) = HasNamed rule nodes name
+abbrev pub TerminalIsNamed : Rule → List Node → List ℕ → Terminal → Type 0
+TerminalIsNamed rule nodes at (Carries leaf) = Unit {0}
+TerminalIsNamed rule nodes at Frontier = Unit {0}
+TerminalIsNamed rule nodes at (Passed name) = HasNamed rule nodes name
 
 -- each name in the piece is that of one of these nodes
-abbrev pub AreNamed : Rule → Problem → List Node → List ℕ → Tree Tip → Type 0
-AreNamed rule b nodes prefix tree = TreeHolds b.block (TipIsNamed rule nodes) prefix tree
+abbrev pub AreNamed : Rule → Problem → List Node → List ℕ → Tree Terminal → Type 0
+AreNamed rule b nodes prefix tree = TreeHolds b.block (TerminalIsNamed rule nodes) prefix tree
 
 -- STEPS
 

@@ -14,7 +14,7 @@ pub mod Later
 pub mod Accounts
 pub mod Answer
 pub mod Piece
-pub mod Told
+pub mod Stated
 pub mod Expansion
 pub mod Ledger
 pub mod Coverage

@@ -5,25 +5,25 @@ use Rattle.s66_isa.specs.Lists.{tally}
 use Rattle.s66_model.specs.Timing.{Problem}
 use Rattle.s66_model.specs.LegalOrder.{ready}
 use Rattle.s66_model.specs.Leaves.{floor}
-use Rattle.s66_model.specs.Tree.{Kids, NoMore, Unsplit, Split, Tree, Alone, Parted}
+use Rattle.s66_model.specs.Tree.{Siblings, NoMore, Unsplit, Split, Tree, Alone, Parted}
 use Rattle.s66_model.specs.DominatedLeaves.{Ending, Bounding, Dominated}
 use Rattle.s66_model.specs.Ledger.{State, Open, Out, Cut, Closed, Node}
 use Rattle.s66_model.specs.NodeTable.{stands_at, is_cut_at}
 
 -- each of these numbers after the prefix, in front of its later siblings
-abbrev pub each_kid : {M : Type 0} → (List ℕ → Kids M → Kids M) → List ℕ → List ℕ → Kids M
-each_kid kid prefix [] = NoMore
-each_kid kid prefix (n ∷ ns) = kid (prefix ++ n ∷ []) (each_kid kid prefix ns)
+abbrev pub each_sibling : {M : Type 0} → (List ℕ → Siblings M → Siblings M) → List ℕ → List ℕ → Siblings M
+each_sibling sibling prefix [] = NoMore
+each_sibling sibling prefix (n ∷ ns) = sibling (prefix ++ n ∷ []) (each_sibling sibling prefix ns)
 
--- a prefix in front of its later siblings: split where the test says so, down to so many numbers more, and else with its tip
-abbrev pub grown_kid : {M : Type 0} → List Instr → (List ℕ → Bool) → (List ℕ → M) → ℕ → List ℕ → Kids M → Kids M
-grown_kid block is_split tip zero at later = Unsplit (tip at) later
-grown_kid block is_split tip (suc more) at later =
-    if is_split at then Split (ready block at) (each_kid (grown_kid block is_split tip more) at (ready block at)) later else Unsplit (tip at) later
+-- a prefix in front of its later siblings: split where the test says so, down to so many numbers more, and else with its terminal
+abbrev pub grown_sibling : {M : Type 0} → List Instr → (List ℕ → Bool) → (List ℕ → M) → ℕ → List ℕ → Siblings M → Siblings M
+grown_sibling block is_split terminal zero at later = Unsplit (terminal at) later
+grown_sibling block is_split terminal (suc more) at later =
+    if is_split at then Split (ready block at) (each_sibling (grown_sibling block is_split terminal more) at (ready block at)) later else Unsplit (terminal at) later
 
 abbrev pub grown_tree : {M : Type 0} → List Instr → (List ℕ → Bool) → (List ℕ → M) → Tree M
-grown_tree block is_split tip =
-    if is_split [] then Parted (ready block []) (each_kid (grown_kid block is_split tip (length block)) [] (ready block [])) else Alone (tip [])
+grown_tree block is_split terminal =
+    if is_split [] then Parted (ready block []) (each_sibling (grown_sibling block is_split terminal (length block)) [] (ready block [])) else Alone (terminal [])
 
 -- some node is split there
 abbrev pub is_split_at : List Node → List ℕ → Bool

@@ -3,8 +3,8 @@ use Rattle.std.specs.Prelude.{ℕ, ◌≡◌, ◌↔◌, ◌⊎◌, ◌==◌, Bo
 use Rattle.s66_isa.specs.Lists.{weigh}
 use Rattle.s66_model.specs.declared.rule.Rule.{Rule}
 use Rattle.s66_model.specs.Timing.{Problem, total_of}
-use Rattle.s66_model.specs.Tree.{Tree, Alone, Parted, Kids, NoMore, Unsplit, Split, splits}
-use Rattle.s66_model.specs.Piece.{Tip, Carries, Frontier, Passed}
+use Rattle.s66_model.specs.Tree.{Tree, Alone, Parted, Siblings, NoMore, Unsplit, Split, splits}
+use Rattle.s66_model.specs.Piece.{Terminal, Carries, Frontier, Passed}
 use Rattle.s66_model.specs.Ledger.{Event, Graft, Offer, Reply, Taken, worker}
 
 -- own tells whether p, which an order is of, is the ledger's block and profile
@@ -12,25 +12,25 @@ abbrev pub IsOwn : (b p : Problem) → Bool → Type 0
 IsOwn b p own = (own ≡ true) ↔ (p ≡ b)
 
 -- a piece's splits are recorded in any case, and what is taken of its tree
-abbrev pub graft_event : (w node : ℕ) (own : Bool) (prefix : List ℕ) → Tree Tip → Reply → Event
+abbrev pub graft_event : (w node : ℕ) (own : Bool) (prefix : List ℕ) → Tree Terminal → Reply → Event
 graft_event w node own prefix tree Taken = Graft w node own prefix (splits tree) (Some tree)
 graft_event w node own prefix tree reply = Graft w node own prefix (splits tree) None
 
 -- a ledger may put dominated prefixes of a piece into the frontier, and takes all else as it is
-abbrev pub TipOpens : Tip → Tip → Type 0
-TipOpens (Carries leaf) taken = taken ≡ Carries leaf
-TipOpens Frontier taken = taken ≡ Frontier
-TipOpens (Passed name) taken = (taken ≡ Passed name) ⊎ (taken ≡ Frontier)
+abbrev pub TerminalOpens : Terminal → Terminal → Type 0
+TerminalOpens (Carries leaf) taken = taken ≡ Carries leaf
+TerminalOpens Frontier taken = taken ≡ Frontier
+TerminalOpens (Passed name) taken = (taken ≡ Passed name) ⊎ (taken ≡ Frontier)
 
-abbrev pub KidsOpen : Kids Tip → Kids Tip → Type 0
-KidsOpen NoMore NoMore = Unit {0}
-KidsOpen (Unsplit tip kids) (Unsplit taken others) = TipOpens tip taken × KidsOpen kids others
-KidsOpen (Split numbers sub kids) (Split ns under others) = (numbers ≡ ns) × KidsOpen sub under × KidsOpen kids others
-KidsOpen kids others = ⊥
+abbrev pub SiblingsOpen : Siblings Terminal → Siblings Terminal → Type 0
+SiblingsOpen NoMore NoMore = Unit {0}
+SiblingsOpen (Unsplit terminal siblings) (Unsplit taken others) = TerminalOpens terminal taken × SiblingsOpen siblings others
+SiblingsOpen (Split numbers sub siblings) (Split ns under others) = (numbers ≡ ns) × SiblingsOpen sub under × SiblingsOpen siblings others
+SiblingsOpen siblings others = ⊥
 
-abbrev pub TreeOpens : Tree Tip → Tree Tip → Type 0
-TreeOpens (Alone tip) (Alone taken) = TipOpens tip taken
-TreeOpens (Parted numbers kids) (Parted ns others) = (numbers ≡ ns) × KidsOpen kids others
+abbrev pub TreeOpens : Tree Terminal → Tree Terminal → Type 0
+TreeOpens (Alone terminal) (Alone taken) = TerminalOpens terminal taken
+TreeOpens (Parted numbers siblings) (Parted ns others) = (numbers ≡ ns) × SiblingsOpen siblings others
 TreeOpens tree taken = ⊥
 
 -- and whether that and the rule of its dominated leaves are those of a piece
@@ -38,9 +38,9 @@ abbrev pub IsOwnPiece : (rule : Rule) (b : Problem) (r : Rule) (p : Problem) →
 IsOwnPiece rule b r p own = (own ≡ true) ↔ ((r ≡ rule) × (p ≡ b))
 
 -- the event of worker w's graft at a node, of a piece of p over this prefix, by the rule r
-abbrev pub IsGraftOf : (rule : Rule) (b : Problem) (w node : ℕ) (r : Rule) (p : Problem) (prefix : List ℕ) → Tree Tip → Reply → Event → Type 0
+abbrev pub IsGraftOf : (rule : Rule) (b : Problem) (w node : ℕ) (r : Rule) (p : Problem) (prefix : List ℕ) → Tree Terminal → Reply → Event → Type 0
 IsGraftOf rule b w node r p prefix tree reply event =
-    (own : Bool) × (taken : Tree Tip) × IsOwnPiece rule b r p own × TreeOpens tree taken × (event ≡ graft_event w node own prefix taken reply)
+    (own : Bool) × (taken : Tree Terminal) × IsOwnPiece rule b r p own × TreeOpens tree taken × (event ≡ graft_event w node own prefix taken reply)
 
 -- the event of worker w's offer of an order of p, with its total
 abbrev pub IsOfferOf : (b : Problem) (w : ℕ) (p : Problem) (order : List ℕ) → Event → Type 0

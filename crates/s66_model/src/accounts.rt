@@ -6,7 +6,7 @@ ghost use Rattle.s66_model.specs.declared.rule.Rule.{Rule};
 ghost use Rattle.s66_model.specs.declared.rule.Rule.TheVariants.{NoneNamed};
 ghost use Rattle.s66_model.specs.Timing.{Problem};
 ghost use Rattle.s66_model.specs.Ledger.{Ledger, Event, Reply, Step, Run, worker, Open, Out, Grant, Claim, Graft, Offer, Back, Granted, Claimed, Taken, NotOut, Lower, NotLower, OtherBlock, Returned, opening};
-ghost use Rattle.s66_model.specs.Accounts.{Grants, Claims, Grafts, Offers, GivesBack, Retires, brief, account_of, counted, no_account, Account, Summary, summary_of, account_at, Passbook, Agrees, opened, after_event, after_reading};
+ghost use Rattle.s66_model.specs.Accounts.{Grants, Claims, Grafts, Offers, GivesBack, Retires, brief, account_of, counted, no_account, Account, Summary, summary_of, account_at, SeatRecord, Agrees, opened, after_event, after_reading};
 ghost use Rattle.s66_model.specs.Examples.{load_problem, multiply_problem, ledger_events, root_split};
 
 /// An entry more counts for its worker alone; no worker has more entries than there are; and the splits of all accounts add up to
@@ -20,11 +20,11 @@ pub fn account_law()
 
 /// A seat agrees with the ledger as it opens, and goes on to: after each event of its worker, after those of others, and after
 /// it read the best time.
-pub fn passbook_law()
+pub fn seat_record_law()
     ensures opened { (rule : Rule) (b : Problem) (budget workers : ℕ) (history : List (Event × Reply)) (l : Ledger) (w : ℕ) → 1 ≤ w → w ≤ workers → Agrees (summary_of rule b budget workers history l) (opened (summary_of rule b budget workers history l) w) }
-    ensures own { (rule : Rule) (b : Problem) (budget workers : ℕ) (history : List (Event × Reply)) (old new : Ledger) (event : Event) (reply : Reply) (p : Passbook) → Step rule b old event reply new → Agrees (summary_of rule b budget workers history old) p → worker event ≡ p.who → Agrees (summary_of rule b budget workers (history ++ (event, reply) ∷ []) new) (after_event p event reply) }
-    ensures other { (rule : Rule) (b : Problem) (budget workers : ℕ) (history : List (Event × Reply)) (old new : Ledger) (event : Event) (reply : Reply) (p : Passbook) → Step rule b old event reply new → Agrees (summary_of rule b budget workers history old) p → worker event ≢ p.who → Agrees (summary_of rule b budget workers (history ++ (event, reply) ∷ []) new) p }
-    ensures read { (s : Summary) (p : Passbook) → Agrees s p → Agrees s (after_reading p s.best) }
+    ensures own { (rule : Rule) (b : Problem) (budget workers : ℕ) (history : List (Event × Reply)) (old new : Ledger) (event : Event) (reply : Reply) (p : SeatRecord) → Step rule b old event reply new → Agrees (summary_of rule b budget workers history old) p → worker event ≡ p.who → Agrees (summary_of rule b budget workers (history ++ (event, reply) ∷ []) new) (after_event p event reply) }
+    ensures other { (rule : Rule) (b : Problem) (budget workers : ℕ) (history : List (Event × Reply)) (old new : Ledger) (event : Event) (reply : Reply) (p : SeatRecord) → Step rule b old event reply new → Agrees (summary_of rule b budget workers history old) p → worker event ≢ p.who → Agrees (summary_of rule b budget workers (history ++ (event, reply) ∷ []) new) p }
+    ensures read { (s : Summary) (p : SeatRecord) → Agrees s p → Agrees s (after_reading p s.best) }
 {}
 
 /// What a history holds of each worker, and what a seat keeps.

@@ -7,23 +7,23 @@ ghost use Rattle.s66_model.specs.declared.rule.Rule.TheVariants.{NoneNamed};
 ghost use Rattle.s66_model.specs.Timing.{Problem};
 ghost use Rattle.s66_model.specs.Leaves.{Whole, Chain, Load, Parcels};
 ghost use Rattle.s66_model.specs.Tree.{Tree, Alone, Parted, NoMore, Unsplit};
-ghost use Rattle.s66_model.specs.Piece.{Tip, Carries, Frontier, IsPiece};
+ghost use Rattle.s66_model.specs.Piece.{Terminal, Carries, Frontier, IsPiece};
 ghost use Rattle.s66_model.specs.Expansion.{IsExpansion, IsBestWhole, whole_orders};
 ghost use Rattle.s66_model.specs.Examples.{load_problem, multiply_problem, load_piece, one_split, child_omitted, every_order, load_orders};
 
 /// An expansion is a piece, whatever the best time does meanwhile.
 pub fn expansion_law()
-    ensures { (rule : Rule) (b : Problem) (high low allowance : ℕ) (prefix : List ℕ) (tree : Tree Tip) → IsExpansion rule b high low allowance prefix tree → IsPiece rule b prefix tree }
+    ensures { (rule : Rule) (b : Problem) (high low allowance : ℕ) (prefix : List ℕ) (tree : Tree Terminal) → IsExpansion rule b high low allowance prefix tree → IsPiece rule b prefix tree }
 {}
 
 /// What expansions of a prefix are: by best times before and after, and by the number of splits.
 pub fn expansion_examples()
     ensures one_split_below_22 { IsExpansion NoneNamed multiply_problem 22 22 1 [] (one_split Frontier) }
-    ensures nothing_else_below_22 { (tree : Tree Tip) → IsExpansion NoneNamed multiply_problem 22 22 1 [] tree → tree ≡ one_split Frontier }
+    ensures nothing_else_below_22 { (tree : Tree Terminal) → IsExpansion NoneNamed multiply_problem 22 22 1 [] tree → tree ≡ one_split Frontier }
     ensures floor_at_17 { IsExpansion NoneNamed multiply_problem 17 17 1 [] (Alone (Carries (Load Multiply))) }
-    ensures nothing_else_at_17 { (tree : Tree Tip) → IsExpansion NoneNamed multiply_problem 17 17 1 [] tree → tree ≡ Alone (Carries (Load Multiply)) }
+    ensures nothing_else_at_17 { (tree : Tree Terminal) → IsExpansion NoneNamed multiply_problem 17 17 1 [] tree → tree ≡ Alone (Carries (Load Multiply)) }
     ensures whole_order { IsExpansion NoneNamed multiply_problem 22 22 0 (1 ∷ 2 ∷ 3 ∷ []) (Alone (Carries Whole)) }
-    ensures nothing_else_of_a_whole_order { (tree : Tree Tip) → IsExpansion NoneNamed multiply_problem 22 22 0 (1 ∷ 2 ∷ 3 ∷ []) tree → tree ≡ Alone (Carries Whole) }
+    ensures nothing_else_of_a_whole_order { (tree : Tree Terminal) → IsExpansion NoneNamed multiply_problem 22 22 0 (1 ∷ 2 ∷ 3 ∷ []) tree → tree ≡ Alone (Carries Whole) }
     ensures whole_order_below_the_best { IsExpansion NoneNamed load_problem 16 16 0 (1 ∷ 3 ∷ 2 ∷ []) (Alone (Carries Whole)) }
     ensures three_splits { IsExpansion NoneNamed load_problem 16 16 3 [] load_piece }
     ensures no_allowance { IsExpansion NoneNamed multiply_problem 22 22 0 [] (Alone Frontier) }
@@ -43,7 +43,7 @@ pub fn expansion_examples()
 /// Which whole order comes with a tree.
 pub fn best_whole_examples()
     ensures orders_in_preorder { whole_orders [] (load_orders (Carries Whole)) ≡ (1 ∷ 2 ∷ 3 ∷ []) ∷ (1 ∷ 3 ∷ 2 ∷ []) ∷ (3 ∷ 1 ∷ 2 ∷ []) ∷ [] }
-    ensures no_order_of_other_tips { whole_orders [] (Parted (1 ∷ 2 ∷ 3 ∷ 4 ∷ []) (Unsplit (Carries (Chain (1 ∷ []))) (Unsplit (Carries (Load Multiply)) (Unsplit (Carries Parcels) (Unsplit Frontier NoMore))))) ≡ [] }
+    ensures no_order_of_other_terminals { whole_orders [] (Parted (1 ∷ 2 ∷ 3 ∷ 4 ∷ []) (Unsplit (Carries (Chain (1 ∷ []))) (Unsplit (Carries (Load Multiply)) (Unsplit (Carries Parcels) (Unsplit Frontier NoMore))))) ≡ [] }
     ensures one_of_12 { IsBestWhole load_problem [] (load_orders (Carries Whole)) (Some (1 ∷ 3 ∷ 2 ∷ [])) }
     ensures not_one_of_13 { ¬ IsBestWhole load_problem [] (load_orders (Carries Whole)) (Some (3 ∷ 1 ∷ 2 ∷ [])) }
     ensures one_at_least { ¬ IsBestWhole load_problem [] (load_orders (Carries Whole)) None }

@@ -6,7 +6,7 @@ ghost use Rattle.s66_model.specs.declared.rule.Rule.{Rule};
 ghost use Rattle.s66_model.specs.declared.rule.Rule.TheVariants.{NoneNamed, WrittenEarlier};
 ghost use Rattle.s66_model.specs.Timing.{Problem};
 ghost use Rattle.s66_model.specs.Tree.{Tree, splits};
-ghost use Rattle.s66_model.specs.Piece.{Tip, Frontier};
+ghost use Rattle.s66_model.specs.Piece.{Terminal, Frontier};
 ghost use Rattle.s66_model.specs.Answer.{source_time};
 ghost use Rattle.s66_model.specs.Ledger.{Ledger, Event, Reply, Step, Run, opening, best_time, Graft, Offer, Taken, NotOut, OtherPrefix, OverAllowance};
 ghost use Rattle.s66_model.specs.Coverage.{Covers, NeverRises};
@@ -38,8 +38,8 @@ pub fn reached_law()
 /// The event of a graft tells of its node and of its piece's splits, also if it is refused, and spends these splits if it is taken;
 /// an offer has one event.
 pub fn recorded_law()
-    ensures graft { (rule : Rule) (b : Problem) (w node : ℕ) (r : Rule) (p : Problem) (prefix : List ℕ) (tree : Tree Tip) (reply : Reply) (event : Event) → IsGraftOf rule b w node r p prefix tree reply event → brief event ≡ Grafts node (splits tree) }
-    ensures spends { (rule : Rule) (b : Problem) (w node : ℕ) (r : Rule) (p : Problem) (prefix : List ℕ) (tree : Tree Tip) (event : Event) → IsGraftOf rule b w node r p prefix tree Taken event → spends event Taken ≡ splits tree }
+    ensures graft { (rule : Rule) (b : Problem) (w node : ℕ) (r : Rule) (p : Problem) (prefix : List ℕ) (tree : Tree Terminal) (reply : Reply) (event : Event) → IsGraftOf rule b w node r p prefix tree reply event → brief event ≡ Grafts node (splits tree) }
+    ensures spends { (rule : Rule) (b : Problem) (w node : ℕ) (r : Rule) (p : Problem) (prefix : List ℕ) (tree : Tree Terminal) (event : Event) → IsGraftOf rule b w node r p prefix tree Taken event → spends event Taken ≡ splits tree }
     ensures offer { (b : Problem) (w : ℕ) (p : Problem) (order : List ℕ) (event other : Event) → IsOfferOf b w p order event → IsOfferOf b w p order other → event ≡ other }
 {}
 

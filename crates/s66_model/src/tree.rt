@@ -6,7 +6,7 @@ ghost use Rattle.s66_model.specs.Timing.{Problem, total_of};
 ghost use Rattle.s66_model.specs.LegalOrder.{IsLegal};
 ghost use Rattle.s66_model.specs.BestAndBound.{IsBound};
 ghost use Rattle.s66_model.specs.Leaves.{Leaf, leaf_values, Whole, Chain, Load, Parcels};
-ghost use Rattle.s66_model.specs.Tree.{Tree, Shows, Alone, Parted, NoMore, Unsplit, Split, splits, split_at, tree_values, AtTip, AtSplit, flat_kids, flat};
+ghost use Rattle.s66_model.specs.Tree.{Tree, Shows, Alone, Parted, NoMore, Unsplit, Split, splits, split_at, tree_values, AtTerminal, AtSplit, flat_siblings, flat};
 ghost use Rattle.s66_model.specs.Examples.{load_problem, multiply_problem, both_orders, every_order, all_but_one, one_omitted, load_tree, load_orders, children, one_split, child_omitted};
 
 /// What a tree shows over a prefix is at most the total of every legal order that begins with it; over the empty prefix it is
@@ -43,8 +43,8 @@ pub fn tree_examples()
     ensures split_too_many { ¬ Shows load_problem 0 (1 ∷ 3 ∷ []) (Parted (2 ∷ []) (Unsplit Whole (Split [] NoMore NoMore))) }
     ensures children_not_rising { ¬ Shows multiply_problem 0 [] (Parted (2 ∷ 1 ∷ 3 ∷ []) (children 3 (Load Multiply))) }
     ensures child_below_not_named { ¬ Shows multiply_problem 0 [] one_omitted }
-    ensures lines_below_a_split { flat_kids (both_orders Whole 2 3) ≡ AtSplit (3 ∷ []) ∷ AtTip Whole ∷ AtSplit (2 ∷ []) ∷ AtTip Whole ∷ [] }
-    ensures lines_of_a_tree { flat load_tree ≡ AtSplit (1 ∷ 3 ∷ []) ∷ AtSplit (2 ∷ 3 ∷ []) ∷ AtTip (Load Boolean) ∷ AtSplit (2 ∷ []) ∷ AtTip Whole ∷ AtTip (Chain (1 ∷ 2 ∷ [])) ∷ [] }
+    ensures lines_below_a_split { flat_siblings (both_orders Whole 2 3) ≡ AtSplit (3 ∷ []) ∷ AtTerminal Whole ∷ AtSplit (2 ∷ []) ∷ AtTerminal Whole ∷ [] }
+    ensures lines_of_a_tree { flat load_tree ≡ AtSplit (1 ∷ 3 ∷ []) ∷ AtSplit (2 ∷ 3 ∷ []) ∷ AtTerminal (Load Boolean) ∷ AtSplit (2 ∷ []) ∷ AtTerminal Whole ∷ AtTerminal (Chain (1 ∷ 2 ∷ [])) ∷ [] }
     ensures ten_splits { splits (every_order Whole) ≡ 10 }
     ensures no_splits { splits (Alone Whole) ≡ 0 }
     ensures prefixes_that_are_split { split_at [] load_tree ≡ [] ∷ (1 ∷ []) ∷ (1 ∷ 3 ∷ []) ∷ [] }

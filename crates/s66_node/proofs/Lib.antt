@@ -2,10 +2,10 @@ pub mod Earlier
 pub mod Growing
 pub mod Leasts
 pub mod NamedSplits
-pub mod Outlines
+pub mod Skeletons
 pub mod Pieces
 pub mod Firsts
 pub mod Schedules
 pub mod Standing
-pub mod Tips
+pub mod Terminals
 pub mod WalkTurns

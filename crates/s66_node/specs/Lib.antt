@@ -1,5 +1,5 @@
-pub mod SeenKnots
-pub mod Outlines
+pub mod SeenVertices
+pub mod Skeletons
 pub mod Pieces
 pub mod Walked
 pub mod Growing

@@ -7,15 +7,15 @@ use Rattle.s66_model.specs.declared.rule.Rule.TheVariants.{WrittenEarlier}
 use Rattle.s66_model.specs.Timing.{Problem, total_of}
 use Rattle.s66_model.specs.LegalOrder.{IsBeginning, IsComplete, IsIncomplete, IsLegal, is_ready}
 use Rattle.s66_model.specs.Leaves.{floor_value}
-use Rattle.s66_model.specs.Tree.{Tree, Alone, Knot, AtTip, flat, splits, split_at, tree_values}
+use Rattle.s66_model.specs.Tree.{Tree, Alone, Vertex, AtTerminal, flat, splits, split_at, tree_values}
 use Rattle.s66_model.specs.DominatedLeaves.{DominatesByRule}
-use Rattle.s66_model.specs.Told.{Told, ToldLeaf, ToldFrontier, ToldPassed, tip_of}
+use Rattle.s66_model.specs.Stated.{Stated, StatedLeaf, StatedFrontier, StatedPassed, terminal_of}
 use Rattle.s66_model.specs.Expansion.{whole_at}
 use Rattle.s66_dep.specs.declared.set.Set.{Set}
 use Rattle.s66_dep.specs.Members.{numbers_in}
 use Rattle.s66_node.specs.Walked.{front}
 use Rattle.s66_node.specs.Growing.{TreeGrows, Grows}
-use Rattle.s66_node.specs.SeenKnots.{seen}
+use Rattle.s66_node.specs.SeenVertices.{seen}
 use Rattle.s66_node.specs.declared.whole_order.WholeOrder.{WholeOrder}
 use Rattle.s66_node.specs.declared.grow.Grown.{Grown}
 
@@ -32,22 +32,22 @@ abbrev pub IsDue : Problem → ℕ → List ℕ → Type 0
 IsDue b best at = IsIncomplete b.block at × (floor_value b at < best)
 
 -- what is told is true: a leaf is of a whole order or at least the low best time, and what is in the frontier or dominated may be split by the high one; a name dominates as the rule asks
-abbrev pub IsTold : Rule → Problem → Span → List ℕ → Told → Type 0
-IsTold rule b best at (ToldLeaf value) = (value ≡ floor_value b at) × (IsComplete b.block at ⊎ (best.low ≤ value))
-IsTold rule b best at (ToldFrontier value) = (value ≡ floor_value b at) × IsDue b best.high at
-IsTold rule b best at (ToldPassed value name) = (value ≡ floor_value b at) × IsDue b best.high at × DominatesByRule rule b name at
+abbrev pub IsStated : Rule → Problem → Span → List ℕ → Stated → Type 0
+IsStated rule b best at (StatedLeaf value) = (value ≡ floor_value b at) × (IsComplete b.block at ⊎ (best.low ≤ value))
+IsStated rule b best at (StatedFrontier value) = (value ≡ floor_value b at) × IsDue b best.high at
+IsStated rule b best at (StatedPassed value name) = (value ≡ floor_value b at) × IsDue b best.high at × DominatesByRule rule b name at
 
 -- by the rule of earlier nodes, these names are those of prefixes that are split
 abbrev pub AreOfSplits : Rule → List (List ℕ) → List (List ℕ) → Type 0
 AreOfSplits rule cuts names = rule ≡ WrittenEarlier → (name : List ℕ) → Among name names → Among name cuts
 
 -- and so are the names of these lines
-abbrev pub NameSplits : Rule → List (List ℕ) → List (Knot Told) → Type 0
-NameSplits rule cuts knots = rule ≡ WrittenEarlier → (value : ℕ) (name : List ℕ) → Among (AtTip (ToldPassed value name)) knots → Among name cuts
+abbrev pub NameSplits : Rule → List (List ℕ) → List (Vertex Stated) → Type 0
+NameSplits rule cuts vertices = rule ≡ WrittenEarlier → (value : ℕ) (name : List ℕ) → Among (AtTerminal (StatedPassed value name)) vertices → Among name cuts
 
 -- the whole order that is told of, if one is
-abbrev pub whole_told : Problem → List ℕ → Told → List (List ℕ)
-whole_told b at told = whole_at at (tip_of b at told)
+abbrev pub whole_stated : Problem → List ℕ → Stated → List (List ℕ)
+whole_stated b at stated = whole_at at (terminal_of b at stated)
 
 -- the first of the least of these legal orders, and none where there are none
 abbrev pub IsLeast : Problem → List (List ℕ) → Option WholeOrder → Type 0
@@ -59,15 +59,15 @@ IsLeast b orders (Some least) =
     × ((other : List ℕ) → Among other after → least.total ≤ total_of b other)
 
 -- a tree was made over the root: by its lines, with its splits and the first of the least of its whole orders
-pub record IsGrown (rule : Rule) (b : Problem) (best : Span) (allowance : ℕ) (root : List ℕ) (grown : Grown) (tree : Tree Told) : Type 0 where
-  pub grows : TreeGrows b.block (IsDue b best.high) (IsTold rule b best) root tree
-  pub knots : flat tree ≡ seen grown.knots.items
+pub record IsGrown (rule : Rule) (b : Problem) (best : Span) (allowance : ℕ) (root : List ℕ) (grown : Grown) (tree : Tree Stated) : Type 0 where
+  pub grows : TreeGrows b.block (IsDue b best.high) (IsStated rule b best) root tree
+  pub vertices : flat tree ≡ seen grown.vertices.items
   pub splits : splits tree ≡ grown.splits
-  pub least : IsLeast b (tree_values (whole_told b) root tree) grown.least
+  pub least : IsLeast b (tree_values (whole_stated b) root tree) grown.least
   pub within : grown.splits ≤ allowance
   pub due : 1 ≤ allowance → IsDue b best.low root → 1 ≤ grown.splits
   -- the root isn't dominated, and names are those of splits
-  pub passed : (value : ℕ) (name : List ℕ) → ¬ (tree ≡ Alone (ToldPassed value name))
+  pub passed : (value : ℕ) (name : List ℕ) → ¬ (tree ≡ Alone (StatedPassed value name))
   pub names : NameSplits rule (split_at root tree) (flat tree)
 
 -- of frames with the last on top, the numbers still to come, those of the top first
@@ -80,14 +80,14 @@ AreOpen block at [] = Unit {0}
 AreOpen block at (ns ∷ above) =
     IsBeginning block at × ((n : ℕ) → Among n ns → is_ready block at n ≡ true) × AreOpen block (front at) above
 
--- while a tree over the root is made: what Grows says of its splits, of what is told of its tips, and of its whole orders
-abbrev pub GrowsFor : Rule → Problem → Span → List ℕ → List ℕ → List (List ℕ) → List (Knot Told) → List (List ℕ) → List (List ℕ) → Type 0
-GrowsFor rule b best root at frames knots found cuts = Grows b.block (IsDue b best.high) (IsTold rule b best) (whole_told b) root at frames knots found cuts
+-- while a tree over the root is made: what Grows says of its splits, of what is told of its terminals, and of its whole orders
+abbrev pub GrowsFor : Rule → Problem → Span → List ℕ → List ℕ → List (List ℕ) → List (Vertex Stated) → List (List ℕ) → List (List ℕ) → Type 0
+GrowsFor rule b best root at frames vertices found cuts = Grows b.block (IsDue b best.high) (IsStated rule b best) (whole_stated b) root at frames vertices found cuts
 
 -- a tree over the root is being made: the walk stands at a prefix with these frames, the last on top, one for each prefix from the root down to it; these names may be given
-pub record IsWalk (rule : Rule) (b : Problem) (best : Span) (allowance : ℕ) (root at : List ℕ) (frames : List Set) (knots : List (Knot Told)) (count : ℕ) (least : Option WholeOrder) (names : List (List ℕ)) : Type 0 where
+pub record IsWalk (rule : Rule) (b : Problem) (best : Span) (allowance : ℕ) (root at : List ℕ) (frames : List Set) (vertices : List (Vertex Stated)) (count : ℕ) (least : Option WholeOrder) (names : List (List ℕ)) : Type 0 where
   pub standing : AreOpen b.block at (lefts frames)
   pub depth : length root + length frames ≤ length at + 1
   pub within : count ≤ allowance
   pub some : 1 ≤ count
-  pub grows : (found cuts : List (List ℕ)) × GrowsFor rule b best root at (lefts frames) knots found cuts × (length cuts ≡ count) × IsLeast b found least × AreOfSplits rule cuts names × NameSplits rule cuts knots
+  pub grows : (found cuts : List (List ℕ)) × GrowsFor rule b best root at (lefts frames) vertices found cuts × (length cuts ≡ count) × IsLeast b found least × AreOfSplits rule cuts names × NameSplits rule cuts vertices

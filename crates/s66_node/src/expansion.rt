@@ -5,7 +5,7 @@ ghost use Rattle.s66_model.specs.declared.rule.Rule.TheVariants.{NoneNamed, Writ
 ghost use Rattle.s66_model.specs.Timing.{Problem};
 ghost use Rattle.s66_model.specs.LegalOrder.{IsBeginning};
 ghost use Rattle.s66_model.specs.Tree.{Tree};
-ghost use Rattle.s66_model.specs.Piece.{Tip};
+ghost use Rattle.s66_model.specs.Piece.{Terminal};
 ghost use Rattle.s66_model.specs.Expansion.{IsExpansion, whole_orders};
 ghost use Rattle.s66_node.specs.Pieces.{tree_of, IsBestTimed};
 ghost use Rattle.s66_node.specs.Walking.{IsLeast};
@@ -32,7 +32,7 @@ fn timed_of(
     profile: &Profile,
     least: Option<WholeOrder>,
 ) -> Result<Option<Box<Timed>>, AllocError>
-    ensures { let b : Problem = record { block = instrs_of block.now; profile = profile.now } in (prefix : List ℕ) (tree : Tree Tip) → IsLeast b (whole_orders prefix tree) least → IfOk result (λ timed. IsBestTimed b prefix tree (option_map (λ t. t.value) timed)) }
+    ensures { let b : Problem = record { block = instrs_of block.now; profile = profile.now } in (prefix : List ℕ) (tree : Tree Terminal) → IsLeast b (whole_orders prefix tree) least → IfOk result (λ timed. IsBestTimed b prefix tree (option_map (λ t. t.value) timed)) }
 {
     let Some(least) = least else {
         return Ok(None);
@@ -234,7 +234,7 @@ impl Walk<'_> {
     {
         self.go_to(prefix);
         let Grown {
-            knots,
+            vertices,
             splits,
             least,
         } = grow(alloc, self, incumbent, allowance, rule, names)?;
@@ -245,7 +245,7 @@ impl Walk<'_> {
             source: Order::source(block),
             profile: *profile,
             prefix: copy_of(prefix),
-            knots,
+            vertices,
             splits,
             timed: timed_of(alloc, block, profile, least)?,
         })

@@ -2,14 +2,14 @@ ghost use Rattle.std.specs.Prelude.{◌≡◌, ◌≤◌, ◌++◌, [], ℕ, Lis
 ghost use Rattle.s66_isa.specs.Lists.{Among};
 ghost use Rattle.s66_model.specs.declared.rule.Rule.TheVariants.{NoneNamed, WrittenEarlier};
 ghost use Rattle.s66_model.specs.Leaves.{floor_value};
-ghost use Rattle.s66_model.specs.Tree.{Tree, AtTip};
-ghost use Rattle.s66_model.specs.Told.{Told, ToldPassed};
-ghost use Rattle.s66_node.specs.SeenKnots.{seen_knot};
-ghost use Rattle.s66_node.specs.Walking.{Span, span, IsDue, IsTold, IsLeast, IsGrown, whole_told};
+ghost use Rattle.s66_model.specs.Tree.{Tree, AtTerminal};
+ghost use Rattle.s66_model.specs.Stated.{Stated, StatedPassed};
+ghost use Rattle.s66_node.specs.SeenVertices.{seen_vertex};
+ghost use Rattle.s66_node.specs.Walking.{Span, span, IsDue, IsStated, IsLeast, IsGrown, whole_stated};
 
-use crate::knot::Knot;
 use crate::least::Least;
 use crate::naming::Naming;
+use crate::vertex::Vertex;
 use crate::walk::Walk;
 use crate::whole_order::{WholeOrder, keep_lesser};
 use arrayvec::ArrayVec;
@@ -24,52 +24,52 @@ const FIRST_LINES: usize = 64;
 /// A tree by its lines in preorder, how many of them are splits, and the first of the least of its whole orders.
 #[derive(Debug, Drop)]
 pub(crate) struct Grown {
-    pub knots: Vec<Knot>,
+    pub vertices: Vec<Vertex>,
     pub splits: u32,
     pub least: Option<WholeOrder>,
 }
 
 /// What the walk's prefix, whose floor has this value, has if it isn't split: its floor as leaf if that is at least the best time or
 /// the prefix is complete, else a place in the frontier. Nothing if it is to be split.
-fn unsplit_knot(walk: &Walk<'_>, value: u32, best: u32, may_split: bool) -> Option<Knot>
+fn unsplit_vertex(walk: &Walk<'_>, value: u32, best: u32, may_split: bool) -> Option<Vertex>
     requires { value ≡ floor_value walk.now.problem walk.now.numbers }
-    ensures told { IfSome result (λ k. (told : Told) × (seen_knot k ≡ AtTip told) × IsTold NoneNamed walk.now.problem (span best best) walk.now.numbers told) }
+    ensures stated { IfSome result (λ k. (stated : Stated) × (seen_vertex k ≡ AtTerminal stated) × IsStated NoneNamed walk.now.problem (span best best) walk.now.numbers stated) }
     ensures unsplit { IfSome result (λ k. IsTrue may_split → ¬ IsDue walk.now.problem best walk.now.numbers) }
     ensures due { IfNone result (IsDue walk.now.problem best walk.now.numbers) }
     ensures may { IfNone result (IsTrue may_split) }
 {
     if walk.is_complete() || value >= best {
-        return Some(Knot::Leaf { value });
+        return Some(Vertex::Leaf { value });
     }
     if may_split {
         None
     } else {
-        Some(Knot::Frontier { value })
+        Some(Vertex::Frontier { value })
     }
 }
 
 /// What the walk's prefix has below the root, where it may be split by the best time: the name of a node that dominates it,
 /// if one is known; else nothing if it is to be split, or a place in the frontier.
-fn open_knot<N: Naming>(
+fn open_vertex<N: Naming>(
     alloc: Global,
     walk: &Walk<'_>,
     value: u32,
     may_split: bool,
     rule: Rule,
     names: &N,
-) -> Result<Option<Knot>, AllocError>
+) -> Result<Option<Vertex>, AllocError>
     requires value { value ≡ floor_value walk.now.problem walk.now.numbers }
     requires suits { N.suits names.now walk.now.problem }
-    ensures told { (best : Span) → IsDue walk.now.problem best.high walk.now.numbers → IfOk result (λ knot. IfSome knot (λ k. (told : Told) × (seen_knot k ≡ AtTip told) × IsTold rule walk.now.problem best walk.now.numbers told × ((value : ℕ) (name : List ℕ) → told ≡ ToldPassed value name → Among name (N.names names.now)))) }
-    ensures may { IfOk result (λ knot. IfNone knot (IsTrue may_split)) }
+    ensures stated { (best : Span) → IsDue walk.now.problem best.high walk.now.numbers → IfOk result (λ vertex. IfSome vertex (λ k. (stated : Stated) × (seen_vertex k ≡ AtTerminal stated) × IsStated rule walk.now.problem best walk.now.numbers stated × ((value : ℕ) (name : List ℕ) → stated ≡ StatedPassed value name → Among name (N.names names.now)))) }
+    ensures may { IfOk result (λ vertex. IfNone vertex (IsTrue may_split)) }
 {
     if let Some(name) = names.find_name(alloc, walk, rule)? {
-        return Ok(Some(Knot::Passed { value, name }));
+        return Ok(Some(Vertex::Passed { value, name }));
     }
     if may_split {
         Ok(None)
     } else {
-        Ok(Some(Knot::Frontier { value }))
+        Ok(Some(Vertex::Frontier { value }))
     }
 }
 
@@ -83,34 +83,34 @@ fn unsplit_child<L: Least, N: Naming>(
     may_split: bool,
     rule: Rule,
     names: &N,
-) -> Result<Option<Knot>, AllocError>
+) -> Result<Option<Vertex>, AllocError>
     requires kept { L.kept incumbent.old ≡ best.old }
     requires suits { N.suits names.now walk.now.problem }
     ensures kept { L.kept incumbent.new ≡ best.new }
     ensures falls { best.new ≤ best.old }
     ensures lowest { (L.lowest incumbent.new ≡ L.lowest incumbent.old) × (L.lowest incumbent.old ≤ best.old → L.lowest incumbent.old ≤ best.new) }
-    ensures told { IfOk result (λ knot. IfSome knot (λ k. (told : Told) × (seen_knot k ≡ AtTip told) × IsTold rule walk.now.problem (span best.old best.new) walk.now.numbers told × ((value : ℕ) (name : List ℕ) → told ≡ ToldPassed value name → Among name (N.names names.now)))) }
-    ensures due { IfOk result (λ knot. IfNone knot (IsDue walk.now.problem best.new walk.now.numbers)) }
-    ensures may { IfOk result (λ knot. IfNone knot (IsTrue may_split)) }
+    ensures stated { IfOk result (λ vertex. IfSome vertex (λ k. (stated : Stated) × (seen_vertex k ≡ AtTerminal stated) × IsStated rule walk.now.problem (span best.old best.new) walk.now.numbers stated × ((value : ℕ) (name : List ℕ) → stated ≡ StatedPassed value name → Among name (N.names names.now)))) }
+    ensures due { IfOk result (λ vertex. IfNone vertex (IsDue walk.now.problem best.new walk.now.numbers)) }
+    ensures may { IfOk result (λ vertex. IfNone vertex (IsTrue may_split)) }
 {
     let value = walk.floor_value();
-    if let Some(leaf) = unsplit_knot(walk, value, *best, true) {
+    if let Some(leaf) = unsplit_vertex(walk, value, *best, true) {
         return Ok(Some(leaf));
     }
     if may_split {
         *best = incumbent.least();
-        if let Some(leaf) = unsplit_knot(walk, value, *best, true) {
+        if let Some(leaf) = unsplit_vertex(walk, value, *best, true) {
             return Ok(Some(leaf));
         }
     }
-    open_knot(alloc, walk, value, may_split, rule, names)
+    open_vertex(alloc, walk, value, may_split, rule, names)
 }
 
 /// Keeps the lesser of the least whole order so far and that of the walk's prefix, where this line is its leaf.
-fn keep_whole(least: &mut Option<WholeOrder>, walk: &Walk<'_>, knot: &Knot)
-    ensures { (rule : Rule) (best : Span) (told : Told) (found : List (List ℕ)) → seen_knot knot.now ≡ AtTip told → IsTold rule walk.now.problem best walk.now.numbers told → IsLeast walk.now.problem found least.old → IsLeast walk.now.problem (found ++ whole_told walk.now.problem walk.now.numbers told) least.new }
+fn keep_whole(least: &mut Option<WholeOrder>, walk: &Walk<'_>, vertex: &Vertex)
+    ensures { (rule : Rule) (best : Span) (stated : Stated) (found : List (List ℕ)) → seen_vertex vertex.now ≡ AtTerminal stated → IsStated rule walk.now.problem best walk.now.numbers stated → IsLeast walk.now.problem found least.old → IsLeast walk.now.problem (found ++ whole_stated walk.now.problem walk.now.numbers stated) least.new }
 {
-    if let Knot::Leaf { value } = knot {
+    if let Vertex::Leaf { value } = vertex {
         if walk.is_complete() {
             keep_lesser(least, walk.numbers(), *value);
         }
@@ -139,28 +139,28 @@ pub(crate) fn grow<L: Least, N: Naming>(
     ensures same { walk.new.problem ≡ walk.old.problem }
     ensures falls { L.kept incumbent.new ≤ L.kept incumbent.old }
     ensures lowest { (L.lowest incumbent.new ≡ L.lowest incumbent.old) × (L.lowest incumbent.old ≤ L.kept incumbent.new) }
-    ensures grown { IfOk result (λ grown. (tree : Tree Told) × IsGrown rule walk.old.problem (span (L.kept incumbent.old) (L.kept incumbent.new)) allowance walk.old.numbers grown tree) }
+    ensures grown { IfOk result (λ grown. (tree : Tree Stated) × IsGrown rule walk.old.problem (span (L.kept incumbent.old) (L.kept incumbent.new)) allowance walk.old.numbers grown tree) }
 {
     // so each prefix has a frame
     prove!(walk.numbers().len() <= BLOCK_LIMIT);
-    let mut knots = Vec::new(alloc);
+    let mut vertices = Vec::new(alloc);
     let mut least = None;
     let value = walk.floor_value();
     let mut best = incumbent.least();
-    if let Some(knot) = unsplit_knot(walk, value, best, 0 < allowance) {
-        keep_whole(&mut least, walk, &knot);
-        names.keep_tip(walk, rule, 0, &knot);
-        knots.push(knot)?;
+    if let Some(vertex) = unsplit_vertex(walk, value, best, 0 < allowance) {
+        keep_whole(&mut least, walk, &vertex);
+        names.keep_terminal(walk, rule, 0, &vertex);
+        vertices.push(vertex)?;
         return Ok(Grown {
-            knots,
+            vertices,
             splits: 0,
             least,
         });
     }
-    knots.reserve(FIRST_LINES)?;
+    vertices.reserve(FIRST_LINES)?;
     names.keep_split(walk, rule, 0);
     let ready = walk.ready();
-    knots.push(Knot::Split(ready))?;
+    vertices.push(Vertex::Split(ready))?;
     let mut splits = 1;
     // of each prefix from the first one down to the walk's, the children that are still to come
     let mut frames: ArrayVec<Set, BLOCK_LIMIT> = ArrayVec::new();
@@ -172,16 +172,16 @@ pub(crate) fn grow<L: Least, N: Naming>(
             let may_split = splits < allowance;
             let child = unsplit_child(alloc, walk, &mut best, incumbent, may_split, rule, names)?;
             match child {
-                Some(knot) => {
-                    keep_whole(&mut least, walk, &knot);
-                    names.keep_tip(walk, rule, knots.len(), &knot);
-                    knots.push(knot)?;
+                Some(vertex) => {
+                    keep_whole(&mut least, walk, &vertex);
+                    names.keep_terminal(walk, rule, vertices.len(), &vertex);
+                    vertices.push(vertex)?;
                     walk.undo();
                 }
                 None => {
-                    names.keep_split(walk, rule, knots.len());
+                    names.keep_split(walk, rule, vertices.len());
                     let ready = walk.ready();
-                    knots.push(Knot::Split(ready))?;
+                    vertices.push(Vertex::Split(ready))?;
                     frames.push(ready);
                     splits += 1;
                 }
@@ -191,7 +191,7 @@ pub(crate) fn grow<L: Least, N: Naming>(
         }
     }
     Ok(Grown {
-        knots,
+        vertices,
         splits,
         least,
     })

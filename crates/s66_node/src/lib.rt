@@ -4,20 +4,20 @@
 mod chains;
 mod expansion;
 mod grow;
-mod knot;
 mod least;
 mod marks;
 mod naming;
 mod piece;
 mod schedule;
+mod vertex;
 mod walk;
 mod whole_order;
 
 pub use expansion::{expand, expand_dominated, expand_with};
-pub use knot::{FRONTIER, Knot, LEAF, Name, PASSED, Place, SPLIT};
 pub use least::{Constant, Least};
 pub use marks::Marks;
 pub use piece::Piece;
 pub use schedule::{Priority, schedule_below, schedule_rest};
+pub use vertex::{FRONTIER, LEAF, Name, PASSED, Place, SPLIT, Vertex};
 pub use walk::Walk;
 pub use whole_order::copy_of;

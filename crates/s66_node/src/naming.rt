@@ -1,5 +1,5 @@
-use crate::knot::{Knot, Name};
 use crate::marks::Marks;
+use crate::vertex::{Name, Vertex};
 use crate::walk::Walk;
 use crate::whole_order::copy_of;
 use s66_model::Rule;
@@ -38,9 +38,9 @@ pub(crate) trait Naming {
         ensures suits { suits self.new walk.now.problem }
         ensures known { (name : List ℕ) → Among name (names self.new) → (name ≡ walk.now.numbers) ⊎ Among name (names self.old) };
 
-    /// May know the walk's prefix from now on, which isn't split and has this knot in this line. By the rule of earlier
+    /// May know the walk's prefix from now on, which isn't split and has this vertex in this line. By the rule of earlier
     /// nodes it doesn't.
-    fn keep_tip(&mut self, walk: &Walk<'_>, rule: Rule, line: usize, knot: &Knot)
+    fn keep_terminal(&mut self, walk: &Walk<'_>, rule: Rule, line: usize, vertex: &Vertex)
         requires suits { suits self.old walk.now.problem }
         ensures suits { suits self.new walk.now.problem }
         ensures known { rule ≡ WrittenEarlier → names self.new ≡ names self.old };
@@ -68,7 +68,7 @@ impl Naming for NoNames {
 
     fn keep_split(&mut self, _walk: &Walk<'_>, _rule: Rule, _line: usize) {}
 
-    fn keep_tip(&mut self, _walk: &Walk<'_>, _rule: Rule, _line: usize, _knot: &Knot) {}
+    fn keep_terminal(&mut self, _walk: &Walk<'_>, _rule: Rule, _line: usize, _vertex: &Vertex) {}
 }
 
 impl Naming for Marks<'_> {
@@ -100,8 +100,8 @@ impl Naming for Marks<'_> {
         self.insert(walk, rule, line);
     }
 
-    fn keep_tip(&mut self, walk: &Walk<'_>, rule: Rule, line: usize, knot: &Knot) {
-        if let (Rule::ClampedStanding, Knot::Frontier { .. }) = (rule, knot) {
+    fn keep_terminal(&mut self, walk: &Walk<'_>, rule: Rule, line: usize, vertex: &Vertex) {
+        if let (Rule::ClampedStanding, Vertex::Frontier { .. }) = (rule, vertex) {
             self.insert(walk, rule, line);
         }
     }

@@ -1,4 +1,4 @@
-use crate::knot::Knot;
+use crate::vertex::Vertex;
 use arrayvec::ArrayVec;
 use s66_dep::Order;
 use s66_isa::{BLOCK_LIMIT, Profile, is_same_profile};
@@ -16,7 +16,7 @@ pub struct Piece {
     pub(crate) source: Order,
     pub(crate) profile: Profile,
     pub(crate) prefix: ArrayVec<u8, BLOCK_LIMIT>,
-    pub(crate) knots: Vec<Knot>,
+    pub(crate) vertices: Vec<Vertex>,
     pub(crate) splits: u32,
     // boxed, so that a move of a piece is cheap
     pub(crate) timed: Option<Box<Timed>>,
@@ -25,13 +25,13 @@ pub struct Piece {
 impl Model for Piece {
     ghost use Rattle.std.specs.Option.{option_map};
     ghost use Rattle.s66_node.specs.Pieces.{PieceOf, IsKept};
-    ghost use Rattle.s66_node.specs.SeenKnots.{seen};
+    ghost use Rattle.s66_node.specs.SeenVertices.{seen};
 
     ghost Value = { PieceOf };
 
-    ghost view = { λ p. record { rule = p.rule; problem = record { block = p.source.block; profile = p.profile }; prefix = p.prefix.items; knots = seen p.knots.items; timed = option_map (λ t. t.value) p.timed } };
+    ghost view = { λ p. record { rule = p.rule; problem = record { block = p.source.block; profile = p.profile }; prefix = p.prefix.items; vertices = seen p.vertices.items; timed = option_map (λ t. t.value) p.timed } };
 
-    ghost invariant = { λ p. IsKept (record { rule = p.rule; problem = record { block = p.source.block; profile = p.profile }; prefix = p.prefix.items; knots = seen p.knots.items; timed = option_map (λ t. t.value) p.timed }) p.splits };
+    ghost invariant = { λ p. IsKept (record { rule = p.rule; problem = record { block = p.source.block; profile = p.profile }; prefix = p.prefix.items; vertices = seen p.vertices.items; timed = option_map (λ t. t.value) p.timed }) p.splits };
 }
 
 impl Piece {
@@ -42,10 +42,10 @@ impl Piece {
     ghost use Rattle.s66_model.specs.declared.rule.Rule.TheVariants.{NoneNamed};
     ghost use Rattle.s66_model.specs.Tree.{flat, splits};
     ghost use Rattle.s66_model.specs.Piece.{IsPiece};
-    ghost use Rattle.s66_node.specs.Pieces.{told_tree, tree_of, IsBestTimed};
-    ghost use Rattle.s66_model.specs.Told.{IsToldTree};
-    ghost use Rattle.s66_node.specs.SeenKnots.{seen};
-    ghost use Rattle.s66_node.specs.Outlines.{outline_of, names_of, IsOutlineOf};
+    ghost use Rattle.s66_node.specs.Pieces.{stated_tree, tree_of, IsBestTimed};
+    ghost use Rattle.s66_model.specs.Stated.{IsStatedTree};
+    ghost use Rattle.s66_node.specs.SeenVertices.{seen};
+    ghost use Rattle.s66_node.specs.Skeletons.{skeleton_of, names_of, IsSkeletonOf};
 
     /// Whether it is of this block under this profile, in time linear in the block's length.
     pub fn is_of(&self, block: &Block, profile: &Profile) -> bool
@@ -85,18 +85,18 @@ impl Piece {
     }
 
     /// The lines of the tree in preorder, with the value of each floor in minor cycles. Behind the prefix, their bytes tell the tree,
-    /// with the names of its dominated leaves: that is the piece's outline.
-    pub fn knots(&self) -> &[Knot]
-        ensures value { seen result.now ≡ self.now.knots }
-        ensures preorder { flat (told_tree self.now) ≡ self.now.knots }
-        ensures told { IsToldTree self.now.rule self.now.problem self.now.prefix (told_tree self.now) }
+    /// with the names of its dominated leaves: that is the piece's skeleton.
+    pub fn vertices(&self) -> &[Vertex]
+        ensures value { seen result.now ≡ self.now.vertices }
+        ensures preorder { flat (stated_tree self.now) ≡ self.now.vertices }
+        ensures stated { IsStatedTree self.now.rule self.now.problem self.now.prefix (stated_tree self.now) }
         ensures piece { IsPiece self.now.rule self.now.problem self.now.prefix (tree_of self.now) }
-        ensures outline { IsOutlineOf self.now (outline_of self.now) (names_of self.now) }
+        ensures skeleton { IsSkeletonOf self.now (skeleton_of self.now) (names_of self.now) }
         ensures few { length self.now.problem.block ≤ BLOCK_LIMIT }
     {
         // proof only: a number for each instruction
         let _few = self.source.numbers();
-        self.knots.as_slice()
+        self.vertices.as_slice()
     }
 
     /// A least one of the tree's whole orders, timed, where it has some.

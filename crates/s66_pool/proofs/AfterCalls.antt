@@ -9,8 +9,8 @@ use Rattle.s66_model.specs.Recorded.{IsGraftOf, IsOfferOf, IsOwn, IsOwnPiece, Tr
 use Rattle.s66_model.specs.declared.rule.Rule.{Rule}
 use Rattle.s66_model.specs.Timing.{Problem, total_of}
 use Rattle.s66_model.specs.Tree.{Tree, splits}
-use Rattle.s66_model.specs.Piece.{Tip}
-use Rattle.s66_model.specs.Accounts.{Summary, Passbook, Account, Agrees, opened, account_at, after_event, after_reading, least_after, no_account}
+use Rattle.s66_model.specs.Piece.{Terminal}
+use Rattle.s66_model.specs.Accounts.{Summary, SeatRecord, Account, Agrees, opened, account_at, after_event, after_reading, least_after, no_account}
 use Rattle.s66_node.specs.Pieces.{PieceOf, tree_of}
 use Rattle.s66_ledger.specs.Ledgers.{LedgerOf, IsEvent, account_summary}
 use Rattle.s66_ledger.specs.Grafts.{IsGraftAt, IsRefusedGraftAt}
@@ -25,31 +25,31 @@ use Rattle.s66_ledger.specs.declared.reply.BackError.TheVariants as kept
 use Rattle.s66_ledger.proofs.Opened.{same-splits}
 use Rattle.s66_pool.specs.SeatViews.{View, Follows, renewed, idle, holding, first_book}
 use Rattle.s66_pool.specs.Hubs.{SeatOf, HasGrafted, HasBeenRefused, HasOffered, IsKnown}
-use Rattle.s66_pool.proofs.SeatEvents.{renewed-agrees, same-follows, same-book, event-follows, event-read, event-known, quiet-book, told-book, lower-told, answer-told, gave-book, gave-opened}
+use Rattle.s66_pool.proofs.SeatEvents.{renewed-agrees, same-follows, same-book, event-follows, event-read, event-known, quiet-book, stated-book, lower-stated, answer-stated, gave-book, gave-opened}
 
 -- A SEAT THAT GAVE THE LEDGER BACK
 
-module _ {X : Type 0} (m : Me (Option X) View) (y : Summary) (p : Passbook) (held : m ≡ (holding y (p ∷ []), (0, None) ∷ [])) (z : Summary) (n : Me (Option X) View)
+module _ {X : Type 0} (m : Me (Option X) View) (y : Summary) (p : SeatRecord) (held : m ≡ (holding y (p ∷ []), (0, None) ∷ [])) (z : Summary) (n : Me (Option X) View)
     (rests : n ≡ (idle (renewed z (first_book m.0.books) (first_book m.0.books).least ∷ []), [])) where
   pub seat-keeps : (number count : ℕ) → p.who ≡ number → (renewed z p p.least).account.splits ≡ count
       → (n ≡ (idle (first_book n.0.books ∷ []), [])) × ((first_book n.0.books).who ≡ number) × ((first_book n.0.books).account.splits ≡ count)
   seat-keeps number count who counts =
       let book = gave-book m y p held z n rests in (
-        rests ∙ ap (λ (q : Passbook). (idle (q ∷ []), [])) (sym (ap (λ (k : Me (Option X) View). first_book k.0.books) rests)),
-        ap (λ (q : Passbook). q.who) book ∙ who,
-        ap (λ (q : Passbook). q.account.splits) book ∙ counts,
+        rests ∙ ap (λ (q : SeatRecord). (idle (q ∷ []), [])) (sym (ap (λ (k : Me (Option X) View). first_book k.0.books) rests)),
+        ap (λ (q : SeatRecord). q.who) book ∙ who,
+        ap (λ (q : SeatRecord). q.account.splits) book ∙ counts,
       )
 
-pub seat-same : (old : SeatOf) (hub now : TableId) (p q : Passbook) → record { hub = hub; book = p } ≡ old → now ≡ hub → q ≡ p → record { hub = now; book = q } ≡ old
+pub seat-same : (old : SeatOf) (hub now : TableId) (p q : SeatRecord) → record { hub = hub; book = p } ≡ old → now ≡ hub → q ≡ p → record { hub = now; book = q } ≡ old
 seat-same old hub now p q is here same = (λ i. record { hub = here i; book = same i }) ∙ is
 
--- A CALL BY THE WORKER OF THE PASSBOOK
+-- A CALL BY THE WORKER OF THE SEAT RECORD
 
--- what a call keeps: the others' passbooks, and so many splits in its own
-abbrev pub Keeps : LedgerOf → LedgerOf → Passbook → ℕ → Type 0
+-- what a call keeps: the others' seat records, and so many splits in its own
+abbrev pub Keeps : LedgerOf → LedgerOf → SeatRecord → ℕ → Type 0
 Keeps l new p count = Follows p.who (account_summary l) (account_summary new) × ((renewed (account_summary new) p p.least).account.splits ≡ count)
 
-module _ (l old new : LedgerOf) (e : old ≡ l) (p : Passbook) (number : ℕ) (who : p.who ≡ number) (agrees : Agrees (account_summary l) p) where
+module _ (l old new : LedgerOf) (e : old ≡ l) (p : SeatRecord) (number : ℕ) (who : p.who ≡ number) (agrees : Agrees (account_summary l) p) where
   pub called : (event : ℕ → Event) (reply : Reply) → IsEvent old (event number) reply new → IsEvent l (event p.who) reply new
   called event reply h =
       let P : LedgerOf → Type 0 = λ k. IsEvent k (event p.who) reply new in
@@ -60,7 +60,7 @@ module _ (l old new : LedgerOf) (e : old ≡ l) (p : Passbook) (number : ℕ) (w
   same-call h =
       let same = h ∙ e in
       let book = same-book l new p same agrees in
-      ((same-follows l new p same, ap (λ (q : Passbook). q.account.splits) book), book)
+      ((same-follows l new p same, ap (λ (q : SeatRecord). q.account.splits) book), book)
 
   -- an event that tells no time
   pub quiet-call : (event : ℕ → Event) (reply : Reply) → worker (event p.who) ≡ p.who → least_after p.least (event p.who) reply ≡ p.least → IsEvent old (event number) reply new
@@ -68,7 +68,7 @@ module _ (l old new : LedgerOf) (e : old ≡ l) (p : Passbook) (number : ℕ) (w
   quiet-call event reply own quiet h =
       let now = called event reply h in
       let book = quiet-book l new p (event p.who) reply now own agrees quiet in
-      ((event-follows l new p (event p.who) reply now own, ap (λ (q : Passbook). q.account.splits) book), book)
+      ((event-follows l new p (event p.who) reply now own, ap (λ (q : SeatRecord). q.account.splits) book), book)
 
   -- an event that tells no time, after which the best time was read
   pub reading-call : (event : ℕ → Event) (reply : Reply) → worker (event p.who) ≡ p.who → least_after p.least (event p.who) reply ≡ p.least → spends (event p.who) reply ≡ 0 → IsEvent old (event number) reply new
@@ -78,16 +78,16 @@ module _ (l old new : LedgerOf) (e : old ≡ l) (p : Passbook) (number : ℕ) (w
       let now = called event reply h in
       let read = event-read l new p (event p.who) reply now own agrees in (
         event-follows l new p (event p.who) reply now own,
-        ap (λ (q : Passbook). q.account.splits) read ∙ omega (arith, free),
+        ap (λ (q : SeatRecord). q.account.splits) read ∙ omega (arith, free),
         read,
         omega (arith, event-known l new p (event p.who) reply now own agrees, quiet),
       )
 
-  -- a graft, and of any seat with this passbook what became of it
+  -- a graft, and of any seat with this seat record what became of it
   module _ (i : ℕ) (piece : PieceOf) where
-    grafted-as : (reply : Reply) (cost : ℕ) → ((w : ℕ) (own : Bool) (taken : Tree Tip) → worker (graft_event w i own piece.prefix taken reply) ≡ w)
-        → ((w : ℕ) (own : Bool) (taken : Tree Tip) → least_after p.least (graft_event w i own piece.prefix taken reply) reply ≡ p.least)
-        → ((w : ℕ) (own : Bool) (taken : Tree Tip) → TreeOpens (tree_of piece) taken → spends (graft_event w i own piece.prefix taken reply) reply ≡ cost)
+    grafted-as : (reply : Reply) (cost : ℕ) → ((w : ℕ) (own : Bool) (taken : Tree Terminal) → worker (graft_event w i own piece.prefix taken reply) ≡ w)
+        → ((w : ℕ) (own : Bool) (taken : Tree Terminal) → least_after p.least (graft_event w i own piece.prefix taken reply) reply ≡ p.least)
+        → ((w : ℕ) (own : Bool) (taken : Tree Terminal) → TreeOpens (tree_of piece) taken → spends (graft_event w i own piece.prefix taken reply) reply ≡ cost)
         → IsGraftAt old number i piece reply new
         → Keeps l new p (p.account.splits + cost) × ((s now : SeatOf) → p ≡ s.book → now.book ≡ renewed (account_summary new) p p.least → HasGrafted s i piece reply now)
     grafted-as reply cost by quiet spent (event, (own, taken, of, opens, is), h) =
@@ -98,7 +98,7 @@ module _ (l old new : LedgerOf) (e : old ≡ l) (p : Passbook) (number : ℕ) (w
         let owned = subst (λ (b : Problem). IsOwnPiece p.rule b piece.rule piece.problem own) (ap (λ (k : LedgerOf). k.problem) e ∙ sym agrees.problem) own_by in (
           (call.0.0, call.0.1 ∙ ap (λ (n : ℕ). p.account.splits + n) (spent p.who own taken opens)),
           λ s now at after.
-              (let R : Passbook → Type 0 = λ q. (v : Event) × IsGraftOf q.rule q.problem q.who i piece.rule piece.problem piece.prefix (tree_of piece) reply v × (now.book ≡ after_event q v reply) in
+              (let R : SeatRecord → Type 0 = λ q. (v : Event) × IsGraftOf q.rule q.problem q.who i piece.rule piece.problem piece.prefix (tree_of piece) reply v × (now.book ≡ after_event q v reply) in
               subst R at (named p.who, (own, taken, owned, opens, refl), after ∙ call.1)),
         )
 
@@ -152,14 +152,14 @@ pub account-within : (s : Summary) (w : ℕ) → 1 ≤ w → w ≤ length s.acco
 account-within s w low high = got-le-weigh s.accounts (w - 1) (omega (arith, low, high))
 
 -- nor the worker who called
-pub keeps-within : (l new : LedgerOf) (p : Passbook) (count : ℕ) → Agrees (account_summary l) p → Keeps l new p count → count ≤ weigh (λ a. a.splits) (account_summary new).accounts
+pub keeps-within : (l new : LedgerOf) (p : SeatRecord) (count : ℕ) → Agrees (account_summary l) p → Keeps l new p count → count ≤ weigh (λ a. a.splits) (account_summary new).accounts
 keeps-within l new p count agrees keeps =
     let is = renewed-agrees (account_summary l) (account_summary new) p agrees keeps.0 in
     omega (arith, keeps.1, account-within (account_summary new) p.who is.worker.0 is.worker.1)
 
 -- AN OFFER
 
-module _ (l old new : LedgerOf) (e : old ≡ l) (p : Passbook) (number : ℕ) (who : p.who ≡ number) (agrees : Agrees (account_summary l) p) (timed : TimedOrder) where
+module _ (l old new : LedgerOf) (e : old ≡ l) (p : SeatRecord) (number : ℕ) (who : p.who ≡ number) (agrees : Agrees (account_summary l) p) (timed : TimedOrder) where
   abbrev named : Bool → ℕ → Event
   named own w = Offer w own timed.numbers (total_of timed.problem timed.numbers)
 
@@ -175,7 +175,7 @@ module _ (l old new : LedgerOf) (e : old ≡ l) (p : Passbook) (number : ℕ) (w
 
   has-offered : (s now : SeatOf) (reply : Reply) (own : Bool) → p ≡ s.book → IsOwn p.problem timed.problem own → now.book ≡ after_event p (named own p.who) reply → HasOffered s timed reply now
   has-offered s now reply own at of is =
-      let R : Passbook → Type 0 = λ q. (v : Event) × IsOfferOf q.problem q.who timed.problem timed.numbers v × (now.book ≡ after_event q v reply) in
+      let R : SeatRecord → Type 0 = λ q. (v : Event) × IsOfferOf q.problem q.who timed.problem timed.numbers v × (now.book ≡ after_event q v reply) in
       subst R at (named own p.who, (own, of, refl), is)
 
   -- of another block
@@ -183,7 +183,7 @@ module _ (l old new : LedgerOf) (e : old ≡ l) (p : Passbook) (number : ℕ) (w
   other-keeps offered.OtherBlock is h =
       let (own, of, now) = offered-as model.OtherBlock h in
       let book = quiet-book l new p (named own p.who) model.OtherBlock now refl agrees refl in
-      (event-follows l new p (named own p.who) model.OtherBlock now refl, ap (λ (q : Passbook). q.account.splits) book ∙ omega arith)
+      (event-follows l new p (named own p.who) model.OtherBlock now refl, ap (λ (q : SeatRecord). q.account.splits) book ∙ omega arith)
   other-keeps offered.Lower is h = absurd (let no : offered.Lower ≡ offered.OtherBlock = is in cc)
   other-keeps (offered.NotLower n) is h = absurd (let no : offered.NotLower n ≡ offered.OtherBlock = is in cc)
 
@@ -195,47 +195,47 @@ module _ (l old new : LedgerOf) (e : old ≡ l) (p : Passbook) (number : ℕ) (w
   other-offered s after (offered.NotLower n) is at gave h = absurd (let no : offered.NotLower n ≡ offered.OtherBlock = is in cc)
 
   -- of this one
-  pub told-follows : (o : Offered) → Recorded (offered_reply o) → Follows p.who (account_summary l) (account_summary new)
-  told-follows o h =
+  pub stated-follows : (o : Offered) → Recorded (offered_reply o) → Follows p.who (account_summary l) (account_summary new)
+  stated-follows o h =
       let (own, of, now) = offered-as (offered_reply o) h in event-follows l new p (named own p.who) (offered_reply o) now refl
 
-  pub told-opened : (o : Offered) → (o ≡ offered.OtherBlock → ⊥) → Recorded (offered_reply o)
+  pub stated-opened : (o : Offered) → (o ≡ offered.OtherBlock → ⊥) → Recorded (offered_reply o)
       → (own : Bool) × IsOwn p.problem timed.problem own × (opened (account_summary new) p.who ≡ after_event p (named own p.who) (offered_reply o)) × IsKnown (offered_reply o) p
-  told-opened offered.OtherBlock other h = absurd (other refl)
-  told-opened offered.Lower other h =
+  stated-opened offered.OtherBlock other h = absurd (other refl)
+  stated-opened offered.Lower other h =
       let (own, of, now) = offered-as model.Lower h in
-      let told = lower-told l new p p.who own timed.numbers (total_of timed.problem timed.numbers) now agrees in
-      (own, of, told-book l new p (named own p.who) model.Lower now refl agrees told, tt)
-  told-opened (offered.NotLower n) other h =
+      let stated = lower-stated l new p p.who own timed.numbers (total_of timed.problem timed.numbers) now agrees in
+      (own, of, stated-book l new p (named own p.who) model.Lower now refl agrees stated, tt)
+  stated-opened (offered.NotLower n) other h =
       let (own, of, now) = offered-as (model.NotLower n) h in
-      let told = answer-told l new p p.who own timed.numbers (total_of timed.problem timed.numbers) n now agrees in
-      (own, of, told-book l new p (named own p.who) (model.NotLower n) now refl agrees told.0, told.1)
+      let stated = answer-stated l new p p.who own timed.numbers (total_of timed.problem timed.numbers) n now agrees in
+      (own, of, stated-book l new p (named own p.who) (model.NotLower n) now refl agrees stated.0, stated.1)
 
   free : (own : Bool) (w : ℕ) (o : Offered) → spends (named own w) (offered_reply o) ≡ 0
   free own w offered.OtherBlock = refl
   free own w offered.Lower = refl
   free own w (offered.NotLower n) = refl
 
-  pub told-splits : (o : Offered) → (o ≡ offered.OtherBlock → ⊥) → Recorded (offered_reply o) → (opened (account_summary new) p.who).account.splits ≡ p.account.splits
-  told-splits o other h =
-      let (own, of, book, known) = told-opened o other h in
-      ap (λ (q : Passbook). q.account.splits) book ∙ (let none = free own p.who o in omega arith)
+  pub stated-splits : (o : Offered) → (o ≡ offered.OtherBlock → ⊥) → Recorded (offered_reply o) → (opened (account_summary new) p.who).account.splits ≡ p.account.splits
+  stated-splits o other h =
+      let (own, of, book, known) = stated-opened o other h in
+      ap (λ (q : SeatRecord). q.account.splits) book ∙ (let none = free own p.who o in omega arith)
 
-  pub told-offered : (s now : SeatOf) (o : Offered) → (o ≡ offered.OtherBlock → ⊥) → p ≡ s.book → now.book ≡ opened (account_summary new) p.who → Recorded (offered_reply o) → HasOffered s timed (offered_reply o) now
-  told-offered s after o other at gave h =
-      let (own, of, book, known) = told-opened o other h in
+  pub stated-offered : (s now : SeatOf) (o : Offered) → (o ≡ offered.OtherBlock → ⊥) → p ≡ s.book → now.book ≡ opened (account_summary new) p.who → Recorded (offered_reply o) → HasOffered s timed (offered_reply o) now
+  stated-offered s after o other at gave h =
+      let (own, of, book, known) = stated-opened o other h in
       has-offered s after (offered_reply o) own at of (gave ∙ book)
 
-  pub told-known : (s : SeatOf) (o : Offered) → (o ≡ offered.OtherBlock → ⊥) → p ≡ s.book → Recorded (offered_reply o) → IsKnown (offered_reply o) s.book
-  told-known s o other at h = let (own, of, book, known) = told-opened o other h in subst (λ (q : Passbook). IsKnown (offered_reply o) q) at known
+  pub stated-known : (s : SeatOf) (o : Offered) → (o ≡ offered.OtherBlock → ⊥) → p ≡ s.book → Recorded (offered_reply o) → IsKnown (offered_reply o) s.book
+  stated-known s o other at h = let (own, of, book, known) = stated-opened o other h in subst (λ (q : SeatRecord). IsKnown (offered_reply o) q) at known
 
-module _ {X : Type 0} (m : Me (Option X) View) (y : Summary) (p : Passbook) (held : m ≡ (holding y (p ∷ []), (0, None) ∷ [])) (z : Summary) (n : Me (Option X) View)
+module _ {X : Type 0} (m : Me (Option X) View) (y : Summary) (p : SeatRecord) (held : m ≡ (holding y (p ∷ []), (0, None) ∷ [])) (z : Summary) (n : Me (Option X) View)
     (rests : n ≡ (idle (opened z (first_book m.0.books).who ∷ []), [])) where
   pub seat-reads : (number count : ℕ) → p.who ≡ number → (opened z p.who).account.splits ≡ count
       → (n ≡ (idle (first_book n.0.books ∷ []), [])) × ((first_book n.0.books).who ≡ number) × ((first_book n.0.books).account.splits ≡ count)
   seat-reads number count who counts =
       let book = gave-opened m y p held z n rests in (
-        rests ∙ ap (λ (q : Passbook). (idle (q ∷ []), [])) (sym (ap (λ (k : Me (Option X) View). first_book k.0.books) rests)),
-        ap (λ (q : Passbook). q.who) book ∙ who,
-        ap (λ (q : Passbook). q.account.splits) book ∙ counts,
+        rests ∙ ap (λ (q : SeatRecord). (idle (q ∷ []), [])) (sym (ap (λ (k : Me (Option X) View). first_book k.0.books) rests)),
+        ap (λ (q : SeatRecord). q.who) book ∙ who,
+        ap (λ (q : SeatRecord). q.account.splits) book ∙ counts,
       )

@@ -1,40 +1,40 @@
--- Passbooks: how many are a worker's, and which agree with a summary.
+-- SeatRecords: how many are a worker's, and which agree with a summary.
 use Rattle.std.proofs.Common.{◌≡◌, ◌≢◌, ℕ, zero, suc, ◌+◌, ◌<◌, ◌≤◌, cond, List, [], ◌∷◌, length, map, All, refl, ap, ◌∙◌, arith}
 use mathlib.Core.Logic.{dite}
 use native.Mathlib.Decide.{ℕ_discrete}
 use Rattle.std.proofs.lemmas.Bool.{eq-eqb, ne_eqb}
 use Rattle.std.proofs.lemmas.List.Elements.{All-nil, All-cons, All-head, All-tail}
 use Rattle.s66_isa.specs.Lists.{rising}
-use Rattle.s66_model.specs.Accounts.{Summary, Passbook, Agrees, opened}
+use Rattle.s66_model.specs.Accounts.{Summary, SeatRecord, Agrees, opened}
 use Rattle.s66_pool.specs.SeatViews.{books_of, all_opened, first_of, rest_of, Follows}
 
-counted : (n : ℕ) (p : Passbook) (ps : List Passbook) → p.who ≡ n → books_of n (p ∷ ps) ≡ 1 + books_of n ps
+counted : (n : ℕ) (p : SeatRecord) (ps : List SeatRecord) → p.who ≡ n → books_of n (p ∷ ps) ≡ 1 + books_of n ps
 counted n p ps e = ap (λ b. cond b 1 0 + books_of n ps) (eq-eqb p.who n e)
 
-not_counted : (n : ℕ) (p : Passbook) (ps : List Passbook) → p.who ≢ n → books_of n (p ∷ ps) ≡ books_of n ps
+not_counted : (n : ℕ) (p : SeatRecord) (ps : List SeatRecord) → p.who ≢ n → books_of n (p ∷ ps) ≡ books_of n ps
 not_counted n p ps ne = ap (λ b. cond b 1 0 + books_of n ps) (ne_eqb p.who n ne) ∙ omega arith
 
-pub own : (p : Passbook) → books_of p.who (p ∷ []) ≡ 1
+pub own : (p : SeatRecord) → books_of p.who (p ∷ []) ≡ 1
 own p = counted p.who p [] refl
 
 -- THE FIRST AND THE REST
 
-pub cut : (n : ℕ) (ps : List Passbook) → books_of n (rest_of ps) + books_of n (first_of ps) ≡ books_of n ps
+pub cut : (n : ℕ) (ps : List SeatRecord) → books_of n (rest_of ps) + books_of n (first_of ps) ≡ books_of n ps
 cut n [] = refl
 cut n (p ∷ ps) = omega arith
 
-pub rest-agree : (s : Summary) (ps : List Passbook) → All (Agrees s) ps → All (Agrees s) (rest_of ps)
+pub rest-agree : (s : Summary) (ps : List SeatRecord) → All (Agrees s) ps → All (Agrees s) (rest_of ps)
 rest-agree s [] h = h
 rest-agree s (p ∷ ps) h = All-tail (Agrees s) p ps h
 
-pub first-agree : (s : Summary) (ps : List Passbook) → All (Agrees s) ps → All (Agrees s) (first_of ps)
+pub first-agree : (s : Summary) (ps : List SeatRecord) → All (Agrees s) ps → All (Agrees s) (first_of ps)
 first-agree s [] h = h
 first-agree s (p ∷ ps) h = All-cons (Agrees s) p [] (All-head (Agrees s) p ps h) (All-nil (Agrees s))
 
 -- AFTER A CALL
 
--- the passbooks of other workers still agree
-pub others-agree : (who : ℕ) (s t : Summary) (ps : List Passbook) → Follows who s t → books_of who ps ≡ 0 → All (Agrees s) ps → All (Agrees t) ps
+-- the seat records of other workers still agree
+pub others-agree : (who : ℕ) (s t : Summary) (ps : List SeatRecord) → Follows who s t → books_of who ps ≡ 0 → All (Agrees s) ps → All (Agrees t) ps
 others-agree who s t [] follows none agree = All-nil (Agrees t)
 others-agree who s t (p ∷ ps) follows none agree =
     let other : p.who ≢ who = λ e. omega (arith, counted who p ps e) in
@@ -43,7 +43,7 @@ others-agree who s t (p ∷ ps) follows none agree =
 
 -- AS THE LOCK OPENS
 
-abbrev books_from : Summary → ℕ → ℕ → List Passbook
+abbrev books_from : Summary → ℕ → ℕ → List SeatRecord
 books_from s count low = map (opened s) (rising count low)
 
 opened_none : (s : Summary) (count low n : ℕ) → n < low → books_of n (books_from s count low) ≡ 0
@@ -79,7 +79,7 @@ some_from s (suc count) low h = omega arith
 pub some_opened : (s : Summary) → 0 < length s.accounts → 0 < length (all_opened s)
 some_opened s h = some_from s (length s.accounts) 1 h
 
--- a worker who has a passbook among some that agree
-pub has_book : (s : Summary) (ps : List Passbook) → 0 < length ps → All (Agrees s) ps → (w : ℕ) × (1 ≤ w) × (w ≤ length s.accounts) × (1 ≤ books_of w ps)
+-- a worker who has a seat record among some that agree
+pub has_book : (s : Summary) (ps : List SeatRecord) → 0 < length ps → All (Agrees s) ps → (w : ℕ) × (1 ≤ w) × (w ≤ length s.accounts) × (1 ≤ books_of w ps)
 has_book s [] h agree = absurd (omega arith)
 has_book s (p ∷ ps) h agree = let worker = (All-head (Agrees s) p ps agree).worker in (p.who, worker.0, worker.1, omega (arith, counted p.who p ps refl))

@@ -3,26 +3,26 @@ use Rattle.std.proofs.Common.{◌≡◌, ℕ, ◌+◌, ◌≤◌, ◌||◌, cond
 use Rattle.std.proofs.lemmas.List.{map-append}
 use Rattle.std.proofs.lemmas.List.Elements.{All-nil, All-cons, All-head, All-tail}
 use Rattle.s66_isa.specs.Lists.{weigh, some_of}
-use Rattle.s66_model.specs.Accounts.{Summary, Passbook, Agrees}
+use Rattle.s66_model.specs.Accounts.{Summary, SeatRecord, Agrees}
 use Rattle.s66_pool.specs.Hubs.{SeatOf, HaveSeats}
 use Rattle.s66_pool.specs.SeatViews.{books_of}
 use Rattle.s66_pool.specs.LockTokens.{HaveEvery}
 use Rattle.s66_pool.proofs.Sums.{splits-of-all}
 
-abbrev pub books_in : List SeatOf → List Passbook
+abbrev pub books_in : List SeatOf → List SeatRecord
 books_in seats = map (λ s. s.book) seats
 
--- one seat less, and its passbook is with the others
-pub collects : (all left : List SeatOf) (s : SeatOf) (ps qs whole : List Passbook) → all ≡ left ++ s ∷ [] → qs ≡ s.book ∷ ps → books_in all ++ ps ≡ whole → books_in left ++ qs ≡ whole
+-- one seat less, and its seat record is with the others
+pub collects : (all left : List SeatOf) (s : SeatOf) (ps qs whole : List SeatRecord) → all ≡ left ++ s ∷ [] → qs ≡ s.book ∷ ps → books_in all ++ ps ≡ whole → books_in left ++ qs ≡ whole
 collects all left s ps qs whole more is was =
     let cut : books_in all ≡ books_in left ++ s.book ∷ [] = ap books_in more ∙ map-append (λ (t : SeatOf). t.book) left (s ∷ []) in
     ap (λ l. books_in left ++ l) is ∙ sym (append_assoc (books_in left) (s.book ∷ []) ps) ∙ ap (λ l. l ++ ps) (sym cut) ∙ was
 
-pub none-left : (seats : List SeatOf) (ps whole : List Passbook) → length seats ≡ 0 → books_in seats ++ ps ≡ whole → ps ≡ whole
+pub none-left : (seats : List SeatOf) (ps whole : List SeatRecord) → length seats ≡ 0 → books_in seats ++ ps ≡ whole → ps ≡ whole
 none-left [] ps whole none was = was
 none-left (s ∷ seats) ps whole none was = absurd (omega arith)
 
--- a worker's seat has its passbook
+-- a worker's seat has its seat record
 seat-counts : (w : ℕ) (here : Bool) (seats : List SeatOf) → (here || some_of (λ s. eqb s.book.who w) seats) ≡ true → (some_of (λ s. eqb s.book.who w) seats ≡ true → 1 ≤ books_of w (books_in seats))
     → 1 ≤ cond {A = ℕ} here 1 0 + books_of w (books_in seats)
 seat-counts w true seats has rest = omega arith
@@ -44,7 +44,7 @@ splits-in : (seats : List SeatOf) → weigh (λ t. t.book.account.splits) seats 
 splits-in [] = refl
 splits-in (t ∷ seats) = ap (λ (n : ℕ). t.book.account.splits + n) (splits-in seats)
 
--- where no worker has two passbooks, and each has one, the splits of the seats are those of the accounts
+-- where no worker has two seat records, and each has one, the splits of the seats are those of the accounts
 pub seats-splits : (s : Summary) (seats : List SeatOf) → All (Agrees s) (books_in seats) → HaveEvery (length s.accounts) (books_in seats) → ((w : ℕ) → books_of w (books_in seats) ≤ 1)
     → weigh (λ t. t.book.account.splits) seats ≡ weigh (λ a. a.splits) s.accounts
 seats-splits s seats agree every once =

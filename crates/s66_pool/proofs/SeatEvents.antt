@@ -1,9 +1,9 @@
--- What a call of the ledger makes of its summary, and of the passbook of the worker who called.
+-- What a call of the ledger makes of its summary, and of the seat record of the worker who called.
 use Rattle.std.proofs.Common.{◌≡◌, ℕ, ◌≤◌, min, Bool, List, [], ◌∷◌, ◌++◌, Result, Ok, Err, Option, None, IfOk, IfErr, sym, refl, ap, ◌∙◌, subst, arith}
 use Rattle.atomic_table.specs.Table.{Me}
 use Rattle.s66_model.specs.Timing.{Problem}
 use Rattle.s66_model.specs.Ledger.{Event, Reply, Offer, Lower, NotLower, worker, best_time}
-use Rattle.s66_model.specs.Accounts.{Summary, Passbook, Agrees, summary_of, opened, after_event, after_reading, least_after}
+use Rattle.s66_model.specs.Accounts.{Summary, SeatRecord, Agrees, summary_of, opened, after_event, after_reading, least_after}
 use Rattle.s66_model.proofs.AccountLaws.{agrees-own, agrees-other, agrees-read, accounts-count}
 use Rattle.s66_model.proofs.LedgerRuns.{step-falls}
 use Rattle.s66_ledger.specs.Ledgers.{LedgerOf, IsEvent, events_of, account_summary}
@@ -15,7 +15,7 @@ settled (Ok x) P Q f g ok err = f x ok
 settled (Err e) P Q f g ok err = g e err
 
 -- a ledger, where it was found, has the worker
-pub number_within : (l found : LedgerOf) → found ≡ l → (p : Passbook) (number : ℕ) → Agrees (account_summary l) p → p.who ≡ number → (1 ≤ number) × (number ≤ found.workers)
+pub number_within : (l found : LedgerOf) → found ≡ l → (p : SeatRecord) (number : ℕ) → Agrees (account_summary l) p → p.who ≡ number → (1 ≤ number) × (number ≤ found.workers)
 number_within l found at p number is who =
     let count = accounts-count l.rule l.problem l.budget l.workers (events_of l) l.state in
     (omega (arith, is.worker.0, who), omega (arith, is.worker.1, who, count, ap (λ (k : LedgerOf). k.workers) at))
@@ -30,8 +30,8 @@ follows-on w s t u f g = record {
   others = λ p ne is. g.others p ne (f.others p ne is);
 }
 
--- a call leaves a worker's passbook behind that agrees, where it is opened anew
-pub renewed-agrees : (s t : Summary) (p : Passbook) → Agrees s p → Follows p.who s t → Agrees t (renewed t p p.least)
+-- a call leaves a worker's seat record behind that agrees, where it is opened anew
+pub renewed-agrees : (s t : Summary) (p : SeatRecord) → Agrees s p → Follows p.who s t → Agrees t (renewed t p p.least)
 renewed-agrees s t p is follows = record {
   worker = (is.worker.0, omega (arith, is.worker.1, follows.search.workers));
   rule = refl;
@@ -41,17 +41,17 @@ renewed-agrees s t p is follows = record {
   least = omega (arith, is.least, follows.lower);
 }
 
--- the passbook that agrees is the one that is opened, but for its least time
-pub renewed-is : (s : Summary) (p : Passbook) → Agrees s p → renewed s p p.least ≡ p
+-- the seat record that agrees is the one that is opened, but for its least time
+pub renewed-is : (s : Summary) (p : SeatRecord) → Agrees s p → renewed s p p.least ≡ p
 renewed-is s p is = λ i. record { who = p.who; rule = sym is.rule i; problem = sym is.problem i; budget = sym is.budget i; account = sym is.account i; least = p.least }
 
 -- after the best time was read
-pub read-book : (s : Summary) (p : Passbook) → Agrees s p → opened s p.who ≡ after_reading p s.best
+pub read-book : (s : Summary) (p : SeatRecord) → Agrees s p → opened s p.who ≡ after_reading p s.best
 read-book s p is =
     let low : s.best ≡ min p.least s.best = omega (arith, is.least) in
     ap (λ (n : ℕ). renewed s p n) low ∙ renewed-is s (after_reading p s.best) (agrees-read s p is)
 
-module _ (old new : LedgerOf) (p : Passbook) where
+module _ (old new : LedgerOf) (p : SeatRecord) where
   -- THE LEDGER IS AS IT WAS
 
   pub same-follows : new ≡ old → Follows p.who (account_summary old) (account_summary new)
@@ -88,9 +88,9 @@ module _ (old new : LedgerOf) (p : Passbook) where
           ap (λ (n : ℕ). renewed (account_summary new) p n) (sym quiet) ∙ renewed-is (account_summary new) (after_event p event reply) (event-agrees is)
 
       -- or the best
-      pub told-book : Agrees (account_summary old) p → (account_summary new).best ≡ least_after p.least event reply → opened (account_summary new) p.who ≡ after_event p event reply
-      told-book is told =
-          ap (λ (n : ℕ). renewed (account_summary new) p n) told ∙ renewed-is (account_summary new) (after_event p event reply) (event-agrees is)
+      pub stated-book : Agrees (account_summary old) p → (account_summary new).best ≡ least_after p.least event reply → opened (account_summary new) p.who ≡ after_event p event reply
+      stated-book is stated =
+          ap (λ (n : ℕ). renewed (account_summary new) p n) stated ∙ renewed-is (account_summary new) (after_event p event reply) (event-agrees is)
 
       -- and then the best time was read
       pub event-read : Agrees (account_summary old) p → opened (account_summary new) p.who ≡ after_reading (after_event p event reply) (account_summary new).best
@@ -100,16 +100,16 @@ module _ (old new : LedgerOf) (p : Passbook) where
       event-known is = (event-agrees is).least
 
   -- an offer that is lower is the best time
-  pub lower-told : (w : ℕ) (own : Bool) (order : List ℕ) (time : ℕ) → IsEvent old (Offer w own order time) Lower new → Agrees (account_summary old) p
+  pub lower-stated : (w : ℕ) (own : Bool) (order : List ℕ) (time : ℕ) → IsEvent old (Offer w own order time) Lower new → Agrees (account_summary old) p
       → (account_summary new).best ≡ least_after p.least (Offer w own order time) Lower
-  lower-told w own order time h is =
+  lower-stated w own order time h is =
       let m = h.3.1 in
       omega (arith, ap (λ (b : Problem). best_time b new.state) h.0, ap (best_time old.problem) m.2, m.0.2, m.1, is.least)
 
   -- one that isn't is answered the best time
-  pub answer-told : (w : ℕ) (own : Bool) (order : List ℕ) (time answer : ℕ) → IsEvent old (Offer w own order time) (NotLower answer) new → Agrees (account_summary old) p
+  pub answer-stated : (w : ℕ) (own : Bool) (order : List ℕ) (time answer : ℕ) → IsEvent old (Offer w own order time) (NotLower answer) new → Agrees (account_summary old) p
       → ((account_summary new).best ≡ least_after p.least (Offer w own order time) (NotLower answer)) × (answer ≤ p.least)
-  answer-told w own order time answer h is =
+  answer-stated w own order time answer h is =
       let m = h.3.1 in (
         omega (arith, ap (λ (b : Problem). best_time b new.state) h.0, ap (best_time old.problem) m.3, m.1, m.2, is.least),
         omega (arith, m.2, is.least),
@@ -117,7 +117,7 @@ module _ (old new : LedgerOf) (p : Passbook) where
 
 -- THE TOKEN
 
-module _ {X : Type 0} (m : Me (Option X) View) (y : Summary) (p : Passbook) (held : m ≡ (holding y (p ∷ []), (0, None) ∷ [])) where
+module _ {X : Type 0} (m : Me (Option X) View) (y : Summary) (p : SeatRecord) (held : m ≡ (holding y (p ∷ []), (0, None) ∷ [])) where
   pub follows-at : (z : Summary) → Follows p.who y z → Follows (first_book m.0.books).who (found_at m.0.stage) z
   follows-at z h = subst (λ (k : Me (Option X) View). Follows (first_book k.0.books).who (found_at k.0.stage) z) (sym held) h
 

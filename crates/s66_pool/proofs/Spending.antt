@@ -19,7 +19,7 @@ abbrev pub spent_in : Problem → ℕ → List Entry → ℕ
 spent_in b w entries = spent_by w (map (λ e. entry_of b e [] [] []) entries)
 
 pub next-spent : (b : Problem) (w : ℕ) (entries : List Entry) (i : ℕ) (d : Entry) (n : ℕ) → i < length entries
-    → (let told = entry_of b (get_or entries i d) [] [] [] in n ≡ cond (eqb (worker told.0) w) (spends told.0 told.1) 0)
+    → (let stated = entry_of b (get_or entries i d) [] [] [] in n ≡ cond (eqb (worker stated.0) w) (spends stated.0 stated.1) 0)
     → n + spent_in b w (drop (i + 1) entries) ≡ spent_in b w (drop i entries)
 next-spent b w entries i d n lt spent =
     let cut = ap (spent_in b w) (drop-cons entries i d lt) in

@@ -1,4 +1,4 @@
--- Sums over the passbooks of workers, each of whom has one.
+-- Sums over the seat records of workers, each of whom has one.
 use Rattle.std.proofs.Common.{◌≡◌, ◌≢◌, ℕ, zero, suc, ◌+◌, ◌-◌, ◌<◌, ◌≤◌, cond, eqb, List, [], ◌∷◌, length, get_or, All, sym, refl, ap, ◌∙◌, arith}
 use mathlib.Core.Logic.{dite}
 use native.Mathlib.Decide.{ℕ_discrete}
@@ -6,7 +6,7 @@ use Rattle.std.proofs.lemmas.Bool.{eq-eqb, ne_eqb, cond-true, cond-false}
 use Rattle.std.proofs.lemmas.List.Elements.{All-head, All-tail}
 use Rattle.s66_isa.specs.Lists.{weigh, rising}
 use Rattle.s66_isa.proofs.Lists.{weigh-same, among-rising}
-use Rattle.s66_model.specs.Accounts.{Summary, Passbook, Account, Agrees, account_at, no_account}
+use Rattle.s66_model.specs.Accounts.{Summary, SeatRecord, Account, Agrees, account_at, no_account}
 use Rattle.s66_pool.specs.SeatViews.{books_of}
 
 none-of : (f : ℕ → ℕ) (k count low : ℕ) → k < low → weigh (λ w. cond (eqb k w) (f w) 0) (rising count low) ≡ 0
@@ -26,11 +26,11 @@ weigh-plus : {X : Type 0} (f g : X → ℕ) (xs : List X) → weigh (λ x. f x +
 weigh-plus f g [] = refl
 weigh-plus f g (x ∷ xs) = omega (arith, weigh-plus f g xs)
 
--- f of w for each of the worker's passbooks
-abbrev share : (ℕ → ℕ) → ℕ → List Passbook → ℕ
+-- f of w for each of the worker's seat records
+abbrev share : (ℕ → ℕ) → ℕ → List SeatRecord → ℕ
 share f w ps = weigh (λ p. cond (eqb p.who w) (f w) 0) ps
 
-share-none : (f : ℕ → ℕ) (w : ℕ) (ps : List Passbook) → books_of w ps ≡ 0 → share f w ps ≡ 0
+share-none : (f : ℕ → ℕ) (w : ℕ) (ps : List SeatRecord) → books_of w ps ≡ 0 → share f w ps ≡ 0
 share-none f w [] h = refl
 share-none f w (p ∷ ps) h =
     dite (ℕ_discrete p.who w)
@@ -39,7 +39,7 @@ share-none f w (p ∷ ps) h =
     let off = ne_eqb p.who w ne in
     omega (arith, cond-false {A = ℕ} (eqb p.who w) (f w) 0 off, share-none f w ps (omega (arith, cond-false {A = ℕ} (eqb p.who w) 1 0 off))))
 
-share-one : (f : ℕ → ℕ) (w : ℕ) (ps : List Passbook) → books_of w ps ≡ 1 → share f w ps ≡ f w
+share-one : (f : ℕ → ℕ) (w : ℕ) (ps : List SeatRecord) → books_of w ps ≡ 1 → share f w ps ≡ f w
 share-one f w [] h = absurd (omega arith)
 share-one f w (p ∷ ps) h =
     dite (ℕ_discrete p.who w)
@@ -54,8 +54,8 @@ weigh-zero : {X : Type 0} (xs : List X) → weigh (λ x. 0) xs ≡ 0
 weigh-zero [] = refl
 weigh-zero (x ∷ xs) = omega (arith, weigh-zero xs)
 
--- f of each worker, by the passbooks of each
-by-worker : (f : ℕ → ℕ) (s : Summary) (ps : List Passbook) → All (Agrees s) ps → weigh (λ p. f p.who) ps ≡ weigh (λ w. share f w ps) (rising (length s.accounts) 1)
+-- f of each worker, by the seat records of each
+by-worker : (f : ℕ → ℕ) (s : Summary) (ps : List SeatRecord) → All (Agrees s) ps → weigh (λ p. f p.who) ps ≡ weigh (λ w. share f w ps) (rising (length s.accounts) 1)
 by-worker f s [] agree = sym (weigh-zero (rising (length s.accounts) 1))
 by-worker f s (p ∷ ps) agree =
     let workers = rising (length s.accounts) 1 in
@@ -67,7 +67,7 @@ by-worker f s (p ∷ ps) agree =
       by-worker f s ps (All-tail (Agrees s) p ps agree),
     )
 
-same-splits : (s : Summary) (ps : List Passbook) → All (Agrees s) ps → weigh (λ p. p.account.splits) ps ≡ weigh (λ p. (account_at s p.who).splits) ps
+same-splits : (s : Summary) (ps : List SeatRecord) → All (Agrees s) ps → weigh (λ p. p.account.splits) ps ≡ weigh (λ p. (account_at s p.who).splits) ps
 same-splits s [] agree = refl
 same-splits s (p ∷ ps) agree =
     omega (arith, ap (λ (a : Account). a.splits) (All-head (Agrees s) p ps agree).account, same-splits s ps (All-tail (Agrees s) p ps agree))
@@ -83,8 +83,8 @@ by-account (a ∷ accounts) low =
     ap (λ (k : ℕ). (get_or (a ∷ accounts) k no_account).splits) next) in
     omega (arith, here, past, by-account accounts (suc low))
 
--- where each worker has one passbook, their splits add up as those of the accounts do
-pub splits-of-all : (s : Summary) (ps : List Passbook) → All (Agrees s) ps → ((w : ℕ) → 1 ≤ w → w ≤ length s.accounts → books_of w ps ≡ 1)
+-- where each worker has one seat record, their splits add up as those of the accounts do
+pub splits-of-all : (s : Summary) (ps : List SeatRecord) → All (Agrees s) ps → ((w : ℕ) → 1 ≤ w → w ≤ length s.accounts → books_of w ps ≡ 1)
     → weigh (λ p. p.account.splits) ps ≡ weigh (λ a. a.splits) s.accounts
 splits-of-all s ps agree one =
     let f : ℕ → ℕ = λ w. (account_at s w).splits in

@@ -1,10 +1,10 @@
--- What the events of a turn at the lock make of the ledger's summary, and of the passbook of the worker whose turn it is.
+-- What the events of a turn at the lock make of the ledger's summary, and of the seat record of the worker whose turn it is.
 use Rattle.std.proofs.Common.{◌≡◌, ℕ, ◌+◌, ◌≤◌, Bool, true, false, List, [], ◌∷◌, ◌++◌, length, map, Option, Some, None, sym, refl, ap, ◌∙◌, subst, arith}
 use Rattle.s66_model.specs.Ledger as model
 use Rattle.s66_model.specs.Ledger.{Event, Reply, Grant, Granted, Claim, Claimed, worker}
 use Rattle.s66_model.specs.Recorded.{spends}
 use Rattle.s66_model.specs.Tree.{splits}
-use Rattle.s66_model.specs.Accounts.{Passbook, Agrees, after_event, least_after}
+use Rattle.s66_model.specs.Accounts.{SeatRecord, Agrees, after_event, least_after}
 use Rattle.s66_node.specs.Pieces.{PieceOf, tree_of}
 use Rattle.s66_ledger.specs.Tickets.{TicketOf}
 use Rattle.s66_ledger.specs.Ledgers.{LedgerOf, IsEvent, account_summary}
@@ -73,15 +73,15 @@ quiet-supply w supply tickets =
     quiet-append w (grants w supply.granted) (claims w tickets ++ last_claim w supply.none_open) (quiet-grants w supply.granted)
     (quiet-append w (claims w tickets) (last_claim w supply.none_open) (quiet-claims w tickets) (quiet-last w supply.none_open))
 
--- what they leave of the ledger and of the worker's passbook
-record IsAfterQuiet (l new : LedgerOf) (p q : Passbook) : Type 0 where
+-- what they leave of the ledger and of the worker's seat record
+record IsAfterQuiet (l new : LedgerOf) (p q : SeatRecord) : Type 0 where
   pub follows : Follows p.who (account_summary l) (account_summary new)
   pub agrees : Agrees (account_summary new) q
   pub who : q.who ≡ p.who
   pub least : q.least ≡ p.least
   pub splits : q.account.splits ≡ p.account.splits
 
-quiet-events : (es : List (Event × Reply)) (l new : LedgerOf) (p : Passbook) → AreQuiet p.who es → Agrees (account_summary l) p → AreEvents l es new → IsAfterQuiet l new p (after_events p es)
+quiet-events : (es : List (Event × Reply)) (l new : LedgerOf) (p : SeatRecord) → AreQuiet p.who es → Agrees (account_summary l) p → AreEvents l es new → IsAfterQuiet l new p (after_events p es)
 quiet-events [] l new p quiet agrees same = record {
   follows = subst (λ (k : LedgerOf). Follows p.who (account_summary l) (account_summary k)) (sym same) (follows-itself p.who (account_summary l));
   agrees = subst (λ (k : LedgerOf). Agrees (account_summary k) p) (sym same) agrees;
@@ -100,8 +100,8 @@ quiet-events (x ∷ es) l new p ((own, least, free), quiet) agrees (between, fir
       splits = on.splits ∙ omega (arith, free);
     }
 
--- opened anew with its least time, the passbook is as these events leave it
-quiet-renewed : (l new : LedgerOf) (p q : Passbook) → IsAfterQuiet l new p q → renewed (account_summary new) p p.least ≡ q
+-- opened anew with its least time, the seat record is as these events leave it
+quiet-renewed : (l new : LedgerOf) (p q : SeatRecord) → IsAfterQuiet l new p q → renewed (account_summary new) p p.least ≡ q
 quiet-renewed l new p q after =
     (λ i. renewed (account_summary new) (record p { who = sym after.who i }) (sym after.least i)) ∙ renewed-is (account_summary new) q after.agrees
 
@@ -111,7 +111,7 @@ quiet-renewed l new p q after =
 at-worker : (l new : LedgerOf) (w number : ℕ) (supply : Supply) (tickets : List TicketOf) → w ≡ number → AreEvents l (supplied number supply tickets) new → AreEvents l (supplied w supply tickets) new
 at-worker l new w number supply tickets who h = subst (λ (n : ℕ). AreEvents l (supplied n supply tickets) new) (sym who) h
 
-module _ (l : LedgerOf) (p : Passbook) (agrees : Agrees (account_summary l) p) (old new : LedgerOf) (e : old ≡ l) (number : ℕ) (who : p.who ≡ number) (supply : Supply) (tickets : List TicketOf)
+module _ (l : LedgerOf) (p : SeatRecord) (agrees : Agrees (account_summary l) p) (old new : LedgerOf) (e : old ≡ l) (number : ℕ) (who : p.who ≡ number) (supply : Supply) (tickets : List TicketOf)
     (events : AreEvents old (supplied number supply tickets) new) where
   after-turn : IsAfterQuiet l new p (after_events p (supplied p.who supply tickets))
   after-turn =
@@ -123,20 +123,20 @@ module _ (l : LedgerOf) (p : Passbook) (agrees : Agrees (account_summary l) p) (
 
   -- of which only this turn is the worker's
   pub supply-keeps : Keeps l new p p.account.splits
-  supply-keeps = (after-turn.follows, ap (λ (q : Passbook). q.account.splits) turn-book ∙ after-turn.splits)
+  supply-keeps = (after-turn.follows, ap (λ (q : SeatRecord). q.account.splits) turn-book ∙ after-turn.splits)
 
   pub has-supply : (s now : SeatOf) → p ≡ s.book → now.book ≡ renewed (account_summary new) p p.least → HasSupply s supply tickets now
-  has-supply s now at gave = let P : Passbook → Type 0 = λ q. now.book ≡ after_events q (supplied q.who supply tickets) in subst P at (gave ∙ turn-book)
+  has-supply s now at gave = let P : SeatRecord → Type 0 = λ q. now.book ≡ after_events q (supplied q.who supply tickets) in subst P at (gave ∙ turn-book)
 
 -- A GRAFT THAT WAS TAKEN, AND THEN A TURN'S SUPPLY
 
-module _ (l : LedgerOf) (p : Passbook) (agrees : Agrees (account_summary l) p) (old mid : LedgerOf) (e : old ≡ l) (number : ℕ) (who : p.who ≡ number) (node : ℕ) (piece : PieceOf)
+module _ (l : LedgerOf) (p : SeatRecord) (agrees : Agrees (account_summary l) p) (old mid : LedgerOf) (e : old ≡ l) (number : ℕ) (who : p.who ≡ number) (node : ℕ) (piece : PieceOf)
     (graft : IsGraftAt old number node piece model.Taken mid) (began new : LedgerOf) (f : began ≡ mid) (supply : Supply) (tickets : List TicketOf)
     (events : AreEvents began (supplied number supply tickets) new) where
   call : Keeps l mid p (p.account.splits + splits (tree_of piece)) × ((s now : SeatOf) → p ≡ s.book → now.book ≡ renewed (account_summary mid) p p.least → HasGrafted s node piece model.Taken now)
   call = grafted l old mid e p number who agrees node piece graft
 
-  abbrev book-between : Passbook
+  abbrev book-between : SeatRecord
   book-between = renewed (account_summary mid) p p.least
 
   agrees-between : Agrees (account_summary mid) book-between
@@ -153,18 +153,18 @@ module _ (l : LedgerOf) (p : Passbook) (agrees : Agrees (account_summary l) p) (
       let between : SeatOf = record { hub = s.hub; book = book-between } in (
         between,
         call.1 s between at refl,
-        ap (λ (q : Passbook). q.who) at,
+        ap (λ (q : SeatRecord). q.who) at,
         has-supply mid book-between agrees-between began new f number who supply tickets events between now refl gave,
       )
 
 -- THE WORKER of a seat stays the same
 
-events-who : (es : List (Event × Reply)) (p : Passbook) → (after_events p es).who ≡ p.who
+events-who : (es : List (Event × Reply)) (p : SeatRecord) → (after_events p es).who ≡ p.who
 events-who [] p = refl
 events-who (x ∷ es) p = events-who es (after_event p x.0 x.1)
 
 pub supply-who : (old new : SeatOf) (supply : Supply) (tickets : List TicketOf) → HasSupply old supply tickets new → new.book.who ≡ old.book.who
-supply-who old new supply tickets h = ap (λ (q : Passbook). q.who) h ∙ events-who (supplied old.book.who supply tickets) old.book
+supply-who old new supply tickets h = ap (λ (q : SeatRecord). q.who) h ∙ events-who (supplied old.book.who supply tickets) old.book
 
 pub graft-who : (old new : SeatOf) (node : ℕ) (piece : PieceOf) (supply : Supply) (tickets : List TicketOf) → HasGraftedAndSupply old node piece supply tickets new → new.book.who ≡ old.book.who
 graft-who old new node piece supply tickets (between, grafted, who, h) = supply-who between new supply tickets h ∙ who

@@ -10,7 +10,7 @@ use Rattle.std.proofs.lemmas.List.Elements.{All-nil, All-cons, All-append}
 use Rattle.atomic_table.specs.Table.{State, Me, keeps, takes, gives, Allows, Splits, Joins, Final, Seen, opening, rest}
 use Rattle.atomic_table.proofs.Lists.{at_set, set_here, set_else, set_again, at_longer}
 use Rattle.s66_isa.proofs.Lists.{weigh-append, tally-append}
-use Rattle.s66_model.specs.Accounts.{Summary, Passbook, Agrees, opened}
+use Rattle.s66_model.specs.Accounts.{Summary, SeatRecord, Agrees, opened}
 use Rattle.s66_pool.specs.SeatViews.{View, Stage, Idle, Founding, Holding, idle, holding, founding, first_of, rest_of, books_of, found_at, first_book, renewed, IsSameSearch, Follows}
 use Rattle.s66_pool.specs.LockTokens.{HaveEvery}
 use Rattle.s66_pool.specs.Locked.{AllAgree, IsOnce, Has, IsFree, IsOut, Locked, keep_least, read_best, keep_books, GaveFirst, FoundedAt}
@@ -20,7 +20,7 @@ use Rattle.s66_pool.proofs.Books.{own, cut, rest-agree, first-agree, others-agre
 abbrev among : ℕ → View → ℕ
 among w v = books_of w v.books
 
--- a view with as many passbooks of each worker takes the place of another
+-- a view with as many seat records of each worker takes the place of another
 once_set : (views : List View) (id : ℕ) (v w : View) → get_elem? views id ≡ some v → ((n : ℕ) → among n w ≡ among n v) → IsOnce views → IsOnce (set views id w)
 once_set views id v w at same once n = omega (arith, weigh-replaced (among n) views id v w at, same n, once n)
 
@@ -28,7 +28,7 @@ once_set views id v w at same once n = omega (arith, weigh-replaced (among n) vi
 other_stage : {X : Type 0} (s : Summary) (homes : List (maybe.Option (Option X))) (holder v : View) → some holder ≡ some v → Has s homes holder.stage → v.stage ≢ Idle
 other_stage s homes holder v e has is_idle = subst (λ (g : Stage). Has s homes g) (ap (λ (u : View). u.stage) (some-injective holder v e) ∙ is_idle) has
 
--- a passbook whose worker has one at another seat
+-- a seat record whose worker has one at another seat
 twice : (views : List View) (id other n : ℕ) (v u : View) → IsOnce views → get_elem? views id ≡ some v → get_elem? views other ≡ some u → other ≢ id → 1 ≤ among n v → 1 ≤ among n u → ⊥
 twice views id other n v u once at at' ne a b = omega (arith, two-le-weigh (among n) views id other v u at at' ne, once n)
 
@@ -89,7 +89,7 @@ module _ {X : Type 0} (summary : X → Summary) (key : X) where
       h.1
 
   -- the founding seat takes the empty slot
-  begins : (slots id : ℕ) (y : Summary) (bs : List Passbook)
+  begins : (slots id : ℕ) (y : Summary) (bs : List SeatRecord)
       → Allows (Locked summary key) slots id (record { stage = Founding y; books = bs }, []) 0 (λ n. n) (λ word after. after ≡ (holding y bs, (0, None) ∷ []))
   begins slots id y bs s h long at small = let v : View = record { stage = Founding y; books = bs } in ⊎_elim
       (λ (f : IsFree summary (summary key) s). absurd (let e : Founding y ≡ Idle = f.idles id v at in cc))
@@ -121,10 +121,10 @@ module _ {X : Type 0} (summary : X → Summary) (key : X) where
       ))
       h.1
 
-  -- the seat gives the value back, where its own passbooks agree with it, and so do those of each other seat
-  gives_it : (slots id : ℕ) (y : Summary) (bs cs : List Passbook) (x : X) → slots ≡ 1 → IsSameSearch y (summary x)
+  -- the seat gives the value back, where its own seat records agree with it, and so do those of each other seat
+  gives_it : (slots id : ℕ) (y : Summary) (bs cs : List SeatRecord) (x : X) → slots ≡ 1 → IsSameSearch y (summary x)
       → ((n : ℕ) → books_of n cs ≡ books_of n bs) → All (Agrees (summary x)) cs
-      → ((us : List Passbook) → ((n : ℕ) → books_of n bs + books_of n us ≤ 1) → All (Agrees y) us → All (Agrees (summary x)) us)
+      → ((us : List SeatRecord) → ((n : ℕ) → books_of n bs + books_of n us ≤ 1) → All (Agrees y) us → All (Agrees (summary x)) us)
       → Allows (Locked summary key) slots id (holding y bs, (0, Some x) ∷ []) 0 (λ n. 0) (λ word after. after ≡ (idle cs, []))
   gives_it slots id y bs cs x one search same agree others s h long at small = let v : View = holding y bs in let w : View = idle cs in ⊎_elim
       (λ (f : IsFree summary (summary key) s). absurd (let e : Holding y ≡ Idle = f.idles id v at in cc))
@@ -223,8 +223,8 @@ module _ {X : Type 0} (summary : X → Summary) (key : X) where
             h.1,
       )
 
-  -- after a call of the worker whose passbook alone the seat has
-  gives_one : (slots id : ℕ) (y : Summary) (p q : Passbook) (x : X) → slots ≡ 1 → Agrees y p → Follows p.who y (summary x) → q.who ≡ p.who → Agrees (summary x) q
+  -- after a call of the worker whose seat record alone the seat has
+  gives_one : (slots id : ℕ) (y : Summary) (p q : SeatRecord) (x : X) → slots ≡ 1 → Agrees y p → Follows p.who y (summary x) → q.who ≡ p.who → Agrees (summary x) q
       → Allows (Locked summary key) slots id (holding y (p ∷ []), (0, Some x) ∷ []) 0 (λ n. 0) (λ word after. after ≡ (idle (q ∷ []), []))
   gives_one slots id y p q x one agrees follows who now =
       gives_it slots id y (p ∷ []) (q ∷ []) x one follows.search (λ n. ap (λ (w : ℕ). books_of n (record q { who = w } ∷ [])) who)
@@ -232,7 +232,7 @@ module _ {X : Type 0} (summary : X → Summary) (key : X) where
       (λ us few agree. others-agree p.who y (summary x) us follows (omega (arith, few p.who, own p)) agree)
 
   -- the value comes under the lock
-  settles : (slots id : ℕ) (y : Summary) (bs : List Passbook) (x : X) → slots ≡ 1 → y ≡ summary x → All (Agrees y) bs
+  settles : (slots id : ℕ) (y : Summary) (bs : List SeatRecord) (x : X) → slots ≡ 1 → y ≡ summary x → All (Agrees y) bs
       → Allows (Locked summary key) slots id (holding y bs, (0, Some x) ∷ []) 0 (λ n. 0) (λ word after. after ≡ (idle bs, []))
   settles slots id y bs x one is agree =
       let P : Summary → Type 0 = λ z. IsSameSearch y z in
@@ -270,7 +270,7 @@ module _ {X : Type 0} (summary : X → Summary) (key : X) where
   -- AS THE CALLS MEET THEM: the seat has `old`, and after its plain write `new`
 
   module _ (slots id : ℕ) (old new : Me (Option X) View) (x : X) (one : slots ≡ 1) (then : new ≡ (old.0, (0, Some x) ∷ rest old.1)) where
-    written : (y : Summary) (bs : List Passbook) → old ≡ (holding y bs, (0, None) ∷ []) → new ≡ (holding y bs, (0, Some x) ∷ [])
+    written : (y : Summary) (bs : List SeatRecord) → old ≡ (holding y bs, (0, None) ∷ []) → new ≡ (holding y bs, (0, Some x) ∷ [])
     written y bs is = then ∙ ap (λ (m : Me (Option X) View). (m.0, (0, Some x) ∷ rest m.1)) is
 
     module _ (is : old ≡ (holding (found_at old.0.stage) (first_book old.0.books ∷ []), (0, None) ∷ [])) (agrees : Agrees (found_at old.0.stage) (first_book old.0.books))
@@ -296,13 +296,13 @@ module _ {X : Type 0} (summary : X → Summary) (key : X) where
           subst P (sym (written y (p ∷ []) is)) (gives_one slots id y p (opened (summary x) p.who) x one agrees follows refl
           (opened-agrees (summary x) p.who agrees.worker.0 (omega (arith, agrees.worker.1, follows.search.workers))))
 
-    pub settles_at : (y : Summary) (bs : List Passbook) → old ≡ (holding y bs, (0, None) ∷ []) → y ≡ summary x → All (Agrees y) bs
+    pub settles_at : (y : Summary) (bs : List SeatRecord) → old ≡ (holding y bs, (0, None) ∷ []) → y ≡ summary x → All (Agrees y) bs
         → Allows (Locked summary key) slots id new 0 (λ n. 0) (λ word after. GaveFirst keep_books new.0 new.1 after)
     settles_at y bs is same agree =
         let P : Me (Option X) View → Type 0 = λ m. Allows (Locked summary key) slots id m 0 (λ n. 0) (λ word after. GaveFirst keep_books m.0 m.1 after) in
         subst P (sym (written y bs is)) (settles slots id y bs x one same agree)
 
-  pub begins_at : (slots id : ℕ) (me : Me (Option X) View) (y : Summary) (bs : List Passbook) → me ≡ (record { stage = Founding y; books = bs }, [])
+  pub begins_at : (slots id : ℕ) (me : Me (Option X) View) (y : Summary) (bs : List SeatRecord) → me ≡ (record { stage = Founding y; books = bs }, [])
       → Allows (Locked summary key) slots id me 0 (λ n. n) (λ word after. FoundedAt me.0.stage me.0.books after)
   begins_at slots id me y bs is =
       let P : Me (Option X) View → Type 0 = λ m. Allows (Locked summary key) slots id m 0 (λ n. n) (λ word after. FoundedAt m.0.stage m.0.books after) in
@@ -326,10 +326,10 @@ module _ {X : Type 0} (summary : X → Summary) (key : X) where
     closed_some at = let e : Some closed.0 ≡ None = some-injective (Some closed.0) None (sym closed.1 ∙ at) in cc
 
 module _ {X : Type 0} where
-  pub began_is : (m after : Me (Option X) View) (y : Summary) (bs : List Passbook) → m ≡ (record { stage = Founding y; books = bs }, []) → FoundedAt m.0.stage m.0.books after → after ≡ (holding y bs, (0, None) ∷ [])
+  pub began_is : (m after : Me (Option X) View) (y : Summary) (bs : List SeatRecord) → m ≡ (record { stage = Founding y; books = bs }, []) → FoundedAt m.0.stage m.0.books after → after ≡ (holding y bs, (0, None) ∷ [])
   began_is m after y bs is began = let P : Me (Option X) View → Type 0 = λ k. FoundedAt k.0.stage k.0.books after in subst P is began
 
-  pub settled_is : (old new after : Me (Option X) View) (x : X) (y : Summary) (bs : List Passbook) → old ≡ (holding y bs, (0, None) ∷ []) → new ≡ (old.0, (0, Some x) ∷ rest old.1)
+  pub settled_is : (old new after : Me (Option X) View) (x : X) (y : Summary) (bs : List SeatRecord) → old ≡ (holding y bs, (0, None) ∷ []) → new ≡ (old.0, (0, Some x) ∷ rest old.1)
       → GaveFirst keep_books new.0 new.1 after → after ≡ (idle bs, [])
   settled_is old new after x y bs is then gave =
       let is' : new ≡ (holding y bs, (0, Some x) ∷ []) = then ∙ ap (λ (m : Me (Option X) View). (m.0, (0, Some x) ∷ rest m.1)) is in

@@ -5,7 +5,7 @@ use Rattle.s66_isa.specs.Lists.{some_of}
 use Rattle.s66_model.specs.Ledger as model
 use Rattle.s66_model.specs.Ledger.{Event, Reply}
 use Rattle.s66_model.specs.Recorded.{IsGraftOf, IsOfferOf}
-use Rattle.s66_model.specs.Accounts.{Summary, Passbook, after_event}
+use Rattle.s66_model.specs.Accounts.{Summary, SeatRecord, after_event}
 use Rattle.s66_node.specs.Pieces.{PieceOf, tree_of}
 use Rattle.s66_time.specs.TimedOrder.{TimedOrder}
 use Rattle.s66_ledger.specs.declared.reply.GraftError.{GraftError}
@@ -22,7 +22,7 @@ pub record HubOf : Type 0 where
 -- at which hub, and what it keeps of its worker
 pub record SeatOf : Type 0 where
   pub hub : TableId
-  pub book : Passbook
+  pub book : SeatRecord
 
 -- each of so many workers has a seat among these
 abbrev pub HaveSeats : ℕ → List SeatOf → Type 0
@@ -56,6 +56,6 @@ HasOffered old timed reply new =
     (event : Event) × IsOfferOf old.book.problem old.book.who timed.problem timed.numbers event × (new.book ≡ after_event old.book event reply)
 
 -- an answered time isn't above the least that the seat knew
-abbrev pub IsKnown : Reply → Passbook → Type 0
+abbrev pub IsKnown : Reply → SeatRecord → Type 0
 IsKnown (model.NotLower time) book = time ≤ book.least
 IsKnown reply book = ⊤

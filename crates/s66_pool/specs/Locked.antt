@@ -5,13 +5,13 @@ use mathlib.Core.Option as maybe
 use lib.ListN.{get_elem?}
 use Rattle.atomic_table.specs.Table.{State, Me, Step}
 use Rattle.s66_isa.specs.Lists.{weigh}
-use Rattle.s66_model.specs.Accounts.{Summary, Passbook, Agrees, opened}
+use Rattle.s66_model.specs.Accounts.{Summary, SeatRecord, Agrees, opened}
 use Rattle.s66_pool.specs.SeatViews.{View, Stage, Idle, Founding, Holding, books_of, idle, holding, renewed, IsSameSearch}
 
 abbrev pub AllAgree : Summary → List View → Type 0
 AllAgree s views = (seat : ℕ) (v : View) → get_elem? views seat ≡ some v → All (Agrees s) v.books
 
--- no worker has two passbooks
+-- no worker has two seat records
 abbrev pub IsOnce : List View → Type 0
 IsOnce views = (w : ℕ) → weigh (λ v. books_of w v.books) views ≤ 1
 
@@ -21,7 +21,7 @@ Has s homes Idle = ⊥
 Has s homes (Founding t) = (t ≡ s) × (homes ≡ some None ∷ [])
 Has s homes (Holding t) = t ≡ s
 
--- The slot has the value, with which every passbook agrees, and no seat has the lock
+-- The slot has the value, with which every seat record agrees, and no seat has the lock
 pub record IsFree {X : Type 0} (summary : X → Summary) (about : Summary) (s : State (Option X) View) : Type 0 where
   pub value : X
   pub word : s.words ≡ 0 ∷ []
@@ -30,7 +30,7 @@ pub record IsFree {X : Type 0} (summary : X → Summary) (about : Summary) (s : 
   pub agree : AllAgree (summary value) s.views
   pub idles : (seat : ℕ) (v : View) → get_elem? s.views seat ≡ some v → v.stage ≡ Idle
 
--- One seat, which has a passbook, has the lock; with the summary that it found every passbook agrees
+-- One seat, which has a seat record, has the lock; with the summary that it found every seat record agrees
 pub record IsOut {X : Type 0} (about : Summary) (s : State (Option X) View) : Type 0 where
   pub found : Summary
   pub holder : ℕ
@@ -53,7 +53,7 @@ module _ {X : Type 0} (summary : X → Summary) where
       (word ≡ 0 → (x : X) × (after ≡ (holding (summary x) me.0.books, (0, Some x) ∷ me.1)) × All (Agrees (summary x)) me.0.books)
       × (word ≢ 0 → after ≡ me)
 
-  -- the value is back, and the passbooks say what it says, with the least times that they had
+  -- the value is back, and the seat records say what it says, with the least times that they had
   abbrev pub keep_least : View → X → View
   keep_least v x = idle (map (λ p. renewed (summary x) p p.least) v.books)
 
@@ -77,7 +77,7 @@ module _ {X : Type 0} where
   abbrev pub Gave : (View → X → View) → Step (Option X) → Me (Option X) View → ℕ → Me (Option X) View → Type 0
   Gave f st me word after = GaveFirst f me.0 me.1 after
 
-  abbrev pub FoundedAt : Stage → List Passbook → Me (Option X) View → Type 0
+  abbrev pub FoundedAt : Stage → List SeatRecord → Me (Option X) View → Type 0
   FoundedAt Idle books after = ⊤
   FoundedAt (Holding s) books after = ⊤
   FoundedAt (Founding s) books after = after ≡ (holding s books, (0, None) ∷ [])

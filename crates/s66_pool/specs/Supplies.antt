@@ -1,7 +1,7 @@
--- To be believed: what a worker gets in one turn at the lock: the events of the ledger, and what they make of the worker's passbook.
+-- To be believed: what a worker gets in one turn at the lock: the events of the ledger, and what they make of the worker's seat record.
 use Rattle.std.specs.Prelude.{ℕ, Bool, true, false, ◌≡◌, ◌≢◌, ◌≤◌, ◌⊎◌, List, [], ◌∷◌, ◌++◌, length, map, Option, Some, None}
 use Rattle.s66_model.specs.Ledger.{Event, Reply, Grant, Granted, Claim, Claimed}
-use Rattle.s66_model.specs.Accounts.{Passbook, after_event}
+use Rattle.s66_model.specs.Accounts.{SeatRecord, after_event}
 use Rattle.s66_ledger.specs.Tickets.{TicketOf}
 use Rattle.s66_ledger.specs.Ledgers.{LedgerOf, IsEvent}
 use Rattle.s66_pool.specs.declared.limits.TheConstants.{CLAIMS_LIMIT}
@@ -14,8 +14,8 @@ abbrev pub AreEvents : LedgerOf → List (Event × Reply) → LedgerOf → Type 
 AreEvents old [] new = new ≡ old
 AreEvents old (entry ∷ entries) new = (between : LedgerOf) × IsEvent old entry.0 entry.1 between × AreEvents between entries new
 
--- a passbook after these events of its worker
-abbrev pub after_events : Passbook → List (Event × Reply) → Passbook
+-- a seat record after these events of its worker
+abbrev pub after_events : SeatRecord → List (Event × Reply) → SeatRecord
 after_events book [] = book
 after_events book (entry ∷ entries) = after_events (after_event book entry.0 entry.1) entries
 

@@ -105,7 +105,7 @@ impl<'a> Hub<'a> {
         };
         let added = piece.splits();
         let mut ledger = self.lock.take(rt, &mut seat.token);
-        seat.planted = ledger.node_count();
+        seat.attached = ledger.node_count();
         if let Err(why) = ledger.graft_at(seat.number, node, piece, &subtree) {
             self.lock.give(&mut seat.token, ledger);
             return Err(why);

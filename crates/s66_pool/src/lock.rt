@@ -29,7 +29,7 @@ impl<S: Summed> TableRule<Option<S>, View, S> for Locked {
 /// What a worker locks with. It takes no bytes.
 pub(crate) type Token<S> = Seat<Option<S>, View>;
 
-/// A value under a lock of one word, with which the passbooks of all tokens agree while it is free.
+/// A value under a lock of one word, with which the seat records of all tokens agree while it is free.
 #[derive(Drop)]
 pub(crate) struct Lock<S: Summed + Drop> {
     table: Table<Option<S>, View, S, Locked, Global>,
@@ -82,7 +82,7 @@ impl<S: Summed> Play<Option<S>, View> for Reads {
     ghost then = { Gave (read_best S.summary) };
 }
 
-/// A new token gets the first of the passbooks.
+/// A new token gets the first of the seat records.
 struct Deals;
 
 impl Split<View> for Deals {
@@ -93,7 +93,7 @@ impl Split<View> for Deals {
     ghost right = { λ v. idle (first_of v.books) };
 }
 
-/// The other's passbooks go before the token's own.
+/// The other's seat records go before the token's own.
 struct Collects;
 
 impl Join<View> for Collects {
@@ -172,7 +172,7 @@ impl<S: Summed + Drop> Lock<S> {
         self.table.shared.store::<Reads>(token, 0, 0);
     }
 
-    /// The value under a lock, and a token with the passbooks of all workers. Without memory the value is dropped.
+    /// The value under a lock, and a token with the seat records of all workers. Without memory the value is dropped.
     pub(crate) fn found(alloc: Global, value: S) -> Result<(Lock<S>, Token<S>), AllocError>
         requires { 0 < length (S.summary value).accounts }
         ensures key { IfOk result (λ r. r.0.table.shared.key ≡ value) }
@@ -188,7 +188,7 @@ impl<S: Summed + Drop> Lock<S> {
         Ok((Lock { table }, founder))
     }
 
-    /// A token for the worker of the first passbook. It waits for nobody.
+    /// A token for the worker of the first seat record. It waits for nobody.
     pub(crate) fn deal(&self, founder: &mut Token<S>) -> Token<S>
         requires here { founder.old.table_id ≡ self.now.table.shared.table_id }
         requires idle { IsIdle founder.old }
@@ -200,7 +200,7 @@ impl<S: Summed + Drop> Lock<S> {
         self.table.shared.split_seat::<Deals>(founder)
     }
 
-    /// Puts the passbooks of another token before the token's own. It waits for nobody.
+    /// Puts the seat records of another token before the token's own. It waits for nobody.
     pub(crate) fn join(&self, all: &mut Token<S>, other: Token<S>)
         requires here { (all.old.table_id ≡ self.now.table.shared.table_id) × (other.table_id ≡ self.now.table.shared.table_id) }
         requires idle { IsIdle all.old × IsIdle other }
@@ -210,7 +210,7 @@ impl<S: Summed + Drop> Lock<S> {
         self.table.shared.join_seat::<Collects>(all, other);
     }
 
-    /// The value, once one token has the passbooks of all workers.
+    /// The value, once one token has the seat records of all workers.
     pub(crate) fn close(self, all: Token<S>) -> S
         requires here { all.table_id ≡ self.table.shared.table_id }
         requires idle { IsIdle all }

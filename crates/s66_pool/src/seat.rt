@@ -9,7 +9,7 @@ pub struct Seat<'a> {
     pub(crate) number: u8,
     pub(crate) splits: u32,
     /// How many nodes there were before its last graft: the number of the first one that it made, if it was taken.
-    pub(crate) planted: u32,
+    pub(crate) attached: u32,
     pub(crate) token: Token<Box<Ledger<'a>>>,
 }
 
@@ -39,7 +39,7 @@ impl<'a> Seat<'a> {
         Seat {
             number,
             splits,
-            planted: 0,
+            attached: 0,
             token,
         }
     }

@@ -273,7 +273,7 @@ impl<'b> Worker<'b> {
             give_back_some(site, &mut member.seat, next);
             return give_back(site, &mut member.seat, ticket);
         };
-        self.expander.settle(ticket.node(), member.seat.planted);
+        self.expander.settle(ticket.node(), member.seat.attached);
         let step = self.go_on(site, member, needs, supply, next, claimed);
         self.end_round(site, member, step)
     }

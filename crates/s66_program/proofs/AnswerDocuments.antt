@@ -21,7 +21,7 @@ use Rattle.s66_model.specs.Timing.{Problem, next, points_of, row_at}
 use Rattle.s66_model.specs.Dominance.{Clamp, DominatesBy, clamp_at, no_clamp}
 use Rattle.s66_model.specs.declared.rule.Rule.{Rule}
 use Rattle.s66_model.specs.declared.rule.Rule.TheVariants.{NoneNamed, WrittenEarlier, ClampedStanding}
-use Rattle.s66_model.specs.Tree.{Tree, Alone, Parted, Kids, NoMore, Unsplit, Split, KidsHold, TreeHolds, Knot, AtTip, AtSplit, flat, flat_kids, splits, tree_values}
+use Rattle.s66_model.specs.Tree.{Tree, Alone, Parted, Siblings, NoMore, Unsplit, Split, SiblingsHold, TreeHolds, Vertex, AtTerminal, AtSplit, flat, flat_siblings, splits, tree_values}
 use Rattle.s66_model.specs.DominatedLeaves.{Ending, Bounding, Dominated, DominatesByRule, EndingShows, MayBeDominated, ShowsBy}
 use Rattle.s66_model.proofs.AnswerBound.{answer-shown}
 use Rattle.s66_model.proofs.Beginnings.{beginning-front, length-rising}
@@ -32,7 +32,7 @@ use Rattle.s66_model.proofs.Growth.{total-le}
 use Rattle.s66_model.proofs.LegalOrders.{legal-order, ready-parts}
 use Rattle.s66_model.proofs.Remaining.{among-ready, legal-parts, ready-among, remaining-parts, rest-first, step-begins}
 use Rattle.s66_cert.specs.declared.limits.TheConstants.{SPLIT_LIMIT, TIME_LIMIT}
-use Rattle.s66_cert.specs.Document.{AreIn, AreInstructions, AreNumbers, IsDocument, IsLeafLine, KidsFit, TreeFits, has_dominated_line, has_dominated, names_nodes}
+use Rattle.s66_cert.specs.Document.{AreIn, AreInstructions, AreNumbers, IsDocument, IsLeafLine, SiblingsFit, TreeFits, has_dominated_line, has_dominated, names_nodes}
 use Rattle.s66_cert.specs.DocumentParts.{Parts, AreWhole, document_of, tree_of}
 use Rattle.s66_program.specs.ProvedAnswers.{IsSpelled}
 use Rattle.s66_program.specs.ProveText.{document_under, rule_of, texts_of}
@@ -132,19 +132,19 @@ module _ (b : Problem) (few : length b.block ≤ BLOCK_LIMIT) where
     ending-line prefix n (Bounding leaf) begins is = floor-line (prefix ++ n ∷ []) leaf begins is
     ending-line prefix n (Dominated name) begins is = dominated-line rule (prefix ++ n ∷ []) name is.0 (omega (arith, length-append prefix (n ∷ [])))
 
-    kids-fit : (kids : Kids Ending) (prefix ns : List ℕ) → KidsHold b.block (MayEnd rule b tree) prefix ns kids → IsBeginning b.block prefix → AreReady b prefix ns → KidsFit BLOCK_LIMIT ns kids
-    kids-fit NoMore prefix [] h begins are = tt
-    kids-fit NoMore prefix (n ∷ ns) h begins are = h
-    kids-fit (Unsplit ending kids) prefix [] h begins are = h
-    kids-fit (Unsplit ending kids) prefix (n ∷ ns) h begins are =
-        (ending-line prefix n ending (step-begins b.block prefix n begins (are n (inl refl))) h.0, kids-fit kids prefix ns h.1 begins (λ m among. are m (inr among)))
-    kids-fit (Split numbers sub kids) prefix [] h begins are = h
-    kids-fit (Split numbers sub kids) prefix (n ∷ ns) h begins are =
+    siblings-fit : (siblings : Siblings Ending) (prefix ns : List ℕ) → SiblingsHold b.block (MayEnd rule b tree) prefix ns siblings → IsBeginning b.block prefix → AreReady b prefix ns → SiblingsFit BLOCK_LIMIT ns siblings
+    siblings-fit NoMore prefix [] h begins are = tt
+    siblings-fit NoMore prefix (n ∷ ns) h begins are = h
+    siblings-fit (Unsplit ending siblings) prefix [] h begins are = h
+    siblings-fit (Unsplit ending siblings) prefix (n ∷ ns) h begins are =
+        (ending-line prefix n ending (step-begins b.block prefix n begins (are n (inl refl))) h.0, siblings-fit siblings prefix ns h.1 begins (λ m among. are m (inr among)))
+    siblings-fit (Split numbers sub siblings) prefix [] h begins are = h
+    siblings-fit (Split numbers sub siblings) prefix (n ∷ ns) h begins are =
         let longer = prefix ++ n ∷ [] in
         let begins2 : IsBeginning b.block longer = step-begins b.block prefix n begins (are n (inl refl)) in (
           subst (λ ms. AreNumbers BLOCK_LIMIT ms) (sym h.1) (ready-numbers b.block few longer begins2 h.0),
-          kids-fit sub longer numbers h.2 begins2 (split-ready b longer numbers h.1),
-          kids-fit kids prefix ns h.3 begins (λ m among. are m (inr among)),
+          siblings-fit sub longer numbers h.2 begins2 (split-ready b longer numbers h.1),
+          siblings-fit siblings prefix ns h.3 begins (λ m among. are m (inr among)),
         )
 
   -- the empty prefix is dominated by none but itself, which is no standing node
@@ -158,56 +158,56 @@ module _ (b : Problem) (few : length b.block ≤ BLOCK_LIMIT) where
   tree-fits : (rule : Rule) (tree : Tree Ending) → TreeHolds b.block (MayEnd rule b tree) [] tree → TreeFits BLOCK_LIMIT tree
   tree-fits rule (Alone (Bounding leaf)) h = floor-line [] leaf tt h
   tree-fits rule (Alone (Dominated name)) h = absurd (root-bounding rule name h)
-  tree-fits rule (Parted numbers kids) h =
-      (subst (λ ms. AreNumbers BLOCK_LIMIT ms) (sym h.1) (ready-numbers b.block few [] tt h.0), kids-fit rule (Parted numbers kids) kids [] numbers h.2 tt (split-ready b [] numbers h.1))
+  tree-fits rule (Parted numbers siblings) h =
+      (subst (λ ms. AreNumbers BLOCK_LIMIT ms) (sym h.1) (ready-numbers b.block few [] tt h.0), siblings-fit rule (Parted numbers siblings) siblings [] numbers h.2 tt (split-ready b [] numbers h.1))
 
 -- TREES WITHOUT DOMINATED LEAVES
 
-dominated-parts : (knots more : List (Knot Ending)) → has_dominated_line (knots ++ more) ≡ false → (has_dominated_line knots ≡ false) × (has_dominated_line more ≡ false)
+dominated-parts : (vertices more : List (Vertex Ending)) → has_dominated_line (vertices ++ more) ≡ false → (has_dominated_line vertices ≡ false) × (has_dominated_line more ≡ false)
 dominated-parts [] more h = (refl, h)
-dominated-parts (AtTip (Bounding leaf) ∷ knots) more h = dominated-parts knots more h
-dominated-parts (AtTip (Dominated name) ∷ knots) more h = absurd (cc)
-dominated-parts (AtSplit numbers ∷ knots) more h = dominated-parts knots more h
+dominated-parts (AtTerminal (Bounding leaf) ∷ vertices) more h = dominated-parts vertices more h
+dominated-parts (AtTerminal (Dominated name) ∷ vertices) more h = absurd (cc)
+dominated-parts (AtSplit numbers ∷ vertices) more h = dominated-parts vertices more h
 
-dominated-neither : (knots more : List (Knot Ending)) → has_dominated_line knots ≡ false → has_dominated_line more ≡ false → has_dominated_line (knots ++ more) ≡ false
+dominated-neither : (vertices more : List (Vertex Ending)) → has_dominated_line vertices ≡ false → has_dominated_line more ≡ false → has_dominated_line (vertices ++ more) ≡ false
 dominated-neither [] more h none = none
-dominated-neither (AtTip (Bounding leaf) ∷ knots) more h none = dominated-neither knots more h none
-dominated-neither (AtTip (Dominated name) ∷ knots) more h none = absurd (cc)
-dominated-neither (AtSplit numbers ∷ knots) more h none = dominated-neither knots more h none
+dominated-neither (AtTerminal (Bounding leaf) ∷ vertices) more h none = dominated-neither vertices more h none
+dominated-neither (AtTerminal (Dominated name) ∷ vertices) more h none = absurd (cc)
+dominated-neither (AtSplit numbers ∷ vertices) more h none = dominated-neither vertices more h none
 
--- what holds at the tips where none is dominated
+-- what holds at the terminals where none is dominated
 module _ (block : List Instr) (Q R : List ℕ → Ending → Type 0) (each : (at : List ℕ) (leaf : Leaf) → Q at (Bounding leaf) → R at (Bounding leaf)) where
-  kids-bounding : (kids : Kids Ending) (prefix ns : List ℕ) → has_dominated_line (flat_kids kids) ≡ false → KidsHold block Q prefix ns kids → KidsHold block R prefix ns kids
-  kids-bounding NoMore prefix [] none h = tt
-  kids-bounding NoMore prefix (n ∷ ns) none h = absurd h
-  kids-bounding (Unsplit (Bounding leaf) kids) prefix [] none h = absurd h
-  kids-bounding (Unsplit (Bounding leaf) kids) prefix (n ∷ ns) none h = (each (prefix ++ n ∷ []) leaf h.0, kids-bounding kids prefix ns none h.1)
-  kids-bounding (Unsplit (Dominated name) kids) prefix ns none h = absurd (cc)
-  kids-bounding (Split numbers sub kids) prefix [] none h = absurd h
-  kids-bounding (Split numbers sub kids) prefix (n ∷ ns) none h =
-      let parts = dominated-parts (flat_kids sub) (flat_kids kids) none in
-      (h.0, h.1, kids-bounding sub (prefix ++ n ∷ []) numbers parts.0 h.2, kids-bounding kids prefix ns parts.1 h.3)
+  siblings-bounding : (siblings : Siblings Ending) (prefix ns : List ℕ) → has_dominated_line (flat_siblings siblings) ≡ false → SiblingsHold block Q prefix ns siblings → SiblingsHold block R prefix ns siblings
+  siblings-bounding NoMore prefix [] none h = tt
+  siblings-bounding NoMore prefix (n ∷ ns) none h = absurd h
+  siblings-bounding (Unsplit (Bounding leaf) siblings) prefix [] none h = absurd h
+  siblings-bounding (Unsplit (Bounding leaf) siblings) prefix (n ∷ ns) none h = (each (prefix ++ n ∷ []) leaf h.0, siblings-bounding siblings prefix ns none h.1)
+  siblings-bounding (Unsplit (Dominated name) siblings) prefix ns none h = absurd (cc)
+  siblings-bounding (Split numbers sub siblings) prefix [] none h = absurd h
+  siblings-bounding (Split numbers sub siblings) prefix (n ∷ ns) none h =
+      let parts = dominated-parts (flat_siblings sub) (flat_siblings siblings) none in
+      (h.0, h.1, siblings-bounding sub (prefix ++ n ∷ []) numbers parts.0 h.2, siblings-bounding siblings prefix ns parts.1 h.3)
 
   tree-bounding : (tree : Tree Ending) → has_dominated tree ≡ false → TreeHolds block Q [] tree → TreeHolds block R [] tree
   tree-bounding (Alone (Bounding leaf)) none h = each [] leaf h
   tree-bounding (Alone (Dominated name)) none h = absurd (cc)
-  tree-bounding (Parted numbers kids) none h = (h.0, h.1, kids-bounding kids [] numbers none h.2)
+  tree-bounding (Parted numbers siblings) none h = (h.0, h.1, siblings-bounding siblings [] numbers none h.2)
 
 -- by the rule that names none, none is dominated
 module _ (b : Problem) (tree : Tree Ending) where
-  kids-none : (kids : Kids Ending) (prefix ns : List ℕ) → KidsHold b.block (MayEnd NoneNamed b tree) prefix ns kids → has_dominated_line (flat_kids kids) ≡ false
-  kids-none NoMore prefix ns h = refl
-  kids-none (Unsplit ending kids) prefix [] h = absurd h
-  kids-none (Unsplit (Bounding leaf) kids) prefix (n ∷ ns) h = kids-none kids prefix ns h.1
-  kids-none (Unsplit (Dominated name) kids) prefix (n ∷ ns) h = absurd h.0.0
-  kids-none (Split numbers sub kids) prefix [] h = absurd h
-  kids-none (Split numbers sub kids) prefix (n ∷ ns) h =
-      dominated-neither (flat_kids sub) (flat_kids kids) (kids-none sub (prefix ++ n ∷ []) numbers h.2) (kids-none kids prefix ns h.3)
+  siblings-none : (siblings : Siblings Ending) (prefix ns : List ℕ) → SiblingsHold b.block (MayEnd NoneNamed b tree) prefix ns siblings → has_dominated_line (flat_siblings siblings) ≡ false
+  siblings-none NoMore prefix ns h = refl
+  siblings-none (Unsplit ending siblings) prefix [] h = absurd h
+  siblings-none (Unsplit (Bounding leaf) siblings) prefix (n ∷ ns) h = siblings-none siblings prefix ns h.1
+  siblings-none (Unsplit (Dominated name) siblings) prefix (n ∷ ns) h = absurd h.0.0
+  siblings-none (Split numbers sub siblings) prefix [] h = absurd h
+  siblings-none (Split numbers sub siblings) prefix (n ∷ ns) h =
+      dominated-neither (flat_siblings sub) (flat_siblings siblings) (siblings-none sub (prefix ++ n ∷ []) numbers h.2) (siblings-none siblings prefix ns h.3)
 
 none-dominated : (b : Problem) (tree : Tree Ending) → TreeHolds b.block (MayEnd NoneNamed b tree) [] tree → has_dominated tree ≡ false
 none-dominated b (Alone (Bounding leaf)) h = refl
 none-dominated b (Alone (Dominated name)) h = absurd h.0
-none-dominated b (Parted numbers kids) h = kids-none b (Parted numbers kids) kids [] numbers h.2
+none-dominated b (Parted numbers siblings) h = siblings-none b (Parted numbers siblings) siblings [] numbers h.2
 
 -- the rule of a document names nodes where a leaf is dominated
 rule-names : (rule : Rule) (b : Problem) (tree : Tree Ending) (dominated : Bool) → has_dominated tree ≡ dominated → TreeHolds b.block (MayEnd rule b tree) [] tree →
@@ -266,7 +266,7 @@ answer-document rule p block budget a is splits some few spelled =
 
 abbrev pub parts_under : Rule → Profile → Block → Answer → Parts
 parts_under rule p block a =
-    record { rule = rule_of rule a.tree; profile = entries p; block = texts_of block; time = a.time; bound = a.bound; numbers = a.order; knots = flat a.tree }
+    record { rule = rule_of rule a.tree; profile = entries p; block = texts_of block; time = a.time; bound = a.bound; numbers = a.order; vertices = flat a.tree }
 
 pub parts-document : (rule : Rule) (p : Profile) (block : Block) (budget : ℕ) (a : Answer) → IsAnswer rule (record { block = instrs_of block; profile = p }) budget a →
     document_of (parts_under rule p block a) ≡ document_under rule p block a
@@ -281,10 +281,10 @@ parts-whole rule p block budget a is splits some few spelled =
       preorder = ap (λ (tree : Tree Ending). flat tree) (answer-lines rule (record { block = instrs_of block; profile = p }) budget a is);
     }
 
-pub same-parts : (v w : Parts) → v.rule ≡ w.rule → v.profile ≡ w.profile → v.block ≡ w.block → v.time ≡ w.time → v.bound ≡ w.bound → v.numbers ≡ w.numbers → v.knots ≡ w.knots → v ≡ w
-same-parts v w rule profile block time bound numbers knots =
+pub same-parts : (v w : Parts) → v.rule ≡ w.rule → v.profile ≡ w.profile → v.block ≡ w.block → v.time ≡ w.time → v.bound ≡ w.bound → v.numbers ≡ w.numbers → v.vertices ≡ w.vertices → v ≡ w
+same-parts v w rule profile block time bound numbers vertices =
     ap (λ x. record v { rule = x }) rule
-    ∙ ap (λ x. record w { profile = x; block = v.block; time = v.time; bound = v.bound; numbers = v.numbers; knots = v.knots }) profile
-    ∙ ap (λ x. record w { block = x; time = v.time; bound = v.bound; numbers = v.numbers; knots = v.knots }) block
-    ∙ ap (λ x. record w { time = x; bound = v.bound; numbers = v.numbers; knots = v.knots }) time ∙ ap (λ x. record w { bound = x; numbers = v.numbers; knots = v.knots }) bound
-    ∙ ap (λ x. record w { numbers = x; knots = v.knots }) numbers ∙ ap (λ x. record w { knots = x }) knots
+    ∙ ap (λ x. record w { profile = x; block = v.block; time = v.time; bound = v.bound; numbers = v.numbers; vertices = v.vertices }) profile
+    ∙ ap (λ x. record w { block = x; time = v.time; bound = v.bound; numbers = v.numbers; vertices = v.vertices }) block
+    ∙ ap (λ x. record w { time = x; bound = v.bound; numbers = v.numbers; vertices = v.vertices }) time ∙ ap (λ x. record w { bound = x; numbers = v.numbers; vertices = v.vertices }) bound
+    ∙ ap (λ x. record w { numbers = x; vertices = v.vertices }) numbers ∙ ap (λ x. record w { vertices = x }) vertices

@@ -8,21 +8,21 @@ use Rattle.clap.specs.declared.builder.command.Command.{Command}
 use Rattle.clap.specs.declared.builder.command.Command.TheViews.{out-Command}
 use Rattle.s66_program.specs.Usage.{IsCommandOf}
 
-pub about : (a : App) (c told : Command) (text : Option (Bor Text)) → IsCommandOf a c → out-Command told ≡ record (out-Command c) { about = text } → IsCommandOf a told
-about a c told text is same = (ap app_of_fields same ∙ is.0, ap (λ f. f.has_globals) same ∙ is.1)
+pub about : (a : App) (c stated : Command) (text : Option (Bor Text)) → IsCommandOf a c → out-Command stated ≡ record (out-Command c) { about = text } → IsCommandOf a stated
+about a c stated text is same = (ap app_of_fields same ∙ is.0, ap (λ f. f.has_globals) same ∙ is.1)
 
-pub usage-line : (a : App) (c told : Command) (text : Option (Bor Text)) → IsCommandOf a c → out-Command told ≡ record (out-Command c) { usage_str = text } → IsCommandOf a told
-usage-line a c told text is same = (ap app_of_fields same ∙ is.0, ap (λ f. f.has_globals) same ∙ is.1)
+pub usage-line : (a : App) (c stated : Command) (text : Option (Bor Text)) → IsCommandOf a c → out-Command stated ≡ record (out-Command c) { usage_str = text } → IsCommandOf a stated
+usage-line a c stated text is same = (ap app_of_fields same ∙ is.0, ap (λ f. f.has_globals) same ∙ is.1)
 
-pub after-help : (a : App) (c told : Command) (text : Option (Bor Text)) → IsCommandOf a c → out-Command told ≡ record (out-Command c) { after_help = text } → IsCommandOf a told
-after-help a c told text is same = (ap app_of_fields same ∙ is.0, ap (λ f. f.has_globals) same ∙ is.1)
+pub after-help : (a : App) (c stated : Command) (text : Option (Bor Text)) → IsCommandOf a c → out-Command stated ≡ record (out-Command c) { after_help = text } → IsCommandOf a stated
+after-help a c stated text is same = (ap app_of_fields same ∙ is.0, ap (λ f. f.has_globals) same ∙ is.1)
 
 pub bin-name : (a : App) (c named : Command) → IsCommandOf a c → out-Command named ≡ record (out-Command c) { bin_name = (out-Command named).bin_name } → IsCommandOf a named
 bin-name a c named is same = (ap app_of_fields same ∙ is.0, ap (λ f. f.has_globals) same ∙ is.1)
 
-pub version : (a : App) (c told : Command) (text : Bor Text) → IsCommandOf a c → out-Command told ≡ record (out-Command c) { version = Some text } →
-    IsCommandOf (record a { top = record a.top { has_version = true } }) told
-version a c told text is same =
+pub version : (a : App) (c stated : Command) (text : Bor Text) → IsCommandOf a c → out-Command stated ≡ record (out-Command c) { version = Some text } →
+    IsCommandOf (record a { top = record a.top { has_version = true } }) stated
+version a c stated text is same =
     (ap app_of_fields same ∙ ap (λ (b : App). record b { top = record b.top { has_version = true } }) is.0, ap (λ f. f.has_globals) same ∙ is.1)
 
 pub wants-subcommand : (a : App) (c wants : Command) → IsCommandOf a c → out-Command wants ≡ record (out-Command c) { subcommand_required = true } →

@@ -302,15 +302,15 @@ prove-flags = (
 )
 
 -- a flag as clap tells it of what was found
-abbrev pub IsTold : Found → Text → Bool → Type 0
-IsTold found id flag = (one_text found id ≡ Some (codes "true") → flag ≡ true) × (one_text found id ≡ Some (codes "false") → flag ≡ false)
+abbrev pub IsStated : Found → Text → Bool → Type 0
+IsStated found id flag = (one_text found id ≡ Some (codes "true") → flag ≡ true) × (one_text found id ≡ Some (codes "false") → flag ≡ false)
 
 -- each is what the words give
 flags-of : (words : List Text) (found : Found) (dominate any : Bool) (s : Shape) → IsMatched found words s → HasRuleFlags s.rules →
-    IsTold found (codes "dominate") dominate → IsTold found (codes "dominate-tree") any → rule_unless_both dominate any ≡ rule_unless_both (has_option (codes "dominate") words) (has_option (codes "dominate-tree") words)
-flags-of words found dominate any s is has told any-told =
-    ap₂ rule_unless_both (flag-of words found dominate s (codes "dominate") (codes "dominate") is has.0 has.2 told.0 told.1)
-    (flag-of words found any s (codes "dominate-tree") (codes "dominate-tree") is has.1 has.3 any-told.0 any-told.1)
+    IsStated found (codes "dominate") dominate → IsStated found (codes "dominate-tree") any → rule_unless_both dominate any ≡ rule_unless_both (has_option (codes "dominate") words) (has_option (codes "dominate-tree") words)
+flags-of words found dominate any s is has stated any-stated =
+    ap₂ rule_unless_both (flag-of words found dominate s (codes "dominate") (codes "dominate") is has.0 has.2 stated.0 stated.1)
+    (flag-of words found any s (codes "dominate-tree") (codes "dominate-tree") is has.1 has.3 any-stated.0 any-stated.1)
 
 one-given : (dominate any : Bool) (rule : LeafRule) → Some rule ≡ rule_unless_both dominate any → (rule ≡ rule_by dominate any) × ((dominate && any) ≡ false)
 one-given true true rule is = absurd (true≢false (ap is_some is))
@@ -318,9 +318,9 @@ one-given true false rule is = (ap (λ o. unwrap_or o rule) is, refl)
 one-given false any rule is = (ap (λ o. unwrap_or o rule) is, refl)
 
 pub rule-of : (words : List Text) (found : Found) (dominate any : Bool) (rule : LeafRule) (s : Shape) → IsMatched found words s → HasRuleFlags s.rules →
-    IsTold found (codes "dominate") dominate → IsTold found (codes "dominate-tree") any → Some rule ≡ rule_unless_both dominate any → GivesRule words rule
-rule-of words found dominate any rule s is has told any-told gives =
-    one-given (has_option (codes "dominate") words) (has_option (codes "dominate-tree") words) rule (gives ∙ flags-of words found dominate any s is has told any-told)
+    IsStated found (codes "dominate") dominate → IsStated found (codes "dominate-tree") any → Some rule ≡ rule_unless_both dominate any → GivesRule words rule
+rule-of words found dominate any rule s is has stated any-stated gives =
+    one-given (has_option (codes "dominate") words) (has_option (codes "dominate-tree") words) rule (gives ∙ flags-of words found dominate any s is has stated any-stated)
 
 both-given : (dominate any : Bool) → None ≡ rule_unless_both dominate any → (dominate && any) ≡ true
 both-given true true is = refl
@@ -328,9 +328,9 @@ both-given true false is = absurd (true≢false (ap is_some (sym is)))
 both-given false any is = absurd (true≢false (ap is_some (sym is)))
 
 pub both-of : (words : List Text) (found : Found) (dominate any : Bool) (s : Shape) → IsMatched found words s → HasRuleFlags s.rules →
-    IsTold found (codes "dominate") dominate → IsTold found (codes "dominate-tree") any → None ≡ rule_unless_both dominate any → gives_both words ≡ true
-both-of words found dominate any s is has told any-told gives =
-    both-given (has_option (codes "dominate") words) (has_option (codes "dominate-tree") words) (gives ∙ flags-of words found dominate any s is has told any-told)
+    IsStated found (codes "dominate") dominate → IsStated found (codes "dominate-tree") any → None ≡ rule_unless_both dominate any → gives_both words ≡ true
+both-of words found dominate any s is has stated any-stated gives =
+    both-given (has_option (codes "dominate") words) (has_option (codes "dominate-tree") words) (gives ∙ flags-of words found dominate any s is has stated any-stated)
 
 -- the text of a subcommand's profile, as it was found
 pub profile-of : (words : List Text) (found : Found) (s : Shape) (profile : Option (Bor Text)) → IsMatched found words s →

@@ -73,14 +73,14 @@ placed-within rule profile nodes trace input blocks ps read (answers, are, same)
 
 -- WHETHER ALL ARE BEST
 
-pub best-told : (rule : Rule) (profile : Profile) (nodes : ℕ) (trace : Bool) (blocks : List Block) (answers : List Answer) → AreAnswers rule profile nodes blocks answers → tell_best (all_placed profile trace blocks answers) ≡ all_best answers
-best-told rule profile nodes trace [] [] are = refl
-best-told rule profile nodes trace [] (a ∷ answers) are = absurd are
-best-told rule profile nodes trace (block ∷ blocks) [] are = absurd are
-best-told rule profile nodes trace (block ∷ blocks) (a ∷ answers) are = ap (λ r. (a.bound == a.time) && r) (best-told rule profile nodes trace blocks answers are.1)
+pub best-stated : (rule : Rule) (profile : Profile) (nodes : ℕ) (trace : Bool) (blocks : List Block) (answers : List Answer) → AreAnswers rule profile nodes blocks answers → tell_best (all_placed profile trace blocks answers) ≡ all_best answers
+best-stated rule profile nodes trace [] [] are = refl
+best-stated rule profile nodes trace [] (a ∷ answers) are = absurd are
+best-stated rule profile nodes trace (block ∷ blocks) [] are = absurd are
+best-stated rule profile nodes trace (block ∷ blocks) (a ∷ answers) are = ap (λ r. (a.bound == a.time) && r) (best-stated rule profile nodes trace blocks answers are.1)
 
 pub order-output : (rule : Rule) (profile : Profile) (nodes : ℕ) (trace : Bool) (input text : List ℕ) (status : Status) (blocks : List Block) (ps : List Placed) → source_of input ≡ Ok blocks → AreAllPlaced rule profile nodes trace blocks ps →
     text ≡ printed input ps → status ≡ (if tell_best ps then Done else Bounded) → IsOrderOutput rule profile nodes trace input text status
 order-output rule profile nodes trace input text status blocks ps read (answers, are, same) is ends =
-    let best : tell_best ps ≡ all_best answers = ap tell_best same ∙ best-told rule profile nodes trace blocks answers are in
+    let best : tell_best ps ≡ all_best answers = ap tell_best same ∙ best-stated rule profile nodes trace blocks answers are in
     (blocks, read, (answers, are, is ∙ ap (printed input) same, ends ∙ ap (λ b. if b then Done else Bounded) best))

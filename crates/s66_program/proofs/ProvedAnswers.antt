@@ -34,12 +34,12 @@ begins rule profile nodes blocks text none rest others are = subst (λ t. ArePro
 
 pub goes-on : (rule : Rule) (profile : Profile) (nodes : ℕ) (blocks : List Block) (i : ℕ) (block : Block) (text new : List ℕ) (best own : Bool) → i < length blocks → block ≡ slice_index_or blocks i block →
     IsProved rule profile nodes block text new own → GoesOnAt rule profile nodes blocks i text best → GoesOnAt rule profile nodes blocks (i + 1) new (best && own)
-goes-on rule profile nodes blocks i block text new best own within at (a, is, pushed, told) so_far rest others (answers, are, rest-is, all) =
+goes-on rule profile nodes blocks i block text new best own within at (a, is, pushed, stated) so_far rest others (answers, are, rest-is, all) =
     let left : block ∷ drop (i + 1) blocks ≡ drop i blocks = ap (λ b. b ∷ drop (i + 1) blocks) at ∙ sym (drop_more blocks i block within) in
     let document = document_text (document_under rule profile block a) in
     let there : AreProvedSo rule profile nodes (drop i blocks) (document ++ rest) (own && others) =
     subst (λ bs. AreProvedSo rule profile nodes bs (document ++ rest) (own && others)) left
-    (a ∷ answers, (is, are), ap (λ t. document ++ t) rest-is, ap₂ (λ x y. x && y) told all)
+    (a ∷ answers, (is, are), ap (λ t. document ++ t) rest-is, ap₂ (λ x y. x && y) stated all)
     in
     let joined : new ++ rest ≡ text ++ (document ++ rest) = ap (λ t. t ++ rest) pushed ∙ append_assoc text document rest in
     subst (AreProvedSo rule profile nodes blocks (new ++ rest)) (sym (and-assoc best own others))

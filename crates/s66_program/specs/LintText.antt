@@ -5,10 +5,10 @@ use Rattle.s66_program.specs.declared.outcome.Status.{Status}
 use Rattle.s66_program.specs.declared.outcome.Status.TheVariants.{Done, Denied}
 
 -- done if nothing is told
-abbrev pub status_of_told : List ℕ → Status
-status_of_told [] = Done
-status_of_told (b ∷ text) = Denied
+abbrev pub status_of_stated : List ℕ → Status
+status_of_stated [] = Done
+status_of_stated (b ∷ text) = Denied
 
 -- what is told of the source's lines, and its status
 abbrev pub IsLintOutput : (input text : List ℕ) → Status → Type 0
-IsLintOutput input text status = (text ≡ findings_text input) × (status ≡ status_of_told text)
+IsLintOutput input text status = (text ≡ findings_text input) × (status ≡ status_of_stated text)

@@ -79,7 +79,7 @@ fn tells_read_faults(rt: HostRuntime) {
         let ran = run_observed(&rt, TIME, &mut reader, &mut Silent);
         assert!(rt; ran.status == 6 && ran.written.is_empty(), "after {left}");
         assert!(rt;
-            ran.told.as_slice() == b"READ FAILED\n".as_slice(),
+            ran.stated.as_slice() == b"READ FAILED\n".as_slice(),
             "after {left}"
         );
         assert!(rt; reader.left == 0 && reader.failed == failed, "after {left}");
@@ -101,7 +101,7 @@ fn reads_nothing_for_a_bad_profile(rt: HostRuntime) {
     let words = &["s66", "time", "--profile", "[]"];
     let ran = run_observed(&rt, words, &mut reader, &mut Silent);
     assert!(rt; ran.status == 3 && ran.written.is_empty());
-    assert!(rt; ran.told.as_slice() == b"BAD PROFILE\n".as_slice());
+    assert!(rt; ran.stated.as_slice() == b"BAD PROFILE\n".as_slice());
     assert!(rt; reader.reads == 0 && reader.failed == 0);
 }
 
@@ -127,7 +127,7 @@ const BROKEN: &[(&[&str], &str, usize, usize, u8, &str, &str)] = &[
 
 #[test]
 fn tells_write_faults(rt: HostRuntime) {
-    for &(words, input, room, errors_room, status, written, told) in BROKEN {
+    for &(words, input, room, errors_room, status, written, stated) in BROKEN {
         let mut reader = OverRead::new(input.as_bytes());
         let mut writer = writer_of(room);
         let mut errors = writer_of(errors_room);
@@ -141,7 +141,7 @@ fn tells_write_faults(rt: HostRuntime) {
         );
         assert!(rt; ended == status, "{words:?}");
         assert!(rt; writer.taken.as_slice() == written.as_bytes(), "{words:?}");
-        assert!(rt; errors.taken.as_slice() == told.as_bytes(), "{words:?}");
+        assert!(rt; errors.taken.as_slice() == stated.as_bytes(), "{words:?}");
     }
 }
 

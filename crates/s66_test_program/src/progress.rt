@@ -49,12 +49,12 @@ fn shows_long_work(rt: HostRuntime) {
 
 /// What an observer is told, as far as there is room.
 #[derive(Drop)]
-struct Told {
+struct Stated {
     steps: ArrayVec<(usize, usize), 8>,
     ends: u32,
 }
 
-impl Observer for Told {
+impl Observer for Stated {
     fn done(&mut self, count: usize, of: usize) {
         let _ = self.steps.try_push((count, of));
     }
@@ -66,21 +66,21 @@ impl Observer for Told {
 
 /// Checks the status and what an observer is told: of each block or document, one after the other, and of the end. The answer
 /// is what was written.
-fn check_told<R: AllocGlobal + Abort + Threads + Wait + Sync>(
+fn check_stated<R: AllocGlobal + Abort + Threads + Wait + Sync>(
     rt: &R,
     words: &[&str],
     input: &[u8],
     status: u8,
     steps: &[(usize, usize)],
 ) -> Vec<u8> {
-    let mut told = Told {
+    let mut stated = Stated {
         steps: ArrayVec::new(),
         ends: 0,
     };
-    let ran = run_observed(rt, words, &mut OverRead::new(input), &mut told);
+    let ran = run_observed(rt, words, &mut OverRead::new(input), &mut stated);
     assert!(rt; ran.status == status, "{words:?}");
     assert!(rt;
-        told.steps.as_slice() == steps && told.ends == 1,
+        stated.steps.as_slice() == steps && stated.ends == 1,
         "{words:?}"
     );
     ran.written
@@ -90,8 +90,8 @@ fn check_told<R: AllocGlobal + Abort + Threads + Wait + Sync>(
 fn tells_of_blocks_and_documents(rt: HostRuntime) {
     let source = b"  BX1 X2+X3\nL BX1 X2\n";
     let two = [(0, 2), (1, 2)];
-    check_told(&rt, ORDER, source, 0, &two);
-    let documents = check_told(&rt, &["s66", "prove"], source, 0, &two);
-    check_told(&rt, CHECK, documents.as_slice(), 0, &two);
-    check_told(&rt, ORDER, b"  SA1 *+2\n", 3, &[]);
+    check_stated(&rt, ORDER, source, 0, &two);
+    let documents = check_stated(&rt, &["s66", "prove"], source, 0, &two);
+    check_stated(&rt, CHECK, documents.as_slice(), 0, &two);
+    check_stated(&rt, ORDER, b"  SA1 *+2\n", 3, &[]);
 }

@@ -92,12 +92,12 @@ const REPEATED: &[(&str, &[&str], &str, usize, u8, &str)] = &[
         "BLOCK 1 LINE 1 COUNT 128 PARCELS 128 NO 0 TIME 512\nBLOCK 2 LINE 129 COUNT 1 PARCELS 1 NO 0 TIME 4\n",
     ),
     ("201 bytes", TIME, "*", 201, 3, "LINE 1 TOO LONG\n"),
-    ("201 bytes, told", LINT, "*", 201, 5, "LINE 1 TOO LONG\n"),
+    ("201 bytes, stated", LINT, "*", 201, 5, "LINE 1 TOO LONG\n"),
     ("20,000 lines", TIME, "*\n", 20_000, 0, ""),
     ("20,001 lines", TIME, "*\n", 20_001, 3, "TOO MANY LINES\n"),
-    ("20,000 lines, told", LINT, "*\n", 20_000, 0, ""),
+    ("20,000 lines, stated", LINT, "*\n", 20_000, 0, ""),
     (
-        "20,001 lines, told",
+        "20,001 lines, stated",
         LINT,
         "*\n",
         20_001,
@@ -153,7 +153,7 @@ fn orders_rows(rt: HostRuntime) {
     for &(name, input, begins, ends, time) in ORDERED {
         let ran = run(&rt, ORDER, input.as_bytes());
         let written = ran.written.as_slice();
-        assert!(rt; ran.status == 0 && ran.told.is_empty(), "{name}");
+        assert!(rt; ran.status == 0 && ran.stated.is_empty(), "{name}");
         assert!(rt;
             written.starts_with(begins.as_bytes()) && written.ends_with(ends.as_bytes()),
             "{name}: {written:?}"

@@ -30,7 +30,7 @@ pub(crate) const ORDER_TRACE: &[&str] = &["s66", "order", "--workers", "1", "--t
 pub(crate) struct Ran {
     pub(crate) status: u8,
     pub(crate) written: Vec<u8>,
-    pub(crate) told: Vec<u8>,
+    pub(crate) stated: Vec<u8>,
 }
 
 /// Runs the program, of which an observer is told how far it is.
@@ -48,7 +48,7 @@ pub(crate) fn run_observed<R: AllocGlobal + Threads + Wait + Sync, F: Feed, O: O
     Ran {
         status,
         written: writer.into_inner(),
-        told: errors.into_inner(),
+        stated: errors.into_inner(),
     }
 }
 
@@ -72,8 +72,8 @@ pub(crate) fn check<R: AllocGlobal + Abort + Threads + Wait + Sync>(
 ) {
     let ran = run(rt, words, input);
     let (wanted, empty) = match status {
-        0 | 5 | 7 => (&ran.written, &ran.told),
-        _ => (&ran.told, &ran.written),
+        0 | 5 | 7 => (&ran.written, &ran.stated),
+        _ => (&ran.stated, &ran.written),
     };
     assert!(rt; ran.status == status, "{name}: {}", ran.status);
     assert!(rt; wanted.as_slice() == text.as_bytes(), "{name}: {wanted:?}");
@@ -103,7 +103,7 @@ pub(crate) fn check_sum<R: AllocGlobal + Abort + Threads + Wait + Sync>(
     let ran = run(rt, words, input);
     let seen = adler32(ran.written.as_slice());
     assert!(rt;
-        ran.status == 0 && ran.told.is_empty(),
+        ran.status == 0 && ran.stated.is_empty(),
         "{name}: {}",
         ran.status
     );

@@ -196,7 +196,7 @@ fn runs_no_commands(rt: HostRuntime) {
         let ran = run(&rt, words, b"  SA1 *+2\n");
         assert!(rt; ran.status == status, "{words:?}");
         assert!(rt; ran.written.is_empty() == (status != 0), "{words:?}");
-        assert!(rt; ran.told.is_empty() == (status == 0), "{words:?}");
+        assert!(rt; ran.stated.is_empty() == (status == 0), "{words:?}");
     }
 }
 

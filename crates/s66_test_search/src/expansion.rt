@@ -3,7 +3,7 @@ ghost use Rattle.std.specs.Prelude.{ℕ, ◌≡◌, ◌≤◌};
 use s66_dep::{Set, is_beginning};
 use s66_isa::Profile;
 use s66_line::read_source;
-use s66_node::{Constant, Knot, Least, Piece, expand, expand_with};
+use s66_node::{Constant, Least, Piece, Vertex, expand, expand_with};
 use s66_test_blocks::{MULTIPLIES, ONE_LOAD, SEVEN_MULTIPLIES, only_block};
 use std::process::Abort;
 use std::test::Fail;
@@ -13,17 +13,17 @@ use std::test::Fail;
 struct Falling {
     kept: u32,
     next: u32,
-    is_told: bool,
+    is_stated: bool,
 }
 
 impl Least for Falling {
     ghost kept = { λ f. f.kept };
 
     fn least(&mut self) -> u32 {
-        if self.is_told {
+        if self.is_stated {
             self.kept = self.kept.min(self.next);
         }
-        self.is_told = true;
+        self.is_stated = true;
         self.kept
     }
 }
@@ -69,12 +69,12 @@ enum Line {
 /// The lines of a piece, none of which is dominated.
 fn lines_of<R: AllocGlobal + Abort>(rt: &R, piece: &Piece) -> Result<Vec<Line>, Fail> {
     let mut lines = Vec::new(rt.alloc());
-    for knot in piece.knots() {
-        let line = match knot {
-            Knot::Split(numbers) => Some(Line::Split(*numbers)),
-            Knot::Leaf { value } => Some(Line::Leaf(*value)),
-            Knot::Frontier { value } => Some(Line::Frontier(*value)),
-            Knot::Passed { .. } => None,
+    for vertex in piece.vertices() {
+        let line = match vertex {
+            Vertex::Split(numbers) => Some(Line::Split(*numbers)),
+            Vertex::Leaf { value } => Some(Line::Leaf(*value)),
+            Vertex::Frontier { value } => Some(Line::Frontier(*value)),
+            Vertex::Passed { .. } => None,
         };
         lines.push(line.expect(rt, "no dominated leaf"))?;
     }
@@ -130,7 +130,7 @@ fn expands_by_a_falling_time(rt: HostRuntime) -> Result<(), Fail> {
     let mut falling = Falling {
         kept: 40,
         next: 17,
-        is_told: false,
+        is_stated: false,
     };
     let piece = piece_by(&rt, MULTIPLIES, &mut falling, 100)?;
     let leaf = Line::Leaf(17);
@@ -170,6 +170,6 @@ fn expands_to_whole_orders(rt: HostRuntime) -> Result<(), Fail> {
 fn expands_to_many_orders(rt: HostRuntime) -> Result<(), Fail> {
     let piece = piece_of(&rt, SEVEN_MULTIPLIES, &[], 44, 10_000)?;
     assert_eq!(rt; piece.splits(), 8660);
-    assert_eq!(rt; piece.knots().len(), 8660 + 5040);
+    assert_eq!(rt; piece.vertices().len(), 8660 + 5040);
     Ok(())
 }

@@ -21,15 +21,15 @@ pub struct Counts {
 
 /// What a worker has told a gate.
 #[derive(Drop)]
-struct Told {
+struct Stated {
     claims: AtomicU32,
     nodes: AtomicU32,
     pieces: AtomicU32,
 }
 
-impl Told {
-    fn nothing() -> Told {
-        Told {
+impl Stated {
+    fn nothing() -> Stated {
+        Stated {
             claims: AtomicU32::new(0),
             nodes: AtomicU32::new(0),
             pieces: AtomicU32::new(0),
@@ -84,8 +84,8 @@ impl Meeting {
 pub struct Held<'a, R> {
     rt: &'a R,
     meeting: Meeting,
-    first: Told,
-    second: Told,
+    first: Stated,
+    second: Stated,
     is_over: AtomicBool,
 }
 
@@ -94,8 +94,8 @@ impl<'a, R: Clock> Held<'a, R> {
         Held {
             rt,
             meeting,
-            first: Told::nothing(),
-            second: Told::nothing(),
+            first: Stated::nothing(),
+            second: Stated::nothing(),
             is_over: AtomicBool::new(false),
         }
     }
@@ -114,7 +114,7 @@ impl<'a, R: Clock> Held<'a, R> {
     }
 
     /// What a worker has told, and what the other has.
-    fn sides(&self, w: u8) -> (&Told, &Told) {
+    fn sides(&self, w: u8) -> (&Stated, &Stated) {
         if w == 1 {
             (&self.first, &self.second)
         } else {
@@ -184,7 +184,7 @@ impl Gate for Claimants {
 /// A gate that stands open, and counts the nodes that its one worker claims between its first piece and its second.
 #[derive(Drop)]
 pub struct Filling {
-    told: Told,
+    stated: Stated,
     /// The nodes that it had claimed when it came to its first piece, and to its second.
     nodes_at: [AtomicU32; 2],
 }
@@ -192,7 +192,7 @@ pub struct Filling {
 impl Filling {
     pub fn nothing() -> Filling {
         Filling {
-            told: Told::nothing(),
+            stated: Stated::nothing(),
             nodes_at: [AtomicU32::new(0), AtomicU32::new(0)],
         }
     }
@@ -207,8 +207,8 @@ impl Filling {
 
 impl Gate for Filling {
     fn before_graft(&self, _w: u8) {
-        let piece = self.told.pieces.fetch_add(1, Ordering::SeqCst);
-        let nodes = self.told.nodes.load(Ordering::SeqCst);
+        let piece = self.stated.pieces.fetch_add(1, Ordering::SeqCst);
+        let nodes = self.stated.nodes.load(Ordering::SeqCst);
         if piece < 2 {
             self.nodes_at[piece as usize].store(nodes, Ordering::SeqCst);
         }
@@ -216,7 +216,7 @@ impl Gate for Filling {
 
     fn after_claim(&self, _w: u8, got: bool) {
         if got {
-            self.told.nodes.fetch_add(1, Ordering::SeqCst);
+            self.stated.nodes.fetch_add(1, Ordering::SeqCst);
         }
     }
 }

@@ -40,8 +40,8 @@ fn check_run<R: AllocGlobal + Abort + Threads + Wait + Sync, G: Gate + Sync>(
         rule: Rule::NoneNamed,
     };
     let answer = run(rt, block, &Profile::standard(), options, gate)?;
-    let told = (answer.time(), answer.bound(), answer.splits());
-    assert_eq!(rt; told, (22, 22, 10));
+    let stated = (answer.time(), answer.bound(), answer.splits());
+    assert_eq!(rt; stated, (22, 22, 10));
     Ok(())
 }
 
@@ -114,8 +114,8 @@ fn search_all<R: AllocGlobal + Abort + Threads + Wait + Sync, G: Gate + Sync>(
     let Ok(ledger) = hub.close(seats) else {
         panic!(rt; "all seats are there")
     };
-    let told = (sum, ledger.splits(), ledger.bound());
-    assert_eq!(rt; told, (ALL_SPLITS, ALL_SPLITS, 33));
+    let stated = (sum, ledger.splits(), ledger.bound());
+    assert_eq!(rt; stated, (ALL_SPLITS, ALL_SPLITS, 33));
     fewest
 }
 

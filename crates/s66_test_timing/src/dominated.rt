@@ -6,7 +6,7 @@ use s66_dep::is_beginning;
 use s66_isa::Profile;
 use s66_line::{Block, read_source};
 use s66_model::Rule;
-use s66_node::{Constant, Knot, Marks, Piece, Place, Walk, expand_dominated};
+use s66_node::{Constant, Marks, Piece, Place, Vertex, Walk, expand_dominated};
 use s66_test_blocks::only_block;
 use std::process::Abort;
 use std::test::Fail;
@@ -20,12 +20,12 @@ const LATE_READER: &str = "  FX1 X2/X3\n  SX5 B1\n  BX4 X1\n  FX6 X7+X0\n";
 /// How many lines of a piece are dominated. Each other one is a split, or a leaf with this value.
 fn count_passed<R: Abort>(rt: &R, piece: &Piece, leaf: u32) -> u32 {
     let mut passed = 0u32;
-    for knot in piece.knots() {
-        match knot {
-            Knot::Split(_) => {}
-            Knot::Leaf { value } => assert_eq!(rt; *value, leaf),
-            Knot::Frontier { .. } => panic!(rt; "no line is open"),
-            Knot::Passed { .. } => passed = passed.saturating_add(1),
+    for vertex in piece.vertices() {
+        match vertex {
+            Vertex::Split(_) => {}
+            Vertex::Leaf { value } => assert_eq!(rt; *value, leaf),
+            Vertex::Frontier { .. } => panic!(rt; "no line is open"),
+            Vertex::Passed { .. } => passed = passed.saturating_add(1),
         }
     }
     passed
@@ -55,8 +55,8 @@ fn expands_late_reader(rt: HostRuntime) -> Result<(), Fail> {
     let piece = expand_dominated(rt.alloc(), block, &Profile::standard(), &[1], 40, 64)?;
     assert_eq!(&rt; piece.splits(), 9);
     assert_eq!(&rt; count_passed(&rt, &piece, 33), 1);
-    for knot in piece.knots() {
-        if let Knot::Passed { name, .. } = knot {
+    for vertex in piece.vertices() {
+        if let Vertex::Passed { name, .. } = vertex {
             assert_eq!(&rt; name.numbers.as_slice(), [1u8, 2, 3].as_slice());
             assert_eq!(&rt; name.place, Place::Line(2));
         }
@@ -80,8 +80,8 @@ fn check_standing<R: AllocGlobal + Abort>(rt: &R, block: &Block) -> Result<(), F
     let second = walk.expand_dominated(rt.alloc(), &[2], &mut best, 64, &mut marks, rule)?;
     assert_eq!(rt; second.splits(), 2);
     assert_eq!(rt; count_passed(rt, &second, 8), 1);
-    for knot in second.knots() {
-        if let Knot::Passed { name, .. } = knot {
+    for vertex in second.vertices() {
+        if let Vertex::Passed { name, .. } = vertex {
             assert_eq!(rt; name.numbers.as_slice(), [1u8, 2].as_slice());
             assert_eq!(rt; name.place, Place::Node(20));
         }

@@ -6,7 +6,7 @@ use Rattle.s66_model.specs.Leaves.{Parcels, value, floor}
 use Rattle.s66_model.specs.Leaves as leaves
 use Rattle.s66_model.proofs.FloorWalk.{leaves_from, leaves-step}
 use Rattle.s66_time.specs.Ticking.{problem_of}
-use Rattle.s66_bound.specs.declared.leaf.Leaf.TheVariants as told
+use Rattle.s66_bound.specs.declared.leaf.Leaf.TheVariants as stated
 use Rattle.s66_bound.proofs.FirstGreatest.{IsFirst, chain-first, greater-first, no-greater-first, first-leaf, first-value, first-none}
 use Rattle.s66_bound.proofs.floors.beyond_chain.Goals.{then-most-value, else-most-value}
 use Rattle.s66_bound.proofs.floors.beyond_chain.Goals as goal
@@ -23,8 +23,8 @@ loop-kind-preserved c =
     elim c.if-most-value.branch [
       | then-most-value w ↦
           subst (λ first. IsFirst b t.numbers first c.if-most-value.most left) (sym w.first-is)
-          (subst (λ most. IsFirst b t.numbers (Some (told.Load (get_or all_kinds i Boolean) c.load_of-value.result)) most left) (sym w.most-is)
-          (greater-first b t.numbers c.loop-kind.first c.loop-kind.most (told.Load (get_or all_kinds i Boolean) c.load_of-value.result) (leaves.Load (get_or all_kinds i Boolean)) left
+          (subst (λ most. IsFirst b t.numbers (Some (stated.Load (get_or all_kinds i Boolean) c.load_of-value.result)) most left) (sym w.most-is)
+          (greater-first b t.numbers c.loop-kind.first c.loop-kind.most (stated.Load (get_or all_kinds i Boolean) c.load_of-value.result) (leaves.Load (get_or all_kinds i Boolean)) left
           (subst (IsFirst b t.numbers c.loop-kind.first c.loop-kind.most) (leaves-step all_kinds i Boolean c.loop-kind-test.true) c.loop-kind.invariant)
           refl c.load_of-value.ensures w.if-most-value.true))
       | else-most-value w ↦
@@ -36,19 +36,19 @@ loop-kind-preserved c =
     ]
 
 module _ (c : goal.Then-most-value-2) where
-  abbrev last : IsFirst (problem_of c.args.clock.now) c.args.clock.now.numbers (Some (told.Parcels c.parcels_of-value.result)) c.parcels_of-value.result []
+  abbrev last : IsFirst (problem_of c.args.clock.now) c.args.clock.now.numbers (Some (stated.Parcels c.parcels_of-value.result)) c.parcels_of-value.result []
   last =
       let t = c.args.clock.now in
       let b = problem_of t in
-      greater-first b t.numbers c.loop-kind.first c.loop-kind.most (told.Parcels c.parcels_of-value.result) Parcels []
+      greater-first b t.numbers c.loop-kind.first c.loop-kind.most (stated.Parcels c.parcels_of-value.result) Parcels []
       (subst (λ kinds. IsFirst b t.numbers c.loop-kind.first c.loop-kind.most (leaves_from kinds)) (drop_all c.loop-kind.kind-index all_kinds c.loop-kind-test.false) c.loop-kind.invariant)
       refl c.parcels_of-value.ensures c.if-most-value-2.true
 
 pub returns-then-most-value-2-clause-leaf : goal.returns-then-most-value-2-clause-leaf
-returns-then-most-value-2-clause-leaf c = first-leaf (problem_of c.args.clock.now) c.args.clock.now.numbers (Some (told.Parcels c.parcels_of-value.result)) c.parcels_of-value.result (last c)
+returns-then-most-value-2-clause-leaf c = first-leaf (problem_of c.args.clock.now) c.args.clock.now.numbers (Some (stated.Parcels c.parcels_of-value.result)) c.parcels_of-value.result (last c)
 
 pub returns-then-most-value-2-clause-value : goal.returns-then-most-value-2-clause-value
-returns-then-most-value-2-clause-value c = first-value (problem_of c.args.clock.now) c.args.clock.now.numbers (Some (told.Parcels c.parcels_of-value.result)) c.parcels_of-value.result (last c)
+returns-then-most-value-2-clause-value c = first-value (problem_of c.args.clock.now) c.args.clock.now.numbers (Some (stated.Parcels c.parcels_of-value.result)) c.parcels_of-value.result (last c)
 
 module _ (c : goal.Else-most-value-2) where
   abbrev all : IsFirst (problem_of c.args.clock.now) c.args.clock.now.numbers c.loop-kind.first c.loop-kind.most []

@@ -36,7 +36,7 @@ returns-in_err-print_tree g c =
     let left = claim-left d (block-left d c.block.ensures.whole c.print_opening.ensures c.block.ensures.value block) claim in
     let (begun, more) = c.in_err-print_tree.ensures in
     let all : IsBegun (g.S.Sink.seen c.args.writer.now).bytes (g.S.Sink.seen c.print_tree.new.writer).bytes (document_text (document_of d)) =
-    underway-begun _ _ _ [] c.print_claim.new.page _ (tree_lines d.knots) (codes "END\n") left (rw (← c.tree.ensures.value) begun) in
+    underway-begun _ _ _ [] c.print_claim.new.page _ (tree_lines d.vertices) (codes "END\n") left (rw (← c.tree.ensures.value) begun) in
     MatchResult-from_err c.from_residual-in_err-print_tree.result _ _ (search rules) (λ _. (all, more ∙ ap (λ n. n + 1) (same' ∙ same)))
 
 -- only the last line is left

@@ -2,7 +2,7 @@ use Rattle.std.proofs.Common.{◌≡◌, ◌++◌, ◌∷◌, ◌+◌, [], rules
 use Rattle.std.proofs.lemmas.Result.{MatchResult-from_err}
 use Rattle.s66_cert.specs.Document.{tree_lines}
 use Rattle.s66_cert.specs.Pages.{AreShort}
-use Rattle.s66_cert.specs.DocumentParts.{knot_of}
+use Rattle.s66_cert.specs.DocumentParts.{vertex_of}
 use Rattle.s66_cert.proofs.Pages.{IsUnderway, underway-more, underway-begun, printed-behind}
 use Rattle.s66_cert.proofs.Printed.{first-tree-line}
 use Rattle.s66_cert.proofs.printing.print_tree.Goals as goal
@@ -15,14 +15,14 @@ returns-in_err-make_room g c =
 
 pub loop-line-preserved : goal.loop-line-preserved
 loop-line-preserved g c =
-    let knot = knot_of c.in-Some.line in
+    let vertex = vertex_of c.in-Some.line in
     let more = c.next.new.self in
-    let next : c.loop-line.lines ≡ knot ∷ more = search rules in
-    let way : IsUnderway _ _ c.args.page.now c.loop-line.page (tree_lines c.args.lines) (tree_lines (knot ∷ []) ++ tree_lines more) =
-    subst (IsUnderway _ _ c.args.page.now c.loop-line.page (tree_lines c.args.lines)) (ap tree_lines next ∙ first-tree-line knot more) c.loop-line.invariant.way in
+    let next : c.loop-line.lines ≡ vertex ∷ more = search rules in
+    let way : IsUnderway _ _ c.args.page.now c.loop-line.page (tree_lines c.args.lines) (tree_lines (vertex ∷ []) ++ tree_lines more) =
+    subst (IsUnderway _ _ c.args.page.now c.loop-line.page (tree_lines c.args.lines)) (ap tree_lines next ∙ first-tree-line vertex more) c.loop-line.invariant.way in
     record {
-      way = underway-more _ _ _ c.args.page.now c.loop-line.page c.tree_line.new.self _ (tree_lines (knot ∷ [])) (tree_lines more) way
-          (printed-behind _ _ c.loop-line.page c.make_room.new.self c.tree_line.new.self (tree_lines (knot ∷ [])) c.in_ok-make_room.ensures.printed.0 c.tree_line.ensures);
+      way = underway-more _ _ _ c.args.page.now c.loop-line.page c.tree_line.new.self _ (tree_lines (vertex ∷ [])) (tree_lines more) way
+          (printed-behind _ _ c.loop-line.page c.make_room.new.self c.tree_line.new.self (tree_lines (vertex ∷ [])) c.in_ok-make_room.ensures.printed.0 c.tree_line.ensures);
       rest = (subst AreShort next c.loop-line.invariant.rest).1;
       same = c.in_ok-make_room.ensures.printed.1 ∙ c.loop-line.invariant.same;
     }

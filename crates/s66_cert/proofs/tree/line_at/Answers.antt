@@ -1,5 +1,5 @@
 use Rattle.std.proofs.Common.{refl, ap, sym, ◌∙◌, ◌+◌, ◌∷◌, drop, length, arith}
-use Rattle.s66_cert.specs.Marks.{knots_of}
+use Rattle.s66_cert.specs.Marks.{vertices_of}
 use Rattle.s66_cert.specs.declared.tree.Mark.TheVariants.{Split}
 use Rattle.s66_cert.proofs.Marks.{begin-within, count-within, line-is}
 use Rattle.s66_cert.proofs.tree.line_at.Goals as goal
@@ -14,5 +14,5 @@ split_at-requires-2 c =
 pub returns : goal.returns
 returns c =
     line-is c.args.marks.now c.args.numbers.now c.args.begins.now c.args.place (Split 0) c.requires.kept c.requires.within
-    ∙ ap (λ k. k ∷ drop (c.args.place + 1) (knots_of c.args.marks.now c.args.numbers.now))
+    ∙ ap (λ k. k ∷ drop (c.args.place + 1) (vertices_of c.args.marks.now c.args.numbers.now))
     (sym (c.with.ensures ∙ rw (c.split_at-2.ensures.front, c.number_count.ensures, c.split_at.ensures.back) refl))

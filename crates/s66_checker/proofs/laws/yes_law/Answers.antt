@@ -4,8 +4,8 @@ use Rattle.s66_checker.specs.Verdict.{problem_of}
 use Rattle.s66_checker.proofs.GrantedClaims.{verdict-yes}
 use Rattle.s66_checker.proofs.laws.yes_law.Goals as goal
 
-pub returns-clause-told : goal.returns-clause-told
-returns-clause-told c = λ limit d time bound is h. (verdict-yes limit d time bound is.tree).0 h
+pub returns-clause-stated : goal.returns-clause-stated
+returns-clause-stated c = λ limit d time bound is h. (verdict-yes limit d time bound is.tree).0 h
 
 pub returns-clause-yes : goal.returns-clause-yes
 returns-clause-yes c = λ limit d is claim. (verdict-yes limit d d.time d.bound is.tree).1 (refl, refl, claim)

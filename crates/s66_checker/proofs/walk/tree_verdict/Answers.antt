@@ -1,7 +1,7 @@
 use Rattle.std.proofs.Common.{◌∙◌, ◌+◌, [], length, refl, sym, ap, arith, inl, inr, true, false, List}
-use Rattle.s66_model.specs.Tree.{Knot}
+use Rattle.s66_model.specs.Tree.{Vertex}
 use Rattle.s66_model.specs.DominatedLeaves.{Ending}
-use Rattle.s66_cert.specs.DocumentParts.{document_of, knot_of}
+use Rattle.s66_cert.specs.DocumentParts.{document_of, vertex_of}
 use Rattle.s66_checker.specs.Checked.{Checked}
 use Rattle.s66_checker.specs.Verdict.{problem_of}
 use Rattle.s66_checker.specs.Walk.{coming}
@@ -22,7 +22,7 @@ loop-line-init c =
 pub returns-in-Some-fault : goal.returns-in-Some-fault
 returns-in-Some-fault c =
     let l = c.loop-line in
-    line-refused (document_of c.args.document.now) l.number l.prefix l.invariant.problem l.lines c.next.new.self (knot_of c.in-Some.line) c.in-Some.ensures c.fault.result c.fault.ensures.value c.in-Some-fault.reason c.in-Some-fault.is
+    line-refused (document_of c.args.document.now) l.number l.prefix l.invariant.problem l.lines c.next.new.self (vertex_of c.in-Some.line) c.in-Some.ensures c.fault.result c.fault.ensures.value c.in-Some-fault.reason c.in-Some-fault.is
     ∙ l.invariant.rest
 
 pub fault-requires-clause-same : goal.fault-requires-clause-same
@@ -31,7 +31,7 @@ fault-requires-clause-same c = c.loop-line.invariant.same ∙ sym c.loop-line.in
 pub go_on-requires : goal.go_on-requires
 go_on-requires c =
     let l = c.loop-line in
-    split-ready (document_of c.args.document.now) l.number l.prefix l.invariant.problem l.lines c.next.new.self (knot_of c.in-Some.line) c.in-Some.ensures c.fault.result c.fault.ensures.value c.in_default-fault.is
+    split-ready (document_of c.args.document.now) l.number l.prefix l.invariant.problem l.lines c.next.new.self (vertex_of c.in-Some.line) c.in-Some.ensures c.fault.result c.fault.ensures.value c.in_default-fault.is
 
 pub loop-line-preserved : goal.loop-line-preserved
 loop-line-preserved c =
@@ -40,9 +40,9 @@ loop-line-preserved c =
       problem = c.go_on.ensures.problem ∙ l.invariant.problem;
       same = c.fault.ensures.same ∙ l.invariant.same;
       rest =
-          line-passed (document_of c.args.document.now) l.number l.prefix l.invariant.problem l.lines c.next.new.self (knot_of c.in-Some.line) c.in-Some.ensures c.fault.result c.fault.ensures.value c.in_default-fault.is c.go_on.result true c.go_on.new.prefix.numbers c.go_on.ensures.next c.if-not-go_on.false
+          line-passed (document_of c.args.document.now) l.number l.prefix l.invariant.problem l.lines c.next.new.self (vertex_of c.in-Some.line) c.in-Some.ensures c.fault.result c.fault.ensures.value c.in_default-fault.is c.go_on.result true c.go_on.new.prefix.numbers c.go_on.ensures.next c.if-not-go_on.false
           ∙ l.invariant.rest;
-      few = omega (arith, l.invariant.few, ap (λ (ks : List (Knot Ending)). length ks) c.in-Some.ensures);
+      few = omega (arith, l.invariant.few, ap (λ (ks : List (Vertex Ending)). length ks) c.in-Some.ensures);
     }
 
 pub returns : goal.returns
@@ -52,7 +52,7 @@ returns c =
     elim c.match-next.branch [
       | in-Some+in_default-fault+then-not-go_on w ↦
           none-left d (l.number + 1) c.time.result c.bound.result c.next.new.self [] c.time.ensures c.bound.ensures (inr refl)
-          ∙ line-passed d l.number l.prefix l.invariant.problem l.lines c.next.new.self (knot_of w.in-Some.line) w.in-Some.ensures w.fault.result w.fault.ensures.value w.in_default-fault.is w.go_on.result false w.go_on.new.prefix.numbers w.go_on.ensures.next w.if-not-go_on.true
+          ∙ line-passed d l.number l.prefix l.invariant.problem l.lines c.next.new.self (vertex_of w.in-Some.line) w.in-Some.ensures w.fault.result w.fault.ensures.value w.in_default-fault.is w.go_on.result false w.go_on.new.prefix.numbers w.go_on.ensures.next w.if-not-go_on.true
           ∙ l.invariant.rest
       | in_default w ↦
           none-left d l.number c.time.result c.bound.result l.lines (coming (problem_of d).block true l.prefix.numbers) c.time.ensures c.bound.ensures (inl w.in_default.ensures.0)

@@ -8,11 +8,11 @@ use Rattle.s66_ledger.proofs.subtree.nodes_below.Given as goal
 abbrev pub invariant-loop-place : goal.invariant-loop-place
 invariant-loop-place l =
     record {
-      within : length l.nodes.items + 1 ≤ length l.knots;
-      room : length l.knots ≤ vec_capacity l.nodes;
-      lined : AreLined (open_lines l.knots) l.nodes.items;
-      growing : AreGrowing (opened l.fn.piece) (numbers_in l.fn.numbers) l.places.items l.nodes.items (drop (length l.nodes.items + 1) (open_lines l.knots));
+      within : length l.nodes.items + 1 ≤ length l.vertices;
+      room : length l.vertices ≤ vec_capacity l.nodes;
+      lined : AreLined (open_lines l.vertices) l.nodes.items;
+      growing : AreGrowing (opened l.fn.piece) (numbers_in l.fn.numbers) l.places.items l.nodes.items (drop (length l.nodes.items + 1) (open_lines l.vertices));
     }
 
 abbrev pub decreases-loop-place : goal.decreases-loop-place
-decreases-loop-place l = (length l.knots - length l.nodes.items) * 2 + length l.places.items
+decreases-loop-place l = (length l.vertices - length l.nodes.items) * 2 + length l.places.items

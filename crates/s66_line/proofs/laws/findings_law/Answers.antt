@@ -1,8 +1,8 @@
-use Rattle.s66_line.proofs.FindingsLaw.{nothing-told, source-told}
+use Rattle.s66_line.proofs.FindingsLaw.{nothing-stated, source-stated}
 use Rattle.s66_line.proofs.laws.findings_law.Goals as goal
 
-pub returns-clause-told : goal.returns-clause-told
-returns-clause-told c = source-told
+pub returns-clause-stated : goal.returns-clause-stated
+returns-clause-stated c = source-stated
 
 pub returns-clause-nothing : goal.returns-clause-nothing
-returns-clause-nothing c = nothing-told
+returns-clause-nothing c = nothing-stated

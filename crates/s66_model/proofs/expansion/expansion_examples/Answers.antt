@@ -7,7 +7,7 @@ use Rattle.s66_model.specs.Timing.{issue_of, start_of, point}
 use Rattle.s66_model.specs.Dependence.{conflict}
 use Rattle.s66_model.specs.Leaves.{Load, floor_value}
 use Rattle.s66_model.specs.Tree.{Tree, Alone, Parted}
-use Rattle.s66_model.specs.Piece.{Tip, Carries, Frontier, Passed}
+use Rattle.s66_model.specs.Piece.{Terminal, Carries, Frontier, Passed}
 use Rattle.s66_model.specs.Expansion.{IsExpansion}
 use Rattle.s66_model.specs.Examples.{load_problem, multiply_problem}
 use Rattle.s66_model.proofs.expansion.expansion_examples.Goals as goal
@@ -23,12 +23,12 @@ unfolding row issue_of start_of point conflict
 returns-clause-one_split_below_22 c =
     record { piece = search rules; within = omega arith; below = below_22; due = λ some part low. omega arith }
 
-floor_only : (tree : Tree Tip) → IsExpansion NoneNamed multiply_problem 17 17 1 [] tree → tree ≡ Alone (Carries (Load Multiply))
+floor_only : (tree : Tree Terminal) → IsExpansion NoneNamed multiply_problem 17 17 1 [] tree → tree ≡ Alone (Carries (Load Multiply))
 unfolding row issue_of start_of point conflict
 floor_only (Alone (Carries leaf)) is = ap (λ l. Alone (Carries l)) is.piece.0
 floor_only (Alone Frontier) is = absurd (omega (arith, is.piece.1))
 floor_only (Alone (Passed name)) is = absurd is.piece.0.0
-floor_only (Parted numbers kids) is = absurd (omega (arith, is.below [] (inl refl)))
+floor_only (Parted numbers siblings) is = absurd (omega (arith, is.below [] (inl refl)))
 
 pub returns-clause-nothing_else_at_17 : goal.returns-clause-nothing_else_at_17
 returns-clause-nothing_else_at_17 c = floor_only

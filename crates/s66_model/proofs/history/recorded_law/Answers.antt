@@ -1,9 +1,9 @@
 use Rattle.std.proofs.Common.{ℕ, ◌≡◌, Bool, true, false, true≢false, List, refl, sym, ap, arith, ◌∙◌}
 use Rattle.s66_model.specs.Timing.{Problem, total_of}
-use Rattle.s66_model.specs.Tree.{Tree, Alone, Parted, Kids, NoMore, Unsplit, Split, kid_splits, splits}
-use Rattle.s66_model.specs.Piece.{Tip}
+use Rattle.s66_model.specs.Tree.{Tree, Alone, Parted, Siblings, NoMore, Unsplit, Split, sibling_splits, splits}
+use Rattle.s66_model.specs.Piece.{Terminal}
 use Rattle.s66_model.specs.Ledger.{Offer, Reply, Taken}
-use Rattle.s66_model.specs.Recorded.{IsOwn, KidsOpen, TreeOpens, graft_event, spends}
+use Rattle.s66_model.specs.Recorded.{IsOwn, SiblingsOpen, TreeOpens, graft_event, spends}
 use Rattle.s66_model.specs.Accounts.{Grafts, brief}
 use Rattle.s66_model.proofs.history.recorded_law.Goals as goal
 
@@ -14,19 +14,19 @@ own-same b p false true h k = absurd (true≢false (sym (h.1 (k.0 refl))))
 own-same b p false false h k = refl
 
 -- what is taken has the splits of the piece
-kids-opened : (kids others : Kids Tip) → KidsOpen kids others → kid_splits kids ≡ kid_splits others
-kids-opened NoMore NoMore h = refl
-kids-opened (Unsplit tip kids) (Unsplit taken others) h = kids-opened kids others h.1
-kids-opened (Split numbers sub kids) (Split ns under others) h =
-    omega (arith, kids-opened sub under h.1, kids-opened kids others h.2)
-kids-opened kids others h = absurd h
+siblings-opened : (siblings others : Siblings Terminal) → SiblingsOpen siblings others → sibling_splits siblings ≡ sibling_splits others
+siblings-opened NoMore NoMore h = refl
+siblings-opened (Unsplit terminal siblings) (Unsplit taken others) h = siblings-opened siblings others h.1
+siblings-opened (Split numbers sub siblings) (Split ns under others) h =
+    omega (arith, siblings-opened sub under h.1, siblings-opened siblings others h.2)
+siblings-opened siblings others h = absurd h
 
-tree-opened : (tree taken : Tree Tip) → TreeOpens tree taken → splits tree ≡ splits taken
-tree-opened (Alone tip) (Alone taken) h = refl
-tree-opened (Parted numbers kids) (Parted ns others) h = omega (arith, kids-opened kids others h.1)
+tree-opened : (tree taken : Tree Terminal) → TreeOpens tree taken → splits tree ≡ splits taken
+tree-opened (Alone terminal) (Alone taken) h = refl
+tree-opened (Parted numbers siblings) (Parted ns others) h = omega (arith, siblings-opened siblings others h.1)
 tree-opened tree taken h = absurd h
 
-graft-brief : (w node : ℕ) (own : Bool) (prefix : List ℕ) (tree : Tree Tip) (reply : Reply) → brief (graft_event w node own prefix tree reply) ≡ Grafts node (splits tree)
+graft-brief : (w node : ℕ) (own : Bool) (prefix : List ℕ) (tree : Tree Terminal) (reply : Reply) → brief (graft_event w node own prefix tree reply) ≡ Grafts node (splits tree)
 graft-brief w node own prefix tree Taken = refl
 graft-brief w node own prefix tree reply = refl
 

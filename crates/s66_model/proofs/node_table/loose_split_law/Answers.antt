@@ -4,7 +4,7 @@ use Rattle.s66_isa.specs.Table.{row}
 use Rattle.s66_model.specs.Timing.{issue_of, start_of, point}
 use Rattle.s66_model.specs.Dependence.{conflict}
 use Rattle.s66_model.specs.DominatedLeaves.{Ending}
-use Rattle.s66_model.specs.Tree.{Tree, Alone, Parted, Kids, NoMore, Unsplit, Split, splits, kid_splits, split_at, kids_split_at}
+use Rattle.s66_model.specs.Tree.{Tree, Alone, Parted, Siblings, NoMore, Unsplit, Split, splits, sibling_splits, split_at, siblings_split_at}
 use Rattle.s66_model.specs.Ledger.{Cut}
 use Rattle.s66_model.specs.Examples.{load_problem, node}
 use Rattle.s66_model.proofs.Beginnings.{source-legal}
@@ -23,16 +23,16 @@ returns-clause-covers c =
     }
 
 -- where a child of the empty prefix is split, the empty prefix is too
-some-split : (ns : List ℕ) (kids : Kids Ending) → Among (1 ∷ []) (kids_split_at [] ns kids) → 1 ≤ kid_splits kids
-some-split [] kids h = absurd h
+some-split : (ns : List ℕ) (siblings : Siblings Ending) → Among (1 ∷ []) (siblings_split_at [] ns siblings) → 1 ≤ sibling_splits siblings
+some-split [] siblings h = absurd h
 some-split (n ∷ ns) NoMore h = absurd h
-some-split (n ∷ ns) (Unsplit leaf kids) h = some-split ns kids h
-some-split (n ∷ ns) (Split numbers sub kids) h = omega arith
+some-split (n ∷ ns) (Unsplit leaf siblings) h = some-split ns siblings h
+some-split (n ∷ ns) (Split numbers sub siblings) h = omega arith
 
 two-splits : (tree : Tree Ending) → Among (1 ∷ []) (split_at [] tree) → 2 ≤ splits tree
 two-splits (Alone leaf) h = absurd h
-two-splits (Parted numbers kids) (inl e) = absurd cc
-two-splits (Parted numbers kids) (inr past) = omega (arith, some-split numbers kids past)
+two-splits (Parted numbers siblings) (inl e) = absurd cc
+two-splits (Parted numbers siblings) (inr past) = omega (arith, some-split numbers siblings past)
 
 pub returns-clause-never_finished : goal.returns-clause-never_finished
 returns-clause-never_finished c = λ a h. absurd (omega (arith, two-splits a.tree (h.kept (node (1 ∷ []) Cut) (inr (inl refl)) refl), h.answer.splits, h.answer.within))

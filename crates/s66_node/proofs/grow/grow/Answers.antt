@@ -4,17 +4,17 @@ use Rattle.s66_isa.specs.declared.limits.TheConstants.{BLOCK_LIMIT}
 use Rattle.s66_isa.specs.Lists.{Among}
 use Rattle.s66_model.specs.declared.rule.Rule.TheVariants.{NoneNamed}
 use Rattle.s66_model.specs.Timing.{Problem}
-use Rattle.s66_model.specs.Told.{Told, ToldPassed}
+use Rattle.s66_model.specs.Stated.{Stated, StatedPassed}
 use Rattle.s66_model.specs.LegalOrder.{ready, is_ready}
-use Rattle.s66_model.specs.Tree.{Alone, AtTip, AtSplit}
+use Rattle.s66_model.specs.Tree.{Alone, AtTerminal, AtSplit}
 use Rattle.s66_dep.specs.Members.{numbers_in}
 use Rattle.s66_dep.proofs.LongestBeginning.{beginning-few}
 use Rattle.s66_node.specs.Walked.{Walked, front}
-use Rattle.s66_node.specs.declared.knot.Knot.{Knot}
-use Rattle.s66_node.specs.SeenKnots.{seen, seen_knot}
-use Rattle.s66_node.specs.Walking.{span, IsLeast, IsDue, IsTold, whole_told}
-use Rattle.s66_node.proofs.WalkTurns.{next-ready, seen-push, not-empty, is-empty, none-empty, walk-root, next-few, next-room, walk-tip, walk-split, walk-up, walk-last, walk-done, work-tip, work-split, work-up}
-use Rattle.s66_node.proofs.Tips.{told-any, told-wider, alone-unnamed, line-unnamed}
+use Rattle.s66_node.specs.declared.vertex.Vertex.{Vertex}
+use Rattle.s66_node.specs.SeenVertices.{seen, seen_vertex}
+use Rattle.s66_node.specs.Walking.{span, IsLeast, IsDue, IsStated, whole_stated}
+use Rattle.s66_node.proofs.WalkTurns.{next-ready, seen-push, not-empty, is-empty, none-empty, walk-root, next-few, next-room, walk-terminal, walk-split, walk-up, walk-last, walk-done, work-terminal, work-split, work-up}
+use Rattle.s66_node.proofs.Terminals.{stated-any, stated-wider, alone-unnamed, line-unnamed}
 use Rattle.s66_node.proofs.grow.grow.Goals as goal
 
 pub prove-unreachable-requires : goal.prove-unreachable-requires
@@ -26,19 +26,19 @@ returns-in-Some-clause-grown g c =
     let b = c.args.walk.now.problem in
     let root = c.args.walk.now.numbers in
     let best = span (g.L.Least.kept c.args.incumbent.now) (g.L.Least.kept c.least-best.new.self) in
-    let (told, line, was) = c.in-Some.ensures.told in
-    let holds : IsTold NoneNamed b best root told = told-wider NoneNamed b c.least-best.result c.least-best.result best.high best.low root told (omega (arith, c.least-best.ensures.now, c.least-best.ensures.falls)) (omega (arith, c.least-best.ensures.now)) was in
-    let knots = seen-push c.new-knots.result.items c.push.new.self.items c.in-Some.knot (AtTip told) c.in_ok-push.ensures.items line ∙ ap (λ ks. seen ks ++ AtTip told ∷ []) c.new-knots.ensures.items in (
-      Alone told,
+    let (stated, line, was) = c.in-Some.ensures.stated in
+    let holds : IsStated NoneNamed b best root stated = stated-wider NoneNamed b c.least-best.result c.least-best.result best.high best.low root stated (omega (arith, c.least-best.ensures.now, c.least-best.ensures.falls)) (omega (arith, c.least-best.ensures.now)) was in
+    let vertices = seen-push c.new-vertices.result.items c.push.new.self.items c.in-Some.vertex (AtTerminal stated) c.in_ok-push.ensures.items line ∙ ap (λ ks. seen ks ++ AtTerminal stated ∷ []) c.new-vertices.ensures.items in (
+      Alone stated,
       record {
-        grows = told-any c.args.rule b best root told holds;
-        knots = sym knots;
+        grows = stated-any c.args.rule b best root stated holds;
+        vertices = sym vertices;
         splits = refl;
-        least = c.keep_whole.ensures NoneNamed best told [] line holds refl;
+        least = c.keep_whole.ensures NoneNamed best stated [] line holds refl;
         within = omega arith;
         due = λ some due. absurd (c.in-Some.ensures.unsplit (lt-ltb 0 c.args.allowance some) (due.0, omega (arith, due.1, c.least-best.ensures.now)));
-        passed = λ value name. alone-unnamed b best root told value name holds;
-        names = λ by value name among. absurd (elim among [ inl is ↦ line-unnamed b best root told value name holds is | inr none ↦ none ]);
+        passed = λ value name. alone-unnamed b best root stated value name holds;
+        names = λ by value name among. absurd (elim among [ inl is ↦ line-unnamed b best root stated value name holds is | inr none ↦ none ]);
       },
     )
 
@@ -48,7 +48,7 @@ loop-frame-init g c =
     let root = c.args.walk.now.numbers in
     let numbers : numbers_in c.ready-ready.result ≡ ready b.block root = c.ready-ready.ensures in
     let pushed = seen-push c.reserve.new.self.items c.push-2.new.self.items _ (AtSplit (numbers_in c.ready-ready.result)) c.in_ok-push-2.ensures.items refl in
-    let knots : seen c.push-2.new.self.items ≡ AtSplit (ready b.block root) ∷ [] = pushed ∙ (ap (λ ks. seen ks ++ AtSplit (numbers_in c.ready-ready.result) ∷ []) (c.reserve.ensures.items ∙ c.new-knots.ensures.items) ∙ ap (λ ns. AtSplit ns ∷ []) numbers) in
+    let vertices : seen c.push-2.new.self.items ≡ AtSplit (ready b.block root) ∷ [] = pushed ∙ (ap (λ ks. seen ks ++ AtSplit (numbers_in c.ready-ready.result) ∷ []) (c.reserve.ensures.items ∙ c.new-vertices.ensures.items) ∙ ap (λ ns. AtSplit ns ∷ []) numbers) in
     let frames : c.push-3.new.self.items ≡ c.ready-ready.result ∷ [] = c.push-3.ensures.items ∙ ap (λ fs. fs ++ c.ready-ready.result ∷ []) c.new-frames.ensures in
     let high = g.L.Least.kept c.args.incumbent.now in
     let due : IsDue b high root = (c.in_default.ensures.due.0, omega (arith, c.in_default.ensures.due.1, c.least-best.ensures.now, c.least-best.ensures.falls)) in
@@ -58,7 +58,7 @@ loop-frame-init g c =
       falls = omega (arith, c.least-best.ensures.now, c.least-best.ensures.falls);
       lowest = (c.least-best.ensures.lowest.0, omega (arith, c.least-best.ensures.lowest.0, c.least-best.ensures.lowest.1, c.least-best.ensures.now));
       suits = c.keep_split.ensures.suits;
-      walk = λ low le. rw (frames, knots) (walk-root c.args.rule b (span high low) c.args.allowance root c.ready-ready.result (g.N.Naming.names c.args.names.now) (g.N.Naming.names c.keep_split.new.self) c.requires.unknown c.keep_split.ensures.known (ltb-true 0 c.args.allowance c.in_default.ensures.may) c.numbers.ensures.begins due numbers);
+      walk = λ low le. rw (frames, vertices) (walk-root c.args.rule b (span high low) c.args.allowance root c.ready-ready.result (g.N.Naming.names c.args.names.now) (g.N.Naming.names c.keep_split.new.self) c.requires.unknown c.keep_split.ensures.known (ltb-true 0 c.args.allowance c.in_default.ensures.may) c.numbers.ensures.begins due numbers);
     }
 
 pub push-requires-in-Some-pop_first : goal.push-requires-in-Some-pop_first
@@ -66,8 +66,8 @@ push-requires-in-Some-pop_first g c =
     let b = c.args.walk.now.problem in
     let root = c.args.walk.now.numbers in
     let lf = c.loop-frame in
-    let few = next-few c.args.rule b (span (g.L.Least.kept c.args.incumbent.now) 0) c.args.allowance root lf.walk.numbers lf.frames.items c.pop.new.self.items c.in-Some-pop.frame (seen lf.knots.items) lf.splits lf.least (g.N.Naming.names lf.names) (lf.invariant.walk 0 (omega arith)) c.in-Some-pop.ensures.items c.in-Some-pop_first.n (numbers_in c.pop_first.new.self) c.in-Some-pop_first.ensures.some in
-    let room = next-room c.args.rule b (span (g.L.Least.kept c.args.incumbent.now) 0) c.args.allowance root lf.walk.numbers lf.frames.items c.pop.new.self.items c.in-Some-pop.frame (seen lf.knots.items) lf.splits lf.least (g.N.Naming.names lf.names) (lf.invariant.walk 0 (omega arith)) c.in-Some-pop.ensures.items in
+    let few = next-few c.args.rule b (span (g.L.Least.kept c.args.incumbent.now) 0) c.args.allowance root lf.walk.numbers lf.frames.items c.pop.new.self.items c.in-Some-pop.frame (seen lf.vertices.items) lf.splits lf.least (g.N.Naming.names lf.names) (lf.invariant.walk 0 (omega arith)) c.in-Some-pop.ensures.items c.in-Some-pop_first.n (numbers_in c.pop_first.new.self) c.in-Some-pop_first.ensures.some in
+    let room = next-room c.args.rule b (span (g.L.Least.kept c.args.incumbent.now) 0) c.args.allowance root lf.walk.numbers lf.frames.items c.pop.new.self.items c.in-Some-pop.frame (seen lf.vertices.items) lf.splits lf.least (g.N.Naming.names lf.names) (lf.invariant.walk 0 (omega arith)) c.in-Some-pop.ensures.items in
     (omega arith, omega (arith, few, room, c.numbers.ensures.few))
 
 pub push-requires-in-Some-pop_first-2 : goal.push-requires-in-Some-pop_first-2
@@ -76,12 +76,12 @@ push-requires-in-Some-pop_first-2 g c =
     let root = c.args.walk.now.numbers in
     let lf = c.loop-frame in
     subst (λ (p : Problem). is_ready p.block lf.walk.numbers c.in-Some-pop_first.n ≡ true) (sym lf.invariant.problem)
-    (next-ready c.args.rule b (span (g.L.Least.kept c.args.incumbent.now) 0) c.args.allowance root lf.walk.numbers lf.frames.items c.pop.new.self.items c.in-Some-pop.frame (seen lf.knots.items) lf.splits lf.least (g.N.Naming.names lf.names) (lf.invariant.walk 0 (omega arith)) c.in-Some-pop.ensures.items c.in-Some-pop_first.n (numbers_in c.pop_first.new.self) c.in-Some-pop_first.ensures.some)
+    (next-ready c.args.rule b (span (g.L.Least.kept c.args.incumbent.now) 0) c.args.allowance root lf.walk.numbers lf.frames.items c.pop.new.self.items c.in-Some-pop.frame (seen lf.vertices.items) lf.splits lf.least (g.N.Naming.names lf.names) (lf.invariant.walk 0 (omega arith)) c.in-Some-pop.ensures.items c.in-Some-pop_first.n (numbers_in c.pop_first.new.self) c.in-Some-pop_first.ensures.some)
 
 pub loop-frame-smaller-in-Some-child : goal.loop-frame-smaller-in-Some-child
 loop-frame-smaller-in-Some-child g c =
     let lf = c.loop-frame in
-    work-tip ((c.args.allowance - lf.splits) * (BLOCK_LIMIT + 2)) lf.frames.items c.push-in-Some-pop_first.new.self.items c.pop.new.self.items c.in-Some-pop.frame c.pop_first.new.self c.in-Some-pop_first.n c.in-Some-pop.ensures.items c.push-in-Some-pop_first.ensures.items c.in-Some-pop_first.ensures.some
+    work-terminal ((c.args.allowance - lf.splits) * (BLOCK_LIMIT + 2)) lf.frames.items c.push-in-Some-pop_first.new.self.items c.pop.new.self.items c.in-Some-pop.frame c.pop_first.new.self c.in-Some-pop_first.n c.in-Some-pop.ensures.items c.push-in-Some-pop_first.ensures.items c.in-Some-pop_first.ensures.some
 
 pub loop-frame-preserved-in-Some-child : goal.loop-frame-preserved-in-Some-child
 loop-frame-preserved-in-Some-child g c =
@@ -92,23 +92,23 @@ loop-frame-preserved-in-Some-child g c =
     let own : now.problem ≡ b = ap (λ (w : Walked). w.problem) c.push-in-Some-pop_first-2.ensures ∙ lf.invariant.problem in
     let next : now.numbers ≡ lf.walk.numbers ++ c.in-Some-pop_first.n ∷ [] = ap (λ (w : Walked). w.numbers) c.push-in-Some-pop_first-2.ensures in
     let up : c.undo.new.self.numbers ≡ front now.numbers = ap (λ (w : Walked). w.numbers) c.undo.ensures in
-    let (told, line, told_now, named) = subst (λ (o : Option Knot). IfSome o (λ k. (told : Told) × (seen_knot k ≡ AtTip told) × IsTold c.args.rule now.problem (span lf.best c.unsplit_child.new.best) now.numbers told × ((value : ℕ) (name : List ℕ) → told ≡ ToldPassed value name → Among name (g.N.Naming.names lf.names)))) c.in-Some-child.is c.in_ok-child.ensures.told in
-    let knots = seen-push lf.knots.items c.push-in-Some-child.new.self.items c.in-Some-child.knot (AtTip told) c.in_ok-push-in-Some-child.ensures.items line in
+    let (stated, line, stated_now, named) = subst (λ (o : Option Vertex). IfSome o (λ k. (stated : Stated) × (seen_vertex k ≡ AtTerminal stated) × IsStated c.args.rule now.problem (span lf.best c.unsplit_child.new.best) now.numbers stated × ((value : ℕ) (name : List ℕ) → stated ≡ StatedPassed value name → Among name (g.N.Naming.names lf.names)))) c.in-Some-child.is c.in_ok-child.ensures.stated in
+    let vertices = seen-push lf.vertices.items c.push-in-Some-child.new.self.items c.in-Some-child.vertex (AtTerminal stated) c.in_ok-push-in-Some-child.ensures.items line in
     record {
       problem = ap (λ (w : Walked). w.problem) c.undo.ensures ∙ own;
       kept = c.unsplit_child.ensures.kept;
       falls = omega (arith, c.unsplit_child.ensures.falls, lf.invariant.falls);
       lowest = (c.unsplit_child.ensures.lowest.0 ∙ lf.invariant.lowest.0, omega (arith, c.unsplit_child.ensures.lowest.1 (omega (arith, lf.invariant.lowest.0, lf.invariant.lowest.1)), lf.invariant.lowest.0));
-      suits = subst (λ (p : Problem). g.N.Naming.suits c.keep_tip-in-Some-child.new.self p) own c.keep_tip-in-Some-child.ensures.suits;
+      suits = subst (λ (p : Problem). g.N.Naming.suits c.keep_terminal-in-Some-child.new.self p) own c.keep_terminal-in-Some-child.ensures.suits;
       walk = λ low le.
           let best = span (g.L.Least.kept c.args.incumbent.now) low in
           let old : low ≤ lf.best = omega (arith, le, c.unsplit_child.ensures.falls) in
-          let holds : IsTold c.args.rule now.problem best now.numbers told = told-wider c.args.rule now.problem lf.best c.unsplit_child.new.best best.high low now.numbers told lf.invariant.falls le told_now in
-          let lower : (found : List (List ℕ)) → IsLeast now.problem found lf.least → IsLeast now.problem (found ++ whole_told now.problem now.numbers told) c.keep_whole-in-Some-child.new.least =
-          λ found h. c.keep_whole-in-Some-child.ensures c.args.rule best told found line holds h in
-          walk-tip c.args.rule b best c.args.allowance root lf.walk.numbers lf.frames.items c.pop.new.self.items c.in-Some-pop.frame (seen lf.knots.items) lf.splits lf.least (g.N.Naming.names lf.names) (lf.invariant.walk low old) c.in-Some-pop.ensures.items
-          c.in-Some-pop_first.n c.pop_first.new.self c.push-in-Some-pop_first.new.self.items (seen c.push-in-Some-child.new.self.items) c.keep_whole-in-Some-child.new.least (g.N.Naming.names c.keep_tip-in-Some-child.new.self) told now.problem now.numbers c.undo.new.self.numbers c.keep_tip-in-Some-child.ensures.known named
-          c.in-Some-pop_first.ensures.some c.push-in-Some-pop_first.ensures.items own next up holds knots lower;
+          let holds : IsStated c.args.rule now.problem best now.numbers stated = stated-wider c.args.rule now.problem lf.best c.unsplit_child.new.best best.high low now.numbers stated lf.invariant.falls le stated_now in
+          let lower : (found : List (List ℕ)) → IsLeast now.problem found lf.least → IsLeast now.problem (found ++ whole_stated now.problem now.numbers stated) c.keep_whole-in-Some-child.new.least =
+          λ found h. c.keep_whole-in-Some-child.ensures c.args.rule best stated found line holds h in
+          walk-terminal c.args.rule b best c.args.allowance root lf.walk.numbers lf.frames.items c.pop.new.self.items c.in-Some-pop.frame (seen lf.vertices.items) lf.splits lf.least (g.N.Naming.names lf.names) (lf.invariant.walk low old) c.in-Some-pop.ensures.items
+          c.in-Some-pop_first.n c.pop_first.new.self c.push-in-Some-pop_first.new.self.items (seen c.push-in-Some-child.new.self.items) c.keep_whole-in-Some-child.new.least (g.N.Naming.names c.keep_terminal-in-Some-child.new.self) stated now.problem now.numbers c.undo.new.self.numbers c.keep_terminal-in-Some-child.ensures.known named
+          c.in-Some-pop_first.ensures.some c.push-in-Some-pop_first.ensures.items own next up holds vertices lower;
     }
 
 pub push-requires-in-None-2 : goal.push-requires-in-None-2
@@ -119,15 +119,15 @@ push-requires-in-None-2 g c =
     let now = c.push-in-Some-pop_first-2.new.self in
     let own : now.problem ≡ b = ap (λ (w : Walked). w.problem) c.push-in-Some-pop_first-2.ensures ∙ lf.invariant.problem in
     let next : now.numbers ≡ lf.walk.numbers ++ c.in-Some-pop_first.n ∷ [] = ap (λ (w : Walked). w.numbers) c.push-in-Some-pop_first-2.ensures in
-    let room = next-room c.args.rule b (span (g.L.Least.kept c.args.incumbent.now) 0) c.args.allowance root lf.walk.numbers lf.frames.items c.pop.new.self.items c.in-Some-pop.frame (seen lf.knots.items) lf.splits lf.least (g.N.Naming.names lf.names) (lf.invariant.walk 0 (omega arith)) c.in-Some-pop.ensures.items in
-    let here : IsDue now.problem c.unsplit_child.new.best now.numbers = subst (λ (o : Option Knot). IfNone o (IsDue now.problem c.unsplit_child.new.best now.numbers)) c.in-None.is c.in_ok-child.ensures.due in
+    let room = next-room c.args.rule b (span (g.L.Least.kept c.args.incumbent.now) 0) c.args.allowance root lf.walk.numbers lf.frames.items c.pop.new.self.items c.in-Some-pop.frame (seen lf.vertices.items) lf.splits lf.least (g.N.Naming.names lf.names) (lf.invariant.walk 0 (omega arith)) c.in-Some-pop.ensures.items in
+    let here : IsDue now.problem c.unsplit_child.new.best now.numbers = subst (λ (o : Option Vertex). IfNone o (IsDue now.problem c.unsplit_child.new.best now.numbers)) c.in-None.is c.in_ok-child.ensures.due in
     let due : IsDue b c.unsplit_child.new.best now.numbers = subst (λ (p : Problem). IsDue p c.unsplit_child.new.best now.numbers) own here in
     (omega arith, omega (arith, room, due.0, ap length next, length-append lf.walk.numbers (c.in-Some-pop_first.n ∷ []), c.numbers.ensures.few, ap length c.push-in-Some-pop_first.ensures.items, length-append c.pop.new.self.items (c.pop_first.new.self ∷ [])))
 
 pub loop-frame-smaller-in-None : goal.loop-frame-smaller-in-None
 loop-frame-smaller-in-None g c =
     let lf = c.loop-frame in
-    work-split c.args.allowance lf.splits lf.frames.items c.push-in-Some-pop_first.new.self.items c.push-in-None-2.new.self.items c.pop.new.self.items c.in-Some-pop.frame c.pop_first.new.self c.ready-ready-in-None.result c.in-Some-pop_first.n (ltb-true lf.splits c.args.allowance (subst (λ (o : Option Knot). IfNone o (IsTrue (nat_lt lf.splits c.args.allowance))) c.in-None.is c.in_ok-child.ensures.may))
+    work-split c.args.allowance lf.splits lf.frames.items c.push-in-Some-pop_first.new.self.items c.push-in-None-2.new.self.items c.pop.new.self.items c.in-Some-pop.frame c.pop_first.new.self c.ready-ready-in-None.result c.in-Some-pop_first.n (ltb-true lf.splits c.args.allowance (subst (λ (o : Option Vertex). IfNone o (IsTrue (nat_lt lf.splits c.args.allowance))) c.in-None.is c.in_ok-child.ensures.may))
     c.in-Some-pop.ensures.items c.push-in-Some-pop_first.ensures.items c.push-in-None-2.ensures.items c.in-Some-pop_first.ensures.some
 
 pub loop-frame-preserved-in-None : goal.loop-frame-preserved-in-None
@@ -138,8 +138,8 @@ loop-frame-preserved-in-None g c =
     let now = c.push-in-Some-pop_first-2.new.self in
     let own : now.problem ≡ b = ap (λ (w : Walked). w.problem) c.push-in-Some-pop_first-2.ensures ∙ lf.invariant.problem in
     let next : now.numbers ≡ lf.walk.numbers ++ c.in-Some-pop_first.n ∷ [] = ap (λ (w : Walked). w.numbers) c.push-in-Some-pop_first-2.ensures in
-    let knots = seen-push lf.knots.items c.push-in-None.new.self.items _ (AtSplit (numbers_in c.ready-ready-in-None.result)) c.in_ok-push-in-None.ensures.items refl in
-    let low : IsDue now.problem c.unsplit_child.new.best now.numbers = subst (λ (o : Option Knot). IfNone o (IsDue now.problem c.unsplit_child.new.best now.numbers)) c.in-None.is c.in_ok-child.ensures.due in
+    let vertices = seen-push lf.vertices.items c.push-in-None.new.self.items _ (AtSplit (numbers_in c.ready-ready-in-None.result)) c.in_ok-push-in-None.ensures.items refl in
+    let low : IsDue now.problem c.unsplit_child.new.best now.numbers = subst (λ (o : Option Vertex). IfNone o (IsDue now.problem c.unsplit_child.new.best now.numbers)) c.in-None.is c.in_ok-child.ensures.due in
     let due : IsDue now.problem (g.L.Least.kept c.args.incumbent.now) now.numbers = (low.0, omega (arith, low.1, c.unsplit_child.ensures.falls, lf.invariant.falls)) in
     record {
       problem = own;
@@ -150,9 +150,9 @@ loop-frame-preserved-in-None g c =
       walk = λ low le.
           let best = span (g.L.Least.kept c.args.incumbent.now) low in
           let old : low ≤ lf.best = omega (arith, le, c.unsplit_child.ensures.falls) in
-          walk-split c.args.rule b best c.args.allowance root lf.walk.numbers lf.frames.items c.pop.new.self.items c.in-Some-pop.frame (seen lf.knots.items) lf.splits lf.least (g.N.Naming.names lf.names) (lf.invariant.walk low old) c.in-Some-pop.ensures.items
+          walk-split c.args.rule b best c.args.allowance root lf.walk.numbers lf.frames.items c.pop.new.self.items c.in-Some-pop.frame (seen lf.vertices.items) lf.splits lf.least (g.N.Naming.names lf.names) (lf.invariant.walk low old) c.in-Some-pop.ensures.items
           c.in-Some-pop_first.n c.pop_first.new.self c.ready-ready-in-None.result c.push-in-Some-pop_first.new.self.items c.push-in-None-2.new.self.items (seen c.push-in-None.new.self.items) (g.N.Naming.names c.keep_split-in-None.new.self) now.problem now.numbers c.keep_split-in-None.ensures.known
-          c.in-Some-pop_first.ensures.some c.push-in-Some-pop_first.ensures.items c.push-in-None-2.ensures.items own next due c.ready-ready-in-None.ensures knots (ltb-true lf.splits c.args.allowance (subst (λ (o : Option Knot). IfNone o (IsTrue (nat_lt lf.splits c.args.allowance))) c.in-None.is c.in_ok-child.ensures.may));
+          c.in-Some-pop_first.ensures.some c.push-in-Some-pop_first.ensures.items c.push-in-None-2.ensures.items own next due c.ready-ready-in-None.ensures vertices (ltb-true lf.splits c.args.allowance (subst (λ (o : Option Vertex). IfNone o (IsTrue (nat_lt lf.splits c.args.allowance))) c.in-None.is c.in_ok-child.ensures.may));
     }
 
 pub undo-requires-then-not-is_empty : goal.undo-requires-then-not-is_empty
@@ -175,7 +175,7 @@ loop-frame-preserved-then-not-is_empty g c =
       falls = lf.invariant.falls;
       lowest = lf.invariant.lowest;
       suits = lf.invariant.suits;
-      walk = λ low le. walk-up c.args.rule c.args.walk.now.problem (span (g.L.Least.kept c.args.incumbent.now) low) c.args.allowance c.args.walk.now.numbers lf.walk.numbers lf.frames.items c.pop.new.self.items c.in-Some-pop.frame (seen lf.knots.items) lf.splits lf.least (g.N.Naming.names lf.names) (lf.invariant.walk low le) c.in-Some-pop.ensures.items
+      walk = λ low le. walk-up c.args.rule c.args.walk.now.problem (span (g.L.Least.kept c.args.incumbent.now) low) c.args.allowance c.args.walk.now.numbers lf.walk.numbers lf.frames.items c.pop.new.self.items c.in-Some-pop.frame (seen lf.vertices.items) lf.splits lf.least (g.N.Naming.names lf.names) (lf.invariant.walk low le) c.in-Some-pop.ensures.items
           c.undo-then-not-is_empty.new.self.numbers c.in_default-pop_first.ensures.none (not-empty c.pop.new.self.items (sym c.is_empty.ensures ∙ c.if-not-is_empty.true)) up;
     }
 
@@ -188,7 +188,7 @@ loop-frame-preserved g c =
       falls = lf.invariant.falls;
       lowest = lf.invariant.lowest;
       suits = lf.invariant.suits;
-      walk = λ low le. walk-last c.args.rule c.args.walk.now.problem (span (g.L.Least.kept c.args.incumbent.now) low) c.args.allowance c.args.walk.now.numbers lf.walk.numbers lf.frames.items c.pop.new.self.items c.in-Some-pop.frame (seen lf.knots.items) lf.splits lf.least (g.N.Naming.names lf.names) (lf.invariant.walk low le) c.in-Some-pop.ensures.items c.in_default-pop_first.ensures.none (is-empty c.pop.new.self.items (sym c.is_empty.ensures ∙ c.if-not-is_empty.false));
+      walk = λ low le. walk-last c.args.rule c.args.walk.now.problem (span (g.L.Least.kept c.args.incumbent.now) low) c.args.allowance c.args.walk.now.numbers lf.walk.numbers lf.frames.items c.pop.new.self.items c.in-Some-pop.frame (seen lf.vertices.items) lf.splits lf.least (g.N.Naming.names lf.names) (lf.invariant.walk low le) c.in-Some-pop.ensures.items c.in_default-pop_first.ensures.none (is-empty c.pop.new.self.items (sym c.is_empty.ensures ∙ c.if-not-is_empty.false));
     }
 
 pub returns-clause-grown : goal.returns-clause-grown
@@ -197,5 +197,5 @@ returns-clause-grown g c =
     let low = g.L.Least.kept lf.incumbent in
     let walk = lf.invariant.walk low (omega (arith, lf.invariant.kept)) in
     let none : lf.frames.items ≡ [] = none-empty lf.frames.items (λ lt. true≢false (sym (c.in_default-pop.ensures.variant.1 lt))) in
-    let (tree, grows, knots, splits, least, passed, names) = walk-done c.args.rule c.args.walk.now.problem (span (g.L.Least.kept c.args.incumbent.now) low) c.args.allowance c.args.walk.now.numbers lf.walk.numbers lf.frames.items (seen lf.knots.items) lf.splits lf.least (g.N.Naming.names lf.names) none walk in
-    (tree, record { grows = grows; knots = knots; splits = splits; least = least; within = walk.within; due = λ some due. walk.some; passed = passed; names = names })
+    let (tree, grows, vertices, splits, least, passed, names) = walk-done c.args.rule c.args.walk.now.problem (span (g.L.Least.kept c.args.incumbent.now) low) c.args.allowance c.args.walk.now.numbers lf.walk.numbers lf.frames.items (seen lf.vertices.items) lf.splits lf.least (g.N.Naming.names lf.names) none walk in
+    (tree, record { grows = grows; vertices = vertices; splits = splits; least = least; within = walk.within; due = λ some due. walk.some; passed = passed; names = names })

@@ -20,7 +20,7 @@ claimed c = record {
   time = c.time.result;
   bound = c.bound.result;
   numbers = c.in-Ok.order.items;
-  knots = c.in_ok-tree.tree;
+  vertices = c.in_ok-tree.tree;
 }
 
 abbrev own : After-bound → Parts
@@ -28,7 +28,7 @@ own c = parts_under c.args.answer.now.rule c.args.profile.now c.args.block.now (
 
 same : (c : After-bound) → claimed c ≡ own c
 same c =
-    same-parts (claimed c) (own c) (c.rule_of.ensures ∙ ap₂ (λ rule knots. if has_dominated_line knots then rule else NoneNamed) c.rule.ensures c.in_ok-tree.ensures) (search rules) (c.in_ok-texts_of.ensures.texts) c.time.ensures.value c.bound.ensures.value
+    same-parts (claimed c) (own c) (c.rule_of.ensures ∙ ap₂ (λ rule vertices. if has_dominated_line vertices then rule else NoneNamed) c.rule.ensures c.in_ok-tree.ensures) (search rules) (c.in_ok-texts_of.ensures.texts) c.time.ensures.value c.bound.ensures.value
     (c.in-Ok.ensures.0 ∙ c.numbers.ensures.value ∙ ap (λ (o : Ordered). o.numbers) c.order.ensures) c.in_ok-tree.ensures
 
 is : (c : After-bound) → IsAnswer c.args.answer.now.rule (record { block = instrs_of c.args.block.now; profile = c.args.profile.now }) c.args.answer.now.budget (answer_of c.args.answer.now)

@@ -6,8 +6,8 @@ pub returns : goal.returns
 returns c =
     let named = bin-name _ c.new.result c.in_ok-bin_name.field-0 (c.new.ensures.app, c.new.ensures.local) c.in_ok-bin_name.ensures.0 in
     let versioned = version _ c.in_ok-bin_name.field-0 c.version.result _ named c.version.ensures in
-    let told = about _ c.version.result c.about.result _ versioned c.about.ensures in
-    let wants = wants-subcommand _ c.about.result c.subcommand_required.result told c.subcommand_required.ensures in
+    let stated = about _ c.version.result c.about.result _ versioned c.about.ensures in
+    let wants = wants-subcommand _ c.about.result c.subcommand_required.result stated c.subcommand_required.ensures in
     let with-time = with-subcommand _ _ _ _ _ wants c.in_ok-time_command.ensures c.in_ok-subcommand.ensures in
     let with-deps = with-subcommand _ _ _ _ _ with-time c.deps_command.ensures c.in_ok-subcommand-2.ensures in
     let with-chart = with-subcommand _ _ _ _ _ with-deps c.in_ok-chart_command.ensures c.in_ok-subcommand-3.ensures in

@@ -1,6 +1,6 @@
 -- Appending to the lists appends the line.
 use Rattle.std.proofs.Common.{sym, rules}
-use Rattle.s66_cert.proofs.Marks.{kept-append, knots-append}
+use Rattle.s66_cert.proofs.Marks.{kept-append, vertices-append}
 use Rattle.s66_cert.proofs.tree.KeptLines.append.Goals as goal
 
 pub invariant_of-self-2 : goal.invariant_of-self-2
@@ -11,4 +11,4 @@ invariant_of-self-2 c =
 pub returns-clause-pushed : goal.returns-clause-pushed
 returns-clause-pushed c =
     rw (sym c.self.view_is)
-    (rw c.push_reserved.ensures.items (rw c.in_ok-reserve.ensures.items (rw c.in_ok-extend_from_slice.ensures.items (knots-append _ _ c.args.mark c.args.numbers.now c.self.invariant.counted))))
+    (rw c.push_reserved.ensures.items (rw c.in_ok-reserve.ensures.items (rw c.in_ok-extend_from_slice.ensures.items (vertices-append _ _ c.args.mark c.args.numbers.now c.self.invariant.counted))))

@@ -3,7 +3,7 @@ use Rattle.s66_isa.specs.declared.instr.Instr.{Instr}
 use Rattle.s66_isa.specs.declared.profile.Profile.{Profile}
 use Rattle.s66_model.specs.Timing.{Problem}
 use Rattle.s66_model.specs.DominatedLeaves.{Ending}
-use Rattle.s66_model.specs.Tree.{Knot, flat}
+use Rattle.s66_model.specs.Tree.{Vertex, flat}
 use Rattle.s66_model.specs.Later.{later}
 use Rattle.s66_model.specs.NodeTree.{node_tree}
 use Rattle.s66_line.specs.Block.{instrs_of}
@@ -46,7 +46,7 @@ loop-more-init c =
       problem = problem ∙ ap (λ (a : AnswerOf). a.problem) c.self.view_is;
       stands = λ more. subst (λ (at : List ℕ). StandsAt xs 0 at) (sym numbers) (root-there walked.problem xs kept);
       rest =
-          ap (λ (knots : List (Knot Ending)). knots ++ lines_from walked.problem xs (walked.numbers ∷ later walked.problem.block [] walked.numbers)) c.new-tree.ensures
+          ap (λ (vertices : List (Vertex Ending)). vertices ++ lines_from walked.problem xs (walked.numbers ∷ later walked.problem.block [] walked.numbers)) c.new-tree.ensures
           ∙ (ap (λ (at : List ℕ). lines_from walked.problem xs (at ∷ later walked.problem.block [] at)) numbers
           ∙ (lines-whole walked.problem xs
           ∙ (ap (λ (p : Problem). flat (node_tree p (nodes_of p xs))) problem

@@ -1,5 +1,5 @@
 use Rattle.std.proofs.Common.{◌∙◌, true, ◌≡◌, ◌++◌, ◌∷◌, [], refl, ap, sym, subst, length, drop, arith}
-use Rattle.s66_node.specs.Outlines.{names_of}
+use Rattle.s66_node.specs.Skeletons.{names_of}
 use Rattle.s66_model.specs.Ledger.{Taken}
 use Rattle.s66_model.specs.Recorded.{IsOwnPiece}
 use Rattle.s66_ledger.specs.declared.reply.GraftError.{GraftError}
@@ -11,7 +11,7 @@ use Rattle.s66_ledger.specs.GraftMoves.{IsGraftMove, IsRefusedMove, taken_event,
 use Rattle.s66_ledger.specs.Grafts.{IsGraftAt, IsRefusedGraftAt}
 use Rattle.s66_ledger.specs.Ledgers.{LedgerOf, with_history}
 use Rattle.s66_ledger.specs.Subtrees.{lines_below, root_bytes}
-use Rattle.s66_ledger.proofs.Recording.{recorded, recorded-event, recorded-lineless, event-lineless, taken-entry, refused-move, refused-entry, refused-at, refused-quiet, prefix-kept, root-outline, taken_piece, taken-root, taken-root_counted, taken-lines_counted, taken-names_counted, taken-names}
+use Rattle.s66_ledger.proofs.Recording.{recorded, recorded-event, recorded-lineless, event-lineless, taken-entry, refused-move, refused-entry, refused-at, refused-quiet, prefix-kept, root-skeleton, taken_piece, taken-root, taken-root_counted, taken-lines_counted, taken-names_counted, taken-names}
 use Rattle.s66_ledger.proofs.ledger.Ledger.graft_at.Goals as goal
 
 pub invariant_of-self-in-Ok-graft : goal.invariant_of-self-in-Ok-graft
@@ -29,7 +29,7 @@ invariant_of-self-in-Ok-graft c =
     let deep : depth ≡ length p.prefix = ap length c.prefix-prefix.ensures.value in
     let names = taken-names m new w i p nodes of h in
     recorded m new c.self.inside.history.entries.items c.reserve.new.self.items c.push_reserved.new.self.items c.self.inside.history.bytes.items c.keep_root.new.bytes.items _ (root_bytes q) (lines_below q) (drop 1 (names_of q)) (taken_event w i p h.taken) Taken h.move h.lines h.names
-    (taken-entry m new w i p c.splits-splits.result c.splits-splits.ensures (root_bytes q ++ lines_below q) ([] ∷ drop 1 (names_of q)) depth h (root-outline q) names deep)
+    (taken-entry m new w i p c.splits-splits.result c.splits-splits.ensures (root_bytes q ++ lines_below q) ([] ∷ drop 1 (names_of q)) depth h (root-skeleton q) names deep)
     c.reserve.ensures.items c.push_reserved.ensures.items (c.in-Ok-keep_root.ensures.ok ∙ ap (λ bytes. c.self.inside.history.bytes.items ++ bytes) (taken-root m new w i p nodes of h)) (omega (arith, deep, taken-root_counted m new w i p nodes of h))
     (omega (arith, c.count.ensures, taken-lines_counted m new w i p nodes of h)) (omega (arith, c.count.ensures, taken-names_counted m new w i p nodes of h)) c.self.invariant
 
@@ -51,7 +51,7 @@ returns-in-Ok-graft-clause-ok c =
       taken_event w i p h.taken,
       (true, tree_of q, ((λ e. (h.rule, h.problem)), (λ e. refl)), h.opens, refl),
       recorded-event m new c.self.inside.history.entries.items c.reserve.new.self.items c.push_reserved.new.self.items c.self.inside.history.bytes.items c.keep_root.new.bytes.items _ (root_bytes q) (lines_below q) (drop 1 (names_of q)) (taken_event w i p h.taken) Taken h.move h.lines h.names
-          (taken-entry m new w i p c.splits-splits.result c.splits-splits.ensures (root_bytes q ++ lines_below q) ([] ∷ drop 1 (names_of q)) depth h (root-outline q) names deep)
+          (taken-entry m new w i p c.splits-splits.result c.splits-splits.ensures (root_bytes q ++ lines_below q) ([] ∷ drop 1 (names_of q)) depth h (root-skeleton q) names deep)
           c.reserve.ensures.items c.push_reserved.ensures.items (c.in-Ok-keep_root.ensures.ok ∙ ap (λ bytes. c.self.inside.history.bytes.items ++ bytes) (taken-root m new w i p nodes of h)) (omega (arith, deep, taken-root_counted m new w i p nodes of h))
           (omega (arith, c.count.ensures, taken-lines_counted m new w i p nodes of h)) (omega (arith, c.count.ensures, taken-names_counted m new w i p nodes of h)) c.self.invariant,
     )

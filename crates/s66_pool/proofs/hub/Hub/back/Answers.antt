@@ -1,7 +1,7 @@
 use Rattle.std.proofs.Common.{◌≡◌, ap, refl, ◌∙◌}
 use Rattle.std.proofs.lemmas.Result.{IfOk-weaker}
 use Rattle.s66_model.specs.Ledger.{Back, Returned, NotOut}
-use Rattle.s66_model.specs.Accounts.{Passbook, after_event}
+use Rattle.s66_model.specs.Accounts.{SeatRecord, after_event}
 use Rattle.s66_ledger.specs.Ledgers.{account_summary}
 use Rattle.s66_pool.specs.LockTokens.{book}
 use Rattle.s66_pool.specs.Hubs.{SeatOf}
@@ -34,7 +34,7 @@ returns-clause-ok g c =
     let gave = gave-book c.take-ledger.new.token.me (account_summary c.take-ledger.result.value) p c.take-ledger.ensures.holding (account_summary c.back-returned.new.self) c.give.new.token.me c.give.ensures.resting in
     IfOk-weaker c.back-returned.result _ _
     (λ x h. gave ∙ (quiet-call c.take-ledger.result.value c.deref_mut.result.now c.back-returned.new.self c.deref_mut.ensures.value p c.seat.inside.number c.seat.invariant.1 c.take-ledger.ensures.agrees (λ w. Back w c.args.ticket.node) Returned refl refl h).1
-    ∙ ap (λ (q : Passbook). after_event q (Back q.who c.args.ticket.node) Returned) at)
+    ∙ ap (λ (q : SeatRecord). after_event q (Back q.who c.args.ticket.node) Returned) at)
     c.back-returned.ensures.ok
 
 pub returns-clause-not_out : goal.returns-clause-not_out
@@ -44,7 +44,7 @@ returns-clause-not_out g c =
     let gave = gave-book c.take-ledger.new.token.me (account_summary c.take-ledger.result.value) p c.take-ledger.ensures.holding (account_summary c.back-returned.new.self) c.give.new.token.me c.give.ensures.resting in
     weaker-err c.back-returned.result _ _
     (λ x h out. gave ∙ (quiet-call c.take-ledger.result.value c.deref_mut.result.now c.back-returned.new.self c.deref_mut.ensures.value p c.seat.inside.number c.seat.invariant.1 c.take-ledger.ensures.agrees (λ w. Back w c.args.ticket.node) NotOut refl refl (h out)).1
-    ∙ ap (λ (q : Passbook). after_event q (Back q.who c.args.ticket.node) NotOut) at)
+    ∙ ap (λ (q : SeatRecord). after_event q (Back q.who c.args.ticket.node) NotOut) at)
     c.back-returned.ensures.not_out
 
 pub returns-clause-no_memory : goal.returns-clause-no_memory

@@ -1,7 +1,7 @@
 use Rattle.std.proofs.Common.{◌≡◌, ap, refl, ◌∙◌}
 use Rattle.std.proofs.lemmas.Result.{IfOk-weaker, on_err_weaker}
 use Rattle.s66_model.specs.Ledger.{Claim, Claimed}
-use Rattle.s66_model.specs.Accounts.{Passbook, after_event}
+use Rattle.s66_model.specs.Accounts.{SeatRecord, after_event}
 use Rattle.s66_ledger.specs.ClaimedNodes.{claimed_node}
 use Rattle.s66_ledger.specs.Ledgers.{account_summary}
 use Rattle.s66_pool.specs.LockTokens.{book}
@@ -35,7 +35,7 @@ returns-clause-ok g c =
     let gave = gave-book c.take-ledger.new.token.me (account_summary c.take-ledger.result.value) p c.take-ledger.ensures.holding (account_summary c.claim-claimed.new.self) c.give.new.token.me c.give.ensures.resting in
     IfOk-weaker c.claim-claimed.result _ _
     (λ x h. gave ∙ (quiet-call c.take-ledger.result.value c.deref_mut.result.now c.claim-claimed.new.self c.deref_mut.ensures.value p c.seat.inside.number c.seat.invariant.1 c.take-ledger.ensures.agrees (λ w. Claim w) (Claimed (claimed_node x)) refl refl h).1
-    ∙ ap (λ (q : Passbook). after_event q (Claim q.who) (Claimed (claimed_node x))) at)
+    ∙ ap (λ (q : SeatRecord). after_event q (Claim q.who) (Claimed (claimed_node x))) at)
     c.claim-claimed.ensures.ok
 
 pub returns-clause-err : goal.returns-clause-err

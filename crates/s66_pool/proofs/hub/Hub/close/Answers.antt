@@ -1,7 +1,7 @@
 use Rattle.std.proofs.Common.{◌≡◌, ℕ, ◌≤◌, All, length, List, [], ◌∷◌, ◌++◌, Some, sym, ap, ◌∙◌, subst, arith, append-nil}
 use Rattle.std.proofs.lemmas.List.Elements.{All-pop}
 use Rattle.atomic_table.specs.Table.{Me}
-use Rattle.s66_model.specs.Accounts.{Passbook, Agrees}
+use Rattle.s66_model.specs.Accounts.{SeatRecord, Agrees}
 use Rattle.s66_model.proofs.AccountLaws.{accounts-count}
 use Rattle.s66_ledger.specs.Ledgers.{LedgerOf, events_of, account_summary}
 use Rattle.s66_pool.specs.Hubs.{SeatOf, HaveSeats}
@@ -52,7 +52,7 @@ close-requires-clause-every c =
     let have : HaveSeats c.self.inside.workers c.args.seats.items =
     subst (λ (l : List SeatOf). HaveSeats c.self.inside.workers l) c.as_slice.ensures.value (c.have_seats.ensures.0 c.if-not-have_seats.false) in
     let every = have-every c.self.inside.workers c.args.seats.items have in
-    λ w low high. subst (λ (ps : List Passbook). HaveEvery c.self.inside.workers ps) (sym back) every w low (omega (arith, high, c.self.invariant.1))
+    λ w low high. subst (λ (ps : List SeatRecord). HaveEvery c.self.inside.workers ps) (sym back) every w low (omega (arith, high, c.self.invariant.1))
 
 pub returns-clause-workers : goal.returns-clause-workers
 returns-clause-workers c =
@@ -66,7 +66,7 @@ returns-clause-agrees c =
     let back = none-left c.loop-seat.seats.items c.loop-seat.all.me.0.books (books_in c.args.seats.items) empty c.loop-seat.invariant.collected in
     let agree : All (Agrees (account_summary c.into_inner-ledger.result)) (books_in c.args.seats.items) =
     subst (λ (k : LedgerOf). All (Agrees (account_summary k)) (books_in c.args.seats.items)) (sym c.into_inner-ledger.ensures)
-    (subst (λ (ps : List Passbook). All (Agrees (account_summary c.close.result.value)) ps) back c.close.ensures.agrees) in
+    (subst (λ (ps : List SeatRecord). All (Agrees (account_summary c.close.result.value)) ps) back c.close.ensures.agrees) in
     seats-agree (account_summary c.into_inner-ledger.result) c.args.seats.items agree
 
 pub returns-clause-splits : goal.returns-clause-splits
@@ -77,11 +77,11 @@ returns-clause-splits c =
     let back = none-left c.loop-seat.seats.items c.loop-seat.all.me.0.books (books_in seats) empty c.loop-seat.invariant.collected in
     let agree : All (Agrees s) (books_in seats) =
     subst (λ (k : LedgerOf). All (Agrees (account_summary k)) (books_in seats)) (sym c.into_inner-ledger.ensures)
-    (subst (λ (ps : List Passbook). All (Agrees (account_summary c.close.result.value)) ps) back c.close.ensures.agrees) in
+    (subst (λ (ps : List SeatRecord). All (Agrees (account_summary c.close.result.value)) ps) back c.close.ensures.agrees) in
     let have : HaveSeats c.self.inside.workers seats =
     subst (λ (l : List SeatOf). HaveSeats c.self.inside.workers l) c.as_slice.ensures.value (c.have_seats.ensures.0 c.if-not-have_seats.false) in
     let workers : length s.accounts ≡ c.self.inside.workers =
     ap (λ (k : LedgerOf). length (account_summary k).accounts) c.into_inner-ledger.ensures ∙ c.close.ensures.search.workers ∙ c.self.invariant.1 in
     let every = subst (λ (n : ℕ). HaveEvery n (books_in seats)) (sym workers) (have-every c.self.inside.workers seats have) in
-    let once = subst (λ (ps : List Passbook). (w : ℕ) → books_of w ps ≤ 1) back c.close.ensures.once in
+    let once = subst (λ (ps : List SeatRecord). (w : ℕ) → books_of w ps ≤ 1) back c.close.ensures.once in
     seats-splits s seats agree every once ∙ c.splits-spent.ensures.accounts

@@ -1,7 +1,7 @@
 use Rattle.std.proofs.Common.{◌≡◌, ap, refl, ◌∙◌}
 use Rattle.std.proofs.lemmas.Result.{IfOk-weaker, on_err_weaker}
 use Rattle.s66_model.specs.Ledger.{Grant, Granted}
-use Rattle.s66_model.specs.Accounts.{Passbook, after_event}
+use Rattle.s66_model.specs.Accounts.{SeatRecord, after_event}
 use Rattle.s66_ledger.specs.Ledgers.{account_summary}
 use Rattle.s66_pool.specs.LockTokens.{book}
 use Rattle.s66_pool.specs.Hubs.{SeatOf}
@@ -34,7 +34,7 @@ returns-clause-ok g c =
     let gave = gave-book c.take-ledger.new.token.me (account_summary c.take-ledger.result.value) p c.take-ledger.ensures.holding (account_summary c.grant-granted.new.self) c.give.new.token.me c.give.ensures.resting in
     IfOk-weaker c.grant-granted.result _ _
     (λ x h. gave ∙ (quiet-call c.take-ledger.result.value c.deref_mut.result.now c.grant-granted.new.self c.deref_mut.ensures.value p c.seat.inside.number c.seat.invariant.1 c.take-ledger.ensures.agrees (λ w. Grant w) (Granted x) refl refl h).1
-    ∙ ap (λ (q : Passbook). after_event q (Grant q.who) (Granted x)) at)
+    ∙ ap (λ (q : SeatRecord). after_event q (Grant q.who) (Granted x)) at)
     c.grant-granted.ensures.ok
 
 pub returns-clause-err : goal.returns-clause-err

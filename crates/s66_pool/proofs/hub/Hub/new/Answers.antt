@@ -3,7 +3,7 @@ use Rattle.std.proofs.lemmas.Grind.{get_or_default_zero}
 use Rattle.std.proofs.lemmas.List.Elements.{All-nil}
 use Rattle.atomic_table.specs.Seated.{TableId}
 use Rattle.s66_isa.specs.Lists.{rising}
-use Rattle.s66_model.specs.Accounts.{Summary, Passbook, opened, account_at}
+use Rattle.s66_model.specs.Accounts.{Summary, SeatRecord, opened, account_at}
 use Rattle.s66_ledger.specs.Ledgers.{LedgerOf, account_summary}
 use Rattle.s66_pool.specs.SeatViews.{all_opened}
 use Rattle.s66_pool.specs.Hubs.{SeatOf}
@@ -51,7 +51,7 @@ new-requires-in-loop-i-clause-splits c =
     let place : i + 1 - 1 ≡ i = omega arith in
     omega (
       arith,
-      ap (λ (p : Passbook). p.account.splits) first,
+      ap (λ (p : SeatRecord). p.account.splits) first,
       ap (λ (m : LedgerOf). (account_at (account_summary m) (i + 1)).splits) key,
       splits.1 (i + 1) (omega arith) (omega (arith, c.loop-i-test.true, c.workers-workers.ensures)),
       ap (λ (k : ℕ). get_or c.in_ok-splits.splits.items k 0) place,
@@ -64,7 +64,7 @@ loop-i-preserved c =
     let i = c.loop-i.i in
     let z : TableId = c.in_ok-lock.lock.table.shared.table_id in
     let s : Summary = account_summary c.in_ok-lock.lock.table.shared.key.value in
-    let ps : List Passbook = c.loop-i.founder.me.0.books in
+    let ps : List SeatRecord = c.loop-i.founder.me.0.books in
     let was = c.loop-i.invariant in
     let deal = c.deal-token.ensures in
     let id : c.deal-token.result.table_id ≡ z = deal.here.1 ∙ was.here in

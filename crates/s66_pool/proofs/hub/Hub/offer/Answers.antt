@@ -3,7 +3,7 @@ use Rattle.s66_ledger.specs.Ledgers.{account_summary}
 use Rattle.s66_pool.specs.LockTokens.{book}
 use Rattle.s66_pool.specs.Hubs.{SeatOf}
 use Rattle.s66_pool.proofs.SeatEvents.{number_within, follows-at, gave-book, gave-opened}
-use Rattle.s66_pool.proofs.AfterCalls.{seat-keeps, seat-reads, seat-same, same-call, other-keeps, other-offered, told-follows, told-splits, told-offered, told-known}
+use Rattle.s66_pool.proofs.AfterCalls.{seat-keeps, seat-reads, seat-same, same-call, other-keeps, other-offered, stated-follows, stated-splits, stated-offered, stated-known}
 use Rattle.s66_pool.proofs.hub.Hub.offer.Goals as goal
 
 pub offer-requires : goal.offer-requires
@@ -40,7 +40,7 @@ invariant_of-seat-in-OtherBlock g c =
 pub give_read-requires : goal.give_read-requires
 give_read-requires g c =
     let p = book c.seat.inside.token in
-    let follows = told-follows c.take-ledger.result.value c.deref_mut.result.now c.offer.new.self c.deref_mut.ensures.value p c.seat.inside.number c.seat.invariant.1 c.take-ledger.ensures.agrees c.args.timed c.in-Ok.offered c.in-Ok.ensures.ok in
+    let follows = stated-follows c.take-ledger.result.value c.deref_mut.result.now c.offer.new.self c.deref_mut.ensures.value p c.seat.inside.number c.seat.invariant.1 c.take-ledger.ensures.agrees c.args.timed c.in-Ok.offered c.in-Ok.ensures.ok in
     record {
       here = search rules;
       holding = search rules;
@@ -51,7 +51,7 @@ give_read-requires g c =
 pub invariant_of-seat-in_default-offered : goal.invariant_of-seat-in_default-offered
 invariant_of-seat-in_default-offered g c =
     let p = book c.seat.inside.token in
-    let splits = told-splits c.take-ledger.result.value c.deref_mut.result.now c.offer.new.self c.deref_mut.ensures.value p c.seat.inside.number c.seat.invariant.1 c.take-ledger.ensures.agrees c.args.timed c.in-Ok.offered c.in_default-offered.not-OtherBlock c.in-Ok.ensures.ok in
+    let splits = stated-splits c.take-ledger.result.value c.deref_mut.result.now c.offer.new.self c.deref_mut.ensures.value p c.seat.inside.number c.seat.invariant.1 c.take-ledger.ensures.agrees c.args.timed c.in-Ok.offered c.in_default-offered.not-OtherBlock c.in-Ok.ensures.ok in
     seat-reads c.take-ledger.new.token.me (account_summary c.take-ledger.result.value) p c.take-ledger.ensures.holding (account_summary c.offer.new.self) c.give_read.new.token.me c.give_read.ensures.resting c.seat.inside.number
     c.seat.inside.splits c.seat.invariant.1 (splits ∙ c.seat.invariant.2)
 
@@ -71,9 +71,9 @@ returns-in_default-offered g c =
     let gave = gave-opened c.take-ledger.new.token.me (account_summary c.take-ledger.result.value) p c.take-ledger.ensures.holding (account_summary c.offer.new.self) c.give_read.new.token.me c.give_read.ensures.resting in
     record {
       here = search rules;
-      ok = told-offered c.take-ledger.result.value c.deref_mut.result.now c.offer.new.self c.deref_mut.ensures.value p c.seat.inside.number c.seat.invariant.1 c.take-ledger.ensures.agrees c.args.timed
+      ok = stated-offered c.take-ledger.result.value c.deref_mut.result.now c.offer.new.self c.deref_mut.ensures.value p c.seat.inside.number c.seat.invariant.1 c.take-ledger.ensures.agrees c.args.timed
           c.args.seat.now now c.in-Ok.offered c.in_default-offered.not-OtherBlock at gave c.in-Ok.ensures.ok;
-      answer = told-known c.take-ledger.result.value c.deref_mut.result.now c.offer.new.self c.deref_mut.ensures.value p c.seat.inside.number c.seat.invariant.1 c.take-ledger.ensures.agrees c.args.timed
+      answer = stated-known c.take-ledger.result.value c.deref_mut.result.now c.offer.new.self c.deref_mut.ensures.value p c.seat.inside.number c.seat.invariant.1 c.take-ledger.ensures.agrees c.args.timed
           c.args.seat.now c.in-Ok.offered c.in_default-offered.not-OtherBlock at c.in-Ok.ensures.ok;
       err = tt;
     }

@@ -1,0 +1,25 @@
+use Rattle.std.proofs.Common.{IfSome, refl, subst}
+use Rattle.s66_isa.specs.Lists.{Among}
+use Rattle.s66_model.specs.LegalOrder.{IsIncomplete}
+use Rattle.s66_model.specs.DominatedLeaves.{DominatesByRule}
+use Rattle.s66_model.specs.Stated.{StatedFrontier, StatedPassed}
+use Rattle.s66_node.proofs.Terminals.{passed-name}
+use Rattle.s66_node.proofs.grow.open_vertex.Goals as goal
+
+pub returns-in-Some-clause-stated : goal.returns-in-Some-clause-stated
+returns-in-Some-clause-stated g c =
+    λ best due.
+    let b = c.args.walk.now.problem in
+    let at = c.args.walk.now.numbers in
+    let numbers = c.in-Some.name.value.numbers.items in
+    let dominates : IsIncomplete b.block at → DominatesByRule c.args.rule b numbers at = subst (λ found. IfSome found (λ name. IsIncomplete b.block at → DominatesByRule c.args.rule b name.value.numbers.items at)) c.in-Some.is c.in_ok-name.ensures.dominates in
+    let known : Among numbers (g.N.Naming.names c.args.names.now) = subst (λ found. IfSome found (λ name. Among name.value.numbers.items (g.N.Naming.names c.args.names.now))) c.in-Some.is c.in_ok-name.ensures.known in (
+      StatedPassed c.args.value numbers,
+      refl,
+      (c.requires.value, due, dominates due.0),
+      λ value name is. subst (λ x. Among x (g.N.Naming.names c.args.names.now)) (passed-name c.args.value numbers value name is) known,
+    )
+
+pub returns-else-may_split-clause-stated : goal.returns-else-may_split-clause-stated
+returns-else-may_split-clause-stated g c =
+    λ best due. (StatedFrontier c.args.value, refl, (c.requires.value, due), λ value name is. absurd cc)
