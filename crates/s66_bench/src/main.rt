@@ -24,19 +24,19 @@ use tree::{Counts, grow};
 /// What is run, and how often.
 #[derive(Clone, Copy, Debug)]
 enum Mode {
-    /// A new clock, onto which the block is pushed in source order, or its first number alone, so many times.
+    /// A new clock, onto which the block is pushed in source order, or its first number alone, as often as the count says.
     Push { is_whole: bool, rounds: u32 },
-    /// One clock, onto which the block is pushed in source order and from which it is taken back, so many times.
+    /// One clock, onto which the block is pushed in source order and from which it is taken back, as often as the count says.
     Both(u32),
-    /// A tree of at most so many splits.
+    /// A tree of at most a number of splits.
     Tree(u32),
-    /// A search of at most so many splits, without workers.
+    /// A search of at most a number of splits, without workers.
     Finish(u32),
     /// A search by workers.
     Run(Options),
 }
 
-/// How workers search, at most with so many splits; the words say how many workers, one if they don't.
+/// How workers search, with at most a number of splits; the words say how many workers, one if they don't.
 fn options_of(words: &[String], nodes: u32) -> Option<Options> {
     let workers = match words.get(3) {
         Some(word) => word.parse::<u8>().ok()?,

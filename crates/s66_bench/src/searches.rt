@@ -20,7 +20,7 @@ fn counts_of(answer: &Answer) -> Counts {
     }
 }
 
-/// A search of at most so many splits without workers, which keeps no history. `Err` is want of memory.
+/// A search of at most `budget` splits without workers, which keeps no history. `Err` is out of memory.
 pub fn search_alone(
     alloc: Global,
     block: &Block,
@@ -34,7 +34,7 @@ pub fn search_alone(
     Ok(counts_of(&answer))
 }
 
-/// A search by workers. `Err` is want of memory.
+/// A search by workers. `Err` is out of memory.
 pub fn search_by_workers<R: AllocGlobal + Threads + Wait + Sync>(
     rt: &R,
     block: &Block,

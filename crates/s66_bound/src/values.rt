@@ -99,7 +99,7 @@ fn remaining_work(tables: &Tables, clock: &Clock<'_>, kind: Kind) -> u32
     tables.works[kind_number(kind)] - clock.worked(kind)
 }
 
-/// How long so many units work, where the work is parted among them: rounded up.
+/// How long `copies` units work, if the work is divided among them: rounded up.
 fn over(work: u32, copies: u32) -> u32
     requires copies { (1 ≤ copies) × (copies ≤ COPIES_LIMIT) }
     requires work { work + COPIES_LIMIT < 2 ^ 32 }

@@ -9,7 +9,7 @@ use Rattle.s66_cert.specs.declared.error.CertError.TheVariants.{BadLine, Truncat
 abbrev pub state : Reader → State
 state r = record { count = r.lines; documents = map document_of r.documents.items; place = r.place; part = r.claim; left = r.left; splits = r.splits }
 
--- what came out is what the definition gives, and a fault is the one that it gives; want of memory may stand in the place of either
+-- what came out is what the definition gives, and a fault is the one that it gives; out of memory may stand in the place of either
 abbrev pub Gives : {X Y : Type 0} → (X → Y) → Result X CertError → Result Y CertError → Type 0
 Gives view (Ok x) read = read ≡ Ok (view x)
 Gives view (Err OutOfMemory) read = Unit {0}

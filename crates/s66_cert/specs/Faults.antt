@@ -68,7 +68,7 @@ pub record IsCut (text : List ℕ) : Type 0 where
   pub begins : Begins (with_newlines before)
   pub none : (ds : List Document) → ¬ IsText BLOCK_LIMIT text ds
 
--- the fault of a text; want of memory is none
+-- the fault of a text; out of memory is none
 abbrev pub IsFault : List ℕ → CertError → Type 0
 IsFault text (BadLine line) = IsBadLine text line
 IsFault text Truncated = IsCut text

@@ -26,7 +26,7 @@ fn end_at(ends: &[u32], place: usize) -> usize
     }
 }
 
-/// Where the last of so many trees ends, of which the first begins at a place.
+/// Where the last of `count` trees ends, of which the first begins at a place.
 fn end_behind(ends: &[u32], count: usize, place: usize) -> usize
     ensures { result ≡ end_behind ends.now count place }
 {

@@ -24,7 +24,7 @@ pub enum TreeLine<'a> {
     Dominated(&'a [u8]),
 }
 
-/// What a line of a tree says but its numbers, of which it has so many.
+/// What a line of a tree says except its numbers, with how many it has.
 #[derive(Clone, Copy, Debug)]
 pub(crate) enum Mark {
     Split(u8),

@@ -26,7 +26,7 @@ fn free_times(points: &[KeptPoint], kind: Kind) -> FallingTimes
     times
 }
 
-/// Whether the units of a kind, of which there are so many, are free no later than another past's, place by place, or than
+/// Whether a kind's units, `copies` of them, are free no later than another past's, place by place, or than
 /// the clamp.
 ///
 /// For one copy or two it reads two words. For more it looks at each point.

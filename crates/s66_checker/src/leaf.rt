@@ -91,7 +91,7 @@ fn remaining_work(prefix: &Prefix, kind: Kind) -> u32
     sum
 }
 
-/// How long so many units work, where the work is parted among them: rounded up.
+/// How long `copies` units work, if the work is divided among them: rounded up.
 fn over(work: u32, copies: u32) -> u32
     requires copies { (1 ≤ copies) × (copies ≤ 100) }
     requires work { work + 100 < 2 ^ 32 }

@@ -61,7 +61,7 @@ pub fn next(points: &[KeptPoint]) -> u32
     }
 }
 
-/// Where an instruction of so many parcels begins when the parcels from this one on are empty.
+/// Where an instruction of one or two parcels begins if the parcels from this one on are empty.
 fn fits_at(parcel: u32, parcels: u32) -> u32
     requires { parcel + 1 < 2 ^ 32 }
     ensures { result ≡ fits_at parcel parcels }

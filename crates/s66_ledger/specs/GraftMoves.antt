@@ -37,7 +37,7 @@ pub record IsTakenMove (old : MachineOf) (w node : ℕ) (piece : PieceOf) (new :
   pub names : names_in new.state.nodes ≡ names_in old.state.nodes ++ drop 1 (names_of (with_lines piece taken))
   pub move : IsMove old (taken_event w node piece taken) model.Taken new
 
--- a refusal is a reply of the machine, but for want of memory, which is no move
+-- a refusal is a reply of the machine, except out of memory, which is no move
 abbrev pub IsRefusedMove : MachineOf → (w node : ℕ) → PieceOf → GraftError → MachineOf → Type 0
 IsRefusedMove old w node piece refused.NotOut new = IsGraftMove old w node piece model.NotOut new
 IsRefusedMove old w node piece refused.OtherPrefix new = IsGraftMove old w node piece model.OtherPrefix new

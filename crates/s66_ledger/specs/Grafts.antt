@@ -18,7 +18,7 @@ IsGraftAt old w node piece reply new =
 abbrev pub IsGraft : LedgerOf → ℕ → TicketOf → PieceOf → Reply → LedgerOf → Type 0
 IsGraft old w ticket piece reply new = IsGraftAt old w ticket.node piece reply new
 
--- a refusal is a reply of the machine, but for want of memory, which leaves no event
+-- a refusal is a reply of the machine, except out of memory, which leaves no event
 abbrev pub IsRefusedGraftAt : LedgerOf → (w node : ℕ) → PieceOf → GraftError → LedgerOf → Type 0
 IsRefusedGraftAt old w node piece refused.NotOut new = IsGraftAt old w node piece model.NotOut new
 IsRefusedGraftAt old w node piece refused.OtherPrefix new = IsGraftAt old w node piece model.OtherPrefix new

@@ -13,5 +13,5 @@ pub const DEPTH_RANKS: u32 = 256;
 /// After how many rounds of a search, and of each of its workers, a list schedule is offered again.
 pub const SCHEDULE_ROUNDS: u32 = 16;
 
-/// No piece of so many lines is grafted: no worker may spend its splits, nor is there memory for its nodes.
+/// No piece of this many lines is grafted: no worker may spend its splits, nor is there memory for its nodes.
 pub const PIECE_LINES_LIMIT: usize = 0x8000_0000;

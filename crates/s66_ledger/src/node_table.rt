@@ -101,7 +101,7 @@ impl NodeTable {
         self.out != 0
     }
 
-    /// Whether some prefix of so many numbers may be open or out.
+    /// Whether some prefix of `count` numbers may be open or out.
     pub fn may_reach(&self, count: usize) -> bool
         requires { count ≤ BLOCK_LIMIT }
         ensures { result ≡ false → (i : ℕ) → i < length self.now → is_live_state (node_at self.now i).state ≡ true → length (get_or (prefixes self.now) i []) < count }

@@ -66,7 +66,7 @@ impl<'a> Block<'a> {
     }
 
     /// The block of these texts, each that of an instruction, as `is_instruction` tells: line n is n, and there is no label. It
-    /// borrows the texts. `Err` is want of memory.
+    /// borrows the texts. `Err` is out of memory.
     pub fn of(alloc: Global, texts: &'a [Vec<u8>]) -> Result<Block<'a>, AllocError>
         requires some { 1 ≤ length texts.now }
         requires few { length texts.now ≤ BLOCK_LIMIT }

@@ -167,7 +167,7 @@ fn words_of(finding: Finding) -> &'static [u8]
     }
 }
 
-/// The operand, where it is told.
+/// The operand, if the finding shows it.
 fn stated_operand(finding: Finding, operand: &[u8]) -> &[u8]
     ensures { result.now ≡ stated_operand finding operand.now }
 {
@@ -292,8 +292,8 @@ impl Findings {
     }
 }
 
-/// What is told of a source, which may be any text: a line for each line that is refused and for each that may not do what was
-/// meant, in their order, of the first `SOURCE_LINES_LIMIT` lines. Empty where nothing is told. `Err` is want of memory.
+/// The findings of a source, which may be any text: a line for each line that is refused and for each that may not do what was
+/// meant, in their order, of the first `SOURCE_LINES_LIMIT` lines. Empty if there is none. `Err` is out of memory.
 pub fn findings_in(alloc: Global, text: &[u8]) -> Result<Vec<u8>, AllocError>
     ensures { IfOk result (λ stated. stated.items ≡ findings_text text.now) }
 {

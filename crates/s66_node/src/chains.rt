@@ -76,7 +76,7 @@ impl Chains {
         self.set_first(hash, place);
     }
 
-    /// Takes a place out of the list of a hash where it stands in it, among so many at most.
+    /// Takes a place out of the list of a hash if it is in it, among at most `places`.
     pub fn remove_place(&mut self, hash: u64, place: u32, places: usize) {
         let mut before = NONE;
         let mut other = self.first(hash);
@@ -131,7 +131,7 @@ impl Chains {
         self.free = NONE;
     }
 
-    /// Whether so many places are more than the lists are made for.
+    /// Whether `places` places are more than the lists are made for.
     pub fn is_crowded(&self, places: usize) -> bool {
         places >= self.firsts.len()
     }

@@ -43,7 +43,7 @@ abbrev pub HasGraftedAndSupply : SeatOf → (node : ℕ) → PieceOf → Supply 
 HasGraftedAndSupply old node piece supply tickets new =
     (between : SeatOf) × HasGrafted old node piece model.Taken between × (between.book.who ≡ old.book.who) × HasSupply between supply tickets new
 
--- a refusal is a reply too, but for want of memory, after which the seat is as it was
+-- a refusal is a reply too, except out of memory, after which the seat is as it was
 abbrev pub HasBeenRefused : SeatOf → (node : ℕ) → PieceOf → GraftError → SeatOf → Type 0
 HasBeenRefused old node piece refused.NotOut new = HasGrafted old node piece model.NotOut new
 HasBeenRefused old node piece refused.OtherPrefix new = HasGrafted old node piece model.OtherPrefix new

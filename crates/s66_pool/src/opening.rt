@@ -61,7 +61,7 @@ fn has_seat<'a>(seats: &[Seat<'a>], w: u8) -> bool
     false
 }
 
-/// Whether each of so many workers has a seat.
+/// Whether each worker from 1 to `workers` has a seat.
 pub(crate) fn have_seats<'a>(workers: u8, seats: &[Seat<'a>]) -> bool
     ensures { IsTrue result ↔ HaveSeats workers seats.now }
 {

@@ -19,7 +19,7 @@ keeps (Some bytes) = refl
 pub untouched : (writer : Writer) → IsUntouched writer writer
 untouched writer = (keeps writer.bytes, refl)
 
--- also where the want of memory comes later
+-- also if memory runs out later
 reads-some : (reader reader' : Reader) (input : List ℕ) → ReadsAll reader reader' input → ReadsSome reader reader'
 reads-some reader reader' input (taken, all, same, (reads, few, calls)) =
     let most : reads + 1 ≤ FEED_CALLS = omega arith in

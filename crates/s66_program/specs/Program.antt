@@ -50,7 +50,7 @@ IsRun words reader reader' writer writer' errors errors' status =
     RunsCommand words reader reader' writer writer' errors errors' status
     ⊎ RefusesWords words reader reader' writer writer' errors errors' status
 
--- what is done where there are no words: want of memory, or words that are no text
+-- what is done if there are no words: out of memory, or words that are no text
 abbrev pub LacksWords : ErrorKind → Writer → Writer → ℕ → Type 0
 LacksWords k errors errors' status =
     ((k ≡ kind.OutOfMemory) × EndsAt Memory errors errors' status)

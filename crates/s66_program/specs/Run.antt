@@ -21,7 +21,7 @@ IsRefusal command input fault.Memory = Unit {0}
 IsRefusal command input fault.Read = ⊥
 IsRefusal command input fault.Write = ⊥
 
--- what a command leaves of its reader and its writer under a profile, by its result; want of memory is Memory and never Source or
+-- what a command leaves of its reader and its writer under a profile, by its result; out of memory is Memory and never Source or
 -- Document
 abbrev pub IsOutcomeUnder : Profile → Command → Reader → Reader → Writer → Writer → Result Status Fault → Type 0
 IsOutcomeUnder p command reader reader' writer writer' (Ok status) =

@@ -171,7 +171,7 @@ Asks words (Sum workers nodes profile) = AsksFor words (codes "sum") × GivesSea
 abbrev pub IsHelp : ErrorKind → Type 0
 IsHelp k = (k ≡ kind.DisplayHelp) ⊎ (k ≡ kind.DisplayVersion)
 
--- what an error of this kind is told as; want of memory may stand in the place of any other
+-- what an error of this kind is told as; out of memory may stand in the place of any other
 abbrev pub IsUsageOf : ErrorKind → Usage → Type 0
 IsUsageOf k (Help text) = IsHelp k
 IsUsageOf k (Bad text) = (IsHelp k → ⊥) × (k ≢ kind.OutOfMemory)

@@ -12,7 +12,7 @@ use s66_dep::{Dependences, Set};
 use s66_line::{Block, push_field};
 use std::alloc::AllocError;
 
-/// How many pairs depend in a block of so many instructions.
+/// How many pairs depend in a block of `count` instructions.
 fn pairs(dependences: &Dependences, count: usize) -> u32
     requires count { count ≡ length dependences.now }
     requires few { count ≤ BLOCK_LIMIT }

@@ -1,9 +1,9 @@
 /// Who is told how far long work is.
 pub trait Observer {
-    /// So many blocks, or documents, are done, of so many. It is told before each of them, so never that all are.
+    /// `count` blocks, or documents, are done, of the number `of`. It is called before each of them, so never when all are.
     fn done(&mut self, count: usize, of: usize);
 
-    /// The work has ended, be it with a text that is then written or with a refusal. It isn't told where the input wasn't read.
+    /// The work has ended, be it with a text that is then written or with a refusal. It isn't called if the input wasn't read.
     fn ended(&mut self);
 }
 

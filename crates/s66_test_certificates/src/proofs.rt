@@ -51,7 +51,7 @@ fn lines(text: &[u8]) -> u32 {
     count
 }
 
-/// Sixteen workers make one large proof, and five of it are checked: no call meets want of memory, however much it is about.
+/// Sixteen workers make one large proof, and five of it are checked: no call runs out of memory, however much it is about.
 #[test]
 fn proves_and_checks_large_trees(rt: HostRuntime) -> Result<(), Fail> {
     let prove = Command::Prove {
