@@ -10,7 +10,7 @@ use s66_dep::Order;
 use s66_isa::{BLOCK_LIMIT, Profile};
 use s66_line::Block;
 use s66_model::Rule;
-use s66_node::{Piece, Priority, Walk};
+use s66_node::{Marks, Piece, Priority, Walk};
 use s66_time::{Clock, Timed, time_of};
 use std::alloc::{AllocError, Global};
 use std::marker::Model;
@@ -403,7 +403,8 @@ impl<'a> Machine<'a> {
         self.offer_schedule(&mut walk, Priority::Issue);
         self.take_back()?;
         self.offer_wholes();
-        self.search(alloc, &mut walk)?;
+        let mut marks = Marks::new(alloc, self.block, &self.profile);
+        self.search(alloc, &mut walk, &mut marks)?;
         Ok(self.into_answer())
     }
 

@@ -1,15 +1,17 @@
-use crate::limits::SCHEDULE_ROUNDS;
+use crate::limits::{DOMINATED_PIECE_LIMIT, SCHEDULE_ROUNDS};
 use crate::machine::Machine;
 use crate::reply::{BackError, GraftError};
 use crate::subtree::Subtree;
 use crate::ticket::Ticket;
-use s66_node::{Piece, Priority, Walk, schedule_below};
+use s66_model::Rule;
+use s66_node::{Constant, Marks, Piece, Priority, Walk, schedule_below};
 use std::alloc::{AllocError, Global};
 
 impl<'a> Machine<'a> {
     ghost use Rattle.std.specs.Prelude.{true, false, Some, ◌≡◌, ◌≤◌, ◌<◌, OnOk, IfOk};
     ghost use Rattle.s66_model.specs.Leaves.{floor_value};
     ghost use Rattle.s66_model.specs.Timing.{total_of};
+    ghost use Rattle.s66_model.specs.LegalOrder.{IsBeginning};
     ghost use Rattle.s66_time.specs.TimedOrder.{TimedOrder};
     ghost use Rattle.s66_model.specs.Ledger.{best_time, allowance, node_at, IsOut};
     ghost use Rattle.s66_model.specs.Coverage.{Covers};
@@ -18,11 +20,17 @@ impl<'a> Machine<'a> {
     ghost use Rattle.s66_ledger.specs.Finishing.{Leads, IsIdle, WholesAreTimed, IsSearched, IsBetween, IsWithin, IsOffering, still_to_go};
 
     /// Goes on, as worker 1, until no open node's floor is below the best time or the budget is spent: claims the open node of the
-    /// least floor, expands it by what the worker may spend, offers the best of its whole orders and grafts the piece. After each
-    /// `SCHEDULE_ROUNDS` of these rounds it offers a list schedule that begins with the node's prefix, so that good orders are
-    /// found where no expansion comes to its end.
-    pub(crate) fn search(&mut self, alloc: Global, walk: &mut Walk<'_>) -> Result<(), AllocError>
+    /// least floor, expands it by what the worker may spend, offers the best of its whole orders and grafts the piece. The marks
+    /// grow by those of the nodes that it makes. After each `SCHEDULE_ROUNDS` of these rounds it offers a list schedule that begins
+    /// with the node's prefix, so that good orders are found where no expansion comes to its end.
+    pub(crate) fn search(
+        &mut self,
+        alloc: Global,
+        walk: &mut Walk<'_>,
+        marks: &mut Marks<'_>,
+    ) -> Result<(), AllocError>
         requires walk { walk.old.problem ≡ self.old.problem }
+        requires marks { marks.old.problem ≡ self.old.problem }
         requires workers { 1 ≤ self.old.workers }
         requires idle { IsIdle self.old.state }
         requires wholes { WholesAreTimed self.old.problem self.old.state }
@@ -31,7 +39,7 @@ impl<'a> Machine<'a> {
         ensures searched { OnOk result (IsSearched self.new.problem self.new.budget self.new.state) }
     {
         let mut rounds = 0u32;
-        while self.search_round(alloc, walk)? {
+        while self.search_round(alloc, walk, marks)? {
             rounds = rounds.wrapping_add(1);
             self.offer_sometimes(walk, rounds);
         }
@@ -39,11 +47,18 @@ impl<'a> Machine<'a> {
     }
 
     /// One round of a search; false where the search has ended.
-    fn search_round(&mut self, alloc: Global, walk: &mut Walk<'_>) -> Result<bool, AllocError>
+    fn search_round(
+        &mut self,
+        alloc: Global,
+        walk: &mut Walk<'_>,
+        marks: &mut Marks<'_>,
+    ) -> Result<bool, AllocError>
         requires walk { walk.old.problem ≡ self.old.problem }
+        requires marks { marks.old.problem ≡ self.old.problem }
         requires workers { 1 ≤ self.old.workers }
         requires between { IsBetween self.old.problem self.old.state }
         ensures same { walk.new.problem ≡ walk.old.problem }
+        ensures marks { marks.new.problem ≡ marks.old.problem }
         ensures leads { IfOk result (λ on. Leads self.old self.new) }
         ensures goes_on { IfOk result (λ on. on ≡ true → IsBetween self.new.problem self.new.state × (still_to_go self.new < still_to_go self.old)) }
         ensures ends { IfOk result (λ on. on ≡ false → IsSearched self.new.problem self.new.budget self.new.state) }
@@ -63,9 +78,45 @@ impl<'a> Machine<'a> {
                 Err(BackError::NotOut) => unreachable!(),
             };
         }
-        let piece = walk.expand(alloc, ticket.prefix(), best, allowance)?;
-        self.take_in(alloc, ticket, piece.by_rule(self.rule()))?;
+        let piece = self.expand(alloc, walk, marks, ticket.prefix())?;
+        let root = ticket.node();
+        let first = self.node_count();
+        self.take_in(alloc, ticket, piece)?;
+        marks.settle(root, first);
         Ok(true)
+    }
+
+    /// Expands a prefix by the rule of dominated leaves, by at most what worker 1 may spend. Where any node of the ledger may be named,
+    /// a piece has at most `DOMINATED_PIECE_LIMIT` splits, so that the nodes that it makes are soon known.
+    fn expand(
+        &self,
+        alloc: Global,
+        walk: &mut Walk<'_>,
+        marks: &mut Marks<'_>,
+        prefix: &[u8],
+    ) -> Result<Piece, AllocError>
+        requires workers { 1 ≤ self.now.workers }
+        requires some { 1 ≤ allowance self.now.state 1 }
+        requires walk { walk.old.problem ≡ self.now.problem }
+        requires marks { marks.old.problem ≡ self.now.problem }
+        requires prefix { IsBeginning self.now.problem.block prefix.now }
+        ensures same { walk.new.problem ≡ walk.old.problem }
+        ensures marks { marks.new.problem ≡ marks.old.problem }
+        ensures rule { IfOk result (λ p. p.rule ≡ self.now.rule) }
+        ensures problem { IfOk result (λ p. p.problem ≡ self.now.problem) }
+        ensures prefix { IfOk result (λ p. p.prefix ≡ prefix.now) }
+        ensures expansion { IfOk result (λ p. IsExpansion self.now.rule self.now.problem (best_time self.now.problem self.now.state) (best_time self.now.problem self.now.state) (allowance self.now.state 1) prefix.now (tree_of p)) }
+        ensures timed { IfOk result (λ p. IsBestTimed self.now.problem prefix.now (tree_of p) p.timed) }
+    {
+        let best = self.best();
+        let allowance = self.allowances[0];
+        let rule = self.rule();
+        let most = match rule {
+            Rule::NoneNamed => return walk.expand(alloc, prefix, best, allowance),
+            Rule::WrittenEarlier => allowance,
+            Rule::ClampedStanding => allowance.min(DOMINATED_PIECE_LIMIT),
+        };
+        walk.expand_dominated(alloc, prefix, &mut Constant(best), most, marks, rule)
     }
 
     /// How many splits worker 1 may spend, after a grant where it has none; 0 only where the budget is spent.

@@ -1,5 +1,5 @@
-use crate::limits::DOMINATED_PIECE_LIMIT;
 use s66_isa::Profile;
+use s66_ledger::DOMINATED_PIECE_LIMIT;
 use s66_line::Block;
 use s66_model::Rule;
 use s66_node::{Least, Marks, Piece, Priority, Walk, schedule_below};

@@ -4,9 +4,6 @@ pub const WORKERS_LIMIT: u8 = 16;
 /// How many nodes a worker claims in one turn at most.
 pub const CLAIMS_LIMIT: usize = 8;
 
-/// The most splits of a piece in which any node of the ledger may be named.
-pub const DOMINATED_PIECE_LIMIT: u32 = 8;
-
 /// After how many searches in a row that find no node a worker ends.
 pub const NONES_LIMIT: u32 = 1_000;
 

@@ -1,9 +1,11 @@
-//! Tests of the search: expansion, list schedules, the ledger, lanes of its tickets, the calls of a hub, its hint, and workers at
-//! gates.
+//! Tests of the search: expansion, list schedules, the ledger and how it is finished, lanes of its tickets, the calls of a hub, its
+//! hint, and workers at gates.
 #![tactic(auto)]
 
 #[cfg(test)]
 mod expansion;
+#[cfg(test)]
+mod finish;
 #[cfg(test)]
 mod gates;
 #[cfg(test)]

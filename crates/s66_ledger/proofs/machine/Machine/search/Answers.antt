@@ -8,6 +8,7 @@ loop-rounds-preserved c =
     let offers = c.offer_sometimes.ensures.offers in
     record {
       walk = c.offer_sometimes.ensures.walk ∙ (c.in_ok-search_round.ensures.same ∙ c.loop-rounds.invariant.walk);
+      marks = c.in_ok-search_round.ensures.marks ∙ c.loop-rounds.invariant.marks;
       leads = leads-on c.args.self.now c.search_round.new.self c.offer_sometimes.new.self
           (leads-on c.args.self.now c.loop-rounds.self c.search_round.new.self c.loop-rounds.invariant.leads c.in_ok-search_round.ensures.leads) offers.leads;
       between = offer-between c.search_round.new.self c.offer_sometimes.new.self offers (c.in_ok-search_round.ensures.goes_on c.if-branch.true).0;

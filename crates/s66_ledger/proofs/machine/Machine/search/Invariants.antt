@@ -6,6 +6,7 @@ abbrev pub invariant-loop-rounds : goal.invariant-loop-rounds
 invariant-loop-rounds l =
     record {
       walk : l.walk.problem ≡ l.fn.walk.problem;
+      marks : l.marks.problem ≡ l.fn.marks.problem;
       leads : Leads l.fn.self l.self;
       between : IsBetween l.self.problem l.self.state;
     }

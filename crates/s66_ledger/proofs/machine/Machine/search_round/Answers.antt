@@ -1,12 +1,7 @@
-use Rattle.std.proofs.Common.{rules, ◌∙◌, Option, subst, sym, ap}
-use Rattle.s66_model.specs.declared.rule.Rule.TheVariants.{NoneNamed}
-use Rattle.s66_model.specs.Timing.{Problem}
-use Rattle.s66_model.specs.Expansion.{IsExpansion}
-use Rattle.s66_node.specs.Pieces.{PieceOf, tree_of}
-use Rattle.s66_node.proofs.Pieces.{any-expansion}
+use Rattle.std.proofs.Common.{◌∙◌, Option, subst, sym, ap}
 use Rattle.s66_model.specs.LegalOrder.{IsBeginning}
 use Rattle.s66_model.specs.Leaves.{floor_value}
-use Rattle.s66_model.specs.Ledger.{Claim, Claimed, Back, Returned, best_time, allowance, node_at}
+use Rattle.s66_model.specs.Ledger.{Claim, Claimed, Back, Returned, best_time, node_at}
 use Rattle.s66_ledger.specs.Tickets.{TicketOf}
 use Rattle.s66_ledger.specs.LedgerMachine.{IsMove}
 use Rattle.s66_ledger.specs.ClaimedNodes.{claimed_node, IsTicketOf, IsLeastOpen}
@@ -48,8 +43,8 @@ take_in-requires-clause-within c =
     let prefix = subst (λ (t : Option TicketOf). IsTicketOf old.state t) c.in-Some.is c.claim.ensures.ticket in
     claim-within old c.claim.new.self c.in-Some.ticket claimed prefix c.allowance_or_grant-allowance.ensures.between
 
-pub expand-requires : goal.expand-requires
-expand-requires c =
+pub expand-requires-clause-prefix : goal.expand-requires-clause-prefix
+expand-requires-clause-prefix c =
     let old = c.allowance_or_grant-allowance.new.self in
     let mid = c.claim.new.self in
     let ticket = c.in-Some.ticket in
@@ -57,21 +52,10 @@ expand-requires c =
     let prefix = subst (λ (t : Option TicketOf). IsTicketOf old.state t) c.in-Some.is c.claim.ensures.ticket in
     let within = claim-within old mid ticket claimed prefix c.allowance_or_grant-allowance.ensures.between in
     let begins : IsBeginning mid.problem.block (node_at mid.state.nodes ticket.node).prefix = holds-at mid.rule mid.problem (best_time mid.problem mid.state) mid.state.nodes mid.state.nodes ticket.node c.best-best.ensures.covers.nodes within.out.0 in
-    let (problem, budget, workers, run, by) = c.allowance_or_grant-allowance.ensures.leads in
-    subst (λ at. IsBeginning c.args.walk.now.problem.block at) (sym (c.prefix.ensures ∙ within.prefix))
-    (subst (λ (p : Problem). IsBeginning p.block (node_at mid.state.nodes ticket.node).prefix) (claimed.0 ∙ (problem ∙ sym c.requires.walk)) begins)
+    subst (λ at. IsBeginning mid.problem.block at) (sym (c.prefix.ensures ∙ within.prefix)) begins
 
 pub returns-clause-leads : goal.returns-clause-leads
 returns-clause-leads c =
     let granted = c.allowance_or_grant-allowance.new.self in
     let claimed = event-leads granted c.claim.new.self (Claim 1) (Claimed (claimed_node c.claim.result)) c.claim.ensures.ok in
     leads-on c.args.self.now granted c.take_in.new.self c.allowance_or_grant-allowance.ensures.leads (leads-on granted c.claim.new.self c.take_in.new.self claimed c.in_ok-take_in.ensures.leads)
-
-pub take_in-requires-clause-expansion : goal.take_in-requires-clause-expansion
-take_in-requires-clause-expansion c =
-    let mid = c.claim.new.self in
-    let p = c.in_ok-piece.piece in
-    let best = best_time mid.problem mid.state in
-    let is : IsExpansion NoneNamed mid.problem best best (allowance mid.state 1) p.prefix (tree_of p) = search rules in
-    subst (λ (q : PieceOf). IsExpansion mid.rule mid.problem best best (allowance mid.state 1) q.prefix (tree_of q)) (sym c.by_rule.ensures)
-    (any-expansion mid.rule mid.problem best best (allowance mid.state 1) p.prefix (tree_of p) is)
