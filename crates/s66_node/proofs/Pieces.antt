@@ -6,7 +6,7 @@ use Rattle.s66_model.specs.declared.rule.Rule.TheVariants.{NoneNamed, WrittenEar
 use Rattle.s66_model.specs.Timing.{Problem}
 use Rattle.s66_model.specs.Tree.{Tree, Alone, AtTerminal, TreeHolds, flat, splits, split_at}
 use Rattle.s66_model.specs.DominatedLeaves.{DominatesByRule}
-use Rattle.s66_model.specs.Piece.{Terminal, Carries, Frontier, Passed, TerminalHolds, IsNamedIn, IsPiece}
+use Rattle.s66_model.specs.Piece.{Terminal, TerminalHolds, IsNamedIn, IsPiece}
 use Rattle.s66_model.specs.Expansion.{TerminalHoldsWhile, IsExpansion, whole_at, whole_orders}
 use Rattle.s66_model.specs.NodeNames.{node_at, is_node}
 use Rattle.s66_model.specs.Preorder.{read_tree, TreeMatches}
@@ -108,34 +108,3 @@ kept-splits p q count kept is = subst (λ (r : PieceOf). count ≡ splits (tree_
 
 pub kept-timed : (p q : PieceOf) (count : ℕ) → IsKept p count → p ≡ q → IsBestTimed q.problem q.prefix (tree_of q) q.timed
 kept-timed p q count kept is = subst (λ (r : PieceOf). IsBestTimed r.problem r.prefix (tree_of r) r.timed) is kept.timed
-
--- without dominated leaves it is a piece by any rule
-any-terminal : (rule : Rule) (b : Problem) (prefix : List ℕ) (tree : Tree Terminal) (at : List ℕ) (stated : Stated) → StatedHolds NoneNamed b prefix tree at stated → StatedHolds rule b prefix tree at stated
-any-terminal rule b prefix tree at (StatedLeaf value) h = h
-any-terminal rule b prefix tree at (StatedFrontier value) h = h
-any-terminal rule b prefix tree at (StatedPassed value name) h = absurd h.1
-
-pub any-rule : (rule : Rule) (p : PieceOf) (count : ℕ) → IsKept p count → p.rule ≡ NoneNamed → IsKept (record p { rule = rule }) count
-any-rule rule p count kept none =
-    let stated : IsStatedTree NoneNamed p.problem p.prefix (stated_tree p) = subst (λ r. IsStatedTree r p.problem p.prefix (stated_tree p)) none kept.stated in
-    record {
-      stated = tree-weaken p.problem.block (StatedHolds NoneNamed p.problem p.prefix (tree_of p)) (StatedHolds rule p.problem p.prefix (tree_of p)) (any-terminal rule p.problem p.prefix (tree_of p)) (stated_tree p) p.prefix stated;
-      vertices = kept.vertices;
-      splits = kept.splits;
-      timed = kept.timed;
-    }
-
--- and so an expansion is one
-any-terminal_while : (rule : Rule) (b : Problem) (high low : ℕ) (prefix : List ℕ) (tree : Tree Terminal) (at : List ℕ) (terminal : Terminal) → TerminalHoldsWhile NoneNamed b high low prefix tree at terminal → TerminalHoldsWhile rule b high low prefix tree at terminal
-any-terminal_while rule b high low prefix tree at (Carries leaf) h = h
-any-terminal_while rule b high low prefix tree at Frontier h = h
-any-terminal_while rule b high low prefix tree at (Passed name) h = absurd h.0.0
-
-pub any-expansion : (rule : Rule) (b : Problem) (high low allowance : ℕ) (prefix : List ℕ) (tree : Tree Terminal) → IsExpansion NoneNamed b high low allowance prefix tree → IsExpansion rule b high low allowance prefix tree
-any-expansion rule b high low allowance prefix tree is =
-    record {
-      piece = tree-weaken b.block (TerminalHoldsWhile NoneNamed b high low prefix tree) (TerminalHoldsWhile rule b high low prefix tree) (any-terminal_while rule b high low prefix tree) tree prefix is.piece;
-      within = is.within;
-      below = is.below;
-      due = is.due;
-    }

@@ -39,7 +39,6 @@ impl Piece {
     ghost use Rattle.s66_isa.specs.declared.limits.TheConstants.{BLOCK_LIMIT};
     ghost use Rattle.std.specs.Option.{option_copied};
     ghost use Rattle.s66_line.specs.Block.{instrs_of};
-    ghost use Rattle.s66_model.specs.declared.rule.Rule.TheVariants.{NoneNamed};
     ghost use Rattle.s66_model.specs.Tree.{flat, splits};
     ghost use Rattle.s66_model.specs.Piece.{IsPiece};
     ghost use Rattle.s66_node.specs.Pieces.{stated_tree, tree_of, IsBestTimed};
@@ -59,14 +58,6 @@ impl Piece {
         ensures { result ≡ self.now.rule }
     {
         self.rule
-    }
-
-    /// The same piece by another rule: without dominated leaves it is one by any.
-    pub fn by_rule(self, rule: Rule) -> Piece
-        requires { self.rule ≡ NoneNamed }
-        ensures { result ≡ record self { rule = rule } }
-    {
-        Piece { rule, ..self }
     }
 
     /// The prefix, by its numbers.
