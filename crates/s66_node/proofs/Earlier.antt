@@ -1,11 +1,13 @@
 -- Numbers that are smaller at the first place where they differ, and which names a table has.
-use Rattle.std.proofs.Common.{ℕ, zero, suc, ◌<◌, ◌≡◌, ◌⊎◌, List, [], ◌∷◌, ◌++◌, length, take, get_or, map, refl, arith, inl, inr, subst}
+use Rattle.std.proofs.Common.{ℕ, zero, suc, ◌<◌, ◌≡◌, ◌⊎◌, List, [], ◌∷◌, ◌++◌, length, take, get_or, map, refl, arith, inl, inr, ap, subst, length-append, Some}
 use Rattle.std.proofs.lemmas.List.{map-append}
+use Rattle.std.proofs.lemmas.List.Elements.{All-pop}
 use Rattle.std.specs.Prelude.{set}
 use Rattle.s66_isa.specs.Lists.{Among}
+use Rattle.s66_model.specs.Timing.{Problem}
 use Rattle.s66_model.specs.DominatedLeaves.{IsEarlier}
 use Rattle.s66_node.specs.declared.marks.Entry.{Entry}
-use Rattle.s66_node.specs.MarkTables.{numbers_of}
+use Rattle.s66_node.specs.MarkTables.{IsEntry, AreEntries, numbers_of}
 use Rattle.s66_node.proofs.Leasts.{among-either}
 
 pub earlier-at : (ns ms : List ℕ) (i : ℕ) → take i ns ≡ take i ms → i < length ns → i < length ms → get_or ns i 0 < get_or ms i 0 → IsEarlier ns ms
@@ -39,3 +41,12 @@ pub names-at : (entries : List Entry) (i : ℕ) (e : Entry) → i < length entri
 names-at [] i e lt = absurd (omega (arith, lt))
 names-at (x ∷ entries) zero e lt = inl refl
 names-at (x ∷ entries) (suc i) e lt = inr (names-at entries i e (omega (arith, lt)))
+
+-- the last entry is taken out
+pub names-pop : (entries : List Entry) (e : Entry) → map numbers_of (entries ++ e ∷ []) ≡ map numbers_of entries ++ numbers_of e ∷ []
+names-pop entries e = map-append numbers_of entries (e ∷ [])
+
+pub entries-pop : (b : Problem) (old entries : List Entry) (e : Entry) → old ≡ entries ++ e ∷ [] → AreEntries b old → AreEntries b entries × IsEntry b e
+entries-pop b old entries e is are =
+    let (each, last) = All-pop (IsEntry b) old entries (Some e) is are.each in
+    (record { few = omega (arith, are.few, ap length is, length-append entries (e ∷ [])); each = each }, last)

@@ -70,11 +70,11 @@ lines-split rule cuts now numbers vertices have by value name among =
     (λ here. elim here [ inl is ↦ absurd cc | inr none ↦ absurd none ]) among
 
 -- the line of one that isn't split names what may be named
-lines-terminal : (rule : Rule) (cuts names : List (List ℕ)) (stated : Stated) (vertices : List (Vertex Stated)) → AreOfSplits rule cuts names → ((value : ℕ) (name : List ℕ) → stated ≡ StatedPassed value name → Among name names) → NameSplits rule cuts vertices → NameSplits rule cuts (vertices ++ AtTerminal stated ∷ [])
+lines-terminal : (rule : Rule) (cuts names : List (List ℕ)) (stated : Stated) (vertices : List (Vertex Stated)) → AreOfSplits rule cuts names → (rule ≡ WrittenEarlier → (value : ℕ) (name : List ℕ) → stated ≡ StatedPassed value name → Among name names) → NameSplits rule cuts vertices → NameSplits rule cuts (vertices ++ AtTerminal stated ∷ [])
 lines-terminal rule cuts names stated vertices are named have by value name among =
     let line : Vertex Stated = AtTerminal (StatedPassed value name) in
     among-either line vertices (AtTerminal stated ∷ []) (Among name cuts) (have by value name)
-    (λ here. elim here [ inl is ↦ are by name (named value name (terminal-same stated (StatedPassed value name) (sym is))) | inr none ↦ absurd none ]) among
+    (λ here. elim here [ inl is ↦ are by name (named by value name (terminal-same stated (StatedPassed value name) (sym is))) | inr none ↦ absurd none ]) among
   where
     terminal-same : (x y : Stated) → AtTerminal x ≡ AtTerminal y → x ≡ y
     terminal-same x y e = cc
@@ -127,7 +127,7 @@ module _ (rule : Rule) (b : Problem) (best : Span) (allowance : ℕ) (root : Lis
         subst (λ x. GrowsFor rule b best root at x vertices found cuts) e g
 
     -- a child that isn't split
-    pub walk-terminal : (n : ℕ) (f2 : Set) (new : List Set) (more : List (Vertex Stated)) (least2 : Option WholeOrder) (names2 : List (List ℕ)) (stated : Stated) (p : Problem) (now back : List ℕ) → (rule ≡ WrittenEarlier → names2 ≡ names) → ((value : ℕ) (name : List ℕ) → stated ≡ StatedPassed value name → Among name names) → numbers_in f ≡ n ∷ numbers_in f2 → new ≡ fs ++ f2 ∷ [] → p ≡ b → now ≡ at ++ n ∷ [] → back ≡ front now → IsStated rule p best now stated → more ≡ vertices ++ AtTerminal stated ∷ [] → ((found : List (List ℕ)) → IsLeast p found least → IsLeast p (found ++ whole_stated p now stated) least2) → IsWalk rule b best allowance root back new more count least2 names2
+    pub walk-terminal : (n : ℕ) (f2 : Set) (new : List Set) (more : List (Vertex Stated)) (least2 : Option WholeOrder) (names2 : List (List ℕ)) (stated : Stated) (p : Problem) (now back : List ℕ) → (rule ≡ WrittenEarlier → names2 ≡ names) → (rule ≡ WrittenEarlier → (value : ℕ) (name : List ℕ) → stated ≡ StatedPassed value name → Among name names) → numbers_in f ≡ n ∷ numbers_in f2 → new ≡ fs ++ f2 ∷ [] → p ≡ b → now ≡ at ++ n ∷ [] → back ≡ front now → IsStated rule p best now stated → more ≡ vertices ++ AtTerminal stated ∷ [] → ((found : List (List ℕ)) → IsLeast p found least → IsLeast p (found ++ whole_stated p now stated) least2) → IsWalk rule b best allowance root back new more count least2 names2
     walk-terminal n f2 new more least2 names2 stated p now back same named is pushed own next up holds lines lower =
         let child = at ++ n ∷ [] in
         let back_is : back ≡ at = up ∙ (ap front next ∙ front-push at n) in

@@ -171,7 +171,7 @@ impl Walk<'_> {
         ensures timed { IfOk result (λ p. IsBestTimed self.old.problem prefix.now (tree_of p) p.timed) }
     {
         let rule = Rule::NoneNamed;
-        self.expand_by(alloc, prefix, incumbent, allowance, rule, &mut NoNames)
+        self.expand_named(alloc, prefix, incumbent, allowance, rule, &mut NoNames)
     }
 
     /// Goes to a prefix and expands it as `expand_with` does, but a prefix below it that a known node dominates isn't split.
@@ -206,11 +206,12 @@ impl Walk<'_> {
             Rule::WrittenEarlier => marks.clear(),
             Rule::ClampedStanding | Rule::NoneNamed => marks.forget_lines(),
         }
-        self.expand_by(alloc, prefix, incumbent, allowance, rule, marks)
+        self.expand_named(alloc, prefix, incumbent, allowance, rule, marks)
     }
 
-    /// Goes to a prefix and expands it with the names that are known.
-    fn expand_by<L: Least, N: Naming>(
+    /// Goes to a prefix and expands it as `expand_with` does, but a prefix below it that a node dominates of which a name is known
+    /// isn't split. It is a dominated leaf, if it is incomplete and its floor is below the last best time.
+    pub fn expand_named<L: Least, N: Naming>(
         &mut self,
         alloc: Global,
         prefix: &[u8],

@@ -56,11 +56,13 @@ fn open_vertex<N: Naming>(
     value: u32,
     may_split: bool,
     rule: Rule,
-    names: &N,
+    names: &mut N,
 ) -> Result<Option<Vertex>, AllocError>
     requires value { value ≡ floor_value walk.now.problem walk.now.numbers }
-    requires suits { N.suits names.now walk.now.problem }
-    ensures stated { (best : Span) → IsDue walk.now.problem best.high walk.now.numbers → IfOk result (λ vertex. IfSome vertex (λ k. (stated : Stated) × (seen_vertex k ≡ AtTerminal stated) × IsStated rule walk.now.problem best walk.now.numbers stated × ((value : ℕ) (name : List ℕ) → stated ≡ StatedPassed value name → Among name (N.names names.now)))) }
+    requires suits { N.suits names.old walk.now.problem }
+    ensures suits { N.suits names.new walk.now.problem }
+    ensures same { N.names names.new ≡ N.names names.old }
+    ensures stated { (best : Span) → IsDue walk.now.problem best.high walk.now.numbers → IfOk result (λ vertex. IfSome vertex (λ k. (stated : Stated) × (seen_vertex k ≡ AtTerminal stated) × IsStated rule walk.now.problem best walk.now.numbers stated × (rule ≡ WrittenEarlier → (value : ℕ) (name : List ℕ) → stated ≡ StatedPassed value name → Among name (N.names names.old)))) }
     ensures may { IfOk result (λ vertex. IfNone vertex (IsTrue may_split)) }
 {
     if let Some(name) = names.find_name(alloc, walk, rule)? {
@@ -82,14 +84,16 @@ fn unsplit_child<L: Least, N: Naming>(
     incumbent: &mut L,
     may_split: bool,
     rule: Rule,
-    names: &N,
+    names: &mut N,
 ) -> Result<Option<Vertex>, AllocError>
     requires kept { L.kept incumbent.old ≡ best.old }
-    requires suits { N.suits names.now walk.now.problem }
+    requires suits { N.suits names.old walk.now.problem }
+    ensures suits { N.suits names.new walk.now.problem }
+    ensures same { N.names names.new ≡ N.names names.old }
     ensures kept { L.kept incumbent.new ≡ best.new }
     ensures falls { best.new ≤ best.old }
     ensures lowest { (L.lowest incumbent.new ≡ L.lowest incumbent.old) × (L.lowest incumbent.old ≤ best.old → L.lowest incumbent.old ≤ best.new) }
-    ensures stated { IfOk result (λ vertex. IfSome vertex (λ k. (stated : Stated) × (seen_vertex k ≡ AtTerminal stated) × IsStated rule walk.now.problem (span best.old best.new) walk.now.numbers stated × ((value : ℕ) (name : List ℕ) → stated ≡ StatedPassed value name → Among name (N.names names.now)))) }
+    ensures stated { IfOk result (λ vertex. IfSome vertex (λ k. (stated : Stated) × (seen_vertex k ≡ AtTerminal stated) × IsStated rule walk.now.problem (span best.old best.new) walk.now.numbers stated × (rule ≡ WrittenEarlier → (value : ℕ) (name : List ℕ) → stated ≡ StatedPassed value name → Among name (N.names names.old)))) }
     ensures due { IfOk result (λ vertex. IfNone vertex (IsDue walk.now.problem best.new walk.now.numbers)) }
     ensures may { IfOk result (λ vertex. IfNone vertex (IsTrue may_split)) }
 {

@@ -15,7 +15,8 @@ mod whole_order;
 
 pub use expansion::{expand, expand_dominated, expand_with};
 pub use least::{Constant, Least};
-pub use marks::Marks;
+pub use marks::{Entry, Marks};
+pub use naming::Naming;
 pub use piece::Piece;
 pub use schedule::{Priority, schedule_below, schedule_rest};
 pub use vertex::{FRONTIER, LEAF, Name, PASSED, Place, SPLIT, Vertex};

@@ -29,7 +29,7 @@ const TABLE_LIMIT: usize = 65_536;
 
 /// A beginning of the block's legal orders that others may be compared with.
 #[derive(Debug, Drop)]
-struct Entry {
+pub struct Entry {
     /// The set of its numbers.
     pushed: Set,
     mark: Mark,
@@ -38,12 +38,14 @@ struct Entry {
 
 /// Marks of beginnings of a block's legal orders, found by the sets of their numbers.
 ///
-/// At most 65,536 are kept in all, and of those that are compared clamped at most 16 of one set. If memory runs out, or
-/// there are as many, a mark isn't kept.
+/// At most 65,536 are kept in all, or as many as the table is made for if these are fewer, and of those that are compared clamped at most 16 of
+/// one set. If memory runs out, or there are as many, a mark isn't kept.
 #[derive(Debug, Drop)]
 pub struct Marks<'a> {
     block: &'a Block<'a>,
     profile: Profile,
+    /// How many entries are kept at most, beside `TABLE_LIMIT`.
+    limit: usize,
     entries: Vec<Entry>,
     /// The nodes that the entries are.
     places: Vec<Place>,
@@ -160,7 +162,9 @@ fn make_place(
     requires few { length entries.now ≤ TABLE_LIMIT }
     requires within { index < TABLE_LIMIT }
 {
-    unsettled.push(index as u32)?;
+    if let Place::Line(_) = place {
+        unsettled.push(index as u32)?;
+    }
     set_place(places, index, place)?;
     if index < entries.len() {
         return Ok(());
@@ -186,6 +190,15 @@ fn put_entry(entries: &mut Vec<Entry>, index: usize, entry: Entry) -> Result<(),
     Ok(())
 }
 
+/// The node of the entry of an index; no node, if memory ran out when it was to be noted.
+fn place_of(places: &[Place], index: usize) -> Place {
+    if index < places.len() {
+        places[index]
+    } else {
+        Place::Node(u32::MAX)
+    }
+}
+
 /// Makes nodes of lines, at these entries.
 fn settle_places(places: &mut Vec<Place>, unsettled: &[u32], root: u32, first: u32) {
     for index in unsettled {
@@ -209,21 +222,44 @@ fn remove_lines(chains: &mut Chains, entries: &[Entry], places: &[Place], unsett
     }
 }
 
+impl Entry {
+    /// The hash of its set.
+    pub fn hash(&self) -> u64 {
+        self.pushed.hash()
+    }
+}
+
 impl<'a> Marks<'a> {
-    ghost use Rattle.std.specs.Prelude.{ℕ, ◌≡◌, ◌⊎◌, [], List, IfSome};
+    ghost use Rattle.std.specs.Prelude.{ℕ, ◌≡◌, ◌⊎◌, ◌++◌, [], ◌∷◌, List, IfSome, IfNone};
+    ghost use Rattle.s66_dep.specs.Members.{numbers_in};
+    ghost use Rattle.s66_isa.specs.Lists.{has};
+    ghost use Rattle.s66_time.specs.Marks.{IsMarkOf};
     ghost use Rattle.s66_isa.specs.Lists.{Among};
     ghost use Rattle.s66_line.specs.Block.{instrs_of};
     ghost use Rattle.s66_model.specs.LegalOrder.{IsIncomplete};
     ghost use Rattle.s66_model.specs.DominatedLeaves.{DominatesByRule};
-    ghost use Rattle.s66_node.specs.MarkTables.{IsEntry};
+    ghost use Rattle.s66_node.specs.MarkTables.{IsEntry, numbers_of};
 
     /// No mark.
     pub fn new(alloc: Global, block: &'a Block<'a>, profile: &Profile) -> Marks<'a>
         ensures { result ≡ record { problem = record { block = instrs_of block.now; profile = profile.now }; names = [] } }
     {
+        Marks::with_limit(alloc, block, profile, TABLE_LIMIT)
+    }
+
+    /// No mark, in a table that keeps at most so many.
+    pub fn with_limit(
+        alloc: Global,
+        block: &'a Block<'a>,
+        profile: &Profile,
+        limit: usize,
+    ) -> Marks<'a>
+        ensures { result ≡ record { problem = record { block = instrs_of block.now; profile = profile.now }; names = [] } }
+    {
         Marks {
             block,
             profile: *profile,
+            limit,
             entries: Vec::new(alloc),
             places: Vec::new(alloc),
             unsettled: Vec::new(alloc),
@@ -249,8 +285,24 @@ impl<'a> Marks<'a> {
         ensures known { IfSome result (λ found. Among found.0.now self.now.names) }
         ensures few { IfSome result (λ found. length found.0.now ≤ BLOCK_LIMIT) }
     {
-        let pushed = walk.pushed();
-        let mark = walk.mark();
+        self.find_by(walk, &walk.pushed(), &walk.mark(), rule)
+    }
+
+    /// What `find` finds, by the set of the prefix's numbers and its mark.
+    pub fn find_by(
+        &self,
+        walk: &Walk<'_>,
+        pushed: &Set,
+        mark: &Mark,
+        rule: Rule,
+    ) -> Option<(&[u8], Place)>
+        requires here { self.now.problem ≡ walk.now.problem }
+        requires pushed { (m : ℕ) → has m (numbers_in pushed.now) ≡ has m walk.now.numbers }
+        requires mark { IsMarkOf walk.now.problem walk.now.numbers mark.now }
+        ensures dominates { IfSome result (λ found. IsIncomplete walk.now.problem.block walk.now.numbers → DominatesByRule rule walk.now.problem found.0.now walk.now.numbers) }
+        ensures known { IfSome result (λ found. Among found.0.now self.now.names) }
+        ensures few { IfSome result (λ found. length found.0.now ≤ BLOCK_LIMIT) }
+    {
         let mut place = self.chains.first(pushed.hash());
         for _ in 0..self.entries.len() {
             let index = place as usize;
@@ -258,8 +310,8 @@ impl<'a> Marks<'a> {
                 return None;
             }
             let entry = &self.entries[index];
-            if entry.pushed == pushed
-                && is_dominating(rule, entry.numbers.as_slice(), &entry.mark, walk, &mark)
+            if entry.pushed == *pushed
+                && is_dominating(rule, entry.numbers.as_slice(), &entry.mark, walk, mark)
             {
                 return Some((entry.numbers.as_slice(), self.places[index]));
             }
@@ -269,7 +321,7 @@ impl<'a> Marks<'a> {
     }
 
     /// Keeps an entry and the node that it is, where there is room.
-    fn keep(&mut self, entry: Entry, line: Place) -> Result<(), AllocError>
+    fn keep(&mut self, entry: Entry, place: Place) -> Result<(), AllocError>
         requires { IsEntry self.old.problem entry }
         ensures same { self.new.problem ≡ self.old.problem }
         ensures known { (name : List ℕ) → Among name self.new.names → (name ≡ entry.numbers.items) ⊎ Among name self.old.names }
@@ -279,7 +331,7 @@ impl<'a> Marks<'a> {
             Some(index) => index as usize,
             None => self.entries.len(),
         };
-        if index >= TABLE_LIMIT {
+        if index >= self.limit.min(TABLE_LIMIT) {
             return Ok(());
         }
         make_place(
@@ -288,7 +340,7 @@ impl<'a> Marks<'a> {
             &mut self.unsettled,
             self.entries.as_slice(),
             index,
-            line,
+            place,
         )?;
         put_entry(&mut self.entries, index, entry)?;
         self.chains.put(hash, index as u32);
@@ -302,26 +354,48 @@ impl<'a> Marks<'a> {
         ensures same { self.new.problem ≡ self.old.problem }
         ensures known { (name : List ℕ) → Among name self.new.names → (name ≡ walk.now.numbers) ⊎ Among name self.old.names }
     {
-        let pushed = walk.pushed();
-        let mark = walk.mark();
+        let entry = Entry {
+            pushed: walk.pushed(),
+            mark: walk.mark(),
+            numbers: copy_of(walk.numbers()),
+        };
+        let line = line.min(u32::MAX as usize) as u32;
+        self.put(entry, Place::Line(line), rule);
+    }
+
+    /// Keeps an entry, which is this node, and forgets those beside which it is enough by the rule.
+    pub fn put(&mut self, entry: Entry, place: Place, rule: Rule)
+        requires { IsEntry self.old.problem entry }
+        ensures same { self.new.problem ≡ self.old.problem }
+        ensures known { (name : List ℕ) → Among name self.new.names → (name ≡ entry.numbers.items) ⊎ Among name self.old.names }
+    {
         let stay = remove_dominated(
             &mut self.chains,
             self.entries.as_slice(),
-            &pushed,
-            &mark,
+            &entry.pushed,
+            &entry.mark,
             rule,
         );
         if rule == Rule::ClampedStanding && stay >= LIST_LIMIT {
             return;
         }
-        let _ = self.keep(
-            Entry {
-                pushed,
-                mark,
-                numbers: copy_of(walk.numbers()),
-            },
-            Place::Line(line.min(u32::MAX as usize) as u32),
-        );
+        let _ = self.keep(entry, place);
+    }
+
+    /// Takes an entry out, with the node that it is. Until none is left, those that are left may not be found.
+    pub fn pop(&mut self) -> Option<(Entry, Place)>
+        ensures same { self.new.problem ≡ self.old.problem }
+        ensures some { IfSome result (λ taken. IsEntry self.old.problem taken.0 × (self.old.names ≡ self.new.names ++ numbers_of taken.0 ∷ [])) }
+        ensures none { IfNone result (self.old.names ≡ []) }
+    {
+        let entry = self.entries.pop()?;
+        let place = place_of(self.places.as_slice(), self.entries.len());
+        if self.entries.is_empty() {
+            self.chains.clear();
+            self.unsettled.clear();
+            self.places.clear();
+        }
+        Some((entry, place))
     }
 
     /// Says which nodes of a ledger the lines of the last piece have become: its root this one, and the others those from

@@ -1,13 +1,12 @@
 use crate::marks::Marks;
 use crate::vertex::{Name, Vertex};
 use crate::walk::Walk;
-use crate::whole_order::copy_of;
 use s66_model::Rule;
 use std::alloc::{AllocError, Global};
 use std::boxed::Box;
 
 /// What knows nodes that dominate others, while a tree is made.
-pub(crate) trait Naming {
+pub trait Naming {
     ghost use Rattle.std.specs.Prelude.{ℕ, List, ◌≡◌, ◌⊎◌, IfOk, IfSome};
     ghost use Rattle.s66_isa.specs.Lists.{Among};
     ghost use Rattle.s66_model.specs.declared.rule.Rule.TheVariants.{WrittenEarlier};
@@ -21,16 +20,19 @@ pub(crate) trait Naming {
     // the numbers of the nodes that it knows
     ghost names: { Self → List (List ℕ) };
 
-    /// A node that dominates the walk's prefix, as the rule asks, if one is known.
+    /// A node that dominates the walk's prefix, as the rule asks, if one is known. By the rule of earlier nodes it has these
+    /// numbers.
     fn find_name(
-        &self,
+        &mut self,
         alloc: Global,
         walk: &Walk<'_>,
         rule: Rule,
     ) -> Result<Option<Box<Name>>, AllocError>
-        requires suits { suits self.now walk.now.problem }
+        requires suits { suits self.old walk.now.problem }
+        ensures suits { suits self.new walk.now.problem }
+        ensures same { names self.new ≡ names self.old }
         ensures dominates { IfOk result (λ found. IfSome found (λ name. IsIncomplete walk.now.problem.block walk.now.numbers → DominatesByRule rule walk.now.problem name.value.numbers.items walk.now.numbers)) }
-        ensures known { IfOk result (λ found. IfSome found (λ name. Among name.value.numbers.items (names self.now))) };
+        ensures known { rule ≡ WrittenEarlier → IfOk result (λ found. IfSome found (λ name. Among name.value.numbers.items (names self.old))) };
 
     /// May know the walk's prefix from now on, which is split: this is its line.
     fn keep_split(&mut self, walk: &Walk<'_>, rule: Rule, line: usize)
@@ -58,7 +60,7 @@ impl Naming for NoNames {
     ghost names = { λ _. [] };
 
     fn find_name(
-        &self,
+        &mut self,
         _alloc: Global,
         _walk: &Walk<'_>,
         _rule: Rule,
@@ -79,19 +81,13 @@ impl Naming for Marks<'_> {
     ghost names = { λ marks. marks.names };
 
     fn find_name(
-        &self,
+        &mut self,
         alloc: Global,
         walk: &Walk<'_>,
         rule: Rule,
     ) -> Result<Option<Box<Name>>, AllocError> {
         match self.find(walk, rule) {
-            Some((numbers, place)) => Ok(Some(Box::new(
-                alloc,
-                Name {
-                    numbers: copy_of(numbers),
-                    place,
-                },
-            )?)),
+            Some((numbers, place)) => Ok(Some(Name::new(alloc, numbers, place)?)),
             None => Ok(None),
         }
     }

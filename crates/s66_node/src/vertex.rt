@@ -1,6 +1,8 @@
+use crate::whole_order::copy_of;
 use arrayvec::ArrayVec;
 use s66_dep::Set;
 use s66_isa::BLOCK_LIMIT;
+use std::alloc::{AllocError, Global};
 use std::boxed::Box;
 
 /// The byte of a line whose prefix carries its floor as leaf.
@@ -42,6 +44,23 @@ pub struct Name {
     pub numbers: ArrayVec<u8, BLOCK_LIMIT>,
     /// Where it may be found.
     pub place: Place,
+}
+
+impl Name {
+    ghost use Rattle.std.specs.Prelude.{◌≡◌, ◌≤◌, IfOk, length};
+    ghost use Rattle.s66_isa.specs.declared.limits.TheConstants.{BLOCK_LIMIT};
+
+    /// The node with these numbers, which may be found there.
+    pub fn new(alloc: Global, numbers: &[u8], place: Place) -> Result<Box<Name>, AllocError>
+        requires { length numbers.now ≤ BLOCK_LIMIT }
+        ensures { IfOk result (λ name. name.value.numbers.items ≡ numbers.now) }
+    {
+        let name = Name {
+            numbers: copy_of(numbers),
+            place,
+        };
+        Ok(Box::new(alloc, name)?)
+    }
 }
 
 /// A line of a piece's tree, which stands in preorder. A value is that of the prefix's floor, in minor cycles.

@@ -211,14 +211,14 @@ impl<'a> Walk<'a> {
     }
 
     /// What decides how soon each completion of the prefix can be done.
-    pub(crate) fn mark(&self) -> Mark
+    pub fn mark(&self) -> Mark
         ensures { IsMarkOf self.now.problem self.now.numbers result }
     {
         self.clock.mark()
     }
 
     /// The set of the prefix's numbers.
-    pub(crate) fn pushed(&self) -> Set
+    pub fn pushed(&self) -> Set
         ensures { (m : ℕ) → has m (numbers_in result) ≡ has m self.now.numbers }
     {
         self.clock.pushed()

@@ -126,6 +126,49 @@ fn check_settled<R: AllocGlobal + Abort>(rt: &R, block: &Block) {
     );
 }
 
+/// Moves the last entry of a table to another one.
+fn move_last(from: &mut Marks, to: &mut Marks, rule: Rule)
+    requires { to.old.problem ≡ from.old.problem }
+    ensures from { from.new.problem ≡ from.old.problem }
+    ensures to { to.new.problem ≡ to.old.problem }
+{
+    if let Some((entry, place)) = from.pop() {
+        to.put(entry, place, rule);
+    }
+}
+
+/// Checks that entries go from one table to another with their nodes, the last first, and that no more are kept than a table is
+/// made for.
+fn check_moved<R: AllocGlobal + Abort>(rt: &R, block: &Block) {
+    let rule = Rule::ClampedStanding;
+    let profile = Profile::standard();
+    let mut own = Marks::new(rt.alloc(), block, &profile);
+    let mut two = Marks::with_limit(rt.alloc(), block, &profile, 2);
+    keep(rt, &mut own, block, rule, &[1], 3);
+    keep(rt, &mut own, block, rule, &[1, 3, 2], 4);
+    // it dominates the last, which goes
+    keep(rt, &mut own, block, rule, &[1, 2, 3], 5);
+    keep(rt, &mut own, block, rule, &[1, 2, 4], 6);
+    for _ in 0..4u32 {
+        move_last(&mut own, &mut two, rule);
+    }
+    assert_eq!(rt;
+        found(rt, &two, block, rule, &[1, 2, 4]),
+        Some(Place::Line(6))
+    );
+    assert_eq!(rt;
+        found(rt, &two, block, rule, &[1, 3, 2]),
+        Some(Place::Line(5))
+    );
+    assert_eq!(rt; found(rt, &two, block, rule, &[1]), None);
+    assert_eq!(rt; found(rt, &own, block, rule, &[1, 2, 4]), None);
+    keep(rt, &mut own, block, rule, &[1, 2, 4], 7);
+    assert_eq!(rt;
+        found(rt, &own, block, rule, &[1, 2, 4]),
+        Some(Place::Line(7))
+    );
+}
+
 #[test]
 fn finds_dominating_marks(rt: HostRuntime) -> Result<(), Fail> {
     let source = read_source(rt.alloc(), LATE_READER.as_bytes())?;
@@ -133,6 +176,7 @@ fn finds_dominating_marks(rt: HostRuntime) -> Result<(), Fail> {
     check_late_reader(&rt, block);
     check_earlier(&rt, block);
     check_settled(&rt, block);
+    check_moved(&rt, block);
     Ok(())
 }
 

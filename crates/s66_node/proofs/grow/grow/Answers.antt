@@ -1,8 +1,8 @@
-use Rattle.std.proofs.Common.{ℕ, ◌+◌, ◌-◌, ◌*◌, ◌≤◌, ◌≡◌, ◌++◌, ◌∷◌, [], List, Option, IfSome, IfNone, IsTrue, nat_lt, true, arith, inl, inr, sym, ◌∙◌, ap, subst, refl, length, length-append}
+use Rattle.std.proofs.Common.{ℕ, ◌+◌, ◌-◌, ◌*◌, ◌≤◌, ◌≡◌, ◌⊎◌, ◌++◌, ◌∷◌, [], List, Option, IfSome, IfNone, IsTrue, nat_lt, true, arith, inl, inr, sym, ◌∙◌, ap, subst, refl, length, length-append}
 use Rattle.std.proofs.lemmas.Bool.{lt-ltb, ltb-true, true≢false}
 use Rattle.s66_isa.specs.declared.limits.TheConstants.{BLOCK_LIMIT}
 use Rattle.s66_isa.specs.Lists.{Among}
-use Rattle.s66_model.specs.declared.rule.Rule.TheVariants.{NoneNamed}
+use Rattle.s66_model.specs.declared.rule.Rule.TheVariants.{NoneNamed, WrittenEarlier}
 use Rattle.s66_model.specs.Timing.{Problem}
 use Rattle.s66_model.specs.Stated.{Stated, StatedPassed}
 use Rattle.s66_model.specs.LegalOrder.{ready, is_ready}
@@ -92,7 +92,7 @@ loop-frame-preserved-in-Some-child g c =
     let own : now.problem ≡ b = ap (λ (w : Walked). w.problem) c.push-in-Some-pop_first-2.ensures ∙ lf.invariant.problem in
     let next : now.numbers ≡ lf.walk.numbers ++ c.in-Some-pop_first.n ∷ [] = ap (λ (w : Walked). w.numbers) c.push-in-Some-pop_first-2.ensures in
     let up : c.undo.new.self.numbers ≡ front now.numbers = ap (λ (w : Walked). w.numbers) c.undo.ensures in
-    let (stated, line, stated_now, named) = subst (λ (o : Option Vertex). IfSome o (λ k. (stated : Stated) × (seen_vertex k ≡ AtTerminal stated) × IsStated c.args.rule now.problem (span lf.best c.unsplit_child.new.best) now.numbers stated × ((value : ℕ) (name : List ℕ) → stated ≡ StatedPassed value name → Among name (g.N.Naming.names lf.names)))) c.in-Some-child.is c.in_ok-child.ensures.stated in
+    let (stated, line, stated_now, named) = subst (λ (o : Option Vertex). IfSome o (λ k. (stated : Stated) × (seen_vertex k ≡ AtTerminal stated) × IsStated c.args.rule now.problem (span lf.best c.unsplit_child.new.best) now.numbers stated × (c.args.rule ≡ WrittenEarlier → (value : ℕ) (name : List ℕ) → stated ≡ StatedPassed value name → Among name (g.N.Naming.names lf.names)))) c.in-Some-child.is c.in_ok-child.ensures.stated in
     let vertices = seen-push lf.vertices.items c.push-in-Some-child.new.self.items c.in-Some-child.vertex (AtTerminal stated) c.in_ok-push-in-Some-child.ensures.items line in
     record {
       problem = ap (λ (w : Walked). w.problem) c.undo.ensures ∙ own;
@@ -107,7 +107,7 @@ loop-frame-preserved-in-Some-child g c =
           let lower : (found : List (List ℕ)) → IsLeast now.problem found lf.least → IsLeast now.problem (found ++ whole_stated now.problem now.numbers stated) c.keep_whole-in-Some-child.new.least =
           λ found h. c.keep_whole-in-Some-child.ensures c.args.rule best stated found line holds h in
           walk-terminal c.args.rule b best c.args.allowance root lf.walk.numbers lf.frames.items c.pop.new.self.items c.in-Some-pop.frame (seen lf.vertices.items) lf.splits lf.least (g.N.Naming.names lf.names) (lf.invariant.walk low old) c.in-Some-pop.ensures.items
-          c.in-Some-pop_first.n c.pop_first.new.self c.push-in-Some-pop_first.new.self.items (seen c.push-in-Some-child.new.self.items) c.keep_whole-in-Some-child.new.least (g.N.Naming.names c.keep_terminal-in-Some-child.new.self) stated now.problem now.numbers c.undo.new.self.numbers c.keep_terminal-in-Some-child.ensures.known named
+          c.in-Some-pop_first.n c.pop_first.new.self c.push-in-Some-pop_first.new.self.items (seen c.push-in-Some-child.new.self.items) c.keep_whole-in-Some-child.new.least (g.N.Naming.names c.keep_terminal-in-Some-child.new.self) stated now.problem now.numbers c.undo.new.self.numbers (λ by. c.keep_terminal-in-Some-child.ensures.known by ∙ c.unsplit_child.ensures.same) named
           c.in-Some-pop_first.ensures.some c.push-in-Some-pop_first.ensures.items own next up holds vertices lower;
     }
 
@@ -150,8 +150,10 @@ loop-frame-preserved-in-None g c =
       walk = λ low le.
           let best = span (g.L.Least.kept c.args.incumbent.now) low in
           let old : low ≤ lf.best = omega (arith, le, c.unsplit_child.ensures.falls) in
+          let kept : (name : List ℕ) → Among name (g.N.Naming.names c.keep_split-in-None.new.self) → (name ≡ now.numbers) ⊎ Among name (g.N.Naming.names lf.names) =
+          λ name among. subst (λ names. (name ≡ now.numbers) ⊎ Among name names) c.unsplit_child.ensures.same (c.keep_split-in-None.ensures.known name among) in
           walk-split c.args.rule b best c.args.allowance root lf.walk.numbers lf.frames.items c.pop.new.self.items c.in-Some-pop.frame (seen lf.vertices.items) lf.splits lf.least (g.N.Naming.names lf.names) (lf.invariant.walk low old) c.in-Some-pop.ensures.items
-          c.in-Some-pop_first.n c.pop_first.new.self c.ready-ready-in-None.result c.push-in-Some-pop_first.new.self.items c.push-in-None-2.new.self.items (seen c.push-in-None.new.self.items) (g.N.Naming.names c.keep_split-in-None.new.self) now.problem now.numbers c.keep_split-in-None.ensures.known
+          c.in-Some-pop_first.n c.pop_first.new.self c.ready-ready-in-None.result c.push-in-Some-pop_first.new.self.items c.push-in-None-2.new.self.items (seen c.push-in-None.new.self.items) (g.N.Naming.names c.keep_split-in-None.new.self) now.problem now.numbers kept
           c.in-Some-pop_first.ensures.some c.push-in-Some-pop_first.ensures.items c.push-in-None-2.ensures.items own next due c.ready-ready-in-None.ensures vertices (ltb-true lf.splits c.args.allowance (subst (λ (o : Option Vertex). IfNone o (IsTrue (nat_lt lf.splits c.args.allowance))) c.in-None.is c.in_ok-child.ensures.may));
     }
 

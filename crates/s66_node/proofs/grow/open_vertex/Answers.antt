@@ -1,5 +1,6 @@
-use Rattle.std.proofs.Common.{IfSome, refl, subst}
+use Rattle.std.proofs.Common.{◌≡◌, IfSome, refl, subst}
 use Rattle.s66_isa.specs.Lists.{Among}
+use Rattle.s66_model.specs.declared.rule.Rule.TheVariants.{WrittenEarlier}
 use Rattle.s66_model.specs.LegalOrder.{IsIncomplete}
 use Rattle.s66_model.specs.DominatedLeaves.{DominatesByRule}
 use Rattle.s66_model.specs.Stated.{StatedFrontier, StatedPassed}
@@ -13,13 +14,13 @@ returns-in-Some-clause-stated g c =
     let at = c.args.walk.now.numbers in
     let numbers = c.in-Some.name.value.numbers.items in
     let dominates : IsIncomplete b.block at → DominatesByRule c.args.rule b numbers at = subst (λ found. IfSome found (λ name. IsIncomplete b.block at → DominatesByRule c.args.rule b name.value.numbers.items at)) c.in-Some.is c.in_ok-name.ensures.dominates in
-    let known : Among numbers (g.N.Naming.names c.args.names.now) = subst (λ found. IfSome found (λ name. Among name.value.numbers.items (g.N.Naming.names c.args.names.now))) c.in-Some.is c.in_ok-name.ensures.known in (
+    let known : c.args.rule ≡ WrittenEarlier → Among numbers (g.N.Naming.names c.args.names.now) = λ by. subst (λ found. IfSome found (λ name. Among name.value.numbers.items (g.N.Naming.names c.args.names.now))) c.in-Some.is (c.in_ok-name.ensures.known by) in (
       StatedPassed c.args.value numbers,
       refl,
       (c.requires.value, due, dominates due.0),
-      λ value name is. subst (λ x. Among x (g.N.Naming.names c.args.names.now)) (passed-name c.args.value numbers value name is) known,
+      λ by value name is. subst (λ x. Among x (g.N.Naming.names c.args.names.now)) (passed-name c.args.value numbers value name is) (known by),
     )
 
 pub returns-else-may_split-clause-stated : goal.returns-else-may_split-clause-stated
 returns-else-may_split-clause-stated g c =
-    λ best due. (StatedFrontier c.args.value, refl, (c.requires.value, due), λ value name is. absurd cc)
+    λ best due. (StatedFrontier c.args.value, refl, (c.requires.value, due), λ by value name is. absurd cc)

@@ -11,7 +11,7 @@ copy_of-requires c =
 pub returns-clause-known : goal.returns-clause-known
 returns-clause-known c =
     λ name among.
-    elim (c.keep.ensures.known name among) [
+    elim (c.put.ensures.known name among) [
       | inl is ↦ inl (is ∙ (c.copy_of.ensures ∙ c.numbers.ensures.value))
-      | inr before ↦ inr (subst (λ (m : MarkTable). Among name m.names) c.self.view_is before)
+      | inr before ↦ inr before
     ]

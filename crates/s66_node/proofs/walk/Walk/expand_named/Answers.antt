@@ -13,9 +13,9 @@ use Rattle.s66_node.specs.Pieces.{IsBestTimed}
 use Rattle.s66_node.specs.Walked.{Walked}
 use Rattle.s66_node.specs.Walking.{span, IsGrown, IsLeast}
 use Rattle.s66_node.proofs.Pieces.{grown-least, piece-tree, piece-expansion, piece-kept}
-use Rattle.s66_node.proofs.walk.Walk.expand_by.Goals as goal
-use Rattle.s66_node.proofs.walk.Walk.expand_by.Goals.{In_ok-timed_of}
-use Rattle.s66_node.proofs.walk.Walk.expand_by.Given.{Over}
+use Rattle.s66_node.proofs.walk.Walk.expand_named.Goals as goal
+use Rattle.s66_node.proofs.walk.Walk.expand_named.Goals.{In_ok-timed_of}
+use Rattle.s66_node.proofs.walk.Walk.expand_named.Given.{Over}
 
 pub copy_of-requires : goal.copy_of-requires
 copy_of-requires g c =

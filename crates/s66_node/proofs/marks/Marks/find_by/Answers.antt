@@ -3,7 +3,7 @@ use Rattle.s66_isa.specs.Lists.{Among}
 use Rattle.s66_node.specs.declared.marks.Entry.{Entry}
 use Rattle.s66_node.specs.MarkTables.{MarkTable, numbers_of}
 use Rattle.s66_node.proofs.Earlier.{names-at}
-use Rattle.s66_node.proofs.marks.Marks.find.Goals as goal
+use Rattle.s66_node.proofs.marks.Marks.find_by.Goals as goal
 
 pub returns-then-is_dominating-clause-known : goal.returns-then-is_dominating-clause-known
 returns-then-is_dominating-clause-known c =
