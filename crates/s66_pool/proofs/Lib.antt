@@ -13,3 +13,4 @@ pub mod Turns
 pub mod Collecting
 pub mod Members
 pub mod HintSteps
+pub mod PartSteps

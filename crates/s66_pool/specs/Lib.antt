@@ -6,3 +6,4 @@ pub mod LockTokens
 pub mod Workers
 pub mod Victims
 pub mod Hints
+pub mod Parts

@@ -10,6 +10,7 @@ use crate::locals::{lanes_for, locals_for};
 use crate::member::{Local, Member};
 use crate::options::Options;
 use crate::seat::Seat;
+use crate::shared_marks::SharedMarks;
 use crate::victim::Victim;
 use crate::worker::{Site, work_at};
 use s66_isa::Profile;
@@ -24,7 +25,7 @@ use std::thread::Threads;
 /// Starts a worker for each seat, each in a thread of its own if one can be made, and else one after the other; waits for all of them,
 /// and gives the seats back, each in its place. A worker that runs out of memory ends.
 ///
-/// The workers share a hint of the best time, and each has a lane of nodes from which the others may steal. `Err` is out of memory for
+/// The workers share a hint of the best time and the marks that they have settled, and each has a lane of nodes from which the others may steal. `Err` is out of memory for
 /// these, and comes before a worker has started. Of the options only the rule is read.
 pub fn work<'a, R: AllocGlobal + Threads + Wait + Sync, G: Gate + Sync>(
     rt: &R,
@@ -45,6 +46,9 @@ pub fn work<'a, R: AllocGlobal + Threads + Wait + Sync, G: Gate + Sync>(
     }
     let alloc = rt.alloc();
     let workers = seats.len();
+    let Ok(marks) = SharedMarks::new(alloc, block, profile, options.rule) else {
+        return Err((AllocError, seats));
+    };
     let best = best_at_first(rt, hub, &mut seats);
     let Ok((hint, hint_seats)) = Hint::new(alloc, best, workers) else {
         return Err((AllocError, seats));
@@ -60,7 +64,7 @@ pub fn work<'a, R: AllocGlobal + Threads + Wait + Sync, G: Gate + Sync>(
     };
     seat_members(&mut members, &mut seats, locals);
     let places = members.as_mut_slice();
-    work_at_each(rt, hub, places, block, profile, options.rule, gate);
+    work_at_each(rt, hub, places, &marks, options.rule, gate);
     settle(rt, hub, places);
     take_seats(&mut seats, members);
     Ok(seats)
@@ -114,8 +118,7 @@ fn work_at_each<'a, R: AllocGlobal + Threads + Wait + Sync, G: Gate + Sync>(
     rt: &R,
     hub: &Hub<'a>,
     members: &mut [Member<'_, 'a>],
-    block: &Block,
-    profile: &Profile,
+    marks: &SharedMarks<'_>,
     rule: Rule,
     gate: &G,
 )
@@ -129,12 +132,11 @@ fn work_at_each<'a, R: AllocGlobal + Threads + Wait + Sync, G: Gate + Sync>(
         site: Site {
             rt,
             hub,
+            marks,
             gate,
             rule,
             searching: AtomicUsize::new(members.len()),
         },
-        block,
-        profile,
     };
     run_at_each(rt, &task, members);
 }
@@ -206,19 +208,18 @@ trait Task<T> {
 
 /// A worker's steps.
 #[derive(Drop)]
-struct MemberWork<'s, 'a, R, G> {
-    site: Site<'s, 'a, R, G>,
-    block: &'s Block<'s>,
-    profile: &'s Profile,
+struct MemberWork<'s, 'a, 'b, R, G> {
+    site: Site<'s, 'a, 'b, R, G>,
 }
 
-impl<'s, 't, 'a, R: AllocGlobal + Wait, G: Gate> Task<Member<'t, 'a>> for MemberWork<'s, 'a, R, G> {
+impl<'s, 't, 'a, 'b, R: AllocGlobal + Wait, G: Gate> Task<Member<'t, 'a>>
+    for MemberWork<'s, 'a, 'b, R, G> {
     ghost accepts = { λ t m. m.seat.hub ≡ t.site.hub.now.id };
 
     ghost changes = { λ t m r. IsSameMember m r };
 
     fn run(&self, at: &mut Member<'t, 'a>) {
-        work_at(&self.site, at, self.block, self.profile);
+        work_at(&self.site, at);
     }
 }
 

@@ -1,21 +1,22 @@
-use s66_isa::Profile;
+use crate::known::Known;
+use crate::shared_marks::SharedMarks;
 use s66_ledger::DOMINATED_PIECE_LIMIT;
-use s66_line::Block;
 use s66_model::Rule;
-use s66_node::{Least, Marks, Piece, Priority, Walk, schedule_below};
+use s66_node::{Least, Piece, Priority, Walk, schedule_below};
 use s66_time::Timed;
 use std::alloc::Global;
 use std::marker::Model;
+use std::sync::Wait;
 
-/// What a worker expands prefixes with: a walk, and the marks of the prefixes that it has seen, of one block and profile.
+/// What a worker expands prefixes with: a walk, and what it knows of nodes of the same block and profile.
 #[derive(Drop)]
-pub(crate) struct Expander<'b> {
+pub(crate) struct Expander<'s, 'b, R> {
     rule: Rule,
     walk: Walk<'b>,
-    marks: Marks<'b>,
+    known: Known<'s, 'b, R>,
 }
 
-impl<'b> Model for Expander<'b> {
+impl<'s, 'b, R> Model for Expander<'s, 'b, R> {
     ghost use Rattle.std.specs.Prelude.{◌≡◌};
     ghost use Rattle.s66_model.specs.Timing.{Problem};
 
@@ -23,20 +24,25 @@ impl<'b> Model for Expander<'b> {
 
     ghost view = { λ e. e.walk.problem };
 
-    ghost invariant = { λ e. e.marks.problem ≡ e.walk.problem };
+    ghost invariant = { λ e. e.known.problem ≡ e.walk.problem };
 }
 
-impl<'b> Expander<'b> {
+impl<'s, 'b, R: Wait> Expander<'s, 'b, R> {
     ghost use Rattle.std.specs.Prelude.{◌≡◌, ◌≤◌, IfSome};
     ghost use Rattle.s66_model.specs.Tree.{splits};
     ghost use Rattle.s66_node.specs.Pieces.{tree_of};
 
-    /// One that has seen nothing yet.
-    pub fn new(alloc: Global, block: &'b Block<'b>, profile: &Profile, rule: Rule) -> Expander<'b> {
+    /// One that has seen nothing yet, beside what all have settled.
+    pub fn new(
+        alloc: Global,
+        rt: &'s R,
+        marks: &'s SharedMarks<'b>,
+        rule: Rule,
+    ) -> Expander<'s, 'b, R> {
         Expander {
             rule,
-            walk: Walk::new(block, profile),
-            marks: Marks::new(alloc, block, profile),
+            walk: Walk::new(marks.block(), marks.profile()),
+            known: Known::new(alloc, rt, marks),
         }
     }
 
@@ -62,17 +68,21 @@ impl<'b> Expander<'b> {
         };
         let piece = match rule {
             Rule::NoneNamed => self.walk.expand_with(alloc, prefix, incumbent, most),
-            Rule::WrittenEarlier | Rule::ClampedStanding => self
-                .walk
-                .expand_dominated(alloc, prefix, incumbent, most, &mut self.marks, rule),
+            Rule::WrittenEarlier | Rule::ClampedStanding => {
+                self.known.forget_lines();
+                self.walk
+                    .expand_named(alloc, prefix, incumbent, most, rule, &mut self.known)
+            }
         };
         piece.ok()
     }
 
-    /// Says which nodes of the ledger its last piece has become: the node of this number, and those from `first` on. A piece of which
-    /// that isn't said is forgotten by the next.
+    /// Lets all workers know the nodes of the ledger that its last piece has become: the node of this number, and those from `first`
+    /// on. A piece of which that isn't said is forgotten by the next.
     pub fn settle(&mut self, root: u32, first: u32) {
-        self.marks.settle(root, first);
+        if self.rule == Rule::ClampedStanding {
+            self.known.settle(self.rule, root, first);
+        }
     }
 
     /// A list schedule from its prefix on, if its time is below the best.

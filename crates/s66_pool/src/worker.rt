@@ -7,10 +7,9 @@ use crate::hub::Hub;
 use crate::limits::{CLAIMS_LIMIT, LOOKS, NONES_LIMIT};
 use crate::member::Member;
 use crate::seat::Seat;
+use crate::shared_marks::SharedMarks;
 use crate::supply::{Needs, Supply};
-use s66_isa::Profile;
 use s66_ledger::{Offered, SCHEDULE_ROUNDS, Ticket};
-use s66_line::Block;
 use s66_model::Rule;
 use s66_node::Piece;
 use s66_time::Timed;
@@ -21,9 +20,11 @@ use std::thread::yield_now;
 
 /// Where workers search.
 #[derive(Drop)]
-pub(crate) struct Site<'s, 'a, R, G> {
+pub(crate) struct Site<'s, 'a, 'b, R, G> {
     pub rt: &'s R,
     pub hub: &'s Hub<'a>,
+    /// Of the search's block and profile.
+    pub marks: &'s SharedMarks<'b>,
     pub gate: &'s G,
     /// Of the hub's dominated leaves.
     pub rule: Rule,
@@ -33,8 +34,8 @@ pub(crate) struct Site<'s, 'a, R, G> {
 
 /// A worker of a search, with what it keeps from step to step.
 #[derive(Drop)]
-struct Worker<'b> {
-    expander: Expander<'b>,
+struct Worker<'s, 'b, R> {
+    expander: Expander<'s, 'b, R>,
     /// How many splits are left of what it was granted.
     allowance: u32,
     has_claimed: bool,
@@ -59,15 +60,13 @@ enum Step {
 
 /// A worker's steps, until there is nothing more for it to do; then it gives the nodes of its lane back, and retires.
 pub(crate) fn work_at<'a, R: AllocGlobal + Wait, G: Gate>(
-    site: &Site<'_, 'a, R, G>,
+    site: &Site<'_, 'a, '_, R, G>,
     member: &mut Member<'_, 'a>,
-    block: &Block,
-    profile: &Profile,
 )
     requires { member.old.seat.hub ≡ site.now.hub.now.id }
     ensures { IsSameMember member.old member.new }
 {
-    let mut worker = Worker::new(site.rt.alloc(), block, profile, site.rule);
+    let mut worker = Worker::new(site.rt.alloc(), site.rt, site.marks, site.rule);
     let mut step = Step::Claim;
     for _ in site.rt.forever() {
         step = match step {
@@ -86,16 +85,16 @@ pub(crate) fn work_at<'a, R: AllocGlobal + Wait, G: Gate>(
     let _ = site.hub.retire(site.rt, &mut member.seat);
 }
 
-impl<'b> Worker<'b> {
+impl<'s, 'b, R: AllocGlobal + Wait> Worker<'s, 'b, R> {
     ghost use Rattle.std.specs.Prelude.{◌≡◌, ◌≤◌};
     ghost use Rattle.s66_model.specs.Tree.{splits};
     ghost use Rattle.s66_node.specs.Pieces.{tree_of};
     ghost use Rattle.s66_pool.specs.Workers.{IsSameMember, IsSameSeat};
 
     /// A worker that has done nothing yet.
-    fn new(alloc: Global, block: &'b Block<'b>, profile: &Profile, rule: Rule) -> Worker<'b> {
+    fn new(alloc: Global, rt: &'s R, marks: &'s SharedMarks<'b>, rule: Rule) -> Worker<'s, 'b, R> {
         Worker {
-            expander: Expander::new(alloc, block, profile, rule),
+            expander: Expander::new(alloc, rt, marks, rule),
             allowance: 0,
             has_claimed: false,
             nones: 0,
@@ -104,9 +103,9 @@ impl<'b> Worker<'b> {
     }
 
     /// Takes the next node of its own lane, or steals one from the others, or claims some.
-    fn find<'a, R: AllocGlobal + Wait, G: Gate>(
+    fn find<'a, G: Gate>(
         &mut self,
-        site: &Site<'_, 'a, R, G>,
+        site: &Site<'_, 'a, '_, R, G>,
         member: &mut Member<'_, 'a>,
     ) -> Step
         requires { member.old.seat.hub ≡ site.now.hub.now.id }
@@ -122,11 +121,7 @@ impl<'b> Worker<'b> {
     }
 
     /// Whether it may claim, after a grant if it has no allowance: if it has some then, or hasn't claimed yet.
-    fn may_claim<'a, R: Wait, G: Gate>(
-        &mut self,
-        site: &Site<'_, 'a, R, G>,
-        seat: &mut Seat<'a>,
-    ) -> bool
+    fn may_claim<'a, G: Gate>(&mut self, site: &Site<'_, 'a, '_, R, G>, seat: &mut Seat<'a>) -> bool
         requires { seat.old.hub ≡ site.now.hub.now.id }
         ensures { IsSameSeat seat.old seat.new }
     {
@@ -141,9 +136,9 @@ impl<'b> Worker<'b> {
     }
 
     /// Claims nodes if it may.
-    fn claim<'a, R: AllocGlobal + Wait, G: Gate>(
+    fn claim<'a, G: Gate>(
         &mut self,
-        site: &Site<'_, 'a, R, G>,
+        site: &Site<'_, 'a, '_, R, G>,
         member: &mut Member<'_, 'a>,
     ) -> Step
         requires { member.old.seat.hub ≡ site.now.hub.now.id }
@@ -167,9 +162,9 @@ impl<'b> Worker<'b> {
     }
 
     /// Takes up what it has claimed: tells the gate of each claim, and puts all nodes but the first into its lane.
-    fn take_up<'a, R: Wait, G: Gate>(
+    fn take_up<'a, G: Gate>(
         &mut self,
-        site: &Site<'_, 'a, R, G>,
+        site: &Site<'_, 'a, '_, R, G>,
         member: &mut Member<'_, 'a>,
         supply: Supply,
         mut claimed: Vec<Ticket>,
@@ -201,7 +196,7 @@ impl<'b> Worker<'b> {
     }
 
     /// Waits for nodes, since it found none; it ends if none will be there, or after `NONES_LIMIT` times in a row.
-    fn wait_for_nodes<'a, R, G>(&mut self, site: &Site<'_, 'a, R, G>) -> Step {
+    fn wait_for_nodes<'a, G>(&mut self, site: &Site<'_, 'a, '_, R, G>) -> Step {
         site.searching.fetch_sub(1, Ordering::SeqCst);
         let others_search = is_searched(&site.searching);
         site.searching.fetch_add(1, Ordering::SeqCst);
@@ -213,9 +208,9 @@ impl<'b> Worker<'b> {
     }
 
     /// Expands a node and hands its piece in.
-    fn expand<'a, R: AllocGlobal + Wait, G: Gate>(
+    fn expand<'a, G: Gate>(
         &mut self,
-        site: &Site<'_, 'a, R, G>,
+        site: &Site<'_, 'a, '_, R, G>,
         member: &mut Member<'_, 'a>,
         ticket: Ticket,
     ) -> Step
@@ -236,9 +231,9 @@ impl<'b> Worker<'b> {
     }
 
     /// Offers a piece's best whole order, grafts the piece, and in the same turn gets what it then needs.
-    fn hand_in<'a, R: AllocGlobal + Wait, G: Gate>(
+    fn hand_in<'a, G: Gate>(
         &mut self,
-        site: &Site<'_, 'a, R, G>,
+        site: &Site<'_, 'a, '_, R, G>,
         member: &mut Member<'_, 'a>,
         ticket: Ticket,
         piece: &Piece,
@@ -279,9 +274,9 @@ impl<'b> Worker<'b> {
     }
 
     /// Goes on after the turn of its graft, with the node that it had found before it or with those that it claimed in it.
-    fn go_on<'a, R: Wait, G: Gate>(
+    fn go_on<'a, G: Gate>(
         &mut self,
-        site: &Site<'_, 'a, R, G>,
+        site: &Site<'_, 'a, '_, R, G>,
         member: &mut Member<'_, 'a>,
         needs: Needs,
         supply: Supply,
@@ -306,9 +301,9 @@ impl<'b> Worker<'b> {
 
     /// Counts a piece that was grafted, and offers a list schedule if it is time; then comes the next step. If out of memory the worker
     /// ends, and gives its next node back.
-    fn end_round<'a, R: Wait, G: Gate>(
+    fn end_round<'a, G: Gate>(
         &mut self,
-        site: &Site<'_, 'a, R, G>,
+        site: &Site<'_, 'a, '_, R, G>,
         member: &mut Member<'_, 'a>,
         next: Step,
     ) -> Step
@@ -327,9 +322,9 @@ impl<'b> Worker<'b> {
 
     /// Offers a list schedule from the walk's prefix on, after each `SCHEDULE_ROUNDS` rounds and if its time is below the best; false if
     /// out of memory.
-    fn offer_sometimes<'a, R: Wait, G: Gate>(
+    fn offer_sometimes<'a, G: Gate>(
         &mut self,
-        site: &Site<'_, 'a, R, G>,
+        site: &Site<'_, 'a, '_, R, G>,
         member: &mut Member<'_, 'a>,
     ) -> bool
         requires { member.old.seat.hub ≡ site.now.hub.now.id }
@@ -348,7 +343,7 @@ impl<'b> Worker<'b> {
 
 /// Offers a piece's best whole order, if its time is below the best; false if out of memory.
 fn offer_whole<'a, R: Wait, G: Gate>(
-    site: &Site<'_, 'a, R, G>,
+    site: &Site<'_, 'a, '_, R, G>,
     member: &mut Member<'_, 'a>,
     piece: &Piece,
 ) -> bool
@@ -365,7 +360,7 @@ fn offer_whole<'a, R: Wait, G: Gate>(
 
 /// Offers an order, and lowers the hint to the best time that the ledger then has; false if out of memory.
 fn offer<'a, R: Wait, G: Gate>(
-    site: &Site<'_, 'a, R, G>,
+    site: &Site<'_, 'a, '_, R, G>,
     member: &mut Member<'_, 'a>,
     timed: Timed,
 ) -> bool
@@ -392,7 +387,7 @@ fn room_for(alloc: Global, needs: Needs) -> Result<Vec<Ticket>, AllocError>
 }
 
 /// Tells the gate of each claim of a turn: of those that got a node, and of the last if it got none.
-fn tell_gate<'a, R, G: Gate>(site: &Site<'_, 'a, R, G>, w: u8, nodes: usize, supply: Supply) {
+fn tell_gate<'a, R, G: Gate>(site: &Site<'_, 'a, '_, R, G>, w: u8, nodes: usize, supply: Supply) {
     for _ in 0..nodes {
         site.gate.after_claim(w, true);
     }
@@ -415,7 +410,7 @@ fn is_searched(searching: &AtomicUsize) -> bool {
 
 /// Puts nodes into the worker's lane, the last first; those for which it has no room go back to the hub.
 fn put_all<'a, R: Wait, G: Gate>(
-    site: &Site<'_, 'a, R, G>,
+    site: &Site<'_, 'a, '_, R, G>,
     member: &mut Member<'_, 'a>,
     mut claimed: Vec<Ticket>,
 )
@@ -430,7 +425,7 @@ fn put_all<'a, R: Wait, G: Gate>(
 }
 
 /// Gives the nodes of the worker's lane back.
-fn give_lane_back<'a, R: Wait, G: Gate>(site: &Site<'_, 'a, R, G>, member: &mut Member<'_, 'a>)
+fn give_lane_back<'a, R: Wait, G: Gate>(site: &Site<'_, 'a, '_, R, G>, member: &mut Member<'_, 'a>)
     requires { member.old.seat.hub ≡ site.now.hub.now.id }
     ensures { IsSameMember member.old member.new }
 {
@@ -444,7 +439,7 @@ fn give_lane_back<'a, R: Wait, G: Gate>(site: &Site<'_, 'a, R, G>, member: &mut 
 
 /// Gives a node back, if there is one.
 fn give_back_some<'a, R: Wait, G: Gate>(
-    site: &Site<'_, 'a, R, G>,
+    site: &Site<'_, 'a, '_, R, G>,
     seat: &mut Seat<'a>,
     ticket: Option<Ticket>,
 )
@@ -458,7 +453,7 @@ fn give_back_some<'a, R: Wait, G: Gate>(
 
 /// Gives a node back, with which the worker ends. If out of memory, its node stays out until the ledger is finished.
 fn give_back<'a, R: Wait, G: Gate>(
-    site: &Site<'_, 'a, R, G>,
+    site: &Site<'_, 'a, '_, R, G>,
     seat: &mut Seat<'a>,
     ticket: Ticket,
 ) -> Step

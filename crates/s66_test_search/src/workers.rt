@@ -139,6 +139,34 @@ fn work_is_done(rt: HostRuntime) -> Result<(), Fail> {
     Ok(())
 }
 
+/// Lets workers search five multiplies where any node may be named, and checks that they leave out some of the whole tree.
+fn check_named<R: AllocGlobal + Abort + Threads + Wait + Sync>(
+    rt: &R,
+    block: &Block,
+    workers: u8,
+) -> Result<(), Fail>
+    requires { (1 ≤ workers) × (workers ≤ WORKERS_LIMIT) }
+{
+    let options = Options {
+        workers,
+        nodes: BUDGET_LIMIT,
+        rule: Rule::ClampedStanding,
+    };
+    let answer = run(rt, block, &Profile::standard(), options, &Free)?;
+    assert_eq!(rt; (answer.time(), answer.bound()), (33, 33));
+    assert!(rt; answer.splits() < ALL_SPLITS, "{}", answer.splits());
+    Ok(())
+}
+
+/// What one piece has left out are nodes of earlier pieces, whichever worker made them.
+#[test]
+fn grafted_nodes_are_named(rt: HostRuntime) -> Result<(), Fail> {
+    let source = read_source(rt.alloc(), FIVE_MULTIPLIES.as_bytes())?;
+    let block = only_block(&source).expect(&rt, "one block");
+    check_named(&rt, block, 1)?;
+    check_named(&rt, block, 4)
+}
+
 /// After its first piece, of at most 64 splits, a worker claims several nodes: all but one go into its lane.
 #[test]
 fn lane_fills(rt: HostRuntime) -> Result<(), Fail> {

@@ -1,0 +1,96 @@
+use crate::shared_marks::{SharedMarks, Token, name_in};
+use s66_model::Rule;
+use s66_node::{Marks, Name, Naming, Place, Vertex, Walk};
+use std::alloc::{AllocError, Global};
+use std::boxed::Box;
+use std::marker::Model;
+use std::sync::Wait;
+
+/// What a worker knows of nodes that may dominate others: the lines of its own piece, and what all workers have settled.
+#[derive(Drop)]
+pub(crate) struct Known<'s, 'b, R> {
+    rt: &'s R,
+    own: Marks<'b>,
+    settled: &'s SharedMarks<'b>,
+    token: Token<'b>,
+}
+
+impl<'s, 'b, R> Model for Known<'s, 'b, R> {
+    ghost use Rattle.std.specs.Prelude.{◌≡◌};
+    ghost use Rattle.s66_node.specs.MarkTables.{MarkTable};
+    ghost use Rattle.s66_pool.specs.Parts.{IsAt};
+
+    ghost Value = { MarkTable };
+
+    ghost view = { λ k. k.own };
+
+    ghost invariant = { λ k. IsAt k.settled.now.table.shared.table_id k.settled.now.table.shared.key k.token × (k.settled.now.table.shared.key.problem ≡ k.own.problem) };
+}
+
+impl<'s, 'b, R: Wait> Known<'s, 'b, R> {
+    ghost use Rattle.std.specs.Prelude.{◌≡◌, []};
+
+    /// It knows no line yet.
+    pub(crate) fn new(alloc: Global, rt: &'s R, settled: &'s SharedMarks<'b>) -> Known<'s, 'b, R>
+        ensures { result ≡ record { problem = settled.now.table.shared.key.problem; names = [] } }
+    {
+        Known {
+            rt,
+            own: Marks::new(alloc, settled.block(), settled.profile()),
+            settled,
+            token: settled.token(),
+        }
+    }
+
+    /// Forgets the lines of its last piece.
+    pub(crate) fn forget_lines(&mut self)
+        ensures { self.new ≡ record self.old { names = [] } }
+    {
+        self.own.clear();
+    }
+
+    /// Lets all know the lines of its last piece, which have become nodes of the ledger: its root this one, and the others
+    /// those from `first` on.
+    pub(crate) fn settle(&mut self, rule: Rule, root: u32, first: u32)
+        ensures { self.new.problem ≡ self.old.problem }
+    {
+        while let Some((entry, place)) = self.own.pop() {
+            let node = Place::Node(place.number(root, first));
+            self.settled
+                .put(self.rt, &mut self.token, entry, node, rule);
+        }
+    }
+}
+
+impl<R: Wait> Naming for Known<'_, '_, R> {
+    ghost use Rattle.std.specs.Prelude.{◌≡◌};
+
+    ghost suits = { λ known b. known.problem ≡ b };
+
+    ghost names = { λ known. known.names };
+
+    fn find_name(
+        &mut self,
+        alloc: Global,
+        walk: &Walk<'_>,
+        rule: Rule,
+    ) -> Result<Option<Box<Name>>, AllocError> {
+        let pushed = walk.pushed();
+        let mark = walk.mark();
+        let own = name_in(alloc, &self.own, walk, &pushed, &mark, rule)?;
+        if own.is_some() || rule != Rule::ClampedStanding {
+            return Ok(own);
+        }
+        let token = &mut self.token;
+        self.settled
+            .find_name(self.rt, token, alloc, walk, &pushed, &mark, rule)
+    }
+
+    fn keep_split(&mut self, walk: &Walk<'_>, rule: Rule, line: usize) {
+        self.own.keep_split(walk, rule, line);
+    }
+
+    fn keep_terminal(&mut self, walk: &Walk<'_>, rule: Rule, line: usize, vertex: &Vertex) {
+        self.own.keep_terminal(walk, rule, line, vertex);
+    }
+}
