@@ -1,5 +1,5 @@
 -- Used by contracts within the crate alone: what the words of a clock are, by the points of what was pushed.
-use Rattle.std.specs.Prelude.{map, ◌==◌, ◌||◌, ℕ, ◌+◌, ◌≡◌, ◌≤◌, ◌<◌, if◌then◌else◌, max, min, List, [], ◌∷◌, length, get_or, set, nat_lt, ◌-◌}
+use Rattle.std.specs.Prelude.{map, ◌==◌, ◌||◌, ℕ, ◌+◌, ◌≡◌, ◌≤◌, ◌<◌, if◌then◌else◌, max, min, List, [], ◌∷◌, length, get_or, set, take, nat_lt, ◌-◌}
 use Rattle.s66_isa.specs.Table.{Reg, Row, touches, stores, kind_number, copies_of, same_reg, has_reg}
 use Rattle.s66_isa.specs.declared.instr.Kind.{Kind}
 use Rattle.s66_isa.specs.declared.instr.TheConstants.{KIND_COUNT}
@@ -113,8 +113,8 @@ pub record Takes (w w2 : Words) (q : Point) (place : ℕ) : Type 0 where
 abbrev pub after_undo : Words → Step → Words
 after_undo w k =
     record {
-      done = record { words = put_back k.done.items w.done.words };
-      read = record { words = put_back k.read.items w.read.words };
+      done = record { words = put_back (take k.done_count k.done) w.done.words };
+      read = record { words = put_back (take k.read_count k.read) w.read.words };
       units = record { words = set w.units.words k.unit k.free };
       worked = set w.worked k.kind k.worked;
       progress = k.progress;

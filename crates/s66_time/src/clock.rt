@@ -97,6 +97,7 @@ impl<'a> Clock<'a> {
     }
 
     /// Pushes a number that is ready; the time is that of the copies of its unit, whatever was pushed before.
+    #[inline(always)]
     pub fn push(&mut self, n: u8)
         requires { is_ready (instrs_of self.old.block) self.old.numbers n ≡ true }
         ensures value { self.new ≡ record self.old { numbers = self.old.numbers ++ n ∷ []; looks = self.new.looks } }
@@ -104,13 +105,14 @@ impl<'a> Clock<'a> {
     {
         let row = &self.rows[n as usize - 1];
         let copies = self.copies.at(row.kind);
-        let step = self.words.push(&self.profile, copies, n, row);
+        self.steps
+            .push(&mut self.words, &self.profile, copies, n, row);
         // a word for each unit of the kind and its work, each saved word twice, the six of the progress, and the record
-        self.looks = copies + 2 * step.words() + 8;
-        self.steps.push(step);
+        self.looks = copies + 2 * self.steps.last().words() + 8;
     }
 
     /// Takes back the last push, in constant time.
+    #[inline(always)]
     pub fn undo(&mut self)
         requires { 0 < length self.old.numbers }
         ensures value { self.new ≡ record self.old { numbers = take (length self.old.numbers - 1) self.old.numbers; looks = self.new.looks } }

@@ -1,4 +1,4 @@
-ghost use Rattle.std.specs.Prelude.{ℕ, ◌≡◌, ◌+◌, ◌<◌, ◌≤◌, map, if◌then◌else◌, length, max, nat_lt};
+ghost use Rattle.std.specs.Prelude.{ℕ, ◌≡◌, ◌+◌, ◌<◌, ◌≤◌, map, if◌then◌else◌, length, max, nat_lt, take};
 ghost use Rattle.s66_isa.specs.Lists.{greatest};
 ghost use Rattle.s66_isa.specs.Table.{Reg as RegOf, Write as WriteOf, same_reg, has_reg};
 ghost use Rattle.s66_model.specs.Timing.{ResultAt as ResultOf};
@@ -111,57 +111,54 @@ impl RegisterWords {
         results
     }
 
-    /// Raises the word of a register to a time, and saves what stood there.
-    fn raise<const N: usize>(&mut self, register: Reg, time: u32, saved: &mut ArrayVec<Saved, N>)
-        requires { length saved.old.items < N }
+    /// Raises the word of a register to a time, and saves at a place what stood there.
+    fn raise<const N: usize>(&mut self, register: Reg, time: u32, saved: &mut [Saved; N], at: usize)
+        requires { at < N }
         ensures words { (r : RegOf) → r.digit ≤ 7 → word_of self.new.words r ≡ max (word_of self.old.words r) (if same_reg register r then time else 0) }
-        ensures saved { put_back saved.new.items self.new.words ≡ put_back saved.old.items self.old.words }
-        ensures len { length saved.new.items ≡ length saved.old.items + 1 }
+        ensures saved { put_back (take (at + 1) saved.new) self.new.words ≡ put_back (take at saved.old) self.old.words }
     {
         let place = register.index();
         let word = self.words[place as usize];
-        saved.push(Saved { place, word });
+        saved[at] = Saved { place, word };
         self.words[place as usize] = word.max(time);
     }
 
-    /// Raises the words of the registers of results to the times at which they are done; it answers what stood there.
-    pub fn raise_results(&mut self, results: &[ResultAt]) -> ArrayVec<Saved, 2>
+    /// Raises the words of the registers of results to the times at which they are done, and saves what stood there, from the
+    /// first place on.
+    pub fn raise_results(&mut self, results: &[ResultAt], saved: &mut [Saved; 2])
         requires { length results.now ≤ 2 }
         ensures words { (r : RegOf) → r.digit ≤ 7 → word_of self.new.words r ≡ max (word_of self.old.words r) (greatest (λ (d : ResultOf). if same_reg d.reg r then d.time else 0) results.now) }
-        ensures saved { put_back result.items self.new.words ≡ self.old.words }
+        ensures saved { put_back (take (length results.now) saved.new) self.new.words ≡ self.old.words }
     {
-        let mut saved = ArrayVec::new();
         if results.is_empty() {
-            return saved;
+            return;
         }
         let first = results[0];
-        self.raise(first.reg, first.time, &mut saved);
+        self.raise(first.reg, first.time, saved, 0);
         if results.len() == 1 {
-            return saved;
+            return;
         }
         let second = results[1];
-        self.raise(second.reg, second.time, &mut saved);
-        saved
+        self.raise(second.reg, second.time, saved, 1);
     }
 
-    /// Raises the words of registers to a time; it answers what stood there.
-    pub fn raise_all(&mut self, registers: &[Reg], time: u32) -> ArrayVec<Saved, 4>
+    /// Raises the words of registers to a time, and saves what stood there, from the first place on.
+    pub fn raise_all(&mut self, registers: &[Reg], time: u32, saved: &mut [Saved; 4])
         requires { length registers.now ≤ 4 }
         ensures words { (r : RegOf) → r.digit ≤ 7 → word_of self.new.words r ≡ max (word_of self.old.words r) (if has_reg r registers.now then time else 0) }
-        ensures saved { put_back result.items self.new.words ≡ self.old.words }
+        ensures saved { put_back (take (length registers.now) saved.new) self.new.words ≡ self.old.words }
     {
-        let mut saved = ArrayVec::new();
-        for register in registers {
-            self.raise(*register, time, &mut saved);
+        for position in 0..registers.len() {
+            self.raise(registers[position], time, saved, position);
         }
-        saved
     }
 
-    /// Puts back what was saved, the last word first.
-    pub fn put_back(&mut self, saved: &[Saved])
-        ensures { self.new.words ≡ put_back saved.now self.old.words }
+    /// Puts back what was saved at so many places, the last word first.
+    pub fn put_back(&mut self, saved: &[Saved], count: usize)
+        requires { count ≤ length saved.now }
+        ensures { self.new.words ≡ put_back (take count saved.now) self.old.words }
     {
-        let mut left = saved.len();
+        let mut left = count;
         while left > 0 {
             left -= 1;
             let before = saved[left];

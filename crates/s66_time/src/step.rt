@@ -4,7 +4,6 @@ ghost use Rattle.s66_isa.specs.declared.reg.TheConstants.{REGISTER_COUNT};
 ghost use Rattle.s66_time.specs.declared.limits.TheConstants.{UNIT_LIMIT};
 
 use crate::progress::Progress;
-use arrayvec::ArrayVec;
 
 /// A word of a register before it was written.
 #[derive(Clone, Copy, Debug)]
@@ -35,12 +34,17 @@ pub struct Step {
     pub kind: u8,
     /// The word `Words::worked` of its kind.
     pub worked: u32,
-    /// The words `Words::done` of the registers that it writes.
-    pub done: ArrayVec<Saved, 2>,
-    /// The words `Words::read` of the registers that it reads.
-    pub read: ArrayVec<Saved, 4>,
+    /// How many registers it writes.
+    pub done_count: u8,
+    /// From the first place on, the words `Words::done` of the registers that it writes.
+    pub done: [Saved; 2],
+    /// How many registers it reads.
+    pub read_count: u8,
+    /// From the first place on, the words `Words::read` of the registers that it reads.
+    pub read: [Saved; 4],
     pub progress: Progress,
     ghost within: { (unit < UNIT_LIMIT) × (kind < KIND_COUNT) },
+    ghost few: { (done_count ≤ 2) × (read_count ≤ 4) },
 }
 
 impl Default for Step {
@@ -51,8 +55,10 @@ impl Default for Step {
             free: 0,
             kind: 0,
             worked: 0,
-            done: ArrayVec::new(),
-            read: ArrayVec::new(),
+            done_count: 0,
+            done: [Saved::default(); 2],
+            read_count: 0,
+            read: [Saved::default(); 4],
             progress: Progress::default(),
         }
     }
@@ -63,6 +69,6 @@ impl Step {
     pub fn words(&self) -> u32
         ensures { result ≤ 6 }
     {
-        (self.done.len() + self.read.len()) as u32
+        self.done_count as u32 + self.read_count as u32
     }
 }

@@ -1,9 +1,10 @@
-ghost use Rattle.std.specs.Prelude.{◌≡◌, ◌-◌, ◌<◌, ◌≤◌, ◌++◌, [], ◌∷◌, length, take, get_or};
+ghost use Rattle.std.specs.Prelude.{◌≡◌, ◌<◌, ◌≤◌, length, take};
 ghost use Rattle.s66_isa.specs.declared.limits.TheConstants.{BLOCK_LIMIT};
 
 use crate::step::Step;
+use crate::words::Words;
 use arrayvec::ArrayVec;
-use s66_isa::BLOCK_LIMIT;
+use s66_isa::{BLOCK_LIMIT, Profile, Row};
 use std::marker::Model;
 
 /// What the pushes of a clock wrote over, the oldest first. A step that is taken back stays in its place until another is written
@@ -26,6 +27,13 @@ impl Model for Steps {
 }
 
 impl Steps {
+    ghost use Rattle.std.specs.Prelude.{◌≡◌, ◌-◌, ◌<◌, ◌≤◌, ◌++◌, [], ◌∷◌, List, length, take, get_or};
+    ghost use Rattle.s66_isa.specs.Table.{copies_of};
+    ghost use Rattle.s66_model.specs.Timing.{Point, point};
+    ghost use Rattle.s66_time.specs.declared.limits.TheConstants.{COPIES_LIMIT};
+    ghost use Rattle.s66_time.specs.declared.step.Step.{Step as StepOf};
+    ghost use Rattle.s66_time.specs.ClockWords.{under, IsWords, InTurn, Follows, after_undo};
+
     /// No step.
     pub fn new() -> Steps
         ensures { result ≡ [] }
@@ -36,16 +44,20 @@ impl Steps {
         }
     }
 
-    /// Writes a step behind the last.
-    pub fn push(&mut self, step: Step)
-        requires { length self.old < BLOCK_LIMIT }
-        ensures { self.new ≡ self.old ++ step ∷ [] }
+    /// Places the next instruction on the words, and writes behind the last step what was written over; so many units are of its
+    /// kind.
+    #[inline(always)]
+    pub fn push(&mut self, words: &mut Words, profile: &Profile, copies: u32, number: u8, row: &Row)
+        requires room { length self.old < BLOCK_LIMIT }
+        requires copies { copies ≡ copies_of profile.now row.now.kind }
+        requires some { (1 ≤ copies) × (copies ≤ COPIES_LIMIT) }
+        requires number { (1 ≤ number) × (number ≤ BLOCK_LIMIT) }
+        requires follows { Follows profile.now words.old }
+        ensures step { (step : StepOf) × (self.new ≡ self.old ++ step ∷ []) × (step.number ≡ number) × (after_undo words.new step ≡ words.old) }
+        ensures words { (s : List Point) → IsWords profile.now s words.old → InTurn s → IsWords profile.now (point (under profile.now) s number row.now ∷ s) words.new }
     {
-        if self.count < self.places.len() {
-            self.places[self.count] = step;
-        } else {
-            self.places.push(step);
-        }
+        make_room(&mut self.places, self.count);
+        words.push(profile, copies, number, row, &mut self.places[self.count]);
         self.count += 1;
     }
 
@@ -63,5 +75,16 @@ impl Steps {
         ensures { self.new ≡ take (length self.old - 1) self.old }
     {
         self.count -= 1;
+    }
+}
+
+/// Makes room for a step behind so many.
+fn make_room(places: &mut ArrayVec<Step, BLOCK_LIMIT>, count: usize)
+    requires { (count ≤ length places.old.items) × (count < BLOCK_LIMIT) }
+    ensures room { count < length places.new.items }
+    ensures kept { take count places.new.items ≡ take count places.old.items }
+{
+    if count == places.len() {
+        places.push(Step::default());
     }
 }

@@ -108,6 +108,7 @@ impl Words {
     }
 
     /// The same, where so many units are of the instruction's kind.
+    #[inline(always)]
     fn tick_among(&self, profile: &Profile, copies: u32, row: &Row) -> Tick
         requires copies { copies ≡ copies_of profile.now row.now.kind }
         requires some { (1 ≤ copies) × (copies ≤ COPIES_LIMIT) }
@@ -132,56 +133,57 @@ impl Words {
         }
     }
 
-    /// Places the next instruction there, and answers what was written over.
-    pub fn take(&mut self, number: u8, row: &Row, tick: &Tick) -> Step
+    /// Places the next instruction there, and writes into the step what was written over.
+    #[inline(always)]
+    pub fn take(&mut self, number: u8, row: &Row, tick: &Tick, step: &mut Step)
         requires number { (1 ≤ number) × (number ≤ BLOCK_LIMIT) }
         requires early { (tick.now.issue ≤ TOTAL_LIMIT + 3) × (tick.now.parcel ≤ TOTAL_LIMIT + 3) × (tick.now.start ≤ TOTAL_LIMIT + 3) }
         requires worked { get_or self.old.worked (kind_number row.now.kind) 0 ≤ WORK_LIMIT }
-        ensures number { result.number ≡ number }
-        ensures back { after_undo self.new result ≡ self.old }
+        ensures number { step.new.number ≡ number }
+        ensures back { after_undo self.new step.new ≡ self.old }
         ensures takes { Takes self.old self.new (point_of_tick number row.now tick.now) tick.now.unit }
     {
-        let progress = self.progress;
-        let free = self.units.words[tick.unit];
-        let done = self.done.raise_results(tick.results.as_slice());
-        let read = self.read.raise_all(row.reads.as_slice(), tick.start + 1);
-        let kind = kind_number(row.kind);
-        let worked = self.worked[kind];
+        // written field by field where it stays: a step that is made and then moved costs as much as all the rest
+        step.number = number;
+        step.unit = tick.unit as u16;
+        step.free = self.units.words[tick.unit];
         self.units.words[tick.unit] = tick.free;
-        self.worked[kind] = worked + (row.hold + 1);
+        let kind = kind_number(row.kind);
+        step.kind = kind as u8;
+        step.worked = self.worked[kind];
+        self.worked[kind] = step.worked + (row.hold + 1);
+        let results = tick.results.as_slice();
+        step.done_count = results.len() as u8;
+        self.done.raise_results(results, &mut step.done);
+        let reads = row.reads.as_slice();
+        step.read_count = reads.len() as u8;
+        self.read.raise_all(reads, tick.start + 1, &mut step.read);
+        step.progress = self.progress;
         self.progress = self.progress.after(number, row, tick);
-        Step {
-            number,
-            unit: tick.unit as u16,
-            free,
-            kind: kind as u8,
-            worked,
-            done,
-            read,
-            progress,
-        }
     }
 
-    /// Places the next instruction, and answers what was written over; so many units are of its kind.
-    pub fn push(&mut self, profile: &Profile, copies: u32, number: u8, row: &Row) -> Step
+    /// Places the next instruction, and writes into the step what was written over; so many units are of its kind.
+    #[inline(always)]
+    pub fn push(&mut self, profile: &Profile, copies: u32, number: u8, row: &Row, step: &mut Step)
         requires copies { copies ≡ copies_of profile.now row.now.kind }
         requires some { (1 ≤ copies) × (copies ≤ COPIES_LIMIT) }
         requires number { (1 ≤ number) × (number ≤ BLOCK_LIMIT) }
         requires follows { Follows profile.now self.old }
-        ensures number { result.number ≡ number }
-        ensures back { after_undo self.new result ≡ self.old }
+        ensures number { step.new.number ≡ number }
+        ensures back { after_undo self.new step.new ≡ self.old }
         ensures words { (s : List Point) → IsWords profile.now s self.old → InTurn s → IsWords profile.now (point (under profile.now) s number row.now ∷ s) self.new }
     {
         let tick = self.tick_among(profile, copies, row);
-        self.take(number, row, &tick)
+        self.take(number, row, &tick, step);
     }
 
     /// Puts back what a push wrote over.
+    #[inline(always)]
     pub fn undo(&mut self, step: &Step)
         ensures { self.new ≡ after_undo self.old step.now }
     {
-        self.done.put_back(step.done.as_slice());
-        self.read.put_back(step.read.as_slice());
+        self.done.put_back(&step.done, step.done_count as usize);
+        self.read.put_back(&step.read, step.read_count as usize);
         self.units.words[step.unit as usize] = step.free;
         self.worked[step.kind as usize] = step.worked;
         self.progress = step.progress;

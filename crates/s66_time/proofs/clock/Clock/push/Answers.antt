@@ -12,24 +12,19 @@ use Rattle.s66_time.proofs.clock.Clock.push.Goals as goal
 ready-inside : (t u : Ticking) (n : ℕ) → t ≡ u → is_ready (instrs_of u.block) u.numbers n ≡ true → is_ready (instrs_of t.block) t.numbers n ≡ true
 ready-inside t u n same ready = subst (λ (v : Ticking). is_ready (instrs_of v.block) v.numbers n ≡ true) (sym same) ready
 
-pub push-step-requires : goal.push-step-requires
-push-step-requires c =
+pub push-requires : goal.push-requires
+push-requires c =
     let b : Problem = record { block = instrs_of c.self.inside.block.now; profile = c.self.inside.profile } in
     let ks = c.self.inside.steps in
     let ready = ready-inside _ _ c.args.n c.self.view_is c.requires in
     let parts = ready-parts (instrs_of c.self.inside.block.now) (numbers_of ks) c.args.n ready in
     record {
+      room = omega (arith, room-left b c.self.inside.words ks c.args.n c.self.invariant.clock ready);
       copies = c.at-copies.ensures.value ∙ c.self.invariant.counted c.row.inside.kind ∙ ap (λ (x : Row). copies_of b.profile x.kind) c.row.view_is;
       some = (c.at-copies.ensures.at_least, c.at-copies.ensures.at_most);
       number = (parts.0, omega (arith, parts.1, c.self.invariant.clock.few));
       follows = (points_of b (numbers_of ks), clock-words b c.self.inside.words ks c.self.invariant.clock, clock-turn b c.self.inside.words ks c.self.invariant.clock);
     }
-
-pub push-requires : goal.push-requires
-push-requires c =
-    let b : Problem = record { block = instrs_of c.self.inside.block.now; profile = c.self.inside.profile } in
-    let ready = ready-inside _ _ c.args.n c.self.view_is c.requires in
-    omega (arith, room-left b c.self.inside.words c.self.inside.steps c.args.n c.self.invariant.clock ready)
 
 pub invariant_of-self : goal.invariant_of-self
 invariant_of-self c =
@@ -39,8 +34,9 @@ invariant_of-self c =
     let parts = ready-parts (instrs_of c.self.inside.block.now) (numbers_of ks) c.args.n ready in
     let row : c.index-deref-n.result ≡ row b.profile (instr_at b.block c.args.n) =
     row-at b.profile b.block c.self.inside.rows.items (c.args.n - 1) c.args.n c.index-deref-n.result c.self.invariant.each (c.index-deref-n.is ∙ ap (λ xs. get_or xs (c.args.n - 1) c.index-deref-n.result) c.deref.ensures.0) (omega (arith, parts.0)) (omega (arith, parts.0, parts.1)) in
-    rw c.push.ensures (record {
-      clock = pushed-clock b c.self.inside.words c.push-step.new.self ks c.push-step.result c.args.n c.index-deref-n.result c.self.invariant.clock ready c.push-step.ensures.number row c.push-step.ensures.back c.push-step.ensures.words;
+    let (step, joined, number, back) = c.push.ensures.step in
+    rw joined (record {
+      clock = pushed-clock b c.self.inside.words c.push.new.words ks step c.args.n c.index-deref-n.result c.self.invariant.clock ready number row back c.push.ensures.words;
       counted = c.self.invariant.counted;
       kept = c.self.invariant.kept;
       each = c.self.invariant.each;

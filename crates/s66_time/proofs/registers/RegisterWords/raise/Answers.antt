@@ -1,4 +1,5 @@
-use Rattle.std.proofs.Common.{ap, ◌∙◌, ◌≡◌, max, set, get_or, refl, length, ◌<◌, subst, rules}
+use Rattle.std.proofs.Common.{ap, ◌∙◌, ◌≡◌, max, set, get_or, refl, length, ◌<◌, subst, rules, take}
+use Rattle.std.proofs.lemmas.List.{take_more_set}
 use Rattle.s66_isa.specs.Registers.{index_of, word_of}
 use Rattle.s66_time.specs.Places.{put_back}
 use Rattle.s66_isa.proofs.RegisterBits.{raised-word}
@@ -9,8 +10,8 @@ pub returns-clause-saved : goal.returns-clause-saved
 returns-clause-saved p c =
     let place = c.index-place.result in
     let words = c.args.self.now.words in
-    ap (λ ws. put_back ws (set words place c.max.result)) c.push.ensures.items
-    ∙ put_back-saved c.args.saved.now.items _ words c.max.result refl
+    ap (λ ws. put_back ws (set words place c.max.result)) (take_more_set c.args.saved.now c.args.at _ (search rules))
+    ∙ put_back-saved (take c.args.at c.args.saved.now) _ words c.max.result refl
 
 pub returns-clause-words : goal.returns-clause-words
 returns-clause-words p c = λ r low.
