@@ -106,11 +106,7 @@ fn over(work: u32, copies: u32) -> u32
     ensures value { result ≡ over work copies }
     ensures at_most { result ≤ work + COPIES_LIMIT }
 {
-    if copies == 1 {
-        work
-    } else {
-        (work + (copies - 1)) / copies
-    }
+    (work + (copies - 1)) / copies
 }
 
 /// The load of a kind of unit; it may be asked where nothing remains, too.
@@ -118,8 +114,13 @@ pub fn load_of(tables: &Tables, clock: &Clock<'_>, kind: Kind) -> u32
     requires { IsTables (problem_of clock.now) tables.now }
     ensures { result ≡ load (problem_of clock.now) clock.now.numbers kind }
 {
-    let work = remaining_work(tables, clock, kind) + clock.busy(kind);
-    over(work, clock.profile().copies(kind)) + clock.next()
+    let work = remaining_work(tables, clock, kind);
+    let copies = clock.profile().copies(kind);
+    // most kinds have one unit
+    if copies == 1 {
+        return work + clock.free(kind);
+    }
+    over(work + clock.busy(kind), copies) + clock.next()
 }
 
 /// The least spare of the numbers that remain. Mostly one of the block's least remains.

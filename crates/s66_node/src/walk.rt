@@ -73,6 +73,7 @@ impl<'a> Walk<'a> {
     }
 
     /// Goes on with a number that is ready, in the time of a clock's push.
+    #[inline(always)]
     pub fn push(&mut self, n: u8)
         requires { is_ready self.old.problem.block self.old.numbers n ≡ true }
         ensures { self.new ≡ record self.old { numbers = self.old.numbers ++ n ∷ [] } }

@@ -306,6 +306,22 @@ busy-words p s w kind is fits =
     ap (λ t. weigh (λ (f : ℕ). f - t) (units_of p kind w.units.words)) is.next
     ∙ rest-same kind (copies_of p kind) (units_of p kind w.units.words) s (next s) (is.units kind) fits
 
+-- where a kind has one unit, its word tells all that is left
+weigh-one : (f : ℕ → ℕ) (xs : List ℕ) → length xs ≡ 1 → weigh f xs ≡ f (get_or xs 0 0)
+weigh-one f [] one = absurd (omega (arith, one))
+weigh-one f (x ∷ []) one = omega arith
+weigh-one f (x ∷ (y ∷ xs)) one = absurd (omega (arith, one))
+
+pub only-unit : (p : Profile) (kind : Kind) (words : List ℕ) (t : ℕ) → length words ≡ UNIT_LIMIT → copies_of p kind ≡ 1 → t + weigh (λ (f : ℕ). f - t) (units_of p kind words) ≡ max (get_or words (first_unit kind) 0) t
+only-unit p kind words t size one =
+    let place : first_unit kind + 0 ≡ first_unit kind = omega arith in
+    omega (
+      arith,
+      weigh-one (λ (f : ℕ). f - t) (units_of p kind words) (units-length p kind words size ∙ one),
+      ap (λ k. k - t) (unit-at p kind words 0 (omega (arith, one))),
+      ap (λ k. get_or words k 0 - t) place,
+    )
+
 pub point-by : (p : Profile) (s : List Point) (n : ℕ) (r : Row) (parcel issue start : ℕ) (results : List ResultAt) (free : ℕ) →
     parcel ≡ fits_at (next_parcel s) r.parcels → issue ≡ issue_of (under p) s r → start ≡ start_of (under p) s r → results ≡ map (result_at s start) r.writes → free ≡ free_after start r.hold results →
     ◌≡◌ {A = Point} (record { number = n; row = r; parcel = parcel; issue = issue; start = start; results = results; free = free }) (point (under p) s n r)

@@ -201,6 +201,15 @@ impl<'a> Clock<'a> {
         self.words.worked[kind_number(kind)]
     }
 
+    /// When the unit of a kind that has one is free, or the next slot where that is later.
+    pub fn free(&self, kind: Kind) -> u32
+        requires { copies_of self.now.profile kind ≡ 1 }
+        ensures value { result ≡ next (points self.now) + weigh (rest_busy kind (next (points self.now))) (points self.now) }
+        ensures at_most { result ≤ TOTAL_LIMIT }
+    {
+        self.words.units.first(kind).max(self.words.progress.next)
+    }
+
     /// How many minor cycles the units of a kind work on from `next` until they are free, summed over the units; the time is that
     /// of their number.
     pub fn busy(&self, kind: Kind) -> u32

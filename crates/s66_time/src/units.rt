@@ -74,6 +74,13 @@ impl UnitWords {
         soonest
     }
 
+    /// When the first unit of a kind is free.
+    pub fn first(&self, kind: Kind) -> u32
+        ensures { result ≡ get_or self.now.words (first_unit kind) 0 }
+    {
+        self.words[first_unit(kind)]
+    }
+
     /// How long the units of a kind are still to work after a time, all together.
     pub fn rest(&self, profile: &Profile, kind: Kind, time: u32) -> u32
         requires { greatest (λ (w : ℕ). w) (units_of profile.now kind self.now.words) ≤ TOTAL_LIMIT }

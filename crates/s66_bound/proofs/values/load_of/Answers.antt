@@ -2,12 +2,12 @@ use Rattle.std.proofs.Common.{◌+◌, ap, ◌∙◌}
 use Rattle.s66_isa.specs.declared.profile.Profile.{Profile}
 use Rattle.s66_isa.specs.Table.{copies_of}
 use Rattle.s66_time.specs.Ticking.{problem_of}
-use Rattle.s66_bound.proofs.RemainingSums.{load-is}
+use Rattle.s66_bound.proofs.RemainingSums.{load-is, load-alone}
 use Rattle.s66_bound.proofs.values.load_of.Goals as goal
 
 pub returns : goal.returns
 returns c =
     let t = c.args.clock.now in
     ap (λ k. k + c.next.result) c.over.ensures.value
-    ∙ load-is (problem_of t) t.numbers c.args.kind c.remaining_work.result c.busy.result c.copies.result c.next.result
-    c.remaining_work.ensures.value c.busy.ensures.value (c.copies.ensures.value ∙ ap (λ (p : Profile). copies_of p c.args.kind) c.profile.ensures) c.next.ensures.value
+    ∙ load-is (problem_of t) t.numbers c.args.kind c.remaining_work-work.result c.busy.result c.copies-copies.result c.next.result
+    c.remaining_work-work.ensures.value c.busy.ensures.value (c.copies-copies.ensures.value ∙ ap (λ (p : Profile). copies_of p c.args.kind) c.profile.ensures) c.next.ensures.value
