@@ -136,10 +136,10 @@ The most splits of a block's search, 0 to 1000000 [default: 100000]
 
 A split divides all orders with one beginning by the instruction that comes next.";
 
-const DOMINATE_HELP: &str = "Leaves out beginnings that an earlier one of the same piece dominates";
+const DOMINATE_HELP: &str = "Leaves out beginnings of orders that an earlier one dominates";
 
 const DOMINATE_TREE_HELP: &str =
-    "Leaves out beginnings that any other one dominates: proves far more blocks best";
+    "Leaves out beginnings of orders that any other one dominates: proves far more blocks best";
 
 /// A flag by its name.
 fn flag<'a>(alloc: Global, name: &'a str, help: &'a str) -> Arg<'a>
