@@ -87,6 +87,10 @@ impl<R: Wait> Naming for Known<'_, '_, R> {
     }
 
     fn keep_split(&mut self, walk: &Walk<'_>, rule: Rule, line: usize) {
+        // the root has other numbers than each prefix below it, and all know it since it was made
+        if line == 0 {
+            return;
+        }
         self.own.keep_split(walk, rule, line);
     }
 
