@@ -3,9 +3,21 @@
 
 use s66_line::{OverRead, OverWrite};
 use s66_program::{Progress, refuse_words, run_program};
-use std::io::IsTerminal;
+use std::io::{IsTerminal, Write};
 use std::process::ExitCode;
 use std::{env, io};
+
+/// As many bytes of the stack as the deepest call takes, and half as many more.
+const STACK_ROOM: usize = 900_000;
+
+/// Touches so much of the stack, so that it doesn't have to grow later, when the stacks of the workers may have taken all the memory
+/// that the process is allowed: a stack that can't grow ends the process. A write of no bytes keeps the compiler from leaving
+/// the array out.
+#[inline(never)]
+fn touch_stack(rt: &HostRuntime) {
+    let room = [0u8; STACK_ROOM];
+    let _ = rt.stderr().write(&room[..0]);
+}
 
 /// The words of the command line, of which the first is the program's name.
 fn words_of(rt: &HostRuntime) -> io::Result<Vec<String>> {
@@ -13,6 +25,7 @@ fn words_of(rt: &HostRuntime) -> io::Result<Vec<String>> {
 }
 
 fn main(rt: HostRuntime) -> ExitCode {
+    touch_stack(&rt);
     let mut reader = OverRead::new(rt.stdin());
     let mut writer = OverWrite::new(rt.stdout());
     let mut errors = OverWrite::new(rt.stderr());
