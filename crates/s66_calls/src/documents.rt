@@ -1,0 +1,61 @@
+//! Searches by workers, and documents.
+
+use crate::Answered;
+use crate::sources::{block_of, source_of};
+use s66_cert::read;
+use s66_isa::Profile;
+use s66_model::Rule;
+use s66_pool::{Free, Options, run};
+use s66_program::document_of;
+use s66_test_blocks::MULTIPLIES;
+use std::alloc::{AllocError, Global};
+use std::sync::Wait;
+use std::thread::Threads;
+
+/// Two workers, and more splits than the tree has.
+const OPTIONS: Options = Options {
+    workers: 2,
+    nodes: 100,
+    rule: Rule::NoneNamed,
+};
+
+/// Two documents of one load.
+const DOCUMENTS: &str =
+    "S66 CERTIFICATE 1\nPROFILE 3 3 4 4 3 10 29 8 3 8 1 1 1 1 2 1 2\nBLOCK 3\nI SA1 A1+B1\nI BX6 X1\nI BX7 X2\nTIME 12\nBOUND 12\nORDER 1 3 2\nC 1 2\nEND\nS66 CERTIFICATE 1\nPROFILE 3 3 4 4 3 10 29 8 3 8 1 1 1 1 2 1 2\nBLOCK 3\nI SA1 A1+B1\nI BX6 X1\nI BX7 X2\nTIME 12\nBOUND 12\nORDER 1 3 2\nC 1 2\nEND\n";
+
+/// The time, the bound and the splits of the answer of two workers.
+pub fn searched<R: AllocGlobal + Threads + Wait + Sync>(rt: &R) -> Result<Answered, AllocError> {
+    let source = source_of(rt.alloc(), MULTIPLIES)?;
+    let block = block_of(&source)?;
+    let answer = run(rt, block, &Profile::standard(), OPTIONS, &Free)?;
+    Ok([
+        answer.time() as usize,
+        answer.bound() as usize,
+        answer.splits() as usize,
+        0,
+    ])
+}
+
+/// The time and the bound of their answer's document, and how many numbers its order and its block have.
+pub fn documented<R: AllocGlobal + Threads + Wait + Sync>(rt: &R) -> Result<Answered, AllocError> {
+    let alloc = rt.alloc();
+    let source = source_of(alloc, MULTIPLIES)?;
+    let block = block_of(&source)?;
+    let profile = Profile::standard();
+    let answer = run(rt, block, &profile, OPTIONS, &Free)?;
+    let document = document_of(alloc, block, &profile, &answer)?;
+    Ok([
+        document.time() as usize,
+        document.bound() as usize,
+        document.order().len(),
+        document.block().len(),
+    ])
+}
+
+/// How many documents a text has.
+pub fn read_again(alloc: Global) -> Result<Answered, AllocError> {
+    match read(alloc, DOCUMENTS.as_bytes()) {
+        Ok(documents) => Ok([documents.len(), 0, 0, 0]),
+        Err(_) => Err(AllocError),
+    }
+}
