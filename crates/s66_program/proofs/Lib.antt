@@ -8,6 +8,8 @@ pub mod CommandLine
 pub mod Dependences
 pub mod Faults
 pub mod Flags
+pub mod Fronts
+pub mod KeptInput
 pub mod Named
 pub mod OptionRanges
 pub mod OrderedAgain

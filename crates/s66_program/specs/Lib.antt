@@ -15,6 +15,7 @@ pub mod PlacedAnswers
 pub mod ProvedAnswers
 pub mod Output
 pub mod Device
+pub mod Kept
 pub mod Outcome
 pub mod Run
 pub mod Usage

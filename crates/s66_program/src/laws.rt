@@ -1,11 +1,12 @@
 //! What becomes of the output of `order` and `prove` that is read again: contracts of functions that do nothing.
 
-ghost use Rattle.std.specs.Prelude.{ℕ, Bool, false, List, [], ◌∷◌, ◌++◌, length, map, Ok, ◌≡◌, ◌≤◌, codes};
+ghost use Rattle.std.specs.Prelude.{ℕ, Bool, false, List, [], ◌∷◌, ◌++◌, length, map, Ok, Err, ◌≡◌, ◌≤◌, codes};
 ghost use Rattle.s66_isa.specs.declared.profile.Profile.{Profile};
 ghost use Rattle.s66_isa.specs.Lists.{Among};
 ghost use Rattle.s66_isa.specs.Table.{standard};
 ghost use Rattle.s66_line.specs.Printed.{printed};
 ghost use Rattle.s66_line.specs.Source.{Block, source_of};
+ghost use Rattle.s66_line.specs.declared.error.SourceError.{SourceError};
 ghost use Rattle.s66_isa.specs.declared.limits.TheConstants.{BLOCK_LIMIT};
 ghost use Rattle.s66_model.specs.declared.rule.Rule.{Rule};
 ghost use Rattle.s66_model.specs.declared.rule.Rule.TheVariants.{NoneNamed};
@@ -18,6 +19,7 @@ ghost use Rattle.s66_cert.specs.Examples.{one_load, with_times};
 ghost use Rattle.s66_checker.specs.declared.verdict.Verdict.TheVariants.{Yes};
 ghost use Rattle.s66_checker.specs.Verdict as checker;
 ghost use Rattle.s66_checker.specs.Verdict.{verdict};
+ghost use Rattle.s66_program.specs.declared.limits.TheConstants.{SOURCE_FRONT};
 ghost use Rattle.s66_program.specs.declared.outcome.Status.{Status};
 ghost use Rattle.s66_program.specs.declared.outcome.Status.TheVariants.{Done, Denied};
 ghost use Rattle.s66_program.specs.CheckText.{IsCheckOutput, verdict_lines, verdicts_status};
@@ -26,6 +28,11 @@ ghost use Rattle.s66_program.specs.Examples.{blocks_in, one_load_answer, one_loa
 ghost use Rattle.s66_program.specs.OrderText.{IsOrderOutput, all_placed, problem_of};
 ghost use Rattle.s66_program.specs.OrderedAgain.{TakePrintedTimes, written_time};
 ghost use Rattle.s66_program.specs.ProveText.{IsProveOutput, all_documents, document_under};
+
+/// A text of at least `SOURCE_FRONT` bytes is refused as a source, for the same whatever follows.
+pub fn front_law()
+    ensures { (front rest : List ℕ) → SOURCE_FRONT ≤ length front → (e : SourceError) × (source_of (front ++ rest) ≡ Err e) × (source_of front ≡ Err e) }
+{}
 
 /// No order of a block takes more minor cycles than a certificate may claim, whatever the profile.
 pub fn total_limit_law()

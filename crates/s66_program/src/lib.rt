@@ -24,8 +24,10 @@ mod usage;
 
 pub use command::Command;
 pub use documents::document_of;
-pub use laws::{again_examples, checked_law, ordered_again_law, proved_law, total_limit_law};
-pub use limits::{FEED_CALLS, FEED_ROOM, NODES_DEFAULT, WORKERS_DEFAULT};
+pub use laws::{
+    again_examples, checked_law, front_law, ordered_again_law, proved_law, total_limit_law,
+};
+pub use limits::{FEED_CALLS, FEED_ROOM, NODES_DEFAULT, SOURCE_FRONT, WORKERS_DEFAULT};
 pub use observer::{Observer, Silent};
 pub use outcome::{Fault, Status};
 pub use program::{refuse_words, run_program};

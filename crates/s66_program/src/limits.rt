@@ -1,8 +1,13 @@
+use s66_line::{LINE_BYTES_LIMIT, SOURCE_LINES_LIMIT};
+
 /// How many calls reading an input makes at most.
 pub const FEED_CALLS: u32 = 16_777_216;
 
 /// How many bytes each of these calls has room for.
 pub const FEED_ROOM: usize = 65_536;
+
+/// So many bytes are at least a line too many, or one that is too long.
+pub const SOURCE_FRONT: usize = (LINE_BYTES_LIMIT + 1) * (SOURCE_LINES_LIMIT as usize + 1);
 
 /// How many workers search where the words give no number.
 pub const WORKERS_DEFAULT: u8 = 4;

@@ -1,10 +1,12 @@
-ghost use Rattle.std.specs.Prelude.{◌≡◌, ◌-◌, ◌^◌, ◌<◌, length, vec_len, IfOk, IfErr};
+ghost use Rattle.std.specs.Prelude.{ℕ, List, true, ◌≡◌, ◌-◌, ◌^◌, ◌<◌, ◌↔◌, length, vec_len, IfOk, IfErr, IfSome, IsTrue, OnOk};
 ghost use Rattle.s66_program.specs.Device.{ReadsAll};
-ghost use Rattle.s66_program.specs.Output.{IsUnder, IsWithin};
+ghost use Rattle.s66_program.specs.Kept.{IsFull, IsKept, Puts};
+ghost use Rattle.s66_program.specs.Output.{IsUnder, IsWithin, reads_source};
+ghost use Rattle.s66_program.specs.declared.limits.TheConstants.{SOURCE_FRONT};
 ghost use Rattle.s66_program.specs.Run.{IsOutcome, IsOutcomeUnder, IsProfileFault, IsReadFault};
 
 use crate::command::Command;
-use crate::limits::{FEED_CALLS, FEED_ROOM};
+use crate::limits::{FEED_CALLS, FEED_ROOM, SOURCE_FRONT};
 use crate::observer::{Observer, Silent};
 use crate::outcome::{Fault, Status};
 use crate::output::output_for;
@@ -33,21 +35,63 @@ fn room(alloc: Global) -> Result<Vec<u8>, AllocError>
     vec![in alloc; 0u8; FEED_ROOM]
 }
 
-/// Reads to the end, by `FEED_CALLS` calls at most, each with the whole buffer for room.
-fn read_through<F: Feed>(alloc: Global, reader: &mut F, buffer: &mut [u8]) -> Result<Vec<u8>, Fault>
+/// How much of an input a command needs at most. A source that goes on past so many bytes is refused, and what is told of it is
+/// known from them.
+fn most_kept(command: Command) -> Option<usize>
+    ensures { IfSome result (λ most. (most ≡ SOURCE_FRONT) × (reads_source command.entry ≡ true)) }
+{
+    match command {
+        Command::Check | Command::Lint => None,
+        Command::Time { .. }
+        | Command::Deps
+        | Command::Chart { .. }
+        | Command::Order { .. }
+        | Command::Prove { .. }
+        | Command::Sum { .. } => Some(SOURCE_FRONT),
+    }
+}
+
+/// Whether no more need be kept.
+fn is_full(held: &[u8], most: Option<usize>) -> bool
+    ensures { IsTrue result ↔ IsFull most held.now }
+{
+    match most {
+        Some(most) => most <= held.len(),
+        None => false,
+    }
+}
+
+/// Puts bytes to what is kept, unless that is full.
+fn put(held: &mut Vec<u8>, bytes: &[u8], most: Option<usize>) -> Result<(), AllocError>
+    ensures { OnOk result (Puts most bytes.now held.old.items held.new.items) }
+{
+    if is_full(held.as_slice(), most) {
+        return Ok(());
+    }
+    held.extend_from_slice(bytes)
+}
+
+/// Reads to the end, by `FEED_CALLS` calls at most, each with the whole buffer for room, and keeps the input, or a front of it that is
+/// full.
+fn read_through<F: Feed>(
+    alloc: Global,
+    reader: &mut F,
+    buffer: &mut [u8],
+    most: Option<usize>,
+) -> Result<Vec<u8>, Fault>
     requires calls { (F.seen reader.old).failures < 2 ^ 64 - 1 }
     requires room { length buffer.old ≡ FEED_ROOM }
-    ensures ok { IfOk result (λ input. ReadsAll (F.seen reader.old) (F.seen reader.new) input.items) }
+    ensures ok { IfOk result (λ held. (input : List ℕ) × ReadsAll (F.seen reader.old) (F.seen reader.new) input × IsKept most input held.items) }
     ensures err { IfErr result (IsReadFault (F.seen reader.old) (F.seen reader.new)) }
 {
-    let mut input = Vec::new(alloc);
+    let mut held = Vec::new(alloc);
     'calls: for _ in 0..FEED_CALLS {
         match reader.feed(buffer) {
             Ok(count) => {
                 if count == 0 {
-                    return Ok(input);
+                    return Ok(held);
                 }
-                input.extend_from_slice(&buffer[..count])?;
+                put(&mut held, &buffer[..count], most)?;
             }
             Err(_) => return Err(Fault::Read),
         }
@@ -55,14 +99,14 @@ fn read_through<F: Feed>(alloc: Global, reader: &mut F, buffer: &mut [u8]) -> Re
     Err(Fault::Read)
 }
 
-/// Reads to the end.
-fn read_all<F: Feed>(alloc: Global, reader: &mut F) -> Result<Vec<u8>, Fault>
+/// Reads to the end, and keeps what the command needs.
+fn read_all<F: Feed>(alloc: Global, reader: &mut F, most: Option<usize>) -> Result<Vec<u8>, Fault>
     requires { (F.seen reader.old).failures < 2 ^ 64 - 1 }
-    ensures ok { IfOk result (λ input. ReadsAll (F.seen reader.old) (F.seen reader.new) input.items) }
+    ensures ok { IfOk result (λ held. (input : List ℕ) × ReadsAll (F.seen reader.old) (F.seen reader.new) input × IsKept most input held.items) }
     ensures err { IfErr result (IsReadFault (F.seen reader.old) (F.seen reader.new)) }
 {
     let mut buffer = room(alloc)?;
-    read_through(alloc, reader, &mut buffer)
+    read_through(alloc, reader, &mut buffer, most)
 }
 
 /// Runs a command under a profile: reads to the end, builds all text, and only then writes.
@@ -79,8 +123,8 @@ fn run_under<R: AllocGlobal + Threads + Wait + Sync, F: Feed, S: Sink, O: Observ
     requires writes { (S.seen writer.old).failures < 2 ^ 64 - 1 }
     ensures { IsOutcomeUnder profile.now command.entry (F.seen reader.old) (F.seen reader.new) (S.seen writer.old) (S.seen writer.new) result }
 {
-    let input = read_all(rt.alloc(), reader)?;
-    let output = output_for(rt, command, profile, input.as_slice(), observer);
+    let held = read_all(rt.alloc(), reader, most_kept(command))?;
+    let output = output_for(rt, command, profile, held.as_slice(), observer);
     observer.ended();
     let output = output?;
     match write_all(writer, output.text.as_slice()) {

@@ -1,0 +1,80 @@
+-- What is kept of an input decides what becomes of it.
+use Rattle.std.proofs.Common.{◌≡◌, ◌≤◌, ℕ, true, List, [], ◌++◌, length, Option, None, Some, IfSome, Ok, Err, inl, inr, append_assoc, refl, ap, sym, subst, ◌∙◌}
+use Rattle.std.proofs.lemmas.List.{append-nil}
+use Rattle.s66_isa.specs.declared.profile.Profile.{Profile}
+use Rattle.s66_line.specs.Source.{Block, source_of}
+use Rattle.s66_line.specs.declared.error.SourceError.{SourceError}
+use Rattle.s66_program.specs.declared.command.Command.{Command}
+use Rattle.s66_program.specs.declared.command.Command.TheVariants.{Time, Deps, Chart, Order, Prove, Check, Lint, Sum}
+use Rattle.s66_program.specs.declared.limits.TheConstants.{SOURCE_FRONT}
+use Rattle.s66_program.specs.declared.outcome.Fault.{Fault}
+use Rattle.s66_program.specs.declared.outcome.Fault.TheVariants as fault
+use Rattle.s66_program.specs.declared.outcome.Status.{Status}
+use Rattle.s66_program.specs.Kept.{IsFull, IsKept, Puts}
+use Rattle.s66_program.specs.Output.{IsOutput, reads_documents, reads_source}
+use Rattle.s66_program.specs.Run.{IsRefusal}
+use Rattle.s66_program.proofs.Fronts.{front-refused}
+
+pub kept-none : (most : Option ℕ) → IsKept most [] []
+kept-none most = ([], refl, inl refl)
+
+pub kept-more : (most : Option ℕ) (input bytes old new : List ℕ) → IsKept most input old → Puts most bytes old new → IsKept most (input ++ bytes) new
+kept-more most input bytes old new (rest, is, inl none) (inl (room, more)) =
+    let whole : input ≡ old = is ∙ ap (λ r. old ++ r) none ∙ append-nil old in
+    ([], ap (λ l. l ++ bytes) whole ∙ sym more ∙ sym (append-nil new), inl refl)
+kept-more most input bytes old new (rest, is, inr full) (inl (room, more)) = absurd (room full)
+kept-more most input bytes old new (rest, is, which) (inr (full, same)) =
+    (rest ++ bytes, ap (λ l. l ++ bytes) is ∙ append_assoc old rest bytes ∙ ap (λ l. l ++ (rest ++ bytes)) (sym same), inr (subst (IsFull most) (sym same) full))
+
+-- the most that a command needs of a source, and None of another input
+abbrev pub IsMost : Command → Option ℕ → Type 0
+IsMost command most = IfSome most (λ n. (n ≡ SOURCE_FRONT) × (reads_source command ≡ true))
+
+accepted : (p : Profile) (command : Command) (input text : List ℕ) (status : Status) → reads_source command ≡ true → IsOutput p command input text status → (blocks : List Block) × (source_of input ≡ Ok blocks)
+accepted p (Time trace profile) input text status reads ((blocks, ok, is), done) = (blocks, ok)
+accepted p Deps input text status reads ((blocks, ok, is), done) = (blocks, ok)
+accepted p (Chart profile) input text status reads ((blocks, ok, is), done) = (blocks, ok)
+accepted p (Order workers nodes rule trace profile) input text status reads (blocks, ok, is) = (blocks, ok)
+accepted p (Prove workers nodes rule profile) input text status reads (blocks, ok, is) = (blocks, ok)
+accepted p Check input text status reads is = absurd (cc)
+accepted p Lint input text status reads is = absurd (cc)
+accepted p (Sum workers nodes profile) input text status reads (blocks, ok, is) = (blocks, ok)
+
+-- a full front is refused, and so is the input, for the same
+full-refused : (command : Command) (most : Option ℕ) (held rest : List ℕ) → IsMost command most → IsFull most held →
+    (reads_source command ≡ true) × ((e : SourceError) × (source_of (held ++ rest) ≡ Err e) × (source_of held ≡ Err e))
+full-refused command None held rest is full = absurd full
+full-refused command (Some n) held rest (limit, reads) full = (reads, front-refused held rest (subst (λ k. k ≤ length held) limit full))
+
+pub whole-output : (p : Profile) (command : Command) (most : Option ℕ) (input held text : List ℕ) (status : Status) → IsMost command most → IsKept most input held → IsOutput p command held text status → IsOutput p command input text status
+whole-output p command most input held text status most-is (rest, is, inl none) output =
+    subst (λ i. IsOutput p command i text status) (sym (is ∙ ap (λ r. held ++ r) none ∙ append-nil held)) output
+whole-output p command most input held text status most-is (rest, is, inr full) output =
+    let stated = full-refused command most held rest most-is full in
+    let known = accepted p command held text status stated.0 output in
+    absurd (cc)
+
+no-documents : (command : Command) → reads_source command ≡ true → reads_documents command ≡ true → ⊥
+no-documents (Time trace profile) source documents = cc
+no-documents Deps source documents = cc
+no-documents (Chart profile) source documents = cc
+no-documents (Order workers nodes rule trace profile) source documents = cc
+no-documents (Prove workers nodes rule profile) source documents = cc
+no-documents Check source documents = cc
+no-documents Lint source documents = cc
+no-documents (Sum workers nodes profile) source documents = cc
+
+refused-for : (command : Command) (input held : List ℕ) (f : Fault) → reads_source command ≡ true → source_of input ≡ source_of held → IsRefusal command held f → IsRefusal command input f
+refused-for command input held (fault.Source e) reads same (is, other, refused) = (is, other, same ∙ refused)
+refused-for command input held (fault.Document e) reads same (is, refused) = absurd (no-documents command reads is)
+refused-for command input held fault.Profile reads same h = h
+refused-for command input held fault.Memory reads same h = h
+refused-for command input held fault.Read reads same h = h
+refused-for command input held fault.Write reads same h = h
+
+pub whole-refusal : (command : Command) (most : Option ℕ) (input held : List ℕ) (f : Fault) → IsMost command most → IsKept most input held → IsRefusal command held f → IsRefusal command input f
+whole-refusal command most input held f most-is (rest, is, inl none) refusal =
+    subst (λ i. IsRefusal command i f) (sym (is ∙ ap (λ r. held ++ r) none ∙ append-nil held)) refusal
+whole-refusal command most input held f most-is (rest, is, inr full) refusal =
+    let stated = full-refused command most held rest most-is full in
+    subst (λ i. IsRefusal command i f) (sym is) (refused-for command (held ++ rest) held f stated.0 (stated.1.1 ∙ sym stated.1.2) refusal)
