@@ -1,0 +1,192 @@
+#!/usr/bin/env python3
+"""Gives the program inputs that are meant to harm it, and checks its answers, its time and its memory.
+
+    tools/hostile.py PROGRAM
+
+Documents for `check`: each front of one, numbers of 10,000 digits, a million nodes and one more, a tree of the deepest block,
+names that point to each wrong place, and 362,879 leaves that name one node. Sources: a gigabyte of newlines, of blanks without a newline,
+and of instructions, for each subcommand. What each has to answer stands beside it. None may take more than 10 seconds of
+processor time or more than 200 MB of address space, and a source of a gigabyte no more than 32 MB. The status is 1 if something is
+wrong.
+"""
+import itertools
+import os
+import resource
+import subprocess
+import sys
+import threading
+
+PROFILE = "PROFILE 3 3 4 4 3 10 29 8 3 8 1 1 1 1 2 1 2\n"
+MULTIPLIES = ("S66 CERTIFICATE 1\n" + PROFILE + "BLOCK 3\nI FX1 X2*X3\nI FX4 X5*X6\nI FX0 X7*X7\nTIME 22\nBOUND 22\nORDER 1 2 3\n"
+              "S 1 2 3\nS 2 3\nS 3\nT\nS 2\nT\nS 1 3\nS 3\nT\nS 1\nT\nS 1 2\nS 2\nT\nS 1\nT\nEND\n")
+# three that don't differ: line 16 names line 11, line 20 line 11 and line 21 line 15
+ALIKE = ("S66 CERTIFICATE 3\n" + PROFILE + "BLOCK 3\nI SB0 B1\nI SB0 B1\nI SB0 B1\nTIME 8\nBOUND 8\nORDER 1 2 3\n"
+         "S 1 2 3\nS 2 3\nS 3\nT\nS 2\nT\nS 1 3\nD 1 2\nS 1\nT\nS 1 2\nD 1 3\nD 2 3\nEND\n")
+SECONDS, MEGABYTES, FRONT_MEGABYTES = 10, 200, 32
+GIGABYTE = 1 << 30
+CHUNK = 1 << 20
+TRUNCATED = (3, b"", b"TRUNCATED\n")
+
+
+def bad_line(line):
+    return 3, b"", b"LINE %d BAD LINE\n" % line
+
+
+def no(line, reason):
+    return 5, b"DOCUMENT 1 NO LINE %d REASON %d\n" % (line, reason), b""
+
+
+def yes(time, bound):
+    return 0, b"DOCUMENT 1 YES TIME %d BOUND %d\n" % (time, bound), b""
+
+
+def altered(text, old, new):
+    assert text.count(old) == 1, old
+    return text.replace(old, new)
+
+
+def head_of(text):
+    """A document up to its order."""
+    return text[: text.index("S ", text.index("ORDER"))]
+
+
+def long_numbers():
+    """A number of 10,000 digits in the place of each number."""
+    digits = "9" * 10000
+    lines = MULTIPLIES.splitlines()
+    for place, line in enumerate(lines):
+        if line[0] not in "IE":
+            words = line.split(" ")
+            for at, word in enumerate(words):
+                if word.isdigit():
+                    changed = lines[:place] + [" ".join(words[:at] + [digits] + words[at + 1:])] + lines[place + 1:]
+                    yield f"a number of 10,000 digits in line {place + 1}", "\n".join(changed) + "\n", bad_line(place + 1)
+
+
+def many_nodes():
+    head = head_of(MULTIPLIES)
+    yield "a million nodes and one", head + "S 1\n" * 1_000_001, (3, b"", b"TOO MANY NODES\n")
+    yield "a million nodes and one, and an end", head + "S 1\n" * 1_000_001 + "T\nEND\n", (3, b"", b"TOO MANY NODES\n")
+    yield "a million nodes, each below the last", head + "S 1\n" * 1_000_000 + "T\nEND\n", no(10, 3)
+    yield "a million nodes without an end", head + "S 1\n" * 1_000_000, TRUNCATED
+
+
+def deep_trees():
+    """Chains of 128, whose only order is the source order: a split for each number."""
+    texts = "".join("I BX0 X0\n" for _ in range(128))
+    order = " ".join(map(str, range(1, 129)))
+    head = f"S66 CERTIFICATE 1\n{PROFILE}BLOCK 128\n{texts}TIME 512\nBOUND 512\nORDER {order}\n"
+    splits = "".join(f"S {n}\n" for n in range(1, 129))
+    document = head + splits + "T\nEND\n"
+    yield "a tree of depth 128", document, yes(512, 512)
+    yield "that with a leaf below its deepest", altered(document, "T\nEND", "S 128\nT\nEND"), no(263, 3)
+    yield "that with one split less", altered(document, "S 128\nT", "T"), no(262, 6)
+
+
+def wrong_names():
+    """Leaves of version 3 that name what they may not, each with the line of the leaf."""
+    yield "the document itself", ALIKE, yes(8, 8)
+    for name, new in (("a node forward that is a leaf of another set", "D 2 3"), ("itself", "D 2 1"), ("its parent", "D 2"),
+                      ("a leaf of another set", "D 1 2 3"), ("what isn't a node", "D 3 3"), ("numbers above the block's", "D 4 5")):
+        yield f"line 17 names {name}", altered(ALIKE, "D 1 2\n", new + "\n"), no(17, 9)
+    yield "two leaves name each other", altered(altered(ALIKE, "D 1 2\n", "D 1 2\n"), "S 3\nT\n", "D 2 1\n"), no(12, 9)
+    yield "a leaf names one that is dominated", altered(ALIKE, "D 2 3", "D 3 1"), no(22, 9)
+    forward = altered(altered(ALIKE, "D 1 2\n", "S 3\nT\n"), "S 2 3\nS 3\nT\n", "S 2 3\nD 2 1\n")
+    yield "a leaf names a node after it", forward, yes(8, 8)
+    root = altered(ALIKE, ALIKE[ALIKE.index("S 1 2 3\n"):], "D 1 2 3\nEND\n")
+    yield "the root is dominated by what isn't there", root, no(10, 9)
+    yield "the same in version 2", altered(forward, "CERTIFICATE 3", "CERTIFICATE 2"), no(12, 9)
+
+
+def many_leaves():
+    """Nine that don't differ, and a tenth after all of them: of the 362,880 orders of the nine one is split, and all others name it,
+    which is the first node of their set in the tree, or the last."""
+    nine = tuple(range(1, 10))
+    head = PROFILE + "BLOCK 10\n" + "I SB0 B1\n" * 9 + "I SB1 B2\nTIME 21\nBOUND 21\nORDER 1 2 3 4 5 6 7 8 9 10\n"
+    for where, split in (("first", nine), ("last", nine[::-1])):
+        leaf, lines = f"D {' '.join(map(str, split))}", []
+
+        def grow(prefix, left):
+            if left:
+                lines.append("S " + " ".join(map(str, left)))
+                for n in left:
+                    grow(prefix + (n,), tuple(m for m in left if m != n))
+            else:
+                lines.extend(("S 10", "T") if prefix == split else (leaf,))
+
+        grow((), nine)
+        text = "S66 CERTIFICATE 3\n" + head + "\n".join(lines) + "\nEND\n"
+        yield f"362,879 leaves that name the {where} node of their set", text, yes(21, 21)
+
+
+def fronts():
+    for length in range(1, len(MULTIPLIES)):
+        yield f"a front of {length} bytes", MULTIPLIES[:length], TRUNCATED
+
+
+def run(command, feed, megabytes):
+    """How a command ends at what is fed to it, in so much memory, and how many seconds of processor time it took."""
+
+    def limit():
+        resource.setrlimit(resource.RLIMIT_AS, (megabytes << 20, megabytes << 20))
+
+    started = subprocess.Popen(command, stdin=subprocess.PIPE, stdout=subprocess.PIPE, stderr=subprocess.PIPE, preexec_fn=limit)
+
+    def write():
+        try:
+            for chunk in feed:
+                started.stdin.write(chunk)
+            started.stdin.close()
+        except BrokenPipeError:
+            pass
+
+    writer = threading.Thread(target=write)
+    writer.start()
+    output, told = started.stdout.read(), started.stderr.read()
+    writer.join()
+    _, status, used = os.wait4(started.pid, 0)
+    started.returncode = os.waitstatus_to_exitcode(status)
+    return (started.returncode, output, told), used.ru_utime + used.ru_stime
+
+
+def repeated(line, size):
+    chunk = line * (CHUNK // len(line))
+    return itertools.repeat(chunk, size // len(chunk))
+
+
+def long_sources():
+    """Words, what is fed, its answer, and the most megabytes."""
+    code = b"  BX1 X2*X3\n"
+    for word in ("time", "deps", "chart", "order", "prove", "sum"):
+        yield [word], "a gigabyte of newlines", repeated(b"\n", GIGABYTE), (3, b"", b"TOO MANY LINES\n"), FRONT_MEGABYTES
+    yield ["time"], "a gigabyte without a newline", repeated(b" ", GIGABYTE), (3, b"", b"LINE 1 TOO LONG\n"), FRONT_MEGABYTES
+    yield ["time"], "a gigabyte of instructions", repeated(code, GIGABYTE), (3, b"", b"TOO MANY LINES\n"), FRONT_MEGABYTES
+    last = itertools.chain([b" " * 199 + b"*\n"] * 20000, [b"  SA1 *\n"], repeated(b"x", GIGABYTE))
+    yield ["time"], "the longest source, one line more, and a gigabyte", last, (3, b"", b"TOO MANY LINES\n"), FRONT_MEGABYTES
+    last = itertools.chain([b"\n" * 19999, b"  SA1 *\n"], repeated(b"\n", GIGABYTE))
+    yield ["time"], "a bad operand before what is too much", last, (3, b"", b"LINE 20000 BAD OPERAND\n"), FRONT_MEGABYTES
+    last = itertools.chain([b"\n" * 20000, b"y" * 200], repeated(b"z", 8 * CHUNK))
+    yield ["time"], "a line past the limit that is too long", last, (3, b"", b"LINE 20001 TOO LONG\n"), FRONT_MEGABYTES
+
+
+def main(arguments):
+    if len(arguments) != 1 or arguments[0].startswith("-"):
+        print(__doc__.strip())
+        return 2
+    program, wrong, count, most = os.path.abspath(arguments[0]), 0, 0, (0, "")
+    documents = itertools.chain(fronts(), long_numbers(), many_nodes(), deep_trees(), wrong_names(), many_leaves())
+    checks = ((["check"], name, [text.encode()], answer, MEGABYTES) for name, text, answer in documents)
+    for words, name, feed, answer, megabytes in itertools.chain(checks, long_sources()):
+        seen, seconds = run([program, *words], feed, megabytes)
+        count += 1
+        label = f"{' '.join(words)}: {name}"
+        most = max(most, (seconds, label))
+        if seen != answer or seconds > SECONDS:
+            wrong += 1
+            print(f"wrong: {label}: {seen[0], seen[1][:80], seen[2][:80]} after {seconds:.1f} seconds; wanted {answer}")
+    print(f"{count} inputs: {wrong} wrong; at most {most[0]:.1f} seconds ({most[1]})")
+    return 1 if wrong else 0
+
+
+if __name__ == "__main__":
+    sys.exit(main(sys.argv[1:]))
