@@ -9,8 +9,8 @@ on an input, or one of CALLS. It is run with ample memory first, and that has to
 - with only the Nth request for memory refused, and with all from the Nth on, for each N up to one that isn't reached: it ends
   as with ample memory, or with status 4, no output and OUT OF MEMORY, and nothing else;
 - with each thread refused in turn, and with all: it ends as with ample memory;
-- unless it is one of CALLS, with the Nth read failing, whole or after reads of one byte each: status 6, no output and READ FAILED; and with reads of one
-  byte each: as with ample memory;
+- unless it is one of CALLS, with the Nth read failing, whole or after reads of one byte each: status 6, no output and READ
+  FAILED; and with reads of one byte each: as with ample memory;
 - with the Nth write failing, whole or after writes of one byte each, or taking nothing: status 6, a beginning of the output
   and WRITE FAILED; and with writes of one byte each: as with ample memory;
 - with standard error failing: its status and its output.
