@@ -98,7 +98,8 @@ ssize_t read(int file, void *bytes, size_t count) {
     return move(SYS_read, file == 0 ? ask(READ) : ALLOW, file, bytes, count);
 }
 
+// A write of no bytes asks for nothing.
 ssize_t write(int file, const void *bytes, size_t count) {
-    enum how how = file == 1 ? ask(WRITE) : file == 2 ? ask(TELL) : ALLOW;
+    enum how how = count == 0 ? ALLOW : file == 1 ? ask(WRITE) : file == 2 ? ask(TELL) : ALLOW;
     return move(SYS_write, how, file, bytes, count);
 }

@@ -1,5 +1,5 @@
 //! The events of a ledger. One that is refused is asked for again, and then has to end as it would have at first.
-ghost use Rattle.std.specs.Prelude.{◌≡◌, ◌≤◌};
+ghost use Rattle.std.specs.Prelude.{◌≡◌, ◌≤◌, IfOk};
 
 use crate::Answered;
 use crate::sources::{block_of, source_of};
@@ -107,7 +107,9 @@ fn piece_of(alloc: Global, block: &Block, ticket: &Ticket) -> Result<Piece, Allo
 }
 
 /// A search of two workers with an event of each kind, which splits the root and leaves a child of it out.
-fn search<'a>(alloc: Global, block: &'a Block<'a>) -> Result<Ledger<'a>, AllocError> {
+fn search<'a>(alloc: Global, block: &'a Block<'a>) -> Result<Ledger<'a>, AllocError>
+    ensures { IfOk result (λ ledger. ledger.workers ≡ 2) }
+{
     let profile = Profile::standard();
     let mut ledger = Ledger::new(alloc, block, &profile, BUDGET, 2)?;
     grant(&mut ledger, 1)?;
@@ -124,9 +126,8 @@ fn search<'a>(alloc: Global, block: &'a Block<'a>) -> Result<Ledger<'a>, AllocEr
 }
 
 /// The best time and the bound after that search, how many nodes are open, and how many events there were.
-pub fn searched(alloc: Global) -> Result<Answered, AllocError> {
-    let source = source_of(alloc, MULTIPLIES)?;
-    let ledger = search(alloc, block_of(&source)?)?;
+fn readings(alloc: Global, block: &Block) -> Result<Answered, AllocError> {
+    let ledger = search(alloc, block)?;
     Ok([
         ledger.best() as usize,
         ledger.bound() as usize,
@@ -136,13 +137,27 @@ pub fn searched(alloc: Global) -> Result<Answered, AllocError> {
 }
 
 /// The time, the bound and the splits of the answer after that search.
-pub fn finished(alloc: Global) -> Result<Answered, AllocError> {
-    let source = source_of(alloc, MULTIPLIES)?;
-    let answer = search(alloc, block_of(&source)?)?.finish(alloc)?;
+fn answer(alloc: Global, block: &Block) -> Result<Answered, AllocError> {
+    let ledger = search(alloc, block)?;
+    let answer = ledger.finish(alloc)?;
     Ok([
         answer.time() as usize,
         answer.bound() as usize,
         answer.splits() as usize,
         0,
     ])
+}
+
+/// What the ledger tells after the events.
+pub fn searched(alloc: Global) -> Result<Answered, AllocError> {
+    let source = source_of(alloc, MULTIPLIES)?;
+    let block = block_of(&source)?;
+    readings(alloc, block)
+}
+
+/// What its answer is when it is finished.
+pub fn finished(alloc: Global) -> Result<Answered, AllocError> {
+    let source = source_of(alloc, MULTIPLIES)?;
+    let block = block_of(&source)?;
+    answer(alloc, block)
 }

@@ -1,5 +1,5 @@
-//! Makes one call of the libraries, for `tools/refused.py` to refuse it memory. A word names the call; without one the names of all are
-//! printed. What the call answers is printed as numbers. If memory runs out, nothing is, and the status is 4.
+//! Makes one call of the libraries, for `tools/refused.py` to refuse it memory. A word names the call; without such a word the names
+//! of all are printed. What the call answers is printed as numbers. If memory runs out, nothing is, and the status is 4.
 #![tactic(auto)]
 
 mod documents;
@@ -78,27 +78,42 @@ fn tell_refusal(rt: &HostRuntime) -> io::Result<ExitCode> {
     Ok(ExitCode::from(4))
 }
 
-fn main(rt: HostRuntime) -> io::Result<ExitCode> {
-    let words = match env::args(&rt) {
-        Ok(args) => args.collect::<Vec<String>>(rt.alloc()),
-        Err(_) => Err(AllocError),
+/// Tells what a call answers.
+fn tell(rt: &HostRuntime, made: Result<Answered, AllocError>) -> io::Result<ExitCode> {
+    let Ok(answered) = made else {
+        return tell_refusal(rt);
     };
-    let Ok(words) = words else {
-        return tell_refusal(&rt);
-    };
-    let Some(name) = words.get(1) else {
-        for (name, _) in CALLS {
-            println!(rt; "{name}")?;
-        }
-        return Ok(ExitCode::SUCCESS);
-    };
-    let Some(call) = call_of(name.as_str()) else {
-        eprintln!(rt; "no call has this name")?;
-        return Ok(ExitCode::FAILURE);
-    };
-    match make(&rt, call) {
-        Ok([a, b, c, d]) => println!(rt; "{a} {b} {c} {d}")?,
-        Err(_) => return tell_refusal(&rt),
+    println!(rt;
+        "{} {} {} {}",
+        answered[0], answered[1], answered[2], answered[3]
+    )?;
+    Ok(ExitCode::SUCCESS)
+}
+
+/// Tells the names of all calls.
+fn tell_names(rt: &HostRuntime) -> io::Result<ExitCode> {
+    for &(name, _) in CALLS {
+        println!(rt; "{name}")?;
     }
     Ok(ExitCode::SUCCESS)
+}
+
+/// The words of the command line, of which the first is the program's name.
+fn words_of(rt: &HostRuntime) -> io::Result<Vec<String>> {
+    Ok(env::args(rt)?.collect(rt.alloc())?)
+}
+
+/// The call that the words name; None if they name none.
+fn call_in(words: &[String]) -> Option<Call> {
+    call_of(words.get(1)?.as_str())
+}
+
+fn main(rt: HostRuntime) -> io::Result<ExitCode> {
+    let Ok(words) = words_of(&rt) else {
+        return tell_refusal(&rt);
+    };
+    match call_in(words.as_slice()) {
+        Some(call) => tell(&rt, make(&rt, call)),
+        None => tell_names(&rt),
+    }
 }

@@ -18,7 +18,7 @@ const SPLITS: u32 = 100;
 const ALIKE: &str = "  SB0 B1\n  SB0 B1\n  SB0 B1\n";
 
 /// How many splits and lines a piece has, and the time of its best order.
-fn stated(piece: &Piece) -> Answered {
+fn answered(piece: &Piece) -> Answered {
     let time = match piece.timed() {
         Some(timed) => timed.total() as usize,
         None => 0,
@@ -33,7 +33,7 @@ pub fn expanded(alloc: Global) -> Result<Answered, AllocError> {
     let profile = Profile::standard();
     prove!(is_beginning(block, &[]));
     let piece = expand(alloc, block, &profile, &[], ABOVE_ALL, SPLITS)?;
-    Ok(stated(&piece))
+    Ok(answered(&piece))
 }
 
 /// A piece for a best time that is asked for.
@@ -43,7 +43,7 @@ pub fn expanded_with(alloc: Global) -> Result<Answered, AllocError> {
     let profile = Profile::standard();
     let mut least = Constant(ABOVE_ALL);
     let piece = expand_with(alloc, block, &profile, &[], &mut least, SPLITS)?;
-    Ok(stated(&piece))
+    Ok(answered(&piece))
 }
 
 /// A piece with dominated leaves.
@@ -52,5 +52,5 @@ pub fn expanded_dominated(alloc: Global) -> Result<Answered, AllocError> {
     let block = block_of(&source)?;
     let profile = Profile::standard();
     let piece = expand_dominated(alloc, block, &profile, &[], ABOVE_ALL, SPLITS)?;
-    Ok(stated(&piece))
+    Ok(answered(&piece))
 }

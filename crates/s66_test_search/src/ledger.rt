@@ -172,7 +172,7 @@ fn follows_calls(rt: HostRuntime) -> Result<(), Fail> {
 }
 
 /// Does what the event asks.
-fn reply<R: Abort>(rt: &R, ledger: &mut Ledger, event: Event) -> Reply
+pub fn reply<R: Abort>(rt: &R, ledger: &mut Ledger, event: Event) -> Reply
     requires { (1 ≤ worker_of event) × (worker_of event ≤ ledger.old.workers) }
     ensures { ledger.new.workers ≡ ledger.old.workers }
 {

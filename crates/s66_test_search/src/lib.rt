@@ -11,6 +11,8 @@ mod gates;
 #[cfg(test)]
 mod hint;
 #[cfg(test)]
+mod hostile;
+#[cfg(test)]
 mod hub;
 #[cfg(test)]
 mod lanes;
