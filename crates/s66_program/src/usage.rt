@@ -120,7 +120,7 @@ const CHECK_ENDING: &str = help_ending!(
 const LINT_ENDING: &str = "\
 Example: s66 lint < SOURCE
 
-Status: 0 done, 2 usage, 4 out of memory, 5 some line is stated, 6 a read or write failed";
+Status: 0 done, 2 usage, 4 out of memory, 5 some line is listed, 6 a read or write failed";
 
 const PROFILE_HELP: &str = "\
 The timing profile, a JSON object; what it does not name is standard, and {} is the standard profile.

@@ -33,7 +33,7 @@ pub(crate) const ROWS: &[Row] = &[
         "BLOCK 1 LINE 1 COUNT 2 DEPENDENCES 1\n2 AFTER 1\n",
     ),
     (
-        "what follows from two others is stated",
+        "what follows from two others is printed",
         DEPS,
         "  FX1 X2*X3\n  FX4 X1+X5\n  FX6 X4*X1\n  SA6 A6+B1\n  FX0 X1+X4\n  BX7 X0+X6\n",
         0,
