@@ -8,7 +8,7 @@ use std::process::ExitCode;
 use std::{env, io};
 
 /// As many bytes of the stack as the deepest call takes, and half as many more.
-const STACK_ROOM: usize = 900_000;
+const STACK_ROOM: usize = 2_400_000;
 
 /// Touches so much of the stack, so that it doesn't have to grow later, when the stacks of the workers may have taken all the memory
 /// that the process is allowed: a stack that can't grow ends the process. A write of no bytes keeps the compiler from leaving
