@@ -335,8 +335,8 @@ impl<'a> Ledger<'a> {
     /// and the piece's other prefixes become nodes. A leaf that is below the best time is kept open. A dominated prefix is closed if its
     /// name is found where the piece guesses it, at a node that stands before it and isn't dominated itself; else it is kept open.
     ///
-    /// In time linear in the piece's lines and their names, with a logarithm of the number of open nodes for each that is open; all room is made
-    /// before anything changes.
+    /// In time linear in the piece's lines and their names, with a logarithm of the number of open nodes for each that is open;
+    /// all room is made before anything changes.
     pub fn graft(
         &mut self,
         w: u8,

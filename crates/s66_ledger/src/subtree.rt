@@ -19,7 +19,8 @@ use std::alloc::{AllocError, Global};
 use std::marker::Model;
 
 /// The nodes of a piece below its root, in preorder, before they have their place in a ledger: each names its parent by the place
-/// among them, counted from 1, and by 0 the root. What carries its floor is closed, and what is dominated is open until it has its place.
+/// among them, counted from 1, and by 0 the root. What carries its floor is closed; what is dominated is open until it has its
+/// place.
 #[derive(Debug, Drop)]
 pub struct Subtree {
     nodes: Vec<Node>,

@@ -209,8 +209,9 @@ impl Walk<'_> {
         self.expand_named(alloc, prefix, incumbent, allowance, rule, marks)
     }
 
-    /// Goes to a prefix and expands it as `expand_with` does, but a prefix below it that a node dominates of which a name is known
-    /// isn't split. It is a dominated leaf, if it is incomplete and its floor is below the last best time.
+    /// Goes to a prefix and expands it as `expand_dominated` does, by the nodes that `names` knows instead of those of a table; by
+    /// the rule of earlier nodes it knows none at first. On `Err` the walk stands at some prefix of the same block, the best time
+    /// may have fallen, and `names` may know other nodes.
     pub fn expand_named<L: Least, N: Naming>(
         &mut self,
         alloc: Global,

@@ -38,8 +38,8 @@ pub struct Entry {
 
 /// Marks of beginnings of a block's legal orders, found by the sets of their numbers.
 ///
-/// At most 65,536 are kept in all, or as many as the table is made for if these are fewer, and of those that are compared clamped at most 16 of
-/// one set. If memory runs out, or there are as many, a mark isn't kept.
+/// At most 65,536 are kept in all, or the table's own limit if that is less; of those that are compared clamped, at most 16 of
+/// one set. If memory runs out, or a limit is reached, a mark isn't kept.
 #[derive(Debug, Drop)]
 pub struct Marks<'a> {
     block: &'a Block<'a>,
@@ -247,7 +247,7 @@ impl<'a> Marks<'a> {
         Marks::with_limit(alloc, block, profile, TABLE_LIMIT)
     }
 
-    /// No mark, in a table that keeps at most so many.
+    /// No mark, in a table that keeps at most `limit`, and no more than 65,536.
     pub fn with_limit(
         alloc: Global,
         block: &'a Block<'a>,
@@ -382,7 +382,7 @@ impl<'a> Marks<'a> {
         let _ = self.keep(entry, place);
     }
 
-    /// Takes an entry out, with the node that it is. Until none is left, those that are left may not be found.
+    /// Takes the last entry out, with the node that it is. Before the table is empty, `find` may miss entries that are left.
     pub fn pop(&mut self) -> Option<(Entry, Place)>
         ensures same { self.new.problem ≡ self.old.problem }
         ensures some { IfSome result (λ taken. IsEntry self.old.problem taken.0 × (self.old.names ≡ self.new.names ++ numbers_of taken.0 ∷ [])) }

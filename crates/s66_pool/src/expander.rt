@@ -32,7 +32,7 @@ impl<'s, 'b, R: Wait> Expander<'s, 'b, R> {
     ghost use Rattle.s66_model.specs.Tree.{splits};
     ghost use Rattle.s66_node.specs.Pieces.{tree_of};
 
-    /// One that has seen nothing yet, beside what all have settled.
+    /// One that has expanded nothing yet, and knows the nodes that all workers have grafted.
     pub fn new(
         alloc: Global,
         rt: &'s R,

@@ -6,7 +6,7 @@ use std::boxed::Box;
 use std::marker::Model;
 use std::sync::Wait;
 
-/// What a worker knows of nodes that may dominate others: the lines of its own piece, and what all workers have settled.
+/// What a worker knows of nodes that may dominate others: the lines of its own piece, and what all workers have grafted.
 #[derive(Drop)]
 pub(crate) struct Known<'s, 'b, R> {
     rt: &'s R,

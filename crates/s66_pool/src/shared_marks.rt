@@ -1,4 +1,4 @@
-//! The marks that all workers of a search have settled, in parts, each of which one worker at a time may use.
+//! The marks of the nodes that all workers of a search have grafted, in parts, each of which one worker at a time may use.
 
 ghost use Rattle.std.specs.Prelude.{ℕ, ◌≡◌, ◌<◌, IfOk, IfSome};
 ghost use Rattle.s66_isa.specs.Lists.{has, Among};
@@ -94,7 +94,7 @@ pub(crate) fn name_in(
     }
 }
 
-/// The marks that all workers of a search have settled.
+/// The marks of the nodes that all workers of a search have grafted.
 ///
 /// At most 65,536 are kept in all, in 64 parts. The set of a mark's numbers says in which part it is.
 #[derive(Drop)]
@@ -118,7 +118,7 @@ impl<'b> SharedMarks<'b> {
     ghost use Rattle.s66_node.specs.MarkTables.{MarkTable, IsEntry};
     ghost use Rattle.s66_pool.specs.Parts.{IsAt, HasPart};
 
-    /// No mark. Where a worker names only lines of its own piece one part is made, which stays empty.
+    /// No mark. If workers name only lines of their own pieces, one part is made, which stays empty.
     pub(crate) fn new(
         alloc: Global,
         block: &'b Block<'b>,

@@ -6,10 +6,10 @@ pub const FEED_CALLS: u32 = 16_777_216;
 /// How many bytes each of these calls has room for.
 pub const FEED_ROOM: usize = 65_536;
 
-/// So many bytes are at least a line too many, or one that is too long.
+/// A text of this many bytes has at least a line too many, or one that is too long.
 pub const SOURCE_FRONT: usize = (LINE_BYTES_LIMIT + 1) * (SOURCE_LINES_LIMIT as usize + 1);
 
-/// How many workers search where the words give no number.
+/// How many workers search if the words give no number.
 pub const WORKERS_DEFAULT: u8 = 4;
 
 /// The most splits of a block's search where the words give no number.

@@ -35,8 +35,8 @@ fn room(alloc: Global) -> Result<Vec<u8>, AllocError>
     vec![in alloc; 0u8; FEED_ROOM]
 }
 
-/// How much of an input a command needs at most. A source that goes on past so many bytes is refused, and what is told of it is
-/// known from them.
+/// How many bytes of an input a command needs at most; None if it needs all. A source of more bytes is refused, for a reason that
+/// these show.
 fn most_kept(command: Command) -> Option<usize>
     ensures { IfSome result (λ most. (most ≡ SOURCE_FRONT) × (reads_source command.entry ≡ true)) }
 {

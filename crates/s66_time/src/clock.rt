@@ -201,7 +201,7 @@ impl<'a> Clock<'a> {
         self.words.worked[kind_number(kind)]
     }
 
-    /// When the unit of a kind that has one is free, or the next slot where that is later.
+    /// The minor cycle in which the only unit of a kind is free, or the next slot if that is later.
     pub fn free(&self, kind: Kind) -> u32
         requires { copies_of self.now.profile kind ≡ 1 }
         ensures value { result ≡ next (points self.now) + weigh (rest_busy kind (next (points self.now))) (points self.now) }

@@ -153,7 +153,7 @@ impl RegisterWords {
         }
     }
 
-    /// Puts back what was saved at so many places, the last word first.
+    /// Puts back what was saved at the first `count` places, the last word first.
     pub fn put_back(&mut self, saved: &[Saved], count: usize)
         requires { count ≤ length saved.now }
         ensures { self.new.words ≡ put_back (take count saved.now) self.old.words }

@@ -44,7 +44,7 @@ impl Steps {
         }
     }
 
-    /// Places the next instruction on the words, and writes behind the last step what was written over; so many units are of its
+    /// Places the next instruction on the words, and writes after the last step what was written over; `copies` units are of its
     /// kind.
     #[inline(always)]
     pub fn push(&mut self, words: &mut Words, profile: &Profile, copies: u32, number: u8, row: &Row)
@@ -78,7 +78,7 @@ impl Steps {
     }
 }
 
-/// Makes room for a step behind so many.
+/// Makes room for a step after the first `count`.
 fn make_room(places: &mut ArrayVec<Step, BLOCK_LIMIT>, count: usize)
     requires { (count ≤ length places.old.items) × (count < BLOCK_LIMIT) }
     ensures room { count < length places.new.items }
