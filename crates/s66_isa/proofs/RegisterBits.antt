@@ -34,7 +34,7 @@ register_at-digit i = omega arith
 
 -- WHICH ARE THERE
 
--- of the members that pass a test, the register is one where it is a member and passes
+-- of the members that pass a test, the register is one if it is a member and passes
 has-filter : (test : Reg → Bool) (r : Reg) (rs : List Reg) → has_reg r (filter test rs) ≡ (test r && has_reg r rs)
 has-filter test r [] = sym (and_right (test r) false refl)
 has-filter test r (s ∷ rs) =
@@ -62,7 +62,7 @@ has-all A digit = below-eight digit
 has-all B digit = below-eight digit
 has-all X digit = below-eight digit
 
--- a register whose digit is 0 to 7 is there where its bit is set
+-- a register whose digit is 0 to 7 is there if its bit is set
 pub has-bit : (set : Registers) (r : Reg) → r.digit ≤ 7 → has_reg r (registers_in set) ≡ (bit_at set.bits (index_of r) == 1)
 unfolding registers_in
 has-bit set r few =

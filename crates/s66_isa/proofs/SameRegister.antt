@@ -1,4 +1,4 @@
--- Registers that the tests call the same are the same, and which stand in a list.
+-- Registers that the tests call the same are the same, and which are in a list.
 use Rattle.std.proofs.Common.{ℕ, zero, suc, ◌≤◌, ◌≡◌, Bool, true, false, true≢false, cond, ◌||◌, List, [], ◌∷◌, ◌++◌, refl, sym, ap, arith, inl, inr, eqb, ◌∙◌}
 use Rattle.std.proofs.lemmas.Bool.{cases_Bool, or_cases, or_left, or_right, and_parts, and_from, eqb-true, eq-eqb}
 use Rattle.std.proofs.Math.Bool.{or_assoc, or-false}
@@ -53,7 +53,7 @@ has_reg-from r (s ∷ rs) h =
       | inr past ↦ or_right (same_reg r s) (has_reg r rs) (has_reg-from r rs past)
     ]
 
--- registers that are the same are the same as the same others, and stand in the same sets
+-- registers that are the same are the same as the same others, and are in the same sets
 same_reg-at : (r s : Reg) → same_reg r s ≡ true → (q : Reg) → same_reg r q ≡ same_reg s q
 same_reg-at r s h q = ap (λ (x : Reg). same_reg x q) (same_reg-true r s h)
 
@@ -89,7 +89,7 @@ has_reg-insert q named set r =
           ∙ ap (λ t. has_reg q set || t) (or-false (same_reg q r)))
     ]
 
--- save B0, what was in the set and what joined it stand there
+-- save B0, what was in the set and what joined it are there
 pub has_reg-insert_all : (q : Reg) → is_b0 q ≡ false → (set rs : List Reg) → has_reg q (insert_all set rs) ≡ (has_reg q set || has_reg q rs)
 has_reg-insert_all q named set [] = sym (or-false (has_reg q set))
 has_reg-insert_all q named set (r ∷ rs) =

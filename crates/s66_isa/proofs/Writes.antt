@@ -82,7 +82,7 @@ held-latency : (r : Row) (held : List Reg) → r.writes ≡ map (held_write r.ho
 held-latency r [] is = rw is refl
 held-latency r (x ∷ xs) is = rw is (held-greatest r.hold x xs)
 
--- where nothing is fetched the greatest latency is the hold
+-- if nothing is fetched, the greatest latency is the hold
 pub unloaded-latency : (p : Profile) (n : Instr) → loaded_registers (memory_of n) n ≡ [] → latency_of (row p n) ≡ hold_of p n.op.code
 unfolding row
 unloaded-latency p n none = held-latency (row p n) (held_registers n) (ap (λ rs. map (held_write (hold_of p n.op.code)) (held_registers n) ++ map (loaded_write p.load) rs) none)

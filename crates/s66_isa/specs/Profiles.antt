@@ -22,7 +22,7 @@ at-most n = max-le (lit≤ tt) (min-le_left PROFILE_LIMIT n)
 abbrev pub entry_at : List ℕ → ℕ → ℕ
 entry_at ns i = nearest (get_or ns i 1)
 
--- the profile of these numbers, where they are a profile's; where one is none, the nearest stands for it
+-- the profile of these numbers, if they are a profile's; for one that is none, the nearest is taken
 unfoldable pub profile_of : List ℕ → Profile
 profile_of ns = record {
   boolean = entry_at ns 0;

@@ -1,4 +1,5 @@
--- Used by contracts: registers by their indices, and a set of them in one word: a register is there where the bit of its index is set.
+-- Used by contracts: registers by their indices, and a set of them in one word: a register is there if the bit of its index is
+-- set.
 use Rattle.std.specs.Prelude.{ℕ, zero, suc, ◌+◌, ◌*◌, ◌/◌, ◌%◌, ◌^◌, ◌==◌, Bool, List, ◌++◌, map, get_or}
 use Rattle.std.specs.List.{filter}
 use Rattle.std.specs.Int.Bits.{bit_and}

@@ -6,7 +6,7 @@ use Rattle.s66_isa.specs.Table.{Row, Write}
 abbrev pub held_latency : Write → ℕ
 held_latency w = if w.held then w.latency else 0
 
--- where something is written, the greatest latency of a held result is the hold
+-- if something is written, the greatest latency of a held result is the hold
 pub record IsInRange (r : Row) : Type 0 where
   pub parcels : (1 ≤ r.parcels) × (r.parcels ≤ 2)
   pub hold : (1 ≤ r.hold) × (r.hold ≤ 100)

@@ -71,7 +71,7 @@ has_reg r (s ∷ ss) = same_reg r s || has_reg r ss
 abbrev pub unless_b0 : Reg → List Reg
 unless_b0 r = if is_b0 r then [] else r ∷ []
 
--- a register joins a set of registers: B0 never does, and none stands there twice
+-- a register joins a set of registers: B0 never does, and none is there twice
 abbrev pub insert : List Reg → Reg → List Reg
 insert set r = if is_b0 r || has_reg r set then set else set ++ r ∷ []
 
@@ -107,7 +107,7 @@ same_kind a b = kind_number a == kind_number b
 abbrev pub all_kinds : List Kind
 all_kinds = Boolean ∷ Shift ∷ Add ∷ LongAdd ∷ Multiply ∷ Divide ∷ Increment ∷ []
 
--- two where a constant of 18 bits stands: the set instructions of last digit 0 to 2
+-- 2 if there is a constant of 18 bits: the set instructions of last digit 0 to 2
 abbrev pub parcels_of : ℕ → ℕ
 parcels_of code = if nat_le 0o50 code && nat_lt (code % 8) 3 then 2 else 1
 
@@ -291,7 +291,7 @@ row p n =
       memory = memory_of n;
     }
 
--- the greatest latency of its results, or the hold where nothing is written
+-- the greatest latency of its results, or the hold if nothing is written
 abbrev pub latency_of : Row → ℕ
 latency_of r = longest r.writes
   where

@@ -96,9 +96,9 @@ pub fn is_memory_conflict(a: Memory, b: Memory) -> bool
 
 /// An instruction: its operation and its octal digits i, j and k, each 0 to 7.
 ///
-/// What each operation reads, writes and uses is the table of instructions of the CDC 6400/6500/6600 Computer Systems
-/// Reference Manual, publication 60100000. The value of a constant is not kept, and a digit that the form lacks is 0 in
-/// what is read from a source, so there two instructions are equal where operation and registers agree.
+/// What each operation reads, writes and uses is the table of instructions of the CDC 6400/6500/6600 Computer Systems Reference
+/// Manual, publication 60100000. The value of a constant is not kept, and a digit that the form lacks is 0 in what is read from a
+/// source, so there two instructions are equal if operation and registers agree.
 #[derive(Clone, Copy, Debug, PartialEq, Eq)]
 pub struct Instr {
     op: Op,
@@ -189,7 +189,7 @@ impl Instr {
         }
     }
 
-    /// How many parcels of 15 bits it takes: 2 where a constant of 18 bits stands in it, else 1.
+    /// How many parcels of 15 bits it takes: 2 if it has a constant of 18 bits, else 1.
     pub fn parcels(&self) -> u32
         ensures value { result ≡ parcels_of self.now.op.code }
         ensures at_least { 1 ≤ result }
@@ -375,7 +375,7 @@ fn b(digit: u8) -> Reg
     Reg::new(Bank::B, digit)
 }
 
-/// A register joins a set: B0 never does, and none stands there twice.
+/// A register joins a set: B0 never does, and no register is there twice.
 fn join(registers: &mut ArrayVec<Reg, 4>, register: Reg)
     requires { array_vec_len registers.old < 4 }
     ensures items { registers.new.items ≡ insert registers.old.items register }

@@ -15,7 +15,7 @@ pub enum Bank {
     X,
 }
 
-/// A register: its bank, and its digit 0 to 7. It is kept by its index, so that a look at a word of it works nothing out.
+/// A register: its bank, and its digit 0 to 7. It is stored as its index, so that a look at a word of it works nothing out.
 #[derive(Clone, Copy, Debug, Default, PartialEq, Eq)]
 pub struct Reg {
     /// 0 to 23: A0 to A7, then B0 to B7, then X0 to X7.

@@ -5,7 +5,7 @@ use crate::reg::Reg;
 /// A set of registers in one word.
 #[derive(Clone, Copy, Debug, PartialEq, Eq)]
 pub struct Registers {
-    /// The bit of a register's index tells whether the register is there.
+    /// The bit of a register's index is set if the register is there.
     bits: u32,
     ghost few: { bits < 2 ^ 24 },
 }

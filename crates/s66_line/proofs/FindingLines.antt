@@ -1,4 +1,4 @@
--- What is told of lines, one after the other, and what stands after the last comma of an operand.
+-- What is stated of lines, one after the other, and what comes after the last comma of an operand.
 use Rattle.std.proofs.Common.{◌≡◌, ◌≤◌, ◌<◌, ◌+◌, ℕ, zero, suc, Bool, true, false, None, Some, List, [], ◌∷◌, ◌++◌, length, take, drop, refl, sym, ap, ◌∙◌, arith, append_assoc}
 use Rattle.std.proofs.lemmas.Bool.{false_from_ne_true, le-ltb, lt-ltb, or_right}
 use Rattle.memchr.specs.Find.{IsLastByte, Nowhere, Passes, is_byte}
@@ -22,7 +22,7 @@ pub past-limit : (number : ℕ) (after : Bool) (line : List ℕ) (lines : List (
     stated_from number after (line ∷ lines) ≡ stated_past number line
 past-limit number after line lines h = rw (lt-ltb SOURCE_LINES_LIMIT number h) refl
 
--- what is told of a line, and then of those after it
+-- what is stated of a line, and then of those after it
 pub stated-line : (out : List ℕ) (number : ℕ) (after : Bool) (line : List ℕ) (lines : List (List ℕ)) → number ≤ SOURCE_LINES_LIMIT →
     (out ++ stated_lines (stated_at number after line)) ++ stated_lines (stated_from (suc number) (may_continue after line) lines)
     ≡ out ++ stated_lines (stated_from number after (line ∷ lines))

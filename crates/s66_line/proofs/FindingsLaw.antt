@@ -1,4 +1,4 @@
--- The first refusal of what is told of a source is the source's.
+-- The first refusal of what is stated of a source is the source's.
 use Rattle.std.proofs.Common.{◌≡◌, ℕ, suc, Bool, true, false, if◌then◌else◌, List, [], ◌∷◌, ◌++◌, Option, None, Some, refl, ap, ◌∙◌, subst}
 use Rattle.std.specs.Prelude.{Ok}
 use Rattle.s66_line.specs.Fields.{body, continues, lines_of, operand, operation, upper}

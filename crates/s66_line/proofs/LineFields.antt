@@ -124,7 +124,7 @@ pub spelling-fits : (bytes : List ℕ) → 0 < length (word (skip_blanks (after_
 spelling-fits [] h = h
 spelling-fits (b ∷ bytes) h = fits-from (is_blank b) b bytes refl (spelling-fits bytes) h
 
--- the operation begins behind column 1
+-- the operation begins after column 1
 
 after_word-length : (bytes : List ℕ) → length (after_word bytes) ≤ length bytes
 after_word-length [] = omega arith
@@ -185,7 +185,7 @@ trim-push_no test (a ∷ bytes) b fails =
     let e : every test (bytes ++ b ∷ []) ≡ false = every-push test bytes b ∙ (rw fails (and-false (every test bytes))) in
     rw (e, h, and-false (test a)) refl
 
--- THE END THAT PASSES, found from behind
+-- THE END THAT PASSES, found from the end on
 
 pub trim-cut : (test : ℕ → Bool) (line : List ℕ) (end : ℕ) → 0 < end → end ≤ length line → test (get_or line (end - 1) 0) ≡ true → trim test (take (end - 1) line) ≡ trim test (take end line)
 trim-cut test line zero some within passes = absurd (omega (arith, some))

@@ -46,7 +46,7 @@ not_comment : (l : Line) (blocks : List Block) → is_comment_class l.class ≡ 
 not_comment l [] h = refl
 not_comment l (block ∷ blocks) h = rw (h, not_comment l blocks h) refl
 
--- by whether it is a note, and whether an instruction stands in its run
+-- by whether it is a note, and whether an instruction is in its run
 abbrev roles_by : Class → Bool → Bool → List Bool
 roles_by c note block =
     is_instruction c ∷ note ∷ (is_pad_class c && block) ∷ (is_other_class c || (is_comment_class c && not note || is_pad_class c && not block)) ∷ []

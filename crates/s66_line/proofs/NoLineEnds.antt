@@ -119,7 +119,7 @@ is_term-ends_no_line term h = by_name (register_of term) (name-ends_no_line term
 sign-ends_no_line : (b : ℕ) → is_sign b ≡ true → ends_no_line b ≡ true
 sign-ends_no_line b h = passes-ends_no_line is_sign refl refl b h
 
--- where each term that is cut out has none, the text has none
+-- if each term that is cut out has none, the text has none
 cut-ends_no_line : (test : List ℕ → Bool) → ((term : List ℕ) → test term ≡ true → EndsNoLine term) → (minus : Bool) (term bytes : List ℕ) →
     every (λ (t : Bool × List ℕ). test t.1) (terms_from minus term bytes) ≡ true → EndsNoLine term × EndsNoLine bytes
 cut-ends_no_line test passes minus term [] h = (passes term (and_parts (test term) true h).0, refl)
@@ -292,7 +292,7 @@ inside-spelling : (operation operand : List ℕ) → every is_inside operation �
 inside-spelling operation [] h k = h
 inside-spelling operation (b ∷ operand) h k = every-append is_inside operation (32 ∷ b ∷ operand) h k
 
--- no newline stands in the text of an instruction
+-- the text of an instruction has no newline
 pub one-line : (text : List ℕ) → IsInstruction text → every is_inside text ≡ true
 one-line text is =
     let clean = spelled-ends_no_line (operation_in text) (operand_in text) is.instr is.is_text.spells in

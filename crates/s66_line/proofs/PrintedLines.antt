@@ -162,7 +162,7 @@ OneRun [] = Unit {0}
 OneRun ([] ∷ parts) = ⊥
 OneRun ((a ∷ more) ∷ parts) = SameRun a.run more × OneRun parts
 
--- BLOCKS BEFORE, whose last instructions stand before a line
+-- BLOCKS BEFORE, whose last instructions come before a line
 
 abbrev Ended : ℕ → List Block → Type 0
 Ended low [] = Unit {0}
@@ -208,7 +208,7 @@ some-note : (l : Line) (before : List Block) (block : Block) (after : List Block
 some-note l [] block after h = rw h refl
 some-note l (b ∷ before) block after h = elim (is_note_of l b) as (λ t. (t || some_of (is_note_of l) (before ++ block ∷ after)) ≡ true) [ true ↦ refl | false ↦ some-note l before block after h ]
 
--- a line that stands in no block is none
+-- a line that is in no block is none
 no-note-before : (l : Line) (low : ℕ) (before after : List Block) → Ended low before → low ≤ l.number → some_of (is_note_of l) (before ++ after) ≡ some_of (is_note_of l) after
 no-note-before l low [] after h at = refl
 no-note-before l low (b ∷ before) after h at =
@@ -298,7 +298,7 @@ text-end all n blocks ps = refl
 
 -- IN A SOURCE
 
--- these lines stand before, count of them
+-- these lines come before, count of them
 record At (all before lines : List Line) (count run : ℕ) : Type 0 where
   whole : all ≡ before ++ lines
   below : Before (suc count) before
@@ -313,7 +313,7 @@ At-next all before lines l count run at = record {
   taken = (neither (refusal_at l) (refusal lines) at.taken).1;
 }
 
--- a block of which an instruction stands before and x comes next, then q
+-- a block of which an instruction comes before and x comes next, then q
 record Open (all lines : List Line) (ended : List Block) (block : Block) (x : Line) (q : List Line) (parts : List (List Line)) (ps : List Placed) (count run k : ℕ) : Type 0 where
   blocks : blocks_of all ≡ ended ++ block ∷ map block_of parts
   behind : Ended (suc count) ended
@@ -564,7 +564,7 @@ Closed-next all lines l ended parts ps count stated closed = record {
   placed = closed.placed;
 }
 
--- the instructions to come stand behind the next line
+-- the instructions to come are after the next line
 rising-closed : (lines : List Line) (l : Line) (parts : List (List Line)) (count : ℕ) → is_instruction l.class ≡ false → Ordered (suc (suc count)) (run_behind l) lines → instructions (l ∷ lines) ≡ all_of parts →
     Rising (suc (suc count)) (all_of parts)
 rising-closed lines l parts count stated ordered left =

@@ -26,7 +26,7 @@ use Rattle.s66_line.proofs.ReadBlock.{AreSound, Ended, read-block}
 use Rattle.s66_line.proofs.ReaderBlocks.{from_class, Begins, fresh, next-index, full-index, read_from-start}
 use Rattle.s66_line.proofs.Wholes.{is_inside, AreLines-lines_of}
 
--- THE PARTS of the lines to come: what is left of the part that is begun, and the parts behind it
+-- THE PARTS of the lines to come: what is left of the part that is begun, and the parts after it
 
 abbrev left : List (List Line) → List Line
 left [] = []
@@ -90,7 +90,7 @@ fits-next lines fits number run index label = by_full (eqb (suc (index % BLOCK_L
         let few = fits number run (suc index) label true in
         omega (arith, next, few)
 
--- nothing is left where a block begins
+-- nothing is left if a block begins
 left-of_fresh : (lines : List (List ℕ)) (index number run later : ℕ) (label : List ℕ) (after : Bool) → later % BLOCK_LIMIT ≡ 0 → index % BLOCK_LIMIT + length (left (parts_from number run later label after lines)) ≤ BLOCK_LIMIT
 left-of_fresh lines index number run later label after h =
     let none = ap (λ (ls : List Line). length ls) (none-left lines number run later label after h) in
@@ -106,7 +106,7 @@ fits-instruction lines fits l number run index label at =
     subst (λ ls. index % BLOCK_LIMIT + length ls ≤ BLOCK_LIMIT) (sym (left-put l rest))
     (elim (begins_block l) as (λ t. index % BLOCK_LIMIT + length (if t then [] else l ∷ left rest) ≤ BLOCK_LIMIT) [ true ↦ omega (arith, below) | false ↦ omega (arith, next) ])
 
--- the parts of a line of this class and the lines behind it
+-- the parts of a line of this class and the lines after it
 abbrev parts_by : ℕ → ℕ → ℕ → List ℕ → Class → List ℕ → List (List ℕ) → List (List Line)
 parts_by number run index label c line lines = parts_of (instructions (from_class number run index label c line lines))
 
@@ -197,7 +197,8 @@ text-copied all n ((m ∷ more) ∷ parts) (p ∷ ps) l lines h placed = rw (ne_
 
 -- WHAT IS READ
 
--- what is to be known of the state before lines to come, of which so many are left of the begun part: an unlabelled block that begins next stands for itself
+-- what has to be known of the state before lines to come, of which this many are left of the begun part: an unlabelled block that
+-- begins next stands for itself
 abbrev Ready : ℕ → List ℕ → ℕ → State → Type 0
 Ready index label count t = (index % BLOCK_LIMIT ≡ 0 → (if index == 0 then label else []) ≡ [] → Ended t) × (index % BLOCK_LIMIT + count ≡ BLOCK_LIMIT → Ended t)
 
@@ -236,7 +237,7 @@ ReadsClass c line lines = (all : List Line) (n number run index : ℕ) (label : 
 rest-taken : (l : Line) (lines : List Line) → refusal (l ∷ lines) ≡ None → refusal lines ≡ None
 rest-taken l lines h = (neither (refusal_at l) (refusal lines) h).1
 
--- the lines behind it are read after it, or as if it weren't there
+-- the lines after it are read after it, or as if it weren't there
 copied-line : (all : List Line) (n : ℕ) (parts : List (List Line)) (ps : List Placed) (l : Line) (lines : List Line) (after : Bool) (t : State) (again : List Block) → class_of after l.bytes ≡ l.class →
     every is_inside l.bytes ≡ true → operand_refusal l.number l.class ≡ None → FirstFrom (suc l.number) parts → ArePlaced (map block_of parts) ps → read_text t all n parts ps (l ∷ lines) ≡ Ok again →
     (read_text t all n parts ps lines ≡ Ok again)
@@ -272,7 +273,7 @@ reads-pad line lines reads all n number run index label after ps t again stated 
       | inr step ↦ reads all n (suc number) run index label true ps (count_line true t) again source insides (rest-taken l rest taken) is placed complete ready step
     ]
 
--- where a run begins with a label, nothing is to be known of the state
+-- if a run begins with a label, nothing has to be known of the state
 ready-labelled : (lines : List (List ℕ)) (number run : ℕ) (label : List ℕ) (after : Bool) (t : State) → is_filled label ≡ true → Ready 0 label (length (left (parts_from number run 0 label after lines))) t
 ready-labelled lines number run label after t some =
     let none = ap (λ (ls : List Line). length ls) (none-left lines number run 0 label after refl) in
@@ -314,7 +315,7 @@ label-or_none false label is = (refl, refl)
 one-more : (blocks later again new : List Block) (made : Block) → later ≡ blocks ++ made ∷ [] → again ≡ later ++ new → again ≡ blocks ++ made ∷ new
 one-more blocks later again new made h k = k ∙ ap (λ bs. bs ++ new) h ∙ append_assoc blocks (made ∷ []) new
 
--- the lines behind an instruction, and their parts
+-- the lines after an instruction, and their parts
 abbrev lines_after : ℕ → Line → List (List ℕ) → List Line
 lines_after run l lines = classes_from (suc l.number) run (suc l.index) l.label true lines
 

@@ -59,7 +59,7 @@ sound-at block (suc n) h some few =
 
 -- AN INSTRUCTION LINE
 
--- the run begins with a label where there is one
+-- the run begins with a label if there is one
 abbrev begun : List ℕ → State → State
 begun label t = begin_run_if (is_filled label) label t
 
@@ -165,7 +165,7 @@ pub record Again (block : Block) (order : List ℕ) (t : State) (text : List ℕ
   pub placed : IsPlacedAgain block made order
   pub full : length order ≡ BLOCK_LIMIT → Ended state
 
--- a run that begins here, or goes on where a block has ended
+-- a run that begins here, or goes on if a block has ended
 begun-new : (label : List ℕ) (t : State) → (label ≡ [] → Ended t) → ((begun label t).entries ≡ []) × ((begun label t).label ≡ label) × ((begun label t).blocks ≡ with_open t.blocks t.label t.entries)
 begun-new [] t h =
     let ended = h refl in

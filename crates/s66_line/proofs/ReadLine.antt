@@ -94,7 +94,7 @@ filled-again : (bytes : List ℕ) (n : Instr) → Spells bytes n → is_filled (
 filled-again bytes n spells =
     ap is_filled (operation-again bytes n spells) ∙ sym (filled-upper (word bytes)) ∙ (spelled-ends_no_line (operation_in bytes) (operand_in bytes) n spells).0.1
 
--- a word stands in front
+-- a word is in front
 skip_blanks-word : (bytes : List ℕ) → is_filled (word bytes) ≡ true → skip_blanks bytes ≡ bytes
 skip_blanks-word [] h = refl
 skip_blanks-word (b ∷ bytes) h = by_blank (is_blank b) h
@@ -180,7 +180,7 @@ class-spelled after line bytes located n whole code first here at spells =
 
 -- LABELS
 
--- as it stands in front of a line of code: without blanks, but for one in column 1
+-- as it is in front of a line of code: without blanks, but for one in column 1
 abbrev is_label : List ℕ → Bool
 is_label [] = true
 is_label (b ∷ bytes) = if b == 32 then is_filled bytes && every is_no_blank bytes else (every is_no_blank (b ∷ bytes) && not (b == 42) && not (b == 44))
@@ -188,13 +188,13 @@ is_label (b ∷ bytes) = if b == 32 then is_filled bytes && every is_no_blank by
 abbrev pub IsLabel : List ℕ → Type 0
 IsLabel label = (is_label label ≡ true) × (every is_inside label ≡ true)
 
--- how an instruction line is read: with its label where it has one, and its bytes without trailing ones
+-- how an instruction line is read: with its label if it has one, and its bytes without trailing ones
 pub record IsRead (line label bytes : List ℕ) (n : Instr) : Type 0 where
   pub classed : (after : Bool) → class_of after line ≡ Instruction (is_filled label) n
   pub labelled : is_filled label ≡ true → label_bytes (body line) ≡ label
   pub left : from_operation (body line) ≡ trim is_trailing bytes
 
--- where a line is whole without returns at its end
+-- if a line is whole without returns at its end
 read-by : (line label bytes : List ℕ) (n : Instr) → Spells bytes n → body line ≡ line → is_comment line ≡ false → continues line ≡ false → is_located line ≡ is_filled label →
     from_operation line ≡ trim is_trailing bytes → (is_filled label ≡ true → label_bytes line ≡ label) → IsRead line label bytes n
 read-by line label bytes n spells whole code first here at name = record {
@@ -203,7 +203,7 @@ read-by line label bytes n spells whole code first here at name = record {
   left = ap from_operation whole ∙ at;
 }
 
--- few blanks stand in front
+-- few blanks are in front
 few-blanks : (b : ℕ) (bytes : List ℕ) (count : ℕ) → (b == 42) ≡ false → blanks (b ∷ bytes) ≡ count → count < length (b ∷ bytes) → count < 29 → is_comment (b ∷ bytes) ≡ false
 few-blanks b bytes count star same fewer few =
     ap (λ t. t || (blanks (b ∷ bytes) == length (b ∷ bytes) || nat_le 29 (blanks (b ∷ bytes)))) star
@@ -371,7 +371,7 @@ label-of_body (b ∷ bytes) code first here = by_column (b == 32) (is_blank b) r
           refl,
         )
 
--- what stands in front of code is a label
+-- what is in front of code is a label
 pub label-of_code : (after : Bool) (line : List ℕ) → begins_run (class_of after line) ≡ true → every is_inside line ≡ true → IsLabel (label_bytes (body line)) × (is_filled (label_bytes (body line)) ≡ true)
 label-of_code after line begins inside =
     let line_body : List ℕ = body line in

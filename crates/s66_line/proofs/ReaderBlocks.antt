@@ -104,7 +104,7 @@ blocks-put l ((next ∷ more) ∷ parts) =
     else labelled (label_in (l ∷ [])) (entry_of l ∷ map entry_of (next ∷ more)) ∷ map block_of parts))
     [ true ↦ refl | false ↦ refl ]
 
--- the label that is left for the open block: the run's, where no instruction of the run stands before the block's
+-- the label that is left for the open block: the run's, if no instruction of the run comes before the block's
 abbrev left_label : List ℕ → ℕ → ℕ → List ℕ
 left_label run_label index count = if eqb index count then run_label else []
 
@@ -158,7 +158,7 @@ left-push label run_label index entries e left =
 abbrev entry_at_line : Instr → List ℕ → ℕ → Entry
 entry_at_line n line count = record { instr = n; line = suc count; bytes = from_operation (body line) }
 
--- the instruction goes to the open block, and ends it where it is full then
+-- the instruction goes to the open block, and ends it if it is full then
 put-full : (full : Bool) (n : Instr) (line : List ℕ) (lines : List (List ℕ)) → Read lines →
     (blocks : List Block) (label : List ℕ) (entries : List Entry) (count run index : ℕ) (run_label : List ℕ) (after : Bool) →
     index % BLOCK_LIMIT ≡ length entries → label ≡ left_label run_label index (length entries) →

@@ -65,7 +65,7 @@ trim-length test (b ∷ bytes) =
     elim (every test (b ∷ bytes)) as (λ t. length (if t then [] else b ∷ trim test bytes) ≤ suc (length bytes))
     [ true ↦ omega arith | false ↦ (let h = trim-length test bytes in omega (arith, h)) ]
 
--- the operation begins behind column 1
+-- the operation begins after column 1
 few-entry : (l : Line) → length l.bytes ≤ LINE_BYTES_LIMIT → length (entry_of l).bytes ≤ TEXT_LIMIT
 few-entry l few =
     let trimmed = trim-length is_return l.bytes in

@@ -34,7 +34,8 @@ bytes_of block n = bytes (entry_at block n)
 abbrev pub text_of : Block → ℕ → List ℕ
 text_of block n = spelling (operation_in (bytes_of block n)) (operand_in (bytes_of block n))
 
--- the text of the constant of an instruction, in upper case: of a shift count or a mask the whole operand, of a set instruction its constant terms, each with its sign, and of any other nothing
+-- the text of the constant of an instruction, in upper case: the whole operand of a shift count or a mask, the constant terms of
+-- a set instruction, each with its sign, and nothing of any other
 abbrev pub constants_in : Block → ℕ → List ℕ
 constants_in block n = constant_of (instr_at (instrs_of block) n).op.code (operand_in (bytes_of block n))
 

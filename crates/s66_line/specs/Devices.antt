@@ -4,7 +4,7 @@ use Rattle.std.specs.Io.KnownBytes.{Appends, Keeps}
 
 -- READERS
 
--- a reader: its bytes that are left, where they are known; how many of its calls gave bytes, gave none, and failed; and the least
+-- a reader: its bytes that are left, if they are known; how many of its calls gave bytes, gave none, and failed; and the least
 -- and the most room of those that didn't fail
 pub record Reader : Type 0 where
   pub bytes : Option (List ℕ)
@@ -34,7 +34,7 @@ FeedFails old new =
 
 -- WRITERS
 
--- a writer: its bytes that were taken, where they are known, and how many of its calls have failed
+-- a writer: its bytes that were taken, if they are known, and how many of its calls have failed
 pub record Writer : Type 0 where
   pub bytes : Option (List ℕ)
   pub failures : ℕ

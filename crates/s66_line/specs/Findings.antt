@@ -1,4 +1,4 @@
--- To be believed: what is told of the lines of a source: each that is refused, and each that may not do what was meant.
+-- To be believed: what is stated of the lines of a source: each that is refused, and each that may not do what was meant.
 use Rattle.std.specs.Prelude.{ℕ, suc, Bool, true, false, not, ◌&&◌, ◌||◌, ◌==◌, if◌then◌else◌, List, [], ◌∷◌, ◌++◌, Option, None, Some, codes, decimal, length, nat_lt, nat_le, is_some, bytes_eq}
 use Rattle.s66_isa.specs.Lists.{every, some_of}
 use Rattle.s66_line.specs.Fields.{lines_of, upper, body, continues, operation, operand}
@@ -60,7 +60,7 @@ is_one_of names word = some_of (λ name. bytes_eq word name) names
 abbrev pub is_comma : ℕ → Bool
 is_comma b = b == 44
 
--- of an operand, what stands after its last comma
+-- of an operand, what comes after its last comma
 abbrev pub last_part : List ℕ → List ℕ
 last_part [] = []
 last_part (b ∷ bytes) = if some_of is_comma (b ∷ bytes) then last_part bytes else b ∷ bytes
@@ -119,7 +119,7 @@ stated_from number after [] = []
 stated_from number after (line ∷ lines) =
     if nat_lt SOURCE_LINES_LIMIT number then stated_past number line else stated_at number after line ++ stated_from (suc number) (may_continue after line) lines
 
--- all that is told of a source
+-- all that is stated of a source
 abbrev pub stated : List ℕ → List Stated
 stated text = stated_from 1 false (lines_of text)
 
@@ -134,7 +134,7 @@ words_of BadOperand = codes " BAD OPERAND"
 words_of NotAnInstruction = codes " NOT AN INSTRUCTION"
 words_of CountsLines = codes " COUNTS LINES"
 
--- the operand is told where it is bad
+-- the operand is stated if it is bad
 abbrev pub stated_operand : Finding → List ℕ → List ℕ
 stated_operand BadOperand operand = operand
 stated_operand finding operand = []
@@ -155,7 +155,7 @@ stated_lines (t ∷ ts) = stated_line t ++ stated_lines ts
 abbrev pub findings_text : List ℕ → List ℕ
 findings_text text = stated_lines (stated text)
 
--- WHAT IS REFUSED of what is told
+-- WHAT IS REFUSED of what is stated
 
 abbrev pub refusal_stated : Stated → Option SourceError
 refusal_stated (TooLong number) = Some (error.LineTooLong number)

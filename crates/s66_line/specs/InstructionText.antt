@@ -6,7 +6,7 @@ use Rattle.s66_line.specs.declared.limits.TheConstants.{TEXT_LIMIT}
 use Rattle.s66_line.specs.Fields.{upper, word, skip_blanks, after_word}
 use Rattle.s66_line.specs.Operand.{instr_of}
 
--- an operation, and a blank and its operand where it has one
+-- an operation, and a blank and its operand if it has one
 abbrev pub spelling : List ℕ → List ℕ → List ℕ
 spelling operation [] = operation
 spelling operation (b ∷ operand) = operation ++ 32 ∷ b ∷ operand
@@ -23,7 +23,7 @@ operand_in bytes = upper (word (skip_blanks (after_word bytes)))
 abbrev pub Spells : List ℕ → Instr → Type 0
 Spells bytes n = instr_of (operation_in bytes) (operand_in bytes) ≡ Some n
 
--- the instruction that they spell, and one that does nothing where they spell none
+-- the instruction that they spell, or one that does nothing if they spell none
 abbrev pub instr_in_text : List ℕ → Instr
 instr_in_text bytes = spelled (instr_of (operation_in bytes) (operand_in bytes))
   where

@@ -18,7 +18,7 @@ pub record Placed : Type 0 where
   pub time : ℕ
   -- what every order takes at least
   pub bound : ℕ
-  -- how many splits the search took, where that is to be printed
+  -- how many splits the search took, if that is to be printed
   pub splits : Option ℕ
 
 -- one for each block, and each number of its order is one of the block's
@@ -37,7 +37,7 @@ splits_line (Some splits) = codes "* SPLITS " ++ decimal splits ++ codes "\n"
 abbrev pub bound_text : Placed → List ℕ
 bound_text p = if p.bound == p.time then codes " BEST\n" else (codes " AT LEAST " ++ decimal p.bound ++ codes "\n")
 
--- of the n-th block, from 1, with so many instructions, how long it takes as it was read and as it is printed
+-- of the n-th block, from 1, with this many instructions: how long it takes as it was read and as it is printed
 abbrev pub times_text : ℕ → ℕ → ℕ → ℕ → List ℕ
 times_text n count source time =
     codes "* BLOCK " ++ decimal n ++ codes " COUNT " ++ decimal count ++ codes " SOURCE " ++ decimal source ++ codes " TIME " ++ decimal time
@@ -47,7 +47,7 @@ report n count p = times_text n count p.source p.time ++ bound_text p ++ splits_
 
 -- LINES
 
--- a label filled with blanks to ten bytes, or followed by one blank if it has ten or more; ten blanks where there is none
+-- a label filled with blanks to ten bytes, or followed by one blank if it has ten or more; ten blanks if there is none
 abbrev pub label_field : List ℕ → List ℕ
 label_field label = label ++ (if nat_lt (length label) 10 then replicate (10 - length label) 32 else (32 ∷ []))
 
@@ -55,7 +55,7 @@ label_field label = label ++ (if nat_lt (length label) 10 then replicate (10 - l
 abbrev pub is_trailing : ℕ → Bool
 is_trailing b = is_blank b || is_return b
 
--- an instruction, by the bytes of its line from its operation on, behind this label
+-- an instruction, by the bytes of its line from its operation on, after this label
 abbrev pub instruction_line : List ℕ → List ℕ → List ℕ
 instruction_line label bytes = label_field label ++ trim is_trailing bytes ++ codes "\n"
 
@@ -83,7 +83,8 @@ block_text all n block p = report n (length block.entries) p ++ notes_text block
 abbrev pub copied_text : List Line → Line → List ℕ
 copied_text all line = if is_copied all line then copied_line line else []
 
--- line by line: the text of the next block, which is the n-th, where its first instruction stands, and else the line if it is copied
+-- line by line: the text of the next block, which is the n-th, in the place of its first instruction, and else the line if it is
+-- copied
 abbrev pub text_of_lines : List Line → ℕ → List Block → List Placed → List Line → List ℕ
 text_of_lines all n blocks ps [] = []
 text_of_lines all n (block ∷ blocks) (p ∷ ps) (line ∷ lines) =

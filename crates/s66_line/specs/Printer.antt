@@ -15,12 +15,12 @@ pub record Printer : Type 0 where
   pub dropped : List ℕ
   -- the number of the first of the blocks, from 1
   pub number : ℕ
-  -- how many of its instructions stand among the lines before
+  -- how many of its instructions are among the lines before
   pub passed : ℕ
-  -- how many lines stand before
+  -- how many lines come before
   pub lines : ℕ
 
--- the first block has more instructions than were passed, where some were
+-- the first block has more instructions than were passed, if some were
 abbrev pub HasMore : ℕ → List Block → Type 0
 HasMore passed [] = Unit {0}
 HasMore passed (block ∷ blocks) = 0 < passed → passed < length block.entries
@@ -52,7 +52,8 @@ is_passed line passed (block ∷ blocks) = line_of block (suc passed) == line
 abbrev pub is_instruction_next : Printer → Bool
 is_instruction_next p = is_passed (suc p.lines) p.passed p.blocks
 
--- in the place of an instruction of a block: the report in that of the first, and all instructions in that of the last, so that the notes stand between
+-- in the place of an instruction of a block: the report in that of the first, and all instructions in that of the last, so that
+-- the notes come between
 abbrev pub text_in_place : ℕ → ℕ → Block → Placed → List ℕ
 text_in_place number passed block placed =
     (if passed == 0 then report number (length block.entries) placed else [])

@@ -25,7 +25,7 @@ pub record State : Type 0 where
 abbrev pub start : State
 start = record { blocks = []; label = []; entries = []; count = 0; after = false }
 
--- the blocks, and then the open one where it has an instruction
+-- the blocks, and then the open one if it has an instruction
 abbrev pub with_open : List Block → List ℕ → List Entry → List Block
 with_open blocks label [] = blocks
 with_open blocks label (e ∷ es) = blocks ++ record { label = label; entries = e ∷ es } ∷ []
@@ -40,7 +40,7 @@ begin_run label s = record (end_block s) { label = label }
 abbrev pub begin_run_if : Bool → List ℕ → State → State
 begin_run_if located label s = if located then begin_run label s else s
 
--- it ends where it is full too
+-- it ends if it is full, too
 abbrev pub end_block_if_full : State → State
 end_block_if_full s = if length s.entries == BLOCK_LIMIT then end_block s else s
 

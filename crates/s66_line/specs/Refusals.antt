@@ -1,4 +1,4 @@
--- To be believed: the line that tells why a source was refused, without its newline.
+-- To be believed: the line that says why a source was refused, without its newline.
 use Rattle.std.specs.Prelude.{ℕ, List, ◌++◌, codes, decimal}
 use Rattle.s66_line.specs.declared.error.SourceError.{SourceError}
 use Rattle.s66_line.specs.declared.error.SourceError.TheVariants.{BadOperand, LineTooLong, OutOfMemory, TooLarge}

@@ -27,7 +27,7 @@ is_note_of line block =
 abbrev pub is_note : List Line → Line → Bool
 is_note lines line = some_of (is_note_of line) (blocks_of lines)
 
--- an instruction stands in its run
+-- an instruction is in its run
 abbrev pub has_block : List Line → Line → Bool
 has_block lines line = some_of (λ (l : Line). l.run == line.run && is_instruction l.class) lines
 
@@ -35,7 +35,8 @@ has_block lines line = some_of (λ (l : Line). l.run == line.run && is_instructi
 abbrev pub is_dropped : List Line → Line → Bool
 is_dropped lines line = is_pad_class line.class && has_block lines line
 
--- an Other line, a comment that is no note, or a Pad of a run without an instruction: it is printed where it stands, without the carriage returns at its end
+-- an Other line, a comment that is no note, or a Pad of a run without an instruction: it is printed in its place, without the
+-- carriage returns at its end
 abbrev pub is_copied : List Line → Line → Bool
 is_copied lines line =
     is_other_class line.class || (is_comment_class line.class && not (is_note lines line) || is_pad_class line.class && not (has_block lines line))

@@ -65,9 +65,10 @@ pub record Line : Type 0 where
   pub number : ℕ
   pub bytes : List ℕ
   pub class : Class
-  -- two lines of code stand in one run where none after the first, up to and with the second, begins a run, and no Other line stands between
+  -- two lines of code are in one run if none after the first, up to and with the second, begins a run, and no Other line is
+  -- between
   pub run : ℕ
-  -- of an instruction: how many instructions of its run stand before it
+  -- of an instruction: how many instructions of its run come before it
   pub index : ℕ
   -- the label of its run
   pub label : List ℕ
@@ -136,7 +137,7 @@ instructions lines = filter (λ l. is_instruction l.class) lines
 abbrev pub begins_block : Line → Bool
 begins_block line = line.index % BLOCK_LIMIT == 0
 
--- a line before the first of these blocks: it joins that block, or is one where that block begins anew
+-- a line before the first of these blocks: it joins that block, or is one if that block begins anew
 abbrev pub put_before : Line → List (List Line) → List (List Line)
 put_before line [] = (line ∷ []) ∷ []
 put_before line ([] ∷ blocks) = (line ∷ []) ∷ blocks

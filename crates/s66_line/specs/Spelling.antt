@@ -41,7 +41,7 @@ pub record CanMean (operation : List ℕ) (n : Instr) : Type 0 where
   pub code : Among n.op.code meanings
   pub digits : (n.i ≤ 7) × (n.j ≤ 7) × (n.k ≤ 7)
 
--- A SPELLING OF EACH CODE with these digits: operation, operand, and what they spell; a digit that stands in neither is 0
+-- A SPELLING OF EACH CODE with these digits: operation, operand, and what they spell; a digit that is in neither is 0
 
 abbrev pub spellings : ℕ → ℕ → ℕ → List (List ℕ × List ℕ × Instr)
 spellings i j k =

@@ -4,7 +4,7 @@ use Rattle.s66_isa.specs.declared.reg.Bank.{Bank}
 use Rattle.s66_line.specs.Operand.{is_constant, register_of, are_terms, some_constant, registers_of}
 use Rattle.s66_line.specs.declared.operand.terms.Terms.{Terms}
 
--- whether some term is a constant, and the registers; None where a term is neither, or a third is a register
+-- whether some term is a constant, and the registers; None if a term is neither, or a third is a register
 abbrev pub gather : List (Bool × List ℕ) → Option (Bool × List (Bool × Bank × ℕ))
 gather ts = if are_terms ts && nat_le (length (registers_of ts)) 2 then Some (some_constant ts, registers_of ts) else None
 

@@ -65,7 +65,7 @@ impl<'a> Block<'a> {
         Block { label, entries }
     }
 
-    /// The block of these texts, each that of an instruction, as `is_instruction` tells: line n is n, and there is no label. It
+    /// The block of these texts, each that of an instruction, as `is_instruction` tests. Line n is n, and there is no label. It
     /// borrows the texts. `Err` is out of memory.
     pub fn of(alloc: Global, texts: &'a [Vec<u8>]) -> Result<Block<'a>, AllocError>
         requires some { 1 ≤ length texts.now }
@@ -89,8 +89,8 @@ impl<'a> Block<'a> {
         self.entries.len()
     }
 
-    /// The location field of the run's first line, with the blank before it where it begins in column 2; empty in every
-    /// block of a run but its first.
+    /// The location field of the run's first line, with the blank before it if it begins in column 2; empty in every block of a
+    /// run but its first.
     pub fn label(&self) -> &'a [u8]
         ensures { result.now ≡ self.now.label }
     {
@@ -135,8 +135,7 @@ impl<'a> Block<'a> {
         self.entry(number).bytes
     }
 
-    /// The text of an instruction: its operation and operand in upper case, one blank between them where there is an
-    /// operand.
+    /// The text of an instruction: its operation and operand in upper case, one blank between them if there is an operand.
     pub fn text(&self, number: usize) -> ArrayVec<u8, TEXT_LIMIT>
         requires first { 1 ≤ number }
         requires last { number ≤ length (instrs_of self.now) }

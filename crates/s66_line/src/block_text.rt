@@ -36,7 +36,7 @@ fn push_splits(out: &mut Vec<u8>, splits: Option<u32>) -> Result<(), AllocError>
     }
 }
 
-/// How the report of a block begins, whose number is from 1, with so many instructions: how long it takes as it was read and as
+/// How the report of a block begins, whose number is from 1, with `count` instructions: how long it takes as it was read and as
 /// it is printed, in minor cycles.
 fn push_times(
     out: &mut Vec<u8>,
@@ -54,7 +54,7 @@ fn push_times(
     push_field(out, b" TIME ", time as usize)
 }
 
-/// The report of a block, whose number is from 1, with so many instructions.
+/// The report of a block, whose number is from 1, with `count` instructions.
 pub(crate) fn push_report(
     out: &mut Vec<u8>,
     number: u32,
@@ -98,7 +98,7 @@ fn without_trailing(bytes: &[u8]) -> &[u8]
     &bytes[..end]
 }
 
-/// The line of an instruction behind a label, by its bytes from the operation on.
+/// The line of an instruction after a label, by its bytes from the operation on.
 fn push_instruction(out: &mut Vec<u8>, label: &[u8], bytes: &[u8]) -> Result<(), AllocError>
     ensures { OnOk result (out.new.items ≡ out.old.items ++ instruction_line label.now bytes.now) }
 {

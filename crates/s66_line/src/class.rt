@@ -23,7 +23,7 @@ pub enum Class {
     Refused,
     /// A `NO`.
     Pad { located: bool },
-    /// An operation of the table with its operand; located where the line has a location field.
+    /// An operation of the table with its operand; located if the line has a location field.
     Instruction { located: bool, instr: Instr },
 }
 
@@ -68,7 +68,7 @@ fn class_by_operation(located: bool, bytes: &[u8]) -> Class
     }
 }
 
-/// A line with its class; where that is Instruction or Pad, its label and its bytes from the operation on.
+/// A line with its class; if that is Instruction or Pad, its label and its bytes from the operation on.
 #[derive(Clone, Copy, Debug)]
 pub(crate) struct Classified<'a> {
     pub class: Class,
@@ -93,7 +93,7 @@ fn class_by_fields(line: &[u8]) -> Classified<'_>
     }
 }
 
-/// A line with its class, where the line directly before it is code or not.
+/// A line with its class, by whether the line directly before it is code.
 pub(crate) fn classify(after_code: bool, line: &[u8]) -> Classified<'_>
     requires { length line.now ≤ LINE_BYTES_LIMIT }
     ensures class { result.class ≡ class_of after_code line.now }

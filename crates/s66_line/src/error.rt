@@ -8,10 +8,11 @@ use itoa::Buffer;
 use std::alloc::{AllocError, AllocFailed};
 use std::{error, fmt};
 
-/// Why a source was refused; lines count from 1, and the least refused line is told. Each shows itself as the line that tells it.
+/// Why a source was refused; lines count from 1, and the least refused line is reported. It is displayed as the line that reports
+/// it.
 ///
 /// On one line `LineTooLong` goes before `TooLarge`, and that before `BadOperand`. `OutOfMemory` is for a growth that was
-/// refused, and may stand in the place of any other answer.
+/// refused, and may be returned in place of any other answer.
 #[derive(Clone, Copy, Debug, Drop, PartialEq, Eq)]
 pub enum SourceError {
     /// An operation of the table with an operand that it does not take, or a line with a comma in column 1 directly after
@@ -68,7 +69,7 @@ impl SourceError {
     ghost use Rattle.std.specs.Prelude.{◌≡◌, ◌<◌, length};
     ghost use Rattle.s66_line.specs.Refusals.{refusal_line};
 
-    /// The line that tells it, without a newline.
+    /// The line that reports it, without a newline.
     pub fn line(&self) -> ArrayString<FAULT_ROOM>
         ensures text { result.bytes ≡ refusal_line self.now }
         ensures short { length result.bytes < FAULT_ROOM }

@@ -6,7 +6,7 @@ ghost use Rattle.s66_line.specs.Fields.{is_blank, upper_byte, body, skip_blanks,
 #[derive(Clone, Copy, Debug)]
 pub struct Fields<'a> {
     pub location: &'a [u8],
-    /// The location, with the blank before it where it begins in column 2.
+    /// The location, with the blank before it if it begins in column 2.
     pub label: &'a [u8],
     /// The operation and all that follows it.
     pub from_operation: &'a [u8],
@@ -18,7 +18,7 @@ fn is_blank_byte(byte: u8) -> bool
     byte == b' ' || byte == b'\t'
 }
 
-/// How many blanks stand in front.
+/// How many blanks are in front.
 fn blanks_in_front(bytes: &[u8]) -> usize
     ensures value { result ≡ prefix_len is_blank bytes.now }
     ensures within { result ≤ length bytes.now }
@@ -26,7 +26,7 @@ fn blanks_in_front(bytes: &[u8]) -> usize
     bytes.iter().take_while(|b| is_blank_byte(**b)).count()
 }
 
-/// How many bytes stand before the first blank.
+/// How many bytes come before the first blank.
 fn word_length(bytes: &[u8]) -> usize
     ensures value { result ≡ prefix_len (λ b. not (is_blank b)) bytes.now }
     ensures within { result ≤ length bytes.now }
@@ -94,7 +94,7 @@ pub(crate) fn is_continuation(line: &[u8]) -> bool
     matches!(line, [b',', ..])
 }
 
-/// A body from where a location field would begin: column 2 where column 1 is a space, else column 1.
+/// A body from the column on in which a location field would begin: column 2 if column 1 is a space, else column 1.
 fn from_location_column(line: &[u8]) -> &[u8]
     ensures value { result.now ≡ from_location line.now }
     ensures within { length result.now ≤ length line.now }
@@ -122,7 +122,7 @@ pub(crate) fn fields_of(line: &[u8]) -> Fields<'_>
     }
 }
 
-/// The word behind the blanks in front of these bytes.
+/// The word after the blanks in front of these bytes.
 pub(crate) fn next_word(bytes: &[u8]) -> &[u8]
     ensures value { result.now ≡ word (skip_blanks bytes.now) }
     ensures within { length result.now ≤ length bytes.now }

@@ -18,12 +18,12 @@ use crate::text::push_field;
 use memchr::{memchr, memrchr};
 use std::alloc::{AllocError, Global};
 
-/// What is told of a line, but for its length.
+/// What is stated of a line, but for its length.
 #[derive(Clone, Copy, Debug, PartialEq, Eq)]
 pub enum Finding {
     /// It is refused.
     BadOperand,
-    /// Its operation begins as one of the instruction table, and is none.
+    /// Its operation begins like one of the instruction table, and is none.
     NotAnInstruction,
     /// It counts the lines after it.
     CountsLines,
@@ -66,7 +66,7 @@ fn is_no_digit(bytes: &[u8]) -> bool
     }
 }
 
-/// Whether an operation in upper case begins as one of the instruction table, and lacks its digit.
+/// Whether an operation in upper case begins like one of the instruction table, and lacks its digit.
 fn is_slip(operation: &[u8]) -> bool
     ensures { result ≡ is_slip operation.now }
 {
@@ -87,7 +87,7 @@ fn is_one_of(names: &[&[u8]], word: &[u8]) -> bool
     false
 }
 
-/// What stands after the last comma of an operand.
+/// What follows the last comma of an operand.
 fn last_part(operand: &[u8]) -> &[u8]
     ensures { result.now ≡ last_part operand.now }
 {
@@ -111,7 +111,7 @@ fn counts_lines(operation: &[u8], operand: &[u8]) -> bool
         || is_one_of(&CONDITIONS, operation) && is_numeral(last_part(operand))
 }
 
-/// What is told of a line that is no instruction, by its operation, in upper or in lower case, and its operand.
+/// What is stated of a line that is no instruction, by its operation, in upper or in lower case, and its operand.
 fn finding_by_fields(operation: &[u8], operand: &[u8]) -> Option<Finding>
     requires { length operation.now ≤ TEXT_LIMIT }
     ensures { result ≡ finding_by_fields (upper operation.now) operand.now }
@@ -126,7 +126,7 @@ fn finding_by_fields(operation: &[u8], operand: &[u8]) -> Option<Finding>
     }
 }
 
-/// What is told of a body of this class, with these fields.
+/// What is stated of a body of this class, with these fields.
 fn finding_of(class: &Class, line: &[u8], operation: &[u8], operand: &[u8]) -> Option<Finding>
     requires few { length operation.now ≤ TEXT_LIMIT }
     requires operation { operation.now ≡ fields.operation line.now }
@@ -190,7 +190,7 @@ fn push_finding(
     push_word(out, stated_operand(finding, operand))
 }
 
-/// The class of a line, where the line directly before it is code or not.
+/// The class of a line, by whether the line directly before it is code.
 fn class_at(after_code: bool, line: &[u8]) -> Class
     requires { length line.now ≤ LINE_BYTES_LIMIT }
     ensures { result ≡ class_of after_code line.now }
@@ -198,7 +198,7 @@ fn class_at(after_code: bool, line: &[u8]) -> Class
     classify(after_code, line).class
 }
 
-/// What is told of the line of a number, which is of this class.
+/// What is stated of the line of a number, which is of this class.
 fn push_stated(out: &mut Vec<u8>, number: u32, class: &Class, line: &[u8]) -> Result<(), AllocError>
     requires { length line.now ≤ LINE_BYTES_LIMIT }
     ensures { OnOk result (out.new.items ≡ out.old.items ++ stated_lines (stated_of number (finding_of class.now (body line.now)) (body line.now))) }
@@ -220,7 +220,7 @@ fn push_refusal(out: &mut Vec<u8>, refusal: SourceError) -> Result<(), AllocErro
     out.extend_from_slice(b"\n")
 }
 
-/// What is told of the lines so far.
+/// What is stated of the lines so far.
 #[derive(Debug, Drop)]
 struct Findings {
     out: Vec<u8>,
@@ -292,8 +292,9 @@ impl Findings {
     }
 }
 
-/// The findings of a source, which may be any text: a line for each line that is refused and for each that may not do what was
-/// meant, in their order, of the first `SOURCE_LINES_LIMIT` lines. Empty if there is none. `Err` is out of memory.
+/// The findings of a source, which may be any text, in the order of its lines and of the first `SOURCE_LINES_LIMIT` lines alone.
+/// There is a line for each line that is refused and for each that may not do what was meant. Empty if there is none. `Err` is
+/// out of memory.
 pub fn findings_in(alloc: Global, text: &[u8]) -> Result<Vec<u8>, AllocError>
     ensures { IfOk result (λ stated. stated.items ≡ findings_text text.now) }
 {

@@ -32,7 +32,7 @@ pub(crate) fn upper_case(bytes: &[u8]) -> ArrayVec<u8, TEXT_LIMIT>
     letters
 }
 
-/// The operation and the operand in front of these bytes in upper case, one blank between them where there is an operand.
+/// The operation and the operand in front of these bytes in upper case, one blank between them if there is an operand.
 pub(crate) fn spell(bytes: &[u8]) -> ArrayVec<u8, TEXT_LIMIT>
     requires { length bytes.now ≤ TEXT_LIMIT }
     ensures { result.items ≡ spelling (operation_in bytes.now) (operand_in bytes.now) }
@@ -46,8 +46,8 @@ pub(crate) fn spell(bytes: &[u8]) -> ArrayVec<u8, TEXT_LIMIT>
     letters
 }
 
-/// The instruction that the operation and the operand in front of these bytes spell, in upper or in lower case and whatever follows
-/// them; none where they spell none.
+/// The instruction that the operation and the operand in front of these bytes spell, in upper or in lower case and whatever
+/// follows them; None if they spell none.
 pub(crate) fn instruction_in(bytes: &[u8]) -> Option<Instr>
     requires { length bytes.now ≤ TEXT_LIMIT }
     ensures { result ≡ instr_of (operation_in bytes.now) (operand_in bytes.now) }
@@ -57,7 +57,7 @@ pub(crate) fn instruction_in(bytes: &[u8]) -> Option<Instr>
     decode(syntax, digit, upper_case(operand).as_slice())
 }
 
-/// The instruction whose text this is, as `Block::text` gives it; none where it is the text of none.
+/// The instruction whose text this is, as `Block::text` gives it; None if it is the text of none.
 pub fn instruction_of_text(text: &[u8]) -> Option<Instr>
     ensures some { IfSome result (λ instr. IsTextOf text.now instr) }
     ensures none { IfNone result (¬ IsInstruction text.now) }

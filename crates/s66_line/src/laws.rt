@@ -53,8 +53,8 @@ pub fn term_law()
     ensures symbol { (letter : ℕ) (rest : List ℕ) → Among letter (codes "ABX") → is_constant (letter ∷ codes "." ++ rest) ≡ false }
 {}
 
-/// Lower case reads as upper case: texts that differ only in the case of letters have the same blocks but for the case of
-/// letters in what is kept of their lines, or the same refusal.
+/// Lower case reads as upper case. Texts that differ only in the case of letters have the same blocks but for the case of letters
+/// in what is stored of their lines, or the same refusal.
 pub fn case_law()
     ensures { (text other : List ℕ) → upper text ≡ upper other → upper_read (source_of text) ≡ upper_read (source_of other) }
 {}
@@ -71,26 +71,27 @@ pub fn spelled_law()
     ensures spelled { (text : List ℕ) (blocks : List Block) (block : Block) → source_of text ≡ Ok blocks → Among block blocks → (n : ℕ) → 1 ≤ n → n ≤ length (instrs_of block) → IsTextOf (text_of block n) (instr_at (instrs_of block) n) }
 {}
 
-/// Each line of an accepted source is exactly one of these: an instruction, a note, a `NO` that is left out, or copied; and a
-/// note is one of exactly one block.
+/// Each line of an accepted source is exactly one of these: an instruction, a note, a `NO` that is left out, or copied. A note is
+/// one of exactly one block.
 pub fn line_law()
     ensures one { (text : List ℕ) (blocks : List Block) (line : Line) → source_of text ≡ Ok blocks → Among line (classed_lines text) → tally (λ is. is) (roles (classed_lines text) line) ≡ 1 }
     ensures note { (text : List ℕ) (line : Line) → Among line (classed_lines text) → is_note (classed_lines text) line ≡ true → tally (is_note_of line) (blocks_of (classed_lines text)) ≡ 1 }
 {}
 
-/// A line that is printed where it stands is cut out again at its newline, and is of the same class as before, behind code or not.
+/// A line that is printed in its place is cut out again at its newline, and is of the same class as before, after code or not.
 pub fn copied_law()
     ensures cut { (line text : List ℕ) → every (λ b. not (is_newline b)) line ≡ true → lines_of (line ++ codes "\n" ++ text) ≡ line ∷ lines_of text }
     ensures class { (after : Bool) (line : List ℕ) → class_of after (body line) ≡ class_of after line }
 {}
 
-/// A source is refused for the first refusal among what is told of it, and accepted if there is none; so it is if nothing is told.
+/// A source is refused for the first refusal among what is stated of it, and accepted if there is none; so it is if nothing is
+/// stated.
 pub fn findings_law()
     ensures stated { (text : List ℕ) → source_of text ≡ unless_refused (first_refusal (stated text)) (blocks_of (classed_lines text)) }
     ensures nothing { (text : List ℕ) → findings_text text ≡ [] → source_of text ≡ Ok (blocks_of (classed_lines text)) }
 {}
 
-/// What is told of small sources: lines that are refused, slips, lines that count lines, long lines, and lines about the limit.
+/// What is stated of small sources: lines that are refused, slips, lines that count lines, long lines, and lines about the limit.
 #[tactic(auto, unfolding(crate::specs::Printed::digits))]
 pub fn findings_examples()
     ensures refused { findings_text (codes "L SA1 *+2 LOAD\n  bx1\r\n,X2\n  BX1 X2\n,  X3,  X4\n  FOO\n,X5\n  NO\n,\n") ≡
@@ -115,8 +116,8 @@ pub fn findings_examples()
     ensures past_the_limit { stated_lines (stated_from 20001 false (replicate 201 42 ∷ [])) ≡ codes "LINE 20001 TOO LONG\n" ++ codes "TOO MANY LINES\n" }
 {}
 
-/// Where a printed source is accepted when it is read again, its blocks are those of the source, each in its placed order. It
-/// is refused where a line or the source has grown too long.
+/// If a printed source is accepted when it is read again, its blocks are those of the source, each in its placed order. It is
+/// refused if a line or the source has grown too long.
 pub fn read_again_law()
     ensures { (text : List ℕ) (blocks again : List Block) (ps : List Placed) → source_of text ≡ Ok blocks → ArePlaced blocks ps → AreComplete blocks ps → source_of (printed text ps) ≡ Ok again → ArePlacedAgain blocks ps again }
 {}
@@ -170,8 +171,8 @@ pub fn instruction_examples()
     ensures comment { ¬ IsInstruction (codes "BX1 X2 COPY") }
 {}
 
-/// Sources printed: one with lines of each sort; one with comments and `NO`s around a block; a label that stands on a `NO`;
-/// and two instructions exchanged, with a label in column 2, a tab, carriage returns, and a bound alone.
+/// Sources printed: one with lines of each sort; one with comments and `NO`s around a block; one with a label on a `NO`; and one
+/// with two instructions exchanged, a label in column 2, a tab, carriage returns, and a bound alone.
 #[tactic(auto, unfolding(crate::specs::Printed::digits))]
 pub fn printed_examples()
     ensures mixed { printed mixed_source (record { order = 1 ∷ 2 ∷ []; source = 12; time = 12; bound = 12; splits = None } ∷ record { order = 1 ∷ []; source = 4; time = 4; bound = 4; splits = None } ∷ record { order = 1 ∷ []; source = 4; time = 4; bound = 4; splits = None } ∷ []) ≡
@@ -207,8 +208,8 @@ pub fn printed_examples()
     ensures short_label { label_field (codes "ABCDEFGHI") ≡ codes "ABCDEFGHI " }
 {}
 
-/// A source printed with the instructions of its first block exchanged, and read again: the label of a `NO` that was left out
-/// is that of the block, and the bytes are those of the lines, with their remarks, but for what ends them.
+/// A source printed with the instructions of its first block exchanged, and read again. The label of a `NO` that was left out is
+/// that of the block, and the bytes are those of the lines, with their remarks, but for what ends them.
 #[tactic(auto, unfolding(crate::specs::Printed::digits))]
 pub fn read_again_examples()
     ensures { source_of (printed (codes " LP NO\n  SA1 A1+B1  NEXT\r\n* NOTE\n  bx6 x2 \r\r\n  ZR X1,LP\n\tFX0 X1*X2\n") (record { order = 2 ∷ 1 ∷ []; source = 9; time = 8; bound = 7; splits = Some 3 } ∷ record { order = 1 ∷ []; source = 4; time = 4; bound = 4; splits = None } ∷ [])) ≡

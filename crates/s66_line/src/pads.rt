@@ -1,8 +1,8 @@
 use std::alloc::{AllocError, Global};
 use std::marker::Model;
 
-/// The lines of the `NO`s of a source, from 1: which of them are left out where it is printed is known once their run ends or
-/// has an instruction.
+/// The lines of the `NO`s of a source, from 1. Which of them are left out when it is printed is known once their run ends or has
+/// an instruction.
 #[derive(Debug, Drop)]
 pub(crate) struct Pads {
     /// Those of runs with an instruction, which are left out.

@@ -9,9 +9,9 @@ pub struct Placed<'a> {
     pub source: u32,
     /// The time of this order.
     pub time: u32,
-    /// What every order takes at least: where it is `time`, this order is best.
+    /// What every order takes at least: if it is `time`, this order is best.
     pub bound: u32,
-    /// How many splits the search took, where that is to be printed.
+    /// How many splits the search took, if that is to be printed.
     pub splits: Option<u32>,
 }
 

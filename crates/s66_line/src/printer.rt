@@ -12,8 +12,8 @@ use memchr::memchr;
 use std::alloc::{AllocError, Global};
 use std::marker::Model;
 
-/// What stands in the place of an instruction of a block, before which so many of the block stand: in that of the first the
-/// report, in that of the last all instructions.
+/// What is printed in the place of an instruction of a block, before which `passed` instructions of the block come: in that of
+/// the first the report, in that of the last all instructions.
 fn push_in_place(
     out: &mut Vec<u8>,
     number: u32,
@@ -35,8 +35,8 @@ fn push_in_place(
     Ok(())
 }
 
-/// What is left to print of a source. Of a block the report is printed where its first instruction stands and the instructions
-/// where the last one stands, so that its notes come between them as they are met.
+/// What is left to print of a source. The report of a block is printed in the place of its first instruction, and its
+/// instructions in that of the last one, so that its notes come between them as they are met.
 #[derive(Debug, Drop)]
 struct Printer<'s, 'a> {
     /// The blocks whose last instruction is among the lines to come.
@@ -137,7 +137,7 @@ impl<'s, 'a> Printer<'s, 'a> {
         push_copied(out, line)
     }
 
-    /// Passes a last line that lacks its newline, where there is one.
+    /// Passes a last line that lacks its newline, if there is one.
     fn print_last(&mut self, out: &mut Vec<u8>, line: &[u8]) -> Result<(), AllocError>
         requires lines { self.old.lines + length (lines_from line.now []) ≤ SOURCE_LINES_LIMIT }
         requires printer { IsPrinter self.old }
@@ -164,9 +164,9 @@ impl<'s, 'a> Printer<'s, 'a> {
     }
 }
 
-/// A source with its blocks in these orders, one for each: in the place of a block its report, its notes and its instructions,
-/// the first behind the label; every other line as it was read, save the `NO`s that are left out. One pass over the lines, in
-/// time linear in the source and the orders.
+/// A source with its blocks in these orders, one for each. In the place of a block come its report, its notes and its
+/// instructions, the first after the label; every other line is as it was read, save the `NO`s that are left out. It takes one
+/// pass over the lines, in time linear in the source and the orders.
 pub fn print_source(
     alloc: Global,
     source: &Source,

@@ -20,7 +20,7 @@ use s66_isa::{BLOCK_LIMIT, Instr};
 use std::alloc::{AllocError, Global};
 use std::mem;
 
-/// What the lines of a source made so far.
+/// What was made of the lines of a source so far.
 #[derive(Debug, Drop)]
 pub struct Reader<'a> {
     pub blocks: Vec<Block<'a>>,
@@ -36,7 +36,7 @@ pub struct Reader<'a> {
 }
 
 impl<'a> Reader<'a> {
-    /// Ends the open block, where it has an instruction.
+    /// Ends the open block if it has an instruction.
     pub(crate) fn end_block(&mut self, alloc: Global) -> Result<(), AllocError>
         requires { length self.old.entries.items ≤ BLOCK_LIMIT }
         ensures step { OnOk result (state self.new ≡ end_block (state self.old)) }
@@ -71,7 +71,7 @@ impl<'a> Reader<'a> {
         Ok(())
     }
 
-    /// Puts the instruction of the next line into the open block, which ends where it is full.
+    /// Puts the instruction of the next line into the open block, which ends if it is full.
     fn put(&mut self, alloc: Global, instr: Instr, bytes: &'a [u8]) -> Result<(), AllocError>
         requires few { length self.old.entries.items < BLOCK_LIMIT }
         requires lines { self.old.lines < SOURCE_LINES_LIMIT }
@@ -155,7 +155,7 @@ impl<'a> Reader<'a> {
         self.take_classified(alloc, classify(self.after_code, line))
     }
 
-    /// Reads a last line that lacks its newline, where there is one.
+    /// Reads a last line that lacks its newline, if there is one.
     fn take_last(&mut self, alloc: Global, line: &'a [u8]) -> Result<(), SourceError>
         requires few { length self.old.entries.items < BLOCK_LIMIT }
         requires lines { self.old.lines ≤ SOURCE_LINES_LIMIT }

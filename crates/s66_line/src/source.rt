@@ -14,7 +14,7 @@ use std::marker::Model;
 pub struct Source<'a> {
     text: &'a [u8],
     blocks: Vec<Block<'a>>,
-    /// The lines of the `NO`s that are left out where it is printed.
+    /// The lines of the `NO`s that are left out when it is printed.
     dropped: Vec<u32>,
 }
 
@@ -48,7 +48,7 @@ impl<'a> Source<'a> {
         self.text
     }
 
-    /// The lines of the `NO`s that are left out where it is printed, in order.
+    /// The lines of the `NO`s that are left out when it is printed, in order.
     pub(crate) fn dropped(&self) -> &[u32]
         ensures { result.now ≡ lines_that is_dropped self.now }
     {

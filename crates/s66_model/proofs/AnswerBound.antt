@@ -23,7 +23,7 @@ AreReady b prefix ns = (n : ℕ) → Among n ns → is_ready b.block prefix n �
 split-ready : (b : Problem) (prefix ns : List ℕ) → ns ≡ ready b.block prefix → AreReady b prefix ns
 split-ready b prefix ns is n among = ready-among b.block prefix n (subst (λ x. Among n x) is among)
 
--- where a floor may stand at every beginning
+-- if a floor may stand at every beginning
 module _ (stands : (b : Problem) (prefix : List ℕ) → IsBeginning b.block prefix → MayStand b prefix (floor b prefix)) where
   module _ (rule : Rule) (b : Problem) (low : ℕ) (whole : Tree Ending) where
     ending-shows : (at : List ℕ) (ending : Ending) → IsBeginning b.block at → MayEnd rule b whole at ending → IsBelow low (ending_values b at ending) → EndingShows rule b low [] whole at ending

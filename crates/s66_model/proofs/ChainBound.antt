@@ -87,7 +87,7 @@ Each-map b n f g v u step s (m ∷ ns) h so_far =
     let here = (Each-before b n f v (point_of b s m ∷ s) ns h).0 in
     Each-map b n f g v u step (point_of b s m ∷ s) ns h (Each-here b n f g v u step s m here, so_far)
 
--- where the number is placed, the value is at most the greatest
+-- if the number is placed, the value is at most the greatest
 Each-has : (b : Problem) (n : ℕ) (f : Point → ℕ) (v : ℕ) (s : List Point) (ns : List ℕ) → Each n f v (points_after b s ns) → has n ns ≡ true → v ≤ greatest f (points_after b s ns)
 Each-has b n f v s [] h among = absurd cc
 Each-has b n f v s (m ∷ ns) h among =

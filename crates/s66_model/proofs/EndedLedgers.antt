@@ -1,4 +1,4 @@
--- Where the steps of a search have ended, the answer that the last state is finishes the ledger with which they began.
+-- If the steps of a search have ended, the answer that the last state is finishes the ledger with which they began.
 use Rattle.std.proofs.Common.{ℕ, ◌≤◌, ◌<◌, ◌≡◌, ◌⊎◌, Bool, true, false, cond, List, [], ◌∷◌, ◌++◌, length, refl, sym, ap, arith, inl, inr, subst, ◌∙◌, Some, None}
 use Rattle.std.proofs.lemmas.Bool.{and_left, cases_lt}
 use Rattle.s66_isa.specs.Lists.{tally, least, Among}
@@ -269,7 +269,7 @@ module _ (rule : Rule) (b : Problem) (at : List ℕ) where
   abbrev cuts : Ledger → ℕ
   cuts l = tally (is_cut_at at) l.nodes
 
-  -- where a node that isn't split takes another state
+  -- if a node that isn't split takes another state
   state-cuts : (nodes : List Node) (i : ℕ) (state : State) → i < length nodes → is_cut (node_at nodes i) ≡ false → tally (is_cut_at at) nodes ≤ tally (is_cut_at at) (with_state nodes i state)
   state-cuts nodes i state lt was =
       let node : Node = record { prefix = (node_at nodes i).prefix; state = state } in

@@ -1,4 +1,4 @@
--- Two instructions next to each other of which the later does not depend on the earlier may stand in either order.
+-- Two instructions next to each other may come in either order if the later does not depend on the earlier.
 use Rattle.std.proofs.Common.{◌≡◌, true, false, true≢false, cond, ◌||◌, List, [], ◌∷◌, ◌++◌, refl, ap, sym, ◌∙◌, inl, inr}
 use Rattle.std.proofs.lemmas.Bool.{cases_Bool, or_parts, or_left, or_right}
 use Rattle.std.proofs.Math.Bool.{and_comm, or_comm}
@@ -13,7 +13,7 @@ use Rattle.s66_isa.proofs.SameRegister.{same_reg-self}
 use Rattle.s66_isa.proofs.SameRegister.{has_reg-reads}
 use Rattle.s66_model.proofs.Registers.{share-none, share-none_back, writes-other, value-other, values-other}
 
--- contents are equal where all registers and the storage are
+-- contents are equal if all registers and the storage are
 same_contents : (f g : Reg → Term) (s t : Storage) → ((q : Reg) → f q ≡ g q) → s ≡ t → ◌≡◌ {A = Contents} (record { registers = f; storage = s }) (record { registers = g; storage = t })
 same_contents f g s t h e = λ i. record { registers = λ q. h q i; storage = e i }
 
@@ -35,7 +35,7 @@ storage-exchange Store None s a x x' b y y' h k l = ap (λ t. Stored s a t) (sym
 storage-exchange Store Load s a x x' b y y' h k l = absurd (true≢false h)
 storage-exchange Store Store s a x x' b y y' h k l = absurd (true≢false h)
 
--- a load fetches the same behind an instruction that is no store
+-- a load fetches the same after an instruction that is no store
 words_loaded-same : (u v : Memory) (n : Instr) (s : Storage) (a x address : Term) → memory_pair u v ≡ false → words_loaded v n (storage_after u s a x) address ≡ words_loaded v n s address
 words_loaded-same u None n s a x address h = refl
 words_loaded-same u Store n s a x address h = refl

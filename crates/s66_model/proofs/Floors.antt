@@ -107,7 +107,7 @@ leaves-ordered ns =
     next : (kind other : Kind) → kind_number kind < kind_number other → IsNoLater (rank (Load kind)) (rank (Load other))
     next kind other lt = inr (refl, inl lt)
 
--- where the first greatest goes before the printed chain and all leaves after it, it goes before all that may stand
+-- if the first greatest goes before the printed chain and all leaves after it, it goes before all that may stand
 part-before : (b : Problem) (prefix : List ℕ) (x : Leaf) → IsIncomplete b.block prefix → chain_value b prefix (longest_chain b prefix) ≡ chain b prefix →
     GoesBefore (value b prefix) x (Chain (longest_chain b prefix)) → Each (GoesBefore (value b prefix) x) after_chain →
     (other : Leaf) → MayStand b prefix other → GoesBefore (value b prefix) x other

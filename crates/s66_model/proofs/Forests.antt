@@ -8,7 +8,7 @@ use Rattle.s66_model.specs.Preorder.{first_siblings, later_siblings, forest, fir
 module _ {M : Type 0} where
   -- FROM TREES TO VERTICES AND BACK
 
-  -- the trees, and more behind them
+  -- the trees, and more after them
   abbrev and_siblings : Siblings M → Siblings M → Siblings M
   and_siblings NoMore more = more
   and_siblings (Unsplit terminal siblings) more = Unsplit terminal (and_siblings siblings more)
@@ -67,7 +67,7 @@ module _ {M : Type 0} where
   pub read-flat : (other : M) (tree : Tree M) → TreeMatches tree → read_tree other (flat tree) ≡ tree
   read-flat other tree h = ap (first_tree (Alone other)) (forest-flat tree h) ∙ first-one (Alone other) tree
 
-  -- the vertices tell the tree
+  -- the vertices determine the tree
   pub flat-once : (tree other : Tree M) → TreeMatches tree → TreeMatches other → flat tree ≡ flat other → tree ≡ other
   flat-once tree other h k e =
       let same : one_sibling tree ≡ one_sibling other = sym (forest-flat tree h) ∙ (ap forest e ∙ forest-flat other k) in

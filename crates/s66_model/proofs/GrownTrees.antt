@@ -20,7 +20,7 @@ abbrev pub TreeFits : {M : Type 0} → Problem → (List ℕ → Bool) → (List
 TreeFits b is_split terminal_of (Alone terminal) = (is_split [] ≡ false) × (terminal ≡ terminal_of [])
 TreeFits b is_split terminal_of (Parted numbers siblings) = (is_split [] ≡ true) × (numbers ≡ ready b.block []) × SiblingsFit b is_split terminal_of [] numbers siblings
 
--- where only incomplete prefixes are split
+-- if only incomplete prefixes are split
 module _ {M : Type 0} (b : Problem) (is_split : List ℕ → Bool) (terminal_of : List ℕ → M) (part : (at : List ℕ) → is_split at ≡ true → length at < length b.block) where
   abbrev sibling : ℕ → List ℕ → Siblings M → Siblings M
   sibling more = grown_sibling b.block is_split terminal_of more

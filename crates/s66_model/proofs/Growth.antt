@@ -1,4 +1,4 @@
--- Totals are small: each instruction adds at most 104 cycles, where no entry is above 100.
+-- Totals are small: each instruction adds at most 104 cycles, if no entry is above 100.
 use Rattle.std.proofs.Common.{length, ◌*◌, ℕ, sym, true≢false, ◌-◌, ◌+◌, ◌%◌, ◌≤◌, ◌<◌, ◌≡◌, Bool, cond, ◌&&◌, max, List, [], ◌∷◌, refl, arith, inl, inr, eqb, map, ◌⊎◌}
 use Rattle.std.proofs.lemmas.Bool.{and_parts, cond_both, cases_Bool, cond-true, cond-false}
 use Rattle.s66_isa.specs.declared.reg.Reg.{Reg}

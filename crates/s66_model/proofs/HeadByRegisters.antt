@@ -10,7 +10,7 @@ use Rattle.s66_model.specs.Leaves.{uses, head}
 use Rattle.s66_model.specs.Tails.{HasLate}
 use Rattle.s66_model.proofs.ChainParts.{used_of, used-late, used-le}
 
--- when the register is done, where n reads or writes it
+-- when the register is done, if n reads or writes it
 abbrev pub done_for : Problem → List ℕ → ℕ → Reg → ℕ
 done_for b prefix n x = cond (uses (row_at b n) x) (done_of (points_of b prefix) x) 0
 

@@ -1,4 +1,4 @@
--- The prefix where a walk over a tree in preorder stands tells all that it has still to come to.
+-- The prefix at which a walk over a tree in preorder is determines all that it has still to reach.
 use Rattle.std.proofs.Common.{ℕ, zero, suc, ◌+◌, ◌-◌, ◌≤◌, ◌<◌, ◌≡◌, Bool, true, false, cond, List, [], ◌∷◌, ◌++◌, length, None, Some, refl, sym, ap, arith, inl, append_assoc, ◌∙◌, subst}
 use Rattle.std.proofs.lemmas.List.{append-nil}
 use Rattle.std.specs.List.{filter}
@@ -49,7 +49,7 @@ later-last block prefix (p ∷ path) n =
     ∙ ap (λ t. (children t (ready_above block t n) ++ later block (prefix ++ p ∷ []) path) ++ children prefix (ready_above block prefix p)) same
     ∙ append_assoc (children (prefix ++ p ∷ path) (ready_above block (prefix ++ p ∷ path) n)) (later block (prefix ++ p ∷ []) path) (children prefix (ready_above block prefix p))
 
--- the next number stands in the place of the last
+-- the next number is in the place of the last
 pub replaced : (block : List Instr) (path : List ℕ) (n m : ℕ) → IsNextReady block path n (Some m) → (path ++ m ∷ []) ∷ later block [] (path ++ m ∷ []) ≡ later block [] (path ++ n ∷ [])
 replaced block path n m next =
     ap (λ x. (path ++ m ∷ []) ∷ x) (later-last block [] path m)
@@ -73,11 +73,11 @@ first-passes test count (suc j) k n ns e h = by (test (suc k)) refl h (λ h. fir
         rw (← first) (rw left (sym rest))
     by false is h later = later h
 
--- of all ready numbers those behind the first are above it
+-- of all ready numbers those after the first are above it
 pub ready-first : (block : List Instr) (prefix : List ℕ) (n : ℕ) (ns : List ℕ) → ready block prefix ≡ n ∷ ns → ns ≡ ready_above block prefix n
 ready-first block prefix n ns first = first-passes (is_ready block prefix) (length block) (length block) 0 n ns (omega arith) first
 
--- the first child stands in hand, and then its siblings come
+-- the first child is in hand, and then its siblings come
 pub split-first : (block : List Instr) (path : List ℕ) (n : ℕ) (ns : List ℕ) → ready block path ≡ n ∷ ns → (path ++ n ∷ []) ∷ later block [] (path ++ n ∷ []) ≡ children path (n ∷ ns) ++ later block [] path
 split-first block path n ns first =
     ap (λ x. (path ++ n ∷ []) ∷ x) (later-last block [] path n) ∙ ap (λ x. (path ++ n ∷ []) ∷ (children path x ++ later block [] path)) (sym (ready-first block path n ns first))

@@ -49,7 +49,7 @@ opening-covers rule b budget workers =
 
 -- NODES THAT MAY BE NAMED
 
--- a state that is not dominated may be named where the one before it might
+-- a state that is not dominated may be named if the one before it might
 stays-named : (rule : Rule) (old new : State) → may_name ClampedStanding new ≡ true → may_name rule old ≡ true → may_name rule new ≡ true
 stays-named NoneNamed old new stands h = h
 stays-named WrittenEarlier old new stands h = refl
@@ -85,7 +85,7 @@ module _ (rule : Rule) (b : Problem) where
   holds-append best all [] others h k = k
   holds-append best all (node ∷ nodes) others h k = (h.0, holds-append best all nodes others h.1 k)
 
-  -- under a lower best time too, and where every node that may be named still may
+  -- under a lower best time too, and if every node that may be named still may
   closed-goes-on : (best lower : ℕ) (all more : List Node) → lower ≤ best → ((name : List ℕ) → HasNamed rule all name → HasNamed rule more name) → (at : List ℕ) (ending : Ending) → ClosedHolds rule b best all at ending → ClosedHolds rule b lower more at ending
   closed-goes-on best lower all more le named at (Bounding leaf) h = (h.0, omega (arith, le, h.1), h.2)
   closed-goes-on best lower all more le named at (Dominated name) h = (h.0, named name h.1)

@@ -14,7 +14,7 @@ use Rattle.s66_model.proofs.Remaining.{remaining-parts, among-filter, filter-amo
 
 -- WHAT PASSES, THE GREATEST, THE FIRST
 
--- one of the list has the greatest f, where that is above some number
+-- one of the list has the greatest f, if that is above some number
 greatest-over : {X : Type 0} (f : X → ℕ) (low : ℕ) (xs : List X) → low < greatest f xs → (x : X) × Among x xs × (f x ≡ greatest f xs)
 greatest-over f low [] h = absurd (omega arith)
 greatest-over f low (x ∷ xs) h =
@@ -23,7 +23,7 @@ greatest-over f low (x ∷ xs) h =
       | inr lt ↦ (let (y, among, is) = greatest-over f (f x) xs lt in (y, inr among, omega (arith, is)))
     ]
 
--- or where there is any
+-- or if there is any
 greatest-reached : {X : Type 0} (f : X → ℕ) (x : X) (xs : List X) → Among x xs → (y : X) × Among y xs × (f y ≡ greatest f xs)
 greatest-reached f x xs h =
     elim (cases_lt 0 (greatest f xs)) [
@@ -31,7 +31,7 @@ greatest-reached f x xs h =
       | inr le ↦ (x, h, omega (arith, le-greatest f x xs h))
     ]
 
--- the first that passes is one of the list and passes, where one does
+-- the first that passes is one of the list and passes, if one does
 first-passes : (test : ℕ → Bool) (n : ℕ) (ns : List ℕ) → Among n ns → test n ≡ true → Among (first_that test ns) ns × (test (first_that test ns) ≡ true)
 first-passes test n [] h is = absurd h
 first-passes test n (m ∷ ms) h is =
@@ -145,7 +145,7 @@ front-heads b prefix n stays =
     let first = first-passes (heads b prefix) m (remaining b.block prefix) among (eq-eqb (f m) (chain b prefix) reached) in
     (remaining-among b.block prefix (front b prefix) first.0, eqb-true (f (front b prefix)) (chain b prefix) first.1)
 
--- where a number remains, it is a chain of the greatest value
+-- if a number remains, it is a chain of the greatest value
 pub longest-is_chain : (b : Problem) (prefix : List ℕ) (n : ℕ) → is_remaining b.block prefix n ≡ true →
     IsChain b prefix (longest_chain b prefix) × (chain_value b prefix (longest_chain b prefix) ≡ chain b prefix)
 longest-is_chain b prefix n stays =

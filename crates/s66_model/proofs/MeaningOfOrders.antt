@@ -17,7 +17,7 @@ abbrev rest_run : List Instr → (ℕ → List ℕ) → List ℕ → Contents �
 rest_run block constants prefix c [] = c
 rest_run block constants prefix c (n ∷ ns) = rest_run block constants prefix (cond (has n prefix) c (after c (operation_at block constants n))) ns
 
--- all run where none is placed
+-- all run if none is placed
 rest_run-all : (block : List Instr) (constants : ℕ → List ℕ) (c : Contents) (ns : List ℕ) → rest_run block constants [] c ns ≡ run block constants c ns
 rest_run-all block constants c [] = refl
 rest_run-all block constants c (n ∷ ns) = rest_run-all block constants (after c (operation_at block constants n)) ns
@@ -31,7 +31,7 @@ rest_run-take : (block : List Instr) (constants : ℕ → List ℕ) (prefix : Li
     rest_run block constants prefix c (n ∷ ns) ≡ rest_run block constants prefix (after c (operation_at block constants n)) ns
 rest_run-take block constants prefix c n ns h = ap (λ t. rest_run block constants prefix (cond t c (after c (operation_at block constants n))) ns) h
 
--- none runs where all are placed
+-- none runs if all are placed
 rest_run-none : (block : List Instr) (constants : ℕ → List ℕ) (prefix : List ℕ) (c : Contents) (ns : List ℕ) → weigh (λ n. cond (has n prefix) 0 1) ns ≡ 0 →
     rest_run block constants prefix c ns ≡ c
 rest_run-none block constants prefix c [] h = refl
@@ -51,7 +51,7 @@ rest_run-outside block constants prefix n c (suc k) low h =
 
 -- WHAT IS READY MAY RUN FIRST
 
--- a number runs first as well where it conflicts with none before it that isn't placed
+-- a number runs first as well if it conflicts with none before it that isn't placed
 runs-first : (block : List Instr) (constants : ℕ → List ℕ) (prefix : List ℕ) (n : ℕ) → has n prefix ≡ false → (c : Contents) (k low : ℕ) → low ≤ n → n < low + k →
     ((m : ℕ) → low ≤ m → m < n → has m prefix ≡ false → conflict (instr_at block m) (instr_at block n) ≡ false) →
     rest_run block constants prefix c (rising k low) ≡ rest_run block constants (prefix ++ n ∷ []) (after c (operation_at block constants n)) (rising k low)

@@ -45,7 +45,7 @@ begins-longer : (at more : List ℕ) → begins at (at ++ more) ≡ true
 begins-longer [] more = refl
 begins-longer (n ∷ at) more = and_from (eqb n n) (begins at (at ++ more)) (eq-eqb n n refl) (begins-longer at more)
 
--- what begins with these numbers is these, or goes on with one more, which stands once among those that may follow
+-- what begins with these numbers is these, or goes on with one more, which is once among those that may follow
 one-follows : (x at ns : List ℕ) → ((m : ℕ) (rest : List ℕ) → x ≡ at ++ m ∷ rest → tally (λ n. eqb n m) ns ≡ 1) → cond (begins at x) 1 0 ≡ cond (same_numbers x at) 1 0 + tally (λ n. begins (at ++ n ∷ []) x) ns
 one-follows [] [] ns once = omega (arith, tally-none (λ n. begins (n ∷ []) []) (λ n. refl) ns)
 one-follows (m ∷ x) [] ns once = omega (arith, tally-same (λ n. eqb n m && true) (λ n. eqb n m) (λ n. and_true (eqb n m)) ns, once m x refl)
@@ -93,7 +93,7 @@ cut-stands at (node ∷ nodes) = omega (arith, cut-stands at nodes, less (is_cut
     less false true = omega arith
     less false false = omega arith
 
--- a node that isn't split stands there beside those that are
+-- a node that isn't split is there beside those that are
 pub uncut-stands : (node : Node) (nodes : List Node) → Among node nodes → is_cut node ≡ false → tally (is_cut_at node.prefix) nodes < tally (stands_at node.prefix) nodes
 uncut-stands node [] among off = absurd among
 uncut-stands node (x ∷ nodes) (inl here) off =
@@ -114,7 +114,7 @@ cut-state Out h = absurd cc
 cut-state Cut h = refl
 cut-state (Closed ending) h = absurd cc
 
--- where one node at most stands at its prefix, that prefix has its ending
+-- if one node at most is at its prefix, that prefix has its ending
 ending-found : (b : Problem) (node : Node) (nodes : List Node) → Among node nodes → tally (stands_at node.prefix) nodes ≤ 1 → ending_at b nodes node.prefix ≡ state_ending b node.prefix node.state
 ending-found b node [] among one = absurd among
 ending-found b node (x ∷ nodes) (inl here) one =
@@ -145,7 +145,7 @@ module _ (b : Problem) (l : Ledger) (table : IsTable b l) (beginnings : (node : 
   pub uncut : (at : List ℕ) → IsUnsplit at → cuts at ≡ 0
   uncut at off = omega (arith, ltb-false 0 (cuts at) off)
 
-  -- where some node is split
+  -- if some node is split
   pub split-part : (at : List ℕ) → IsSplit at → IsIncomplete b.block at × IsBeginning b.block at
   split-part at is =
       let (node, among, passes) = some-passes (is_cut_at at) l.nodes (ltb-true 0 (cuts at) is) in
@@ -166,7 +166,7 @@ module _ (b : Problem) (l : Ledger) (table : IsTable b l) (beginnings : (node : 
   pub one-node : (at : List ℕ) → IsBeginning b.block at → standing at ≤ 1
   one-node at is = one-along at [] is (omega (arith, table.root))
 
-  -- below a prefix that isn't split no node stands
+  -- below a prefix that isn't split there is no node
   pub none-along : (more at : List ℕ) (n : ℕ) → GoesOn b.block at (n ∷ more) → cuts at ≡ 0 → standing (at ++ n ∷ more) ≡ 0
   none-along [] at n goes h = table.children at n goes.0 ∙ h
   none-along (m ∷ more) at n goes h =
@@ -360,7 +360,7 @@ module _ (b : Problem) (l : Ledger) (table : IsTable b l) (beginnings : (node : 
   pub ending-is : (node : Node) → Among node l.nodes → ending_at b l.nodes node.prefix ≡ state_ending b node.prefix node.state
   ending-is node among = ending-found b node l.nodes among (one-node node.prefix (beginnings node among))
 
-  -- where that is its floor, the floor is the value of a leaf
+  -- if that is its floor, the floor is the value of a leaf
   pub node_tree-values : (node : Node) → Among node l.nodes → is_cut node ≡ false → state_ending b node.prefix node.state ≡ Bounding (floor b node.prefix) → Among (floor_value b node.prefix) (tree_values (ending_values b) [] (node_tree b l.nodes))
   node_tree-values node among not_cut bounds = by (tree-reach (node_tree b l.nodes) fits node.prefix (beginnings node among) (omega (arith, beside)))
     where

@@ -43,7 +43,7 @@ begins-not (n ∷ prefix) more (m ∷ ms) h =
       | inr later ↦ and_right (eqb n m) (begins (prefix ++ more) ms) (begins-not prefix more ms later)
     ]
 
--- OF RISING NUMBERS THAT PASS, each stands there once
+-- OF RISING NUMBERS THAT PASS, each is there once
 
 rising-past : (test : ℕ → Bool) (m k low : ℕ) → m < low → tally (λ n. eqb n m) (filter test (rising k low)) ≡ 0
 rising-past test m zero low h = refl

@@ -55,7 +55,7 @@ module _ (b : Problem) (at : List ℕ) (m : ℕ) (now : is_ready b.block at m �
       rising-once (is_ready b.block prefix) m (length b.block) 1 is parts.0 (omega (arith, parts.1))
   ready-same_by prefix false e = tally-none (λ n. false) (λ n. refl) (ready b.block prefix)
 
-  -- of what is ready after the prefix, m comes after at where at is the prefix
+  -- of what is ready after the prefix, m comes after at if at is the prefix
   ready-same : (prefix : List ℕ) → tally (λ n. same_numbers (prefix ++ n ∷ []) (at ++ m ∷ [])) (ready b.block prefix) ≡ cond (same_numbers prefix at) 1 0
   ready-same prefix =
       tally-same (λ n. same_numbers (prefix ++ n ∷ []) (at ++ m ∷ [])) (λ n. same_numbers prefix at && eqb n m) (λ n. same-push prefix at n m) (ready b.block prefix)

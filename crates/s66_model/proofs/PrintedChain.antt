@@ -22,7 +22,7 @@ longest-more b (suc more) links n few =
     let e : suc (more + links) ≡ suc more + links = omega arith in
     longest-more b more links n few ∙ (enough b (more + links) n (omega (arith, few)) ∙ ap (λ k. longest b [] k n) e)
 
--- where as many links may follow as numbers do, the walk is the longest
+-- if as many links may follow as numbers do, the walk is the longest
 pub longest-enough : (b : Problem) (prefix : List ℕ) (links n : ℕ) → IsBeginning b.block prefix → is_remaining b.block prefix n ≡ true → length b.block ≤ n + links → longest b prefix links n ≡ longest_tail b n
 longest-enough b prefix links n begins stays few =
     let e : length b.block + links ≡ links + length b.block = omega arith in

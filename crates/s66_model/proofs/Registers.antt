@@ -1,4 +1,4 @@
--- Registers: which are the same, which stand in a set, and which keep their values.
+-- Registers: which are the same, which are in a set, and which keep their values.
 use Rattle.std.proofs.Common.{ℕ, suc, ◌≡◌, true, false, true≢false, List, [], ◌∷◌, ◌++◌, map, refl, ap, sym, ◌∙◌, inl, inr}
 use Rattle.std.proofs.lemmas.Bool.{cases_Bool, or_parts, or_left, or_right, false_from_ne_true, cond-false}
 use Rattle.std.proofs.lemmas.List.{map-append}
@@ -12,7 +12,7 @@ use Rattle.s66_isa.proofs.SameRegister.{same_reg-self, same_reg-sym, has_reg-at}
 
 -- WHICH STAND IN TWO SETS
 
--- of two sets that share nothing, no register of one stands in the other
+-- of two sets that share nothing, no register of one is in the other
 pub share-none : (rs ss : List Reg) → share rs ss ≡ false → (q : Reg) → has_reg q rs ≡ true → has_reg q ss ≡ false
 share-none [] ss h q is = absurd (true≢false (sym is))
 share-none (r ∷ rs) ss h q is =

@@ -12,7 +12,7 @@ module _ {M : Type 0} (block : List Instr) (is_split : List ℕ → Bool) (termi
   abbrev sibling : ℕ → List ℕ → Siblings M → Siblings M
   sibling more = grown_sibling block is_split terminal more
 
-  -- the lines of what is behind come behind
+  -- the lines of what follows come after
   sibling-lines : (more : ℕ) (at : List ℕ) (later : Siblings M) → flat_siblings (sibling more at later) ≡ flat_siblings (sibling more at NoMore) ++ flat_siblings later
   sibling-lines zero at later = refl
   sibling-lines (suc more) at later = by (is_split at)

@@ -20,7 +20,7 @@ module _ {M : Type 0} (block : List Instr) (Q R : List ℕ → M → Type 0) (ea
   tree-weaken (Alone terminal) prefix h = each prefix terminal h
   tree-weaken (Parted numbers siblings) prefix h = (h.0, h.1, siblings-weaken siblings prefix numbers h.2)
 
--- what is the same at each terminal where this holds is the same of the tree
+-- what is the same at each terminal of which this holds is the same of the tree
 module _ {M V : Type 0} (block : List Instr) (Q : List ℕ → M → Type 0) (f g : List ℕ → M → List V) (each : (at : List ℕ) (terminal : M) → Q at terminal → f at terminal ≡ g at terminal) where
   siblings-alike : (siblings : Siblings M) (prefix ns : List ℕ) → SiblingsHold block Q prefix ns siblings → sibling_values f prefix ns siblings ≡ sibling_values g prefix ns siblings
   siblings-alike siblings prefix [] h = refl

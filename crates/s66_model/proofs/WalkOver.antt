@@ -29,7 +29,7 @@ first-passed test n ns is = cond-true {A = ℕ} (test n) n (first_that test ns) 
 pub first-failed : (test : ℕ → Bool) (n : ℕ) (ns : List ℕ) → test n ≡ false → first_that test (n ∷ ns) ≡ first_that test ns
 first-failed test n ns off = cond-false {A = ℕ} (test n) n (first_that test ns) off
 
--- it is n, where none passes before n
+-- it is n if none passes before n
 first-at : (test : ℕ → Bool) (before : List ℕ) (n : ℕ) (after : List ℕ) → ((m : ℕ) → Among m before → test m ≡ false) → test n ≡ true → first_that test (before ++ n ∷ after) ≡ n
 first-at test [] n after none is = rw is refl
 first-at test (m ∷ before) n after none is = rw (none m (inl refl)) (first-at test before n after (λ k among. none k (inr among)) is)
@@ -66,7 +66,7 @@ goes-later b n m le =
       | inr off ↦ off
     ]
 
--- what stands before m in a rising list is lower
+-- what comes before m in a rising list is lower
 Rises-front : (low : ℕ) (before : List ℕ) (m : ℕ) (after : List ℕ) → Rises low (before ++ m ∷ after) → (n : ℕ) → Among n before → n < m
 Rises-front low [] m after h n among = absurd among
 Rises-front low (k ∷ before) m after h n among =
@@ -112,7 +112,7 @@ module _ (b : Problem) (prefix : List ℕ) (begins : IsBeginning b.block prefix)
       first-filter (keeps b prefix links n (longest_tail b n)) (is_linked b n) all
       ∙ first_that-same (λ m. is_linked b n m && keeps b prefix links n (longest_tail b n) m) (goes_on b n) all (asks links n few past)
 
-  -- where it goes on with no number that remains, it ends
+  -- if it goes on with no number that remains, it ends
   walk-done : (links n : ℕ) → is_remaining b.block prefix n ≡ true → length b.block ≤ n + links → ((m : ℕ) → Among m all → goes_on b n m ≡ false) → longest_walk b prefix links n (longest_tail b n) ≡ []
   walk-done zero n stays few none = refl
   walk-done (suc links) n stays few none =
@@ -128,7 +128,7 @@ module _ (b : Problem) (prefix : List ℕ) (begins : IsBeginning b.block prefix)
             absurd (true≢false (sym on ∙ none m both.0))
       ]
 
-  -- it goes on with m, where it goes on with none before m
+  -- it goes on with m if it goes on with none before m
   walk-on : (links n : ℕ) (before : List ℕ) (m : ℕ) (after : List ℕ) → all ≡ before ++ m ∷ after → ((k : ℕ) → Among k before → goes_on b n k ≡ false) → length b.block ≤ n + suc links → goes_on b n m ≡ true →
       longest_walk b prefix links m (longest_tail b m) ≡ walk_over b m after → longest_walk b prefix (suc links) n (longest_tail b n) ≡ walk_over b n (m ∷ after)
   walk-on links n before m after split none few on rest =
@@ -188,6 +188,6 @@ module _ (b : Problem) (prefix : List ℕ) (begins : IsBeginning b.block prefix)
   pass-walks n stays =
       sym (walk-over (length b.block) n [] all refl (λ m among. absurd among) stays (omega arith)) ∙ walk-static b prefix begins (length b.block) n stays (omega arith)
 
-  -- where some number remains, the front of the chain does
+  -- if some number remains, the front of the chain does
   pub chain_front-remains : (n : ℕ) → is_remaining b.block prefix n ≡ true → is_remaining b.block prefix (chain_front b prefix) ≡ true
   chain_front-remains n stays = subst (λ m. is_remaining b.block prefix m ≡ true) (front-static b prefix begins) (front-heads b prefix n stays).0

@@ -1,4 +1,4 @@
--- The times of an order follow from the rows of its instructions in turn: a block that stands written in the order has the same.
+-- The times of an order follow from the rows of its instructions in turn: a block that is written in the order has the same.
 use Rattle.std.proofs.Common.{ℕ, zero, suc, ◌+◌, ◌≡◌, ◌&&◌, ◌∙◌, Bool, cond, max, List, [], ◌∷◌, ◌++◌, length, map, refl, sym, ap, ap₂, subst, arith, append_assoc, length-append, leb, ltb}
 use Rattle.std.proofs.Math.Seq.{get_or-append_seam}
 use Rattle.s66_isa.specs.declared.instr.Instr.{Instr}

@@ -117,7 +117,7 @@ opened s w =
       least = s.best;
     }
 
--- an order of another block or profile tells no time
+-- an order of another block or profile gives no time
 abbrev pub least_after : ℕ → Event → Reply → ℕ
 least_after least (Offer w own order time) Lower = min least time
 least_after least (Offer w own order time) (NotLower answer) = min least (min time answer)

@@ -20,7 +20,8 @@ begins (n ∷ ns) (m ∷ ms) = n == m && begins ns ms
 abbrev pub covers : List ℕ → Node → Bool
 covers order node = not (is_cut node) && begins node.prefix order
 
--- of all these nodes a closed one carries its floor, which is at least the best time and at most the total of each order in its subtree, or the name of one that dominates it by the rule
+-- Of all these nodes a closed one carries its floor, or the name of one that dominates it by the rule. The floor is at least the
+-- best time and at most the total of each order in its subtree.
 abbrev pub ClosedHolds : Rule → Problem → ℕ → List Node → List ℕ → Ending → Type 0
 ClosedHolds rule b best all prefix (Bounding leaf) =
     (leaf ≡ floor b prefix) × (best ≤ value b prefix leaf)

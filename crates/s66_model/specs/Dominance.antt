@@ -1,4 +1,5 @@
--- To be believed: when one beginning dominates another of the same numbers, as written and clamped at the next slot: whatever completes the other then completes it, and takes no more.
+-- To be believed: when one beginning dominates another of the same numbers, as written and clamped at the next slot. Whatever
+-- completes the other then completes it, and takes no more.
 use Rattle.std.specs.Prelude.{ℕ, ◌+◌, ◌%◌, ◌≡◌, ◌<◌, ◌≤◌, if◌then◌else◌, max, List, [], ◌∷◌, ◌++◌, get_or, nat_le}
 use Rattle.s66_isa.specs.declared.instr.Kind.{Kind}
 use Rattle.s66_isa.specs.declared.reg.Reg.{Reg}
@@ -68,7 +69,8 @@ no_clamp = record { readers = 0; others = 0 }
 abbrev pub Dominates : Problem → List ℕ → List ℕ → Type 0
 Dominates b other prefix = DominatesBy no_clamp b other prefix × (total_of b other ≤ total_of b prefix)
 
--- CLAMPED AT THE NEXT SLOT of the prefix: what is past by then doesn't count; for readers what is past one minor cycle later, since every result takes one at least. Nothing is asked of the total: it follows.
+-- CLAMPED AT THE NEXT SLOT of the prefix: what is past by then doesn't count; for readers what is past one minor cycle later,
+-- since every result takes one at least. The total isn't compared: it follows.
 
 abbrev pub clamp_at : ℕ → Clamp
 clamp_at now = record { readers = now + 1; others = now }

@@ -29,7 +29,7 @@ is_standing (Some (AtSplit numbers)) = true
 is_standing (Some (AtTerminal (Bounding leaf))) = true
 is_standing (Some (AtTerminal (Dominated name))) = false
 
--- what may be named where this is found
+-- what may be named if this is found
 abbrev pub may_be_named : Rule → Option (Vertex Ending) → Bool
 may_be_named NoneNamed vertex = false
 may_be_named WrittenEarlier vertex = is_node vertex

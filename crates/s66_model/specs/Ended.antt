@@ -1,4 +1,4 @@
--- Used by contracts of the ledger: where a search may end, and the answer that its ledger then is.
+-- Used by contracts of the ledger: when a search may end, and the answer that its ledger then is.
 use Rattle.std.specs.Prelude.{ℕ, ◌≡◌, ◌≤◌, ◌⊎◌, true}
 use Rattle.s66_isa.specs.Lists.{Among}
 use Rattle.s66_model.specs.Timing.{Problem}

@@ -1,4 +1,5 @@
--- Used by examples alone: worked blocks of a few instructions, their COMPASS lines above each, and words that tell what an order of one does under the standard profile, what leaves a prefix has, and what trees and ledgers there are of them.
+-- Used by examples alone: worked blocks of a few instructions, their COMPASS lines above each. Words say what an order of one
+-- does under the standard profile, what leaves a prefix has, and what trees and ledgers there are of them.
 use Rattle.std.specs.Prelude.{ℕ, Bool, zero, suc, true, false, ◌≢◌, List, [], ◌∷◌, map, reverse, Some, None}
 use Rattle.std.proofs.Common.{lit≤}
 use Rattle.s66_isa.specs.declared.instr.Instr.{Instr}
@@ -128,7 +129,7 @@ packing_gap = instr 0o10 7 2 0 ∷ instr 0o20 3 0 0 ∷ instr 0o36 4 5 6 ∷ ins
 abbrev pub two_gaps : List Instr
 two_gaps = instr 0o10 7 2 0 ∷ instr 0o20 3 0 0 ∷ instr 0o36 4 5 6 ∷ instr 0o50 1 1 0 ∷ instr 0o10 5 5 0 ∷ instr 0o50 2 2 0 ∷ []
 
--- SA6 A6+B1 / SA1 A2+B2: no register stands in both
+-- SA6 A6+B1 / SA1 A2+B2: no register is in both
 abbrev pub store_then_load : List Instr
 store_then_load = instr 0o54 6 6 1 ∷ instr 0o54 1 2 2 ∷ []
 
@@ -156,7 +157,7 @@ unpack_then_shift = instr 0o26 1 1 1 ∷ instr 0o22 1 1 1 ∷ []
 abbrev pub one_divide_unit : List Instr
 one_divide_unit = instr 0o47 1 0 2 ∷ instr 0o44 3 4 5 ∷ []
 
--- BX1 X2 / FX1 X3*X4 / BX7 X1 / IX1 X5+X6: the third reads the X1 of the second, and the fourth writes X1 behind it
+-- BX1 X2 / FX1 X3*X4 / BX7 X1 / IX1 X5+X6: the third reads the X1 of the second, and the fourth writes X1 after it
 abbrev pub latest_writer : List Instr
 latest_writer = instr 0o10 1 2 0 ∷ instr 0o40 1 3 4 ∷ instr 0o10 7 1 0 ∷ instr 0o36 1 5 6 ∷ []
 
@@ -304,7 +305,7 @@ abbrev pub every_order : {M : Type 0} → M → Tree M
 every_order terminal =
     Parted (1 ∷ 2 ∷ 3 ∷ []) (Split (2 ∷ 3 ∷ []) (both_orders terminal 2 3) (Split (1 ∷ 3 ∷ []) (both_orders terminal 1 3) (Split (1 ∷ 2 ∷ []) (both_orders terminal 1 2) NoMore)))
 
--- the same without the last split: the floor of 3 2 stands there
+-- the same without the last split: the floor of 3 2 is there
 abbrev pub all_but_one : Tree Leaf
 all_but_one =
     Parted (1 ∷ 2 ∷ 3 ∷ []) (Split (2 ∷ 3 ∷ []) (both_orders Whole 2 3) (Split (1 ∷ 3 ∷ []) (both_orders Whole 1 3) (Split (1 ∷ 2 ∷ []) (Split (2 ∷ []) (Unsplit Whole NoMore) (Unsplit (Load Multiply) NoMore)) NoMore)))
@@ -329,7 +330,7 @@ abbrev pub load_piece : Tree Terminal
 load_piece =
     Parted (1 ∷ 3 ∷ []) (Split (2 ∷ 3 ∷ []) (Unsplit (Carries (Load Boolean)) (Split (2 ∷ []) (Unsplit (Carries Whole) NoMore) NoMore)) (Unsplit Frontier NoMore))
 
--- so many children that aren't split, with the same terminal
+-- this many children that aren't split, with the same terminal
 abbrev pub children : {M : Type 0} → ℕ → M → Siblings M
 children zero terminal = NoMore
 children (suc count) terminal = Unsplit terminal (children count terminal)
@@ -447,7 +448,8 @@ NeverRuns b old history = (new : Ledger) → ¬ Run NoneNamed b old history new
 abbrev pub no_constants : ℕ → List ℕ
 no_constants n = []
 
--- which parts of a dependence n has on m, which stands before it: it reads what m writes, writes what m reads, both write one register, both reference memory and one is a store
+-- which parts of a dependence n has on m, which comes before it: it reads what m writes, writes what m reads, both write one
+-- register, both reference memory and one is a store
 abbrev pub parts : Instr → Instr → List Bool
 parts m n =
     share (results_of m) (reads_of n) ∷ share (reads_of m) (results_of n) ∷ share (results_of m) (results_of n) ∷ memory_pair (memory_of m) (memory_of n) ∷ []

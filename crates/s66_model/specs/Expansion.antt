@@ -9,9 +9,10 @@ use Rattle.s66_model.specs.Tree.{Tree, TreeHolds, splits, split_at, tree_values}
 use Rattle.s66_model.specs.DominatedLeaves.{DominatesByRule}
 use Rattle.s66_model.specs.Piece.{Terminal, Carries, Frontier, Passed, IsNamedIn}
 
--- The best time may fall while the tree is grown, from high to low. Where it doesn't, low is high.
+-- The best time may fall while the tree is grown, from high to low. If it doesn't, low is high.
 
--- a leaf is the floor, of a complete prefix or of a value that is at least low; in the frontier stands an incomplete prefix whose floor is below high, and so is that of a dominated one, which has a name as the rule asks
+-- a leaf is the floor, of a complete prefix or of a value that is at least low. In the frontier is an incomplete prefix whose
+-- floor is below high. So is that of a dominated one, which has a name as the rule asks
 abbrev pub TerminalHoldsWhile : Rule → Problem → ℕ → ℕ → List ℕ → Tree Terminal → List ℕ → Terminal → Type 0
 TerminalHoldsWhile rule b high low prefix tree at (Carries leaf) = (leaf ≡ floor b at) × (IsComplete b.block at ⊎ (low ≤ value b at leaf))
 TerminalHoldsWhile rule b high low prefix tree at Frontier = IsIncomplete b.block at × (floor_value b at < high)
@@ -20,11 +21,11 @@ TerminalHoldsWhile rule b high low prefix tree at (Passed name) = (DominatesByRu
 pub record IsExpansion (rule : Rule) (b : Problem) (high low allowance : ℕ) (prefix : List ℕ) (tree : Tree Terminal) : Type 0 where
   -- a tree over the prefix whose splits have exactly the ready children
   pub piece : TreeHolds b.block (TerminalHoldsWhile rule b high low prefix tree) prefix tree
-  -- of at most so many splits
+  -- of at most this many splits
   pub within : splits tree ≤ allowance
   -- a prefix whose floor is at least the best time isn't split
   pub below : (at : List ℕ) → Among at (split_at prefix tree) → floor_value b at < high
-  -- one split at least, where any is allowed, the prefix isn't complete and its floor is below the best time
+  -- one split at least, if any is allowed, the prefix isn't complete and its floor is below the best time
   pub due : 1 ≤ allowance → IsIncomplete b.block prefix → floor_value b prefix < low → 1 ≤ splits tree
 
 -- WHOLE ORDERS
@@ -41,7 +42,7 @@ whole_at prefix (Passed name) = []
 abbrev pub whole_orders : List ℕ → Tree Terminal → List (List ℕ)
 whole_orders prefix tree = tree_values whole_at prefix tree
 
--- one of the least total among them, and none where there are none
+-- one of the least total among them; none if there are none
 abbrev pub IsBestWhole : Problem → List ℕ → Tree Terminal → Option (List ℕ) → Type 0
 IsBestWhole b prefix tree None = whole_orders prefix tree ≡ []
 IsBestWhole b prefix tree (Some order) =

@@ -4,7 +4,7 @@ use Rattle.s66_isa.specs.Table.{kind_number}
 use Rattle.s66_model.specs.Timing.{Problem}
 use Rattle.s66_model.specs.Leaves.{Leaf, Whole, Chain, Load, Parcels, value, MayStand}
 
--- the first list stands before the other in a dictionary, or is the same
+-- the first list comes before the other in a dictionary, or is the same
 abbrev pub IsNoLater : List ℕ → List ℕ → Type 0
 IsNoLater [] ms = Unit {0}
 IsNoLater (n ∷ ns) [] = ⊥

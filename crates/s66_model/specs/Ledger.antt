@@ -107,7 +107,7 @@ opening b budget workers =
 
 -- EVENTS AND REPLIES
 
--- own: the piece or the order is of this block and profile; a Graft has its tree where it was taken
+-- own: the piece or the order is of this block and profile; a Graft has its tree if it was taken
 pub data Event : Type 0 where
   Grant : (w : ℕ) → Event
   Claim : (w : ℕ) → Event
@@ -143,7 +143,7 @@ worker (Retire w) = w
 abbrev pub grant_limit : ℕ
 grant_limit = 64
 
--- what a grant moves: that, or what is left where that is less
+-- what a grant moves: that, or what is left if that is less
 abbrev pub share_of : Ledger → ℕ
 share_of l = min grant_limit l.left
 
@@ -228,7 +228,8 @@ IsOver l i own prefix = (own ≡ true) × (prefix ≡ (node_at l.nodes i).prefix
 abbrev pub IsTimed : Problem → Bool → List ℕ → ℕ → Type 0
 IsTimed b own order time = (own ≡ true) × IsLegal b.block order × (time ≡ total_of b order)
 
--- from old, by the rule, the event may have this reply and lead to new; of a piece or an order that is refused nothing more is asked
+-- from old, by the rule, the event may have this reply and lead to new; nothing more is required of a piece or an order that is
+-- refused
 abbrev pub Moves : Rule → Problem → Ledger → Event → Reply → Ledger → Type 0
 Moves rule b old (Grant w) (Granted n) new = (n ≡ share_of old) × (new ≡ after_grant old w)
 Moves rule b old (Claim w) (Claimed (Some i)) new =

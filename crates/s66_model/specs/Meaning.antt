@@ -1,4 +1,4 @@
--- To be believed: what an order of a block computes, over terms: no dependence stands in it.
+-- To be believed: what an order of a block computes, over terms: no dependence is in it.
 use Rattle.std.specs.Prelude.{ℕ, suc, ◌≡◌, if◌then◌else◌, List, [], ◌∷◌, ◌++◌, map}
 use Rattle.s66_isa.specs.declared.instr.Instr.{Instr}
 use Rattle.s66_isa.specs.declared.instr.Memory.{Memory}

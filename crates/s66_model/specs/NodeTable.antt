@@ -24,11 +24,11 @@ is_cut_at prefix node = is_cut node && stands_at prefix node
 pub record IsTable (b : Problem) (l : Ledger) : Type 0 where
   -- the empty prefix has one node
   pub root : tally (stands_at []) l.nodes ≡ 1
-  -- with one ready number more, a prefix has as many nodes as it has split ones: one where it is split, and none where it isn't
+  -- with one ready number more, a prefix has as many nodes as it has split ones: one if it is split, and none if it isn't
   pub children : (at : List ℕ) (n : ℕ) → is_ready b.block at n ≡ true → tally (stands_at (at ++ n ∷ [])) l.nodes ≡ tally (is_cut_at at) l.nodes
   -- and with any other number more it has none
   pub others : (at : List ℕ) (n : ℕ) → is_ready b.block at n ≡ false → tally (stands_at (at ++ n ∷ [])) l.nodes ≡ 0
-  -- splits stand at incomplete prefixes
+  -- splits are at incomplete prefixes
   pub splits : (node : Node) → Among node l.nodes → node.state ≡ Cut → IsIncomplete b.block node.prefix
   -- the best order is the source order, or strictly faster
   pub best : (l.best ≡ numbers b.block) ⊎ (best_time b l < source_time b)

@@ -15,7 +15,8 @@ abbrev pub each_sibling : {M : Type 0} → (List ℕ → Siblings M → Siblings
 each_sibling sibling prefix [] = NoMore
 each_sibling sibling prefix (n ∷ ns) = sibling (prefix ++ n ∷ []) (each_sibling sibling prefix ns)
 
--- a prefix in front of its later siblings: split where the test says so, down to so many numbers more, and else with its terminal
+-- a prefix in front of its later siblings: split where the test says so, down to this many numbers more, and else with its
+-- terminal
 abbrev pub grown_sibling : {M : Type 0} → List Instr → (List ℕ → Bool) → (List ℕ → M) → ℕ → List ℕ → Siblings M → Siblings M
 grown_sibling block is_split terminal zero at later = Unsplit (terminal at) later
 grown_sibling block is_split terminal (suc more) at later =
@@ -37,7 +38,7 @@ state_ending b at Cut = Bounding (floor b at)
 state_ending b at (Closed (Bounding leaf)) = Bounding (floor b at)
 state_ending b at (Closed (Dominated name)) = Dominated name
 
--- by the first node that stands there
+-- by the first node that is there
 abbrev pub ending_at : Problem → List Node → List ℕ → Ending
 ending_at b [] at = Bounding (floor b at)
 ending_at b (node ∷ nodes) at = if stands_at at node then state_ending b at node.state else ending_at b nodes at

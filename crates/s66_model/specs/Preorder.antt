@@ -24,7 +24,7 @@ forest [] = NoMore
 forest (AtTerminal terminal ∷ vertices) = Unsplit terminal (forest vertices)
 forest (AtSplit numbers ∷ vertices) = Split numbers (first_siblings numbers (forest vertices)) (later_siblings numbers (forest vertices))
 
--- the first of them, or this one where there is none
+-- the first of them, or this one if there is none
 abbrev pub first_tree : {M : Type 0} → Tree M → Siblings M → Tree M
 first_tree none NoMore = none
 first_tree none (Unsplit terminal siblings) = Alone terminal

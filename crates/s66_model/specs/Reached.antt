@@ -4,6 +4,6 @@ use Rattle.s66_model.specs.declared.rule.Rule.{Rule}
 use Rattle.s66_model.specs.Timing.{Problem}
 use Rattle.s66_model.specs.Ledger.{Ledger, Event, Reply, Run, opening}
 
--- by the rule, with this budget and so many workers
+-- by the rule, with this budget and this many workers
 abbrev pub IsReached : Rule → Problem → (budget workers : ℕ) → Ledger → Type 0
 IsReached rule b budget workers l = (history : List (Event × Reply)) × Run rule b (opening b budget workers) history l

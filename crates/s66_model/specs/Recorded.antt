@@ -7,7 +7,7 @@ use Rattle.s66_model.specs.Tree.{Tree, Alone, Parted, Siblings, NoMore, Unsplit,
 use Rattle.s66_model.specs.Piece.{Terminal, Carries, Frontier, Passed}
 use Rattle.s66_model.specs.Ledger.{Event, Graft, Offer, Reply, Taken, worker}
 
--- own tells whether p, which an order is of, is the ledger's block and profile
+-- own says whether p, which an order is of, is the ledger's block and profile
 abbrev pub IsOwn : (b p : Problem) → Bool → Type 0
 IsOwn b p own = (own ≡ true) ↔ (p ≡ b)
 

@@ -1,4 +1,5 @@
--- Used by contracts of pieces and answers: trees that tell of each unsplit prefix only its floor's value or the name that it has, as code keeps them, and the trees that they stand for.
+-- Used by contracts of pieces and answers: trees that state of each unsplit prefix only its floor's value or the name that it
+-- has, as code stores them, and the trees that they stand for.
 use Rattle.std.specs.Prelude.{ℕ, ◌≡◌, List, [], ◌∷◌, ◌++◌}
 use Rattle.s66_model.specs.declared.rule.Rule.{Rule}
 use Rattle.s66_model.specs.Timing.{Problem}
@@ -51,7 +52,7 @@ terminal_of b at (StatedLeaf value) = Carries (floor b at)
 terminal_of b at (StatedFrontier value) = Frontier
 terminal_of b at (StatedPassed value name) = Passed name
 
--- the piece's tree of which the values are told
+-- the piece's tree whose values are stated
 abbrev pub tree_stated : Problem → List ℕ → Tree Stated → Tree Terminal
 tree_stated b prefix stated = tree_seen (terminal_of b) prefix stated
 

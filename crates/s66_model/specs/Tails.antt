@@ -14,7 +14,7 @@ use Rattle.s66_model.specs.Leaves.{tail, uses, link, is_linked, longest, head, c
 abbrev pub longest_tail : Problem → ℕ → ℕ
 longest_tail b n = longest b [] (length b.block) n
 
--- the longest walk from n that goes on with m, 0 where they have no link
+-- the longest walk from n that goes on with m, 0 if they have no link
 abbrev pub walk_to : Problem → ℕ → ℕ → ℕ
 walk_to b n m = if is_linked b n m then link (row_at b n) (row_at b m) + longest_tail b m else 0
 
@@ -22,7 +22,7 @@ walk_to b n m = if is_linked b n m then link (row_at b n) (row_at b m) + longest
 abbrev pub tail_remaining : Problem → List ℕ → ℕ
 tail_remaining b prefix = greatest (longest_tail b) (remaining b.block prefix)
 
--- the greatest chain that starts when x is done, at a number that reads or writes it; 0 where no such number remains
+-- the greatest chain that starts when x is done, at a number that reads or writes it; 0 if no such number remains
 abbrev pub chain_by : Problem → List ℕ → Reg → ℕ
 chain_by b prefix x =
     greatest (λ n. if uses (row_at b n) x then done_of (points_of b prefix) x + longest_tail b n else 0) (remaining b.block prefix)
@@ -37,13 +37,13 @@ HasWritten b xs = (n : ℕ) → 1 ≤ n → n ≤ length b.block → (w : Write)
 
 -- THE PRINTED CHAIN
 
--- the number after n on its longest walk, the lowest that keeps it; 0 where it ends with n
+-- the number after n on its longest walk, the lowest that keeps it; 0 if it ends with n
 abbrev pub walk_next : Problem → ℕ → ℕ
 walk_next b n =
     if tail (row_at b n) == longest_tail b n then 0
     else first_that (λ m. link (row_at b n) (row_at b m) + longest_tail b m == longest_tail b n) (filter (is_linked b n) (numbers b.block))
 
--- the numbers after n on its longest walk, at most so many
+-- the numbers after n on its longest walk, at most this many
 abbrev pub walk_after : Problem → ℕ → ℕ → List ℕ
 walk_after b zero n = []
 walk_after b (suc links) n =

@@ -1,4 +1,4 @@
--- To be believed: a block that stands written in an order.
+-- To be believed: a block that is written in an order.
 use Rattle.std.specs.Prelude.{ℕ, List, map}
 use Rattle.s66_isa.specs.Table.{instr_at}
 use Rattle.s66_model.specs.Timing.{Problem}

@@ -12,7 +12,7 @@ ghost use Rattle.s66_model.specs.DominatedLeaves.{ShowsBy};
 ghost use Rattle.s66_model.specs.Answer.{Answer, IsAnswer, IsBestAnswer, source_time};
 ghost use Rattle.s66_model.specs.Examples.{standard_problem, zero_register, boolean_problem, load_problem, multiply_problem, answer, every_order, all_but_one, one_omitted, load_tree, load_orders};
 
-/// The tree of an answer shows its bound, so the bound is one; and where it is the time, none is faster.
+/// The tree of an answer shows its bound, so the bound is one. If it is the time, none is faster.
 pub fn answer_law()
     ensures shown { (rule : Rule) (b : Problem) (budget : ℕ) (a : Answer) → IsAnswer rule b budget a → ShowsBy rule b a.bound [] a.tree }
     ensures bound { (rule : Rule) (b : Problem) (budget : ℕ) (a : Answer) → IsAnswer rule b budget a → IsBound b a.bound }

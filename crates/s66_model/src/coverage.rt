@@ -34,8 +34,8 @@ pub fn coverage_law()
     ensures never_rises { (rule : Rule) (b : Problem) (history : List (Event × Reply)) (old new : Ledger) → Run rule b old history new → NeverRises b old new }
 {}
 
-/// Where the nodes are those of one tree, the least of the best time and of the floors of the open nodes and of those handed out is
-/// a bound: closed leaves take at least the best time, and dominated nodes are passed over.
+/// If the nodes are those of one tree, the least of the best time and of the floors of the open nodes and of those handed out is
+/// a bound. Closed leaves take at least the best time, and dominated nodes are passed over.
 pub fn ledger_bound_law()
     ensures { (rule : Rule) (b : Problem) (budget : ℕ) (l : Ledger) → Covers rule b budget l → IsTable b l → IsBound b (bound_of b l) }
 {}

@@ -1,4 +1,4 @@
-//! Which instruction has to stay behind which.
+//! Which instruction must stay after which.
 
 ghost use Rattle.std.specs.Prelude.{◌≡◌, [], ◌∷◌};
 ghost use Rattle.s66_model.specs.Dependence.{all_needs};

@@ -6,9 +6,9 @@ ghost use Rattle.s66_model.specs.LegalOrder.{is_ready};
 ghost use Rattle.s66_model.specs.Dominance.{Dominates, DominatesClamped, IsNoWorse};
 ghost use Rattle.s66_model.specs.Examples.{standard_problem, packing_gap, two_gaps, booleans_and_sets, late_reader, late_result, later_gap};
 
-/// A beginning that dominates another still does after both go on with the same number. So whatever completes the other
-/// completes it too, with no greater total. All this also holds clamped at the next slot, which asks for less: that its own
-/// total is no greater follows. What dominates a dominating beginning dominates what this one does.
+/// A beginning that dominates another still does after both go on with the same number. So whatever completes the other completes
+/// it too, with no greater total. All this also holds clamped at the next slot, which requires less: that its own total is no
+/// greater follows. What dominates a dominating beginning dominates what this one does.
 pub fn dominance_law()
     ensures pushed { (b : Problem) (other prefix : List ℕ) (n : ℕ) → Dominates b other prefix → is_ready b.block prefix n ≡ true → Dominates b (other ++ n ∷ []) (prefix ++ n ∷ []) }
     ensures pushed_clamped { (b : Problem) (other prefix : List ℕ) (n : ℕ) → DominatesClamped b other prefix → is_ready b.block prefix n ≡ true → DominatesClamped b (other ++ n ∷ []) (prefix ++ n ∷ []) }

@@ -15,7 +15,7 @@ ghost use Rattle.s66_model.specs.NodeTree.{is_split_at, node_tree};
 ghost use Rattle.s66_model.specs.Ended.{IsEnded, ended_answer};
 ghost use Rattle.s66_model.specs.Examples.{boolean_problem, load_problem, multiply_problem, answer, every_order, load_tree, children, one_split, node, ledger, first_node, root_split, second_split, without_grants, load_grafted, loose_split};
 
-/// However a ledger was reached, and whatever steps went on from it: where these have ended, the answer that the last state is
+/// However a ledger was reached, and whatever steps went on from it: if these have ended, the answer that the last state is
 /// finishes the ledger with which they began.
 pub fn ended_law()
     ensures { (rule : Rule) (b : Problem) (budget workers : ℕ) (l new : Ledger) (events : List (Event × Reply)) → IsReached rule b budget workers l → Run rule b l events new → IsEnded b budget new → IsFinished rule b budget l (ended_answer b new) }

@@ -35,8 +35,8 @@ pub fn reached_law()
     ensures source { (rule : Rule) (b : Problem) (budget workers : ℕ) (l : Ledger) → IsReached rule b budget workers l → best_time b l ≤ source_time b }
 {}
 
-/// The event of a graft tells of its node and of its piece's splits, also if it is refused, and spends these splits if it is taken;
-/// an offer has one event.
+/// The event of a graft has its node and its piece's splits, also if it is refused, and spends these splits if it is taken; an
+/// offer has one event.
 pub fn recorded_law()
     ensures graft { (rule : Rule) (b : Problem) (w node : ℕ) (r : Rule) (p : Problem) (prefix : List ℕ) (tree : Tree Terminal) (reply : Reply) (event : Event) → IsGraftOf rule b w node r p prefix tree reply event → brief event ≡ Grafts node (splits tree) }
     ensures spends { (rule : Rule) (b : Problem) (w node : ℕ) (r : Rule) (p : Problem) (prefix : List ℕ) (tree : Tree Terminal) (event : Event) → IsGraftOf rule b w node r p prefix tree Taken event → spends event Taken ≡ splits tree }

@@ -1,4 +1,4 @@
-//! Trees that tell values in place of leaves.
+//! Trees with values in place of leaves.
 
 ghost use Rattle.std.specs.Prelude.{ℕ, List, ◌≡◌, [], ◌∷◌};
 ghost use Rattle.s66_model.specs.declared.rule.Rule.{Rule};

@@ -10,8 +10,8 @@ ghost use Rattle.s66_isa.specs.Rows.{IsInRange};
 ghost use Rattle.s66_isa.specs.Table.{instr, row, register_latency, writes_of, hold_of, standard, copies_of, all_kinds, a_reg, b_reg, x_reg};
 ghost use Rattle.s66_model.specs.Examples.{uneven_profile, held_write, loaded_write, table_row};
 
-/// Of every instruction under every profile: 1 or 2 parcels, times of 1 to 100, and a unit that holds a result for its
-/// whole hold; and what timing sees of its results are those of the table.
+/// Every instruction under every profile has 1 or 2 parcels, times of 1 to 100, and a unit that holds a result for its whole
+/// hold. What timing sees of its results are those of the table.
 pub fn row_law()
     ensures good { (p : Profile) (n : Instr) → IsInRange (row p n) }
     ensures writes { (p : Profile) (n : Instr) → map register_latency (row p n).writes ≡ writes_of p n }

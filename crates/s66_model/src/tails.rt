@@ -23,7 +23,7 @@ pub fn tail_law()
     ensures late { (b : Problem) (prefix : List ℕ) (xs : List Reg) → HasWritten b xs → IsBeginning b.block prefix → HasLate b prefix xs }
 {}
 
-/// What the printed chain asks of a number that remains is known before anything is placed: its longest walk, its links, and the
+/// What the printed chain needs of a number that remains is known before anything is placed: its longest walk, its links, and the
 /// number after it. So from its front on, the printed chain is the same after every beginning.
 pub fn printed_chain_law()
     ensures tails { (b : Problem) (prefix : List ℕ) (links n : ℕ) → IsBeginning b.block prefix → is_remaining b.block prefix n ≡ true → length b.block ≤ n + links → longest b prefix links n ≡ longest_tail b n }

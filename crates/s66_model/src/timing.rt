@@ -18,7 +18,7 @@ pub fn total_law()
     ensures { (b : Problem) (order : List ℕ) → total_of b order ≤ 104 * length order }
 {}
 
-/// A block that stands written in an order, whatever the numbers of this are, takes as written what the order takes.
+/// A block that is written in an order, whatever the numbers of this are, takes as written what the order takes.
 pub fn written_order_law()
     ensures { (b : Problem) (order : List ℕ) → source_time (written_in order b) ≡ total_of b order }
 {}

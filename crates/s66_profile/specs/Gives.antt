@@ -4,7 +4,8 @@ use Rattle.s66_isa.specs.declared.profile.Profile.{Profile}
 use Rattle.s66_profile.specs.declared.error.ProfileError.{ProfileError}
 use Rattle.s66_profile.specs.declared.error.ProfileError.TheVariants.{BadProfile, OutOfMemory}
 
--- what came out is the profile that the text gives, and `BadProfile` says that it gives none; out of memory may stand in the place of either
+-- what came out is the profile that the text gives, and `BadProfile` says that it gives none; out of memory may come in place of
+-- either
 abbrev pub Gives : Result Profile ProfileError → Option Profile → Type 0
 Gives (Ok p) given = given ≡ Some p
 Gives (Err BadProfile) given = given ≡ None

@@ -22,7 +22,7 @@ place_of name = position (λ known. bytes_eq known name) names
 abbrev pub number_in : Data → Option ℕ
 number_in value = option_and_then (λ n. if nat_le 1 n && nat_le n PROFILE_LIMIT then Some n else None) (option_and_then as_u64 (as_number value))
 
--- the numbers, where each member of an object sets the one that it names
+-- the numbers after each member of an object has set the one that it names
 abbrev pub with_members : List ℕ → Members → Option (List ℕ)
 with_members ns no_members = Some ns
 with_members ns (member name value more) = option_and_then (λ place. option_and_then (λ n. with_members (slice_set ns place n) more) (number_in value)) (place_of name)

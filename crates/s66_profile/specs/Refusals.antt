@@ -1,4 +1,4 @@
--- To be believed: the line that tells why a text gave no profile, without its newline.
+-- To be believed: the line that says why a text gave no profile, without its newline.
 use Rattle.std.specs.Prelude.{ℕ, List, codes}
 use Rattle.s66_profile.specs.declared.error.ProfileError.{ProfileError}
 use Rattle.s66_profile.specs.declared.error.ProfileError.TheVariants.{BadProfile, OutOfMemory}

@@ -4,9 +4,9 @@ ghost use Rattle.s66_profile.specs.declared.error.ProfileError.TheVariants.{BadP
 
 use std::{error, fmt};
 
-/// Why a text gave no profile. Each shows itself as the line that tells it.
+/// Why a text gave no profile. It is displayed as the line that reports it.
 ///
-/// `OutOfMemory` is for a growth that was refused, and may stand in the place of any other answer.
+/// `OutOfMemory` is for a growth that was refused, and may be returned in place of any other answer.
 #[derive(Clone, Copy, Debug, Drop, PartialEq, Eq)]
 pub enum ProfileError {
     /// It is no JSON object whose keys all name numbers of a profile, each with a whole number 1 to `PROFILE_LIMIT`.
@@ -30,7 +30,7 @@ impl ProfileError {
     ghost use Rattle.std.specs.Prelude.{◌≡◌};
     ghost use Rattle.s66_profile.specs.Refusals.{profile_refusal_line};
 
-    /// The line that tells it, without a newline.
+    /// The line that reports it, without a newline.
     pub fn line(&self) -> &'static str
         ensures { result.now ≡ profile_refusal_line self.now }
     {

@@ -40,7 +40,7 @@ fn place(name: &str) -> Option<usize>
     NAMES.iter().position(|known| *known == name)
 }
 
-/// The number that a value is, if it may stand in a profile.
+/// The number that a value is, if it may be in a profile.
 fn number(value: &Value) -> Option<u8>
     ensures value { result ≡ number_in (view value.now) }
     ensures range { IfSome result (λ n. (1 ≤ n) × (n ≤ PROFILE_LIMIT)) }
@@ -68,14 +68,14 @@ fn profile_in(value: &Value) -> Option<Profile>
     Profile::of(&numbers)
 }
 
-/// The profile that a JSON object gives. Its keys are names of the numbers of a profile, as `boolean` or `units_multiply`, and its
-/// values whole numbers 1 to `PROFILE_LIMIT`, written in digits alone; a number that has no key is the standard profile's, and of
-/// equal keys the last counts.
+/// The profile that a JSON object gives. Its keys are names of the numbers of a profile, as `boolean` or `units_multiply`, and
+/// its values whole numbers 1 to `PROFILE_LIMIT`, written in digits alone. A number that has no key is the standard profile's,
+/// and of equal keys the last counts.
 ///
 /// # Errors
 ///
-/// `BadProfile` for any other text. `OutOfMemory` where a growth was refused, which may stand in the place of any other answer; an
-/// empty text wants none.
+/// `BadProfile` for any other text. `OutOfMemory` if a growth was refused, which may be returned in place of any other answer; an
+/// empty text needs no memory.
 pub fn read_profile(alloc: Global, text: &str) -> Result<Profile, ProfileError>
     ensures profile { Gives result (profile_in_text text.now) }
     ensures numbers { IfOk result (λ p. numbers_in_text text.now ≡ Some (entries p)) }

@@ -1,4 +1,4 @@
-//! That a text is read where memory is left, which no clause says.
+//! That a text is read if memory is left, which no clause says.
 
 use crate::error::ProfileError;
 use crate::profile::read_profile;

@@ -39,7 +39,7 @@ fn two_x(first: u8, j: u8, second: u8, k: u8) -> Option<(u8, u8)>
     Some((x_digit(first, j)?, x_digit(second, k)?))
 }
 
-/// How far the code of a Boolean operator stands after that of no operator.
+/// How far the code of a Boolean operator is above that of no operator.
 fn boolean_operator(operator: u8) -> Option<u8>
     ensures value { result ≡ boolean_operator operator }
     ensures few { IfSome result (λ f. f ≤ 3) }
@@ -73,8 +73,8 @@ pub(crate) fn boolean(i: u8, operand: &[u8]) -> Option<Encoding>
     }
 }
 
-/// The digits of one B and one X register in either order, joined by a comma, or of one of them alone: a missing B is
-/// B0, a missing X is Xi.
+/// The digits of one B and one X register in either order, joined by a comma, or of one of them alone. A missing B is B0, a
+/// missing X is Xi.
 fn b_and_x(i: u8, operand: &[u8]) -> Option<(u8, u8)>
     ensures { result ≡ b_and_x i operand.now }
 {
@@ -105,7 +105,7 @@ pub(crate) fn shift(by_constant: u8, by_register: u8, i: u8, operand: &[u8]) -> 
     Some(Encoding::new(by_register, i, j, k))
 }
 
-/// A B and an X register, and B0 and Xi where the operand is absent.
+/// A B and an X register, or B0 and Xi if the operand is absent.
 pub(crate) fn normalise(code: u8, i: u8, operand: &[u8]) -> Option<Encoding>
     ensures { result ≡ normalise code i operand.now }
 {

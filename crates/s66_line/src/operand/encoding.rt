@@ -5,7 +5,7 @@ use s66_isa::{Instr, Op};
 use std::marker::Model;
 
 /// The octal code and the digits that an operand chooses. It is plain: that they are those of an instruction is known of the
-/// operation and its operand together, and is asked where they become one.
+/// operation and its operand together, and is required where they become one.
 #[derive(Clone, Copy, Debug)]
 pub(crate) struct Encoding {
     code: u8,

@@ -5,7 +5,7 @@ use crate::operand::encoding::Encoding;
 use crate::operand::terms::terms_of;
 use s66_isa::Bank;
 
-/// The form and the digits j and k, where a constant stands among the terms.
+/// The form and the digits j and k, if a constant is among the terms.
 fn with_constant(registers: &[(bool, Bank, u8)]) -> Option<(u8, u8, u8)>
     ensures value { result ≡ with_constant registers.now }
     ensures form { IfSome result (λ f. f.0 ≤ 7) }
@@ -19,7 +19,7 @@ fn with_constant(registers: &[(bool, Bank, u8)]) -> Option<(u8, u8, u8)>
     }
 }
 
-/// The form and the digits j and k, where all terms are registers.
+/// The form and the digits j and k, if all terms are registers.
 fn without_constant(registers: &[(bool, Bank, u8)]) -> Option<(u8, u8, u8)>
     ensures value { result ≡ without_constant registers.now }
     ensures form { IfSome result (λ f. f.0 ≤ 7) }

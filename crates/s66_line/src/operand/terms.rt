@@ -7,7 +7,7 @@ ghost use Rattle.s66_line.specs.Terms.{gather, terms_in, with_term};
 use arrayvec::ArrayVec;
 use s66_isa::Bank;
 
-/// A letter, a digit or a point: what may stand beside `*` and `/`.
+/// A letter, a digit or a point: what may be beside `*` and `/`.
 fn is_near(byte: u8) -> bool
     ensures { result ≡ is_near byte }
 {
@@ -23,7 +23,7 @@ fn near_front(bytes: &[u8]) -> bool
     }
 }
 
-/// Whether a byte may stand in a constant between these bytes; 0 where none is before it.
+/// Whether a byte may be in a constant between these bytes; 0 if none is before it.
 fn may_stand(last: u8, byte: u8, after: &[u8]) -> bool
     ensures { result ≡ may_stand last byte after.now }
 {
@@ -78,11 +78,11 @@ fn is_sign(byte: u8) -> bool
     byte == b'+' || byte == b'-'
 }
 
-/// What stands among the terms of an operand.
+/// What is among the terms of an operand.
 #[derive(Debug, Drop)]
 pub(crate) struct Terms {
     pub(crate) has_constant: bool,
-    /// The registers in order, each with whether a minus stands before it.
+    /// The registers in order, each with whether a minus comes before it.
     pub(crate) registers: ArrayVec<(bool, Bank, u8), 2>,
 }
 

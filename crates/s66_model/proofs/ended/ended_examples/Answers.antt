@@ -26,7 +26,7 @@ ended b budget l h = by l.nodes h
     by (x ∷ nodes) h node (inl here) = subst (λ (y : Node). is_live y ≡ true → (best_time b l ≤ floor_value b y.prefix) ⊎ (IsIncomplete b.block y.prefix × (l.spent ≡ budget))) (sym here) h.0
     by (x ∷ nodes) h node (inr past) = by nodes h.1 node past
 
--- where no node is open or out
+-- if no node is open or out
 none-live : (b : Problem) (budget : ℕ) (l : Ledger) (nodes : List Node) → tally is_live nodes ≡ 0 → Each b budget l nodes
 none-live b budget l [] none = tt
 none-live b budget l (x ∷ nodes) none =

@@ -7,7 +7,7 @@ use Rattle.s66_model.specs.Examples.{first_node, root_split}
 use Rattle.s66_model.proofs.LegalOrders.{order-legal}
 use Rattle.s66_model.proofs.ledger.run_examples.Goals as goal
 
--- the state after each event, and why it comes to that
+-- the state after each event, and why it is that
 pub returns-clause-events : goal.returns-clause-events
 unfolding row issue_of start_of point conflict
 returns-clause-events c = (

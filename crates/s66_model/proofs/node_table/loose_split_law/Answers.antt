@@ -22,7 +22,7 @@ returns-clause-covers c =
       sum = refl;
     }
 
--- where a child of the empty prefix is split, the empty prefix is too
+-- if a child of the empty prefix is split, the empty prefix is too
 some-split : (ns : List ℕ) (siblings : Siblings Ending) → Among (1 ∷ []) (siblings_split_at [] ns siblings) → 1 ≤ sibling_splits siblings
 some-split [] siblings h = absurd h
 some-split (n ∷ ns) NoMore h = absurd h

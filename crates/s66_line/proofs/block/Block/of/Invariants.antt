@@ -1,4 +1,4 @@
--- What was made is the front of the entries, and those of the texts behind it still come.
+-- What was made is the front of the entries, and those of the texts after it still come.
 use Rattle.std.proofs.Common.{◌≡◌, ◌++◌, ℕ, suc, length, map, drop}
 use Rattle.std.specs.declared.vec.Vec.{Vec}
 use Rattle.std.specs.declared.alloc.Global.{Global}

@@ -4,7 +4,7 @@ use Rattle.s66_line.specs.Findings.{stated_from, stated_lines}
 use Rattle.s66_line.specs.declared.limits.TheConstants.{SOURCE_LINES_LIMIT}
 use Rattle.s66_line.proofs.findings.Findings.take_all.Given as goal
 
--- what was told so far, and then what is told of the rest, is what is told of all
+-- what was stated so far, and then what is stated of the rest, is what is stated of all
 abbrev pub invariant-loop-end : goal.invariant-loop-end
 invariant-loop-end l = record {
   stated : l.self.out.items ++ stated_lines (stated_from (suc l.self.lines) l.self.after_code (lines_from [] l.rest)) ≡ l.fn.self.out.items ++ stated_lines (stated_from (suc l.fn.self.lines) l.fn.self.after_code (lines_from [] l.text));
