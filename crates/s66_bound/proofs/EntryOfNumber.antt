@@ -1,4 +1,4 @@
--- The entry of a number stands at the place below it.
+-- The entry of a number is at the place below it.
 use Rattle.std.proofs.Common.{ℕ, ◌+◌, ◌-◌, ◌≤◌, ◌≡◌, List, length, get_or, subst, arith}
 use Rattle.s66_model.specs.Timing.{Problem, row_at}
 use Rattle.s66_bound.specs.declared.entry.Entry.{Entry}

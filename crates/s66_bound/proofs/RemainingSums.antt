@@ -34,7 +34,7 @@ over-small x c = div-le_self (x + (c - 1)) c
 pub over-one : (x : ℕ) → over x 1 ≡ x
 over-one x = div-one (x + (1 - 1)) ∙ (let e : x + (1 - 1) ≡ x = omega arith in e)
 
--- where there is one unit
+-- if there is one unit
 pub load-alone : (b : Problem) (prefix : List ℕ) (kind : Kind) (sum free : ℕ) → copies b kind ≡ 1 → sum ≡ sum_remaining b.block prefix (λ n. work_of kind (row_at b n)) →
     free ≡ next (points_of b prefix) + weigh (rest_busy kind (next (points_of b prefix))) (points_of b prefix) → sum + free ≡ load b prefix kind
 load-alone b prefix kind sum free one e1 e2 =

@@ -69,7 +69,7 @@ some-among : (ns : List ℕ) → length ns ≢ 0 → (n : ℕ) × Among n ns
 some-among [] some = absurd (some refl)
 some-among (n ∷ ns) some = (n, inl refl)
 
--- where some of them are at the top, the greatest is there
+-- if some of them are at the top, the greatest is there
 pub top-greatest : (words : List ℕ) (count : ℕ) (rest top those : Set) → IsTop words count top → ((n : ℕ) → has n (numbers_in those) ≡ (has n (numbers_in rest) && has n (numbers_in top))) →
     ((n : ℕ) → Among n (numbers_in rest) → (1 ≤ n) × (n ≤ count)) → length (numbers_in those) ≢ 0 → greatest (word words) (numbers_in those) ≡ greatest (word words) (numbers_in rest)
 top-greatest words count rest top those tops both within some =

@@ -27,7 +27,7 @@ some-entry x [] i d lt is = absurd (omega (arith, lt))
 some-entry x (e ∷ es) zero d lt is = or_left (writes x e) (some_of (writes x) es) is
 some-entry x (e ∷ es) (suc i) d lt is = or_right (writes x e) (some_of (writes x) es) (some-entry x es i d (omega (arith, lt)) is)
 
--- some entry stands at each number
+-- there is some entry at each number
 an-entry : (es : List Entry) (i : ℕ) → i < length es → Entry
 an-entry [] i lt = absurd (omega (arith, lt))
 an-entry (e ∷ es) i lt = e

@@ -1,4 +1,4 @@
--- Used by contracts within the crate alone: what is kept of an instruction to find links, tails and work.
+-- Used by contracts within the crate alone: what is stored of an instruction to find links, tails and work.
 use Rattle.std.specs.Prelude.{ℕ, ◌+◌, ◌<◌, ◌≡◌, List, length, get_or}
 use Rattle.s66_isa.specs.Table.{Reg, Row, has_reg}
 use Rattle.s66_isa.specs.Registers.{registers_in}

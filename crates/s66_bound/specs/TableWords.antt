@@ -23,7 +23,7 @@ use Rattle.s66_bound.specs.TopNumbers.{IsTop, AreEnds}
 abbrev pub timed_by : Block → Profile → Problem
 timed_by block profile = record { block = instrs_of block; profile = profile }
 
--- the words of the numbers behind a place are their longest tails
+-- the words of the numbers after a place are their longest tails
 abbrev pub HasLater : Problem → ℕ → List ℕ → Type 0
 HasLater b place words = (n : ℕ) → place + 1 < n → n ≤ length b.block → get_or words (n - 1) 0 ≡ longest_tail b n
 

@@ -1,4 +1,5 @@
--- Used by contracts within the crate alone: numbers whose words are greater or less than those of others; the word of n stands at n - 1.
+-- Used by contracts within the crate alone: numbers whose words are greater or less than those of others; the word of n is at
+-- place n - 1.
 use Rattle.std.specs.Prelude.{ℕ, ◌-◌, ◌≡◌, ◌≤◌, true, false, List, get_or}
 use Rattle.s66_isa.specs.Lists.{has}
 use Rattle.s66_dep.specs.declared.set.Set.{Set}

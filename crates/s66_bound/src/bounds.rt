@@ -83,7 +83,7 @@ impl<'a> Bounds<'a> {
         load_of(&self.tables, clock, kind)
     }
 
-    /// The parcels that remain, and the least tail behind them, after the next slot: in minor cycles.
+    /// The parcels that remain, and the least tail after them, after the next slot: in minor cycles.
     pub fn parcels(&self, clock: &Clock<'_>) -> u32
         requires same { self.now ≡ problem_of clock.now }
         requires some { length clock.now.numbers < length self.now.block }
@@ -93,7 +93,7 @@ impl<'a> Bounds<'a> {
         parcels_of(&self.tables, clock, &remaining_numbers(&self.tables, clock))
     }
 
-    /// The greatest of all these bounds, in minor cycles; the total where nothing remains.
+    /// The greatest of all these bounds, in minor cycles; the total if nothing remains.
     pub fn floor_value(&self, clock: &Clock<'_>) -> u32
         requires same { self.now ≡ problem_of clock.now }
         ensures value { result ≡ floor_value self.now clock.now.numbers }
@@ -123,7 +123,7 @@ impl<'a> Bounds<'a> {
         }
     }
 
-    /// The greatest of all bounds, of equal ones the first; the total where nothing remains.
+    /// The greatest of all bounds, of equal ones the first; the total if nothing remains.
     pub fn floor(&self, clock: &Clock<'_>) -> Leaf
         requires same { self.now ≡ problem_of clock.now }
         ensures leaf { leaf_of result ≡ floor self.now clock.now.numbers }
@@ -139,7 +139,7 @@ impl<'a> Bounds<'a> {
         floor_of(self.entries.as_slice(), &self.tables, clock, &rest)
     }
 
-    /// The floor whose value this is, in less time than `floor`: a bound is worked out only where no earlier one has the value.
+    /// The floor whose value this is, in less time than `floor`: a bound is worked out only if no earlier one has the value.
     pub fn floor_of_value(&self, clock: &Clock<'_>, value: u32) -> Leaf
         requires same { self.now ≡ problem_of clock.now }
         requires value { value ≡ floor_value self.now clock.now.numbers }

@@ -24,7 +24,7 @@ pub struct Entry {
     pub memory: Memory,
     /// For how long it takes its unit: its hold and one.
     pub work: u32,
-    /// What it takes at least from its start to its last free or done.
+    /// The least time from its start until its unit is free and its results are done.
     pub tail: u32,
 }
 
@@ -98,7 +98,7 @@ fn greatest_shared(writes: &[Write], used: &Registers) -> u32
     last
 }
 
-/// How long a later instruction waits at least from the start of this one, 0 where they have no link.
+/// How long a later instruction waits at least from the start of this one, 0 if they have no link.
 pub fn link(from: &Entry, to: &Entry) -> u32
     ensures { (r s : Row) → IsEntry r from.now → IsEntry s to.now → result ≡ link r s }
 {

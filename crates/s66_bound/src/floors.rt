@@ -1,4 +1,5 @@
-//! The floor: of the greatest bounds the first, the chain before the loads, and the parcels behind them. Values are in minor cycles.
+//! The floor: the first of the greatest bounds, with the chain before the loads, and the parcels after them. Values are in minor
+//! cycles.
 
 ghost use Rattle.std.specs.Prelude.{◌≡◌, ◌<◌, IfSome, IfNone, length};
 ghost use Rattle.s66_line.specs.Block.{instrs_of};
@@ -17,7 +18,7 @@ use s66_dep::Set;
 use s66_isa::KINDS;
 use s66_time::Clock;
 
-/// The first greatest of the loads and the parcels, where it is greater than the greatest chain.
+/// The first greatest of the loads and the parcels, if it is greater than the greatest chain.
 fn beyond_chain(tables: &Tables, clock: &Clock<'_>, rest: &Set, chain_value: u32) -> Option<Leaf>
     requires tables { IsTables (problem_of clock.now) tables.now }
     requires rest { AreRemaining clock.now rest.now }
@@ -43,7 +44,7 @@ fn beyond_chain(tables: &Tables, clock: &Clock<'_>, rest: &Set, chain_value: u32
     first
 }
 
-/// The floor, where something remains.
+/// The floor, if something remains.
 pub fn floor_of(entries: &[Entry], tables: &Tables, clock: &Clock<'_>, rest: &Set) -> Leaf
     requires entries { AreEntries (problem_of clock.now) entries.now }
     requires tables { IsTables (problem_of clock.now) tables.now }
@@ -62,7 +63,7 @@ pub fn floor_of(entries: &[Entry], tables: &Tables, clock: &Clock<'_>, rest: &Se
     }
 }
 
-/// The floor, where something remains and the floor's value is known: the first of the bounds that has it.
+/// The floor, if something remains and the floor's value is known: the first of the bounds that has it.
 pub fn floor_of_value(
     entries: &[Entry],
     tables: &Tables,

@@ -8,7 +8,7 @@ ghost use Rattle.s66_bound.specs.TableWords.{HasLater};
 use crate::entry::{Entry, link};
 use s66_isa::BLOCK_LIMIT;
 
-/// The longest walk from the instruction at a place that goes on with the one at a later place, 0 where they have no link.
+/// The longest walk from the instruction at a place that goes on with the one at a later place, 0 if they have no link.
 fn walk_to(entries: &[Entry], longest: &[u32; BLOCK_LIMIT], place: usize, later: usize) -> u32
     requires few { length entries.now ≤ BLOCK_LIMIT }
     requires order { (place < later) × (later < length entries.now) }

@@ -1,5 +1,5 @@
-//! Bounds that are asked once. Each call works out what `Bounds` keeps, in time quadratic in the block's length: where a block is
-//! asked more than once, take that. Values are in minor cycles.
+//! Bounds that are needed once. Each call works out what `Bounds` stores, in time quadratic in the block's length: for more than
+//! one bound of a block, use that. Values are in minor cycles.
 
 ghost use Rattle.std.specs.Prelude.{ℕ, List, ◌≡◌, ◌<◌, ◌≤◌, ◌++◌, length};
 ghost use Rattle.s66_line.specs.Block.{instrs_of};
@@ -32,7 +32,7 @@ pub fn load(clock: &Clock<'_>, kind: Kind) -> u32
     Bounds::of(clock.block(), clock.profile()).load(clock, kind)
 }
 
-/// The parcels that remain, and the least tail behind them.
+/// The parcels that remain, and the least tail after them.
 pub fn parcels(clock: &Clock<'_>) -> u32
     requires { length clock.now.numbers < length (instrs_of clock.now.block) }
     ensures value { result ≡ parcels (problem_of clock.now) clock.now.numbers }
@@ -41,7 +41,7 @@ pub fn parcels(clock: &Clock<'_>) -> u32
     Bounds::of(clock.block(), clock.profile()).parcels(clock)
 }
 
-/// The greatest of all bounds, of equal ones the first; the total where nothing remains.
+/// The greatest of all bounds, of equal ones the first; the total if nothing remains.
 pub fn floor(clock: &Clock<'_>) -> Leaf
     ensures leaf { leaf_of result ≡ floor (problem_of clock.now) clock.now.numbers }
     ensures value { value_of result ≡ floor_value (problem_of clock.now) clock.now.numbers }

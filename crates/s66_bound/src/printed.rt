@@ -36,7 +36,7 @@ fn head_of(tables: &Tables, clock: &Clock<'_>, number: u8) -> u32
     head
 }
 
-/// When the last register is done that the block writes, or the next slot where that is later: no instruction waits for longer.
+/// When the last register is done that the block writes, or the next slot if that is later: no instruction waits for longer.
 fn latest_head(tables: &Tables, clock: &Clock<'_>) -> u32
     requires tables { IsTables (problem_of clock.now) tables.now }
     requires begins { IsBeginning (instrs_of clock.now.block) clock.now.numbers }
@@ -71,8 +71,8 @@ fn first_of_chain(tables: &Tables, clock: &Clock<'_>, rest: &Set, value: u32) ->
     0
 }
 
-/// Whether the longest walk from one number goes on with another: the tail of the one is shorter than the walk, and the other, to
-/// which it has a link, keeps the walk as long.
+/// Whether the longest walk from one number goes on with another. It does if the tail of the one is shorter than the walk, and
+/// the other, to which it has a link, keeps the walk as long.
 fn goes_on(entries: &[Entry], tables: &Tables, number: u8, other: u8) -> bool
     requires numbers { (1 ≤ number) × (number ≤ length entries.now) × (1 ≤ other) × (other ≤ length entries.now) }
     requires few { length entries.now ≤ BLOCK_LIMIT }

@@ -18,7 +18,7 @@ use arrayvec::ArrayVec;
 use s66_dep::Set;
 use s66_isa::{BLOCK_LIMIT, KIND_COUNT, REGISTER_COUNT, Reg, Write, is_same_register, kind_number};
 
-/// What bounds look up of the numbers of a block; the word of n stands at n - 1. Times are in minor cycles.
+/// What bounds look up of the numbers of a block; the word of n is at place n - 1. Times are in minor cycles.
 #[derive(Debug, Drop)]
 pub struct Tables {
     /// All numbers of the block.

@@ -64,7 +64,7 @@ fn greatest_tail(tables: &Tables, clock: &Clock<'_>, rest: &Set) -> u32
 }
 
 /// A value, or the greatest value of a chain if that is greater. A chain starts in the next slot, or when a register is done that
-/// is late; only the registers are looked at that are so late that they can make a greater one.
+/// is late. Only the registers are looked at that are so late that they can make a greater one.
 fn least_or_chain(tables: &Tables, clock: &Clock<'_>, rest: &Set, least: u32) -> u32
     requires tables { IsTables (problem_of clock.now) tables.now }
     requires rest { AreRemaining clock.now rest.now }
@@ -109,7 +109,7 @@ fn over(work: u32, copies: u32) -> u32
     (work + (copies - 1)) / copies
 }
 
-/// The load of a kind of unit; it may be asked where nothing remains, too.
+/// The load of a kind of unit, also if nothing remains.
 pub fn load_of(tables: &Tables, clock: &Clock<'_>, kind: Kind) -> u32
     requires { IsTables (problem_of clock.now) tables.now }
     ensures { result ≡ load (problem_of clock.now) clock.now.numbers kind }

@@ -50,7 +50,7 @@ take-within k part rest =
           rw e (take_all k part past ∙ sym (take-append-le (length part) part rest (omega arith) ∙ take_all (length part) part (omega arith)))
     ]
 
--- where a part was begun
+-- if a part was begun
 front-begun : (old mid new : Option (List ℕ)) (text part rest : List ℕ) → IsFront old mid text (part ++ rest) → (k : ℕ) × Appends mid new (take k part) → (k : ℕ) × Appends old new (take k text)
 front-begun old mid new text part rest front (k, more) =
     let n : ℕ = min k (length part) in

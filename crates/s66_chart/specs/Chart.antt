@@ -36,7 +36,7 @@ letter a cycle =
 abbrev pub in_three : List ℕ → List ℕ
 in_three name = replicate (3 - length name) 32 ++ name
 
--- a name, a blank, and the letters of so many minor cycles
+-- a name, a blank, and the letters of this many minor cycles
 abbrev pub row_text : List ℕ → Activity → ℕ → List ℕ
 row_text name a cycles = in_three name ++ codes " " ++ map (letter a) (range_with_len 0 cycles) ++ codes "\n"
 
@@ -47,12 +47,12 @@ cycles_of t = total_of t.problem t.numbers
 abbrev pub instruction_row : TimedOrder → ℕ → List ℕ
 instruction_row t position = row_text (decimal (point_at t position).number) (activity (point_at t position)) (cycles_of t)
 
--- a NO stands between the instruction at a position and the next one
+-- a NO is between the instruction at a position and the next one
 abbrev pub has_filler : TimedOrder → ℕ → Bool
 has_filler t position =
     nat_lt (position + 1) (length t.numbers) && not ((point_at t (position + 1)).parcel == (point_at t position).parcel + (point_at t position).row.parcels)
 
--- the row of that NO, where there is one
+-- the row of that NO, if there is one
 abbrev pub filler_row : TimedOrder → ℕ → List ℕ
 filler_row t position = if has_filler t position then row_text (codes "NO") (filler_activity (point_at t position)) (cycles_of t) else []
 

@@ -7,9 +7,9 @@ ghost use Rattle.s66_isa.specs.Table.{instr};
 ghost use Rattle.s66_model.specs.Examples.{standard_problem, one_load, packing_gap, third_order, held_load};
 ghost use Rattle.s66_chart.specs.Chart.{chart_text};
 
-/// Each block in the order in which it is written: an instruction that waits for a load, a `NO`, also after an instruction of two
-/// parcels, a result that waits for readers and holds its unit, a loaded one that waits and holds no unit, and an instruction that
-/// writes only B0.
+/// Each block in the order in which it is written: an instruction that waits for a load; a `NO`, also after an instruction of two
+/// parcels; a result that waits for readers and holds its unit; a loaded one that waits and holds no unit; and an instruction
+/// that writes only B0.
 #[tactic(auto, unfolding(s66_isa::specs::Table::row, s66_model::specs::Timing::issue_of, s66_model::specs::Timing::start_of, s66_model::specs::Timing::point, crate::specs::Chart::digits))]
 pub fn chart_examples()
     ensures one_load { chart_text (record { problem = standard_problem one_load; numbers = 1 ∷ 2 ∷ 3 ∷ [] }) ≡

@@ -65,7 +65,7 @@ fn count(timed: &Timed) -> usize
     timed.order().numbers().len()
 }
 
-/// Whether a `NO` stands between the instruction at a position and the next one.
+/// Whether a `NO` is between the instruction at a position and the next one.
 fn has_filler(timed: &Timed, position: usize) -> bool
     requires { position < length timed.now.numbers }
     ensures { result ≡ has_filler timed.now position }
@@ -77,7 +77,7 @@ fn has_filler(timed: &Timed, position: usize) -> bool
     timed.at(position + 1).parcel as usize != end
 }
 
-/// Writes the row of the `NO` after the instruction at a position, where there is one.
+/// Writes the row of the `NO` after the instruction at a position, if there is one.
 fn write_filler<S: Sink>(
     timed: &Timed,
     position: usize,
@@ -97,12 +97,12 @@ fn write_filler<S: Sink>(
     write_row(b"NO", &activity, timed.total() as usize, page, writer)
 }
 
-/// Draws a timed order: a row for each instruction, in order, and for each `NO` between two of them; a column for each minor
-/// cycle of 100 ns from the first issue to the end.
+/// Draws a timed order. Each instruction has a row, in order, and so has each `NO` between two of them. Each minor cycle of 100
+/// ns from the first issue to the end has a column.
 ///
-/// A row is the instruction's number, right in three places, one blank, and a letter for each cycle: `I` it issues, `W` its unit
-/// waits for operands or for memory, `=` it works, `H` a result waits for earlier readers of its register, `.` anything else. A row
-/// has at most `ROW_LIMIT` bytes and is written by as few calls as the sink allows, in time linear in its length; nothing is
+/// A row is the instruction's number, right in three places, one blank, and a letter for each cycle. `I` it issues, `W` its unit
+/// waits for operands or for memory, `=` it works, `H` a result waits for earlier readers of its register, `.` anything else. A
+/// row has at most `ROW_LIMIT` bytes and is written by as few calls as the sink allows, in time linear in its length; nothing is
 /// allocated. If the sink fails, a beginning of the text was written.
 pub fn chart<S: Sink>(timed: &Timed, writer: &mut S) -> Result<(), WriteError>
     requires { (S.seen writer.old).failures < 2 ^ 64 - 1 }

@@ -34,8 +34,8 @@ fn fill_until(letters: &mut [u8], end: usize, letter: u8)
     letters[..end].fill(letter);
 }
 
-/// Writes the letters of as many minor cycles as there is room for: a run of equal letters at once, the last run first, since each
-/// run is written over all that stands before its end.
+/// Writes the letters of as many minor cycles as there is room for. A run of equal letters is written at once, the last run
+/// first, since each run is written over all that comes before its end.
 fn draw(letters: &mut [u8], activity: &Activity)
     requires { IsInOrder activity.now }
     ensures { letters.new ≡ map (letter activity.now) (range_with_len 0 (length letters.old)) }
@@ -48,7 +48,7 @@ fn draw(letters: &mut [u8], activity: &Activity)
     fill_until(letters, activity.issue, IDLE);
 }
 
-/// Writes a row over the front of a page: a name, right in three places, one blank, the letters of so many minor cycles, and a
+/// Writes a row over the front of a page: a name, right in three places, one blank, the letters of `cycles` minor cycles, and a
 /// newline.
 pub fn draw_row(page: &mut [u8], name: &[u8], activity: &Activity, cycles: usize)
     requires name { length name.now ≤ NAME_ROOM }

@@ -188,7 +188,7 @@ rising-append (suc k) more low =
     let next : suc low + k ≡ low + suc k = omega arith in
     ap (λ n. rising n low) one ∙ ap (λ ns. low ∷ ns) (rising-append k more (suc low) ∙ ap (λ n. rising k (suc low) ++ rising more n) next)
 
--- a word has as many set bits as there are numbers that pass, if each bit tells whether its number does
+-- a word has as many set bits as there are numbers that pass, if each bit is set when its number does
 ones-rising : (test : ℕ → Bool) (count word low : ℕ) → word < 2 ^ count → ((i : ℕ) → i < count → test (low + i) ≡ (bit_at word i == 1)) → count_ones word ≡ length (filter test (rising count low))
 ones-rising test zero word low fits tells = omega (arith, ones_le_self word)
 ones-rising test (suc count) word low fits tells =

@@ -11,7 +11,7 @@ use Rattle.s66_model.specs.Dependence.{share, conflict}
 use Rattle.s66_dep.specs.declared.effects.Effects.{Effects}
 use Rattle.s66_dep.specs.Effects.{AreEffects, AreEffectsOf, effects_conflict}
 
--- whether two lists share a register rests on which registers stand in them
+-- whether two lists share a register rests on which registers are in them
 share-from : (rs ts ss us : List Reg) → ((r : Reg) → has_reg r rs ≡ has_reg r ts) → ((r : Reg) → has_reg r ss ≡ has_reg r us) → share rs ss ≡ true → share ts us ≡ true
 share-from rs ts ss us first second h =
     let (r, prefix, other) = some-found (λ r. has_reg r ss) rs h in

@@ -1,4 +1,4 @@
--- Used by contracts within the crate alone: what is kept of an instruction, in words, to tell its dependences.
+-- Used by contracts within the crate alone: what is stored of an instruction, in words, to find its dependences.
 use Rattle.std.specs.Prelude.{ℕ, ◌+◌, ◌<◌, ◌≡◌, ◌||◌, Bool, List, length, get_or}
 use Rattle.s66_isa.specs.Table.{Reg, Instr, has_reg, reads_of, results_of, memory_of, memory_pair, instr_at}
 use Rattle.s66_isa.specs.Registers.{registers_in}
@@ -11,7 +11,7 @@ pub record AreEffects (e : Effects) (n : Instr) : Type 0 where
   pub results : (r : Reg) → has_reg r (registers_in e.results) ≡ has_reg r (results_of n)
   pub memory : e.memory ≡ memory_of n
 
--- whether the second, which comes later, has to stay behind the first
+-- whether the second, which comes later, must stay after the first
 abbrev pub effects_conflict : Effects → Effects → Bool
 effects_conflict e f =
     share (registers_in e.results) (registers_in f.reads) || share (registers_in e.reads) (registers_in f.results)

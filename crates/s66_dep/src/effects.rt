@@ -35,7 +35,7 @@ impl Effects {
         }
     }
 
-    /// Whether a later instruction has to stay behind this one.
+    /// Whether a later instruction must stay after this one.
     pub(crate) fn is_conflict(&self, later: &Effects) -> bool
         ensures { result ≡ effects_conflict self.now later.now }
     {

@@ -13,9 +13,9 @@ const _: () = prove!(BLOCK_LIMIT == 2 * u64::BITS as usize);
 /// A block of up to 64 instructions has nothing in the high one, and costs little more than one word does.
 #[derive(Clone, Copy, Debug, Default, PartialEq, Eq)]
 pub struct Set {
-    /// Bit n - 1 tells whether n is there, from 1 to 64.
+    /// Bit n - 1 is set if n is there, from 1 to 64.
     low: u64,
-    /// Bit n - 65 tells whether n is there, from 65 on.
+    /// Bit n - 65 is set if n is there, from 65 on.
     high: u64,
 }
 
@@ -95,7 +95,7 @@ impl Set {
         }
     }
 
-    /// Takes the lowest number out, where there is one.
+    /// Takes the lowest number out, if there is one.
     pub fn pop_first(&mut self) -> Option<u8>
         ensures some { IfSome result (λ n. numbers_in self.old ≡ n ∷ numbers_in self.new) }
         ensures none { IfNone result (numbers_in self.old ≡ []) }
@@ -116,7 +116,7 @@ impl Set {
         }
     }
 
-    /// A number that equal sets share, and sets that differ mostly don't.
+    /// A hash: equal sets have the same, and sets that differ mostly don't.
     pub fn hash(&self) -> u64 {
         let mixed = self.low.wrapping_mul(0x9E37_79B9_7F4A_7C15)
             ^ self.high.wrapping_mul(0xC2B2_AE3D_27D4_EB4F);

@@ -27,7 +27,7 @@ use Rattle.s66_model.proofs.Growth.{AreSmall, none-first, fits_at-ge, start-le, 
 use Rattle.s66_time.proofs.WorkOfKinds.{kinds-few, worked-step}
 use Rattle.s66_time.proofs.FreeUnits.{IsLeast, count-free, count-least, count-push, at-greatest, rest-same}
 
--- a result by what the readers' words tell
+-- a result by what the readers' words are
 abbrev pub result_by : (Reg → ℕ) → ℕ → Write → ResultAt
 result_by f start w = record { reg = w.reg; time = max (start + w.latency) (f w.reg); held = w.held }
 
@@ -306,7 +306,7 @@ busy-words p s w kind is fits =
     ap (λ t. weigh (λ (f : ℕ). f - t) (units_of p kind w.units.words)) is.next
     ∙ rest-same kind (copies_of p kind) (units_of p kind w.units.words) s (next s) (is.units kind) fits
 
--- where a kind has one unit, its word tells all that is left
+-- if a kind has one unit, its word is all that is left
 weigh-one : (f : ℕ → ℕ) (xs : List ℕ) → length xs ≡ 1 → weigh f xs ≡ f (get_or xs 0 0)
 weigh-one f [] one = absurd (omega (arith, one))
 weigh-one f (x ∷ []) one = omega arith

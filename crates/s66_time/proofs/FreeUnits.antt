@@ -36,7 +36,7 @@ one-past t [] i lt h = absurd (omega arith)
 one-past t (x ∷ xs) zero lt h = omega (arith, past_zero t x h, later-le t xs)
 one-past t (x ∷ xs) (suc i) lt h = omega (arith, one-past t xs i (omega arith) h, one_at_most (ltb t x))
 
--- Among the words xs, one of which is the least, a unit is free at t exactly where that one is past.
+-- Among the words xs, one of which is the least, a unit is free at t exactly when that one is past.
 pub record IsLeast (xs : List ℕ) (i : ℕ) : Type 0 where
   pub within : i < length xs
   pub least : (j : ℕ) → j < length xs → get_or xs i 0 ≤ get_or xs j 0
@@ -50,7 +50,7 @@ free-past t xs i l h =
 
 -- THE COUNT
 
--- at each time as many words are later as units are busy, where there are as many
+-- at each time as many words are later as units are busy, if there are as many
 abbrev pub Counts : ℕ → List ℕ → (ℕ → ℕ) → Type 0
 Counts c xs busy = (t : ℕ) → tally (λ w. ltb t w) xs ≡ min c (busy t)
 
@@ -105,7 +105,7 @@ rest-down kind xs s zero t h a b = omega (arith, none-left t xs (omega arith), a
 rest-down kind xs s (suc fuel) t h a b =
     omega (arith, rest-words t xs, rest-points kind t s, h t (omega arith), rest-down kind xs s fuel (t + 1) (λ u le. h u (omega arith)) (omega arith) (omega arith))
 
--- where no more units are busy than there are copies, the words tell the work that is left
+-- if no more units are busy than there are copies, the words give the work that is left
 pub rest-same : (kind : Kind) (c : ℕ) (xs : List ℕ) (s : List Point) (t : ℕ) → Counts c xs (λ u. tally (busy_at kind u) s) → tally (busy_at kind t) s ≤ c →
     weigh (λ w. w - t) xs ≡ weigh (rest_busy kind t) s
 rest-same kind c xs s t h fits =

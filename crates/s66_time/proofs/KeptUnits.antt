@@ -1,4 +1,4 @@
--- How many free times of each kind are kept, and the places where they stand.
+-- How many free times of each kind are kept, and the places where they are.
 use Rattle.std.proofs.Common.{ℕ, zero, suc, ◌+◌, ◌-◌, ◌≤◌, ◌<◌, ◌≡◌, ◌≢◌, ◌∙◌, true≢false, cond, min, List, [], ◌∷◌, length, take, set, get_or, map, refl, sym, ap, arith, inl, inr, subst, eqb-true, eq-eqb}
 use Rattle.std.proofs.lemmas.Bool.{cases_Bool, cond-true, cond-false}
 use Rattle.std.proofs.lemmas.List.{get_or-set_same, get_or-set_other, take_more}
@@ -54,7 +54,7 @@ number-at (suc (suc (suc (suc (suc zero))))) lt = refl
 number-at (suc (suc (suc (suc (suc (suc zero)))))) lt = refl
 number-at (suc (suc (suc (suc (suc (suc (suc n))))))) lt = absurd (omega (arith, lt))
 
--- those of a kind stand before those of later kinds
+-- those of a kind come before those of later kinds
 pub kept-before : (f : Kind → ℕ) (kind : Kind) (k : ℕ) → kind_number kind < k → first_kept f kind + f kind ≤ UNITS_AT + weigh f (take k all_kinds)
 kept-before f kind k lt =
     omega (arith, kinds-more f (kind_number kind) (omega (arith, kinds-few kind)), ap f (kind-here kind), weigh-rises f (kind_number kind + 1) k (omega (arith, lt)))

@@ -23,7 +23,7 @@ use Rattle.s66_time.specs.declared.step.Step.{Step}
 abbrev pub under : Profile → Problem
 under p = record { block = []; profile = p }
 
--- one after the greatest start of references, and of stores; 0 where there is none
+-- one after the greatest start of references, and of stores; 0 if there is none
 abbrev pub refs_wait : List Point → ℕ
 refs_wait s = greatest (λ (p : Point). if touches p.row.memory then p.start + 1 else 0) s
 
@@ -44,14 +44,14 @@ worked_of kind s = weigh (λ (p : Point). work_of kind p.row) s
 abbrev pub AreCopies : Profile → Copies → Type 0
 AreCopies p c = (kind : Kind) → get_or c.counts (kind_number kind) 0 ≡ copies_of p kind
 
--- the words of registers tell f
+-- the words of registers are those that f gives
 abbrev pub Tells : List ℕ → (Reg → ℕ) → Type 0
 Tells words f = (r : Reg) → r.digit ≤ 7 → word_of words r ≡ f r
 
 pub record IsWords (p : Profile) (s : List Point) (w : Words) : Type 0 where
   pub done : Tells w.done.words (done_of s)
   pub read : Tells w.read.words (readers_wait s)
-  -- of each kind as many words are later than t as units are busy, where there are so many
+  -- of each kind as many words are later than t as units are busy, if there are as many words
   pub units : (kind : Kind) (t : ℕ) → tally (λ (f : ℕ). nat_lt t f) (units_of p kind w.units.words) ≡ min (copies_of p kind) (tally (busy_at kind t) s)
   pub size : length w.units.words ≡ UNIT_LIMIT
   pub kinds : length w.worked ≡ KIND_COUNT
@@ -120,7 +120,7 @@ after_undo w k =
       progress = k.progress;
     }
 
--- the points of steps, of which the newest stands first
+-- the points of steps, the newest first
 abbrev pub points_of_steps : Problem → List Step → List Point
 points_of_steps b [] = []
 points_of_steps b (k ∷ ks) = point_of b (points_of_steps b ks) k.number ∷ points_of_steps b ks

@@ -1,4 +1,4 @@
--- To be believed: how many free times of each kind of unit a mark keeps, and where they stand among its words.
+-- To be believed: how many free times of each kind of unit a mark keeps, and where they are among its words.
 use Rattle.std.specs.Prelude.{ℕ, ◌+◌, min, take}
 use Rattle.s66_isa.specs.Lists.{tally, weigh}
 use Rattle.s66_isa.specs.Table.{Instr, all_kinds, kind_number, kind_of, same_kind}
@@ -10,7 +10,7 @@ use Rattle.s66_time.specs.declared.limits.TheConstants.{UNITS_AT}
 abbrev pub kept_of : Problem → Kind → ℕ
 kept_of b kind = min (copies b kind) (tally (λ (i : Instr). same_kind (kind_of i.op.code) kind) b.block)
 
--- where those of a kind begin, if so many of each kind are kept
+-- where those of a kind begin, if this many of each kind are kept
 abbrev pub first_kept : (Kind → ℕ) → Kind → ℕ
 first_kept kept kind = UNITS_AT + weigh kept (take (kind_number kind) all_kinds)
 

@@ -1,4 +1,4 @@
--- Used by contracts within the crate alone: where the words of a clock stand.
+-- Used by contracts within the crate alone: where the words of a clock are.
 use Rattle.std.specs.Prelude.{ℕ, ◌*◌, List, [], ◌∷◌, set, take, drop}
 use Rattle.s66_isa.specs.Table.{kind_number, copies_of}
 use Rattle.s66_isa.specs.declared.instr.Kind.{Kind}

@@ -14,10 +14,10 @@ use s66_isa::{BLOCK_LIMIT, Kind, Profile, Reg, Registers, Row, kind_number};
 use s66_line::Block;
 use std::marker::Model;
 
-/// The times of a beginning of a block's legal orders under a profile, in minor cycles from the issue of the first instruction:
-/// a number is pushed at its end, and the last one is undone.
+/// The times of a beginning of a block's legal orders under a profile, in minor cycles from the issue of the first instruction. A
+/// number is pushed at its end, and the last one is undone.
 ///
-/// It keeps a few words in place of the points, so that a push and an undo take a time that doesn't grow with the beginning.
+/// It stores a few words in place of the points, so that a push and an undo take a time that doesn't grow with the beginning.
 #[derive(Debug, Drop)]
 pub struct Clock<'a> {
     block: &'a Block<'a>,
@@ -178,7 +178,7 @@ impl<'a> Clock<'a> {
         self.words.progress.total
     }
 
-    /// The minor cycle in which the last result in a register is done; 0 where none is written.
+    /// The minor cycle in which the last result in a register is done; 0 if none is written.
     pub fn done_of(&self, register: Reg) -> u32
         ensures { result ≡ done_of (points self.now) register }
     {

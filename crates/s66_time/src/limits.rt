@@ -18,7 +18,7 @@ pub const UNIT_LIMIT: usize = KIND_COUNT * COPIES_LIMIT;
 /// The most words that a clock's push reads or writes beside one for each unit of the kind, and the most that its undo does.
 pub const LOOK_LIMIT: u32 = 40;
 
-/// Where the words of a mark that are of readers begin; before them stands one of results for each register.
+/// Where the words of a mark that are of readers begin; before them is one of results for each register.
 pub const READERS_AT: usize = REGISTER_COUNT;
 
 /// The word of a mark that is of references to memory.

@@ -17,7 +17,7 @@ use s66_isa::Profile;
 
 /// What decides, of a beginning, how soon each of its completions can be done, in minor cycles.
 ///
-/// It is small enough to be kept by the ten thousand, and takes no memory beside itself.
+/// It is small enough to be stored by the ten thousand, and takes no memory beside itself.
 #[derive(Clone, Copy, Debug, Drop)]
 pub struct Mark {
     /// The first slot after the last issue.
@@ -26,14 +26,14 @@ pub struct Mark {
     pub(crate) total: u16,
     /// The place of the next parcel in its word of memory.
     pub(crate) place: u8,
-    /// How many words are kept; those behind them are 0.
+    /// How many words are stored; those after them are 0.
     pub(crate) count: u8,
     pub(crate) words: MarkWords,
     ghost within: { (UNITS_AT ≤ count) × (count ≤ MARK_LIMIT) },
 }
 
 impl Mark {
-    /// The mark of a clock's words, under a profile with so many copies.
+    /// The mark of a clock's words, under a profile with these copies.
     pub(crate) fn of(words: &Words, profile: &Profile, copies: &Copies, shape: &MarkShape) -> Mark
         requires follows { Follows profile.now words.now }
         requires copies { AreCopies profile.now copies.now }

@@ -10,12 +10,12 @@ use crate::tick::Tick;
 use s66_dep::Set;
 use s66_isa::{Memory, Row};
 
-/// What a clock keeps in one word each.
+/// What a clock stores in one word each.
 #[derive(Clone, Copy, Debug, Default, Drop)]
 pub struct Progress {
-    /// One minor cycle after the last start of a reference to memory, 0 where there is none.
+    /// One minor cycle after the last start of a reference to memory; 0 if there is none.
     pub refs: u32,
-    /// One minor cycle after the last start of a store, 0 where there is none.
+    /// One minor cycle after the last start of a store; 0 if there is none.
     pub stores: u32,
     /// The parcel after those of the last instruction.
     pub parcel: u32,

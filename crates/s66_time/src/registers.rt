@@ -79,7 +79,7 @@ impl RegisterWords {
         done.max(self.at(second.reg))
     }
 
-    /// When a result is done, where the unit starts then and these are the words of the readers.
+    /// When a result is done, if the unit starts then and these are the words of the readers.
     fn result(&self, write: &Write, start: u32) -> ResultAt
         requires latency { write.now.latency ≤ 100 }
         requires start { start ≤ TOTAL_LIMIT + 3 }
@@ -92,7 +92,7 @@ impl RegisterWords {
         }
     }
 
-    /// When each result is done, two at most, where the unit starts then and these are the words of the readers.
+    /// When each result is done, two at most, if the unit starts then and these are the words of the readers.
     pub fn results(&self, writes: &[Write], start: u32) -> ArrayVec<ResultAt, 2>
         requires few { length writes.now ≤ 2 }
         requires latencies { greatest (λ (w : WriteOf). w.latency) writes.now ≤ 100 }
@@ -111,7 +111,7 @@ impl RegisterWords {
         results
     }
 
-    /// Raises the word of a register to a time, and saves at a place what stood there.
+    /// Raises the word of a register to a time, and saves at a place what it was.
     fn raise<const N: usize>(&mut self, register: Reg, time: u32, saved: &mut [Saved; N], at: usize)
         requires { at < N }
         ensures words { (r : RegOf) → r.digit ≤ 7 → word_of self.new.words r ≡ max (word_of self.old.words r) (if same_reg register r then time else 0) }
@@ -123,8 +123,8 @@ impl RegisterWords {
         self.words[place as usize] = word.max(time);
     }
 
-    /// Raises the words of the registers of results to the times at which they are done, and saves what stood there, from the
-    /// first place on.
+    /// Raises the words of the registers of results to the times at which they are done, and saves what they were, from the first
+    /// place on.
     pub fn raise_results(&mut self, results: &[ResultAt], saved: &mut [Saved; 2])
         requires { length results.now ≤ 2 }
         ensures words { (r : RegOf) → r.digit ≤ 7 → word_of self.new.words r ≡ max (word_of self.old.words r) (greatest (λ (d : ResultOf). if same_reg d.reg r then d.time else 0) results.now) }
@@ -142,7 +142,7 @@ impl RegisterWords {
         self.raise(second.reg, second.time, saved, 1);
     }
 
-    /// Raises the words of registers to a time, and saves what stood there, from the first place on.
+    /// Raises the words of registers to a time, and saves what they were, from the first place on.
     pub fn raise_all(&mut self, registers: &[Reg], time: u32, saved: &mut [Saved; 4])
         requires { length registers.now ≤ 4 }
         ensures words { (r : RegOf) → r.digit ≤ 7 → word_of self.new.words r ≡ max (word_of self.old.words r) (if has_reg r registers.now then time else 0) }

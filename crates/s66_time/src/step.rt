@@ -10,7 +10,7 @@ use crate::progress::Progress;
 pub struct Saved {
     /// The register's index.
     pub place: u8,
-    /// What stood there, in minor cycles.
+    /// What it was, in minor cycles.
     pub word: u32,
     ghost within: { place < REGISTER_COUNT },
 }
@@ -65,7 +65,7 @@ impl Default for Step {
 }
 
 impl Step {
-    /// How many words of registers stand in it.
+    /// How many words of registers are in it.
     pub fn words(&self) -> u32
         ensures { result ≤ 6 }
     {

@@ -8,7 +8,7 @@ ghost use Rattle.s66_time.specs.Places.{first_unit, units_of};
 use crate::limits::{COPIES_LIMIT, UNIT_LIMIT};
 use s66_isa::{KINDS, Kind, Profile, kind_number};
 
-/// A word for each unit: when it is free. Those of a kind stand together, from a multiple of `COPIES_LIMIT` on.
+/// A word for each unit: when it is free. Those of a kind are together, from a multiple of `COPIES_LIMIT` on.
 #[derive(Debug, Drop)]
 pub struct UnitWords {
     pub words: [u32; UNIT_LIMIT],
@@ -32,7 +32,7 @@ impl UnitWords {
         }
     }
 
-    /// The words of a kind's units, of which there are so many, are 0 from now on; no word that was 0 is another.
+    /// The words of a kind's `copies` units are 0 from now on; no word that was 0 changes.
     fn clear(&mut self, copies: u32, kind: Kind)
         requires { copies ≤ COPIES_LIMIT }
         ensures own { (i : ℕ) → i < copies → get_or self.new.words (first_unit kind + i) 0 ≡ 0 }
@@ -55,7 +55,7 @@ impl UnitWords {
         }
     }
 
-    /// The place of a unit of the kind that no other is free before, where there are so many.
+    /// The place of a unit of the kind that no other is free before, if there are `copies` of them.
     pub fn soonest(&self, copies: u32, kind: Kind) -> usize
         requires { (1 ≤ copies) × (copies ≤ COPIES_LIMIT) }
         ensures within { result < UNIT_LIMIT }
@@ -89,7 +89,7 @@ impl UnitWords {
     {
         let first = first_unit(kind);
         let copies = profile.copies(kind) as usize;
-        // most kinds have one unit: the first stands before the loop, so that one needs none
+        // most kinds have one unit: the first comes before the loop, so that one needs none
         let mut rest = self.words[first].saturating_sub(time);
         for copy in 1..copies {
             rest += self.words[first + copy].saturating_sub(time);

@@ -56,7 +56,7 @@ impl Words {
         self.progress = Progress::new();
     }
 
-    /// The first slot of an instruction of so many parcels.
+    /// The first slot of an instruction of `parcels` parcels.
     fn slot(&self, parcels: u32) -> u32
         requires parcel { self.now.progress.parcel ≤ TOTAL_LIMIT + 2 }
         requires next { self.now.progress.next ≤ TOTAL_LIMIT + 2 }
@@ -107,7 +107,7 @@ impl Words {
         self.tick_among(profile, profile.copies(row.kind), row)
     }
 
-    /// The same, where so many units are of the instruction's kind.
+    /// The same, if `copies` units are of the instruction's kind.
     #[inline(always)]
     fn tick_among(&self, profile: &Profile, copies: u32, row: &Row) -> Tick
         requires copies { copies ≡ copies_of profile.now row.now.kind }
@@ -143,7 +143,7 @@ impl Words {
         ensures back { after_undo self.new step.new ≡ self.old }
         ensures takes { Takes self.old self.new (point_of_tick number row.now tick.now) tick.now.unit }
     {
-        // written field by field where it stays: a step that is made and then moved costs as much as all the rest
+        // written field by field in its place: a step that is made and then moved costs as much as all the rest
         step.number = number;
         step.unit = tick.unit as u16;
         step.free = self.units.words[tick.unit];
@@ -162,7 +162,7 @@ impl Words {
         self.progress = self.progress.after(number, row, tick);
     }
 
-    /// Places the next instruction, and writes into the step what was written over; so many units are of its kind.
+    /// Places the next instruction, and writes into the step what was written over; `copies` units are of its kind.
     #[inline(always)]
     pub fn push(&mut self, profile: &Profile, copies: u32, number: u8, row: &Row, step: &mut Step)
         requires copies { copies ≡ copies_of profile.now row.now.kind }

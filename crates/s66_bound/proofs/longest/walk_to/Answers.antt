@@ -5,7 +5,7 @@ use Rattle.s66_model.proofs.TailTable.{walk-none, walk-some, link-small, tail-fi
 use Rattle.s66_bound.proofs.EntryTables.{entry-at}
 use Rattle.s66_bound.proofs.longest.walk_to.Goals as goal
 
--- the place of the number behind a place
+-- the place of the number after a place
 back : (k : ℕ) → k + 1 - 1 ≡ k
 back k = omega arith
 
