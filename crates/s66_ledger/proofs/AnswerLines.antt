@@ -1,4 +1,4 @@
--- What the nodes of one tree tell at a prefix that has a node, and the lines that are appended there.
+-- What the nodes of one tree state at a prefix that has a node, and the lines that are appended there.
 use Rattle.std.proofs.Common.{ℕ, zero, suc, ◌+◌, ◌≤◌, ◌<◌, ◌≡◌, ◌≢◌, Bool, true, false, cond, List, [], ◌∷◌, ◌++◌, length, get_or, refl, sym, ap, arith, inl, inr, subst, length-append, append_assoc, ◌∙◌}
 use Rattle.std.proofs.lemmas.Bool.{lt-ltb, ltb-true, le-ltb}
 use Rattle.s66_isa.specs.Lists.{tally, Among}
@@ -66,7 +66,7 @@ uncut b name at state.Closed other = refl
 uncut b name at state.Split other = absurd (other refl)
 uncut b name at state.Dominated other = refl
 
--- what a state as code keeps it has in the tree
+-- what a state as code stores it has in the tree
 plain-ending : (b : Problem) (name at : List ℕ) (s : State) → s ≢ state.Dominated → state_ending b at (seen_state b name at s) ≡ Bounding (floor b at)
 plain-ending b name at state.Open other = refl
 plain-ending b name at state.Out other = refl
@@ -233,7 +233,7 @@ module _ (b : Problem) (xs : List Node) (tree : AreOneTree b xs) (i : ℕ) (at :
       ap (λ vertices. vertices ++ lines_from b xs (later b.block [] at)) (lines-unsplit b.block cut_there (ending_at b (nodes_of b xs)) at (unsplit-here b xs tree i at stands other))
       ∙ ap (λ ats. AtTerminal (ending_at b (nodes_of b xs) at) ∷ lines_from b xs ats) (sym next)
 
--- where it is appended, these follow
+-- if it is appended, these follow
 pub line-appended : {K : Type 0} (old new : List K) (k : K) (all rest : List K) → new ≡ old ++ k ∷ [] → all ≡ k ∷ rest → new ++ rest ≡ old ++ all
 line-appended old new k all rest pushed is = ap (λ xs. xs ++ rest) pushed ∙ (append_assoc old (k ∷ []) rest ∙ ap (λ xs. old ++ xs) (sym is))
 

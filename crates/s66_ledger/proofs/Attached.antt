@@ -59,7 +59,7 @@ module _ (b : Problem) (best root : ℕ) (at : List ℕ) (tree : Tree Stated) wh
   abbrev Attached : List Node → List Node → Tree Stated → Type 0
   Attached old new tree = nodes_of b new ≡ model.with_state (nodes_of b old) root (root_state b best at (tree_seen (terminal_of b) at tree)) ++ new_nodes b best at (tree_seen (terminal_of b) at tree)
 
-  -- with the nodes of the piece behind the others, the root is split
+  -- with the nodes of the piece after the others, the root is split
   pub split-nodes : (made all : List Node) (numbers : List ℕ) → root < length made → length made ≤ length all → nodes_of b all ≡ nodes_of b made ++ new_nodes b best at (tree_seen (terminal_of b) at tree) → tree ≡ Parted numbers (siblings_of tree) → Attached made (with_state all root state.Split) tree
   split-nodes made all numbers lt longer e is =
       let seen = tree_seen (terminal_of b) at tree in
@@ -82,7 +82,7 @@ module _ (b : Problem) (best root : ℕ) (at : List ℕ) (tree : Tree Stated) wh
       ∙ sym (append-nil (model.with_state (nodes_of b old) root (model.state_of b best at (terminal_of b at t))))))) in
       subst (λ (t : Tree Stated). Attached old (with_state old root s) t) (sym is) one
 
--- what isn't open of what a line tells is closed
+-- what isn't open of what a line states is closed
 pub stated-closed : (best : ℕ) (t : Stated) → is_open_state (stated_state best t) ≡ false → stated_state best t ≡ state.Closed
 stated-closed best (StatedLeaf v) h = by-test (leb best v) h
   where

@@ -1,4 +1,4 @@
--- A subtree behind the nodes that there are.
+-- A subtree after the nodes that there are.
 use Rattle.std.proofs.Common.{ℕ, zero, suc, ◌<◌, ◌≡◌, List, [], ◌∷◌, ◌++◌, length, arith, length-append}
 use Rattle.s66_ledger.specs.declared.node.Node.{Node}
 use Rattle.s66_ledger.specs.declared.node.State.TheVariants as state

@@ -19,7 +19,7 @@ child-before nodes parent (suc (suc k)) some = by (eqb (parent_of nodes (suc k))
     by true lt = omega arith
     by false lt = omega (arith, lt)
 
--- none of its children below k stands behind it
+-- none of its children below k comes after it
 pub child-last : (nodes : List Node) (parent k c : ℕ) → c < k → parent_of nodes c ≡ parent → c ≤ child_below nodes parent k
 child-last nodes parent zero c lt is = absurd (omega (arith, lt))
 child-last nodes parent (suc k) c lt is =
@@ -64,7 +64,7 @@ links-next nodes last before k p value links within above is stated = record {
 
 -- DOWN TO A CHILD
 
--- a child of this node, behind which no other has this last number
+-- a child of this node, after which no other has this last number
 pub record IsAtOrPast (nodes : List Node) (above last child : ℕ) : Type 0 where
   pub some : (has : HasChild nodes above last) → has.child ≤ child
   pub within : child < length nodes

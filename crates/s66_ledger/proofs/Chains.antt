@@ -1,4 +1,4 @@
--- Nodes of which the last has a given prefix: each is split and stands under the one before.
+-- Nodes of which the last has a given prefix: each is split and is under the one before.
 use Rattle.std.proofs.Common.{ℕ, zero, suc, ◌+◌, ◌<◌, ◌≡◌, min, List, [], ◌∷◌, ◌++◌, length, get_or, refl, sym, ap, arith, ◌∙◌, subst, length-append, append_assoc}
 use Rattle.std.proofs.lemmas.List.{append-nil}
 use Rattle.s66_model.specs.Timing.{Problem}

@@ -64,7 +64,7 @@ closed-length made (x ∷ xs) [] ks h = absurd h
 closed-length made (x ∷ xs) (y ∷ ys) [] h = absurd h
 closed-length made (x ∷ xs) (y ∷ ys) (k ∷ ks) h = omega (arith, closed-length (made ++ y ∷ []) xs ys ks h.1)
 
--- STILL NAMED behind more nodes
+-- STILL NAMED after more nodes
 
 front-at : (made more : List Node) (i : ℕ) → i < length made → node_at (made ++ more) i ≡ node_at made i
 front-at [] more i lt = absurd (omega (arith, lt))
@@ -115,7 +115,7 @@ line-open made (AtTerminal (StatedLeaf v)) = tt
 line-open made (AtTerminal (StatedFrontier v)) = tt
 line-open made (AtTerminal (StatedPassed v name)) = tt
 
--- a node behind others
+-- a node after others
 abbrev seen_behind : Problem → List (List ℕ) → Node → model.Node
 seen_behind b ats x =
     record { prefix = get_or ats x.parent [] ++ x.number ∷ []; state = seen_state b (get_or ats x.value []) (get_or ats x.parent [] ++ x.number ∷ []) x.state }

@@ -13,7 +13,7 @@ pub depths-first : (x : Node) → x.depth ≡ 0 → HaveDepths (x ∷ [])
 depths-first x is zero lt = is
 depths-first x is (suc i) lt = absurd (omega (arith, lt))
 
--- one more than its parent's, which stands before it
+-- one more than its parent's, which comes before it
 pub depths-push : (xs : List Node) (x : Node) → x.parent < length xs → x.depth ≡ min 255 ((node_at xs x.parent).depth + 1) → HaveDepths xs → HaveDepths (xs ++ x ∷ [])
 depths-push xs x before own depths i lt =
     let above = get_or (prefixes xs) x.parent [] in

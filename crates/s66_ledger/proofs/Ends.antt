@@ -42,7 +42,7 @@ live-open Out live not = absurd (not refl)
 live-open Cut live not = live
 live-open (Closed leaf) live not = live
 
--- where nothing more is to be expanded, and no whole order that is open is below the best time, the steps have ended
+-- if nothing more is to be expanded, and no whole order that is open is below the best time, the steps have ended
 pub has-ended : (l : MachineOf) → Covers l.rule l.problem l.budget l.state → IsSearched l.problem l.budget l.state → IsEnded l.problem l.budget l.state
 has-ended l covers searched node among live =
     let b = l.problem in
@@ -85,7 +85,7 @@ pub kept-reached : (rule : Rule) (b : Problem) (budget : ℕ) (nodes : List decl
 kept-reached rule b budget nodes best left allowances spent l kept view =
     subst (λ (m : MachineOf). IsReached m.rule m.problem m.budget m.workers m.state) view kept.reached
 
--- where the events went on from a ledger that was reached
+-- if the events went on from a ledger that was reached
 pub reached-end : (first last : MachineOf) → IsReached first.rule first.problem first.budget first.workers first.state → Leads first last → IsSearched last.problem last.budget last.state → IsEnded last.problem last.budget last.state
 reached-end first last reached leads searched =
     has-ended last (reached-covers last.rule last.problem last.budget last.workers last.state (leads-reached first last reached leads)) searched

@@ -33,7 +33,7 @@ each-among P d [] h x is = absurd is
 each-among P d (y ∷ ys) h x (inl e) = subst P (sym e) (h 0 (omega arith))
 each-among P d (y ∷ ys) h x (inr later) = each-among P d ys (λ i lt. h (suc i) (omega (arith, lt))) x later
 
--- what holds of each holds still where one takes another's place of which it holds
+-- what holds of each still holds if one takes another's place of which it holds
 pub each-set : {X : Type 0} (P : X → Type 0) (xs : List X) (i : ℕ) (y : X) → P y → ((x : X) → Among x xs → P x) → (x : X) → Among x (set xs i y) → P x
 each-set P [] i y here h x among = absurd among
 each-set P (z ∷ xs) zero y here h x (inl e) = subst P (sym e) here

@@ -23,7 +23,7 @@ get_or-past [] i d le = refl
 get_or-past (x ∷ xs) zero d le = absurd (omega arith)
 get_or-past (x ∷ xs) (suc i) d le = get_or-past xs i d (omega arith)
 
--- what stands in a list has no need of another
+-- what is in a list has no need of another
 pub get_or-any : {X Y : Type 0} (xs : List X) (i : ℕ) (d e : X) (f : X → Y) → i < length xs → f (get_or xs i d) ≡ f (get_or xs i e)
 get_or-any [] i d e f lt = absurd (omega arith)
 get_or-any (x ∷ xs) zero d e f lt = refl
@@ -83,7 +83,7 @@ lines-state xs i s = lines-set xs i (record (node_at xs i) { state = s }) no_nod
 
 -- UP TO THE PARENT
 
--- the parent, where it stands before; else the root stands for it
+-- the parent, if it comes before; else the root is taken for it
 abbrev pub parent_at : ℕ → ℕ → ℕ
 parent_at i p = cond (ltb p i) p 0
 

@@ -175,7 +175,7 @@ opened-timed p h = by p.timed h
     by None h = sym same ∙ h
     by (Some timed) h = (h.0, (subst (Among timed.numbers) same h.1.0, λ other among. h.1.1 other (subst (Among other) (sym same) among)))
 
--- THE LINES as code keeps them
+-- THE LINES as code stores them
 
 pub opened-lines : (vertices : List code.Vertex) (p : PieceOf) → seen vertices ≡ p.vertices → open_lines vertices ≡ (opened p).vertices
 opened-lines vertices p is = by vertices ∙ ap (map open_line) is

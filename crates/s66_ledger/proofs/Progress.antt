@@ -1,4 +1,4 @@
--- Each round of a search has less to go, and where it stops no open node's floor is below the best time or the budget is spent.
+-- Each round of a search has less to go. If it stops, no open node's floor is below the best time or the budget is spent.
 use Rattle.std.proofs.Common.{ℕ, suc, ◌+◌, ◌≤◌, ◌<◌, ◌≡◌, ◌⊎◌, true, cond, List, [], ◌∷◌, refl, sym, ap, arith, subst, ◌∙◌, inl, inr, Option, Some, None}
 use Rattle.s66_isa.specs.Lists.{tally, Among}
 use Rattle.s66_model.specs.declared.rule.Rule.{Rule}
@@ -120,7 +120,7 @@ least-searched b budget l ticket between least reached =
       wholes = between.wholes;
     }
 
--- where a node that was claimed for its least floor is given back, and that isn't below the best time
+-- if a node that was claimed for its least floor is given back, and that isn't below the best time
 pub back-searched : (old mid new : MachineOf) (ticket : TicketOf) (best floor : ℕ) →
     IsBetween old.problem old.state → IsMove old (Claim 1) (Claimed (Some ticket.node)) mid → ticket.prefix ≡ (node_at old.state.nodes ticket.node).prefix →
     IsLeastOpen old.problem old.state (Some ticket) →

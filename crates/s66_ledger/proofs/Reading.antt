@@ -40,7 +40,7 @@ place-new made at = (omega (arith, length-append made (at ∷ [])), get_or-last 
 
 -- ONE VERTEX of the list is read
 
--- where a number is left there is a vertex, of the child with this number
+-- if a number is left there is a vertex, of the child with this number
 pub read-terminal : (b : Problem) (best : ℕ) (at ns : List ℕ) (n : ℕ) (above : List (List ℕ)) (rests : List (Siblings Stated)) (t : Stated) (later : List (Vertex Stated)) → RestsHold b at ((n ∷ ns) ∷ above) rests → flat_rests rests ≡ AtTerminal t ∷ later → (rests2 : List (Siblings Stated)) × RestsHold b at (ns ∷ above) rests2 × (flat_rests rests2 ≡ later) × PlainHolds b (at ++ n ∷ []) t × (rest_nodes b best at ((n ∷ ns) ∷ above) rests ≡ record { prefix = at ++ n ∷ []; state = model.state_of b best (at ++ n ∷ []) (terminal_of b (at ++ n ∷ []) t) } ∷ rest_nodes b best at (ns ∷ above) rests2)
 read-terminal b best at ns n above [] t later h e = absurd h
 read-terminal b best at ns n above (NoMore ∷ rests) t later h e = absurd h.0
@@ -136,7 +136,7 @@ module _ (b : Problem) (best : ℕ) (total : List model.Node) (at : List ℕ) (o
         rests = up_rests rests h e t;
       }
 
-  -- where a number is left a vertex is
+  -- if a number is left a vertex is
   some_vertex : (n : ℕ) (ns : List ℕ) (rests : List (Siblings Stated)) → RestsHold b at ((n ∷ ns) ∷ place_lefts ps) rests → 0 < length (flat_rests rests)
   some_vertex n ns [] h = absurd h
   some_vertex n ns (NoMore ∷ rests) h = absurd h.0
@@ -276,7 +276,7 @@ settled-stated best value s r k h is made same =
     let (t, seen_is, state_is, value_is) = line-stated best k h in
     (t, seen_is, is ∙ (ap (λ v. settled_state best v s) same ∙ (ap (settled_state best (vertex_value k)) made ∙ state_is)), value_is)
 
--- the lines behind the root's are those of its children
+-- the lines after the root's are those of its children
 pub lines-below : (tree : Tree Stated) (numbers : List ℕ) (vertices : List code.Vertex) (lines : List (Vertex Stated)) → tree ≡ Parted numbers (siblings_of tree) → flat tree ≡ lines → open_lines vertices ≡ lines → drop 1 (open_lines vertices) ≡ flat_siblings (siblings_of tree)
 lines-below tree numbers vertices lines is e f = ap (drop 1) (f ∙ (sym e ∙ ap flat is))
 

@@ -125,7 +125,7 @@ is-other offered.OtherBlock = true
 is-other offered.Lower = false
 is-other (offered.NotLower least) = false
 
--- what is answered to an offer tells it
+-- what is answered to an offer says it
 pub offered-own : (rule : Rule) (b p : Problem) (old new : Ledger) (w : ℕ) (order : List ℕ) (event : Event) (answer : Offered) (own : Bool) → IsOfferOf b w p order event → Moves rule b old event (offered_reply answer) new → (answer ≡ offered.OtherBlock → own ≡ false) → (answer ≢ offered.OtherBlock → own ≡ true) → IsOwn b p own
 offered-own rule b p old new w order event answer own (other, owns, is) moves foreign ours =
     let stated : Moves rule b old (Offer w other order (total_of p order)) (offered_reply answer) new = subst (λ e. Moves rule b old e (offered_reply answer) new) is moves in
@@ -149,7 +149,7 @@ offer-entry b p w order numbers own time reply event owns same total (other, oth
     ∙ ap (λ e. stated e reply) (sym is)))
 
 module _ (m next : MachineOf) (w i : ℕ) (p : PieceOf) (count : ℕ) (counts : count ≡ splits (tree_of p)) where
-  -- the bytes of the root and of the lines below it, and their names, tell what is taken of the piece
+  -- the bytes of the root and of the lines below it, and their names, determine what is taken of the piece
   pub taken-entry : (skeleton : List ℕ) (names : List (List ℕ)) (depth : ℕ) (h : IsTakenMove m w i p next) → skeleton ≡ skeleton_of (with_lines p h.taken) → names ≡ names_of (with_lines p h.taken) → depth ≡ length p.prefix → stated (Graft w i true (skeleton_prefix depth skeleton) count (Some (skeleton_tree m.problem depth skeleton names))) Taken ≡ stated (taken_event w i p h.taken) Taken
   taken-entry skeleton names depth h all named deep =
       let whole : Tree Terminal = tree_of (with_lines p h.taken) in
@@ -176,7 +176,7 @@ module _ (m next : MachineOf) (w i : ℕ) (p : PieceOf) (count : ℕ) (counts : 
       without-tree refusal.OtherPrefix = refl
       without-tree refusal.OverAllowance = refl
 
--- the bytes of a root are put behind those that are kept, and its line's taken off
+-- the bytes of a root are put after those that are stored, and its line's taken off
 pub prefix-kept : (p : PieceOf) (kept put left : List ℕ) (n depth : ℕ) → put ≡ kept ++ root_bytes p → n ≡ length kept → depth ≡ length p.prefix → left ≡ take (n + depth) put → left ≡ kept ++ p.prefix
 prefix-kept p kept put left n depth is count deep cut =
     cut ∙ (rw (is, count, deep) (take-append-add kept (root_bytes p) (length p.prefix)) ∙ ap (λ at. kept ++ at) (take-append_seam p.prefix (take 1 (map line_byte p.vertices))))

@@ -99,7 +99,7 @@ module _ (old new : MachineOf) (n : ℕ) (h : IsMove old (Grant 1) (Granted n) n
         wholes = between.wholes;
       }))
 
-  -- nothing more is granted where all is spent
+  -- nothing more is granted if all is spent
   pub grant-spent : Covers old.rule old.problem old.budget old.state → IsBetween old.problem old.state → allowance old.state 1 ≡ 0 → n ≡ 0 → new.state.spent ≡ new.budget
   grant-spent covers between none nothing =
       omega (arith, covers.sum, between.alone, none, nothing, h.3.1.0, h.1, ap (λ (l : Ledger). l.spent) h.3.1.1)

@@ -157,7 +157,7 @@ module _ (p : PieceOf) (numbers : List ℕ) (places ps : List Place) (q : Place)
               (ap (attached best root made) put ∙ attached-push best root made nodes x) first;
         }
 
-  -- what holds whatever stands above
+  -- what holds whatever is above
   module _ (few : length p.prefix + 1 + length p.vertices < 2 ^ 32) where
     pub growing-next : (n : ℕ) (ns : List ℕ) → numbers_in q.left ≡ n ∷ ns → 0 < length later
     growing-next n ns is =

@@ -87,7 +87,7 @@ idle-after l count none is nothing =
       no_allowance = nothing;
     }
 
--- none of the nodes that are kept is out
+-- none of the nodes that are stored is out
 pub none-kept-out : (b : Problem) (nodes : List kept.Node) (best : List ℕ) (left : ℕ) (allowances : List ℕ) (spent : ℕ) → ((i : ℕ) → ¬ OpenNodes.IsOut nodes i) → NoneOut (state_of b nodes best left allowances spent)
 none-kept-out b nodes best left allowances spent none =
     each-among (λ (n : Node). n.state ≢ Out) no_node (nodes_of b nodes) (λ i lt out. not-out b nodes best left allowances spent i (none i) (lt, out))

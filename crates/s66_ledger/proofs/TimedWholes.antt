@@ -39,7 +39,7 @@ wholes-moved b time nodes i state lt was wholes =
     each-set (IsTimedNode b time) nodes i (record { prefix = (node_at nodes i).prefix; state = state })
     (λ live. wholes (node_at nodes i) (among-at nodes i no_node lt) was) wholes
 
--- A PIECE'S NODES, where none of its whole orders takes less time
+-- A PIECE'S NODES, if none of its whole orders takes less time
 
 pub least-timed : (b : Problem) (time : ℕ) (prefix : List ℕ) (tree : Tree Terminal) (timed : Option TimedOrder) → IsBestTimed b prefix tree timed → ((t : TimedOrder) → timed ≡ Some t → time ≤ total_of b t.numbers) → (order : List ℕ) → Among order (whole_orders prefix tree) → time ≤ total_of b order
 least-timed b time prefix tree None none at_most order among = absurd (subst (Among order) none among)

@@ -25,7 +25,7 @@ pub record AnswerOf : Type 0 where
 abbrev pub answer_of : AnswerOf → Answer
 answer_of a = ended_answer a.problem a.state
 
--- of a ledger that ended with these nodes, this best order and so many splits
+-- of a ledger that ended with these nodes, this best order and this many splits
 abbrev pub ended_of : Rule → Problem → ℕ → List declared.Node → List ℕ → ℕ → AnswerOf
 ended_of rule b budget nodes best spent = record { rule = rule; problem = b; budget = budget; state = state_of b nodes best 0 [] spent }
 

@@ -24,7 +24,7 @@ siblings_of (Parted numbers siblings) = siblings
 
 -- A LINE as a node
 
--- where it isn't known which leaves are below the best time
+-- before it is known which leaves are below the best time
 abbrev pub made_state : code.Vertex → State
 made_state (line.Split numbers) = state.Split
 made_state (line.Leaf value) = state.Closed

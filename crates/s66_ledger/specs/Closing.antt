@@ -1,4 +1,5 @@
--- Used by contracts within the crate alone: the nodes of a piece of which some are closed as dominated, by nodes that stand before them.
+-- Used by contracts within the crate alone: the nodes of a piece, some of which are closed as dominated, by nodes that come
+-- before them.
 use Rattle.std.specs.Prelude.{ℕ, ◌≡◌, ◌≢◌, ◌<◌, ◌⊎◌, List, [], ◌∷◌, ◌++◌, length, get_or, map, drop, take}
 use Rattle.s66_model.specs.Tree.{Vertex, AtTerminal, AtSplit}
 use Rattle.s66_model.specs.Stated.{Stated, StatedLeaf, StatedFrontier, StatedPassed}
@@ -29,7 +30,7 @@ Closes made (AtTerminal (StatedLeaf value)) x y = y ≡ x
 Closes made (AtTerminal (StatedFrontier value)) x y = y ≡ x
 Closes made (AtTerminal (StatedPassed value name)) x y = (y ≡ x) ⊎ ((n : ℕ) × IsNamed made n name × (y ≡ closed_by n x))
 
--- and so it is of these nodes, each behind those that are made
+-- and so it is of these nodes, each after those that are made
 abbrev pub AreClosed : List Node → (xs ys : List Node) → List (Vertex Stated) → Type 0
 AreClosed made [] [] ks = Unit {0}
 AreClosed made (x ∷ xs) (y ∷ ys) (k ∷ ks) = Closes made k x y × AreClosed (made ++ y ∷ []) xs ys ks
@@ -39,7 +40,7 @@ AreClosed made xs ys ks = ⊥
 abbrev pub placed_all : (best root first : ℕ) → List Node → List Node
 placed_all best root first nodes = map (placed root first) (map (settled best) nodes)
 
--- behind the nodes that were made stand those of the subtree of these lines, some of them closed
+-- after the nodes that were made come those of the subtree of these lines, some of them closed
 pub record IsClosing (best root : ℕ) (made subtree : List Node) (lines : List (Vertex Stated)) (all : List Node) : Type 0 where
   pub more : List Node
   pub behind : all ≡ made ++ more
@@ -62,7 +63,7 @@ abbrev pub LinesAreNamed : List Node → List (Vertex Stated) → Type 0
 LinesAreNamed nodes [] = Unit {0}
 LinesAreNamed nodes (k ∷ ks) = LineIsNamed nodes k × LinesAreNamed nodes ks
 
--- a piece stands in the place of a node, some of its dominated prefixes put into the frontier
+-- a piece is put in the place of a node, some of its dominated prefixes into the frontier
 pub record IsAttachedAs (p : PieceOf) (best root : ℕ) (old new : List Node) : Type 0 where
   pub taken : List (Vertex Stated)
   pub opens : LinesOpen p.vertices taken

@@ -57,7 +57,7 @@ abbrev pub IsTimedAt : Problem → Ledger → ℕ → Type 0
 IsTimedAt b l i =
     is_live (node_at l.nodes i) ≡ true → IsComplete b.block (node_at l.nodes i).prefix → best_time b l ≤ floor_value b (node_at l.nodes i).prefix
 
--- the node's order is offered where it is whole
+-- the node's order is offered if it is whole
 pub record IsTiming (old : MachineOf) (node : ℕ) (new : MachineOf) : Type 0 where
   pub offers : IsOffering old new
   pub timed : IsTimedAt new.problem new.state node

@@ -1,4 +1,4 @@
--- Used by contracts within the crate alone: what a graft at a node is in the machine, also where it is refused.
+-- Used by contracts within the crate alone: what a graft at a node is in the machine, also if it is refused.
 use Rattle.std.specs.Prelude.{ℕ, ◌≡◌, ◌++◌, true, List, length, take, drop, Some}
 use Rattle.s66_model.specs.Tree.{Vertex, splits}
 use Rattle.s66_model.specs.Stated.{Stated}

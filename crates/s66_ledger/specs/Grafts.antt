@@ -1,4 +1,4 @@
--- Used by contracts: what a graft is in the machine, also where it is refused.
+-- Used by contracts: what a graft is in the machine, also if it is refused.
 use Rattle.std.specs.Prelude.{ℕ, ◌≡◌}
 use Rattle.s66_model.specs.Ledger as model
 use Rattle.s66_model.specs.Ledger.{Event, Reply}

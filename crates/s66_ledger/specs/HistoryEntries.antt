@@ -42,7 +42,8 @@ line_count (entry.Offer _ _ _ _ _) = 0
 line_count (entry.Back _ _ _) = 0
 line_count (entry.Retire _) = 0
 
--- of a ledger of this problem, by the entry, its own bytes, those of the lines that it made nodes of, and these lines' names; the bytes of a piece that was taken end with its root's line, which has no name
+-- of a ledger of this problem, by the entry, its own bytes, those of the lines that it made nodes of, and these lines' names. The
+-- bytes of a piece that was taken end with its root's line, which has no name
 abbrev pub entry_of : Problem → Entry → List ℕ → List ℕ → List (List ℕ) → Event × Reply
 entry_of b (entry.Grant w splits) own_bytes own_lines own_names = (model.Grant w, Granted splits)
 entry_of b (entry.Claim w node) own_bytes own_lines own_names = (model.Claim w, Claimed node)
@@ -54,7 +55,7 @@ entry_of b (entry.Offer w own count time offered) own_bytes own_lines own_names 
 entry_of b (entry.Back w node returned) own_bytes own_lines own_names = (model.Back w node, if returned then Returned else NotOut)
 entry_of b (entry.Retire w) own_bytes own_lines own_names = (model.Retire w, Retired)
 
--- of entries, where the bytes of one come after those of the entries before it, and so do its lines and their names
+-- of entries: the bytes of one come after those of the entries before it, and so do its lines and their names
 abbrev pub entries_of : Problem → List Entry → List ℕ → List ℕ → List (List ℕ) → List (Event × Reply)
 entries_of b [] bytes lines names = []
 entries_of b (e ∷ es) bytes lines names =

@@ -10,7 +10,7 @@ use Rattle.s66_ledger.specs.declared.node.Node.{Node}
 use Rattle.s66_ledger.specs.declared.limits.TheConstants.{BUDGET_LIMIT}
 use Rattle.s66_ledger.specs.Nodes.{nodes_of, lines_of, HaveFloors}
 
--- a ledger without its history, for a budget and so many workers
+-- a ledger without its history, for a budget and this many workers
 pub record MachineOf : Type 0 where
   -- of its dominated leaves
   pub rule : Rule

@@ -10,7 +10,7 @@ use Rattle.s66_ledger.specs.DominatedNodes.{names_in}
 use Rattle.s66_ledger.specs.HistoryEntries.{byte_count, line_count, entries_of}
 use Rattle.s66_ledger.specs.LedgerMachine.{MachineOf}
 
--- a problem's ledger, for a budget and so many workers
+-- a problem's ledger, for a budget and this many workers
 pub record LedgerOf : Type 0 where
   -- of its dominated leaves
   pub rule : Rule

@@ -3,11 +3,11 @@ use Rattle.std.specs.Prelude.{ℕ, zero, suc, ◌≡◌, ◌<◌, ◌==◌, if�
 use Rattle.s66_ledger.specs.declared.node.Node.{Node}
 use Rattle.s66_ledger.specs.Nodes.{node_at}
 
--- a parent stands before its children; else the root stands for it
+-- a parent comes before its children; else the root is taken for it
 abbrev pub parent_of : List Node → ℕ → ℕ
 parent_of nodes i = if nat_lt (node_at nodes i).parent i then (node_at nodes i).parent else 0
 
--- the greatest number below k of a child of this node, 0 where it has none there
+-- the greatest number below k of a child of this node; 0 if it has none there
 abbrev pub child_below : List Node → ℕ → ℕ → ℕ
 child_below nodes parent zero = 0
 child_below nodes parent (suc k) = if parent_of nodes k == parent then k else child_below nodes parent k

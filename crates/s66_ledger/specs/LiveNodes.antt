@@ -9,7 +9,7 @@ live_values [] = []
 live_values (node ∷ nodes) = (if is_live_state node.state then node.value ∷ [] else []) ++ live_values nodes
 
 pub record AreCounted (nodes : List Node) (out deepest : ℕ) : Type 0 where
-  -- so many nodes are out
+  -- this many nodes are out
   pub count : tally is_out nodes ≡ out
   -- none that is open or out is deeper
   pub within : (i : ℕ) → is_live_state (node_at nodes i).state ≡ true → (node_at nodes i).depth ≤ deepest

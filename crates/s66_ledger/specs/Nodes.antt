@@ -1,4 +1,5 @@
--- Used by contracts: the nodes that a ledger keeps, each by its parent and its last number, as the definition's nodes with whole prefixes.
+-- Used by contracts: the nodes that a ledger stores, each by its parent and its last number, as the definition's nodes with whole
+-- prefixes.
 use Rattle.std.specs.Prelude.{ℕ, ◌≡◌, ◌<◌, min, Bool, true, false, List, [], ◌∷◌, ◌++◌, length, get_or, set, map, take}
 use Rattle.s66_model.specs.Timing.{Problem}
 use Rattle.s66_model.specs.Leaves.{floor, floor_value}
@@ -8,7 +9,7 @@ use Rattle.s66_ledger.specs.declared.node.Node.{Node}
 use Rattle.s66_ledger.specs.declared.node.State.{State}
 use Rattle.s66_ledger.specs.declared.node.State.TheVariants as state
 
--- past the last one stands a node that is split
+-- past the last one is a node that is split
 abbrev pub no_node : Node
 no_node = record { parent = 0; value = 0; number = 0; depth = 0; line = 0; state = state.Split }
 
@@ -20,7 +21,7 @@ with_state nodes i s = set nodes i (record (node_at nodes i) { state = s })
 
 -- PREFIXES
 
--- each is its parent's and then its own last number; a parent stands before it
+-- each is its parent's and then its own last number; a parent comes before it
 abbrev pub prefixes_from : List (List ℕ) → List Node → List (List ℕ)
 prefixes_from made [] = made
 prefixes_from made (x ∷ xs) = prefixes_from (made ++ (get_or made x.parent [] ++ x.number ∷ []) ∷ []) xs
@@ -88,7 +89,7 @@ seen_state b name prefix state.Closed = model.Closed (Bounding (floor b prefix))
 seen_state b name prefix state.Split = model.Cut
 seen_state b name prefix state.Dominated = model.Closed (Dominated name)
 
--- the name is the prefix of the node whose number is the value; it stands before
+-- the name is the prefix of the node whose number is the value; it comes before
 abbrev pub nodes_at : Problem → (before : List (List ℕ)) → List (List ℕ) → List Node → List model.Node
 nodes_at b before [] xs = []
 nodes_at b before (at ∷ ats) [] = []
@@ -107,7 +108,7 @@ HaveFloors b nodes =
 
 -- DEPTHS
 
--- each is the length of the node's prefix, and 255 where that is more
+-- each is the length of the node's prefix, and 255 if that is more
 abbrev pub HaveDepths : List Node → Type 0
 HaveDepths nodes =
     (i : ℕ) → i < length nodes → (node_at nodes i).depth ≡ min 255 (length (get_or (prefixes nodes) i []))

@@ -31,7 +31,7 @@ IsRanked nodes entry =
     (entry.1 < length nodes) × ((depth : ℕ) × (depth < DEPTH_RANKS) × (entry.0 ≡ rank_of (node_at nodes entry.1).value depth))
 
 pub record AreOpenNodes (nodes : List Node) (entries : List (ℕ × ℕ)) : Type 0 where
-  -- a number stands there once where its node is open, and not else
+  -- a number is there once if its node is open, and not else
   pub once : (i : ℕ) → tally (λ (entry : ℕ × ℕ). entry.1 == i) entries ≡ (if is_open (node_at nodes i) then 1 else 0)
   pub count : length entries ≡ tally is_open nodes
   pub ranks : All (IsRanked nodes) entries

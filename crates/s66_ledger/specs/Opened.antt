@@ -42,7 +42,7 @@ PlainHolds b at (StatedPassed value name) = ⊥
 abbrev pub IsPlain : PieceOf → Type 0
 IsPlain p = TreeHolds p.problem.block (PlainHolds p.problem) p.prefix (stated_tree p)
 
--- THE LINES of a piece as code keeps them, opened
+-- THE LINES of a piece as code stores them, opened
 
 abbrev pub open_vertex : code.Vertex → Vertex Stated
 open_vertex vertex = open_line (seen_vertex vertex)

@@ -13,7 +13,7 @@ abbrev pub placed_parent : (root first parent : ℕ) → ℕ
 placed_parent root first zero = root
 placed_parent root first (suc place) = min (first + place) (2 ^ 32 - 1)
 
--- under the root of this number, where the first of them has this number
+-- under the root of this number, if the first of them has this number
 abbrev pub placed : (root first : ℕ) → Node → Node
 placed root first node = record node { parent = placed_parent root first node.parent }
 
@@ -28,7 +28,7 @@ settled_state best value state.Dominated = state.Open
 abbrev pub settled : ℕ → Node → Node
 settled best node = record node { state = settled_state best node.value node.state }
 
--- under a node that is there, behind all that there are, for this best time
+-- under a node that is there, after all that there are, for this best time
 abbrev pub attached : (best root : ℕ) → (made nodes : List Node) → List Node
 attached best root made nodes = made ++ map (placed root (length made)) (map (settled best) nodes)
 
@@ -40,7 +40,7 @@ pub record CanBeOver (p : PieceOf) (root : ℕ) (made : List Node) : Type 0 wher
   pub depths : HaveDepths made
   pub room : length made + length p.vertices < 2 ^ 32
 
--- with the nodes of the piece behind those that there are
+-- with the nodes of the piece after those that there are
 pub record IsAttached (p : PieceOf) (best : ℕ) (made all : List Node) : Type 0 where
   pub floors : HaveFloors p.problem all
   pub depths : HaveDepths all

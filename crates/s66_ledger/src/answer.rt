@@ -11,7 +11,7 @@ use std::alloc::{AllocError, Global};
 use std::marker::Model;
 
 /// An answer to a block under a profile, for a budget of splits: a legal order with its time, a lower bound of the totals of all
-/// legal orders, and a tree that shows the bound: the nodes of a ledger that has come to its end.
+/// legal orders, and a tree that shows the bound. The tree's nodes are those of a ledger whose search has ended.
 #[derive(Drop)]
 pub struct Answer {
     pub(crate) rule: Rule,
@@ -88,8 +88,8 @@ impl Answer {
         self.bound == self.best.total()
     }
 
-    /// The tree, as a document keeps it; the block is that of the answer. It takes time linear in the number of nodes, and 8 bytes a
-    /// node beside the tree. `Err` is out of memory.
+    /// The tree, as a document stores it; the block is that of the answer. It takes time linear in the number of nodes, and 8
+    /// bytes a node beside the tree. `Err` is out of memory.
     pub fn tree(&self, alloc: Global, block: &Block) -> Result<Tree, AllocError>
         requires { instrs_of block.now ≡ self.now.problem.block }
         ensures { IfOk result (λ tree. tree ≡ flat (answer_of self.now).tree) }

@@ -39,7 +39,7 @@ pub fn settled_state(state: State, value: u32, best: u32) -> State
     }
 }
 
-/// A subtree's node for this best time, under the root of this number, where the subtree's first node has the number `first`.
+/// A subtree's node for this best time, under the root of this number; the subtree's first node has the number `first`.
 fn placed(node: &Node, root: u32, first: u32, best: u32) -> Node
     ensures { result ≡ placed root first (settled best node.now) }
 {
@@ -65,8 +65,9 @@ fn is_named(nodes: &[Node], named: u32, numbers: &[u8]) -> bool
     i < nodes.len() && nodes[i].state != State::Dominated && path::is_over(nodes, named, numbers)
 }
 
-/// The node of a line behind those that there are: closed if the line's prefix is dominated and the node of that name is found where
-/// the line guesses it, else as it is. The piece's root has this number, and the first node below it the number `first`.
+/// The node of a line, to be put after those that there are. It is closed if the line's prefix is dominated and the node of that
+/// name is found at the place that the line guesses, else as it is. The piece's root has this number, and the first node below it
+/// the number `first`.
 fn closed(nodes: &[Node], root: u32, first: u32, vertex: &Vertex, node: Node) -> Node
     ensures { Closes nodes.now (seen_vertex vertex.now) node result }
 {
@@ -87,10 +88,10 @@ fn closed(nodes: &[Node], root: u32, first: u32, vertex: &Vertex, node: Node) ->
     }
 }
 
-/// Puts a subtree's nodes, which come with their piece's lines, behind those that there are, under the root of this number, those of
-/// dominated lines closed where the names are found, and those that are open into the heap; it answers how deep those that are open or
-/// out are then. In time linear in their number and in the length of each name, with a logarithm of the number of open
-/// nodes for each that is open. `Err` leaves all as it was.
+/// Puts a subtree's nodes, which come with their piece's lines, after those that there are, under the root of this number. Those
+/// of dominated lines are closed if the names are found, and those that are open go into the heap. Returns how deep those that
+/// are open or out are then. It takes time linear in their number and in the length of each name, with a logarithm of the number
+/// of open nodes for each that is open. `Err` leaves all as it was.
 pub fn append(
     nodes: &mut Vec<Node>,
     heap: &mut BinaryHeap<(u32, u32)>,

@@ -6,22 +6,22 @@ use crate::reply::{GraftError, Offered};
 
 /// What a ledger's history has of one event, with its reply. Workers count from 1, nodes from 0; times are in minor cycles.
 ///
-/// Some entries have bytes of the history besides, and tell how many.
+/// Some entries have bytes of the history besides, and say how many.
 #[derive(Clone, Copy, Debug, PartialEq, Eq)]
 pub enum Entry {
-    /// So many splits of the budget went to the worker.
+    /// `splits` splits of the budget went to the worker.
     Grant {
         w: u8,
         splits: u32,
     },
-    /// The node was handed out; None, where none was open.
+    /// The node was handed out; None if none was open.
     Claim {
         w: u8,
         node: Option<u32>,
     },
-    /// A piece of so many splits was put in the place of the node. The bytes are the `depth` numbers of its prefix and the byte of its
-    /// root's line; those of so many lines below are in the nodes that the piece became, one in each, and so are the names of
-    /// dominated ones.
+    /// A piece of `splits` splits was put in the place of the node. The bytes are the `depth` numbers of its prefix and the byte
+    /// of its root's line. Those of the `lines` lines below are in the nodes that the piece became, one in each, and so are the
+    /// names of dominated ones.
     Taken {
         w: u8,
         node: u32,
@@ -29,8 +29,8 @@ pub enum Entry {
         lines: u32,
         splits: u32,
     },
-    /// A piece of so many splits was refused; `own` tells whether it is of the ledger's block and profile. The bytes are the `depth`
-    /// numbers of its prefix.
+    /// A piece of `splits` splits was refused; `own` says whether it is of the ledger's block and profile. The bytes are the
+    /// `depth` numbers of its prefix.
     Refused {
         w: u8,
         node: u32,
@@ -39,7 +39,7 @@ pub enum Entry {
         splits: u32,
         why: Refusal,
     },
-    /// An order of this time was offered; `own` tells whether it is of the ledger's block and profile. The bytes are its `count`
+    /// An order of this time was offered; `own` says whether it is of the ledger's block and profile. The bytes are its `count`
     /// numbers.
     Offer {
         w: u8,

@@ -3,13 +3,13 @@ ghost use Rattle.std.specs.Prelude.{◌≡◌, []};
 use crate::entry::Entry;
 use std::alloc::Global;
 
-/// What a ledger keeps of its events.
+/// What a ledger stores of its events.
 #[derive(Debug, Drop)]
 pub struct History {
     /// An entry for each event, the oldest first.
     pub entries: Vec<Entry>,
-    /// The bytes of the entries that have some, those of one after those of the entries before it. What a piece's lines below its root
-    /// say isn't among them: the nodes that they made keep it.
+    /// The bytes of the entries that have some, those of one after those of the entries before it. What a piece's lines below its
+    /// root say isn't among them: the nodes that they made store it.
     pub bytes: Vec<u8>,
 }
 

@@ -37,7 +37,7 @@ impl<'a> Model for Ledger<'a> {
     ghost invariant = { λ l. IsRecorded (with_history l.machine l.history.entries.items l.history.bytes.items) };
 }
 
-/// Puts the bytes of a piece's root behind those that are kept: its prefix and the byte of its line. `Err` is out of memory.
+/// Appends the bytes of a piece's root to those that are stored: its prefix and the byte of its line. `Err` is out of memory.
 fn keep_root(bytes: &mut Vec<u8>, piece: &Piece) -> Result<(), AllocError>
     ensures ok { OnOk result (bytes.new.items ≡ bytes.old.items ++ root_bytes (opened piece.now)) }
     ensures err { OnErr result (bytes.new.items ≡ bytes.old.items) }
@@ -152,7 +152,7 @@ impl<'a> Ledger<'a> {
         self.machine.workers()
     }
 
-    /// What is kept of the events, which lead from the opening to the ledger as it is.
+    /// What is stored of the events, which lead from the opening to the ledger as it is.
     pub fn history(&self) -> &History
         ensures entries { result.now.entries.items ≡ self.now.entries }
         ensures bytes { result.now.bytes.items ≡ self.now.bytes }
@@ -161,16 +161,16 @@ impl<'a> Ledger<'a> {
         &self.history
     }
 
-    /// What the line of a piece says that made the node of this number, as `Vertex::byte` tells it: of each piece that was taken, the
-    /// history leaves these bytes to the nodes. No line made node 0. None where there is no such node.
+    /// The byte of the piece line that made the node of this number, as `Vertex::byte` returns it. The history leaves these bytes
+    /// of each piece that was taken to the nodes. No line made node 0. None if there is no such node.
     pub fn line(&self, node: u32) -> Option<u8>
         ensures { result ≡ slice_get self.now.lines node }
     {
         self.machine.line_of(node)
     }
 
-    /// The name of a node that is dominated: the prefix of the node that dominates it, as the line says that made it. None of any
-    /// other node, and where there is no such node. In time linear in the name's length.
+    /// The name of a node that is dominated: the prefix of the node that dominates it, by the line that made it. None of any
+    /// other node, and if there is no such node. In time linear in the name's length.
     pub fn name_of(&self, node: u32) -> Option<ArrayVec<u8, BLOCK_LIMIT>>
         ensures some { IfSome result (λ name. (node_at self.now.state.nodes node).state ≡ Closed (Dominated name.items)) }
         ensures none { IfNone result ((name : List ℕ) → (node_at self.now.state.nodes node).state ≢ Closed (Dominated name)) }
@@ -220,7 +220,7 @@ impl<'a> Ledger<'a> {
         self.machine.bound()
     }
 
-    /// Moves `GRANT_LIMIT` splits of the budget to the worker, or what is left of it, and tells how many.
+    /// Moves `GRANT_LIMIT` splits of the budget to the worker, or what is left of it, and returns how many.
     pub fn grant(&mut self, w: u8) -> Result<u32, AllocError>
         requires { (1 ≤ w) × (w ≤ self.old.workers) }
         ensures ok { IfOk result (λ n. IsEvent self.old (Grant w) (Granted n) self.new) }
@@ -246,7 +246,7 @@ impl<'a> Ledger<'a> {
         Ok(())
     }
 
-    /// Hands out the open node of the least floor, of equal ones the deepest, and of these the newest; None only where no node is
+    /// Hands out the open node of the least floor, of equal ones the deepest, and of these the newest; None only if no node is
     /// open. In time logarithmic in the number of open nodes.
     pub fn claim(&mut self, w: u8) -> Result<Option<Ticket>, AllocError>
         requires { (1 ≤ w) × (w ≤ self.old.workers) }
@@ -331,12 +331,13 @@ impl<'a> Ledger<'a> {
         Ok(offered)
     }
 
-    /// Puts a piece in the place of a node that was handed out, and spends its splits: the node takes the state of the piece's root,
-    /// and the piece's other prefixes become nodes. A leaf that is below the best time is kept open. A dominated prefix is closed if its
-    /// name is found where the piece guesses it, at a node that stands before it and isn't dominated itself; else it is kept open.
+    /// Puts a piece in the place of a node that was handed out, and spends its splits. The node takes the state of the piece's
+    /// root, and the piece's other prefixes become nodes. A leaf that is below the best time is kept open. A dominated prefix is
+    /// closed if its name is found at the place that the piece guesses, at a node that comes before it and isn't dominated
+    /// itself; else it is kept open.
     ///
-    /// In time linear in the piece's lines and their names, with a logarithm of the number of open nodes for each that is open;
-    /// all room is made before anything changes.
+    /// It takes time linear in the piece's lines and their names, with a logarithm of the number of open nodes for each that is
+    /// open. All room is made before anything changes.
     pub fn graft(
         &mut self,
         w: u8,
@@ -358,8 +359,8 @@ impl<'a> Ledger<'a> {
         }
     }
 
-    /// Puts a piece, whose subtree comes with it, in the place of the node of this number, in the time of `graft` and with its refusals.
-    /// Both stay with the caller, who can make and drop them where no other thread waits.
+    /// Puts a piece, whose subtree comes with it, in the place of the node of this number, in the time of `graft` and with its
+    /// refusals. Both stay with the caller, who can make and drop them while no other thread waits.
     pub fn graft_at(
         &mut self,
         w: u8,
@@ -413,9 +414,9 @@ impl<'a> Ledger<'a> {
         Err(error)
     }
 
-    /// Brings the search to its end: offers two list schedules, takes back every allowance and every node that is out, offers the
-    /// whole orders among the nodes, and goes on until no open node's floor is below the best time, or the budget is spent and no
-    /// whole order is below it. The history is dropped first, and nothing of this is recorded.
+    /// Brings the search to its end. It offers two list schedules, takes back every allowance and every node that is out, and
+    /// offers the whole orders among the nodes. Then it goes on until no open node's floor is below the best time, or the budget
+    /// is spent and no whole order is below it. The history is dropped first, and nothing of this is recorded.
     ///
     /// The time is that of expanding what it claims, and linear in the number of nodes. `Err` is out of memory.
     pub fn finish(self, alloc: Global) -> Result<Answer, AllocError>

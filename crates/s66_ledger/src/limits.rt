@@ -4,10 +4,10 @@ pub const BUDGET_LIMIT: u32 = 1_000_000;
 /// The most splits that one grant moves.
 pub const GRANT_LIMIT: u32 = 64;
 
-/// The greatest floor that is told from all others when an open node is looked for; the floors of a block are far below.
+/// The greatest floor that is distinguished from all others when an open node is chosen; the floors of a block are far below.
 pub const RANKED_LIMIT: u32 = 0xff_ffff;
 
-/// How many depths are told from one another among open nodes of one floor; a block's prefixes are far shorter.
+/// How many depths are distinguished among open nodes of one floor; a block's prefixes are far shorter.
 pub const DEPTH_RANKS: u32 = 256;
 
 /// After how many rounds of a search, and of each of its workers, a list schedule is offered again.

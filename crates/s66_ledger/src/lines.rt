@@ -20,7 +20,7 @@ use s66_dep::Set;
 use s66_node::Walk;
 use std::alloc::AllocError;
 
-/// Appends the line of a leaf, which doesn't tell its value.
+/// Appends the line of a leaf, which leaves out its value.
 fn push_leaf(tree: &mut Tree, leaf: &Leaf) -> Result<(), AllocError>
     ensures { OnOk result (tree.new ≡ tree.old ++ AtTerminal (Bounding (leaf_of leaf.now)) ∷ []) }
 {
@@ -54,8 +54,8 @@ fn push_terminal(
     push_leaf(tree, &walk.floor_of_value(nodes[node].value))
 }
 
-/// Appends the line of the prefix at which the walk stands, and goes on to the next prefix; tells whether there is one. The time is
-/// that of a floor, and that of a look at each earlier sibling of the next prefix.
+/// Appends the line of the prefix at which the walk stands, and goes on to the next prefix. Returns whether there is one. The
+/// time is that of a floor, and that of a look at each earlier sibling of the next prefix.
 pub fn push_line(
     nodes: &[Node],
     links: &Links,
@@ -95,7 +95,7 @@ fn go_down(nodes: &[Node], links: &Links, number: u8, walk: &mut Walk<'_>, node:
     walk.push(number);
 }
 
-/// Goes on from a prefix, all of whose lines are appended, to the next one; tells whether there is one.
+/// Goes on from a prefix, all of whose lines are appended, to the next one. Returns whether there is one.
 fn go_on(nodes: &[Node], links: &Links, walk: &mut Walk<'_>, node: &mut usize) -> bool
     requires tree { AreOneTree walk.old.problem nodes.now }
     requires links { AreLinks nodes.now links.now.last.items links.now.before.items (length nodes.now) }
@@ -116,7 +116,7 @@ fn go_on(nodes: &[Node], links: &Links, walk: &mut Walk<'_>, node: &mut usize) -
     false
 }
 
-/// Goes on from a split prefix, whose children these are, to the first of them; tells whether a prefix is to come.
+/// Goes on from a split prefix, whose children these are, to the first of them. Returns whether a prefix is to come.
 fn go_below(
     nodes: &[Node],
     links: &Links,

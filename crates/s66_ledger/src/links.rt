@@ -8,9 +8,9 @@ use std::alloc::{AllocError, Global};
 /// The way from a node of a table down to its children, the last made first.
 #[derive(Drop)]
 pub struct Links {
-    /// The last child of each node, 0 where it has none.
+    /// The last child of each node; 0 if it has none.
     last: Vec<u32>,
-    /// The child of the same parent that was made before each node, 0 where there is none.
+    /// The child of the same parent that was made before each node; 0 if there is none.
     before: Vec<u32>,
 }
 
@@ -30,7 +30,7 @@ impl Links {
         Ok(Links { last, before })
     }
 
-    /// The child of a node whose last number this is: one look at each of its children behind that one.
+    /// The child of a node whose last number this is: one look at each of its children after that one.
     pub fn child(&self, nodes: &[Node], parent: usize, number: u8) -> usize
         requires links { AreLinks nodes.now self.now.last.items self.now.before.items (length nodes.now) }
         requires parent { parent < length nodes.now }

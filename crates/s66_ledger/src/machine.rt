@@ -15,7 +15,7 @@ use s66_time::{Clock, Timed, time_of};
 use std::alloc::{AllocError, Global};
 use std::marker::Model;
 
-/// The ledger of a search without its history: what its events make of the table; it borrows the block.
+/// The ledger of a search without its history: the state to which its events lead; it borrows the block.
 #[derive(Drop)]
 pub(crate) struct Machine<'a> {
     rule: Rule,
@@ -166,7 +166,7 @@ impl<'a> Machine<'a> {
         self.table.least_floor(self.best.total())
     }
 
-    /// Moves `GRANT_LIMIT` splits of the budget to the worker, or what is left of it, and tells how many.
+    /// Moves `GRANT_LIMIT` splits of the budget to the worker, or what is left of it, and returns how many.
     pub fn grant(&mut self, w: u8) -> u32
         requires { (1 ≤ w) × (w ≤ self.old.workers) }
         ensures granted { IsMove self.old (Grant w) (Granted result) self.new }
@@ -197,7 +197,7 @@ impl<'a> Machine<'a> {
         self.allowances[at] = 0;
     }
 
-    /// Hands out the open node of the least floor, of equal ones the deepest, and of these the newest; None only where no node is
+    /// Hands out the open node of the least floor, of equal ones the deepest, and of these the newest; None only if no node is
     /// open. In time logarithmic in the number of open nodes.
     pub fn claim(&mut self, w: u8) -> Option<Ticket>
         requires { (1 ≤ w) × (w ≤ self.old.workers) }
@@ -231,7 +231,7 @@ impl<'a> Machine<'a> {
         Ok(())
     }
 
-    /// Takes a node back where it is out, as worker 1.
+    /// Takes a node back if it is out, as worker 1.
     pub(crate) fn reopen(&mut self, node: u32) -> Result<(), AllocError>
         requires { 1 ≤ self.old.workers }
         ensures ok { OnOk result (IsReopening self.old node self.new) }
@@ -254,7 +254,7 @@ impl<'a> Machine<'a> {
     pub(crate) fn has_no_whole(&self) -> bool
         ensures { IsTrue result → WholesAreTimed self.now.problem self.now.state }
     {
-        // so a depth tells such a length
+        // so a depth can be such a length
         prove!(self.block.count() <= BLOCK_LIMIT);
         !self.table.may_reach(self.block.count())
     }
@@ -274,7 +274,7 @@ impl<'a> Machine<'a> {
         self.table.count() as u32
     }
 
-    /// The byte of the line that made a node, where there is one of this number.
+    /// The byte of the line that made a node, if there is one of this number.
     pub fn line_of(&self, node: u32) -> Option<u8>
         ensures { result ≡ slice_get self.now.lines node }
     {
@@ -338,12 +338,12 @@ impl<'a> Machine<'a> {
         piece.rule() == self.rule && piece.is_of(self.block, &self.profile)
     }
 
-    /// Puts a piece, whose subtree comes with it, in the place of a node that was handed out, and spends its splits: the node takes
-    /// the state of the piece's root, and the piece's other prefixes become nodes. A leaf that is below the best time is kept open, and so
-    /// is a dominated prefix whose name isn't found where the piece guesses it.
+    /// Puts a piece, whose subtree comes with it, in the place of a node that was handed out, and spends its splits. The node
+    /// takes the state of the piece's root, and the piece's other prefixes become nodes. A leaf that is below the best time is
+    /// kept open, and so is a dominated prefix whose name isn't found at the place that the piece guesses.
     ///
-    /// In time linear in the piece's lines, with a logarithm of the number of open nodes for each that is open; all room is made
-    /// before anything changes.
+    /// It takes time linear in the piece's lines, with a logarithm of the number of open nodes for each that is open. All room is
+    /// made before anything changes.
     pub fn graft(
         &mut self,
         w: u8,
@@ -385,9 +385,9 @@ impl<'a> Machine<'a> {
         Ok(())
     }
 
-    /// Brings the search to its end: offers two list schedules, takes back every allowance and every node that is out, offers the
-    /// whole orders among the nodes, and goes on until no open node's floor is below the best time, or the budget is spent and no
-    /// whole order is below it.
+    /// Brings the search to its end. It offers two list schedules, takes back every allowance and every node that is out, and
+    /// offers the whole orders among the nodes. Then it goes on until no open node's floor is below the best time, or the budget
+    /// is spent and no whole order is below it.
     ///
     /// The time is that of expanding what it claims, and linear in the number of nodes. `Err` is out of memory.
     pub fn finish(mut self, alloc: Global) -> Result<Answer, AllocError>
@@ -408,7 +408,7 @@ impl<'a> Machine<'a> {
         Ok(self.into_answer())
     }
 
-    /// The answer that the ledger is where its steps have ended.
+    /// The answer that the ledger is if its steps have ended.
     fn into_answer(self) -> Answer
         requires { IsEnded self.problem self.budget self.state }
         ensures rule { result.rule ≡ self.entry.rule }

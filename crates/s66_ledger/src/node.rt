@@ -34,8 +34,8 @@ impl State {
 #[derive(Clone, Copy, Debug)]
 pub struct Node {
     pub parent: u32,
-    /// The floor's value in minor cycles; of a node that was split in the piece that made it, 0. Of one that is dominated, the number
-    /// of the node that dominates it, which stands before it.
+    /// The floor's value in minor cycles; 0 of a node that was split in the piece that made it. Of one that is dominated, the
+    /// number of the node that dominates it, which comes before it.
     pub value: u32,
     pub number: u8,
     /// How many numbers the prefix has.

@@ -18,7 +18,7 @@ pub struct NodeTable {
     open: BinaryHeap<(u32, u32)>,
     /// How many nodes are handed out.
     out: usize,
-    /// No prefix that is open or out is longer, or this is the most that is told.
+    /// No prefix that is open or out is longer, or this is the greatest value of a byte.
     deepest: u8,
 }
 
@@ -152,7 +152,7 @@ impl NodeTable {
         self.nodes[node as usize].depth as usize == count
     }
 
-    /// The value that a node has: its floor's, where it isn't split.
+    /// The value that a node has: its floor's, if it isn't split.
     pub fn value_of(&self, node: u32) -> u32
         requires { node < length self.now }
         ensures { result ≡ (node_at self.now node).value }
@@ -160,14 +160,14 @@ impl NodeTable {
         self.nodes[node as usize].value
     }
 
-    /// The byte of the line that made a node, where there is one of this number.
+    /// The byte of the line that made a node, if there is one of this number.
     pub fn line_of(&self, node: u32) -> Option<u8>
         ensures { result ≡ slice_get (lines_of self.now) node }
     {
         Some(self.nodes.get(node as usize)?.line)
     }
 
-    /// The name of a node, where there is one of this number and it is dominated, in time linear in its length.
+    /// The name of a node, if there is one of this number and it is dominated, in time linear in its length.
     pub fn name_of(&self, node: u32) -> Option<ArrayVec<u8, BLOCK_LIMIT>>
         requires { (node < length self.now) → length (name_at self.now node) ≤ BLOCK_LIMIT }
         ensures some { IfSome result (λ name. (node < length self.now) × ((node_at self.now node).state ≡ State.Dominated) × (name.items ≡ name_at self.now node)) }
@@ -181,7 +181,7 @@ impl NodeTable {
         }
     }
 
-    /// Hands out the open node of the least floor, of equal ones the deepest, and of these the newest; None only where no node is
+    /// Hands out the open node of the least floor, of equal ones the deepest, and of these the newest; None only if no node is
     /// open. In time logarithmic in the number of open nodes.
     pub fn claim(&mut self) -> Option<u32>
         ensures within { IfSome result (λ i. i < length self.old) }
@@ -213,9 +213,9 @@ impl NodeTable {
         Ok(())
     }
 
-    /// Puts a piece, whose subtree comes with it, in the place of a node that is handed out: the node takes the state of the piece's
-    /// root, and the piece's other prefixes become nodes; dominated ones are closed where the nodes of their names are found, and else
-    /// open. In time linear in the piece's lines and their names, with a logarithm of the number of open
+    /// Puts a piece, whose subtree comes with it, in the place of a node that is handed out. The node takes the state of the
+    /// piece's root, and the piece's other prefixes become nodes; dominated ones are closed if the nodes of their names are
+    /// found, and else open. It takes time linear in the piece's lines and their names, with a logarithm of the number of open
     /// nodes for each that is open. `Err` leaves all as it was.
     pub fn attach(
         &mut self,
@@ -249,7 +249,7 @@ impl NodeTable {
         Ok(())
     }
 
-    /// Splits a node that is handed out: these nodes stand under it.
+    /// Splits a node that is handed out: these nodes go under it.
     fn attach_split(
         &mut self,
         root: u32,

@@ -43,8 +43,8 @@ pub fn prefix_of(nodes: &[Node], node: u32) -> ArrayVec<u8, BLOCK_LIMIT>
     prefix
 }
 
-/// The name of a node that is dominated, in time linear in its length: the prefix of the node whose number is its value, which stands
-/// before it.
+/// The name of a node that is dominated, in time linear in its length: the prefix of the node whose number is its value, which
+/// comes before it.
 pub fn name_of(nodes: &[Node], node: usize) -> ArrayVec<u8, BLOCK_LIMIT>
     requires within { node < length nodes.now }
     requires few { length (name_at nodes.now node) ≤ BLOCK_LIMIT }
@@ -55,7 +55,7 @@ pub fn name_of(nodes: &[Node], node: usize) -> ArrayVec<u8, BLOCK_LIMIT>
     prefix_of(nodes, named)
 }
 
-/// The parent of a node, which stands before it.
+/// The parent of a node, which comes before it.
 pub fn up(nodes: &[Node], i: usize) -> usize
     requires some { 0 < i }
     requires within { i < length nodes.now }

@@ -19,10 +19,10 @@ impl<'a> Machine<'a> {
     ghost use Rattle.s66_node.specs.Pieces.{tree_of, IsBestTimed};
     ghost use Rattle.s66_ledger.specs.Finishing.{Leads, IsIdle, WholesAreTimed, IsSearched, IsBetween, IsWithin, IsOffering, still_to_go};
 
-    /// Goes on, as worker 1, until no open node's floor is below the best time or the budget is spent: claims the open node of the
-    /// least floor, expands it by what the worker may spend, offers the best of its whole orders and grafts the piece. The marks
-    /// grow by those of the nodes that it makes. After each `SCHEDULE_ROUNDS` of these rounds it offers a list schedule that begins
-    /// with the node's prefix, so that good orders are found where no expansion comes to its end.
+    /// Goes on, as worker 1, until no open node's floor is below the best time or the budget is spent. Each round claims the open
+    /// node of the least floor, expands it by what the worker may spend, offers the best of its whole orders and grafts the
+    /// piece. The marks grow by those of the nodes that it makes. After each `SCHEDULE_ROUNDS` of these rounds it offers a list
+    /// schedule that begins with the node's prefix, so that good orders are found even if no expansion comes to its end.
     pub(crate) fn search(
         &mut self,
         alloc: Global,
@@ -46,7 +46,7 @@ impl<'a> Machine<'a> {
         Ok(())
     }
 
-    /// One round of a search; false where the search has ended.
+    /// One round of a search; false if the search has ended.
     fn search_round(
         &mut self,
         alloc: Global,
@@ -86,8 +86,8 @@ impl<'a> Machine<'a> {
         Ok(true)
     }
 
-    /// Expands a prefix by the rule of dominated leaves, by at most what worker 1 may spend. Where any node of the ledger may be named,
-    /// a piece has at most `DOMINATED_PIECE_LIMIT` splits, so that the nodes that it makes are soon known.
+    /// Expands a prefix by the rule of dominated leaves, by at most what worker 1 may spend. If any node of the ledger may be
+    /// named, a piece has at most `DOMINATED_PIECE_LIMIT` splits, so that the nodes that it makes are soon known.
     fn expand(
         &self,
         alloc: Global,
@@ -119,7 +119,7 @@ impl<'a> Machine<'a> {
         walk.expand_dominated(alloc, prefix, &mut Constant(best), most, marks, rule)
     }
 
-    /// How many splits worker 1 may spend, after a grant where it has none; 0 only where the budget is spent.
+    /// How many splits worker 1 may spend, after a grant if it has none; 0 only if the budget is spent.
     fn allowance_or_grant(&mut self) -> u32
         requires workers { 1 ≤ self.old.workers }
         requires between { IsBetween self.old.problem self.old.state }
@@ -147,7 +147,7 @@ impl<'a> Machine<'a> {
         }
     }
 
-    /// Offers a list schedule from the walk's prefix on, where its time is below the best; the walk ends at the whole order.
+    /// Offers a list schedule from the walk's prefix on, if its time is below the best; the walk ends at the whole order.
     pub(crate) fn offer_schedule(&mut self, walk: &mut Walk<'_>, priority: Priority)
         requires { 1 ≤ self.old.workers }
         ensures walk { walk.new.problem ≡ walk.old.problem }
@@ -194,7 +194,7 @@ impl<'a> Machine<'a> {
         }
     }
 
-    /// Offers the best of the piece's whole orders, where it has some.
+    /// Offers the best of the piece's whole orders, if it has some.
     fn offer_best(&mut self, piece: &Piece)
         requires workers { 1 ≤ self.old.workers }
         requires problem { piece.now.problem ≡ self.old.problem }

@@ -27,12 +27,12 @@ pub enum Event {
     Retire { w: u8 },
 }
 
-/// What a ledger answers to an event.
+/// The reply of a ledger to an event.
 #[derive(Clone, Copy, Debug, PartialEq, Eq)]
 pub enum Reply {
     /// So many splits were granted.
     Granted(u32),
-    /// The node was handed out; None, where none was open.
+    /// The node was handed out; None, if none was open.
     Claimed(Option<u32>),
     /// The piece was put in the place of its node.
     Taken,
@@ -61,7 +61,7 @@ impl Ledger<'_> {
     ghost use Rattle.s66_ledger.specs.Grafts.{IsGraftAt};
     ghost use Rattle.s66_ledger.specs.Steps.{IsEventOf, worker_of, reply_of};
 
-    /// Does what the event asks, as the call of its name does; a refusal is a reply. `Err` is out of memory, and changes nothing.
+    /// Does what the event says, as the call of its name does; a refusal is a reply. `Err` is out of memory, and changes nothing.
     pub fn step(&mut self, event: Event) -> Result<Reply, AllocError>
         requires { (1 ≤ worker_of event) × (worker_of event ≤ self.old.workers) }
         ensures ok { IfOk result (λ reply. (e : model.Event) × IsEventOf self.old.rule self.old.problem event (reply_of reply) e × IsEvent self.old e (reply_of reply) self.new) }

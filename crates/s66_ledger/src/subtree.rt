@@ -18,8 +18,8 @@ use s66_node::{FRONTIER, Piece, Vertex};
 use std::alloc::{AllocError, Global};
 use std::marker::Model;
 
-/// The nodes of a piece below its root, in preorder, before they have their place in a ledger: each names its parent by the place
-/// among them, counted from 1, and by 0 the root. What carries its floor is closed; what is dominated is open until it has its
+/// The nodes of a piece below its root, in preorder, before they have their place in a ledger. Each names its parent by the place
+/// among them, counted from 1, and the root by 0. What carries its floor is closed; what is dominated is open until it has its
 /// place.
 #[derive(Debug, Drop)]
 pub struct Subtree {
@@ -45,7 +45,7 @@ pub(crate) struct Place {
     pub left: Set,
 }
 
-/// What the node of a piece's line is, where it isn't known whether its value is below the best time.
+/// What the node of a piece's line is, before it is known whether its value is below the best time.
 pub fn state_of(vertex: &Vertex) -> State
     ensures { result ≡ made_state vertex.now }
 {
@@ -66,7 +66,7 @@ pub fn byte_of(vertex: &Vertex) -> u8
     }
 }
 
-/// The floor's value that a piece's line tells, 0 of a split.
+/// The floor's value in a piece's line; 0 of a split.
 pub fn value_of(vertex: &Vertex) -> u32
     ensures { result ≡ vertex_value vertex.now }
 {

@@ -13,8 +13,8 @@ impl Machine<'_> {
     ghost use Rattle.s66_ledger.specs.Replies.{offered_reply};
     ghost use Rattle.s66_ledger.specs.Finishing.{Leads, IsIdle, WholesAreTimed, IsOffering, IsTiming};
 
-    /// Takes back every allowance and every node that is out. Where some node is out, in time linear in the number of nodes, with a
-    /// logarithm of the number of open nodes for each that is.
+    /// Takes back every allowance and every node that is out. If some node is out, this takes time linear in the number of nodes,
+    /// with a logarithm of the number of open nodes for each that is.
     pub(crate) fn take_back(&mut self) -> Result<(), AllocError>
         requires { 1 ≤ self.old.workers }
         ensures leads { OnOk result (Leads self.old self.new) }
@@ -32,8 +32,9 @@ impl Machine<'_> {
         Ok(())
     }
 
-    /// Offers every whole order that is open or out and has a time below the best; what is offered is timed anew. Where some prefix that
-    /// has been open or out was so long, in time linear in the number of nodes, and in the length of each order that is offered.
+    /// Offers every whole order that is open or out and has a time below the best; what is offered is timed anew. If some prefix
+    /// that has been open or out was that long, this takes time linear in the number of nodes, and in the length of each order
+    /// that is offered.
     pub(crate) fn offer_wholes(&mut self)
         requires { 1 ≤ self.old.workers }
         ensures offers { IsOffering self.old self.new }
@@ -47,7 +48,7 @@ impl Machine<'_> {
         }
     }
 
-    /// Offers a node's order, where it is a whole one, open or out, and has a time below the best.
+    /// Offers a node's order if it is a whole one, open or out, and has a time below the best.
     fn offer_whole(&mut self, node: u32)
         requires workers { 1 ≤ self.old.workers }
         requires within { node < length self.old.state.nodes }
@@ -59,7 +60,7 @@ impl Machine<'_> {
         self.offer_numbers(numbers.as_slice());
     }
 
-    /// Times a legal order and offers it as worker 1. It stands apart so that no room is made for what isn't offered.
+    /// Times a legal order and offers it as worker 1. It is a function of its own so that no room is made for what isn't offered.
     fn offer_numbers(&mut self, numbers: &[u8]) -> Offered
         requires workers { 1 ≤ self.old.workers }
         requires legal { IsLegal self.old.problem.block numbers.now }

@@ -1,4 +1,4 @@
--- A schedule goes on with what comes first until it is a whole order, and each push tells an issue.
+-- A schedule goes on with what comes first until it is a whole order, and each push gives an issue.
 use Rattle.std.proofs.Common.{ℕ, ◌+◌, ◌-◌, ◌<◌, ◌≡◌, true, List, [], ◌∷◌, ◌++◌, length, refl, sym, ap, subst, arith, length-append, append-nil, append_assoc, inl, inr, ◌∙◌}
 use Rattle.std.proofs.lemmas.Bool.{cases_eq}
 use Rattle.s66_isa.specs.declared.instr.Instr.{Instr}

@@ -1,4 +1,4 @@
--- An skeleton of a piece tells its prefix and its tree.
+-- A skeleton of a piece determines its prefix and its tree.
 use Rattle.std.proofs.Common.{ℕ, ◌≡◌, List, [], ◌∷◌, ◌++◌, ◌+◌, map, length, replicate, refl, sym, ap, subst, ◌∙◌, arith}
 use Rattle.std.proofs.lemmas.Bool.{ne_eqb}
 use Rattle.std.proofs.Math.Seq.{take-append_seam, drop-append_seam}
@@ -34,7 +34,7 @@ abbrev unstated : Tree Stated → Tree Skeletal
 unstated (Alone terminal) = Alone (skeletal terminal)
 unstated (Parted numbers siblings) = Parted (opened numbers) (unstated_siblings siblings)
 
--- the byte of a split is no other line's, and tells how many numbers it has
+-- the byte of a split is no other line's, and says how many numbers it has
 split-stated : (count : ℕ) (name : List ℕ) → stated_line (SPLIT + count) name ≡ AtSplit (replicate count 0)
 split-stated count name =
     rw (ne_eqb (SPLIT + count) LEAF (λ e. omega (arith, e)), ne_eqb (SPLIT + count) FRONTIER (λ e. omega (arith, e)), ne_eqb (SPLIT + count) PASSED (λ e. omega (arith, e)))
@@ -93,7 +93,7 @@ module _ (b : Problem) (Q : List ℕ → Stated → Type 0) where
   tree-unstated (Alone terminal) prefix holds = ap Alone (terminal-unstated prefix terminal)
   tree-unstated (Parted numbers siblings) prefix (incomplete, are, holds) = rw (sym are, siblings-unstated siblings prefix numbers holds) refl
 
--- a piece's prefix, lines and names tell its tree
+-- a piece's prefix, lines and names determine its tree
 pub skeleton-holds : (p : PieceOf) (Q : List ℕ → Stated → Type 0) → TreeHolds p.problem.block Q p.prefix (stated_tree p) → IsSkeletonOf p (skeleton_of p) (names_of p)
 skeleton-holds p Q holds =
     let depth = length p.prefix in

@@ -1,4 +1,4 @@
--- A walk stands at a beginning, before and after each step.
+-- A walk is at a beginning, before and after each step.
 use Rattle.std.proofs.Common.{ℕ, ◌+◌, ◌-◌, ◌<◌, ◌≡◌, ◌⊎◌, true, List, [], ◌∷◌, ◌++◌, length, take, get_or, sym, ap, arith, inl, inr, ◌∙◌, length-append, subst, eqb}
 use Rattle.std.proofs.lemmas.Bool.{cases_eq, eq-eqb}
 use Rattle.std.proofs.lemmas.List.{take_more}

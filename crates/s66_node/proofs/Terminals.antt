@@ -1,4 +1,4 @@
--- What is told of a prefix that isn't split, by its floor.
+-- What is stated of a prefix that isn't split, by its floor.
 use Rattle.std.proofs.Common.{ℕ, ◌≤◌, ◌≡◌, ◌≢◌, Bool, true, false, nat_lt, ◌&&◌, List, [], ◌∷◌, ◌++◌, length, refl, sym, ap, arith, inl, inr, ◌∙◌, subst, Option}
 use Rattle.std.proofs.lemmas.Bool.{eq-eqb, cases_Bool}
 use Rattle.std.proofs.lemmas.List.{append-nil}
@@ -54,7 +54,7 @@ part-none : (b : Problem) (at : List ℕ) → length at ≢ length b.block → w
 part-none b at ne =
     bound-none at (floor b at) (ap is_bound (floor-part b at ne) ∙ first-bound (value b at) (Chain (longest_chain b at)) after_chain refl refl)
 
--- WHOLE ORDERS that are told of
+-- WHOLE ORDERS that are stated
 
 pub stated-none : (rule : Rule) (b : Problem) (best : Span) (at : List ℕ) (stated : Stated) → IsStated rule b best at stated → ((v : ℕ) → stated ≡ StatedLeaf v → length at ≢ length b.block) → whole_stated b at stated ≡ []
 stated-none rule b best at (StatedLeaf v) h part = part-none b at (part v refl)
@@ -78,7 +78,7 @@ leaf-stated vertex v stated is seen = let e : seen_vertex (line.Leaf v) ≡ AtTe
 
 -- WHAT IS TOLD IS TRUE
 
--- in a piece over this prefix, with this tree, where the name is as the rule asks
+-- in a piece over this prefix, with this tree, if the name is as the rule asks
 module _ (rule : Rule) (b : Problem) (prefix : List ℕ) (tree : Tree Terminal) where
   abbrev pub Named : List ℕ → Stated → Type 0
   Named at stated = (value : ℕ) (name : List ℕ) → stated ≡ StatedPassed value name → IsNamedIn rule prefix tree at name
@@ -103,7 +103,7 @@ passed-name v n value name e = cc
 
 -- WITHOUT NAMES
 
--- what is told then is told by any rule
+-- what is stated then is stated by any rule
 pub stated-any : (rule : Rule) (b : Problem) (best : Span) (at : List ℕ) (stated : Stated) → IsStated NoneNamed b best at stated → IsStated rule b best at stated
 stated-any rule b best at (StatedLeaf v) h = h
 stated-any rule b best at (StatedFrontier v) h = h
@@ -121,7 +121,7 @@ alone-unnamed b best at stated value name h is = stated-unnamed b best at stated
 
 -- WHILE THE BEST TIME FALLS
 
--- what is told is told of wider best times
+-- what is stated is stated of wider best times
 pub stated-wider : (rule : Rule) (b : Problem) (high low more less : ℕ) (at : List ℕ) (stated : Stated) → high ≤ more → less ≤ low → IsStated rule b (span high low) at stated → IsStated rule b (span more less) at stated
 stated-wider rule b high low more less at (StatedLeaf v) up down h = (h.0, elim h.1 [ inl whole ↦ inl whole | inr le ↦ inr (omega arith) ])
 stated-wider rule b high low more less at (StatedFrontier v) up down h = (h.0, (h.1.0, omega (arith, h.1.1)))

@@ -46,7 +46,7 @@ lefts-push frames f = ap (map numbers_in) (reverse-append frames (f ∷ []))
 length-front : (xs : List ℕ) → length xs ≤ length (front xs) + 1
 length-front xs = omega (arith, length-take (length xs - 1) xs)
 
--- with no frame it stands nowhere
+-- with no frame it is nowhere
 nowhere : (rule : Rule) (b : Problem) (best : Span) (root at : List ℕ) (vertices : List (Vertex Stated)) (found cuts : List (List ℕ)) → GrowsFor rule b best root (front at) [] vertices found cuts → GrowsFor rule b best root at [] vertices found cuts
 nowhere rule b best root at vertices found cuts g [] h = g [] tt
 nowhere rule b best root at vertices found cuts g (siblings ∷ rests) h = absurd h

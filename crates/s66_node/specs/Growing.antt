@@ -20,7 +20,8 @@ TreeGrows block P Q prefix (Alone terminal) = Q prefix terminal
 TreeGrows block P Q prefix (Parted numbers siblings) =
     P prefix × (numbers ≡ ready block prefix) × SiblingsGrow block P Q prefix numbers siblings
 
--- A walk in preorder stands at a prefix; of it and of each prefix above it, nearest first, some children are still to come: these numbers. The rests are those children.
+-- A walk in preorder is at a prefix. Of it and of each prefix above it, nearest first, some children are still to come: these
+-- numbers. The rests are those children.
 
 abbrev pub RestsGrow : {M : Type 0} → List Instr → (List ℕ → Type 0) → (List ℕ → M → Type 0) → List ℕ → List (List ℕ) → List (Siblings M) → Type 0
 RestsGrow block P Q at [] [] = Unit {0}

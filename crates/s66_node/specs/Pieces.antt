@@ -18,7 +18,7 @@ pub record PieceOf : Type 0 where
   pub vertices : List (Vertex Stated)
   pub timed : Option TimedOrder
 
--- its tree with the values and names that its terminals tell
+-- its tree with the values and names that its terminals state
 abbrev pub stated_tree : PieceOf → Tree Stated
 stated_tree p = read_tree (StatedFrontier 0) p.vertices
 
@@ -26,12 +26,12 @@ stated_tree p = read_tree (StatedFrontier 0) p.vertices
 abbrev pub tree_of : PieceOf → Tree Terminal
 tree_of p = tree_stated p.problem p.prefix (stated_tree p)
 
--- a timed order of the problem that is one of the least whole orders of the tree, and none where it has none
+-- a timed order of the problem that is one of the least whole orders of the tree; none if it has none
 abbrev pub IsBestTimed : Problem → List ℕ → Tree Terminal → Option TimedOrder → Type 0
 IsBestTimed b prefix tree None = IsBestWhole b prefix tree None
 IsBestTimed b prefix tree (Some timed) = (timed.problem ≡ b) × IsBestWhole b prefix tree (Some timed.numbers)
 
--- what is true of every piece with so many splits
+-- what is true of every piece with this many splits
 pub record IsKept (p : PieceOf) (count : ℕ) : Type 0 where
   pub stated : IsStatedTree p.rule p.problem p.prefix (stated_tree p)
   pub vertices : flat (stated_tree p) ≡ p.vertices

@@ -1,4 +1,5 @@
--- Used by contracts: what they see of the lines of a piece: its splits, and the values and names that are told of its other prefixes.
+-- Used by contracts: what they see of the lines of a piece: its splits, and the values and names that are stated of its other
+-- prefixes.
 use Rattle.std.specs.Prelude.{List, map}
 use Rattle.s66_model.specs.Tree.{Vertex, AtTerminal, AtSplit}
 use Rattle.s66_model.specs.Stated.{Stated, StatedLeaf, StatedFrontier, StatedPassed}

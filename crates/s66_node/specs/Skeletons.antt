@@ -1,4 +1,5 @@
--- Used by contracts: the tree that an skeleton tells, by lines that leave out the values of a piece's floors and the numbers of its splits; the names of its dominated prefixes come beside it.
+-- Used by contracts: the tree of a skeleton, by lines that leave out the values of a piece's floors and the numbers of its
+-- splits; the names of its dominated prefixes come beside it.
 use Rattle.std.specs.Prelude.{ℕ, ◌≡◌, ◌+◌, ◌-◌, ◌==◌, if◌then◌else◌, List, [], ◌∷◌, ◌++◌, length, take, drop, map, replicate}
 use Rattle.s66_model.specs.Timing.{Problem}
 use Rattle.s66_model.specs.LegalOrder.{ready}
@@ -10,7 +11,7 @@ use Rattle.s66_model.specs.Stated.{Stated, StatedLeaf, StatedFrontier, StatedPas
 use Rattle.s66_node.specs.declared.vertex.TheConstants.{LEAF, FRONTIER, PASSED, SPLIT}
 use Rattle.s66_node.specs.Pieces.{PieceOf, tree_of}
 
--- of a line of a piece; a split tells how many numbers it has
+-- of a line of a piece; that of a split says how many numbers it has
 abbrev pub line_byte : Vertex Stated → ℕ
 line_byte (AtSplit numbers) = SPLIT + length numbers
 line_byte (AtTerminal (StatedLeaf value)) = LEAF
@@ -52,7 +53,7 @@ stated_lines [] names = []
 stated_lines (byte ∷ bytes) [] = stated_line byte [] ∷ stated_lines bytes []
 stated_lines (byte ∷ bytes) (name ∷ names) = stated_line byte name ∷ stated_lines bytes names
 
--- of an skeleton, where its prefix has so many numbers
+-- of a skeleton whose prefix has this many numbers
 abbrev pub skeleton_prefix : (depth : ℕ) → List ℕ → List ℕ
 skeleton_prefix depth bytes = take depth bytes
 
@@ -82,7 +83,7 @@ with_ready b prefix (Parted numbers siblings) = Parted (ready b.block prefix) (s
 abbrev pub skeleton_tree : Problem → (depth : ℕ) → List ℕ → List (List ℕ) → Tree Terminal
 skeleton_tree b depth bytes names = with_ready b (skeleton_prefix depth bytes) (read_tree StaysOpen (skeleton_lines depth bytes names))
 
--- they tell this piece's prefix and tree
+-- they determine this piece's prefix and tree
 abbrev pub IsSkeletonOf : PieceOf → List ℕ → List (List ℕ) → Type 0
 IsSkeletonOf p bytes names =
     (skeleton_prefix (length p.prefix) bytes ≡ p.prefix) × (skeleton_tree p.problem (length p.prefix) bytes names ≡ tree_of p)

@@ -31,7 +31,8 @@ span high low = record { high = high; low = low }
 abbrev pub IsDue : Problem → ℕ → List ℕ → Type 0
 IsDue b best at = IsIncomplete b.block at × (floor_value b at < best)
 
--- what is told is true: a leaf is of a whole order or at least the low best time, and what is in the frontier or dominated may be split by the high one; a name dominates as the rule asks
+-- what is stated is true: a leaf is of a whole order or at least the low best time, what is in the frontier or dominated may be
+-- split by the high one, and a name dominates as the rule asks
 abbrev pub IsStated : Rule → Problem → Span → List ℕ → Stated → Type 0
 IsStated rule b best at (StatedLeaf value) = (value ≡ floor_value b at) × (IsComplete b.block at ⊎ (best.low ≤ value))
 IsStated rule b best at (StatedFrontier value) = (value ≡ floor_value b at) × IsDue b best.high at
@@ -45,11 +46,11 @@ AreOfSplits rule cuts names = rule ≡ WrittenEarlier → (name : List ℕ) → 
 abbrev pub NameSplits : Rule → List (List ℕ) → List (Vertex Stated) → Type 0
 NameSplits rule cuts vertices = rule ≡ WrittenEarlier → (value : ℕ) (name : List ℕ) → Among (AtTerminal (StatedPassed value name)) vertices → Among name cuts
 
--- the whole order that is told of, if one is
+-- the whole order that is stated, if one is
 abbrev pub whole_stated : Problem → List ℕ → Stated → List (List ℕ)
 whole_stated b at stated = whole_at at (terminal_of b at stated)
 
--- the first of the least of these legal orders, and none where there are none
+-- the first of the least of these legal orders; none if there are none
 abbrev pub IsLeast : Problem → List (List ℕ) → Option WholeOrder → Type 0
 IsLeast b orders None = orders ≡ []
 IsLeast b orders (Some least) =
@@ -74,17 +75,18 @@ pub record IsGrown (rule : Rule) (b : Problem) (best : Span) (allowance : ℕ) (
 abbrev pub lefts : List Set → List (List ℕ)
 lefts frames = map numbers_in (reverse frames)
 
--- a walk that stands at a beginning may go on with each number that is still to come, and so may each prefix above it
+-- a walk at a beginning may go on with each number that is still to come, and so may each prefix above it
 abbrev pub AreOpen : List Instr → List ℕ → List (List ℕ) → Type 0
 AreOpen block at [] = Unit {0}
 AreOpen block at (ns ∷ above) =
     IsBeginning block at × ((n : ℕ) → Among n ns → is_ready block at n ≡ true) × AreOpen block (front at) above
 
--- while a tree over the root is made: what Grows says of its splits, of what is told of its terminals, and of its whole orders
+-- while a tree over the root is made: what Grows says of its splits, of what is stated of its terminals, and of its whole orders
 abbrev pub GrowsFor : Rule → Problem → Span → List ℕ → List ℕ → List (List ℕ) → List (Vertex Stated) → List (List ℕ) → List (List ℕ) → Type 0
 GrowsFor rule b best root at frames vertices found cuts = Grows b.block (IsDue b best.high) (IsStated rule b best) (whole_stated b) root at frames vertices found cuts
 
--- a tree over the root is being made: the walk stands at a prefix with these frames, the last on top, one for each prefix from the root down to it; these names may be given
+-- a tree over the root is being made: the walk is at a prefix with these frames, the last on top, one for each prefix from the
+-- root down to it; these names may be given
 pub record IsWalk (rule : Rule) (b : Problem) (best : Span) (allowance : ℕ) (root at : List ℕ) (frames : List Set) (vertices : List (Vertex Stated)) (count : ℕ) (least : Option WholeOrder) (names : List (List ℕ)) : Type 0 where
   pub standing : AreOpen b.block at (lefts frames)
   pub depth : length root + length frames ≤ length at + 1

@@ -1,14 +1,14 @@
 use std::alloc::{AllocError, Global};
 
-/// In the place of a place: there is none.
+/// In place of a place: there is none.
 pub const NONE: u32 = u32::MAX;
 
-/// How many lists there are first.
+/// How many lists there are at first.
 const FIRST_LISTS: usize = 64;
 
 /// Lists of the places of a table, each place in the list of a hash. A place that leaves its list is used again.
 ///
-/// Nothing is promised of what stands in which list: who looks for something in one looks at what each place has.
+/// Nothing is promised of what is in which list: who looks for something in one looks at what each place has.
 #[derive(Debug, Drop)]
 pub struct Chains {
     /// The first place of each list.
@@ -29,7 +29,7 @@ impl Chains {
         }
     }
 
-    /// Which list is that of a hash.
+    /// The list of a hash.
     fn list_of(&self, hash: u64) -> usize {
         // the high bits of a hash differ most
         ((hash >> 32).wrapping_mul(self.firsts.len() as u64) >> 32) as usize
@@ -90,7 +90,7 @@ impl Chains {
         }
     }
 
-    /// Takes a place out of the list of a hash, where this place stands before it.
+    /// Takes a place out of the list of a hash; `before` is the place before it there, or `NONE`.
     pub fn remove(&mut self, hash: u64, before: u32, place: u32) {
         let next = self.next(place);
         if before == NONE {
@@ -102,7 +102,7 @@ impl Chains {
         self.free = place;
     }
 
-    /// A place to be used again, where there is one.
+    /// A place to be used again, if there is one.
     pub fn reuse(&mut self) -> Option<u32> {
         let place = self.free;
         if place == NONE {
@@ -116,7 +116,7 @@ impl Chains {
     ///
     /// # Errors
     ///
-    /// Where memory runs out; nothing is changed then.
+    /// `AllocError` if memory runs out; nothing is changed then.
     pub fn add_place(&mut self) -> Result<(), AllocError> {
         self.nexts.push(NONE)?;
         Ok(())
@@ -140,7 +140,7 @@ impl Chains {
     ///
     /// # Errors
     ///
-    /// Where memory runs out; nothing is changed then.
+    /// `AllocError` if memory runs out; nothing is changed then.
     pub fn double(&mut self) -> Result<(), AllocError> {
         let more = self.firsts.len().max(FIRST_LISTS);
         self.firsts.try_reserve(more)?;

@@ -46,7 +46,7 @@ fn timed_of(
 /// Expands a prefix of a block's legal orders: a tree over it with at most `allowance` splits, made depth first by rising number.
 ///
 /// A prefix whose floor is at least the best time isn't split, and carries its floor as leaf, as a whole order does; the others
-/// that aren't split are the frontier. There is a split where one is allowed and the prefix may be split. With the tree comes a
+/// that aren't split are the frontier. There is a split if one is allowed and the prefix may be split. With the tree comes a
 /// least one of its whole orders, timed. Times are in minor cycles.
 ///
 /// The tables of the block are made once, in time quadratic in its length. Each split then costs a push, a floor and an undo for
@@ -70,7 +70,7 @@ pub fn expand(
     Walk::new(block, profile).expand(alloc, prefix, best, allowance)
 }
 
-/// Expands a prefix as `expand` does, by a best time that may fall meanwhile: it is asked for at the prefix, and before each split
+/// Expands a prefix as `expand` does, by a best time that may fall meanwhile: it is read at the prefix, and before each split
 /// below it.
 ///
 /// A prefix whose floor is at least the first best time isn't split, and carries its floor as leaf. One that isn't split and whose
@@ -131,7 +131,7 @@ impl Walk<'_> {
     ghost use Rattle.s66_model.specs.Expansion.{IsExpansion};
     ghost use Rattle.s66_node.specs.Pieces.{tree_of, IsBestTimed};
 
-    /// Goes to a prefix and expands it, as `expand` does; the tables of the block are there already. On `Err` it stands at some
+    /// Goes to a prefix and expands it, as `expand` does; the tables of the block are there already. On `Err` the walk is at some
     /// prefix of the same block.
     pub fn expand(
         &mut self,
@@ -151,8 +151,8 @@ impl Walk<'_> {
         self.expand_with(alloc, prefix, &mut Constant(best), allowance)
     }
 
-    /// Goes to a prefix and expands it, as `expand_with` does; the tables of the block are there already. On `Err` it stands at some
-    /// prefix of the same block, and the best time may have fallen.
+    /// Goes to a prefix and expands it, as `expand_with` does; the tables of the block are there already. On `Err` the walk is at
+    /// some prefix of the same block, and the best time may have fallen.
     pub fn expand_with<L: Least>(
         &mut self,
         alloc: Global,
@@ -177,10 +177,10 @@ impl Walk<'_> {
     /// Goes to a prefix and expands it as `expand_with` does, but a prefix below it that a known node dominates isn't split.
     /// It is a dominated leaf, if it is incomplete and its floor is below the last best time.
     ///
-    /// Where earlier nodes are named, the marks are forgotten first, and then those of the prefixes that are split here are
-    /// kept. Where others are named too, those of the prefixes that are split or stay open are kept, beside the marks that
-    /// were there; but those of lines that weren't settled are forgotten first. On `Err` some may have been kept. By
-    /// `NoneNamed` no prefix is dominated, and `expand_with` is cheaper.
+    /// If the rule names earlier nodes alone, all marks are forgotten first, and then those of the prefixes that are split here
+    /// are kept. If it names others too, only those of lines that weren't settled are forgotten first; then those of the prefixes
+    /// that are split or stay open are kept, beside the marks that were there. On `Err` some may have been kept. By `NoneNamed`
+    /// no prefix is dominated, and `expand_with` is cheaper.
     pub fn expand_dominated<L: Least>(
         &mut self,
         alloc: Global,
@@ -209,8 +209,8 @@ impl Walk<'_> {
         self.expand_named(alloc, prefix, incumbent, allowance, rule, marks)
     }
 
-    /// Goes to a prefix and expands it as `expand_dominated` does, by the nodes that `names` knows instead of those of a table; by
-    /// the rule of earlier nodes it knows none at first. On `Err` the walk stands at some prefix of the same block, the best time
+    /// Goes to a prefix and expands it as `expand_dominated` does, by the nodes that `names` knows instead of those of a table.
+    /// By the rule of earlier nodes it knows none at first. On `Err` the walk is at some prefix of the same block, the best time
     /// may have fallen, and `names` may know other nodes.
     pub fn expand_named<L: Least, N: Naming>(
         &mut self,

@@ -18,7 +18,7 @@ use s66_isa::BLOCK_LIMIT;
 use s66_model::Rule;
 use std::alloc::{AllocError, Global};
 
-/// For how many lines of a tree that is split there is room from the first: a small tree needs no more.
+/// How many lines there is room for from the start in a tree that is split: a small tree needs no more.
 const FIRST_LINES: usize = 64;
 
 /// A tree by its lines in preorder, how many of them are splits, and the first of the least of its whole orders.
@@ -29,8 +29,8 @@ pub(crate) struct Grown {
     pub least: Option<WholeOrder>,
 }
 
-/// What the walk's prefix, whose floor has this value, has if it isn't split: its floor as leaf if that is at least the best time or
-/// the prefix is complete, else a place in the frontier. Nothing if it is to be split.
+/// What the walk's prefix, whose floor has this value, has if it isn't split. That is its floor as leaf if the floor is at least
+/// the best time or the prefix is complete, else a place in the frontier. Nothing if it is to be split.
 fn unsplit_vertex(walk: &Walk<'_>, value: u32, best: u32, may_split: bool) -> Option<Vertex>
     requires { value ≡ floor_value walk.now.problem walk.now.numbers }
     ensures stated { IfSome result (λ k. (stated : Stated) × (seen_vertex k ≡ AtTerminal stated) × IsStated NoneNamed walk.now.problem (span best best) walk.now.numbers stated) }
@@ -48,8 +48,8 @@ fn unsplit_vertex(walk: &Walk<'_>, value: u32, best: u32, may_split: bool) -> Op
     }
 }
 
-/// What the walk's prefix has below the root, where it may be split by the best time: the name of a node that dominates it,
-/// if one is known; else nothing if it is to be split, or a place in the frontier.
+/// What the walk's prefix has below the root, if it may be split by the best time. That is the name of a node that dominates it,
+/// if one is known. Else it is nothing if the prefix is to be split, or a place in the frontier.
 fn open_vertex<N: Naming>(
     alloc: Global,
     walk: &Walk<'_>,
@@ -75,8 +75,8 @@ fn open_vertex<N: Naming>(
     }
 }
 
-/// What the walk's prefix has if it isn't split, by the last best time. If that would split it, the best time is asked for again,
-/// and says whether it still does; a node that dominates it forbids it.
+/// What the walk's prefix has if it isn't split, by the last best time. If that would split it, the best time is read again, and
+/// decides whether it still does; a node that dominates it forbids it.
 fn unsplit_child<L: Least, N: Naming>(
     alloc: Global,
     walk: &Walk<'_>,
@@ -110,7 +110,7 @@ fn unsplit_child<L: Least, N: Naming>(
     open_vertex(alloc, walk, value, may_split, rule, names)
 }
 
-/// Keeps the lesser of the least whole order so far and that of the walk's prefix, where this line is its leaf.
+/// Keeps the lesser of the least whole order so far and that of the walk's prefix, if this line is its leaf.
 fn keep_whole(least: &mut Option<WholeOrder>, walk: &Walk<'_>, vertex: &Vertex)
     ensures { (rule : Rule) (best : Span) (stated : Stated) (found : List (List ℕ)) → seen_vertex vertex.now ≡ AtTerminal stated → IsStated rule walk.now.problem best walk.now.numbers stated → IsLeast walk.now.problem found least.old → IsLeast walk.now.problem (found ++ whole_stated walk.now.problem walk.now.numbers stated) least.new }
 {
@@ -121,8 +121,8 @@ fn keep_whole(least: &mut Option<WholeOrder>, walk: &Walk<'_>, vertex: &Vertex)
     }
 }
 
-/// The tree over the walk's prefix, made depth first by rising number: at most `allowance` splits, each at an incomplete
-/// prefix whose floor is below the best time. That is asked for at the walk's prefix, and before each split below it.
+/// The tree over the walk's prefix, made depth first by rising number: at most `allowance` splits, each at an incomplete prefix
+/// whose floor is below the best time. The best time is read at the walk's prefix, and before each split below it.
 ///
 /// A split costs one look at each instruction that remains, and each of its children a push, an undo and a floor. Nothing is
 /// allocated but room for lines.

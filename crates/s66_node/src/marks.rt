@@ -98,7 +98,7 @@ fn is_enough(rule: Rule, left: &Mark, right: &Mark) -> bool {
     }
 }
 
-/// Takes the entries of a set out of its list beside which a mark is enough, and tells how many stay.
+/// Takes the entries of a set beside which a mark is enough out of its list, and returns how many stay.
 fn remove_dominated(
     chains: &mut Chains,
     entries: &[Entry],
@@ -150,7 +150,7 @@ fn set_place(places: &mut Vec<Place>, index: usize, place: Place) -> Result<(), 
     Ok(())
 }
 
-/// Makes a place for the entry of an index, whose node is this one, and more lists where there are too few.
+/// Makes a place for the entry of an index, whose node is this one, and more lists if there are too few.
 fn make_place(
     chains: &mut Chains,
     places: &mut Vec<Place>,
@@ -176,7 +176,7 @@ fn make_place(
     chains.add_place()
 }
 
-/// Puts an entry in the place of that of an index, or behind all.
+/// Puts an entry in the place of that of an index, or after all.
 fn put_entry(entries: &mut Vec<Entry>, index: usize, entry: Entry) -> Result<(), AllocError>
     requires { index < TABLE_LIMIT }
     ensures entries { (b : Problem) → IsEntry b entry → AreEntries b entries.old.items → AreEntries b entries.new.items }
@@ -320,7 +320,7 @@ impl<'a> Marks<'a> {
         None
     }
 
-    /// Keeps an entry and the node that it is, where there is room.
+    /// Keeps an entry and the node that it is, if there is room.
     fn keep(&mut self, entry: Entry, place: Place) -> Result<(), AllocError>
         requires { IsEntry self.old.problem entry }
         ensures same { self.new.problem ≡ self.old.problem }

@@ -75,8 +75,8 @@ impl Piece {
         self.splits
     }
 
-    /// The lines of the tree in preorder, with the value of each floor in minor cycles. Behind the prefix, their bytes tell the tree,
-    /// with the names of its dominated leaves: that is the piece's skeleton.
+    /// The lines of the tree in preorder, with the value of each floor in minor cycles. The prefix, the lines' bytes after it,
+    /// and the names of the dominated leaves determine the tree: together they are the piece's skeleton.
     pub fn vertices(&self) -> &[Vertex]
         ensures value { seen result.now ≡ self.now.vertices }
         ensures preorder { flat (stated_tree self.now) ≡ self.now.vertices }
@@ -90,7 +90,7 @@ impl Piece {
         self.vertices.as_slice()
     }
 
-    /// A least one of the tree's whole orders, timed, where it has some.
+    /// A least one of the tree's whole orders, timed, if it has some.
     pub fn timed(&self) -> Option<&Timed>
         ensures value { option_copied result ≡ self.now.timed }
         ensures best { IsBestTimed self.now.problem self.now.prefix (tree_of self.now) self.now.timed }

@@ -19,7 +19,7 @@ pub enum Priority {
     Issue,
 }
 
-/// A number that is ready, and what tells whether it comes next: when it would come, and its longest tail, in minor cycles.
+/// A number that is ready, and what decides whether it comes next: when it would come, and its longest tail, in minor cycles.
 #[derive(Clone, Copy, Debug)]
 struct Candidate {
     number: u8,
@@ -54,7 +54,7 @@ impl Candidate {
     }
 }
 
-/// When a ready number would issue: its push tells it, and is undone.
+/// When a ready number would issue: it is pushed to find out, and the push is undone.
 fn issue_of(walk: &mut Walk<'_>, n: u8) -> u32
     requires { is_ready walk.old.problem.block walk.old.numbers n ≡ true }
     ensures issue { result ≡ issue_after walk.old.problem walk.old.numbers n }
@@ -122,9 +122,9 @@ impl Walk<'_> {
     }
 }
 
-/// Schedules what remains after the walk's prefix: the walk goes on with the ready number that comes first; of equal ones with that
-/// of the longest tail, and of these with the lowest. It ends at the whole order, which is a good one of those that begin with the
-/// prefix.
+/// Schedules what remains after the walk's prefix. The walk goes on with the ready number that comes first; of equal ones with
+/// that of the longest tail, and of these with the lowest. It ends at the whole order, which is a good one of those that begin
+/// with the prefix.
 ///
 /// Each place of the order costs a push and an undo for each number that is ready there, and a push; nothing is allocated.
 pub fn schedule_rest(walk: &mut Walk<'_>, priority: Priority)
@@ -139,8 +139,8 @@ pub fn schedule_rest(walk: &mut Walk<'_>, priority: Priority)
     }
 }
 
-/// A list schedule of what remains after the walk's prefix, as `schedule_rest` makes it, with its times, where its total is below
-/// this one, in minor cycles; None where it isn't. The walk ends at the whole order in either case.
+/// A list schedule of what remains after the walk's prefix, as `schedule_rest` makes it, with its times, if its total is below
+/// this one, in minor cycles; else None. The walk ends at the whole order in either case.
 pub fn schedule_below(walk: &mut Walk<'_>, priority: Priority, best: u32) -> Option<Timed>
     ensures same { walk.new.problem ≡ walk.old.problem }
     ensures complete { IsComplete walk.new.problem.block walk.new.numbers }

@@ -63,7 +63,7 @@ impl Name {
     }
 }
 
-/// A line of a piece's tree, which stands in preorder. A value is that of the prefix's floor, in minor cycles.
+/// A line of a piece's tree; the lines are in preorder. A value is that of the prefix's floor, in minor cycles.
 #[derive(Debug, Drop)]
 pub enum Vertex {
     /// The prefix is split, and goes on with each of these numbers.

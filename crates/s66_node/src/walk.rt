@@ -23,8 +23,8 @@ pub(crate) fn common_length(left: &[u8], right: &[u8]) -> usize
     shorter
 }
 
-/// A walk over the beginnings of a block's legal orders: it stands at a prefix, which grows and shrinks by a number at its end,
-/// and tells the prefix's floor and what is ready after it.
+/// A walk over the beginnings of a block's legal orders. It is at a prefix, which grows and shrinks by a number at its end, and
+/// it has the prefix's floor and what is ready after it.
 #[derive(Debug, Drop)]
 pub struct Walk<'a> {
     pub(crate) clock: Clock<'a>,
@@ -91,7 +91,7 @@ impl<'a> Walk<'a> {
         self.numbers.pop();
     }
 
-    /// Goes back to the longest front that its prefix has in common with another, and tells how long that is.
+    /// Goes back to the longest front that its prefix has in common with another, and returns how long that is.
     fn go_back(&mut self, prefix: &[u8]) -> usize
         ensures within { result ≤ length prefix.now }
         ensures front { self.new ≡ record self.old { numbers = take result prefix.now } }
@@ -116,8 +116,8 @@ impl<'a> Walk<'a> {
         }
     }
 
-    /// Goes to another prefix as `go_to` does, if it is a beginning, and tells whether it is; else it stops on the way. Each push
-    /// comes after a look at whether its number is ready.
+    /// Goes to another prefix as `go_to` does, if it is a beginning, and returns whether it is; else it stops on the way. Each
+    /// push comes after a look at whether its number is ready.
     pub fn try_go_to(&mut self, prefix: &[u8]) -> bool
         ensures same { self.new.problem ≡ self.old.problem }
         ensures begins { IsTrue result ↔ IsBeginning self.old.problem.block prefix.now }
@@ -150,7 +150,7 @@ impl<'a> Walk<'a> {
         self.numbers.len() == self.clock.block().count()
     }
 
-    /// The value of the prefix's floor, in minor cycles; the total where the prefix is a whole order. The time is that of a few
+    /// The value of the prefix's floor, in minor cycles; the total if the prefix is a whole order. The time is that of a few
     /// looks at each instruction that remains.
     pub fn floor_value(&self) -> u32
         ensures { result ≡ floor_value self.now.problem self.now.numbers }
@@ -250,7 +250,7 @@ impl<'a> Walk<'a> {
         self.clock.block().instr(n as usize).reads()
     }
 
-    /// When the last result in a register is done; 0 where none is written.
+    /// When the last result in a register is done; 0 if none is written.
     pub(crate) fn done_of(&self, register: Reg) -> u32
         ensures { result ≡ done_of (points_of self.now.problem self.now.numbers) register }
     {

@@ -45,7 +45,7 @@ seat-same old hub now p q is here same = (λ i. record { hub = here i; book = sa
 
 -- A CALL BY THE WORKER OF THE SEAT RECORD
 
--- what a call keeps: the others' seat records, and so many splits in its own
+-- what a call keeps: the others' seat records, and this many splits in its own
 abbrev pub Keeps : LedgerOf → LedgerOf → SeatRecord → ℕ → Type 0
 Keeps l new p count = Follows p.who (account_summary l) (account_summary new) × ((renewed (account_summary new) p p.least).account.splits ≡ count)
 
@@ -62,7 +62,7 @@ module _ (l old new : LedgerOf) (e : old ≡ l) (p : SeatRecord) (number : ℕ) 
       let book = same-book l new p same agrees in
       ((same-follows l new p same, ap (λ (q : SeatRecord). q.account.splits) book), book)
 
-  -- an event that tells no time
+  -- an event that gives no time
   pub quiet-call : (event : ℕ → Event) (reply : Reply) → worker (event p.who) ≡ p.who → least_after p.least (event p.who) reply ≡ p.least → IsEvent old (event number) reply new
       → Keeps l new p (p.account.splits + spends (event p.who) reply) × (renewed (account_summary new) p p.least ≡ after_event p (event p.who) reply)
   quiet-call event reply own quiet h =
@@ -70,7 +70,7 @@ module _ (l old new : LedgerOf) (e : old ≡ l) (p : SeatRecord) (number : ℕ) 
       let book = quiet-book l new p (event p.who) reply now own agrees quiet in
       ((event-follows l new p (event p.who) reply now own, ap (λ (q : SeatRecord). q.account.splits) book), book)
 
-  -- an event that tells no time, after which the best time was read
+  -- an event that gives no time, after which the best time was read
   pub reading-call : (event : ℕ → Event) (reply : Reply) → worker (event p.who) ≡ p.who → least_after p.least (event p.who) reply ≡ p.least → spends (event p.who) reply ≡ 0 → IsEvent old (event number) reply new
       → Follows p.who (account_summary l) (account_summary new) × ((opened (account_summary new) p.who).account.splits ≡ p.account.splits)
       × (opened (account_summary new) p.who ≡ after_reading (after_event p (event p.who) reply) (account_summary new).best) × ((account_summary new).best ≤ p.least)

@@ -44,7 +44,7 @@ splits-in : (seats : List SeatOf) → weigh (λ t. t.book.account.splits) seats 
 splits-in [] = refl
 splits-in (t ∷ seats) = ap (λ (n : ℕ). t.book.account.splits + n) (splits-in seats)
 
--- where no worker has two seat records, and each has one, the splits of the seats are those of the accounts
+-- if no worker has two seat records, and each has one, the splits of the seats are those of the accounts
 pub seats-splits : (s : Summary) (seats : List SeatOf) → All (Agrees s) (books_in seats) → HaveEvery (length s.accounts) (books_in seats) → ((w : ℕ) → books_of w (books_in seats) ≤ 1)
     → weigh (λ t. t.book.account.splits) seats ≡ weigh (λ a. a.splits) s.accounts
 seats-splits s seats agree every once =

@@ -1,4 +1,4 @@
--- Where the seats of all workers come back, each worker has one among them.
+-- If the seats of all workers come back, each worker has one among them.
 use Rattle.std.proofs.Common.{ℕ, zero, suc, ◌+◌, ◌≤◌, ◌<◌, ◌≡◌, ◌==◌, ◌∙◌, true, List, [], ◌∷◌, map, length, refl, sym, ap, subst, arith, inl, inr}
 use Rattle.std.proofs.lemmas.Bool.{cases_eq, eq-eqb, or_left, or_right}
 use Rattle.std.proofs.lemmas.List.{length-map}

@@ -14,7 +14,7 @@ pub settled : {T E F : Type 0} (r : Result T E) (P : T → Type 0) (Q : E → Ty
 settled (Ok x) P Q f g ok err = f x ok
 settled (Err e) P Q f g ok err = g e err
 
--- a ledger, where it was found, has the worker
+-- a ledger has the worker as it was found
 pub number_within : (l found : LedgerOf) → found ≡ l → (p : SeatRecord) (number : ℕ) → Agrees (account_summary l) p → p.who ≡ number → (1 ≤ number) × (number ≤ found.workers)
 number_within l found at p number is who =
     let count = accounts-count l.rule l.problem l.budget l.workers (events_of l) l.state in
@@ -30,7 +30,7 @@ follows-on w s t u f g = record {
   others = λ p ne is. g.others p ne (f.others p ne is);
 }
 
--- a call leaves a worker's seat record behind that agrees, where it is opened anew
+-- a call leaves a worker's seat record that agrees, if it is opened anew
 pub renewed-agrees : (s t : Summary) (p : SeatRecord) → Agrees s p → Follows p.who s t → Agrees t (renewed t p p.least)
 renewed-agrees s t p is follows = record {
   worker = (is.worker.0, omega (arith, is.worker.1, follows.search.workers));
@@ -82,7 +82,7 @@ module _ (old new : LedgerOf) (p : SeatRecord) where
       event-agrees is = subst (λ (s : Summary). Agrees s (after_event p event reply)) (sym summary-after)
           (agrees-own old.rule old.problem old.budget old.workers (events_of old) old.state event reply new.state p h.3 is own)
 
-      -- which tells no time
+      -- which gives no time
       pub quiet-book : Agrees (account_summary old) p → least_after p.least event reply ≡ p.least → renewed (account_summary new) p p.least ≡ after_event p event reply
       quiet-book is quiet =
           ap (λ (n : ℕ). renewed (account_summary new) p n) (sym quiet) ∙ renewed-is (account_summary new) (after_event p event reply) (event-agrees is)

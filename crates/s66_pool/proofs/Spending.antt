@@ -26,7 +26,7 @@ next-spent b w entries i d n lt spent =
     let rest : spent_in b w (drop (i + 1) entries) ≡ spent_in b w (drop (suc i) entries) = (let e : i + 1 ≡ suc i = omega arith in ap (λ (k : ℕ). spent_in b w (drop k entries)) e) in
     omega (arith, cut, rest, spent)
 
--- what an entry spends isn't told by its bytes
+-- what an entry spends doesn't depend on its bytes
 bytes-aside : (b : Problem) (w : ℕ) (e : Entry) (bytes lines : List ℕ) (names : List (List ℕ)) → cond (eqb (worker (entry_of b e bytes lines names).0) w) (spends (entry_of b e bytes lines names).0 (entry_of b e bytes lines names).1) 0 ≡ cond (eqb (worker (entry_of b e [] [] []).0) w) (spends (entry_of b e [] [] []).0 (entry_of b e [] [] []).1) 0
 bytes-aside b w (entry.Grant _ _) _ _ _ = refl
 bytes-aside b w (entry.Claim _ _) _ _ _ = refl

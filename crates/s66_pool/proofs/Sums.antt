@@ -83,7 +83,7 @@ by-account (a ∷ accounts) low =
     ap (λ (k : ℕ). (get_or (a ∷ accounts) k no_account).splits) next) in
     omega (arith, here, past, by-account accounts (suc low))
 
--- where each worker has one seat record, their splits add up as those of the accounts do
+-- if each worker has one seat record, their splits add up as those of the accounts do
 pub splits-of-all : (s : Summary) (ps : List SeatRecord) → All (Agrees s) ps → ((w : ℕ) → 1 ≤ w → w ≤ length s.accounts → books_of w ps ≡ 1)
     → weigh (λ p. p.account.splits) ps ≡ weigh (λ a. a.splits) s.accounts
 splits-of-all s ps agree one =

@@ -43,7 +43,7 @@ pub events-workers : (l m : LedgerOf) (es : List (Event × Reply)) → AreEvents
 events-workers l m [] e = ap (λ (k : LedgerOf). k.workers) e
 events-workers l m (x ∷ es) (between, first, more) = events-workers between m es more ∙ first.2
 
--- EVENTS OF ONE WORKER, which tell no time and spend nothing
+-- EVENTS OF ONE WORKER, which give no time and spend nothing
 
 abbrev IsQuiet : ℕ → Event × Reply → Type 0
 IsQuiet w entry = (worker entry.0 ≡ w) × ((least : ℕ) → least_after least entry.0 entry.1 ≡ least) × (spends entry.0 entry.1 ≡ 0)

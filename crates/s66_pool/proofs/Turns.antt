@@ -121,7 +121,7 @@ module _ {X : Type 0} (summary : X → Summary) (key : X) where
       ))
       h.1
 
-  -- the seat gives the value back, where its own seat records agree with it, and so do those of each other seat
+  -- the seat gives the value back, if its own seat records agree with it, and so do those of each other seat
   gives_it : (slots id : ℕ) (y : Summary) (bs cs : List SeatRecord) (x : X) → slots ≡ 1 → IsSameSearch y (summary x)
       → ((n : ℕ) → books_of n cs ≡ books_of n bs) → All (Agrees (summary x)) cs
       → ((us : List SeatRecord) → ((n : ℕ) → books_of n bs + books_of n us ≤ 1) → All (Agrees y) us → All (Agrees (summary x)) us)

@@ -24,7 +24,7 @@ pub record SeatOf : Type 0 where
   pub hub : TableId
   pub book : SeatRecord
 
--- each of so many workers has a seat among these
+-- each of n workers has a seat among these
 abbrev pub HaveSeats : ℕ → List SeatOf → Type 0
 HaveSeats workers seats = (w : ℕ) → 1 ≤ w → w ≤ workers → some_of (λ s. s.book.who == w) seats ≡ true
 

@@ -24,6 +24,6 @@ module _ {X : Type 0} where
   abbrev pub IsHolding : Seat (Option X) View → Type 0
   IsHolding t = t.me ≡ (holding (found t) (book t ∷ []), (0, None) ∷ [])
 
--- each of so many workers has a seat record among these
+-- each of n workers has a seat record among these
 abbrev pub HaveEvery : ℕ → List SeatRecord → Type 0
 HaveEvery workers books = (w : ℕ) → 1 ≤ w → w ≤ workers → 1 ≤ books_of w books

@@ -1,4 +1,5 @@
--- Used by contracts within the crate alone: the rule of the lock, and what each of its steps tells. The lock's word is 0 while the value is in its slot, and else 1.
+-- Used by contracts within the crate alone: the rule of the lock, and what is learnt from each of its steps. The lock's word is 0
+-- while the value is in its slot, and else 1.
 use Rattle.std.specs.Prelude.{ℕ, ⊤, ◌≡◌, ◌≢◌, ◌<◌, ◌≤◌, ◌⊎◌, List, [], ◌∷◌, length, map, All, Option, Some, None}
 use mathlib.Core.Option.{some}
 use mathlib.Core.Option as maybe

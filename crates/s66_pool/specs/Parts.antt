@@ -1,4 +1,5 @@
--- Used by contracts within the crate alone: the rule of the parts of a search's marks, and what each of its steps tells. A part's word is 0 while it is at home, and else 1.
+-- Used by contracts within the crate alone: the rule of the parts of a search's marks, and what is learnt from each of its steps.
+-- A part's word is 0 while it is at home, and else 1.
 use Rattle.std.specs.Prelude.{ℕ, ◌≡◌, ◌≢◌, ◌<◌, ◌∷◌, length, slice_index, []}
 use mathlib.Core.Option.{some}
 use lib.ListN.{get_elem?}

@@ -1,4 +1,4 @@
-//! The calls of a hub: each waits for the lock, makes a call of the ledger or some, and gives it back.
+//! The calls of a hub: each waits for the lock, makes one call of the ledger or more, and gives the lock back.
 
 use crate::hub::Hub;
 use crate::seat::Seat;
@@ -45,7 +45,7 @@ impl<'a> Hub<'a> {
         retired
     }
 
-    /// Hands out the best open node, as `Ledger::claim` does; None only where no node is open.
+    /// Hands out the best open node, as `Ledger::claim` does; None only if no node is open.
     pub fn claim<R: Wait>(&self, rt: &R, seat: &mut Seat<'a>) -> Result<Option<Ticket>, AllocError>
         requires { seat.old.hub ≡ self.now.id }
         ensures here { seat.new.hub ≡ seat.old.hub }
@@ -80,9 +80,9 @@ impl<'a> Hub<'a> {
         got
     }
 
-    /// Puts a piece in the place of the node of this number, as `Ledger::graft_at` does, and if it is taken, gives the worker what it
-    /// needs in the same turn at the lock, as `supply` does. The piece's nodes are made before the lock is taken; the piece stays with
-    /// the caller. On `Err` nothing more is done.
+    /// Puts a piece in the place of the node of this number, as `Ledger::graft_at` does. If it is taken, gives the worker what it
+    /// needs in the same turn at the lock, as `supply` does. The piece's nodes are made before the lock is taken; the piece stays
+    /// with the caller. On `Err` nothing more is done.
     pub fn graft_and_supply<R: Wait>(
         &self,
         rt: &R,
@@ -164,7 +164,7 @@ impl<'a> Hub<'a> {
         returned
     }
 
-    /// Makes an order the best if it is faster. The seat then knows the best time, but where the order is of another block or
+    /// Makes an order the best if it is faster. The seat then knows the best time, unless the order is of another block or
     /// profile.
     pub fn offer<R: Wait>(
         &self,

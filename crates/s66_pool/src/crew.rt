@@ -22,8 +22,8 @@ use std::sync::atomic::AtomicUsize;
 use std::thread;
 use std::thread::Threads;
 
-/// Starts a worker for each seat, each in a thread of its own if one can be made, and else one after the other; waits for all of them,
-/// and gives the seats back, each in its place. A worker that runs out of memory ends.
+/// Starts a worker for each seat, each in a thread of its own if one can be made, and else one after the other. Waits for all of
+/// them, and gives the seats back, each in its place. A worker that runs out of memory ends.
 ///
 /// The workers share a hint of the best time and the marks of what they have grafted, and each has a lane of nodes from which the
 /// others may steal. `Err` is out of memory for these, and comes before a worker has started. Of the options only the rule is read.

@@ -46,9 +46,9 @@ impl<'s, 'b, R: Wait> Expander<'s, 'b, R> {
         }
     }
 
-    /// Expands a prefix by the rule of dominated leaves, within an allowance of splits, while the best time may fall. None if it is no
-    /// beginning of the block's orders, or if out of memory; it may be asked again. A piece in which any node of the ledger may be
-    /// named has at most `DOMINATED_PIECE_LIMIT` splits, so that the nodes that it makes are soon known.
+    /// Expands a prefix by the rule of dominated leaves, within an allowance of splits, while the best time may fall. None if it
+    /// is no beginning of the block's orders, or if out of memory; it may be called again then. A piece in which any node of the
+    /// ledger may be named has at most `DOMINATED_PIECE_LIMIT` splits, so that the nodes that it makes are soon known.
     pub fn expand<L: Least>(
         &mut self,
         alloc: Global,

@@ -1,4 +1,4 @@
-/// Where workers tell of their moves, and may be made to wait; workers count from 1.
+/// What workers report their moves to, and what may make them wait; workers count from 1.
 pub trait Gate {
     /// The worker is about to graft a piece.
     fn before_graft(&self, w: u8);
@@ -7,7 +7,7 @@ pub trait Gate {
     fn after_claim(&self, w: u8, got: bool);
 }
 
-/// The gate that stands open.
+/// The gate that is always open.
 #[derive(Clone, Copy, Debug, PartialEq, Eq)]
 pub struct Free;
 

@@ -34,7 +34,7 @@ impl<'a> Model for Hub<'a> {
     ghost invariant = { λ h. (1 ≤ h.workers) × (length (account_summary h.lock.table.shared.key.value).accounts ≡ h.workers) };
 }
 
-/// Some worker's seat isn't there.
+/// Some worker's seat is missing.
 #[derive(Clone, Copy, Debug, Drop, Error, PartialEq, Eq)]
 #[error("a worker's seat is missing")]
 pub struct SeatsMissing;
@@ -48,7 +48,7 @@ impl<'a> Hub<'a> {
 
     /// The ledger under a lock, and a seat for each worker, in order of their numbers.
     ///
-    /// In time linear in the history times the number of workers. Without memory the ledger is dropped.
+    /// In time linear in the history times the number of workers. If out of memory, the ledger is dropped.
     pub fn new(alloc: Global, ledger: Ledger<'a>) -> Result<(Hub<'a>, Vec<Seat<'a>>), AllocError>
         requires { 1 ≤ ledger.workers }
         ensures summary { IfOk result (λ r. r.0.summary ≡ account_summary ledger.entry) }

@@ -7,8 +7,8 @@ pub const CLAIMS_LIMIT: usize = 8;
 /// After how many searches in a row that find no node a worker ends.
 pub const NONES_LIMIT: u32 = 1_000;
 
-/// How often a worker that got no node looks whether another has one, before it claims again.
+/// How often a worker that got no node checks whether another has one, before it claims again.
 pub const LOOKS: u32 = 16;
 
-/// How often a worker looks whether the lock is free before it lets other threads run. Most turns at the lock are over in less.
+/// How often a worker checks whether the lock is free before it lets other threads run. Most turns at the lock are over in less.
 pub const SPINS: u32 = 100;

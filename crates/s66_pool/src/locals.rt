@@ -94,7 +94,7 @@ fn victims_for<'t>(
     Ok(victims)
 }
 
-/// What each worker needs beside its seat. The lanes come to their workers in order.
+/// What each worker needs beside its seat. The lanes are given to their workers in order.
 pub(crate) fn locals_for<'t>(
     alloc: Global,
     hint: &'t Hint,

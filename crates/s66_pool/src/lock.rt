@@ -8,7 +8,7 @@ use std::hint::spin_loop;
 use std::sync::Wait;
 use std::thread::yield_now;
 
-/// A value that can stand under a lock, whose rule reads its summary alone.
+/// A value that can be under a lock, whose rule reads its summary alone.
 pub(crate) trait Summed {
     ghost use Rattle.s66_model.specs.Accounts.{Summary};
 
@@ -172,7 +172,7 @@ impl<S: Summed + Drop> Lock<S> {
         self.table.shared.store::<Reads>(token, 0, 0);
     }
 
-    /// The value under a lock, and a token with the seat records of all workers. Without memory the value is dropped.
+    /// The value under a lock, and a token with the seat records of all workers. If out of memory, the value is dropped.
     pub(crate) fn found(alloc: Global, value: S) -> Result<(Lock<S>, Token<S>), AllocError>
         requires { 0 < length (S.summary value).accounts }
         ensures key { IfOk result (λ r. r.0.table.shared.key ≡ value) }

@@ -16,7 +16,7 @@ use std::alloc::AllocError;
 use std::sync::Wait;
 use std::thread::Threads;
 
-/// Offers a list schedule from the walk's prefix on, where its time is below the best, as worker 1.
+/// Offers a list schedule from the walk's prefix on, if its time is below the best, as worker 1.
 fn offer_schedule(
     ledger: &mut Ledger<'_>,
     walk: &mut Walk<'_>,
@@ -66,8 +66,8 @@ fn search_by_workers<'a, R: AllocGlobal + Threads + Wait + Sync, G: Gate + Sync>
     Ok(ledger)
 }
 
-/// Searches the orders of a block by several workers, each in a thread of its own where one can be made, and else one after the
-/// other. However their steps fall, what comes is an answer for that many splits. Where a list schedule takes no more than the
+/// Searches the orders of a block by several workers, each in a thread of its own if one can be made, and else one after the
+/// other. However their steps fall, it returns an answer for `options.nodes` splits. If a list schedule takes no more than the
 /// bound, nothing is left to search, and no worker starts.
 ///
 /// `Err` is out of memory in the caller's own part.

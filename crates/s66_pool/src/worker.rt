@@ -161,7 +161,7 @@ impl<'s, 'b, R: AllocGlobal + Wait> Worker<'s, 'b, R> {
         self.take_up(site, member, supply, claimed)
     }
 
-    /// Takes up what it has claimed: tells the gate of each claim, and puts all nodes but the first into its lane.
+    /// Takes up what it has claimed: reports each claim to the gate, and puts all nodes but the first into its lane.
     fn take_up<'a, G: Gate>(
         &mut self,
         site: &Site<'_, 'a, '_, R, G>,
@@ -386,7 +386,7 @@ fn room_for(alloc: Global, needs: Needs) -> Result<Vec<Ticket>, AllocError>
     Vec::with_capacity(alloc, room)
 }
 
-/// Tells the gate of each claim of a turn: of those that got a node, and of the last if it got none.
+/// Reports each claim of a turn to the gate: those that got a node, and the last if it got none.
 fn tell_gate<'a, R, G: Gate>(site: &Site<'_, 'a, '_, R, G>, w: u8, nodes: usize, supply: Supply) {
     for _ in 0..nodes {
         site.gate.after_claim(w, true);
@@ -396,8 +396,8 @@ fn tell_gate<'a, R, G: Gate>(site: &Site<'_, 'a, '_, R, G>, w: u8, nodes: usize,
     }
 }
 
-/// Looks `LOOKS` times whether any worker is searching, and lets other threads run between. If none is, each found no node after it
-/// last grafted or gave one back, so none is open or in a lane, and none will be.
+/// Checks `LOOKS` times whether any worker is searching, and lets other threads run in between. If none is, each found no node
+/// after it last grafted or gave one back, so none is open or in a lane, and none will be.
 fn is_searched(searching: &AtomicUsize) -> bool {
     for _ in 0..LOOKS {
         if searching.load(Ordering::SeqCst) == 0 {

@@ -48,8 +48,8 @@ impl Lane {
         }
     }
 
-    /// A pass for each of n thieves. They are made once, before any ticket is put. Out of memory, the lane is as it was, and they may be
-    /// asked for again.
+    /// A pass for each of n thieves. They are made once, before any ticket is put. If out of memory, the lane is as it was, and
+    /// this may be called again.
     ///
     /// In time linear in n.
     pub fn passes(&mut self, n: usize) -> Result<Vec<Pass>, AllocError>

@@ -1,4 +1,4 @@
-//! The rule of a lane, and what its calls tell.
+//! The rule of a lane, and what is learnt from its calls.
 
 use crossbeam_deque::protocol::{Join, Lesson, Outcome, Protocol, Split};
 use s66_ledger::Ticket;
@@ -57,7 +57,7 @@ impl Split<Hand> for Deals {
     ghost right = { λ _. new_hand };
 }
 
-/// What a pass has comes to the owner.
+/// What a pass has goes to the owner.
 pub(crate) struct Collects;
 
 impl Join<Hand> for Collects {

@@ -3,7 +3,7 @@ use Rattle.s66_model.specs.Later.{later}
 use Rattle.s66_ledger.specs.AnswerLines.{StandsAt}
 use Rattle.s66_ledger.proofs.lines.go_on.Given as goal
 
--- behind this prefix comes what comes behind the first
+-- after this prefix comes what comes after the first
 abbrev pub invariant-loop-node : goal.invariant-loop-node
 invariant-loop-node l = record {
   problem : l.walk.problem ≡ l.fn.walk.problem;

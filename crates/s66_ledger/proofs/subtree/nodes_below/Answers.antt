@@ -14,7 +14,7 @@ use Rattle.s66_ledger.proofs.Reading.{line-at, line-stated, lines-below, length-
 use Rattle.s66_ledger.proofs.Subtrees.{AreGrowing, growing-start, growing-up, growing-next, growing-room, growing-deeper, growing-terminal, growing-split, growing-done, AreLined, lined-start, lined-more}
 use Rattle.s66_ledger.proofs.subtree.nodes_below.Goals as goal
 
--- the line at a place, where the place is known by another number
+-- the line at a place, if the place is known by another number
 line-here : (vertices : List code.Vertex) (i j : ℕ) (k : code.Vertex) → i ≡ j → i < length vertices → k ≡ get_or vertices j k → drop i (open_lines vertices) ≡ open_vertex k ∷ drop (i + 1) (open_lines vertices)
 line-here vertices i j k same lt is = line-at vertices i k k lt (is ∙ ap (λ m. get_or vertices m k) (sym same))
 

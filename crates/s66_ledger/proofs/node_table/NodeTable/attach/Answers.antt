@@ -29,7 +29,7 @@ use Rattle.s66_ledger.proofs.Reading.{settled-stated}
 use Rattle.s66_ledger.proofs.Subtrees.{terminal-lineless}
 use Rattle.s66_ledger.proofs.node_table.NodeTable.attach.Goals as goal
 
--- in these nodes the piece stands in the place of one that was out
+-- in these nodes the piece is in the place of one that was out
 abbrev Stands : PieceOf → ℕ → ℕ → List Node → List Node → Type 0
 Stands p best i old new = nodes_of p.problem new ≡ model.with_state (nodes_of p.problem old) i (root_state p.problem best p.prefix (tree_of p)) ++ new_nodes p.problem best p.prefix (tree_of p)
 
