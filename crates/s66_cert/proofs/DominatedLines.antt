@@ -16,7 +16,7 @@ allowed-more rule (AtTerminal (Bounding leaf) ∷ vertices) vertex h is has = al
 allowed-more rule (AtTerminal (Dominated name) ∷ vertices) vertex h is has = h refl
 allowed-more rule (AtSplit numbers ∷ vertices) vertex h is has = allowed-more rule vertices vertex h is has
 
--- each of these lines is allowed where all are
+-- each of these lines is allowed if all are
 pub first-allowed : (rule : Rule) (ending : Ending) (vertices : List (Vertex Ending)) → (has_dominated_line (AtTerminal ending ∷ vertices) ≡ true → names_nodes rule ≡ true) → is_allowed rule (AtTerminal ending) ≡ true
 first-allowed rule (Bounding leaf) vertices h = refl
 first-allowed rule (Dominated name) vertices h = h refl
@@ -40,7 +40,7 @@ rest-dominated (AtTerminal (Bounding leaf) ∷ vertices) more h = rest-dominated
 rest-dominated (AtTerminal (Dominated name) ∷ vertices) more h = refl
 rest-dominated (AtSplit numbers ∷ vertices) more h = rest-dominated vertices more h
 
--- nodes are named exactly where a leaf is dominated: none is wanting
+-- nodes are named exactly when a leaf is dominated: none is missing
 pub not-wanting : (names has : Bool) → names ≡ has → (names && not has) ≡ false
 not-wanting true has e = rw (← e) refl
 not-wanting false has e = refl

@@ -1,4 +1,4 @@
--- The fault that reading tells is the first fault of the text.
+-- The fault that reading returns is the first fault of the text.
 use Rattle.std.proofs.Common.{◌≡◌, ◌≤◌, ◌<◌, ◌+◌, ◌-◌, ◌&&◌, ℕ, suc, Bool, true, false, List, [], ◌∷◌, ◌++◌, length, Option, None, Some, refl, sym, ap, ◌∙◌, arith, cond, leb, eqb, append_assoc, subst}
 use Rattle.std.proofs.lemmas.Bool.{cond-false, leb-false, leb-true, lt-leb}
 use Rattle.std.specs.Prelude.{Result, Ok, Err}

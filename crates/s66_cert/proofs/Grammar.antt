@@ -50,7 +50,7 @@ module _ (limit most : ℕ) (narrow : limit < 2 ^ 64) where
 
   -- INSTRUCTIONS
 
-  -- with so many instructions to come
+  -- with this many instructions to come
   abbrev in_block : ℕ → List Document → Parts → ℕ → State
   in_block count documents part left = at count documents (place_of_instruction left) part left 0
 
@@ -78,7 +78,7 @@ module _ (limit most : ℕ) (narrow : limit < 2 ^ 64) where
 
   -- THE TREE
 
-  -- with so many trees to come
+  -- with this many trees to come
   abbrev in_tree : ℕ → List Document → Parts → List (Vertex Ending) → ℕ → ℕ → State
   in_tree count documents part vertices left splits = at count documents (place_of_tree left) (record part { vertices = vertices }) left splits
 
@@ -187,7 +187,7 @@ module _ (limit most : ℕ) (narrow : limit < 2 ^ 64) where
       some-place [] some = absurd (omega arith)
       some-place (text ∷ texts) some = place-instruction (length texts)
 
-  -- all but the last line, of a document with whatever rule that names nodes where a leaf is dominated
+  -- all but the last line of a document, by any rule that names nodes if a leaf is dominated
   pub open-run : (count : ℕ) (documents : List Document) (d : Document) (other : Rule) (lines : List (List ℕ)) → IsDocumentWithin limit most (record d { rule = other }) →
       (has_dominated d.tree ≡ true → names_nodes d.rule ≡ true) →
       (to : ℕ) × (steps limit most (between count documents) (map bytes_of (open_lines d) ++ lines) ≡ steps limit most (in_tree to documents (heading d) (flat d.tree) 0 (splits d.tree)) lines)

@@ -1,4 +1,4 @@
--- No newline stands in a line of a document.
+-- No line of a document has a newline.
 use Rattle.std.proofs.Common.{◌<◌, ◌^◌, ℕ, List, [], ◌∷◌, ◌++◌, map, refl, arith}
 use Rattle.std.specs.Prelude.{decimal}
 use Rattle.s66_isa.specs.Lists.{after_blanks}

@@ -17,7 +17,7 @@ marked-more (mark.Load kind) numbers more h = refl
 marked-more mark.Parcels numbers more h = refl
 marked-more (mark.Dominated count) numbers more h = rw (take-append-le count numbers more h) refl
 
--- a leaf is dominated where a mark is
+-- a leaf is dominated if a mark is
 pub dominated_marks : (ms : List Mark) (numbers : List ℕ) → has_dominated_line (vertices_of ms numbers) ≡ some_of is_dominated ms
 dominated_marks [] numbers = refl
 dominated_marks (mark.Split count ∷ ms) numbers = dominated_marks ms (drop count numbers)
@@ -90,7 +90,7 @@ within-at [] place d lt = absurd (omega arith)
 within-at (m ∷ ms) zero d lt = omega arith
 within-at (m ∷ ms) (suc place) d lt = omega (arith, within-at ms place d (omega arith))
 
--- the line at a place, and those behind it
+-- the line at a place, and those after it
 drop-at : (ms : List Mark) (numbers : List ℕ) (place : ℕ) (d : Mark) → place < length ms →
     drop place (vertices_of ms numbers) ≡ marked (get_or ms place d) (drop (weigh number_count (take place ms)) numbers) ∷ drop (suc place) (vertices_of ms numbers)
 drop-at [] numbers place d lt = absurd (omega arith)

@@ -21,7 +21,7 @@ later-next n ns (Unsplit ending siblings) = refl
 later-next n ns (Split numbers sub siblings) = refl
 
 module _ (first : ℕ) (ends : List ℕ) (vertices : List (Vertex Ending)) (are : AreEnds first ends vertices) where
-  -- a jump from a line, and from behind the last
+  -- a jump from a line, and from after the last
   jump-from : (place : ℕ) → first ≤ place → place < length vertices → IsEnd vertices place (get_or ends place place)
   jump-from place le lt = subst (IsEnd vertices place) (get_or_default ends place 0 place (omega (arith, lt, are.count))) (are.each place le lt)
 
@@ -58,7 +58,7 @@ end-read ends vertices place end are lt read =
 
 -- FROM THE LAST LINE TO THE FIRST
 
--- the end of a line's tree, by the ends of those behind it
+-- the end of a line's tree, by the ends of those after it
 pub end-here : (place : ℕ) (ends : List ℕ) (vertices : List (Vertex Ending)) (vertex : Vertex Ending) → AreEnds (place + 1) ends vertices → place < length vertices → drop place vertices ≡ vertex ∷ drop (place + 1) vertices →
     IsEnd vertices place (end_behind ends (sibling_count vertex) (place + 1))
 end-here place ends vertices (AtTerminal ending) are lt next = record {
@@ -89,7 +89,7 @@ ends-none ends vertices past count le = record { count = count; each = λ place 
 
 -- FROM A LINE TO ITS CHILDREN
 
--- past the children of other numbers: the rest of the numbers, and where the next child stands
+-- past the children of other numbers: the rest of the numbers, and where the next child is
 abbrev pub IsOnTheWay : List (Vertex Ending) → ℕ → ℕ → List ℕ → ℕ → Type 0
 IsOnTheWay vertices place number numbers sibling =
     (path : List ℕ) → sibling_at numbers (first_siblings numbers (trees_from vertices sibling)) (number ∷ path) ≡ node_at [] (tree_at vertices place) (number ∷ path)

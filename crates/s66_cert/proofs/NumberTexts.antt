@@ -58,7 +58,7 @@ number-again low high n fits above below =
 
 -- AND NOTHING ELSE
 
--- in front of a second digit no zero stands
+-- no zero comes before a second digit
 first-plain : (w : List ℕ) → has_no_leading_zero w ≡ true → get_or w 0 0 ≡ 48 → length w ≡ 1
 first-plain [] plain e = absurd (cc)
 first-plain (d ∷ []) plain e = refl
@@ -80,7 +80,7 @@ number-is low high n w fits h =
     let same : decimal (value_after 0 w) ≡ w = decimal-digits_value own w number.1 (some-plain w number.0) (λ same. first-plain w number.0 same) (omega arith) in
     (sym same ∙ ap decimal is, omega arith, omega arith)
 
--- no blank and no newline stands in a number
+-- no number has a blank or a newline
 
 -- another byte than this
 abbrev pub is_other : ℕ → ℕ → Bool

@@ -51,11 +51,11 @@ begun-within old new text more (k, begun) =
     let within : take k text ≡ take (min k (length text)) (text ++ more) = sym (take_min k text) ∙ sym (take-append-le (min k (length text)) text more (omega arith)) in
     (min k (length text), subst (Appends old new) within begun)
 
--- what stood on the page was begun, so that and more text was
+-- what was on the page was begun, so that and more text was
 pub begun-before : (old new : Option (List ℕ)) (before text : List ℕ) → IsBegun old new (before ++ []) → IsBegun old new (before ++ text)
 begun-before old new before text begun = begun-within old new before text (subst (IsBegun old new) (append-nil before) begun)
 
--- a text was put on the page, and all that stood there was written
+-- a text was put on the page, and all that was there was written
 pub written-whole : {A E : Type 0} (result : Result A E) (old mid new : Writer) (before between page after text : List ℕ) → IsPrinted old.bytes mid.bytes before between [] → mid.failures ≡ old.failures →
     page ≡ between ++ text → Printed mid new page after [] result → OnOk result (after ≡ []) → Written old new (before ++ text) result
 written-whole (Ok x) old mid new before between page after text first same is (printed, none) empty =
@@ -95,7 +95,7 @@ underway-begun old mid new before between text part rest way begun =
 pub underway-all : (old new : Option (List ℕ)) (before after text : List ℕ) → IsUnderway old new before after text [] → IsPrinted old new before after text
 underway-all old new before after text way = subst (IsPrinted old new before after) (sym (append-nil way.done) ∙ sym way.left) way.printed
 
--- from an empty page on, what stands on the page and the rest were written
+-- from an empty page on, what is on the page and the rest were written
 pub underway-end : (old mid new : Option (List ℕ)) (page text rest : List ℕ) → IsUnderway old mid [] page text rest → Appends mid new (page ++ rest) → Appends old new text
 underway-end old mid new page text rest way last =
     let whole : text ≡ way.printed.written ++ (page ++ rest) = way.left ∙ ap (λ t. t ++ rest) way.printed.left ∙ append_assoc way.printed.written page rest in

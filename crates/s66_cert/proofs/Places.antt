@@ -51,13 +51,13 @@ pub other_end : (most : ℕ) (s : State) (place : Place) → (place ≡ AtEnd �
 other_end most s AtEnd other = absurd (other refl)
 other_end most s place other = refl
 
--- a dominated leaf where the rule names no nodes
+-- a dominated leaf if the rule names no nodes
 pub refused_vertex : (most : ℕ) (s : State) (vertex : Vertex Ending) → is_allowed s.part.rule vertex ≡ false → step_at most s AtTree (OfTree vertex) ≡ Err (BadLine (suc s.count))
 refused_vertex most s (AtTerminal (Bounding leaf)) h = absurd (cc)
 refused_vertex most s (AtTerminal (Dominated name)) h = rw h refl
 refused_vertex most s (AtSplit numbers) h = absurd (cc)
 
--- the last line where a dominated leaf is wanting
+-- the last line if a dominated leaf is missing
 pub wanting_end : (most : ℕ) (s : State) → wants_dominated s.part ≡ true → step_at most s AtEnd End ≡ Err (BadLine (suc s.count))
 wanting_end most s h = rw h refl
 

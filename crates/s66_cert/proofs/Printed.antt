@@ -71,7 +71,7 @@ document-parts p whole =
     (codes "\nBOUND ") (decimal p.bound) (codes "\nORDER") (after_blanks p.numbers) (codes "\n") (tree_lines (flat (tree_of p.vertices))) (codes "END\n")
     ∙ ap (λ vertices. opening p ++ (instruction_lines p.block ++ (claim_lines p ++ (tree_lines vertices ++ codes "END\n")))) whole.preorder
 
--- all before the instructions stands on the page
+-- all before the instructions is on the page
 pub opened : (old : Option (List ℕ)) (p : Parts) (page : List ℕ) (block : List (List ℕ)) → AreWhole p → page ≡ opening p → block ≡ p.block →
     IsUnderway old old [] page (document_text (document_of p)) (instruction_lines block ++ after_block p)
 opened old p page block whole is same = rw (is, same) (record { done = opening p; printed = printed-here old [] (opening p) (opening p) refl; left = document-parts p whole })

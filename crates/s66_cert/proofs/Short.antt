@@ -30,7 +30,7 @@ too-long low high word few long =
     let short : length (decimal n) ≤ 6 = length-decimal-le 6 n (omega arith) (omega (arith, is.2)) (omega (arith, is.2)) in
     omega (arith, short, ap length is.0)))
 
--- more numbers behind these
+-- more numbers after these
 abbrev pub after_all : List ℕ → Option (List ℕ) → Option (List ℕ)
 after_all front None = None
 after_all front (Some ns) = Some (front ++ ns)

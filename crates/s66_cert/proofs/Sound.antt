@@ -134,7 +134,7 @@ texts-more : (texts : List (List ℕ)) (text : List ℕ) → AreInstructions tex
 texts-more [] text are is = (is, tt)
 texts-more (other ∷ texts) text are is = (are.0, texts-more texts text are.1 is)
 
--- the heading with one line more behind it
+-- the heading with one line more after it
 heading-more : (o : Parts) (count : ℕ) (more : List Line) (l : Line) → heading_lines o count (more ++ l ∷ []) ≡ heading_lines o count more ++ l ∷ []
 heading-more o count more l = ap (λ x. Header o.rule ∷ Profile o.profile ∷ Block count ∷ x) (sym (append_assoc (instructions_of o.block) more (l ∷ [])))
 
@@ -167,7 +167,7 @@ instruction-sound most count documents part (suc (suc left)) splits text is are 
     (h.0, omega arith, omega (arith, sum, h.2), texts-more part.block text h.3 is)
     (ap (λ n. heading_lines (record part { block = part.block ++ text ∷ [] }) n []) sum ∙ ap (λ x. Header part.rule ∷ Profile part.profile ∷ Block (length part.block + suc (suc left)) ∷ x) (instructions-more part.block text []) ∙ heading-more part (length part.block + suc (suc left)) [] (Instruction text))))
 
--- a line of the tree, after which so many trees are to come
+-- a line of the tree, after which this many trees are to come
 tree-sound : (most count : ℕ) (documents : List Document) (part : Parts) (left to splits after : ℕ) (vertex : Vertex Ending) → AreDocumentsWithin BLOCK_LIMIT most documents → IsPart most AtTree part left splits →
     Leave 1 (part.vertices ++ vertex ∷ []) to → after ≡ split_count (part.vertices ++ vertex ∷ []) → after ≤ most → is_allowed part.rule vertex ≡ true →
     Sounds most (at count documents AtTree part left splits) (at (suc count) documents (place_of_tree to) (with_vertex part vertex) to after) (OfTree vertex)
@@ -241,7 +241,7 @@ open-document most part splits h = by (has_dominated_line part.vertices) refl
     by true e = inl (by-rule most part splits part.rule h (h.7 e ∙ sym e))
     by false e = inr (by-rule most part splits NoneNamed h (sym e))
 
--- the lines of the open document, where only the last is to come
+-- the lines of the open document, if only the last is to come
 pub open-is : (part : Parts) (left splits most : ℕ) → HasTree most part 0 splits → part_lines AtEnd part left ≡ open_lines (document_of part)
 open-is part left splits most h =
     ap (λ (k : List (Vertex Ending)). heading_lines part (length part.block) (Time part.time ∷ Bound part.bound ∷ Order part.numbers ∷ vertices_of k)) (sym (whole-tree part.vertices h.4).0)

@@ -10,7 +10,7 @@ use Rattle.s66_cert.specs.declared.place.Place.TheVariants.{AtInstruction, AtTim
 abbrev pub at : ℕ → List Document → Place → Parts → ℕ → ℕ → State
 at count documents place part left splits = record { count = count; documents = documents; place = place; part = part; left = left; splits = splits }
 
--- where some are still to come
+-- if some are still to come
 
 pub place-instruction : (left : ℕ) → place_of_instruction (suc left) ≡ AtInstruction
 place-instruction left = cond-false (eqb (suc left) 0) AtTime AtInstruction (ne_eqb (suc left) 0 (λ e. omega (arith, e)))

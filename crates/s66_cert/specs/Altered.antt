@@ -8,7 +8,7 @@ use Rattle.s66_cert.specs.Reading.{whole_lines, read_of}
 use Rattle.s66_cert.specs.declared.error.CertError.{CertError}
 use Rattle.s66_cert.specs.declared.error.CertError.TheVariants.{BadLine, Truncated, TooManyNodes, OutOfMemory}
 
--- from this line on, the first being 1, so many lines are replaced
+-- from this line on, the first being 1, this many lines are replaced
 abbrev pub replaced : ℕ → ℕ → List (List ℕ) → List ℕ → List ℕ
 replaced line count lines text =
     with_newlines (take (line - 1) (whole_lines [] text) ++ lines ++ drop (line - 1 + count) (whole_lines [] text))
@@ -21,7 +21,7 @@ with_line line bytes = replaced line 1 (bytes ∷ []) three_multiplies_text
 abbrev pub with_late_line : ℕ → List ℕ → List ℕ
 with_late_line line bytes = replaced line 1 (bytes ∷ []) (late_reader_text (codes "S66 CERTIFICATE 2"))
 
--- the text of three multiplies with another tree: a split of so many numbers, and so many whole orders
+-- the text of three multiplies with another tree: a split of this many numbers, and this many whole orders
 abbrev pub with_split_of : ℕ → ℕ → List ℕ
 with_split_of numbers trees = replaced 10 16 ((codes "S" ++ after_blanks (replicate numbers 1)) ∷ replicate trees (codes "T")) three_multiplies_text
 
@@ -32,6 +32,6 @@ is_truncated (Err (BadLine line)) = false
 is_truncated (Err TooManyNodes) = false
 is_truncated (Err OutOfMemory) = false
 
--- the first so many bytes, for each of these counts
+-- the first n bytes, for each n of these counts
 abbrev pub are_truncated : List ℕ → List ℕ → Bool
 are_truncated counts text = every (λ k. is_truncated (read_of (take k text))) counts

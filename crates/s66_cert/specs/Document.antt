@@ -78,7 +78,7 @@ abbrev pub AreInstructions : List (List ℕ) → Type 0
 AreInstructions [] = Unit {0}
 AreInstructions (text ∷ texts) = IsInstruction text × AreInstructions texts
 
--- a document of a block of at most limit instructions, whose tree has at most so many splits
+-- a document of a block of at most limit instructions, whose tree has at most this many splits
 pub record IsDocumentWithin (limit most : ℕ) (d : Document) : Type 0 where
   pub profile : (length d.profile ≡ PROFILE_LENGTH) × AreIn 1 PROFILE_LIMIT d.profile
   pub block : (1 ≤ length d.block) × (length d.block ≤ limit) × AreInstructions d.block
@@ -87,7 +87,7 @@ pub record IsDocumentWithin (limit most : ℕ) (d : Document) : Type 0 where
   pub numbers : AreNumbers limit d.numbers
   pub tree : TreeFits limit d.tree
   pub splits : splits d.tree ≤ most
-  -- a rule by which nodes are named exactly where a leaf is dominated
+  -- a rule by which nodes are named exactly when a leaf is dominated
   pub rule : names_nodes d.rule ≡ has_dominated d.tree
 
 abbrev pub IsDocument : ℕ → Document → Type 0
@@ -145,7 +145,7 @@ abbrev pub AreDocumentsWithin : ℕ → ℕ → List Document → Type 0
 AreDocumentsWithin limit most [] = Unit {0}
 AreDocumentsWithin limit most (d ∷ ds) = IsDocumentWithin limit most d × AreDocumentsWithin limit most ds
 
--- a text of documents whose trees have at most so many splits
+-- a text of documents whose trees have at most this many splits
 abbrev pub IsTextWithin : ℕ → ℕ → List ℕ → List Document → Type 0
 IsTextWithin limit most text ds = AreDocumentsWithin limit most ds × (text ≡ documents_text ds)
 

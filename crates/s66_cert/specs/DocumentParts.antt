@@ -1,4 +1,4 @@
--- Used by contracts: a document as code keeps it, its tree by its lines in preorder.
+-- Used by contracts: a document as code stores it, its tree by its lines in preorder.
 use Rattle.std.specs.Prelude.{◌≡◌, ◌≤◌, ℕ, List, [], ◌∷◌, length, Option, None, Some}
 use Rattle.s66_isa.specs.declared.limits.TheConstants.{BLOCK_LIMIT}
 use Rattle.s66_model.specs.declared.rule.Rule.{Rule}
@@ -50,7 +50,7 @@ IsShort (AtTerminal (Bounding (Load kind))) = Unit {0}
 IsShort (AtTerminal (Bounding Parcels)) = Unit {0}
 IsShort (AtTerminal (Dominated name)) = length name ≤ BLOCK_LIMIT
 
--- the next of these lines is answered, and those behind it are left; none only where there is none
+-- the next of these lines is returned, and those after it are left; none only if there is none
 abbrev pub IsNextLine : List (Vertex Ending) → Option TreeLine → List (Vertex Ending) → Type 0
 IsNextLine old None new = (old ≡ []) × (new ≡ [])
 IsNextLine old (Some line) new = old ≡ vertex_of line ∷ new

@@ -9,7 +9,7 @@ use Rattle.s66_cert.specs.declared.error.CertError.TheVariants.{BadLine, Truncat
 abbrev pub state : Reader → State
 state r = record { count = r.lines; documents = map document_of r.documents.items; place = r.place; part = r.claim; left = r.left; splits = r.splits }
 
--- what came out is what the definition gives, and a fault is the one that it gives; out of memory may stand in the place of either
+-- what came out is what the definition gives, and a fault is the one that it gives; out of memory may come in place of either
 abbrev pub Gives : {X Y : Type 0} → (X → Y) → Result X CertError → Result Y CertError → Type 0
 Gives view (Ok x) read = read ≡ Ok (view x)
 Gives view (Err OutOfMemory) read = Unit {0}
@@ -21,7 +21,7 @@ Gives view (Err TooManyNodes) read = read ≡ Err TooManyNodes
 abbrev pub Steps : State → Result (Unit {0}) CertError → Result State CertError → Type 0
 Steps new result made = Gives (λ u. new) result made
 
--- the same, with whether nothing is left behind the last newline
+-- the same, with whether nothing is left after the last newline
 abbrev pub StepsEnd : State → Result Bool CertError → Result State CertError → List ℕ → Type 0
 StepsEnd new (Ok whole) made rest = (made ≡ Ok new) × (whole ≡ (length rest == 0))
 StepsEnd new (Err e) made rest = Steps new (Err e) made

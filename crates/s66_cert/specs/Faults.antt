@@ -8,7 +8,7 @@ use Rattle.s66_cert.specs.declared.limits.TheConstants.{SPLIT_LIMIT}
 use Rattle.s66_cert.specs.declared.error.CertError.{CertError}
 use Rattle.s66_cert.specs.declared.error.CertError.TheVariants.{BadLine, Truncated, TooManyNodes, OutOfMemory}
 
--- no newline stands in it
+-- it has no newline
 abbrev pub IsLine : List ℕ → Type 0
 IsLine line = every (λ b. not (b == 10)) line ≡ true
 
@@ -21,11 +21,11 @@ abbrev pub with_newlines : List (List ℕ) → List ℕ
 with_newlines [] = []
 with_newlines (line ∷ lines) = line ++ 10 ∷ with_newlines lines
 
--- a document whose last line is still to come: until then the dominated leaf that its rule asks for may be wanting
+-- a document whose last line is still to come: until then the dominated leaf that its rule requires may be missing
 abbrev pub IsOpenWithin : ℕ → ℕ → Document → Type 0
 IsOpenWithin limit most d = IsDocumentWithin limit most d ⊎ IsDocumentWithin limit most (record d { rule = NoneNamed })
 
--- the text of documents, and of one more up to its last line, begins so; their trees have at most so many splits
+-- the text of documents, and of one more up to its last line, begins so; their trees have at most this many splits
 abbrev pub BeginsWithin : ℕ → List ℕ → Type 0
 BeginsWithin most text =
     (more : List ℕ) × (ds : List Document) × (d : Document) × AreDocumentsWithin BLOCK_LIMIT most ds × IsOpenWithin BLOCK_LIMIT most d

@@ -11,7 +11,7 @@ use Rattle.s66_cert.specs.declared.limits.TheConstants.{TIME_LIMIT}
 use Rattle.s66_cert.specs.declared.place.Place.{Place}
 use Rattle.s66_cert.specs.declared.place.Place.TheVariants.{AtHeader, AtProfile, AtBlock, AtInstruction, AtTime, AtBound, AtOrder, AtTree, AtEnd}
 
--- of n trees these lines leave so many to come
+-- of n trees these lines leave this many to come
 abbrev pub Leave : ℕ → List (Vertex Ending) → ℕ → Type 0
 Leave n [] left = n ≡ left
 Leave (suc n) (AtTerminal leaf ∷ vertices) left = IsLeafLine BLOCK_LIMIT leaf × Leave n vertices left

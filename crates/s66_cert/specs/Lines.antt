@@ -75,7 +75,7 @@ abbrev pub first_word : List ℕ → List ℕ
 first_word [] = []
 first_word (b ∷ bytes) = if b == 32 then [] else b ∷ first_word bytes
 
--- what stands after the first blank, where there is one
+-- what comes after the first blank, if there is one
 abbrev pub after_word : List ℕ → Option (List ℕ)
 after_word [] = None
 after_word (b ∷ bytes) = if b == 32 then Some bytes else after_word bytes
@@ -183,7 +183,7 @@ header_in (Some rest) =
     else (if bytes_eq rest (codes "CERTIFICATE 3") then Some (Header ClampedStanding)
     else None))
 
--- what a line says whose first word is this, and what stands after its blank
+-- what a line says whose first word is this, and what comes after its blank
 abbrev pub line_with : ℕ → List ℕ → Option (List ℕ) → Option Line
 line_with limit name rest =
     if bytes_eq name (codes "T") then alone (OfTree (AtTerminal (Bounding Whole))) rest

@@ -33,7 +33,7 @@ marked (mark.Load kind) numbers = AtTerminal (Bounding (Load kind))
 marked mark.Parcels numbers = AtTerminal (Bounding Parcels)
 marked (mark.Dominated count) numbers = AtTerminal (Dominated (take count numbers))
 
--- the numbers of the lines stand one after the other
+-- the numbers of the lines come one after the other
 abbrev pub vertices_of : List Mark → List ℕ → List (Vertex Ending)
 vertices_of [] numbers = []
 vertices_of (mark ∷ marks) numbers = marked mark numbers ∷ vertices_of marks (drop (number_count mark) numbers)

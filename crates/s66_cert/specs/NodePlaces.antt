@@ -12,7 +12,7 @@ use Rattle.s66_cert.specs.DocumentParts.{tree_of}
 abbrev pub trees_from : List (Vertex Ending) → ℕ → Siblings Ending
 trees_from vertices place = forest (drop place vertices)
 
--- the tree of the line at a place ends there: at its end the trees go on that stand behind it
+-- the tree of the line at a place ends there: at its end the trees go on that come after it
 pub record IsEnd (vertices : List (Vertex Ending)) (place end : ℕ) : Type 0 where
   pub behind : place < end
   pub within : end ≤ length vertices
@@ -23,7 +23,7 @@ pub record AreEnds (first : ℕ) (ends : List ℕ) (vertices : List (Vertex Endi
   pub count : length ends ≡ length vertices
   pub each : (place : ℕ) → first ≤ place → place < length vertices → IsEnd vertices place (get_or ends place 0)
 
--- the end of the last of so many trees, of which the first begins at a place; behind the last line there are none
+-- the end of the last of this many trees, of which the first begins at a place; after the last line there are none
 abbrev pub end_behind : List ℕ → ℕ → ℕ → ℕ
 end_behind ends zero place = place
 end_behind ends (suc n) place = end_behind ends n (get_or ends place place)
@@ -39,7 +39,7 @@ sibling_count (AtSplit numbers) = length numbers
 abbrev pub tree_at : List (Vertex Ending) → ℕ → Tree Ending
 tree_at vertices place = tree_of (drop place vertices)
 
--- the first child of this number of the line at a place stands there; none only where it has none
+-- the first child of this number of the line at a place is there; none only if it has none
 abbrev pub IsChildAt : List (Vertex Ending) → ℕ → ℕ → Option ℕ → Type 0
 IsChildAt vertices place number None = (path : List ℕ) → node_at [] (tree_at vertices place) (number ∷ path) ≡ None
 IsChildAt vertices place number (Some sibling) =

@@ -1,4 +1,4 @@
--- Used by contracts: text that is printed on a page, of which now and then what stands on it is written.
+-- Used by contracts: text that is printed on a page, and what is on the page is written now and then.
 use Rattle.std.specs.Prelude.{◌≡◌, ℕ, List, [], ◌∷◌, ◌++◌, Option, codes, decimal, length, Result, MatchResult}
 use Rattle.std.specs.Io.KnownBytes.{Appends}
 use Rattle.s66_isa.specs.Lists.{after_blanks}
@@ -8,13 +8,13 @@ use Rattle.s66_model.specs.DominatedLeaves.{Ending}
 use Rattle.s66_cert.specs.Document.{version}
 use Rattle.s66_cert.specs.DocumentParts.{Parts, IsShort}
 
--- of what stood on the page and of this text behind it a front was written, and the rest stands on the page
+-- of what was on the page and of this text after it a front was written, and the rest is on the page
 pub record IsPrinted (old new : Option (List ℕ)) (before after text : List ℕ) : Type 0 where
   pub written : List ℕ
   pub appended : Appends old new written
   pub left : before ++ text ≡ written ++ after
 
--- text was printed, on a page on which before stood and after stands; or a beginning of both was written, and that failed
+-- text was printed, with before on the page at first and after at the end; or a beginning of both was written, and that failed
 abbrev pub Printed : {A E : Type 0} → Writer → Writer → (before after text : List ℕ) → Result A E → Type 0
 Printed old new before after text result =
     MatchResult result

@@ -110,7 +110,7 @@ abbrev pub whole_lines : List ℕ → List ℕ → List (List ℕ)
 whole_lines line [] = []
 whole_lines line (b ∷ bytes) = if b == 10 then line ∷ whole_lines [] bytes else whole_lines (line ++ b ∷ []) bytes
 
--- what stands after them
+-- what comes after them
 abbrev pub last_bytes : List ℕ → List ℕ → List ℕ
 last_bytes line [] = line
 last_bytes line (b ∷ bytes) = if b == 10 then last_bytes [] bytes else last_bytes (line ++ b ∷ []) bytes

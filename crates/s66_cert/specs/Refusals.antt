@@ -1,4 +1,4 @@
--- To be believed: the line that tells why documents were refused, without its newline.
+-- To be believed: the line that says why documents were refused, without its newline.
 use Rattle.std.specs.Prelude.{ℕ, List, ◌++◌, codes, decimal}
 use Rattle.s66_cert.specs.declared.error.CertError.{CertError}
 use Rattle.s66_cert.specs.declared.error.CertError.TheVariants.{BadLine, OutOfMemory, TooManyNodes, Truncated}

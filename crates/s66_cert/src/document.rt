@@ -9,7 +9,7 @@ use std::marker::Model;
 /// What a document says.
 #[derive(Debug, Drop)]
 pub struct Claim {
-    /// Which nodes its dominated leaves name; it is `NoneNamed` exactly where no leaf of the tree is dominated.
+    /// Which nodes its dominated leaves name; `NoneNamed` exactly when no leaf of the tree is dominated.
     pub rule: Rule,
     /// The ten times of a profile, then its seven copies of units.
     pub profile: ArrayVec<u8, PROFILE_LENGTH>,
@@ -62,9 +62,9 @@ impl Document {
     ghost use Rattle.s66_model.specs.NodeNames.{node_at};
     ghost use Rattle.s66_cert.specs.DocumentParts.{AreWhole, document_of, vertex_of};
 
-    /// The document that says this. Its numbers have to be in their ranges, its texts those of instructions, and the
-    /// lines of its tree those of one whole tree of at most `SPLIT_LIMIT` splits. Its rule names nodes exactly where a leaf
-    /// is dominated. It takes time linear in the lines, and no memory.
+    /// The document that says this. Its numbers have to be in their ranges, its texts those of instructions, and the lines of its
+    /// tree those of one whole tree of at most `SPLIT_LIMIT` splits. Its rule names nodes exactly when a leaf is dominated. It
+    /// takes time linear in the lines, and no memory.
     #[tactic(auto, using(crate::proofs::FewLines::few_lines))]
     pub fn new(claim: Claim) -> Document
         requires { AreWhole claim }
@@ -90,7 +90,7 @@ impl Document {
         }
     }
 
-    /// Which nodes its dominated leaves name; it is `NoneNamed` exactly where no leaf of the tree is dominated.
+    /// Which nodes its dominated leaves name; `NoneNamed` exactly when no leaf of the tree is dominated.
     pub fn rule(&self) -> Rule
         ensures value { result ≡ self.now.rule }
         ensures whole { AreWhole self.now }

@@ -6,9 +6,9 @@ use s66_line::{FAULT_ROOM, line_refusal, short_text};
 use std::alloc::{AllocError, AllocFailed};
 use std::{error, fmt};
 
-/// Why a text is no text of documents: its first fault in reading order. Each shows itself as the line that tells it.
+/// Why a text is no text of documents: its first fault in reading order. It is displayed as the line that reports it.
 ///
-/// `OutOfMemory` is answered only where a growth was refused in the call, and may stand in the place of any other answer.
+/// `OutOfMemory` is returned only if a growth was refused in the call. It may be returned in place of any other answer.
 #[derive(Clone, Copy, Debug, Drop, PartialEq, Eq)]
 pub enum CertError {
     /// A line of the whole input, from 1, is not what a document has in its place.
@@ -41,7 +41,7 @@ impl CertError {
     ghost use Rattle.s66_line.specs.declared.limits.TheConstants.{FAULT_ROOM};
     ghost use Rattle.s66_cert.specs.Refusals.{document_refusal_line};
 
-    /// The line that tells it, without a newline.
+    /// The line that reports it, without a newline.
     pub fn line(&self) -> ArrayString<FAULT_ROOM>
         ensures text { result.bytes ≡ document_refusal_line self.now }
         ensures short { length result.bytes < FAULT_ROOM }

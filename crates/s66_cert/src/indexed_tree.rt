@@ -15,7 +15,7 @@ fn sibling_count(line: TreeLine<'_>) -> usize
     }
 }
 
-/// Where the tree ends that begins at a place; a place behind the last is its own end.
+/// Where the tree that begins at a place ends; a place after the last is its own end.
 fn end_at(ends: &[u32], place: usize) -> usize
     ensures { result ≡ get_or ends.now place place }
 {
@@ -26,7 +26,7 @@ fn end_at(ends: &[u32], place: usize) -> usize
     }
 }
 
-/// Where the last of `count` trees ends, of which the first begins at a place.
+/// Where the last of `count` trees ends, the first of which begins at a place.
 fn end_behind(ends: &[u32], count: usize, place: usize) -> usize
     ensures { result ≡ end_behind ends.now count place }
 {
@@ -88,7 +88,7 @@ impl IndexedTree {
         self.lines.iter()
     }
 
-    /// Where the first child of this number stands, of the line at a place.
+    /// The place of the first child of this number of the line at a place.
     fn child_at(&self, place: usize, number: u8) -> Option<usize>
         requires { place < length self.now }
         ensures { IsChildAt self.now place number result }

@@ -6,7 +6,7 @@ use s66_model::Rule;
 /// What a line of a document says.
 #[derive(Debug, Drop)]
 pub(crate) enum LineOf<'a> {
-    /// The rule that the version is.
+    /// The rule of the version.
     Header(Rule),
     Profile(ArrayVec<u8, PROFILE_LENGTH>),
     /// How many instructions the block has.

@@ -161,7 +161,7 @@ impl Page {
         Ok(())
     }
 
-    /// Writes what was printed where there is no room for a line.
+    /// Writes what was printed if there is no room for a line.
     pub(crate) fn make_room<S: Sink>(&mut self, writer: &mut S) -> Result<(), WriteError>
         requires { (S.seen writer.old).failures < 2 ^ 64 - 1 }
         ensures printed { Printed (S.seen writer.old) (S.seen writer.new) self.old self.new [] result }

@@ -106,7 +106,7 @@ fn header_line(rest: Option<&[u8]>) -> Option<LineOf<'_>>
     }
 }
 
-/// A line, where nothing follows its word.
+/// A line, if nothing follows its word.
 fn alone_line<'a>(line: LineOf<'a>, rest: Option<&'a [u8]>) -> Option<LineOf<'a>>
     ensures { option_map said result ≡ alone (said line.entry) (option_map (λ r. r.now) rest.entry) }
 {

@@ -60,7 +60,7 @@ fn is_allowed(rule: Rule, line: TreeLine<'_>) -> bool
     }
 }
 
-/// What the lines of documents made so far.
+/// What was made of the lines of documents so far.
 #[derive(Debug, Drop)]
 pub(crate) struct Reader {
     /// How many lines were read.
@@ -92,7 +92,7 @@ impl Reader {
         }
     }
 
-    /// The next line is another than a document has in its place.
+    /// The next line isn't what a document has in its place.
     fn bad_line(&self) -> CertError
         requires { self.now.lines < 2 ^ 64 - 1 }
         ensures { result ≡ BadLine (self.now.lines + 1) }
@@ -113,7 +113,7 @@ impl Reader {
         self.splits = splits;
     }
 
-    /// Reads the text of an instruction where one comes.
+    /// Reads the text of an instruction if one is due.
     fn take_instruction(&mut self, alloc: Global, text: &ReadText<'_>) -> Result<(), CertError>
         requires lines { self.old.lines < 2 ^ 64 - 1 }
         requires some { 1 ≤ self.old.left }
@@ -131,7 +131,7 @@ impl Reader {
         Ok(())
     }
 
-    /// Reads a line of the tree where one comes.
+    /// Reads a line of the tree if one is due.
     #[tactic(auto, using(crate::proofs::Places::refused_vertex))]
     fn take_vertex(&mut self, vertex: TreeLine<'_>) -> Result<(), CertError>
         requires lines { self.old.lines < 2 ^ 64 - 1 }
@@ -169,7 +169,7 @@ impl Reader {
         names_nodes(self.claim.rule) && !self.claim.tree.has_dominated()
     }
 
-    /// Reads the last line where it comes.
+    /// Reads the last line if it is due.
     fn take_end(&mut self, alloc: Global) -> Result<(), CertError>
         requires lines { self.old.lines < 2 ^ 64 - 1 }
         requires named { wants_dominated self.old.claim ≡ false }
@@ -355,7 +355,7 @@ impl Reader {
         }
     }
 
-    /// Reads all lines of a text that end with a newline, and answers whether nothing is left behind them.
+    /// Reads all lines of a text that end with a newline. Returns whether nothing is left after them.
     pub(crate) fn take_all(&mut self, alloc: Global, text: &[u8]) -> Result<bool, CertError>
         requires lines { self.old.lines ≡ 0 }
         requires fine { IsFine SPLIT_LIMIT (state self.old) }

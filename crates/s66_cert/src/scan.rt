@@ -7,7 +7,7 @@ ghost use Rattle.s66_cert.specs.declared.limits.TheConstants.{TIME_LIMIT};
 use crate::limits::TIME_LIMIT;
 use arrayvec::ArrayVec;
 
-/// The bytes before the first blank, and those after it where there is one.
+/// The bytes before the first blank, and those after it if there is one.
 pub(crate) fn split_word(bytes: &[u8]) -> (&[u8], Option<&[u8]>)
     ensures word { result.0.now ≡ first_word bytes.now }
     ensures rest { option_map (λ r. r.now) result.1 ≡ after_word bytes.now }
@@ -37,7 +37,7 @@ fn with_digit(value: u32, byte: u8) -> u32
     value * 10 + (byte - b'0') as u32
 }
 
-/// The value of at most six bytes, where all are digits.
+/// The value of at most six bytes, if all are digits.
 fn value_of(word: &[u8]) -> Option<u32>
     requires { length word.now ≤ 6 }
     ensures value { result ≡ (if every is_digit word.now then Some (value_after 0 word.now) else None) }

@@ -152,7 +152,7 @@ impl KeptLines {
         Ok(())
     }
 
-    /// Appends a line of at most `BLOCK_LIMIT` numbers. Where memory is refused the lines are as before.
+    /// Appends a line of at most `BLOCK_LIMIT` numbers. If memory is refused, the lines are as before.
     fn push(&mut self, line: TreeLine<'_>) -> Result<(), AllocError>
         requires { IsShort (vertex_of line) }
         ensures pushed { OnOk result (self.new ≡ self.old ++ vertex_of line.entry ∷ []) }
@@ -215,7 +215,7 @@ impl KeptLines {
 #[derive(Debug, Drop)]
 pub struct Tree {
     lines: KeptLines,
-    /// Room to tell where the tree of each line ends.
+    /// Room for the places at which the trees of the lines end.
     room: Vec<u32>,
 }
 
@@ -246,7 +246,7 @@ impl Tree {
         }
     }
 
-    /// Appends a line of at most `BLOCK_LIMIT` numbers. Where memory is refused the lines are as before.
+    /// Appends a line of at most `BLOCK_LIMIT` numbers. If memory is refused, the lines are as before.
     pub fn push(&mut self, line: TreeLine<'_>) -> Result<(), AllocError>
         requires { IsShort (vertex_of line) }
         ensures pushed { OnOk result (self.new ≡ self.old ++ vertex_of line.entry ∷ []) }
@@ -304,7 +304,7 @@ impl<'a> Model for TreeLines<'a> {
 impl<'a> TreeLines<'a> {
     ghost use Rattle.s66_cert.specs.DocumentParts.{IsNextLine};
 
-    /// The next line, where there is one.
+    /// The next line, if there is one.
     pub fn next(&mut self) -> Option<TreeLine<'a>>
         ensures { IsNextLine self.old result self.new }
     {

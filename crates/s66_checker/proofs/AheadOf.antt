@@ -47,7 +47,7 @@ run-within block prefix (m ∷ ns) n goes is =
       | inr past ↦ run-within block (prefix ++ m ∷ []) ns n goes.1 past
     ]
 
--- marks tell whether two beginnings are of one set
+-- marks decide whether two beginnings are of one set
 pub set-stated : (block : List Instr) (own other : Marks) (ns ms : List ℕ) (stated : Bool) → length block ≤ BLOCK_LIMIT → IsBeginning block ns → IsBeginning block ms →
     ((m : ℕ) → 1 ≤ m → m ≤ BLOCK_LIMIT → is_marked own m ≡ has m ns) → ((m : ℕ) → 1 ≤ m → m ≤ BLOCK_LIMIT → is_marked other m ≡ has m ms) →
     IsTrue stated ↔ ((m : ℕ) → 1 ≤ m → m ≤ BLOCK_LIMIT → is_marked own m ≡ is_marked other m) → stated ≡ is_same_set ns ms

@@ -1,4 +1,4 @@
--- The tests of dominance say yes exactly where there is dominance.
+-- The tests of dominance say yes exactly when there is dominance.
 use Rattle.std.proofs.Common.{ℕ, zero, suc, ◌≤◌, ◌<◌, ◌≡◌, ◌==◌, max, List, [], ◌∷◌, Option, None, Some, map, get_or, refl, arith, inl, inr, leb, Decides}
 use Rattle.std.proofs.lemmas.Bool.{eqb-true, eq-eqb}
 use Rattle.std.proofs.lemmas.Bool.Decides.{Decides-like, Decides-and}

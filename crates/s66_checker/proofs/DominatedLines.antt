@@ -1,4 +1,4 @@
--- A dominated leaf is without fault exactly where the node that it names dominates, by the rule.
+-- A dominated leaf is without fault exactly when the node that it names dominates, by the rule.
 use Rattle.std.proofs.Common.{ℕ, ◌<◌, ◌≤◌, ◌≡◌, ◌≢◌, ◌⊎◌, ◌↔◌, ◌==◌, ◌&&◌, ◌||◌, Bool, true, false, true≢false, cond, not, List, [], ◌∷◌, length, take, get_or, None, Some, Decides, ltb, refl, sym, inl, inr, arith, zero, suc}
 use Rattle.std.proofs.lemmas.Bool.{eqb-true, eq-eqb, ne_eqb, ltb-true, lt-ltb, le-ltb, not-true, not-false, not_from_true, not_from_false}
 use Rattle.std.proofs.lemmas.Bool.Decides.{Decides-and, Decides-or}
@@ -28,7 +28,7 @@ is_earlier-Decides (n ∷ ns) (m ∷ ms) =
     Decides-or (ltb n m) (n == m && is_earlier ns ms) (ltb-true n m, lt-ltb n m)
     (Decides-and (n == m) (is_earlier ns ms) (eqb-true n m, eq-eqb n m) (is_earlier-Decides ns ms))
 
--- the first place where they differ tells
+-- the first place where they differ decides
 pub differ-tells : (k : ℕ) (ns ms : List ℕ) → k < length ns → k < length ms → take k ns ≡ take k ms → get_or ns k 0 ≢ get_or ms k 0 → ltb (get_or ns k 0) (get_or ms k 0) ≡ is_earlier ns ms
 differ-tells k [] ms within other same differ = absurd (omega (arith, within))
 differ-tells k (n ∷ ns) [] within other same differ = absurd (omega (arith, other))
@@ -42,7 +42,7 @@ differ-tells (suc k) (n ∷ ns) (m ∷ ms) within other same differ =
     let rest : take k ns ≡ take k ms = cc in
     rw (le-ltb n m (omega (arith, e)), eq-eqb n m e) (differ-tells k ns ms (omega (arith, within)) (omega (arith, other)) rest differ)
 
--- and where there is none they aren't
+-- and if there is none they aren't
 pub same-never : (k : ℕ) (ns ms : List ℕ) → (length ns ≤ k) ⊎ (length ms ≤ k) → take k ns ≡ take k ms → false ≡ is_earlier ns ms
 same-never k [] ms short same = refl
 same-never k (n ∷ ns) [] short same = refl

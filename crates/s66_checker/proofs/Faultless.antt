@@ -1,4 +1,4 @@
--- A line of a tree is without fault exactly where it shows the bound.
+-- A line of a tree is without fault exactly when it shows the bound.
 use Rattle.std.proofs.Common.{ℕ, ◌≤◌, ◌≡◌, ◌≢◌, ◌↔◌, Bool, true, false, true≢false, cond, not, ◌&&◌, List, [], ◌∷◌, ◌++◌, length, None, Some, bytes_eq, Decides, refl, sym, ap, arith, inl, length-append, subst, ◌∙◌}
 use Rattle.std.proofs.lemmas.Bool.{eqb-true, eq-eqb, ne_eqb, ltb-false, le-ltb, not-true, not-false, not_from_true, not_from_false}
 use Rattle.std.proofs.lemmas.Bool.Decides.{Decides-and, Decides-like}
@@ -18,7 +18,7 @@ use Rattle.s66_checker.specs.declared.verdict.Reason.TheVariants as fault
 use Rattle.s66_checker.specs.Dominating.{goes_on}
 use Rattle.s66_checker.specs.Verdict.{problem_of, is_legal_order, is_walk, has_links, is_complete, is_at_its_place, leaf_fault, line_fault}
 
--- no fault where the test fails, and none behind it
+-- no fault if the test fails, and none after it
 pub passed : {X : Type 0} (test : Bool) (fault later none : X) → (fault ≡ none → ⊥) → (cond test fault later ≡ none) ↔ ((test ≡ false) × (later ≡ none))
 passed true fault later none other = ((λ h. absurd (other h)), λ h. absurd (true≢false h.0))
 passed false fault later none other = ((λ h. (refl, h)), λ h. h.1)
@@ -94,7 +94,7 @@ split-shows d prefix numbers =
     is true h = refl
     is false h = absurd (cc)
 
--- where some number is ready the order goes on
+-- if some number is ready, the order goes on
 pub ready-short : (b : Problem) (prefix numbers : List ℕ) → IsBeginning b.block prefix → numbers ≡ ready b.block prefix → 1 ≤ length numbers → IsIncomplete b.block prefix
 ready-short b prefix [] begins e some = absurd (omega (arith, some))
 ready-short b prefix (n ∷ ns) begins e some =

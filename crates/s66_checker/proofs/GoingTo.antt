@@ -14,7 +14,7 @@ goes-further block prefix (n ∷ xs) ys goes =
     ∙ goes-further block (prefix ++ n ∷ []) xs ys goes.1
     ∙ sym (ap (λ test. test && goes_on block (prefix ++ n ∷ []) (xs ++ ys)) goes.0)
 
--- the numbers that two have in common at the front are a beginning where one is
+-- the numbers that two have in common at the front are a beginning if one is
 pub front-begins : (block : List Instr) (ns ms : List ℕ) (k : ℕ) → IsBeginning block ns → take k ns ≡ take k ms → IsBeginning block (take k ms)
 front-begins block ns ms k begins same =
     subst (IsBeginning block) same

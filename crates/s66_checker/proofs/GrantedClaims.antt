@@ -1,4 +1,4 @@
--- The verdict is yes exactly where the claim is true.
+-- The verdict is yes exactly when the claim is true.
 use Rattle.std.proofs.Common.{ℕ, suc, ◌≡◌, ◌↔◌, Bool, true, cond, not, List, [], ◌∷◌, ◌++◌, Option, None, Some, refl, inl, inr, subst}
 use Rattle.std.proofs.lemmas.Bool.{eqb-true, eq-eqb, ltb-false, le-ltb, not-false, not_from_true}
 use Rattle.std.specs.Prelude.{nat_lt, ◌==◌}
@@ -31,7 +31,7 @@ module _ (d : Document) where
   abbrev b : Problem
   b = problem_of d
 
-  -- what is asked of the endings
+  -- what is required of the endings
   abbrev Shown : List ℕ → Ending → Type 0
   Shown at ending = EndingShows d.rule (problem_of d) d.bound [] d.tree at ending
 

@@ -53,7 +53,7 @@ marks-within own other fits =
           | inr clear ↦ grind (arith, clear, bit_at_and own.bits other.bits i, bit_at-lt own.bits i)
         ]
 
--- the bits are the same where the marks are
+-- the bits are the same if the marks are
 pub marks-same : (own other : Marks) → own.bits < 2 ^ 128 → other.bits < 2 ^ 128 → IsTrue (own.bits == other.bits) ↔ ((m : ℕ) → 1 ≤ m → m ≤ BLOCK_LIMIT → is_marked own m ≡ is_marked other m)
 marks-same own other fits room = (
   λ same m low high. ap (λ bits. bit_at bits (m - 1) == 1) (eqb-true own.bits other.bits same),

@@ -75,7 +75,7 @@ module _ (a b c d e f g : Bool) where
   abbrev pub All : Bool
   All = a && b && c && d && e && f && g
 
-  -- all fail where the first so many do
+  -- all fail if the first n do
   upto-f : (a && b && c && d && e && f) ≡ false → false ≡ All
   upto-f h = sym (and_left _ g h)
 

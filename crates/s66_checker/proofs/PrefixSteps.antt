@@ -90,7 +90,7 @@ prefix-push block profile rows all placed ns xs n more r p ms ys is with ready e
 
 -- A POP
 
--- the last number was ready behind the others
+-- the last number was ready after the others
 pub last-ready : (block : List Instr) (ns ms : List ℕ) (n : ℕ) → IsBeginning block ns → ns ≡ ms ++ n ∷ [] → IsBeginning block ms × (is_ready block ms n ≡ true)
 last-ready block ns ms n begins e =
     let both = GoesOn-append block [] ms (n ∷ []) (subst (IsBeginning block) e begins) in

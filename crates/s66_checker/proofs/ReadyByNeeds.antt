@@ -24,7 +24,7 @@ leb-next m k apart =
       | inr le ↦ le-leb m k le ∙ sym (le-leb m (k + 1) (omega (arith, le)))
     ]
 
--- the marks of what n depends on tell whether it is met
+-- the marks of what n depends on decide whether it is met
 pub met-by : (block : List Instr) (prefix : List ℕ) (n : ℕ) (placed own : Marks) (met : Bool) → ((m : ℕ) → 1 ≤ m → m ≤ BLOCK_LIMIT → is_marked own m ≡ depends block m n) → ((m : ℕ) → 1 ≤ m → m ≤ BLOCK_LIMIT → is_marked placed m ≡ has m prefix) →
     length block ≤ BLOCK_LIMIT → n ≤ length block → IsTrue met ↔ ((m : ℕ) → 1 ≤ m → m ≤ BLOCK_LIMIT → is_marked own m ≡ true → is_marked placed m ≡ true) → met ≡ needs_met block prefix n n
 met-by block prefix n placed own met needed marked few high within =
@@ -42,7 +42,7 @@ met-by block prefix n placed own met needed marked few high within =
     let depended : depends block m n ≡ true = sym (needed m first last) ∙ need in
     marked m first last ∙ needs-each block prefix n n h m first (omega (arith, depends-lt block m n depended)) depended))
 
--- the numbers looked at so far are marked where it depends on them
+-- the numbers looked at so far are marked if it depends on them
 abbrev pub Looked : List Instr → ℕ → ℕ → Marks → Type 0
 Looked block k n marks = (m : ℕ) → 1 ≤ m → m ≤ BLOCK_LIMIT → is_marked marks m ≡ (leb m k && depends block m n)
 

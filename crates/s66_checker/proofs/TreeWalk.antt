@@ -51,7 +51,7 @@ module _ (block : List Instr) (prefix : List ℕ) (vertex : Vertex Ending) (numb
       let (more, cut) = first-of numbers n first in
       ready-among block prefix n (subst (λ ns. Among n ns) (sym cut ∙ ready-numbers) (inl refl))
 
-  -- and stands in hand
+  -- and is in hand
   pub first-taken : (n : ℕ) → Some n ≡ slice_get numbers 0 → (prefix ++ n ∷ []) ∷ later block [] (prefix ++ n ∷ []) ≡ after_line block prefix vertex
   first-taken n first =
       let (more, cut) = first-of numbers n first in

@@ -1,4 +1,4 @@
--- What two prefixes keep tells whether one dominates the other.
+-- What two prefixes store decides whether one dominates the other.
 use Rattle.std.proofs.Common.{ℕ, ◌≤◌, ◌<◌, ◌≡◌, ◌↔◌, ◌∙◌, Bool, IsTrue, true, false, List, length, reverse, refl, sym, ap}
 use Rattle.std.proofs.lemmas.Bool.{le-leb, lt-leb}
 use Rattle.s66_isa.specs.declared.instr.Instr.{Instr}
@@ -28,7 +28,7 @@ pub keeps : (block : List Instr) (profile : Profile) (rows : List Row) (all : Li
 keeps block profile rows all placed ns xs is =
     record { profile = refl; few = is.few; begins = is.begins; marked = is.marked; timed = is.timed }
 
--- the marks of both tell whether they are of one set
+-- the marks of both decide whether they are of one set
 pub same-stated : (b : Problem) (name at : List ℕ) (profile other_profile : Profile) (placed other_placed : Marks) (xs ys : List Point) (stated : Bool) → Keeps b name profile placed xs → Keeps b at other_profile other_placed ys →
     IsTrue stated ↔ ((m : ℕ) → 1 ≤ m → m ≤ BLOCK_LIMIT → is_marked placed m ≡ is_marked other_placed m) → stated ≡ is_same_set name at
 same-stated b name at profile other_profile placed other_placed xs ys stated named there is =

@@ -1,4 +1,4 @@
--- What is told of the units of a kind: that they are free no later, place by place.
+-- What is stated of the units of a kind: that they are free no later, place by place.
 use Rattle.std.proofs.Common.{ℕ, ◌+◌, ◌≤◌, ◌<◌, ◌≡◌, ◌↔◌, ◌∙◌, ◌&&◌, Bool, IsTrue, true, false, true≢false, max, List, length, drop, get_or, reverse, sym, ap, subst, arith, leb, inl, inr, Decides}
 use Rattle.std.proofs.lemmas.Bool.{cases_eq}
 use Rattle.std.proofs.lemmas.Bool.Decides.{Decides-like, same_from_decides}
@@ -17,14 +17,14 @@ use Rattle.s66_checker.specs.Dominating.{are_places_no_later}
 use Rattle.s66_checker.proofs.FreeUnits.{first-time, second-time}
 use Rattle.s66_checker.proofs.NoLater.{le-Decides, places-Decides}
 
--- what is told of each place
+-- what is stated of each place
 pub places-stated : (count clamp : ℕ) (xs ys us vs : List ℕ) (stated : Bool) → us ≡ xs → vs ≡ ys → IsTrue stated ↔ ((i : ℕ) → i < count → get_or us i 0 ≤ max (get_or vs i 0) clamp) → stated ≡ are_places_no_later count clamp xs ys
 places-stated count clamp xs ys us vs stated own other is =
     same_from_decides stated (are_places_no_later count clamp us vs) is (places-Decides count clamp us vs)
     ∙ ap (λ zs. are_places_no_later count clamp zs vs) own
     ∙ ap (are_places_no_later count clamp xs) other
 
--- one kind less is left where its test passes
+-- one kind less is left if its test passes
 pub kinds-step : (profile : Profile) (clamp : ℕ) (q p : List Point) (i copies : ℕ) (stated : Bool) → i < length all_kinds → copies ≡ copies_of profile (get_or all_kinds i Boolean) →
     stated ≡ are_places_no_later copies clamp (free_times (get_or all_kinds i Boolean) q) (free_times (get_or all_kinds i Boolean) p) → stated ≡ true →
     every (λ kind. are_places_no_later (copies_of profile kind) clamp (free_times kind q) (free_times kind p)) (drop (i + 1) all_kinds) ≡ every (λ kind. are_places_no_later (copies_of profile kind) clamp (free_times kind q) (free_times kind p)) (drop i all_kinds)

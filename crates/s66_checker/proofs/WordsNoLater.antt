@@ -1,4 +1,4 @@
--- What the words of pasts tell of the tests of dominance.
+-- What the words of pasts say of the tests of dominance.
 use Rattle.std.proofs.Common.{ℕ, ◌+◌, ◌≤◌, ◌<◌, ◌≡◌, ◌==◌, ◌↔◌, Bool, IsTrue, true, false, cond, max, List, get_or, reverse, refl, sym, ap, subst, ◌∙◌, arith, leb}
 use Rattle.std.proofs.lemmas.Bool.{le-leb, lt-leb, eq-eqb}
 use Rattle.std.proofs.lemmas.Bool.Decides.{Decides-like, same_from_decides}
@@ -76,7 +76,7 @@ stores-stated xs w are =
     ∙ greatest-same (λ (p : Point). cond {A = ℕ} (memory_pair p.row.memory memory.Load) (p.start + 1) 0) (λ (p : Point). cond {A = ℕ} (stores p.row.memory) (p.start + 1) 0) xs (λ p among. ap (λ b. cond {A = ℕ} b (p.start + 1) 0) (pair-load p.row.memory))
     ∙ sym (greatest-reverse (λ (p : Point). cond {A = ℕ} (stores p.row.memory) (p.start + 1) 0) xs)
 
--- THE TESTS IN TURN, each by what is told of it
+-- THE TESTS IN TURN, each by what is stated of it
 
 module _ (profile : Profile) (c : Clamp) (q p : List Point) where
   abbrev pub Slot : Bool

@@ -90,7 +90,7 @@ busy-falls kind t u (p ∷ xs) le =
           omega (arith, busy-falls kind t u xs le, ap (λ b. cond {A = ℕ} (b && ltb u p.free) 1 0) other, ap (λ b. cond {A = ℕ} (b && ltb t p.free) 1 0) other)
     ]
 
--- where none is free at a time, the first that is comes later
+-- if none is free at a time, the first that is comes later
 pub free-later : (kind : Kind) (xs : List Point) (copies t u : ℕ) → copies ≤ tally (busy_at kind t) xs → tally (busy_at kind u) xs < copies → t + 1 ≤ u
 free-later kind xs copies t u none some =
     elim (cases_lt t u) [ inl lt ↦ omega (arith, lt) | inr le ↦ absurd (omega (arith, none, some, busy-falls kind u t xs le)) ]
@@ -139,7 +139,7 @@ words-start w done read free load store total =
       total = total;
     }
 
--- one more point behind the others
+-- one more point after the others
 module _ (xs : List Point) (w w2 : Words) (p : Point) (are : AreWords xs w) where
   pub words-push : ((r : Reg) → r.digit ≤ 7 → word_of w2.done.words r ≡ max (word_of w.done.words r) (greatest (λ (d : ResultAt). cond (same_reg d.reg r) d.time 0) p.results)) →
       ((r : Reg) → r.digit ≤ 7 → word_of w2.read.words r ≡ max (word_of w.read.words r) (cond (has_reg r p.row.reads) (p.start + 1) 0)) →

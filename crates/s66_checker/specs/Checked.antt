@@ -1,4 +1,4 @@
--- Used by contracts: what they see of the beginning of an order that a checker has come to.
+-- Used by contracts: what they see of the beginning of an order that a checker has reached.
 use Rattle.std.specs.Prelude.{ℕ, List}
 use Rattle.s66_model.specs.Timing.{Problem}
 

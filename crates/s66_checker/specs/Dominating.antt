@@ -18,7 +18,7 @@ use Rattle.s66_model.specs.Dominance.{place_in_word, references_wait, stores_wai
 abbrev pub are_registers_no_later : ℕ → (Reg → ℕ) → (Reg → ℕ) → Bool
 are_registers_no_later clamp f g = every (λ r. nat_le (f r) (max (g r) clamp)) all_registers
 
--- the times at each of so many places
+-- the times at each of n places
 abbrev pub are_places_no_later : ℕ → ℕ → List ℕ → List ℕ → Bool
 are_places_no_later count clamp xs ys = every (λ i. nat_le (get_or xs i 0) (max (get_or ys i 0) clamp)) (rising count 0)
 

@@ -42,15 +42,15 @@ load_and_multiplies = record {
 abbrev pub multiplies_split : List ℕ → Siblings Ending → Document
 multiplies_split numbers siblings = record three_multiplies { tree = Parted numbers siblings }
 
--- what stands after 1
+-- what comes after 1
 abbrev pub second_line : (Siblings Ending → Siblings Ending) → Document
 second_line sibling = multiplies_split (1 ∷ 2 ∷ 3 ∷ []) (sibling (after_one 1 3 (after_one 1 2 NoMore)))
 
--- what stands after 1 and 2
+-- what comes after 1 and 2
 abbrev pub third_line : (Siblings Ending → Siblings Ending) → Document
 third_line sibling = second_line (Split (2 ∷ 3 ∷ []) (sibling (Split (2 ∷ []) (Unsplit (Bounding Whole) NoMore) NoMore)))
 
--- what stands after 3, 2 and 1
+-- what comes after 3, 2 and 1
 abbrev pub last_leaf : Leaf → Document
 last_leaf leaf =
     multiplies_split (1 ∷ 2 ∷ 3 ∷ []) (after_one 2 3 (after_one 1 3 (Split (1 ∷ 2 ∷ []) (Split (2 ∷ []) (Unsplit (Bounding Whole) NoMore) (Split (1 ∷ []) (Unsplit (Bounding leaf) NoMore) NoMore)) NoMore)))
@@ -74,7 +74,7 @@ late_order rule = record (late_reader rule) {
       (third_bounding (third_bounding NoMore)));
 }
 
--- 1 3 2 names 2 3 1, which is a node behind it: but 3 can't go before 1
+-- 1 3 2 names 2 3 1, which is a node after it: but 3 can't go before 1
 abbrev pub late_misplaced : Rule → Document
 late_misplaced rule = record (late_reader rule) {
   tree =

@@ -1,4 +1,4 @@
--- Used by contracts within the crate alone: what the words of a past are, by its points, the oldest of which stands first.
+-- Used by contracts within the crate alone: what the words of a past are, by its points, the oldest first.
 use Rattle.std.specs.Prelude.{ℕ, ◌+◌, ◌≡◌, ◌≤◌, ◌<◌, if◌then◌else◌, List, length, take, get_or}
 use Rattle.s66_isa.specs.declared.instr.Kind.{Kind}
 use Rattle.s66_isa.specs.declared.instr.Memory.TheVariants as memory

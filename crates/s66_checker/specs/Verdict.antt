@@ -47,7 +47,7 @@ tree_placed prefix (Parted numbers siblings) = (prefix, AtSplit numbers) ∷ sib
 abbrev pub is_complete : Problem → List ℕ → Bool
 is_complete b prefix = length prefix == length b.block
 
--- `T` where the prefix is complete, and any other leaf where it isn't
+-- `T` if the prefix is complete, and any other leaf if it isn't
 abbrev pub is_at_its_place : Problem → List ℕ → Leaf → Bool
 is_at_its_place b prefix Whole = is_complete b prefix
 is_at_its_place b prefix (Chain numbers) = not (is_complete b prefix)
@@ -82,7 +82,7 @@ is_earlier [] ms = false
 is_earlier (n ∷ ns) [] = false
 is_earlier (n ∷ ns) (m ∷ ms) = nat_lt n m || (n == m && is_earlier ns ms)
 
--- where the rule wants an earlier one
+-- if the rule wants an earlier one
 abbrev pub is_early_enough : Rule → List ℕ → List ℕ → Bool
 is_early_enough NoneNamed name at = true
 is_early_enough WrittenEarlier name at = is_earlier name at

@@ -1,4 +1,4 @@
--- Used by contracts: the prefixes that a walk over the lines of a tree comes to, each split into all its ready numbers.
+-- Used by contracts: the prefixes that a walk over the lines of a tree reaches, each split into all its ready numbers.
 use Rattle.std.specs.Prelude.{◌≡◌, ℕ, Bool, true, false, List, [], ◌∷◌, ◌++◌}
 use Rattle.s66_isa.specs.declared.instr.Instr.{Instr}
 use Rattle.s66_model.specs.LegalOrder.{ready}
@@ -6,7 +6,7 @@ use Rattle.s66_model.specs.Later.{children, later}
 use Rattle.s66_model.specs.Tree.{Vertex, AtTerminal, AtSplit}
 use Rattle.s66_model.specs.DominatedLeaves.{Ending}
 
--- what is to come where the walk goes on with this prefix, and where it has ended
+-- what is to come if the walk goes on with this prefix, and if it has ended
 abbrev pub coming : List Instr → Bool → List ℕ → List (List ℕ)
 coming block true prefix = prefix ∷ later block [] prefix
 coming block false prefix = []
@@ -16,7 +16,7 @@ abbrev pub after_line : List Instr → List ℕ → Vertex Ending → List (List
 after_line block prefix (AtTerminal ending) = later block [] prefix
 after_line block prefix (AtSplit numbers) = children prefix numbers ++ later block [] prefix
 
--- where it is a split, it has the ready numbers
+-- if it is a split, it has the ready numbers
 abbrev pub HasReady : List Instr → List ℕ → Vertex Ending → Type 0
 HasReady block prefix (AtTerminal ending) = Unit {0}
 HasReady block prefix (AtSplit numbers) = numbers ≡ ready block prefix

@@ -38,7 +38,7 @@ fn instructions_of(texts: &[InstructionText]) -> ArrayVec<Instr, BLOCK_LIMIT>
     instrs
 }
 
-/// Goes through an order: what it takes, in minor cycles, or none where it isn't legal.
+/// Goes through an order. Returns what it takes, in minor cycles; None if it isn't legal.
 fn legal_total(prefix: &mut Prefix, order: &[u8]) -> Option<u32>
     ensures value { result ≡ (if is_legal_order prefix.old.problem.block order.now then Some (total_of prefix.old.problem order.now) else None) }
     ensures problem { prefix.new.problem ≡ prefix.old.problem }
@@ -53,9 +53,9 @@ fn legal_total(prefix: &mut Prefix, order: &[u8]) -> Option<u32>
     }
 }
 
-/// The verdict on a document, timed by its own profile: yes with its time and its bound exactly where what it claims is
-/// true, and else its first fault, that of the order, of the time, of the bound, or of a line of the tree. It allocates
-/// nothing, and stands on no other timing and no other test of dependence than its own.
+/// The verdict on a document, timed by its own profile. It is yes, with the document's time and bound, exactly when what the
+/// document claims is true. Else it is the first fault: that of the order, of the time, of the bound, or of a line of the tree.
+/// It allocates nothing, and rests on no other timing and no other test of dependence than its own.
 ///
 /// Each pair of the block's instructions is looked at once. Beside that a line of the tree takes a time linear in the
 /// block's length, on the average over all lines. For a dominated leaf its node is found by a jump for each earlier sibling

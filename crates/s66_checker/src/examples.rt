@@ -26,8 +26,8 @@ pub fn verdict_examples()
     ensures bound_11 { verdict (with_times 12 11) ≡ Yes 12 11 }
 {}
 
-/// Verdicts on documents of one load, a part of which is changed. The first fault stands: of the order, the time, the bound and the
-/// tree, in turn.
+/// Verdicts on documents of one load, a part of which is changed. The first fault counts: of the order, the time, the bound and
+/// the tree, in turn.
 pub fn fault_examples()
     ensures bound_13 { verdict (with_times 12 13) ≡ No 8 fault.Bound }
     ensures source_order { verdict (with_order (1 ∷ 2 ∷ 3 ∷ [])) ≡ No 7 fault.Time }

@@ -21,8 +21,8 @@ impl Prefix {
     ghost use Rattle.s66_cert.specs.DocumentParts.{document_of, vertex_of};
     ghost use Rattle.s66_checker.specs.Verdict.{problem_of, line_fault};
 
-    /// What is wrong with a line of a document's tree that stands at the prefix, where anything is: a leaf's value is to
-    /// reach the bound, and the node that a dominated leaf names is to dominate. The other prefix goes there.
+    /// What is wrong with a line of a document's tree at the prefix, if anything is. A leaf's value has to reach the bound, and
+    /// the node that a dominated leaf names has to dominate. The other prefix goes there.
     pub(crate) fn fault(
         &self,
         named: &mut Prefix,

@@ -12,15 +12,15 @@ ghost use Rattle.s66_checker.specs.Verdict.{verdict, problem_of};
 ghost use Rattle.s66_checker.specs.Dominating.{dominates_by};
 ghost use Rattle.s66_checker.specs.TrueClaims.{IsTrueClaim};
 
-/// The verdict on a document is yes, with its time and its bound, exactly where what it claims is true; no legal order then
-/// takes less than the bound.
+/// The verdict on a document is yes, with its time and its bound, exactly when what it claims is true. No legal order then takes
+/// less than the bound.
 pub fn yes_law()
     ensures stated { (limit : ℕ) (d : Document) (time bound : ℕ) → IsDocument limit d → verdict d ≡ Yes time bound → (time ≡ d.time) × (bound ≡ d.bound) × IsTrueClaim d }
     ensures yes { (limit : ℕ) (d : Document) → IsDocument limit d → IsTrueClaim d → verdict d ≡ Yes d.time d.bound }
     ensures bound { (d : Document) → IsTrueClaim d → IsBound (problem_of d) d.bound }
 {}
 
-/// The test of dominance says yes exactly where one beginning dominates another by the rule, if the digits of the block's
+/// The test of dominance says yes exactly when one beginning dominates another by the rule, if the digits of the block's
 /// instructions are 0 to 7. Those of each document's block are.
 pub fn dominating_law()
     ensures written { (b : Problem) (name at : List ℕ) → HaveDigits b.block → (dominates_by WrittenEarlier b name at ≡ true) ↔ Dominates b name at }

@@ -43,8 +43,8 @@ fn remaining_parcels(prefix: &Prefix) -> u32
     parcels
 }
 
-/// When all units are free and all results are done at least where this number is the last, all others that remain have so many
-/// parcels with it, and the first of them issues in this slot.
+/// When all units are free and all results are done at least, if this number is the last: all that remain, with it, have
+/// `parcels` parcels, and the first of them issues in this slot.
 fn if_last(prefix: &Prefix, slot: u32, parcels: u32, n: u8) -> u32
     requires within { (1 ≤ n) × (n ≤ length prefix.now.problem.block) }
     requires slot { (slot ≡ next (points_of prefix.now.problem prefix.now.numbers)) × (slot ≤ TOTAL_LIMIT + 1) }
@@ -55,7 +55,7 @@ fn if_last(prefix: &Prefix, slot: u32, parcels: u32, n: u8) -> u32
     slot + parcels.saturating_sub(own_parcels(row)) + tail(row)
 }
 
-/// The parcels that remain after the next slot, and the least tail behind them.
+/// The parcels that remain after the next slot, and the least tail after them.
 pub fn parcels(prefix: &Prefix) -> u32
     ensures { result ≡ parcels prefix.now.problem prefix.now.numbers }
 {
@@ -110,7 +110,7 @@ pub fn load(prefix: &Prefix, kind: Kind) -> u32
     over(work, prefix.copies(kind)) + slot
 }
 
-/// When the instruction of a number starts at soonest: next, and where the registers are done that it reads or writes.
+/// When the instruction of a number starts at the soonest: it is next, and the registers are done that it reads or writes.
 fn head(prefix: &Prefix, n: u8) -> u32
     requires { (1 ≤ n) × (n ≤ length prefix.now.problem.block) }
     ensures value { result ≡ head (points_of prefix.now.problem prefix.now.numbers) (row_at prefix.now.problem n) }
@@ -123,7 +123,7 @@ fn head(prefix: &Prefix, n: u8) -> u32
     next(prefix.points()).max(read.max(written))
 }
 
-/// How long m waits from the start of n, which remains: 0 where m doesn't, or they have no link.
+/// How long m waits from the start of n, which remains; 0 if m doesn't remain, or they have no link.
 fn wait(prefix: &Prefix, n: u8, m: u8) -> u32
     requires { is_remaining prefix.now.problem.block prefix.now.numbers n ≡ true }
     ensures links { nat_lt 0 result ≡ (is_remaining prefix.now.problem.block prefix.now.numbers m && is_linked prefix.now.problem n m) }
@@ -135,7 +135,7 @@ fn wait(prefix: &Prefix, n: u8, m: u8) -> u32
     link(prefix.row(n), prefix.row(m))
 }
 
-/// How long the walk from a number that remains along these takes, from its start to the end of the last: none where one of these
+/// How long the walk from a number that remains along these takes, from its start to the end of the last. None if one of these
 /// doesn't remain, or neighbours have no link.
 fn walk(prefix: &Prefix, n: u8, later: &[u8]) -> Option<u32>
     requires few { length prefix.now.problem.block ≤ BLOCK_LIMIT }
@@ -157,7 +157,7 @@ fn walk(prefix: &Prefix, n: u8, later: &[u8]) -> Option<u32>
     Some(time + tail(prefix.row(last)))
 }
 
-/// The value of a chain, or none where one of its numbers doesn't remain, or neighbours have no link.
+/// The value of a chain; None if one of its numbers doesn't remain, or neighbours have no link.
 pub fn chain_value(prefix: &Prefix, numbers: &[u8]) -> Option<u32>
     requires { length prefix.now.problem.block ≤ BLOCK_LIMIT }
     ensures links { is_some result ≡ has_links prefix.now.problem prefix.now.numbers (Chain numbers.now) }

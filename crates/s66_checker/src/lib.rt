@@ -1,22 +1,22 @@
 //! The verdict on a certificate, from its document alone: under the document's profile a legal order, its time and a bound
 //! that no order beats, or the first fault.
 //!
-//! It goes through the order, and then through the tree of the bound line by line: a split has to go on with all
-//! instructions that are ready there, and a leaf has to have a value that reaches the bound, by one of the four rules of the
-//! model, or to name a node of the tree that dominates it. Such a node is an earlier one (version 2), or is no dominated
-//! leaf itself (version 3), so that no two stand on one another.
+//! It goes through the order, and then through the tree of the bound line by line. A split has to go on with all instructions
+//! that are ready there. A leaf has to have a value that reaches the bound, by one of the four rules of the model, or to name a
+//! node of the tree that dominates it. Such a node is an earlier one (version 2), or is no dominated leaf itself (version 3), so
+//! that no two rest on one another.
 //!
-//! It shares nothing with the search that made the certificate: no clock, no marks, no sets of dependences, no bounds, no
-//! ledger. So a mistake there, or in what is proved of it, doesn't come back here as a yes. It stands on the table of
-//! instructions (`s66_isa`), on the definitions of the model (`s66_model`), and on documents and their texts (`s66_cert`,
-//! `s66_line`). It allocates nothing.
+//! It shares nothing with the search that made the certificate: no clock, no marks, no sets of dependences, no bounds, no ledger.
+//! So a mistake there, or in what is proved of it, doesn't come back here as a yes. It uses the table of instructions
+//! (`s66_isa`), the definitions of the model (`s66_model`), and documents and their texts (`s66_cert`, `s66_line`). It allocates
+//! nothing.
 //!
-//! It keeps what each instruction depends on, tested pair by pair, in a word (`needs`, `marks`). One prefix is pushed and
+//! What each instruction depends on is tested pair by pair, and stored in a word (`needs`, `marks`). One prefix is pushed and
 //! popped along the tree (`prefix`, `walk`), with its points and what they leave for the next instruction (`past`, `words`,
-//! `timing`). Another goes to the nodes that are named (`name`). Whether it dominates is told by what both leave
-//! (`dominance`, `falling`).
+//! `timing`). Another goes to the nodes that are named (`name`). What both leave decides whether it dominates (`dominance`,
+//! `falling`).
 //!
-//! A block takes time for each of its pairs once, and a line of the tree a time linear in the block's length, on the average
+//! A block takes time for each of its pairs once. A line of the tree takes a time linear in the block's length, on the average
 //! over all lines, whatever the profile. A node that is named is found by a jump for each earlier sibling on the way.
 #![tactic(auto)]
 

@@ -20,7 +20,7 @@ fn greatest_latency(writes: &[Write]) -> u32
     most
 }
 
-/// What an instruction takes at least from its start to its last free or done.
+/// The least time that an instruction takes, from its start until its unit is free and its results are done.
 pub fn tail(row: &Row) -> u32
     ensures { result ≡ tail row.now }
 {
@@ -77,7 +77,7 @@ fn greatest_used(writes: &[Write], later: &Row) -> u32
     most
 }
 
-/// How long a later instruction waits from the start of this one, 0 where they have no link.
+/// How long a later instruction waits from the start of this one, 0 if they have no link.
 pub fn link(row: &Row, later: &Row) -> u32
     ensures { result ≡ link row.now later.now }
 {

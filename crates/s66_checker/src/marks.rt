@@ -10,7 +10,7 @@ const _: () = prove!(BLOCK_LIMIT == u128::BITS as usize);
 /// Which numbers of a block are marked, in one word.
 #[derive(Clone, Copy, Debug, Default, Drop)]
 pub struct Marks {
-    /// Bit n - 1 tells whether n is marked.
+    /// Bit n - 1 is set if n is marked.
     bits: u128,
 }
 

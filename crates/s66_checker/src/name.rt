@@ -24,7 +24,7 @@ fn may_be_named(rule: Rule, node: Option<TreeLine<'_>>) -> bool
     }
 }
 
-/// Whether a name is earlier than the prefix, if a rule wants that.
+/// Whether a name is earlier than the prefix, if a rule requires that.
 fn is_early_enough(prefix: &Prefix, rule: Rule, name: &[u8]) -> bool
     ensures { result ≡ is_early_enough rule name.now prefix.now.numbers }
 {
@@ -34,7 +34,7 @@ fn is_early_enough(prefix: &Prefix, rule: Rule, name: &[u8]) -> bool
     }
 }
 
-/// Whether a dominated leaf at the prefix may have this name: that of a node which the rule lets be named, and the
+/// Whether a dominated leaf at the prefix may have this name. It has to be that of a node which the rule lets be named, and the
 /// beginning of a legal order of the same numbers. The other prefix is then there, and else anywhere.
 pub fn is_name(prefix: &Prefix, named: &mut Prefix, document: &Document, name: &[u8]) -> bool
     requires problem { prefix.now.problem ≡ problem_of (document_of document.now) }

@@ -62,7 +62,7 @@ fn effects_of(block: &[Instr]) -> ArrayVec<Effects, BLOCK_LIMIT>
     effects
 }
 
-/// Whether some register stands in both.
+/// Whether some register is in both.
 fn share(registers: &[Reg], others: &[Reg]) -> bool
     ensures { result ≡ share registers.now others.now }
 {

@@ -8,8 +8,8 @@ use std::marker::Model;
 
 /// What is placed, with what it leaves for the next instruction. All times are in minor cycles.
 ///
-/// Beside the points it keeps the words that they leave, and those before each point: a push copies them and a pop takes them back
-/// whole, so that neither takes longer the more is placed.
+/// Besides the points it stores the words that they leave, and those before each point. A push copies them and a pop takes them
+/// back whole, so that neither takes longer the more is placed.
 #[derive(Debug, Drop)]
 pub struct Past {
     /// The oldest first.
@@ -74,7 +74,7 @@ impl Past {
         self.points.push(point);
     }
 
-    /// Takes the last instruction off, where there is one.
+    /// Takes the last instruction off, if there is one.
     pub fn pop(&mut self)
         ensures { self.new ≡ take (length self.old - 1) self.old }
     {
@@ -92,7 +92,7 @@ impl Past {
         self.words.total
     }
 
-    /// When the last result in a register is done, 0 where there is none.
+    /// When the last result in a register is done, 0 if there is none.
     pub fn done_of(&self, register: Reg) -> u32
         ensures { result ≡ done_of self.now register }
     {
@@ -119,8 +119,8 @@ impl Past {
 
     /// The first time, at least this one, at which a unit of the kind is free, if there are this many copies of it.
     ///
-    /// For one copy or two it reads a word. For more it counts the busy units at this time, and if none is free then, at each step of
-    /// a bisection: at most 15 counts of the points, since no total reaches 2^14 minor cycles.
+    /// For one copy or two it reads a word. For more it counts the busy units at this time, and if none is free then, at each
+    /// step of a bisection. That is at most 15 counts of the points, since no total reaches 2^14 minor cycles.
     pub fn first_free(&self, kind: Kind, copies: u32, from: u32) -> u32
         requires { 1 ≤ copies }
         ensures late { from ≤ result }

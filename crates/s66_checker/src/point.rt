@@ -106,7 +106,7 @@ impl KeptPoint {
         self.free.max(last_time(self.results.as_slice()))
     }
 
-    /// The minor cycle behind its start.
+    /// The minor cycle after its start.
     pub fn after_start(&self) -> u32
         ensures { result ≡ self.now.start + 1 }
     {

@@ -13,7 +13,7 @@ use s66_isa::{BLOCK_LIMIT, Instr, Kind, Profile, Row};
 use s66_model::Rule;
 use std::marker::Model;
 
-/// The beginning of an order of a block that a checker has come to, with the times of its instructions under its profile.
+/// The beginning of an order of a block that a checker has reached, with the times of its instructions under its profile.
 #[derive(Debug, Drop)]
 pub(crate) struct Prefix {
     block: ArrayVec<Instr, BLOCK_LIMIT>,
@@ -172,7 +172,7 @@ impl Prefix {
         self.needs(n).are_within(&self.placed)
     }
 
-    /// Whether a number may stand next: it remains, and all that it depends on is placed.
+    /// Whether a number may come next: it remains, and all that it depends on is placed.
     pub(crate) fn is_ready(&self, n: u8) -> bool
         ensures { result ≡ is_ready self.now.problem.block self.now.numbers n }
     {
@@ -191,7 +191,7 @@ impl Prefix {
         self.placed = self.placed.with(n);
     }
 
-    /// Takes the last number off, where there is one.
+    /// Takes the last number off, if there is one.
     pub(crate) fn pop(&mut self) -> Option<u8>
         ensures problem { self.new.problem ≡ self.old.problem }
         ensures some { IfSome result (λ n. self.old.numbers ≡ self.new.numbers ++ n ∷ []) }
@@ -228,8 +228,8 @@ impl Prefix {
         shared
     }
 
-    /// Goes to other numbers, and answers whether it came to their end: whether they are the beginning of a legal order. If
-    /// not, it stands before the first of them that isn't ready.
+    /// Goes to other numbers. Returns whether it reached their end, that is, whether they are the beginning of a legal order. If
+    /// not, it stops before the first of them that isn't ready.
     ///
     /// It keeps the numbers that it has in common with them, takes the rest off, and places the others while each is ready.
     pub(crate) fn go_to(&mut self, numbers: &[u8]) -> bool
@@ -274,8 +274,8 @@ impl Prefix {
 
     /// Whether it dominates another beginning of the same block under the same profile, by a rule.
     ///
-    /// Where no kind has three or more copies, the time for it is the same whatever is placed. Else each point is looked at
-    /// once for each such kind, and its free time compared with the later ones of its kind before it.
+    /// If no kind has three or more copies, the time for it is the same whatever is placed. Else each point is looked at once for
+    /// each such kind, and its free time compared with the later ones of its kind before it.
     pub(crate) fn dominates(&self, at: &Prefix, rule: Rule) -> bool
         requires { self.now.problem ≡ at.now.problem }
         ensures { result ≡ dominates_by rule at.now.problem self.now.numbers at.now.numbers }

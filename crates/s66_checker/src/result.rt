@@ -24,7 +24,7 @@ impl Model for KeptResult {
 }
 
 impl KeptResult {
-    /// When it is done, 0 where the unit doesn't hold it.
+    /// When it is done; 0 if the unit doesn't hold it.
     fn held_time(&self) -> u32
         ensures { result ≡ if self.now.held then self.now.time else 0 }
     {
@@ -32,7 +32,7 @@ impl KeptResult {
     }
 }
 
-/// When the last of these results is done, 0 where there is none.
+/// When the last of these results is done; 0 if there is none.
 pub fn last_time(results: &[KeptResult]) -> u32
     ensures { result ≡ greatest (λ (d : ResultAt). d.time) results.now }
 {
@@ -43,7 +43,7 @@ pub fn last_time(results: &[KeptResult]) -> u32
     last
 }
 
-/// When the last of these results that the unit holds is done, 0 where there is none.
+/// When the last of these results that the unit holds is done; 0 if there is none.
 fn last_held_time(results: &[KeptResult]) -> u32
     ensures { result ≡ greatest (λ (d : ResultAt). if d.held then d.time else 0) results.now }
 {
@@ -54,8 +54,8 @@ fn last_held_time(results: &[KeptResult]) -> u32
     last
 }
 
-/// When the unit of an instruction is free: one minor cycle after the last result that it holds, or after its hold where
-/// nothing is written.
+/// When the unit of an instruction is free: one minor cycle after the last result that it holds, or after its hold if nothing is
+/// written.
 pub fn free_after(start: u32, hold: u32, results: &[KeptResult]) -> u32
     requires start { start + hold + 1 < 2 ^ 32 }
     requires results { greatest (λ (d : ResultAt). d.time) results.now + 1 < 2 ^ 32 }

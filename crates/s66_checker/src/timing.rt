@@ -1,5 +1,5 @@
-//! The times of an instruction by what all that stand before it leave. Points stand with the oldest first, and
-//! times are in minor cycles.
+//! The times of an instruction by what all that come before it leave. Points are in order, the oldest first, and times are in
+//! minor cycles.
 
 ghost use Rattle.std.specs.Prelude.{◌≡◌, ◌+◌, ◌<◌, ◌≤◌, ◌^◌, if◌then◌else◌, length, map, reverse};
 ghost use Rattle.s66_isa.specs.Lists.{greatest, weigh};
@@ -73,7 +73,7 @@ fn fits_at(parcel: u32, parcels: u32) -> u32
     }
 }
 
-/// The parcel behind the last instruction, from 0: before a NO is put in.
+/// The parcel after the last instruction, from 0, before a NO is put in.
 pub fn next_parcel(points: &[KeptPoint]) -> u32
     requires { AreTimed points.now }
     ensures value { result ≡ next_parcel (reverse points.now) }
@@ -123,7 +123,7 @@ fn start(past: &Past, row: &Row, issue: u32) -> u32
     issue.max(done.max(past.memory_wait(row.memory)))
 }
 
-/// When each result is done, where the unit starts then: a result waits until its earlier readers have started.
+/// When each result is done if the unit starts then: a result waits until its earlier readers have started.
 fn results(past: &Past, writes: &[Write], start: u32) -> ArrayVec<KeptResult, 2>
     requires few { length writes.now ≤ 2 }
     requires latencies { greatest (λ (w : WriteOf). w.latency) writes.now ≤ 100 }

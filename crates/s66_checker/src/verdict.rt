@@ -27,8 +27,8 @@ pub enum Reason {
     Place,
     /// `BOUND` is above `TIME`.
     Bound,
-    /// The name of a dominated leaf is none that it may have: that of a node of the tree over the same set of numbers, an
-    /// earlier one in version 2, and none that is dominated itself in version 3.
+    /// The name of a dominated leaf is none that it may have. It may be that of a node of the tree over the same set of numbers:
+    /// an earlier one in version 2, and none that is dominated itself in version 3.
     Name,
     /// The node that a dominated leaf names doesn't dominate.
     Dominance,

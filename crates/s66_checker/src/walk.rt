@@ -23,8 +23,8 @@ fn next_ready(prefix: &Prefix, n: u8) -> Option<u8>
     None
 }
 
-/// Goes on to the prefix after a leaf, and answers whether there is one: the last number gives way to the next one that is ready in
-/// its place, and where there is none the number before it does. Each number that gives way was pushed once.
+/// Goes on to the prefix after a leaf, and returns whether there is one. The last number gives way to the next one that is ready
+/// in its place; if there is none, the number before it does. Each number that gives way was pushed once.
 fn advance(prefix: &mut Prefix) -> bool
     ensures next { coming prefix.old.problem.block result prefix.new.numbers ≡ later prefix.old.problem.block [] prefix.old.numbers }
     ensures problem { prefix.new.problem ≡ prefix.old.problem }
@@ -38,7 +38,7 @@ fn advance(prefix: &mut Prefix) -> bool
     false
 }
 
-/// Goes on to the prefix after a line, and answers whether there is one.
+/// Goes on to the prefix after a line, and returns whether there is one.
 fn go_on(prefix: &mut Prefix, line: TreeLine<'_>) -> bool
     requires { HasReady prefix.old.problem.block prefix.old.numbers (vertex_of line) }
     ensures next { coming prefix.old.problem.block result prefix.new.numbers ≡ after_line prefix.old.problem.block prefix.old.numbers (vertex_of line.entry) }
@@ -53,8 +53,8 @@ fn go_on(prefix: &mut Prefix, line: TreeLine<'_>) -> bool
     advance(prefix)
 }
 
-/// The verdict on the lines of a document's tree, from the empty prefix of its block on. The other prefix may stand
-/// anywhere, and goes to the nodes that are named.
+/// The verdict on the lines of a document's tree, from the empty prefix of its block on. The other prefix may be anywhere, and
+/// goes to the nodes that are named.
 pub(crate) fn tree_verdict(document: &Document, mut prefix: Prefix, mut named: Prefix) -> Verdict
     requires start { prefix ≡ record { problem = problem_of (document_of document.now); numbers = [] } }
     requires same { named.problem ≡ problem_of (document_of document.now) }

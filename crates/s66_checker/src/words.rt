@@ -74,7 +74,7 @@ pub struct FreeTimes {
 }
 
 impl FreeTimes {
-    /// The same, where one more instruction holds a unit until then.
+    /// The same, if one more instruction holds a unit until then.
     fn with(&self, free: u32) -> FreeTimes
         ensures { (busy : ℕ → ℕ) → AreFree busy self.now → AreFree (λ t. busy t + (if nat_lt t free then 1 else 0)) result }
     {
@@ -90,7 +90,7 @@ impl FreeTimes {
 pub struct Words {
     /// When the last result in each register is done.
     pub done: RegisterWords,
-    /// One minor cycle behind the last start of each register's readers.
+    /// One minor cycle after the last start of each register's readers.
     pub read: RegisterWords,
     /// By the number of the kind.
     pub free: [FreeTimes; KIND_COUNT],

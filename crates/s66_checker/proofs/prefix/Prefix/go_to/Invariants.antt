@@ -2,7 +2,7 @@ use Rattle.std.proofs.Common.{◌≡◌, ◌≤◌, ◌+◌, [], length, take, d
 use Rattle.s66_checker.specs.Dominating.{goes_on}
 use Rattle.s66_checker.proofs.prefix.Prefix.go_to.Given as goal
 
--- the numbers that are shared still stand
+-- the numbers that are shared are still there
 abbrev pub invariant-loop-self : goal.invariant-loop-self
 invariant-loop-self l = record {
   problem : l.self.problem ≡ l.fn.self.problem;
