@@ -1,5 +1,5 @@
-//! Runs parts of a search over the blocks of a source, for `bench/search.py` and `bench/pool.py` to measure: `new`, `push` or `both`
-//! and how many times, `tree` or `finish` and how many splits, or `run`, how many splits and how many workers.
+//! Runs parts of a search over the blocks of a source, for `bench/search.py` and `bench/pool.py` to measure. The words are `new`,
+//! `push` or `both` and how many times; `tree` or `finish` and how many splits; or `run`, how many splits and how many workers.
 #![tactic(auto)]
 
 mod rounds;
@@ -28,9 +28,9 @@ enum Mode {
     Push { is_whole: bool, rounds: u32 },
     /// One clock, onto which the block is pushed in source order and from which it is taken back, as often as the count says.
     Both(u32),
-    /// A tree of at most a number of splits.
+    /// A tree of at most this many splits.
     Tree(u32),
-    /// A search of at most a number of splits, without workers.
+    /// A search of at most this many splits, without workers.
     Finish(u32),
     /// A search by workers.
     Run(Options),
@@ -70,7 +70,7 @@ fn mode_of(words: &[String]) -> Option<Mode> {
     }
 }
 
-/// Runs a mode over a block; it answers the total, or the totals added up, and what a tree or a search counts.
+/// Runs a mode over a block. Returns the total, or the totals added up, and what a tree or a search counts.
 fn run_block<R: AllocGlobal + Threads + Wait + Sync>(
     rt: &R,
     block: &Block,
@@ -106,7 +106,7 @@ fn run_block<R: AllocGlobal + Threads + Wait + Sync>(
     })
 }
 
-/// Runs a mode over each block; it answers the totals, added up, and what the trees and searches count.
+/// Runs a mode over each block. Returns the totals, added up, and what the trees and searches count.
 fn run<R: AllocGlobal + Threads + Wait + Sync>(
     rt: &R,
     source: &Source<'_>,

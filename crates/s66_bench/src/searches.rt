@@ -11,7 +11,7 @@ use std::alloc::{AllocError, Global};
 use std::sync::Wait;
 use std::thread::Threads;
 
-/// How many splits a search takes, and the least total that it finds. It doesn't tell its pushes.
+/// How many splits a search took, and the least total that it found. Its pushes aren't counted.
 fn counts_of(answer: &Answer) -> Counts {
     Counts {
         splits: answer.splits(),

@@ -3,7 +3,7 @@ use s66_line::Block;
 use s66_node::{Priority, Walk, schedule_rest};
 use std::alloc::{AllocError, Global};
 
-/// How many beginnings a tree splits, how many pushes that takes, and the least total that it comes to.
+/// How many beginnings a tree splits, how many pushes that takes, and the least total that it finds.
 #[derive(Clone, Copy, Debug, Default)]
 pub struct Counts {
     pub splits: u32,
@@ -11,8 +11,8 @@ pub struct Counts {
     pub best: u32,
 }
 
-/// The tree of a block's beginnings, grown as a worker of a search grows a piece: depth first, a beginning is split where its floor is
-/// below the total of a list schedule, until the budget of splits is spent. `Err` is out of memory.
+/// The tree of a block's beginnings, grown depth first, as a worker of a search grows a piece. A beginning is split if its floor
+/// is below the total of a list schedule, until the budget of splits is spent. `Err` is out of memory.
 pub fn grow(
     alloc: Global,
     block: &Block<'_>,

@@ -1,4 +1,4 @@
-//! The events of a ledger. One that is refused is asked for again, and then has to end as it would have at first.
+//! The events of a ledger. One that is refused is sent again, and then has to end as it would have at first.
 ghost use Rattle.std.specs.Prelude.{◌≡◌, ◌≤◌, IfOk};
 
 use crate::Answered;
@@ -148,7 +148,7 @@ fn answer(alloc: Global, block: &Block) -> Result<Answered, AllocError> {
     ])
 }
 
-/// What the ledger tells after the events.
+/// What the ledger returns after the events.
 pub fn searched(alloc: Global) -> Result<Answered, AllocError> {
     let source = source_of(alloc, MULTIPLIES)?;
     let block = block_of(&source)?;

@@ -1,5 +1,6 @@
-//! Makes one call of the libraries, for `tools/refused.py` to refuse it memory. A word names the call; without such a word the names
-//! of all are printed. What the call answers is printed as numbers. If memory runs out, nothing is, and the status is 4.
+//! Makes one call of the libraries, for `tools/refused.py` to refuse it memory. A word names the call; without such a word the
+//! names of all are printed. What the call returns is printed as numbers. If memory runs out, nothing is printed, and the status
+//! is 4.
 #![tactic(auto)]
 
 mod documents;
@@ -13,7 +14,7 @@ use std::sync::Wait;
 use std::thread::Threads;
 use std::{env, io};
 
-/// What a call answers.
+/// What a call returns.
 pub(crate) type Answered = [usize; 4];
 
 /// A call of the libraries.
@@ -72,13 +73,13 @@ fn make<R: AllocGlobal + Threads + Wait + Sync>(
     }
 }
 
-/// Tells that memory ran out.
+/// Prints that memory ran out.
 fn tell_refusal(rt: &HostRuntime) -> io::Result<ExitCode> {
     eprintln!(rt; "OUT OF MEMORY")?;
     Ok(ExitCode::from(4))
 }
 
-/// Tells what a call answers.
+/// Prints what a call returns.
 fn tell(rt: &HostRuntime, made: Result<Answered, AllocError>) -> io::Result<ExitCode> {
     let Ok(answered) = made else {
         return tell_refusal(rt);
@@ -90,7 +91,7 @@ fn tell(rt: &HostRuntime, made: Result<Answered, AllocError>) -> io::Result<Exit
     Ok(ExitCode::SUCCESS)
 }
 
-/// Tells the names of all calls.
+/// Prints the names of all calls.
 fn tell_names(rt: &HostRuntime) -> io::Result<ExitCode> {
     for &(name, _) in CALLS {
         println!(rt; "{name}")?;

@@ -36,7 +36,7 @@ pub fn expanded(alloc: Global) -> Result<Answered, AllocError> {
     Ok(answered(&piece))
 }
 
-/// A piece for a best time that is asked for.
+/// A piece for a best time that is read anew.
 pub fn expanded_with(alloc: Global) -> Result<Answered, AllocError> {
     let source = source_of(alloc, MULTIPLIES)?;
     let block = block_of(&source)?;

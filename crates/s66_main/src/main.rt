@@ -10,9 +10,9 @@ use std::{env, io};
 /// As many bytes of the stack as the deepest call takes, and half as many more.
 const STACK_ROOM: usize = 2_400_000;
 
-/// Touches so much of the stack, so that it doesn't have to grow later, when the stacks of the workers may have taken all the memory
-/// that the process is allowed: a stack that can't grow ends the process. A write of no bytes keeps the compiler from leaving
-/// the array out.
+/// Touches this much of the stack, so that it doesn't have to grow later. By then the stacks of the workers may have taken all
+/// the memory that the process is allowed, and a stack that can't grow ends the process. A write of no bytes keeps the compiler
+/// from leaving the array out.
 #[inline(never)]
 fn touch_stack(rt: &HostRuntime) {
     let room = [0u8; STACK_ROOM];

@@ -1,4 +1,4 @@
--- The document of an answer is a document, whose tree its lines tell.
+-- The document of an answer is a document, whose tree its lines determine.
 use Rattle.std.proofs.Common.{ℕ, zero, suc, ◌+◌, ◌≤◌, ◌≡◌, Bool, true, false, not, if◌then◌else◌, List, [], ◌∷◌, ◌++◌, length, refl, sym, ap, arith, inl, inr, subst, ◌∙◌, map}
 use Rattle.std.proofs.lemmas.Bool.{and_parts, ltb-true}
 use Rattle.std.proofs.lemmas.List.{length-append, length-map}
@@ -175,7 +175,7 @@ dominated-neither (AtTerminal (Bounding leaf) ∷ vertices) more h none = domina
 dominated-neither (AtTerminal (Dominated name) ∷ vertices) more h none = absurd (cc)
 dominated-neither (AtSplit numbers ∷ vertices) more h none = dominated-neither vertices more h none
 
--- what holds at the terminals where none is dominated
+-- what holds at the terminals if none is dominated
 module _ (block : List Instr) (Q R : List ℕ → Ending → Type 0) (each : (at : List ℕ) (leaf : Leaf) → Q at (Bounding leaf) → R at (Bounding leaf)) where
   siblings-bounding : (siblings : Siblings Ending) (prefix ns : List ℕ) → has_dominated_line (flat_siblings siblings) ≡ false → SiblingsHold block Q prefix ns siblings → SiblingsHold block R prefix ns siblings
   siblings-bounding NoMore prefix [] none h = tt
@@ -209,7 +209,7 @@ none-dominated b (Alone (Bounding leaf)) h = refl
 none-dominated b (Alone (Dominated name)) h = absurd h.0
 none-dominated b (Parted numbers siblings) h = siblings-none b (Parted numbers siblings) siblings [] numbers h.2
 
--- the rule of a document names nodes where a leaf is dominated
+-- the rule of a document names nodes if a leaf is dominated
 rule-names : (rule : Rule) (b : Problem) (tree : Tree Ending) (dominated : Bool) → has_dominated tree ≡ dominated → TreeHolds b.block (MayEnd rule b tree) [] tree →
     names_nodes (if dominated then rule else NoneNamed) ≡ dominated
 rule-names rule b tree false is h = refl

@@ -35,7 +35,7 @@ consumes-more (Some xs) None new one two h k = absurd h
 consumes-more (Some xs) (Some ys) None one two h k = absurd k
 consumes-more (Some xs) (Some ys) (Some zs) one two h k = h ∙ ap (λ t. one ++ t) k ∙ sym (append_assoc one two zs)
 
--- memory was wanting for what these calls gave
+-- memory ran out for what these calls gave
 pub wants-memory : {A : Type 0} (reads : ℕ) (old new : Reader) (result : Result A Fault) → IsErr result × IsErrAnd result (λ e. e ≡ Memory) → new.failures ≡ old.failures → reads ≤ FEED_CALLS → Calls reads 0 old new →
     IfErr result (IsReadFault old new)
 wants-memory reads old new (Ok x) (is, which) same few made = tt

@@ -1,4 +1,4 @@
--- Where no step of a parse has a fault, neither of two has.
+-- If no step of a parse has a fault, neither of two has.
 use Rattle.std.proofs.Common.{◌≡◌, [], ◌∷◌, List, refl, subst}
 use Rattle.clap.specs.Words.{Kinds}
 use Rattle.clap.specs.Kinds.{or_else}

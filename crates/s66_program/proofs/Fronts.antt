@@ -1,4 +1,4 @@
--- A text that is too long is refused as a source for what stands in its front, whatever follows.
+-- A text that is too long is refused as a source for what is in its front, whatever follows.
 use Rattle.std.proofs.Common.{◌≡◌, ◌≤◌, ◌<◌, ◌+◌, ◌*◌, ℕ, suc, Bool, true, false, if◌then◌else◌, List, [], ◌∷◌, ◌++◌, Option, Some, Err, inl, inr, length, refl, ap, arith}
 use Rattle.std.specs.Prelude.{◌==◌}
 use Rattle.std.proofs.lemmas.List.{length-append}

@@ -301,7 +301,7 @@ prove-flags = (
   refl,
 )
 
--- a flag as clap tells it of what was found
+-- a flag as clap returns it of what was found
 abbrev pub IsStated : Found → Text → Bool → Type 0
 IsStated found id flag = (one_text found id ≡ Some (codes "true") → flag ≡ true) × (one_text found id ≡ Some (codes "false") → flag ≡ false)
 

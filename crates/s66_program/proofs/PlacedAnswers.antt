@@ -1,4 +1,4 @@
--- How answers are printed: each order has numbers of its block, and the reports tell whether all are best.
+-- How answers are printed: each order has numbers of its block, and the reports say whether all are best.
 use Rattle.std.proofs.Common.{ℕ, ◌+◌, ◌≡◌, ◌≤◌, ◌<◌, ◌==◌, ◌&&◌, ◌∙◌, if◌then◌else◌, Bool, List, [], ◌∷◌, ◌++◌, drop, length, Option, None, Some, inl, inr, refl, sym, subst, ap, ap₂, append_assoc, slice_index_or, Ok}
 use Rattle.std.proofs.lemmas.List.{append-nil, at_drop_all, drop_more, length-map}
 use Rattle.s66_isa.specs.declared.instr.Instr.{Instr}

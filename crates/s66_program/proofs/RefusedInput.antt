@@ -1,4 +1,4 @@
--- What a command leaves where its input is refused: all was read, and nothing is written.
+-- What a command leaves if its input is refused: all was read, and nothing is written.
 use Rattle.std.proofs.Common.{◌≡◌, ◌+◌, ◌≤◌, ℕ, List, Option, None, Some, Result, Ok, Err, refl, ap, sym, subst, arith}
 use Rattle.std.specs.Io.KnownBytes.{Keeps}
 use Rattle.std.specs.Result.{IsErr, IsErrAnd}

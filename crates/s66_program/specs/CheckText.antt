@@ -17,7 +17,7 @@ verdict_line n (Yes time bound) =
 verdict_line n (No line reason) =
     codes "DOCUMENT " ++ decimal n ++ codes " NO LINE " ++ decimal line ++ codes " REASON " ++ decimal (number_of reason) ++ codes "\n"
 
--- of these documents, before which n documents stand
+-- of these documents, before which n documents come
 abbrev pub verdict_lines : ℕ → List Document → List ℕ
 verdict_lines n [] = []
 verdict_lines n (d ∷ ds) = verdict_line (n + 1) (verdict d) ++ verdict_lines (n + 1) ds
@@ -26,7 +26,7 @@ abbrev pub is_yes : Verdict → Bool
 is_yes (Yes time bound) = true
 is_yes (No line reason) = false
 
--- done where each verdict is yes
+-- done if each verdict is yes
 abbrev pub verdicts_status : List Document → Status
 verdicts_status ds = if every (λ d. is_yes (verdict d)) ds then Done else Denied
 

@@ -10,7 +10,7 @@ use Rattle.s66_program.specs.CheckText.{verdict_line}
 use Rattle.s66_program.specs.OrderText.{AreAnswers}
 use Rattle.s66_program.specs.ProveText.{all_documents}
 
--- YES for each answer, with its time and its bound; before these answers n stand
+-- YES for each answer, with its time and its bound; before these answers n come
 abbrev pub yes_lines : ℕ → List Answer → List ℕ
 yes_lines n [] = []
 yes_lines n (a ∷ answers) = verdict_line (n + 1) (Yes a.time a.bound) ++ yes_lines (n + 1) answers

@@ -1,4 +1,4 @@
--- To be believed: what reading an input to its end leaves of a reader, and telling a text of a writer.
+-- To be believed: what reading an input to its end leaves of a reader, and printing a text of a writer.
 use Rattle.std.specs.Prelude.{◌≡◌, ◌⊎◌, ◌+◌, ◌<◌, ◌≤◌, ℕ, List, length}
 use Rattle.std.specs.Io.KnownBytes.{Consumes, IsAtEnd}
 use Rattle.s66_line.specs.Devices.{Grows, Reader, WriteFails, Writer, Writes}
@@ -8,7 +8,7 @@ use Rattle.s66_program.specs.declared.limits.TheConstants.{FEED_CALLS, FEED_ROOM
 abbrev pub HasRoom : Reader → Type 0
 HasRoom reader = (FEED_ROOM ≤ reader.least_room) × (reader.most_room ≤ FEED_ROOM)
 
--- so many calls gave bytes and so many gave none, with room for 65,536 bytes each, if those before them had it
+-- this many calls gave bytes and this many gave none, with room for 65,536 bytes each, if those before them had it
 abbrev pub Calls : (reads ends : ℕ) → Reader → Reader → Type 0
 Calls reads ends old new = Grows reads old.reads new.reads × Grows ends old.ends new.ends × (HasRoom old → HasRoom new)
 
@@ -31,12 +31,12 @@ ReadFails old new =
     ((new.failures ≡ old.failures + 1) × ((reads : ℕ) × (reads < FEED_CALLS) × Calls reads 0 old new))
     ⊎ IsEndless old new
 
--- memory was wanted after 16,777,216 calls at most, of which none failed and one at most gave none
+-- memory ran out after 16,777,216 calls at most, of which none failed and one at most gave none
 abbrev pub ReadsSome : Reader → Reader → Type 0
 ReadsSome old new =
     (new.failures ≡ old.failures)
     × ((reads : ℕ) × (ends : ℕ) × (reads + ends ≤ FEED_CALLS) × (ends ≤ 1) × Calls reads ends old new)
 
--- a text was told: it was written, or writing it failed
+-- a text was printed: it was written, or writing it failed
 abbrev pub Tells : Writer → Writer → List ℕ → Type 0
 Tells old new text = Writes old new text ⊎ WriteFails old new text

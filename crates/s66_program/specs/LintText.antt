@@ -4,11 +4,11 @@ use Rattle.s66_line.specs.Findings.{findings_text}
 use Rattle.s66_program.specs.declared.outcome.Status.{Status}
 use Rattle.s66_program.specs.declared.outcome.Status.TheVariants.{Done, Denied}
 
--- done if nothing is told
+-- done if nothing is stated
 abbrev pub status_of_stated : List ℕ → Status
 status_of_stated [] = Done
 status_of_stated (b ∷ text) = Denied
 
--- what is told of the source's lines, and its status
+-- what is stated of the source's lines, and its status
 abbrev pub IsLintOutput : (input text : List ℕ) → Status → Type 0
 IsLintOutput input text status = (text ≡ findings_text input) × (status ≡ status_of_stated text)

@@ -17,7 +17,7 @@ use Rattle.s66_program.specs.declared.outcome.Status.TheVariants.{Done, Bounded}
 abbrev pub problem_of : Profile → Block → Problem
 problem_of p block = record { block = instrs_of block; profile = p }
 
--- an answer for each block, of a search of at most so many splits
+-- an answer for each block, of a search of at most this many splits
 abbrev pub AreAnswers : Rule → Profile → ℕ → List Block → List Answer → Type 0
 AreAnswers rule p nodes [] [] = Unit {0}
 AreAnswers rule p nodes (block ∷ blocks) (a ∷ answers) = IsAnswer rule (problem_of p block) nodes a × AreAnswers rule p nodes blocks answers
@@ -27,13 +27,13 @@ AreAnswers rule p nodes blocks answers = ⊥
 abbrev pub all_best : List Answer → Bool
 all_best answers = every (λ (a : Answer). a.bound == a.time) answers
 
--- done where each answer is best
+-- done if each answer is best
 abbrev pub status_of : List Answer → Status
 status_of answers = if all_best answers then Done else Bounded
 
 -- WHAT IS WRITTEN
 
--- a block in the order of its answer; with the trace its splits are told
+-- a block in the order of its answer; with the trace its splits are printed
 abbrev pub placed_by : Profile → Bool → Block → Answer → Placed
 placed_by p trace block a =
     record { order = a.order; source = source_time (problem_of p block); time = a.time; bound = a.bound; splits = if trace then Some a.splits else None }

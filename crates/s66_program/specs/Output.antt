@@ -67,7 +67,7 @@ block_lines p (listing.Times trace) n block = time_lines p trace n block
 block_lines p listing.Dependences n block = deps_lines n block
 block_lines p listing.Chart n block = chart_lines p n block
 
--- of these blocks, before which n blocks stand
+-- of these blocks, before which n blocks come
 abbrev pub lines_of_blocks : Profile → Listing → ℕ → List Block → List ℕ
 lines_of_blocks p l n [] = []
 lines_of_blocks p l n (block ∷ blocks) = block_lines p l (n + 1) block ++ lines_of_blocks p l (n + 1) blocks

@@ -16,6 +16,6 @@ IsPlaced rule p nodes trace block placed = (a : Answer) × IsAnswer rule (proble
 abbrev pub AreAllPlaced : Rule → Profile → ℕ → Bool → List Block → List Placed → Type 0
 AreAllPlaced rule p nodes trace blocks ps = (answers : List Answer) × AreAnswers rule p nodes blocks answers × (ps ≡ all_placed p trace blocks answers)
 
--- each report tells that its order is best
+-- each report says that its order is best
 abbrev pub tell_best : List Placed → Bool
 tell_best ps = every (λ (p : Placed). p.bound == p.time) ps

@@ -15,7 +15,7 @@ use Rattle.s66_program.specs.Outcome.{fault_code, fault_line, status_code}
 use Rattle.s66_program.specs.Run.{IsOutcome}
 use Rattle.s66_program.specs.Usage.{Asks, Refuses, usage_code}
 
--- the line of a fault was told, and the status is the fault's
+-- the line of a fault was printed, and the status is the fault's
 abbrev pub EndsAt : Fault → Writer → Writer → ℕ → Type 0
 EndsAt fault errors errors' status = Tells errors errors' (fault_line fault ++ codes "\n") × (status ≡ fault_code fault)
 
@@ -39,7 +39,7 @@ RunsCommand words reader reader' writer writer' errors errors' status =
     (command : Command) × Asks words command
     × ((result : Result Status Fault) × IsOutcome command reader reader' writer writer' result × EndsBy result errors errors' status)
 
--- the words give none, which was told, and nothing was read
+-- the words give none, which was printed, and nothing was read
 abbrev pub RefusesWords : List Text → Reader → Reader → Writer → Writer → Writer → Writer → ℕ → Type 0
 RefusesWords words reader reader' writer writer' errors errors' status =
     (usage : Usage) × Refuses words usage × (reader' ≡ reader) × ShowsUsage usage writer writer' errors errors' status

@@ -13,7 +13,7 @@ use Rattle.s66_program.specs.declared.outcome.Status.{Status}
 use Rattle.s66_program.specs.OrderText.{AreAnswers, problem_of, status_of}
 use Rattle.s66_program.specs.ProveText.{all_documents, document_under}
 
--- the text of each of the first instructions, so many, is one of it
+-- the text of each of the first instructions, this many, is one of it
 abbrev pub IsSpelledTo : Block → ℕ → Type 0
 IsSpelledTo block k = (n : ℕ) → 1 ≤ n → n ≤ k → IsTextOf (text_of block n) (instr_at (instrs_of block) n)
 

@@ -38,7 +38,7 @@ IsOutcomeUnder p command reader reader' writer writer' (Err fault.Write) =
     (input : List ℕ) × ReadsAll reader reader' input
     × ((text : List ℕ) × (status : Status) × IsOutput p command input text status × WriteFails writer writer' text)
 
--- why a command has no profile: its text gives none, or memory was wanted to read it
+-- why a command has no profile: its text gives none, or memory to read it ran out
 abbrev pub IsProfileFault : Command → Fault → Type 0
 IsProfileFault command fault.Profile = profile_asked (profile_text command) ≡ None
 IsProfileFault command fault.Memory = Unit {0}

@@ -1,5 +1,5 @@
--- To be believed: what `sum` writes for a source, and how it ends: a row for each block, those first whose orders save most time, and what all
--- blocks take, for answers of searches as those of `order`.
+-- To be believed: what `sum` writes for a source, and how it ends. There is a row for each block, those first whose orders save
+-- most time, and what all blocks take, for answers of searches as those of `order`.
 use Rattle.std.specs.Prelude.{ℕ, ◌+◌, ◌-◌, ◌≡◌, ◌≤◌, ◌<◌, ◌⊎◌, ◌==◌, if◌then◌else◌, Bool, false, List, [], ◌∷◌, ◌++◌, Ok, IsPermutation, codes, decimal, length, slice_index_or}
 use Rattle.s66_isa.specs.Lists.{tally, weigh}
 use Rattle.s66_isa.specs.declared.profile.Profile.{Profile}
@@ -19,7 +19,7 @@ abbrev pub row_of : ℕ → Block → Placed → Row
 row_of n block p =
     record { number = n; line = line_of block 1; count = length (instrs_of block); source = p.source; time = p.time; saved = p.source - p.time; bound = p.bound }
 
--- of these blocks, before which n stand
+-- of these blocks, before which n come
 abbrev pub rows_of : ℕ → List Block → List Placed → List Row
 rows_of n (block ∷ blocks) (p ∷ ps) = row_of (n + 1) block p ∷ rows_of (n + 1) blocks ps
 rows_of n blocks ps = []
@@ -59,7 +59,7 @@ total_text blocks source time best = total_times blocks source time ++ codes " B
 abbrev pub total_line : List Row → List ℕ
 total_line rows = total_text (length rows) (weigh (λ (r : Row). r.source) rows) (weigh (λ (r : Row). r.time) rows) (tally is_best rows)
 
--- the rows in their order, and what they come to
+-- the rows in their order, and their sums
 abbrev pub IsSumText : (rows : List Row) (text : List ℕ) → Type 0
 IsSumText rows text = (ordered : List Row) × IsPermutation rows ordered × AreInOrder ordered × (text ≡ row_lines ordered ++ total_line rows)
 

@@ -16,7 +16,7 @@ use Rattle.s66_program.specs.BlockHead.{block_head}
 abbrev pub parcels_in : List Instr → ℕ
 parcels_in block = weigh (λ (n : Instr). parcels_of n.op.code) block
 
--- how many NOs fill up words where the instructions stand as they were written
+-- how many NOs fill up words if the instructions are in the order in which they were written
 abbrev pub fillers_as_written : List Instr → ℕ
 fillers_as_written block = length (fillers 0 (map (len_at block) (numbers block)))
 
@@ -27,14 +27,14 @@ time_line p n block =
     ++ codes " PARCELS " ++ decimal (parcels_in (instrs_of block)) ++ codes " NO " ++ decimal (fillers_as_written (instrs_of block))
     ++ codes " TIME " ++ decimal (total_time (as_written p (instrs_of block))) ++ codes "\n"
 
--- the line of the instruction of this number, which stands at a position, from 0
+-- the line of the instruction of this number, at a position, from 0
 abbrev pub trace_line : TimedOrder → ℕ → ℕ → List ℕ
 trace_line t position number =
     codes "I " ++ decimal number ++ codes " PARCEL " ++ decimal (point_at t position).parcel ++ codes " ISSUE " ++ decimal (point_at t position).issue
     ++ codes " START " ++ decimal (point_at t position).start ++ codes " DONE " ++ decimal (latest_result (point_at t position))
     ++ codes " FREE " ++ decimal (point_at t position).free ++ codes "\n"
 
--- the lines of the instructions of these numbers, before which so many stand
+-- the lines of the instructions of these numbers, before which this many come
 abbrev pub trace_lines : TimedOrder → ℕ → List ℕ → List ℕ
 trace_lines t position [] = []
 trace_lines t position (n ∷ ns) = trace_line t position n ++ trace_lines t (position + 1) ns

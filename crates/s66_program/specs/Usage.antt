@@ -1,6 +1,7 @@
 -- To be believed: the command line, by clap's rules: the subcommands `time`, `deps`, `chart`, `order`, `prove`, `check`, `lint`
--- and `sum`, and a version. `time`, `chart`, `order`, `prove` and `sum` have the option `--profile`, the last three also `--workers` and `--nodes`,
--- `time` and `order` the flag `--trace`, and `order` and `prove` one at most of the flags `--dominate` and `--dominate-tree`.
+-- and `sum`, and a version. `time`, `chart`, `order`, `prove` and `sum` have the option `--profile`, the last three also
+-- `--workers` and `--nodes`. `time` and `order` have the flag `--trace`, and `order` and `prove` one at most of the flags
+-- `--dominate` and `--dominate-tree`.
 use Rattle.std.specs.Prelude.{◌≡◌, ◌≢◌, ◌⊎◌, ◌≤◌, ◌&&◌, if◌then◌else◌, ℕ, Bool, List, [], false, true, Option, None, Some, codes, option_and_then, pos}
 use Rattle.std.specs.Borrow.{Bor}
 use Rattle.std.specs.Option.{option_map, option_map_or}
@@ -171,7 +172,7 @@ Asks words (Sum workers nodes profile) = AsksFor words (codes "sum") × GivesSea
 abbrev pub IsHelp : ErrorKind → Type 0
 IsHelp k = (k ≡ kind.DisplayHelp) ⊎ (k ≡ kind.DisplayVersion)
 
--- what an error of this kind is told as; out of memory may stand in the place of any other
+-- how an error of this kind is shown; out of memory may come in place of any other
 abbrev pub IsUsageOf : ErrorKind → Usage → Type 0
 IsUsageOf k (Help text) = IsHelp k
 IsUsageOf k (Bad text) = (IsHelp k → ⊥) × (k ≢ kind.OutOfMemory)

@@ -53,7 +53,7 @@ fn push_set(out: &mut Vec<u8>, set: &Set) -> Result<(), AllocError>
     Ok(())
 }
 
-/// The line of an instruction, where it depends on some.
+/// The line of an instruction, if it depends on some.
 fn push_needs_line(out: &mut Vec<u8>, number: usize, needs: &Set) -> Result<(), AllocError>
     ensures { OnOk result (out.new.items ≡ out.old.items ++ needs_line number (numbers_in needs.now)) }
 {

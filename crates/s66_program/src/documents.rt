@@ -29,7 +29,7 @@ fn texts_of(alloc: Global, block: &Block) -> Result<Vec<InstructionText>, AllocE
     Ok(texts)
 }
 
-/// A document needs the rule by which leaves are dominated if one is.
+/// The rule of a document with this tree: that of its dominated leaves if it has some, else `NoneNamed`.
 fn rule_of(rule: Rule, tree: &Tree) -> Rule
     ensures { result ≡ (if has_dominated_line tree.now then rule else NoneNamed) }
 {
@@ -40,7 +40,7 @@ fn rule_of(rule: Rule, tree: &Tree) -> Rule
     }
 }
 
-/// The document of an answer to this block under this profile: what it claims, and the tree that shows its bound. `Err` is want of
+/// The document of an answer to this block under this profile: what it claims, and the tree that shows its bound. `Err` is out of
 /// memory.
 pub fn document_of(
     alloc: Global,

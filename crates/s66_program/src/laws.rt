@@ -45,7 +45,7 @@ pub fn ordered_again_law()
     ensures { (rule : Rule) (p : Profile) (nodes : ℕ) (trace : Bool) (input text : List ℕ) (status : Status) (again : List Block) → IsOrderOutput rule p nodes trace input text status → source_of text ≡ Ok again → TakePrintedTimes rule p nodes trace input text again }
 {}
 
-/// What a search answers of a block of an accepted source, under any profile, makes a document, of the block's own problem, and the
+/// What a search answers of a block of an accepted source, under any profile, makes a document of the block's own problem. The
 /// verdict on it is yes, with the answer's time and bound.
 pub fn proved_law()
     ensures same { (rule : Rule) (p : Profile) (text : List ℕ) (blocks : List Block) (block : Block) (a : Answer) → source_of text ≡ Ok blocks → Among block blocks → checker.problem_of (document_under rule p block a) ≡ problem_of p block }
@@ -53,8 +53,8 @@ pub fn proved_law()
     ensures yes { (rule : Rule) (p : Profile) (text : List ℕ) (blocks : List Block) (block : Block) (budget : ℕ) (a : Answer) → source_of text ≡ Ok blocks → Among block blocks → budget ≤ BUDGET_LIMIT → IsAnswer rule (problem_of p block) budget a → verdict (document_under rule p block a) ≡ Yes a.time a.bound }
 {}
 
-/// What `prove` wrote for a source, under any profile, is a text of documents, for each of which `check` writes YES, with the answer's
-/// time and bound; it writes nothing else, and is done.
+/// What `prove` wrote for a source, under any profile, is a text of documents. For each of them `check` writes YES, with the
+/// answer's time and bound; it writes nothing else, and is done.
 pub fn checked_law()
     ensures yes { (rule : Rule) (p : Profile) (nodes : ℕ) (input text : List ℕ) (status : Status) → nodes ≤ BUDGET_LIMIT → IsProveOutput rule p nodes input text status → (lines : List ℕ) × AreYesLines rule p nodes input text lines × IsCheckOutput text lines Done }
     ensures alone { (rule : Rule) (p : Profile) (nodes : ℕ) (input text lines : List ℕ) (status checked : Status) → nodes ≤ BUDGET_LIMIT → IsProveOutput rule p nodes input text status → IsCheckOutput text lines checked → AreYesLines rule p nodes input text lines × (checked ≡ Done) }

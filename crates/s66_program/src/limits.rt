@@ -1,6 +1,6 @@
 use s66_line::{LINE_BYTES_LIMIT, SOURCE_LINES_LIMIT};
 
-/// How many calls reading an input makes at most.
+/// The most calls that reading an input makes.
 pub const FEED_CALLS: u32 = 16_777_216;
 
 /// How many bytes each of these calls has room for.
@@ -12,5 +12,5 @@ pub const SOURCE_FRONT: usize = (LINE_BYTES_LIMIT + 1) * (SOURCE_LINES_LIMIT as 
 /// How many workers search if the words give no number.
 pub const WORKERS_DEFAULT: u8 = 4;
 
-/// The most splits of a block's search where the words give no number.
+/// The most splits of a block's search if the words give no number.
 pub const NODES_DEFAULT: u32 = 100_000;

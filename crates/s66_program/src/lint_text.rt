@@ -5,7 +5,7 @@ use crate::outcome::{Output, Status};
 use s66_line::findings_in;
 use std::alloc::{AllocError, Global};
 
-/// What is told of the lines of a source, which may be any text.
+/// What is stated of the lines of a source, which may be any text.
 pub fn lint_output(alloc: Global, input: &[u8]) -> Result<Output, AllocError>
     ensures { IfOk result (λ output. IsLintOutput input.now output.text.items output.status) }
 {

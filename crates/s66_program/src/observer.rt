@@ -1,4 +1,4 @@
-/// Who is told how far long work is.
+/// What is called as long work goes on.
 pub trait Observer {
     /// `count` blocks, or documents, are done, of the number `of`. It is called before each of them, so never when all are.
     fn done(&mut self, count: usize, of: usize);

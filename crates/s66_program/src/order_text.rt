@@ -76,7 +76,7 @@ pub(crate) fn search_all<R: AllocGlobal + Threads + Wait + Sync, O: Observer>(
     Ok(found)
 }
 
-/// Done where each order is best.
+/// Done if each order is best.
 pub(crate) fn status_of(found: &[Found]) -> Status
     ensures { result ≡ (if tell_best found.now then Done else Bounded) }
 {

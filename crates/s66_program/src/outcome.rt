@@ -42,7 +42,7 @@ impl Status {
     }
 }
 
-/// Why a command failed; each shows itself as the line that standard error gets.
+/// Why a command failed. It is displayed as the line that standard error gets.
 #[derive(Clone, Copy, Debug, Drop, PartialEq, Eq)]
 pub enum Fault {
     /// The source was refused; never for `OutOfMemory`, which is `Memory`.

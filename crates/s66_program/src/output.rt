@@ -23,11 +23,11 @@ use std::alloc::{AllocError, Global};
 use std::sync::Wait;
 use std::thread::Threads;
 
-/// What is told of each block as it was written.
+/// What is printed of each block as it was written.
 #[derive(Clone, Copy, Debug, PartialEq, Eq)]
 pub enum Listing {
     Times {
-        /// Whether each instruction is told.
+        /// Whether each instruction is printed.
         trace: bool,
     },
     Dependences,
@@ -86,7 +86,7 @@ fn listing_output(
 }
 
 /// What a command writes for an input under a profile, or why the input was refused; no other fault than `Source`, `Document` and
-/// `Memory`. The observer is told how far it is, and not of the end.
+/// `Memory`. The observer is called as the work goes on, and not at the end.
 pub fn output_for<R: AllocGlobal + Threads + Wait + Sync, O: Observer>(
     rt: &R,
     command: Command,

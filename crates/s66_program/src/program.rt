@@ -13,7 +13,7 @@ use std::io;
 use std::sync::Wait;
 use std::thread::Threads;
 
-/// Tells a text, as far as the writer takes it.
+/// Writes a text, as far as the writer takes it.
 fn tell<S: Sink>(errors: &mut S, text: &[u8])
     requires { (S.seen errors.old).failures < 2 ^ 64 - 1 }
     ensures { Tells (S.seen errors.old) (S.seen errors.new) text.now }
@@ -21,7 +21,7 @@ fn tell<S: Sink>(errors: &mut S, text: &[u8])
     let _ = write_all(errors, text);
 }
 
-/// Tells the line of a fault, and answers the status.
+/// Writes the line of a fault, and returns the status.
 fn tell_fault<S: Sink>(errors: &mut S, fault: Fault) -> u8
     requires { (S.seen errors.old).failures < 2 ^ 64 - 1 }
     ensures { EndsAt fault (S.seen errors.old) (S.seen errors.new) result }
@@ -32,7 +32,7 @@ fn tell_fault<S: Sink>(errors: &mut S, fault: Fault) -> u8
     fault.code()
 }
 
-/// Shows why words are no command, and answers the status.
+/// Shows why words are no command, and returns the status.
 fn show_usage<S: Sink, E: Sink>(usage: &Usage, writer: &mut S, errors: &mut E) -> u8
     requires writes { (S.seen writer.old).failures < 2 ^ 64 - 1 }
     requires tells { (E.seen errors.old).failures < 2 ^ 64 - 1 }
@@ -50,9 +50,9 @@ fn show_usage<S: Sink, E: Sink>(usage: &Usage, writer: &mut S, errors: &mut E) -
     usage.code()
 }
 
-/// Runs the command that the words give, of which the first is the program's name, or tells why they give none, and
-/// answers the status of the process. What can't be told changes neither the status nor what is written; nor does what the
-/// observer does, which is told how far the command is.
+/// Runs the command that the words give, of which the first is the program's name, or writes why they give none. Returns the
+/// status of the process. What `errors` doesn't take changes neither the status nor what is written; nor does what the observer
+/// does, which is called as the command goes on.
 pub fn run_program<
     'a,
     R: AllocGlobal + Threads + Wait + Sync,
@@ -77,7 +77,7 @@ pub fn run_program<
     }
 }
 
-/// Tells why the process has no words, and answers its status.
+/// Writes why the process has no words, and returns its status.
 pub fn refuse_words<E: Sink>(error: &io::Error, errors: &mut E) -> u8
     requires { (E.seen errors.old).failures < 2 ^ 64 - 1 }
     ensures { LacksWords (error_kind error.now) (E.seen errors.old) (E.seen errors.new) result }

@@ -2,29 +2,29 @@ use crate::observer::Observer;
 use std::io::Write;
 use std::time::{Clock, Duration, Instant};
 
-/// Work that takes more milliseconds than these tells how far it is.
+/// Work that takes more milliseconds than these shows how far it is.
 const LONG: u64 = 1_000;
 
-/// The least time between two tellings, in milliseconds.
+/// The least time between two writes of the line, in milliseconds.
 const PAUSE: u64 = 100;
 
-/// Back to the line's first column, and nothing behind it.
+/// Back to the line's first column, and nothing after it.
 const ERASE: &[u8] = b"\r\x1b[K";
 
-/// A line on a terminal that tells how many blocks are done, once the work has taken a second, and goes when the work ends. What
-/// the terminal doesn't take isn't told.
+/// A line on a terminal that shows how many blocks are done, once the work has taken a second, and goes when the work ends. What
+/// the terminal doesn't take isn't shown.
 #[derive(Drop)]
 pub struct Progress<'a, C, W> {
     clock: &'a C,
-    /// None where there is no terminal.
+    /// None if there is no terminal.
     terminal: Option<&'a mut W>,
-    /// When the line is written next, from the first telling on.
+    /// When the line is written next, from the first call on.
     next: Option<Instant>,
     is_shown: bool,
 }
 
 impl<'a, C: Clock, W: Write> Progress<'a, C, W> {
-    /// Where there is no terminal, nothing is told.
+    /// If there is no terminal, nothing is shown.
     pub fn new(clock: &'a C, terminal: Option<&'a mut W>) -> Progress<'a, C, W> {
         Progress {
             clock,

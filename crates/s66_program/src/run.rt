@@ -61,7 +61,7 @@ fn is_full(held: &[u8], most: Option<usize>) -> bool
     }
 }
 
-/// Puts bytes to what is kept, unless that is full.
+/// Appends bytes to what is kept, unless that is full.
 fn put(held: &mut Vec<u8>, bytes: &[u8], most: Option<usize>) -> Result<(), AllocError>
     ensures { OnOk result (Puts most bytes.now held.old.items held.new.items) }
 {
@@ -133,14 +133,12 @@ fn run_under<R: AllocGlobal + Threads + Wait + Sync, F: Feed, S: Sink, O: Observ
     }
 }
 
-/// Runs a command whose numbers are within their limits: reads to the end, builds all text, and only then writes. The answer is
-/// `Bounded` where `order` or `prove` left a block only bounded, `Denied` where `check` has a verdict that isn't yes, and else
-/// `Done`.
+/// Runs a command whose numbers are within their limits: reads to the end, builds all text, and only then writes. Returns
+/// `Bounded` if `order` or `prove` left a block only bounded, `Denied` if `check` has a verdict that isn't yes, and else `Done`.
 ///
-/// Errors: `Profile` tells that the text for the profile gives none, and then nothing was read; `Source` tells why the source was
-/// refused, `Document` why the documents were, `Memory` that memory was wanting, `Read` that the reader failed or none of
-/// `FEED_CALLS` calls gave the end, `Write` that the writer failed; nothing is written but at `Write`, which leaves a beginning of
-/// the text.
+/// Errors: `Profile` if the text for the profile gives none, and then nothing was read; `Source` or `Document` if the source or
+/// the documents were refused, with the reason; `Memory` if memory ran out; `Read` if the reader failed or none of `FEED_CALLS`
+/// calls gave the end; `Write` if the writer failed. Nothing is written but at `Write`, which leaves a beginning of the text.
 pub fn run_command<R: AllocGlobal + Threads + Wait + Sync, F: Feed, S: Sink>(
     rt: &R,
     command: Command,
@@ -155,8 +153,8 @@ pub fn run_command<R: AllocGlobal + Threads + Wait + Sync, F: Feed, S: Sink>(
     run_observed(rt, command, reader, writer, &mut Silent)
 }
 
-/// `run_command`, of which an observer is told how far it is, and that it has ended before anything is written; what it does with
-/// that changes nothing of what is written and answered. Errors are those of `run_command`.
+/// As `run_command`, with an observer that is called as the work goes on, and when it has ended, before anything is written. What
+/// the observer does changes nothing of what is written and returned. Errors are those of `run_command`.
 pub fn run_observed<R: AllocGlobal + Threads + Wait + Sync, F: Feed, S: Sink, O: Observer>(
     rt: &R,
     command: Command,

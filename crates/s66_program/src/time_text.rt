@@ -30,7 +30,7 @@ fn push_time_line(
     out.extend_from_slice(b"\n")
 }
 
-/// The line of the instruction of this number, which stands at a position.
+/// The line of the instruction of this number, at a position.
 fn push_trace_line(
     out: &mut Vec<u8>,
     timed: &Timed,

@@ -78,7 +78,7 @@ fn checks_which_nodes_are_named(rt: HostRuntime) -> Result<(), Fail> {
     )
 }
 
-/// Dominated leaves stand in versions 2 and 3 alone, and each of these has one.
+/// Dominated leaves are in versions 2 and 3 alone, and each of these has one.
 #[test]
 fn refuses_other_versions(rt: HostRuntime) -> Result<(), Fail> {
     let first = altered(&rt, ONE_DOMINATED, "CERTIFICATE 2", "CERTIFICATE 1")?;

@@ -8,7 +8,7 @@ use std::sync::Wait;
 use std::test::Fail;
 use std::thread::Threads;
 
-/// The text with what stands in the place of its first part of this kind.
+/// The text with `new` in place of the first `old`.
 pub(crate) fn altered<R: AllocGlobal>(
     rt: &R,
     text: &str,

@@ -40,7 +40,7 @@ fn check_order<R: AllocGlobal + Abort + Threads + Wait + Sync>(rt: &R, workers: 
     check_output(rt, order, MULTIPLIES, Status::Bounded, BOUNDED_ORDER);
 }
 
-/// Checks what `prove` prints. If one split is wanting, the workers' steps decide which node stays a leaf, but not what `check`
+/// Checks what `prove` prints. If one split is missing, the workers' steps decide which node stays a leaf, but not what `check`
 /// says.
 fn check_proof<R: AllocGlobal + Abort + Threads + Wait + Sync>(rt: &R, workers: u8)
     requires { (1 ≤ workers) × (workers ≤ WORKERS_LIMIT) }

@@ -144,7 +144,7 @@ const SOURCES: &[(&str, &str, &str)] = &[
 const APART: &str =
     "[] 1: 1 10120 BX1 X2 <BX1 X2> to 1 10120\n[] 1: 3 10340 BX3 X4 <BX3 X4> to 3 10340\n";
 
-/// Sources by name, of a text, a piece that is repeated so many times, and a text, and what each is read as.
+/// Sources by name: a text, a piece with how often it is repeated, and a text; and what each is read as.
 const LONG_SOURCES: &[(&str, &str, &str, usize, &str, &str)] = &[
     (
         "labels and bytes",

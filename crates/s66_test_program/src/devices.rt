@@ -65,7 +65,7 @@ impl Sink for TakesFew {
     }
 }
 
-/// The reader fails at its second call, and one without an end is asked no more than `FEED_CALLS` times.
+/// The reader fails at its second call, and one without an end is called no more than `FEED_CALLS` times.
 #[test]
 fn tells_read_faults(rt: HostRuntime) {
     for (left, failed) in [(1, 1), (FEED_CALLS, 0)] {
@@ -88,7 +88,7 @@ fn tells_read_faults(rt: HostRuntime) {
     }
 }
 
-/// Where the profile is none the reader isn't called, though it would fail.
+/// If the profile is none, the reader isn't called, though it would fail.
 #[test]
 fn reads_nothing_for_a_bad_profile(rt: HostRuntime) {
     let mut reader = GivesFew {
@@ -105,7 +105,7 @@ fn reads_nothing_for_a_bad_profile(rt: HostRuntime) {
     assert!(rt; reader.reads == 0 && reader.failed == 0);
 }
 
-/// A writer with room for so many bytes.
+/// A writer with room for `room` bytes.
 fn writer_of(room: usize) -> TakesFew
     ensures { result.failed ≡ 0 }
 {
@@ -174,7 +174,7 @@ impl Asked {
     }
 }
 
-/// A reader and a writer that tells what it is asked.
+/// A reader and a writer that records what it is asked.
 #[derive(Drop)]
 struct Tells<'a> {
     asked: &'a Asked,

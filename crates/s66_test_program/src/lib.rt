@@ -1,4 +1,4 @@
-//! Tests of the program: what it writes and answers at words, an input and devices.
+//! Tests of the program: what it writes and returns for words, an input and devices.
 #![tactic(auto)]
 
 #[cfg(test)]

@@ -26,7 +26,7 @@ impl Clock for Ticks {
     }
 }
 
-/// What a terminal gets of work on four blocks that ends when so many are done.
+/// What a terminal gets of work on four blocks that ends when `count` are done.
 fn shown_until<R: AllocGlobal>(rt: &R, count: usize) -> Vec<u8> {
     let clock = Ticks {
         reads: AtomicU64::new(0),
@@ -47,7 +47,7 @@ fn shows_long_work(rt: HostRuntime) {
     assert!(rt; shown_until(&rt, 1).is_empty());
 }
 
-/// What an observer is told, as far as there is room.
+/// What an observer is called with, as far as there is room.
 #[derive(Drop)]
 struct Stated {
     steps: ArrayVec<(usize, usize), 8>,
@@ -64,8 +64,8 @@ impl Observer for Stated {
     }
 }
 
-/// Checks the status and what an observer is told: of each block or document, one after the other, and of the end. The answer
-/// is what was written.
+/// Checks the status and the calls of an observer: for each block or document, one after the other, and for the end. Returns what
+/// was written.
 fn check_stated<R: AllocGlobal + Abort + Threads + Wait + Sync>(
     rt: &R,
     words: &[&str],

@@ -135,7 +135,7 @@ fn runs_rows(rt: HostRuntime) {
     check_rows(&rt, words::ROWS);
 }
 
-/// The profile is told before anything is read, so also where the input is refused.
+/// The profile is refused before anything is read, so also if the input is refused.
 #[test]
 fn refuses_bad_profiles(rt: HostRuntime) {
     for text in profile::BAD {

@@ -33,7 +33,7 @@ pub(crate) struct Ran {
     pub(crate) stated: Vec<u8>,
 }
 
-/// Runs the program, of which an observer is told how far it is.
+/// Runs the program with an observer.
 pub(crate) fn run_observed<R: AllocGlobal + Threads + Wait + Sync, F: Feed, O: Observer>(
     rt: &R,
     words: &[&str],

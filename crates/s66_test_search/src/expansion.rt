@@ -8,7 +8,7 @@ use s66_test_blocks::{MULTIPLIES, ONE_LOAD, SEVEN_MULTIPLIES, only_block};
 use std::process::Abort;
 use std::test::Fail;
 
-/// A best time that is told once, and falls when it is asked for again.
+/// A best time that is read once, and falls when it is read again.
 #[derive(Drop)]
 struct Falling {
     kept: u32,
@@ -44,7 +44,7 @@ fn piece_of<R: AllocGlobal + Abort>(
     Ok(piece)
 }
 
-/// What the empty prefix of a source's only block gives, by a best time that is asked for before each split.
+/// What the empty prefix of a source's only block gives, by a best time that is read before each split.
 fn piece_by<R: AllocGlobal + Abort, L: Least>(
     rt: &R,
     code: &str,

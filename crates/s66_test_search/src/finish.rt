@@ -15,10 +15,10 @@ const SEVEN_ALIKE: &str = "  SB0 B1\n  SB0 B1\n  SB0 B1\n  SB0 B1\n  SB0 B1\n  S
 /// More splits than any of the searches takes.
 const BUDGET: u32 = 10_000;
 
-/// A block's code, the rule, and the time and the splits that the search takes. Every beginning that lacks some has a floor below the
-/// time. So without dominated leaves there is a split for each of them. With them there is one for each set of such a beginning's
-/// numbers, since the first that is known of a set dominates all others: 7 of three, 127 of seven. Where only earlier ones of the same
-/// piece are named, all are in one piece.
+/// A block's code, the rule, and the time and the splits that the search takes. Every beginning that lacks some has a floor below
+/// the time. So without dominated leaves there is a split for each of them. With them there is one for each set of such a
+/// beginning's numbers, since the first that is known of a set dominates all others: 7 of three, 127 of seven. If only earlier
+/// ones of the same piece are named, all are in one piece.
 const SEARCHES: &[(&str, Rule, u32, u32)] = &[
     (THREE_ALIKE, Rule::NoneNamed, 8, 10),
     (THREE_ALIKE, Rule::WrittenEarlier, 8, 7),

@@ -9,7 +9,7 @@ use std::time::{Clock, Duration};
 /// How many turns a worker waits at a gate: in each it looks whether it may go on, and sleeps for a millisecond.
 const TURNS: u32 = 10_000;
 
-/// How often a worker has come to each place of a gate.
+/// How often a worker has reached each place of a gate.
 #[derive(Clone, Copy)]
 pub struct Counts {
     claims: u32,
@@ -19,7 +19,7 @@ pub struct Counts {
     pieces: u32,
 }
 
-/// What a worker has told a gate.
+/// What a worker has reported to a gate.
 #[derive(Drop)]
 struct Stated {
     claims: AtomicU32,
@@ -45,7 +45,7 @@ impl Stated {
     }
 }
 
-/// Where a worker stands at a gate.
+/// Where a worker is at a gate.
 #[derive(Clone, Copy)]
 enum Place {
     AfterClaim,
@@ -65,7 +65,7 @@ pub enum Meeting {
 }
 
 impl Meeting {
-    /// Whether a worker may go on from where it stands.
+    /// Whether a worker may go on from where it is.
     fn lets_on(self, w: u8, place: Place, own: Counts, other: Counts) -> bool {
         match (self, place) {
             (Meeting::OneGraft { held }, Place::BeforeGraft) => {
@@ -113,7 +113,7 @@ impl<'a, R: Clock> Held<'a, R> {
         assert!(rt; !self.is_over());
     }
 
-    /// What a worker has told, and what the other has.
+    /// What a worker has reported, and what the other has.
     fn sides(&self, w: u8) -> (&Stated, &Stated) {
         if w == 1 {
             (&self.first, &self.second)
@@ -152,7 +152,7 @@ impl<'a, R: Clock> Gate for Held<'a, R> {
     }
 }
 
-/// A gate that stands open, and keeps which workers have claimed.
+/// A gate that is always open, and records which workers have claimed.
 #[derive(Drop)]
 pub struct Claimants {
     /// A bit for each, at its number.
@@ -181,7 +181,7 @@ impl Gate for Claimants {
     }
 }
 
-/// A gate that stands open, and counts the nodes that its one worker claims between its first piece and its second.
+/// A gate that is always open, and counts the nodes that its one worker claims between its first piece and its second.
 #[derive(Drop)]
 pub struct Filling {
     stated: Stated,

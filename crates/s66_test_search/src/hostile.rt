@@ -13,7 +13,7 @@ use s66_time::time_of;
 use std::process::Abort;
 use std::test::Fail;
 
-/// The piece of the root for a best time, of at most so many splits.
+/// The piece of the root for a best time, of at most `allowance` splits.
 fn root_piece<R: AllocGlobal + Abort>(rt: &R, block: &Block, best: u32, allowance: u32) -> Piece {
     assert!(rt; is_beginning(block, &[]));
     expand(
@@ -61,7 +61,7 @@ fn event_at<R: AllocGlobal + Abort>(rt: &R, block: &Block, place: u32) -> Event
     }
 }
 
-/// A search that stops after so many of these events.
+/// A search that stops after `count` of these events.
 fn stopped<'a, R: AllocGlobal + Abort>(rt: &R, block: &'a Block<'a>, count: u32) -> Ledger<'a>
     ensures { result.workers ≡ 2 }
 {

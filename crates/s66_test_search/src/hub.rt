@@ -61,7 +61,7 @@ fn put_seat<'a, R: Abort>(rt: &R, _hub: &Hub<'a>, seats: &mut Vec<Seat<'a>>, sea
     assert!(rt; seats.push(seat).is_ok());
 }
 
-/// Moves splits of the budget to a seat, and tells how many.
+/// Moves splits of the budget to a seat, and returns how many.
 fn grant<'a, R: Abort + Wait>(rt: &R, hub: &Hub<'a>, seat: &mut Seat<'a>) -> u32
     requires { seat.old.hub ≡ hub.now.id }
     ensures { seat.new.hub ≡ seat.old.hub }

@@ -93,7 +93,7 @@ fn check_history<R: Abort>(rt: &R, ledger: &Ledger) {
     assert_eq!(rt; ledger.line(4), None);
 }
 
-/// What a ledger tells of its search: the best time, the bound, how many splits are spent and how many nodes are open.
+/// What a ledger returns of its search: the best time, the bound, how many splits are spent and how many nodes are open.
 fn readings(ledger: &Ledger) -> (u32, u32, u32, usize) {
     (
         ledger.best(),

@@ -45,7 +45,7 @@ fn check_run<R: AllocGlobal + Abort + Threads + Wait + Sync, G: Gate + Sync>(
     Ok(())
 }
 
-/// Checks that two workers come to a meeting.
+/// Checks that two workers meet.
 fn check_meeting<R: AllocGlobal + Abort + Clock + Threads + Wait + Sync>(
     rt: &R,
     meeting: Meeting,
@@ -67,7 +67,7 @@ fn two_claims_meet(rt: HostRuntime) -> Result<(), Fail> {
     check_meeting(&rt, Meeting::Claims)
 }
 
-/// Each worker claims at least once, even if another has spent all splits, and tells the gate its own number.
+/// Each worker claims at least once, even if another has spent all splits, and reports its own number to the gate.
 #[test]
 fn each_worker_claims(rt: HostRuntime) -> Result<(), Fail> {
     let two = Claimants::none();
@@ -90,8 +90,8 @@ fn splits_of(seats: &[Seat]) -> (u32, u32) {
     (sum, fewest)
 }
 
-/// Lets workers search five multiplies, and checks that they leave nothing to be done. How many splits the one has spent that spent
-/// the fewest is answered.
+/// Lets workers search five multiplies, and checks that they leave nothing to be done. Returns how many splits the worker that
+/// spent the fewest has spent.
 fn search_all<R: AllocGlobal + Abort + Threads + Wait + Sync, G: Gate + Sync>(
     rt: &R,
     block: &Block,
@@ -139,7 +139,7 @@ fn work_is_done(rt: HostRuntime) -> Result<(), Fail> {
     Ok(())
 }
 
-/// Lets workers search five multiplies where any node may be named, and checks that they leave out some of the whole tree.
+/// Lets workers search five multiplies if any node may be named, and checks that they leave out some of the whole tree.
 fn check_named<R: AllocGlobal + Abort + Threads + Wait + Sync>(
     rt: &R,
     block: &Block,

@@ -48,8 +48,8 @@ fn check_rows<R: AllocGlobal + Abort>(
     Ok(())
 }
 
-/// The totals under the standard profile. An order of the packing gap ends with its load's X1, 8 after its issue: in 4 if it stands
-/// last, after the gap, else in 2, 1 or 0.
+/// The totals under the standard profile. An order of the packing gap ends with its load's X1, 8 after its issue: in 4 if it
+/// comes last, after the gap, else in 2, 1 or 0.
 const TOTALS: &[(&str, &[u32])] = &[
     (ONE_LOAD, &[16, 12, 13]),
     (MULTIPLIES, &[22, 22, 22, 22, 22, 22]),

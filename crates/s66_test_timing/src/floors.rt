@@ -6,7 +6,8 @@ use s66_time::Clock;
 use std::process::Abort;
 use std::test::Fail;
 
-/// Three multiplies in two units take 33 over 2, rounded up, and a chain of one takes 11; before the last of them stand two parcels.
+/// Three multiplies in two units take 33 over 2, rounded up, and a chain of one takes 11; before the last of them come two
+/// parcels.
 fn check_multiplies<R: Abort>(rt: &R, block: &Block) {
     let clock = Clock::new(block, &Profile::standard());
     prove!(1 <= block.count());

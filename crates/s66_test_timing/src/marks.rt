@@ -9,7 +9,7 @@ use std::test::Fail;
 /// The third waits for the X1 of the first.
 const LATE_READER: &str = "  FX1 X2/X3\n  SX5 B1\n  BX4 X1\n  FX6 X7+X0\n";
 
-/// A gap is left before the load if an odd number of parcels stands before it.
+/// A gap is left before the load if an odd number of parcels comes before it.
 const PACKING_GAP: &str = "  BX7 X2\n  LX3 1\n  IX4 X5+X6\n  SA1 A1+100\n";
 
 /// The third shifts the X3 of the first, which takes two parcels.

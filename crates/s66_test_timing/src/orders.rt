@@ -3,7 +3,7 @@ use s66_line::{Block, read_source};
 use s66_test_blocks::{ONE_LOAD, only_block};
 use std::test::Fail;
 
-/// Numbers, and the place that is told if they are no legal order of one load.
+/// Numbers, and the place that is returned if they are no legal order of one load.
 const PLACES: &[(&[u8], Option<usize>)] = &[
     (&[1, 2, 3], None),
     (&[1, 3, 2], None),
@@ -15,7 +15,7 @@ const PLACES: &[(&[u8], Option<usize>)] = &[
     (&[], Some(1)),
 ];
 
-/// The place of some numbers that is told if they are no legal order.
+/// The place that is returned for some numbers if they are no legal order.
 fn refused_place(block: &Block, numbers: &[u8]) -> Option<usize> {
     match Order::new(block, numbers) {
         Ok(_) => None,

@@ -76,7 +76,7 @@ impl PlainPoint {
     }
 }
 
-/// Where an instruction of one or two parcels begins, from an empty parcel on: two parcels stand in one word of four.
+/// Where an instruction of one or two parcels begins, from an empty parcel on: two parcels are in one word of four.
 fn begins_at(empty: u32, parcels: u32) -> u32 {
     if parcels == 2 && empty % 4 == 3 {
         empty.saturating_add(1)

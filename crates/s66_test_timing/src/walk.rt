@@ -8,8 +8,8 @@ use s66_line::Block;
 use s66_time::Clock;
 use std::process::Abort;
 
-/// A walk through the legal orders of a block, depth first, the children of a beginning in rising number. At each step it checks that
-/// the clock tells what the plain form tells.
+/// A walk through the legal orders of a block, depth first, the children of a beginning in rising number. At each step it checks
+/// that the clock returns what the plain form returns.
 #[derive(Drop)]
 pub struct Walk<'a> {
     clock: Clock<'a>,
@@ -20,7 +20,7 @@ pub struct Walk<'a> {
     totals: Vec<u32>,
 }
 
-/// Pushes a number if it is ready, and tells whether it was.
+/// Pushes a number if it is ready, and returns whether it was.
 pub fn push_ready(clock: &mut Clock, n: u8) -> bool
     ensures same { problem_of clock.new ≡ problem_of clock.old }
     ensures pushed { IsTrue result → clock.new.numbers ≡ clock.old.numbers ++ n ∷ [] }
@@ -32,7 +32,7 @@ pub fn push_ready(clock: &mut Clock, n: u8) -> bool
     is_ready
 }
 
-/// Takes back the last push, and tells whether there was one.
+/// Takes back the last push, and returns whether there was one.
 fn undo_last(clock: &mut Clock) -> bool {
     let is_pushed = clock.pushed().count() > 0;
     if is_pushed {
@@ -70,7 +70,7 @@ impl<'a> Walk<'a> {
         true
     }
 
-    /// Goes on by the number if it is ready, and tells whether it was.
+    /// Goes on by the number if it is ready, and returns whether it was.
     fn enter<R: AllocGlobal + Abort>(&mut self, rt: &R) -> bool {
         let n = self.tried;
         if !push_ready(&mut self.clock, n) {
@@ -95,7 +95,7 @@ impl<'a> Walk<'a> {
         last
     }
 
-    /// Checks that the clock tells what the plain form tells.
+    /// Checks that the clock returns what the plain form returns.
     fn check_readings<R: Abort>(&self, rt: &R) {
         assert_eq!(rt; self.clock.next(), self.plain.next());
         assert_eq!(rt; self.clock.total(), self.plain.total());

@@ -3,7 +3,7 @@ use crate::running::CHECK;
 
 const ONE_BOOLEAN: &str = "  BX1 X2+X3\n";
 
-/// The document of three multiplies where there are three units.
+/// The document of three multiplies if there are three units.
 const THREE_UNITS: &str =
     "S66 CERTIFICATE 1\nPROFILE 3 3 4 4 3 10 29 8 3 8 1 1 1 1 3 1 2\nBLOCK 3\nI FX1 X2*X3\nI FX4 X5*X6\nI FX0 X7*X7\nTIME 13\nBOUND 13\nORDER 1 2 3\nP\nEND\n";
 
