@@ -5,7 +5,7 @@ use s66_model::Rule;
 pub enum Command<'a> {
     /// The times of each block of a source, as it was written.
     Time {
-        /// Whether each instruction is told.
+        /// Whether the times of each instruction are printed.
         trace: bool,
         /// The text of the profile, if it isn't the standard one.
         profile: Option<&'a str>,
@@ -25,7 +25,7 @@ pub enum Command<'a> {
         nodes: u32,
         /// Which nodes dominated leaves name; by `NoneNamed` no leaf is dominated.
         rule: Rule,
-        /// Whether the number of splits is told.
+        /// Whether the number of splits is printed.
         trace: bool,
         /// The text of the profile, if it isn't the standard one.
         profile: Option<&'a str>,
@@ -52,7 +52,7 @@ pub enum Command<'a> {
         /// The text of the profile, if it isn't the standard one.
         profile: Option<&'a str>,
     },
-    /// What is told of the lines of a source, which may be any text: each that is refused, and each that may not do what was meant.
+    /// The lines of a source, which may be any text, that are refused or that may not do what was meant.
     Lint,
 }
 

@@ -27,7 +27,7 @@ pub const VERSION: &str = "0.1.0";
 pub enum Usage {
     /// They ask for help or for the version, which is the text.
     Help(String),
-    /// They are a mistake, which the text tells.
+    /// They are a mistake, which the text names.
     Bad(String),
     OutOfMemory,
 }
@@ -372,14 +372,14 @@ fn program<'a>(alloc: Global) -> Result<Command<'a>, AllocError>
         .subcommand(sum_command(alloc)?)
 }
 
-/// How many workers search, as a subcommand that searches was told.
+/// How many workers search, by the words of a subcommand that searches.
 fn workers_in(matches: &ArgMatches) -> u8
     ensures { IsNumber 1 WORKERS_LIMIT (one_text (found_of matches.now) (codes "workers")) → IsReadAs 1 WORKERS_LIMIT WORKERS_DEFAULT (one_text (found_of matches.now) (codes "workers")) result }
 {
     matches.get_one("workers").unwrap_or(WORKERS_DEFAULT)
 }
 
-/// The most splits of a search, as a subcommand that searches was told.
+/// The most splits of a search, by the words of a subcommand that searches.
 fn nodes_in(matches: &ArgMatches) -> u32
     ensures { IsNumber 0 BUDGET_LIMIT (one_text (found_of matches.now) (codes "nodes")) → IsReadAs 0 BUDGET_LIMIT NODES_DEFAULT (one_text (found_of matches.now) (codes "nodes")) result }
 {
