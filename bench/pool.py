@@ -8,20 +8,20 @@ of 40 and of 64 instructions, each of which uses up 1,000,000 splits, and that i
 from its start to its end.
 
 The pace of a machine may change by a factor of two from one second to the next, as its clock does and what else runs on its
-cores. So a round runs each search once, and what is told of a search is a median over all rounds and blocks of its ratio to one
+cores. So a round runs each search once, and what is printed of a search is a median over all rounds and blocks of its ratio to one
 worker's in the same round; of seconds, the median too.
 
 How much four workers can gain depends on the machine: four processors may be two cores with two threads each, or share a memory
-that is too slow for four. So the same is told of four processes at once, each a search by one worker. They share nothing, and wait
+that is too slow for four. So the same is printed of four processes at once, each a search by one worker. They share nothing, and wait
 for nobody: four workers can hardly gain more.
 
-What a worker costs beside a search without (the lock, the history, a thread) is told by the crate s66_bench, which searches by
+What a worker costs beside a search without (the lock, the history, a thread) is measured with the crate s66_bench, which searches by
 one worker and without; `rt run` proves and builds it where that is needed. Both search with fewer splits, in turns and on
 one processor, so that they find the machine at one pace.
 
 A worker that finds the ledger's lock taken looks for it for a while, and then asks the kernel to let other threads run; so does
 one that finds no open node. The kernel returns at once unless it has other work, so waiting is no idle time but processor time, of
-which two figures tell how much it is. "In the kernel" is the kernel's time beyond that of one worker, which waits for nobody:
+which two figures say how much it is. "In the kernel" is the kernel's time beyond that of one worker, which waits for nobody:
 waiting is at least about that. "Beyond one worker's" is all processor time beyond that of one worker for as many splits, in which
 are also the waiting outside of the kernel, and what it costs that processors share caches or a core: waiting is at most about
 that. Both are shares of the processor time of the run.
@@ -44,12 +44,12 @@ SEEDS = {24: [2, 5, 6], 40: [2, 3, 4], 64: [2, 3, 4]}  # of blocks that use up t
 SHORT_BUDGET = 300_000  # of the searches that tell what a worker costs
 PAIRS = 40  # of these searches, on each block
 
-Search = namedtuple("Search", "words budget workers processes pattern")  # so many processes at once; the pattern finds one's splits
+Search = namedtuple("Search", "words budget workers processes pattern")  # n processes at once; the pattern finds one's splits
 Run = namedtuple("Run", "seconds user kernel")  # by the clock, and of processors
 
 
 def order(program, workers, processes=1):
-    """Processes of `s66 order` at once, each with so many workers."""
+    """Processes of `s66 order` at once, each with n workers."""
     words = (program, "order", "--workers", str(workers), "--nodes", str(BUDGET), "--trace")
     return Search(words, BUDGET, workers, processes, rb"\* SPLITS (\d+)")
 

@@ -76,7 +76,7 @@ def tell_mixed(program, workers):
 
 
 def added(program, mode, text, rounds):
-    """The instructions of so many rounds, which stand behind a first that isn't counted."""
+    """The instructions of a number of rounds after a first that isn't counted."""
     first = instructions([program, mode, "1"], text)
     return instructions([program, mode, str(1 + rounds)], text) - first
 

@@ -5,7 +5,7 @@
 
 It is written from docs/FORMATS.md and docs/DEFINITIONS.md alone, and believes nothing that a document says, of whatever
 version. Under the document's own profile it times the order, tests that it is legal, and goes through the tree line by line.
-YES says that the order takes TIME and that no legal order takes less than BOUND; NO tells the first fault, its line and its
+YES says that the order takes TIME and that no legal order takes less than BOUND; NO gives the first fault, its line and its
 reason. Status 0: each verdict is YES. 5: some verdict is NO. 3: the text is no text of documents, and is refused as a whole.
 It holds one document at a time. For a block of 24 instructions it goes through some 10,000 lines of a tree a second.
 """
@@ -95,7 +95,7 @@ TreeLine = namedtuple("TreeLine", "kind names children")
 
 
 class Refused(Exception):
-    """A text is no text of documents. It holds the line that tells why."""
+    """A text is no text of documents. It holds the line that says why."""
 
 
 class Reader:
@@ -116,7 +116,7 @@ class Reader:
         return line
 
     def numbers(self, line, word, least, most, shortest=1, longest=1):
-        """The numbers of a line, which are so many and within these limits, after a word."""
+        """The numbers of a line, which are this many and within these limits, after a word."""
         are_numbers = re.fullmatch(word + "( (0|[1-9][0-9]{0,5}))+", line)
         numbers = [int(field) for field in line.split(" ")[1:]] if are_numbers else []
         if not shortest <= len(numbers) <= longest or not all(least <= n <= most for n in numbers):
@@ -357,7 +357,7 @@ def line_fault(problem, document, prefix, line):
 
 
 def faults(document):
-    """The line and the reason of each fault, the first of which is told: what comes after it relies on it."""
+    """The line and the reason of each fault, the first of which is printed: what comes after it relies on it."""
     problem, tree_line = Problem(document.profile, document.block), 7 + len(document.block)
     order = problem.beginning(tuple(document.order))
     if not order or problem.remaining(order):

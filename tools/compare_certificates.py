@@ -209,7 +209,7 @@ class Maker:
         lines[place] = lines[place][:at] + more + lines[place][at + self.any.choice([0, 1]) :]
 
     def weaken(self, lines, written):
-        """Claims the source order with its time, a bound up to that, and any leaves: the first one below the bound is told."""
+        """Claims the source order with its time, a bound up to that, and any leaves: the first one below the bound is the fault."""
         block = [line for line in lines if line.startswith("I ")]
         for place, line in enumerate(lines):
             if line.startswith("TIME "):

@@ -1,5 +1,5 @@
 #!/usr/bin/env python3
-"""Runs the gate and tells what each crate cost.
+"""Runs the gate and prints what each crate cost.
 
     tools/gate.py LOG [ARGUMENT..]   runs `rt ci ARGUMENT..` here, writes what it says to LOG, and then prints the table
     tools/gate.py --table LOG        prints the table of a log that was written so
