@@ -47,7 +47,7 @@ fn direct_needs(dependences: &Dependences, n: u8) -> Set
     direct
 }
 
-/// The numbers that depend on n directly, where these are of each number those on which it does.
+/// The numbers that depend on n directly. Of each number, `direct` has those on which it does.
 fn opened_by(direct: &[Set], n: u8) -> Set
     requires { length direct.now ≤ BLOCK_LIMIT }
     ensures { numbers_in result ≡ filter (λ m. has n (numbers_in (get_or direct.now (m - 1) no_set))) (rising (length direct.now) 1) }

@@ -1,11 +1,15 @@
 -- Used by contracts: what they see of a walk: what is timed, and the prefix at which it stands.
 use Rattle.std.specs.Prelude.{ℕ, ◌-◌, ◌≡◌, ◌≤◌, List, length, take}
-use Rattle.s66_line.specs.Block.{instrs_of}
+use Rattle.s66_isa.specs.declared.instr.Instr.{Instr}
 use Rattle.s66_isa.specs.declared.limits.TheConstants.{BLOCK_LIMIT}
+use Rattle.s66_isa.specs.Lists.{has}
+use Rattle.s66_line.specs.Block.{instrs_of}
 use Rattle.s66_model.specs.Dependence.{all_needs}
-use Rattle.s66_model.specs.LegalOrder.{IsBeginning}
+use Rattle.s66_model.specs.LegalOrder.{IsBeginning, ready}
 use Rattle.s66_model.specs.Timing.{Problem}
+use Rattle.s66_dep.specs.Members.{numbers_in}
 use Rattle.s66_time.specs.Ticking.{Ticking, problem_of}
+use Rattle.s66_node.specs.declared.walk.ReadyFront.{ReadyFront}
 
 pub record Walked : Type 0 where
   pub problem : Problem
@@ -15,10 +19,17 @@ pub record Walked : Type 0 where
 abbrev pub front : List ℕ → List ℕ
 front prefix = take (length prefix - 1) prefix
 
--- what is true of every walk: its clock, its bounds, its dependences and its numbers go together
-pub record IsWalked (c : Ticking) (b : Problem) (d : List (List ℕ)) (ns : List ℕ) : Type 0 where
+-- it is a front of the prefix, with what is ready after it
+pub record IsReadyFront (block : List Instr) (prefix : List ℕ) (f : ReadyFront) : Type 0 where
+  pub within : f.count ≤ length prefix
+  pub placed : (m : ℕ) → has m (numbers_in f.placed) ≡ has m (take f.count prefix)
+  pub ready : numbers_in f.ready ≡ ready block (take f.count prefix)
+
+-- what is true of every walk: its clock, its bounds, its dependences, its numbers and the front go together
+pub record IsWalked (c : Ticking) (b : Problem) (d : List (List ℕ)) (ns : List ℕ) (f : ReadyFront) : Type 0 where
   pub bounds : b ≡ problem_of c
   pub needs : d ≡ all_needs (instrs_of c.block)
   pub numbers : ns ≡ c.numbers
   pub begins : IsBeginning (instrs_of c.block) c.numbers
   pub few : length (instrs_of c.block) ≤ BLOCK_LIMIT
+  pub front : IsReadyFront (instrs_of c.block) c.numbers f

@@ -50,8 +50,8 @@ fn timed_of(
 /// least one of its whole orders, timed. Times are in minor cycles.
 ///
 /// The tables of the block are made once, in time quadratic in its length. Each split then costs a push, a floor and an undo for
-/// each of its children, and a look at each instruction. It takes no lock and waits for nobody. `Err` is out of memory, and
-/// leaves nothing behind.
+/// each of its children, and a look for each instruction that depends directly on the last one of its prefix. It takes no lock and
+/// waits for nobody. `Err` is out of memory, and leaves nothing behind.
 pub fn expand(
     alloc: Global,
     block: &Block,

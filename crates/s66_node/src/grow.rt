@@ -124,8 +124,8 @@ fn keep_whole(least: &mut Option<WholeOrder>, walk: &Walk<'_>, vertex: &Vertex)
 /// The tree over the walk's prefix, made depth first by rising number: at most `allowance` splits, each at an incomplete prefix
 /// whose floor is below the best time. The best time is read at the walk's prefix, and before each split below it.
 ///
-/// A split costs one look at each instruction that remains, and each of its children a push, an undo and a floor. Nothing is
-/// allocated but room for lines.
+/// A split below the walk's prefix costs one look for each instruction that depends directly on its last number, and each of its
+/// children a push, an undo and a floor. Nothing is allocated but room for lines.
 ///
 /// Below its root, a prefix that would be split or stay open is dominated if a node is known that dominates it by the rule.
 /// Those that are split or stay open may be known from then on.

@@ -2,7 +2,7 @@ ghost use Rattle.std.specs.Prelude.{ℕ, ◌≡◌, ◌≢◌, ◌≤◌, ◌<�
 
 use arrayvec::ArrayVec;
 use s66_bound::{Bounds, Leaf};
-use s66_dep::{Dependences, Set};
+use s66_dep::{Openings, Set};
 use s66_isa::{BLOCK_LIMIT, Profile, Reg};
 use s66_line::Block;
 use s66_time::{Clock, Mark};
@@ -23,14 +23,26 @@ pub(crate) fn common_length(left: &[u8], right: &[u8]) -> usize
     shorter
 }
 
+/// A front of a walk's prefix, and what is ready after it.
+#[derive(Clone, Copy, Debug)]
+struct ReadyFront {
+    /// How many numbers it has.
+    count: usize,
+    /// The set of them.
+    placed: Set,
+    ready: Set,
+}
+
 /// A walk over the beginnings of a block's legal orders. It is at a prefix, which grows and shrinks by a number at its end, and
 /// it has the prefix's floor and what is ready after it.
 #[derive(Debug, Drop)]
 pub struct Walk<'a> {
     pub(crate) clock: Clock<'a>,
     bounds: Bounds<'a>,
-    dependences: Dependences,
+    openings: Openings,
     numbers: ArrayVec<u8, BLOCK_LIMIT>,
+    /// It follows the prefix only when what is ready is asked for, since most pushes are undone before that.
+    front: ReadyFront,
 }
 
 impl<'a> Model for Walk<'a> {
@@ -41,7 +53,7 @@ impl<'a> Model for Walk<'a> {
 
     ghost view = { λ w. record { problem = problem_of w.clock; numbers = w.clock.numbers } };
 
-    ghost invariant = { λ w. IsWalked w.clock w.bounds w.dependences w.numbers.items };
+    ghost invariant = { λ w. IsWalked w.clock w.bounds w.openings w.numbers.items w.front };
 }
 
 impl<'a> Walk<'a> {
@@ -64,11 +76,19 @@ impl<'a> Walk<'a> {
         ensures { result ≡ record { problem = record { block = instrs_of block.now; profile = profile.now }; numbers = [] } }
     {
         prove!(block.count() <= BLOCK_LIMIT);
+        let openings = Openings::of(block);
+        let placed = Set::empty();
+        let ready = openings.dependences().ready(&placed);
         Walk {
             clock: Clock::new(block, profile),
             bounds: Bounds::of(block, profile),
-            dependences: Dependences::of(block),
+            openings,
             numbers: ArrayVec::new(),
+            front: ReadyFront {
+                count: 0,
+                placed,
+                ready,
+            },
         }
     }
 
@@ -88,7 +108,16 @@ impl<'a> Walk<'a> {
         ensures { self.new ≡ record self.old { numbers = front self.old.numbers } }
     {
         self.clock.undo();
-        self.numbers.pop();
+        let Some(n) = self.numbers.pop() else {
+            unreachable!()
+        };
+        if self.numbers.len() < self.front.count {
+            self.front = ReadyFront {
+                count: self.numbers.len(),
+                placed: self.clock.pushed(),
+                ready: self.openings.ready_before(&self.front.ready, n),
+            };
+        }
     }
 
     /// Goes back to the longest front that its prefix has in common with another, and returns how long that is.
@@ -175,11 +204,28 @@ impl<'a> Walk<'a> {
         self.bounds.floor_of_value(&self.clock, value)
     }
 
-    /// The numbers that are ready after the prefix: one look at a word for each instruction that remains.
-    pub fn ready(&self) -> Set
-        ensures { numbers_in result ≡ ready self.now.problem.block self.now.numbers }
+    /// The numbers that are ready after the prefix. They follow from those of a front of it that was asked for before: each number
+    /// from there on takes one look for each instruction that depends on it directly.
+    pub fn ready(&mut self) -> Set
+        ensures ready { numbers_in result ≡ ready self.old.problem.block self.old.numbers }
+        ensures same { self.new ≡ self.old }
     {
-        self.dependences.ready(&self.clock.pushed())
+        let ReadyFront {
+            count,
+            mut placed,
+            mut ready,
+        } = self.front;
+        for position in count..self.numbers.len() {
+            let n = self.numbers[position];
+            placed = placed.with(n);
+            ready = self.openings.ready_after(&ready, n, &placed);
+        }
+        self.front = ReadyFront {
+            count: self.numbers.len(),
+            placed,
+            ready,
+        };
+        ready
     }
 
     /// Whether a number is ready after the prefix, in constant time.
@@ -193,7 +239,7 @@ impl<'a> Walk<'a> {
         if pushed.has(n) {
             return false;
         }
-        self.dependences.needs(n).is_within(&pushed)
+        self.openings.dependences().needs(n).is_within(&pushed)
     }
 
     /// The least number above n that is ready after the prefix: one look at a word for each number up to it.

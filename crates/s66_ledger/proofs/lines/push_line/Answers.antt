@@ -1,7 +1,11 @@
-use Rattle.std.proofs.Common.{◌≡◌, ◌++◌, ◌∷◌, [], ℕ, List, ap, ◌∙◌}
+use Rattle.std.proofs.Common.{◌≡◌, ◌++◌, ◌∷◌, [], ℕ, List, ap, subst, ◌∙◌}
+use Rattle.s66_dep.specs.Members.{numbers_in}
 use Rattle.s66_model.specs.DominatedLeaves.{Ending}
+use Rattle.s66_model.specs.Later.{children, later}
 use Rattle.s66_model.specs.Tree.{Vertex, AtSplit}
 use Rattle.s66_ledger.specs.declared.node.Node.{Node}
+use Rattle.s66_node.specs.Walked.{Walked}
+use Rattle.s66_ledger.specs.AnswerLines.{to_come}
 use Rattle.s66_ledger.specs.Nodes.{no_node}
 use Rattle.s66_ledger.proofs.AnswerLines.{split-here, split-line, terminal-line, line-appended, one-longer}
 use Rattle.s66_ledger.proofs.NodePrefixes.{get_or-any}
@@ -11,7 +15,8 @@ pub go_below-requires-clause-split : goal.go_below-requires-clause-split
 go_below-requires-clause-split c =
     let w = c.args.walk.now in
     let stands = c.requires.stands in
-    split-here w.problem c.args.nodes.now c.requires.tree c.args.node.now w.numbers stands (get_or-any c.args.nodes.now c.args.node.now no_node _ (λ (x : Node). x.state) stands.within ∙ c.in-Split.is)
+    rw c.ready-numbers.ensures.same
+    (split-here w.problem c.args.nodes.now c.requires.tree c.args.node.now w.numbers stands (get_or-any c.args.nodes.now c.args.node.now no_node _ (λ (x : Node). x.state) stands.within ∙ c.in-Split.is))
 
 split-pushed : (old new : List (Vertex Ending)) (said ns : List ℕ) → new ≡ old ++ AtSplit said ∷ [] → said ≡ ns → new ≡ old ++ AtSplit ns ∷ []
 split-pushed old new said ns pushed is = pushed ∙ ap (λ (numbers : List ℕ). old ++ AtSplit numbers ∷ []) is
@@ -23,8 +28,13 @@ pub returns-in-Split-clause-rest : goal.returns-in-Split-clause-rest
 returns-in-Split-clause-rest c =
     let w = c.args.walk.now in
     let stands = c.requires.stands in
+    let next : to_come w.problem.block c.go_below.result c.go_below.new.walk.numbers ≡ children w.numbers (numbers_in c.ready-numbers.result) ++ later w.problem.block [] w.numbers =
+    subst
+    (λ (x : Walked). to_come x.problem.block c.go_below.result c.go_below.new.walk.numbers ≡ children x.numbers (numbers_in c.ready-numbers.result) ++ later x.problem.block [] x.numbers)
+    c.ready-numbers.ensures.same c.go_below.ensures.next
+    in
     line-appended _ _ _ _ _ (split-pushed _ _ _ _ c.in_ok-push.ensures.pushed (c.as_slice.ensures.value ∙ c.numbers.ensures))
-    (split-line w.problem c.args.nodes.now c.requires.tree c.args.node.now w.numbers stands _ _ (get_or-any c.args.nodes.now c.args.node.now no_node _ (λ (x : Node). x.state) stands.within ∙ c.in-Split.is) c.ready-numbers.ensures c.go_below.ensures.next)
+    (split-line w.problem c.args.nodes.now c.requires.tree c.args.node.now w.numbers stands _ _ (get_or-any c.args.nodes.now c.args.node.now no_node _ (λ (x : Node). x.state) stands.within ∙ c.in-Split.is) c.ready-numbers.ensures.ready next)
 
 pub push_terminal-requires-clause-unsplit : goal.push_terminal-requires-clause-unsplit
 push_terminal-requires-clause-unsplit c split =

@@ -46,19 +46,19 @@ pub loop-frame-init : goal.loop-frame-init
 loop-frame-init g c =
     let b = c.args.walk.now.problem in
     let root = c.args.walk.now.numbers in
-    let numbers : numbers_in c.ready-ready.result ≡ ready b.block root = c.ready-ready.ensures in
+    let numbers : numbers_in c.ready-ready.result ≡ ready b.block root = c.ready-ready.ensures.ready in
     let pushed = seen-push c.reserve.new.self.items c.push-2.new.self.items _ (AtSplit (numbers_in c.ready-ready.result)) c.in_ok-push-2.ensures.items refl in
     let vertices : seen c.push-2.new.self.items ≡ AtSplit (ready b.block root) ∷ [] = pushed ∙ (ap (λ ks. seen ks ++ AtSplit (numbers_in c.ready-ready.result) ∷ []) (c.reserve.ensures.items ∙ c.new-vertices.ensures.items) ∙ ap (λ ns. AtSplit ns ∷ []) numbers) in
     let frames : c.push-3.new.self.items ≡ c.ready-ready.result ∷ [] = c.push-3.ensures.items ∙ ap (λ fs. fs ++ c.ready-ready.result ∷ []) c.new-frames.ensures in
     let high = g.L.Least.kept c.args.incumbent.now in
     let due : IsDue b high root = (c.in_default.ensures.due.0, omega (arith, c.in_default.ensures.due.1, c.least-best.ensures.now, c.least-best.ensures.falls)) in
     record {
-      problem = refl;
+      problem = ap (λ (w : Walked). w.problem) c.ready-ready.ensures.same;
       kept = sym c.least-best.ensures.now;
       falls = omega (arith, c.least-best.ensures.now, c.least-best.ensures.falls);
       lowest = (c.least-best.ensures.lowest.0, omega (arith, c.least-best.ensures.lowest.0, c.least-best.ensures.lowest.1, c.least-best.ensures.now));
       suits = c.keep_split.ensures.suits;
-      walk = λ low le. rw (frames, vertices) (walk-root c.args.rule b (span high low) c.args.allowance root c.ready-ready.result (g.N.Naming.names c.args.names.now) (g.N.Naming.names c.keep_split.new.self) c.requires.unknown c.keep_split.ensures.known (ltb-true 0 c.args.allowance c.in_default.ensures.may) c.numbers.ensures.begins due numbers);
+      walk = λ low le. rw (c.ready-ready.ensures.same, frames, vertices) (walk-root c.args.rule b (span high low) c.args.allowance root c.ready-ready.result (g.N.Naming.names c.args.names.now) (g.N.Naming.names c.keep_split.new.self) c.requires.unknown c.keep_split.ensures.known (ltb-true 0 c.args.allowance c.in_default.ensures.may) c.numbers.ensures.begins due numbers);
     }
 
 pub push-requires-in-Some-pop_first : goal.push-requires-in-Some-pop_first
@@ -142,7 +142,7 @@ loop-frame-preserved-in-None g c =
     let low : IsDue now.problem c.unsplit_child.new.best now.numbers = subst (λ (o : Option Vertex). IfNone o (IsDue now.problem c.unsplit_child.new.best now.numbers)) c.in-None.is c.in_ok-child.ensures.due in
     let due : IsDue now.problem (g.L.Least.kept c.args.incumbent.now) now.numbers = (low.0, omega (arith, low.1, c.unsplit_child.ensures.falls, lf.invariant.falls)) in
     record {
-      problem = own;
+      problem = ap (λ (w : Walked). w.problem) c.ready-ready-in-None.ensures.same ∙ own;
       kept = c.unsplit_child.ensures.kept;
       falls = omega (arith, c.unsplit_child.ensures.falls, lf.invariant.falls);
       lowest = (c.unsplit_child.ensures.lowest.0 ∙ lf.invariant.lowest.0, omega (arith, c.unsplit_child.ensures.lowest.1 (omega (arith, lf.invariant.lowest.0, lf.invariant.lowest.1)), lf.invariant.lowest.0));
@@ -152,9 +152,10 @@ loop-frame-preserved-in-None g c =
           let old : low ≤ lf.best = omega (arith, le, c.unsplit_child.ensures.falls) in
           let kept : (name : List ℕ) → Among name (g.N.Naming.names c.keep_split-in-None.new.self) → (name ≡ now.numbers) ⊎ Among name (g.N.Naming.names lf.names) =
           λ name among. subst (λ names. (name ≡ now.numbers) ⊎ Among name names) c.unsplit_child.ensures.same (c.keep_split-in-None.ensures.known name among) in
-          walk-split c.args.rule b best c.args.allowance root lf.walk.numbers lf.frames.items c.pop.new.self.items c.in-Some-pop.frame (seen lf.vertices.items) lf.splits lf.least (g.N.Naming.names lf.names) (lf.invariant.walk low old) c.in-Some-pop.ensures.items
+          rw c.ready-ready-in-None.ensures.same
+          (walk-split c.args.rule b best c.args.allowance root lf.walk.numbers lf.frames.items c.pop.new.self.items c.in-Some-pop.frame (seen lf.vertices.items) lf.splits lf.least (g.N.Naming.names lf.names) (lf.invariant.walk low old) c.in-Some-pop.ensures.items
           c.in-Some-pop_first.n c.pop_first.new.self c.ready-ready-in-None.result c.push-in-Some-pop_first.new.self.items c.push-in-None-2.new.self.items (seen c.push-in-None.new.self.items) (g.N.Naming.names c.keep_split-in-None.new.self) now.problem now.numbers kept
-          c.in-Some-pop_first.ensures.some c.push-in-Some-pop_first.ensures.items c.push-in-None-2.ensures.items own next due c.ready-ready-in-None.ensures vertices (ltb-true lf.splits c.args.allowance (subst (λ (o : Option Vertex). IfNone o (IsTrue (nat_lt lf.splits c.args.allowance))) c.in-None.is c.in_ok-child.ensures.may));
+          c.in-Some-pop_first.ensures.some c.push-in-Some-pop_first.ensures.items c.push-in-None-2.ensures.items own next due c.ready-ready-in-None.ensures.ready vertices (ltb-true lf.splits c.args.allowance (subst (λ (o : Option Vertex). IfNone o (IsTrue (nat_lt lf.splits c.args.allowance))) c.in-None.is c.in_ok-child.ensures.may)));
     }
 
 pub undo-requires-then-not-is_empty : goal.undo-requires-then-not-is_empty

@@ -9,14 +9,17 @@ use Rattle.s66_node.proofs.schedule.first_ready.Goals as goal
 pub of-best-requires : goal.of-best-requires
 of-best-requires c =
     let w = c.args.walk.now in
-    lowest-ready c.args.priority w.problem w.numbers c.ready-rest.result c.pop_first.new.self c.in_ok-pop_first.field-0 c.in_ok-pop_first.ensures.some c.ready-rest.ensures
+    rw c.ready-rest.ensures.same (lowest-ready c.args.priority w.problem w.numbers c.ready-rest.result c.pop_first.new.self c.in_ok-pop_first.field-0 c.in_ok-pop_first.ensures.some c.ready-rest.ensures.ready)
 
 pub loop-number-init : goal.loop-number-init
 loop-number-init c =
     let w = c.args.walk.now in
+    let n = c.in_ok-pop_first.field-0 in
+    let time : c.of-best.result.time ≡ time_by c.args.priority w.problem w.numbers n = c.of-best.ensures.time ∙ ap (λ (x : Walked). time_by c.args.priority x.problem x.numbers n) c.ready-rest.ensures.same in
+    let tail : c.of-best.result.tail ≡ longest_tail w.problem n = c.of-best.ensures.tail ∙ ap (λ (x : Walked). longest_tail x.problem n) c.ready-rest.ensures.same in
     record {
-      same = c.of-best.ensures.same;
-      best = lowest-first c.args.priority w.problem w.numbers c.ready-rest.result c.pop_first.new.self c.in_ok-pop_first.field-0 c.in_ok-pop_first.ensures.some c.of-best.result c.ready-rest.ensures c.of-best.ensures.number c.of-best.ensures.time c.of-best.ensures.tail;
+      same = c.of-best.ensures.same ∙ c.ready-rest.ensures.same;
+      best = lowest-first c.args.priority w.problem w.numbers c.ready-rest.result c.pop_first.new.self c.in_ok-pop_first.field-0 c.in_ok-pop_first.ensures.some c.of-best.result c.ready-rest.ensures.ready c.of-best.ensures.number time tail;
     }
 
 pub of-other-requires : goal.of-other-requires

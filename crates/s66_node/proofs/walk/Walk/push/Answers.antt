@@ -4,8 +4,8 @@ use Rattle.s66_node.proofs.walk.Walk.push.Goals as goal
 
 pub push-requires-2 : goal.push-requires-2
 push-requires-2 c =
-    (omega arith, push-fits c.self.inside.clock _ _ _ c.args.self.now c.self.invariant c.self.view_is c.args.n c.requires)
+    (omega arith, push-fits c.self.inside.clock _ _ _ _ c.args.self.now c.self.invariant c.self.view_is c.args.n c.requires)
 
 pub invariant_of-self : goal.invariant_of-self
 invariant_of-self c =
-    walked-push c.self.inside.clock _ _ _ c.args.self.now c.self.invariant c.self.view_is c.args.n c.push.new.self c.push-2.new.self.items c.requires c.push.ensures.value c.push-2.ensures.items
+    walked-push c.self.inside.clock _ _ _ _ c.args.self.now c.self.invariant c.self.view_is c.args.n c.push.new.self c.push-2.new.self.items c.requires c.push.ensures.value c.push-2.ensures.items
