@@ -20,6 +20,8 @@ import time
 LINES = 20_000
 RUNS = 10
 ENDED = (0, 7)  # statuses of a program that did its work: done; some block is only bounded
+# the C library's fills and copies by one instruction, of which callgrind counts each byte, are switched off
+COUNTED = {**os.environ, "GLIBC_TUNABLES": "glibc.cpu.hwcaps=-ERMS"}
 TOP = os.path.dirname(os.path.dirname(os.path.abspath(__file__)))
 PROGRAM = os.path.join(TOP, "crates/s66_main/out/s66_main")
 
@@ -111,7 +113,7 @@ def tell_speed(program):
 def instructions(words, text):
     """How many instructions the program runs on a text."""
     valgrind = ["valgrind", "--tool=callgrind", "--callgrind-out-file=/dev/null"]
-    run = subprocess.run(valgrind + words, input=text, capture_output=True)
+    run = subprocess.run(valgrind + words, input=text, capture_output=True, env=COUNTED)
     if run.returncode not in ENDED:
         raise SystemExit(run.stderr.decode())
     return int(re.search(rb"Collected : (\d+)", run.stderr)[1])
