@@ -116,9 +116,12 @@ pub fn load_of(tables: &Tables, clock: &Clock<'_>, kind: Kind) -> u32
 {
     let work = remaining_work(tables, clock, kind);
     let copies = clock.profile().copies(kind);
-    // most kinds have one unit
+    // most kinds have one unit, and the others two: so neither a loop nor a division is left of them
     if copies == 1 {
         return work + clock.free(kind);
+    }
+    if copies == 2 {
+        return over(work + clock.busy(kind), 2) + clock.next();
     }
     over(work + clock.busy(kind), copies) + clock.next()
 }
