@@ -224,7 +224,7 @@ fn time_command<'a>(alloc: Global) -> Result<Command<'a>, AllocError>
         TIME_ENDING,
     )
     .arg(profile_option(alloc))?
-    .arg(flag(alloc, "trace", "Tells each instruction"))
+    .arg(flag(alloc, "trace", "Prints the times of each instruction"))
 }
 
 /// The subcommand `deps`.
@@ -234,7 +234,7 @@ fn deps_command<'a>(alloc: Global) -> Command<'a>
     described(
         alloc,
         "deps",
-        "Tells on what each instruction of a block depends",
+        "Prints on what each instruction of a block depends",
         "s66 deps < SOURCE",
         DEPS_ENDING,
     )
@@ -296,7 +296,7 @@ fn order_command<'a>(alloc: Global) -> Result<Command<'a>, AllocError>
         "s66 order [OPTIONS] < SOURCE",
         ORDER_ENDING,
     )?
-    .arg(flag(alloc, "trace", "Tells the number of splits of each block"))
+    .arg(flag(alloc, "trace", "Prints the number of splits of each block"))
 }
 
 /// The subcommand `prove`.
@@ -332,7 +332,7 @@ fn lint_command<'a>(alloc: Global) -> Command<'a>
     described(
         alloc,
         "lint",
-        "Tells each line of a source that is refused, or that may not do what was meant",
+        "Lists each line of a source that is refused, or that may not do what was meant",
         "s66 lint < SOURCE",
         LINT_ENDING,
     )
@@ -345,7 +345,7 @@ fn sum_command<'a>(alloc: Global) -> Result<Command<'a>, AllocError>
     search_command(
         alloc,
         "sum",
-        "Tells what each block of a source takes in the best order that was found, and all of them",
+        "Prints what each block of a source takes in the best order that was found, and all of them",
         "s66 sum [OPTIONS] < SOURCE",
         SUM_ENDING,
     )
