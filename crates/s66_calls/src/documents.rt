@@ -1,12 +1,14 @@
-//! Searches by workers, and documents.
+//! Searches by workers, their sum, and documents.
+ghost use Rattle.std.specs.Prelude.{◌+◌, ◌^◌, ◌<◌};
 
 use crate::Answered;
 use crate::sources::{block_of, source_of};
-use s66_cert::read;
+use s66_cert::{CertError, read};
 use s66_isa::Profile;
+use s66_line::{Failed, OverRead, Sink};
 use s66_model::Rule;
 use s66_pool::{Free, Options, run};
-use s66_program::document_of;
+use s66_program::{Command, Fault, document_of, run_command};
 use s66_test_blocks::MULTIPLIES;
 use std::alloc::{AllocError, Global};
 use std::sync::Wait;
@@ -52,10 +54,43 @@ pub fn documented<R: AllocGlobal + Threads + Wait + Sync>(rt: &R) -> Result<Answ
     ])
 }
 
-/// How many documents a text has.
+/// How many documents a text has; none if it is refused.
 pub fn read_again(alloc: Global) -> Result<Answered, AllocError> {
     match read(alloc, DOCUMENTS.as_bytes()) {
         Ok(documents) => Ok([documents.len(), 0, 0, 0]),
-        Err(_) => Err(AllocError),
+        Err(CertError::OutOfMemory) => Err(AllocError),
+        Err(_) => Ok([0; 4]),
+    }
+}
+
+/// A writer that counts what it is given, and allocates nothing.
+#[derive(Drop)]
+struct Counts {
+    bytes: usize,
+}
+
+impl Sink for Counts {
+    ghost use Rattle.std.specs.Prelude.{None};
+
+    ghost seen = { λ _. record { bytes = None; failures = 0 } };
+
+    fn sink(&mut self, text: &[u8]) -> Result<usize, Failed> {
+        self.bytes = self.bytes.saturating_add(text.len());
+        Ok(text.len())
+    }
+}
+
+/// How many bytes `sum` writes of three multiplies; a refusal has written none.
+pub fn summed<R: AllocGlobal + Threads + Wait + Sync>(rt: &R) -> Result<Answered, AllocError> {
+    let command = Command::Sum {
+        workers: OPTIONS.workers,
+        nodes: OPTIONS.nodes,
+        profile: None,
+    };
+    let mut reader = OverRead::new(MULTIPLIES.as_bytes());
+    let mut writer = Counts { bytes: 0 };
+    match run_command(rt, command, &mut reader, &mut writer) {
+        Err(Fault::Memory) if writer.bytes == 0 => Err(AllocError),
+        ended => Ok([writer.bytes, ended.is_ok() as usize, 0, 0]),
     }
 }

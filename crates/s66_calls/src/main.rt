@@ -21,6 +21,8 @@ pub(crate) type Answered = [usize; 4];
 #[derive(Clone, Copy, Debug)]
 enum Call {
     ReadSource,
+    PrintSource,
+    FindingsIn,
     Expand,
     ExpandWith,
     ExpandDominated,
@@ -29,11 +31,14 @@ enum Call {
     Run,
     DocumentOf,
     Read,
+    Sum,
 }
 
 /// The calls and their names.
 const CALLS: &[(&str, Call)] = &[
     ("read_source", Call::ReadSource),
+    ("print_source", Call::PrintSource),
+    ("findings_in", Call::FindingsIn),
     ("expand", Call::Expand),
     ("expand_with", Call::ExpandWith),
     ("expand_dominated", Call::ExpandDominated),
@@ -42,6 +47,7 @@ const CALLS: &[(&str, Call)] = &[
     ("run", Call::Run),
     ("document_of", Call::DocumentOf),
     ("read", Call::Read),
+    ("sum", Call::Sum),
 ];
 
 /// The call of a name.
@@ -62,6 +68,8 @@ fn make<R: AllocGlobal + Threads + Wait + Sync>(
     let alloc = rt.alloc();
     match call {
         Call::ReadSource => sources::read(alloc),
+        Call::PrintSource => sources::printed(alloc),
+        Call::FindingsIn => sources::found(alloc),
         Call::Expand => pieces::expanded(alloc),
         Call::ExpandWith => pieces::expanded_with(alloc),
         Call::ExpandDominated => pieces::expanded_dominated(alloc),
@@ -70,6 +78,7 @@ fn make<R: AllocGlobal + Threads + Wait + Sync>(
         Call::Run => documents::searched(rt),
         Call::DocumentOf => documents::documented(rt),
         Call::Read => documents::read_again(alloc),
+        Call::Sum => documents::summed(rt),
     }
 }
 
