@@ -22,6 +22,7 @@ MULTIPLIES = ("S66 CERTIFICATE 1\n" + PROFILE + "BLOCK 3\nI FX1 X2*X3\nI FX4 X5*
 # three that don't differ: line 16 names line 11, line 20 line 11 and line 21 line 15
 ALIKE = ("S66 CERTIFICATE 3\n" + PROFILE + "BLOCK 3\nI SB0 B1\nI SB0 B1\nI SB0 B1\nTIME 8\nBOUND 8\nORDER 1 2 3\n"
          "S 1 2 3\nS 2 3\nS 3\nT\nS 2\nT\nS 1 3\nD 1 2\nS 1\nT\nS 1 2\nD 1 3\nD 2 3\nEND\n")
+CHAIN = ("S66 CERTIFICATE 1\n" + PROFILE + "BLOCK 3\nI SA1 A1+B1\nI BX6 X1\nI BX7 X2\nTIME 12\nBOUND 12\nORDER 1 3 2\nC 1 2\nEND\n")
 SECONDS, MEGABYTES, FRONT_MEGABYTES = 10, 200, 32
 GIGABYTE = 1 << 30
 CHUNK = 1 << 20
@@ -51,16 +52,18 @@ def head_of(text):
 
 
 def long_numbers():
-    """A number of 10,000 digits in the place of each number."""
+    """A number of 10,000 digits in the place of each number, and of one in an instruction."""
     digits = "9" * 10000
-    lines = MULTIPLIES.splitlines()
-    for place, line in enumerate(lines):
-        if line[0] not in "IE":
-            words = line.split(" ")
-            for at, word in enumerate(words):
-                if word.isdigit():
-                    changed = lines[:place] + [" ".join(words[:at] + [digits] + words[at + 1:])] + lines[place + 1:]
-                    yield f"a number of 10,000 digits in line {place + 1}", "\n".join(changed) + "\n", bad_line(place + 1)
+    for name, text in (("three multiplies", MULTIPLIES), ("three alike", ALIKE), ("a chain", CHAIN)):
+        lines = text.splitlines()
+        numbers = [(place, at) for place, line in enumerate(lines) if line[0] not in "IE"
+                   for at, word in enumerate(line.split(" ")) if word.isdigit()]
+        for place, at in numbers:
+            words = lines[place].split(" ")
+            words[at] = digits
+            changed = [*lines[:place], " ".join(words), *lines[place + 1:]]
+            yield f"{name}, a number of 10,000 digits in line {place + 1}", "\n".join(changed) + "\n", bad_line(place + 1)
+    yield "a number of 10,000 digits in an instruction", altered(CHAIN, "I BX7 X2", f"I SB7 {digits}"), bad_line(6)
 
 
 def many_nodes():
@@ -89,6 +92,7 @@ def wrong_names():
     for name, new in (("a node forward that is a leaf of another set", "D 2 3"), ("itself", "D 2 1"), ("its parent", "D 2"),
                       ("a leaf of another set", "D 1 2 3"), ("what isn't a node", "D 3 3"), ("numbers above the block's", "D 4 5")):
         yield f"line 17 names {name}", altered(ALIKE, "D 1 2\n", new + "\n"), no(17, 9)
+    yield "line 17 names the root, which has no numbers", altered(ALIKE, "D 1 2\n", "D\n"), bad_line(17)
     yield "two leaves name each other", altered(altered(ALIKE, "D 1 2\n", "D 1 2\n"), "S 3\nT\n", "D 2 1\n"), no(12, 9)
     yield "a leaf names one that is dominated", altered(ALIKE, "D 2 3", "D 3 1"), no(22, 9)
     forward = altered(altered(ALIKE, "D 1 2\n", "S 3\nT\n"), "S 2 3\nS 3\nT\n", "S 2 3\nD 2 1\n")
