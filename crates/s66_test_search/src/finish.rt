@@ -7,7 +7,7 @@ use std::process::Abort;
 use std::test::Fail;
 
 /// Every order takes 8.
-const THREE_ALIKE: &str = "  SB0 B1\n  SB0 B1\n  SB0 B1\n";
+pub const THREE_ALIKE: &str = "  SB0 B1\n  SB0 B1\n  SB0 B1\n";
 
 /// Every order takes 16.
 const SEVEN_ALIKE: &str = "  SB0 B1\n  SB0 B1\n  SB0 B1\n  SB0 B1\n  SB0 B1\n  SB0 B1\n  SB0 B1\n";

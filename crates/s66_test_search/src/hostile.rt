@@ -1,17 +1,22 @@
 //! Workers that keep what they claimed or hand in what they shouldn't, and searches that stop anywhere: `finish` answers as ever.
-ghost use Rattle.std.specs.Prelude.{◌≡◌, ◌≤◌};
+ghost use Rattle.std.specs.Prelude.{◌≡◌, ◌≤◌, All};
 ghost use Rattle.s66_ledger.specs.Steps.{worker_of};
 
+use crate::hub::{claim_root, grant, open_hub, put_seat, take_seat};
 use crate::ledger::{claim_node, new_ledger, reply};
 use s66_dep::{Order, is_beginning};
 use s66_isa::Profile;
 use s66_ledger::{Event, Ledger, Reply};
 use s66_line::{Block, read_source};
-use s66_node::{Piece, expand};
-use s66_test_blocks::{MULTIPLIES, only_block};
-use s66_time::time_of;
+use s66_model::Rule;
+use s66_node::{Piece, expand, expand_dominated};
+use s66_pool::{Free, Hub, Options, Seat, work};
+use s66_test_blocks::{MULTIPLIES, ONE_LOAD, only_block};
+use s66_time::{Timed, time_of};
 use std::process::Abort;
+use std::sync::Wait;
 use std::test::Fail;
+use std::thread::Threads;
 
 /// The piece of the root for a best time, of at most `allowance` splits.
 fn root_piece<R: AllocGlobal + Abort>(rt: &R, block: &Block, best: u32, allowance: u32) -> Piece {
@@ -159,4 +164,200 @@ fn check_back<R: AllocGlobal + Abort>(rt: &R, block: &Block) {
     let second = reply(rt, &mut ledger, Event::Back { w: 2, node: 0 });
     assert_eq!(rt; second, Reply::NotOut);
     check_finished(rt, ledger, (22, 22, 10), 0);
+}
+
+#[test]
+fn takes_pieces_for_an_old_time(rt: HostRuntime) -> Result<(), Fail> {
+    let source = read_source(rt.alloc(), ONE_LOAD.as_bytes())?;
+    check_old_piece(&rt, only_block(&source).expect(&rt, "one block"));
+    Ok(())
+}
+
+/// Puts a piece in the place of a node that the first worker has.
+fn graft<R: Abort>(rt: &R, ledger: &mut Ledger, node: u32, piece: Piece)
+    requires { 1 ≤ ledger.old.workers }
+    ensures { ledger.new.workers ≡ ledger.old.workers }
+{
+    let taken = reply(rt, ledger, Event::Graft { w: 1, node, piece });
+    assert_eq!(rt; taken, Reply::Taken);
+}
+
+/// Splits one load's root; another worker keeps node 1, which is 1, and the first has node 2, which is 3.
+fn hand_out<R: AllocGlobal + Abort>(rt: &R, ledger: &mut Ledger)
+    requires { 2 ≤ ledger.old.workers }
+    ensures { ledger.new.workers ≡ ledger.old.workers }
+{
+    assert_eq!(rt; ledger.grant(1), Ok(10));
+    claim_node(rt, ledger, 1, &[]);
+    let piece = root_piece(rt, ledger.block(), 16, 1);
+    graft(rt, ledger, 0, piece);
+    claim_node(rt, ledger, 2, &[1]);
+    claim_node(rt, ledger, 1, &[3]);
+}
+
+/// A piece of 3 of one load, for the time of the source order.
+fn late_piece<R: AllocGlobal + Abort>(rt: &R, block: &Block) -> Piece {
+    assert!(rt; is_beginning(block, &[3]));
+    expand(rt.alloc(), block, &Profile::standard(), &[3], 16, 9).expect(rt, "memory")
+}
+
+/// Offers an order, and checks the answer.
+fn offer<R: Abort>(rt: &R, ledger: &mut Ledger, w: u8, timed: Timed, answer: Reply)
+    requires { (1 ≤ w) × (w ≤ ledger.old.workers) }
+    ensures { ledger.new.workers ≡ ledger.old.workers }
+{
+    let offered = reply(rt, ledger, Event::Offer { w, timed });
+    assert_eq!(rt; offered, answer);
+}
+
+/// A worker makes a piece for the time of the source order, 16. Meanwhile another, which keeps its node, offers the best order, with
+/// 12. The piece's best order, with 13, is then too slow, and of its two splits none was needed.
+fn check_old_piece<R: AllocGlobal + Abort>(rt: &R, block: &Block) {
+    let mut ledger = new_ledger(rt, block);
+    hand_out(rt, &mut ledger);
+    let piece = late_piece(rt, block);
+    let slower = piece.timed().expect(rt, "a whole order").duplicate();
+    let best = Order::new(block, &[1, 3, 2]).expect(rt, "a legal order");
+    let faster = time_of(block, &Profile::standard(), &best);
+    offer(rt, &mut ledger, 2, faster, Reply::Lower);
+    offer(rt, &mut ledger, 1, slower, Reply::NotLower(12));
+    graft(rt, &mut ledger, 2, piece);
+    check_finished(rt, ledger, (12, 12, 3), 0);
+}
+
+#[test]
+fn refuses_what_is_of_another_search(rt: HostRuntime) -> Result<(), Fail> {
+    let source = read_source(rt.alloc(), MULTIPLIES.as_bytes())?;
+    let other = read_source(rt.alloc(), ONE_LOAD.as_bytes())?;
+    let block = only_block(&source).expect(&rt, "one block");
+    check_others(&rt, block, only_block(&other).expect(&rt, "one block"));
+    Ok(())
+}
+
+/// Hands a piece in at the root, which is out.
+fn check_other_piece<R: Abort>(rt: &R, ledger: &mut Ledger, piece: Piece)
+    requires { 1 ≤ ledger.old.workers }
+    ensures { ledger.new.workers ≡ ledger.old.workers }
+{
+    let refused = reply(
+        rt,
+        ledger,
+        Event::Graft {
+            w: 1,
+            node: 0,
+            piece,
+        },
+    );
+    assert_eq!(rt; refused, Reply::OtherPrefix);
+}
+
+/// A worker hands in pieces of another block, under another profile and by another rule, and an order of the other block, whose time
+/// is below all of the ledger's.
+fn check_others<R: AllocGlobal + Abort>(rt: &R, block: &Block, other: &Block) {
+    let alloc = rt.alloc();
+    let profile = Profile::standard();
+    let mut slower = profile;
+    slower.multiply = 11;
+    let mut ledger = new_ledger(rt, block);
+    assert_eq!(rt; ledger.grant(1), Ok(10));
+    claim_node(rt, &mut ledger, 1, &[]);
+    check_other_piece(rt, &mut ledger, root_piece(rt, other, 22, 10));
+    let piece = expand(alloc, block, &slower, &[], 40, 10).expect(rt, "memory");
+    check_other_piece(rt, &mut ledger, piece);
+    let piece = expand_dominated(alloc, block, &profile, &[], 22, 10).expect(rt, "memory");
+    check_other_piece(rt, &mut ledger, piece);
+    let timed = time_of(other, &profile, &Order::source(other));
+    let refused = reply(rt, &mut ledger, Event::Offer { w: 1, timed });
+    assert_eq!(rt; refused, Reply::OtherBlock);
+    check_finished(rt, ledger, (22, 22, 10), 0);
+}
+
+/// Workers search a block by a rule at these seats, and come back.
+fn work_by<'a, R: AllocGlobal + Abort + Threads + Wait + Sync>(
+    rt: &R,
+    hub: &Hub<'a>,
+    seats: Vec<Seat<'a>>,
+    block: &Block,
+    rule: Rule,
+) -> Vec<Seat<'a>>
+    requires { All (λ s. s.hub ≡ hub.now.id) seats.items }
+    ensures { All (λ s. s.hub ≡ hub.now.id) result.items }
+{
+    let options = Options {
+        workers: 2,
+        nodes: 10,
+        rule,
+    };
+    match work(rt, hub, seats, block, &Profile::standard(), options, &Free) {
+        Ok(seats) => seats,
+        Err(_) => panic!(rt; "memory"),
+    }
+}
+
+/// Closes the hub of a search of three multiplies by which no split was spent, and finishes it.
+fn check_closed<'a, R: AllocGlobal + Abort>(rt: &R, hub: Hub<'a>, seats: Vec<Seat<'a>>)
+    requires { All (λ s. s.hub ≡ hub.id) seats.items }
+{
+    let Ok(ledger) = hub.close(seats) else {
+        panic!(rt; "all seats are there")
+    };
+    assert!(rt; 1 <= ledger.workers());
+    assert_eq!(rt; ledger.splits(), 0);
+    check_finished(rt, ledger, (22, 22, 10), 0);
+}
+
+#[test]
+fn outlives_idle_seats(rt: HostRuntime) -> Result<(), Fail> {
+    let source = read_source(rt.alloc(), MULTIPLIES.as_bytes())?;
+    let block = only_block(&source).expect(&rt, "one block");
+    check_idle_seat(&rt, block, true, true);
+    check_idle_seat(&rt, block, true, false);
+    check_idle_seat(&rt, block, false, true);
+    Ok(())
+}
+
+/// A seat keeps the whole budget, or drops the root's ticket, or both, and does nothing more, while two workers look for work.
+fn check_idle_seat<R: AllocGlobal + Abort + Threads + Wait + Sync>(
+    rt: &R,
+    block: &Block,
+    keeps_splits: bool,
+    drops_root: bool,
+) {
+    let (hub, mut seats) = open_hub(rt, &*block, 10, 3);
+    let mut idle = take_seat(rt, &hub, &mut seats, 3);
+    if keeps_splits {
+        assert_eq!(rt; grant(rt, &hub, &mut idle), 10);
+    }
+    if drops_root {
+        claim_root(rt, &hub, &mut idle);
+    }
+    let mut seats = work_by(rt, &hub, seats, block, Rule::NoneNamed);
+    put_seat(rt, &hub, &mut seats, idle);
+    check_closed(rt, hub, seats);
+}
+
+#[test]
+fn outlives_workers_of_another_search(rt: HostRuntime) -> Result<(), Fail> {
+    let source = read_source(rt.alloc(), MULTIPLIES.as_bytes())?;
+    let other = read_source(rt.alloc(), ONE_LOAD.as_bytes())?;
+    let block = only_block(&source).expect(&rt, "one block");
+    let other = only_block(&other).expect(&rt, "one block");
+    check_strangers(&rt, block, other, Rule::NoneNamed);
+    check_strangers(&rt, block, other, Rule::ClampedStanding);
+    let source = read_source(rt.alloc(), MULTIPLIES.as_bytes())?;
+    let same = only_block(&source).expect(&rt, "one block");
+    check_strangers(&rt, block, same, Rule::ClampedStanding);
+    Ok(())
+}
+
+/// Two workers search another block than the hub's, or by another rule, with walks and marks of that: no piece of theirs is taken.
+fn check_strangers<R: AllocGlobal + Abort + Threads + Wait + Sync>(
+    rt: &R,
+    block: &Block,
+    other: &Block,
+    rule: Rule,
+) {
+    let (hub, seats) = open_hub(rt, &*block, 10, 2);
+    let seats = work_by(rt, &hub, seats, other, rule);
+    check_closed(rt, hub, seats);
 }

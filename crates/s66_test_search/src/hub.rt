@@ -42,7 +42,12 @@ pub fn open_hub<'a, R: AllocGlobal + Abort>(
 }
 
 /// Takes the last seat out, and checks its number.
-fn take_seat<'a, R: Abort>(rt: &R, hub: &Hub<'a>, seats: &mut Vec<Seat<'a>>, number: u8) -> Seat<'a>
+pub fn take_seat<'a, R: Abort>(
+    rt: &R,
+    hub: &Hub<'a>,
+    seats: &mut Vec<Seat<'a>>,
+    number: u8,
+) -> Seat<'a>
     requires { All (λ s. s.hub ≡ hub.now.id) seats.old.items }
     ensures here { result.hub ≡ hub.now.id }
     ensures rest { All (λ s. s.hub ≡ hub.now.id) seats.new.items }
@@ -53,7 +58,7 @@ fn take_seat<'a, R: Abort>(rt: &R, hub: &Hub<'a>, seats: &mut Vec<Seat<'a>>, num
 }
 
 /// Puts a seat after the others.
-fn put_seat<'a, R: Abort>(rt: &R, _hub: &Hub<'a>, seats: &mut Vec<Seat<'a>>, seat: Seat<'a>)
+pub fn put_seat<'a, R: Abort>(rt: &R, _hub: &Hub<'a>, seats: &mut Vec<Seat<'a>>, seat: Seat<'a>)
     requires here { seat.hub ≡ _hub.now.id }
     requires rest { All (λ s. s.hub ≡ _hub.now.id) seats.old.items }
     ensures { All (λ s. s.hub ≡ _hub.now.id) seats.new.items }
@@ -62,7 +67,7 @@ fn put_seat<'a, R: Abort>(rt: &R, _hub: &Hub<'a>, seats: &mut Vec<Seat<'a>>, sea
 }
 
 /// Moves splits of the budget to a seat, and returns how many.
-fn grant<'a, R: Abort + Wait>(rt: &R, hub: &Hub<'a>, seat: &mut Seat<'a>) -> u32
+pub fn grant<'a, R: Abort + Wait>(rt: &R, hub: &Hub<'a>, seat: &mut Seat<'a>) -> u32
     requires { seat.old.hub ≡ hub.now.id }
     ensures { seat.new.hub ≡ seat.old.hub }
 {
@@ -70,7 +75,7 @@ fn grant<'a, R: Abort + Wait>(rt: &R, hub: &Hub<'a>, seat: &mut Seat<'a>) -> u32
 }
 
 /// Claims the root of a hub's tree.
-fn claim_root<'a, R: Abort + Wait>(rt: &R, hub: &Hub<'a>, seat: &mut Seat<'a>) -> Ticket
+pub fn claim_root<'a, R: Abort + Wait>(rt: &R, hub: &Hub<'a>, seat: &mut Seat<'a>) -> Ticket
     requires { seat.old.hub ≡ hub.now.id }
     ensures { seat.new.hub ≡ seat.old.hub }
 {

@@ -1,5 +1,5 @@
 //! Tests of the search: expansion, list schedules, the ledger and how it is finished, lanes of its tickets, the calls of a hub, its
-//! hint, and workers at gates.
+//! hint, workers at gates, and hostile ones.
 #![tactic(auto)]
 
 #[cfg(test)]
@@ -20,5 +20,7 @@ mod lanes;
 mod ledger;
 #[cfg(test)]
 mod schedule;
+#[cfg(test)]
+mod tables;
 #[cfg(test)]
 mod workers;
