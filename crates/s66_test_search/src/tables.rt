@@ -48,7 +48,7 @@ fn open_ledger<'a, R: AllocGlobal + Abort>(rt: &R, block: &'a Block<'a>) -> Ledg
     ledger
 }
 
-/// A piece of a claimed node by a worker's marks, of at most so many splits.
+/// A piece of a claimed node by a worker's marks, of at most `allowance` splits.
 fn piece_of<R: AllocGlobal + Abort>(
     rt: &R,
     block: &Block,
