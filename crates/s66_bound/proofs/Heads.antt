@@ -1,36 +1,23 @@
 -- The head of a number by the tables: when the registers are done that it reads or writes.
-use Rattle.std.proofs.Common.{ℕ, ◌+◌, ◌≤◌, ◌<◌, ◌≡◌, Bool, true, false, true≢false, cond, max, List, length, get_or, drop, sym, ap, arith, inl, inr, eqb, ◌∙◌}
-use Rattle.std.proofs.lemmas.Bool.{cases_Bool, cond-true, cond-false}
+use Rattle.std.proofs.Common.{ℕ, ◌+◌, ◌-◌, ◌≤◌, ◌<◌, ◌≡◌, Bool, true, false, cond, max, List, length, get_or, drop, ap, arith, eqb, ◌∙◌}
+use Rattle.std.proofs.lemmas.Bool.{cond-true, cond-false}
 use Rattle.std.proofs.lemmas.List.{at_drop_more}
-use Rattle.std.specs.List.{filter}
-use Rattle.s66_isa.specs.declared.instr.Instr.{Instr}
 use Rattle.s66_isa.specs.declared.reg.Reg.{Reg}
 use Rattle.s66_isa.specs.Lists.{greatest, has}
 use Rattle.s66_isa.specs.Registers.{index_of}
-use Rattle.s66_isa.specs.Table.{numbers}
-use Rattle.s66_isa.proofs.Lists.{rising-among, has-among, among-has, greatest-le-greatest}
+use Rattle.s66_isa.proofs.Lists.{greatest-le-greatest}
 use Rattle.s66_model.specs.Timing.{Problem, row_at, points_of, next, done_of}
 use Rattle.s66_model.specs.Leaves.{uses, head, chain}
 use Rattle.s66_model.specs.Tails.{longest_tail, HasLate}
-use Rattle.s66_model.proofs.Remaining.{among-filter, filter-among}
 use Rattle.s66_model.proofs.HeadByRegisters.{done_for, head-by-registers}
 use Rattle.s66_dep.specs.Members.{numbers_in, no_set}
 use Rattle.s66_bound.specs.declared.tables.Tables.{Tables}
 use Rattle.s66_bound.specs.TableWords.{IsTables}
 
-has-those : (block : List Instr) (test : ℕ → Bool) (n : ℕ) → 1 ≤ n → n ≤ length block → has n (filter test (numbers block)) ≡ test n
-has-those block test n low high =
-    elim (cases_Bool (test n)) [
-      | inl is ↦ among-has n (filter test (numbers block)) (among-filter test n (numbers block) (rising-among (length block) 1 n low (omega (arith, high))) is) ∙ sym is
-      | inr off ↦ elim (cases_Bool (has n (filter test (numbers block)))) [
-        | inl in_it ↦ absurd (true≢false (sym (filter-among test n (numbers block) (has-among n (filter test (numbers block)) in_it)).1 ∙ off))
-        | inr out ↦ out ∙ sym off
-      ]
-    ]
-
--- the users of a register are the numbers that read or write it
-pub has-users : (b : Problem) (t : Tables) (n : ℕ) (x : Reg) → IsTables b t → 1 ≤ n → n ≤ length b.block → x.digit ≤ 7 → has n (numbers_in (get_or t.users (index_of x) no_set)) ≡ uses (row_at b n) x
-has-users b t n x tables low high digit = ap (has n) (tables.users x digit) ∙ has-those b.block (λ m. uses (row_at b m) x) n low high
+-- its rank is among those of a register if it reads or writes it
+pub has-users : (b : Problem) (t : Tables) (n : ℕ) (x : Reg) → IsTables b t → 1 ≤ n → n ≤ length b.block → x.digit ≤ 7 → has (get_or t.ranks (n - 1) 0) (numbers_in (get_or t.users_by_rank (index_of x) no_set)) ≡ uses (row_at b n) x
+has-users b t n x tables low high digit =
+    ap (λ r. has r (numbers_in (get_or t.users_by_rank (index_of x) no_set))) (tables.ranks n low high) ∙ (tables.users x digit).each n low high
 
 pub greatest-drop : {X : Type 0} (f : X → ℕ) (xs : List X) (i : ℕ) (d : X) → i < length xs → greatest f (drop i xs) ≡ max (f (get_or xs i d)) (greatest f (drop (i + 1) xs))
 greatest-drop f xs i d lt = at_drop_more (greatest f) xs i d lt

@@ -9,4 +9,6 @@ pub mod LongestWalks
 pub mod RemainingSets
 pub mod RemainingSums
 pub mod ValueBounds
-pub mod TopNumbers
+pub mod LeastWords
+pub mod RankOrder
+pub mod RanksHeld

@@ -1,25 +1,28 @@
 -- Work, parcels and chains of what remains, by sets of its numbers.
-use Rattle.std.proofs.Common.{ℕ, ◌+◌, ◌-◌, ◌*◌, ◌≤◌, ◌<◌, ◌≡◌, ◌==◌, Bool, cond, List, [], ◌∷◌, length, get_or, refl, sym, subst, ap, arith, inl, inr, div-one, ◌∙◌}
+use Rattle.std.proofs.Common.{ℕ, ◌+◌, ◌-◌, ◌≤◌, ◌<◌, ◌≡◌, ◌==◌, ◌&&◌, Bool, true, true≢false, not, leb, cond, List, [], ◌∷◌, length, get_or, refl, sym, subst, ap, arith, inl, inr, div-one, ◌∙◌}
 use Rattle.std.proofs.Math.Nat.{div-le_self}
-use Rattle.std.proofs.lemmas.Bool.{cases_Bool, cond-true, cond-false, cond_both, eqb-true, eqb-false}
+use Rattle.std.proofs.lemmas.Bool.{cases_Bool, and_parts, and_from, le-leb, cond-true, cond-false, cond_both, eqb-true, eqb-false}
 use Rattle.std.specs.List.{filter}
-use Rattle.s66_isa.specs.declared.limits.TheConstants.{BLOCK_LIMIT}
 use Rattle.s66_isa.specs.declared.instr.Kind.{Kind}
-use Rattle.s66_isa.specs.Lists.{greatest, least, weigh, Among}
-use Rattle.s66_isa.specs.Table.{Reg, same_kind}
-use Rattle.s66_isa.proofs.Lists.{greatest-same, greatest-filter, least-same, weigh-same, weigh-filter}
+use Rattle.s66_isa.specs.Lists.{least, weigh, has, Among}
+use Rattle.s66_isa.specs.Table.{Reg}
+use Rattle.s66_isa.proofs.Lists.{le-greatest, greatest-le, least-same}
 use Rattle.s66_model.specs.Timing.{Problem, row_at, points_of, next, done_of, copies}
 use Rattle.s66_model.specs.LegalOrder.{remaining, sum_remaining}
 use Rattle.s66_model.specs.Leaves.{uses, work_of, rest_busy, over, load, parcels}
-use Rattle.s66_model.specs.Tails.{longest_tail, chain_by, spare, HasWords}
+use Rattle.s66_model.specs.Tails.{longest_tail, tail_remaining, chain_by, spare, HasWords}
 use Rattle.s66_model.proofs.FloorParts.{sum_remaining-weigh, words-remaining, parcels-static}
 use Rattle.s66_model.proofs.PointTimes.{good-at}
-use Rattle.s66_model.proofs.Remaining.{filter-among}
+use Rattle.s66_model.proofs.Remaining.{remaining-parts, remaining-among, among-remaining}
+use Rattle.s66_dep.specs.declared.set.Set.{Set}
+use Rattle.s66_dep.specs.Members.{numbers_in}
+use Rattle.s66_bound.specs.Ranks.{rank, AreRanks}
+use Rattle.s66_bound.specs.TableWords.{IsGreatestTail}
 
--- a word for each of what remains and passes
-words-those : (b : Problem) (prefix : List ℕ) (f : ℕ → ℕ) (words ns : List ℕ) (test : ℕ → Bool) → HasWords b f words → ns ≡ filter test (remaining b.block prefix) → (n : ℕ) → Among n ns → get_or words (n - 1) 0 ≡ f n
-words-those b prefix f words ns test known is n among =
-    words-remaining b prefix f words known n (filter-among test n (remaining b.block prefix) (subst (λ ms. Among n ms) is among)).0
+among-left : (b : Problem) (prefix : List ℕ) (n : ℕ) → 1 ≤ n → n ≤ length b.block → not (has n prefix) ≡ true → Among n (remaining b.block prefix)
+among-left b prefix n low high stays =
+    among-remaining b.block prefix n
+    (and_from (leb 1 n && leb n (length b.block)) (not (has n prefix)) (and_from (leb 1 n) (leb n (length b.block)) (le-leb 1 n low) (le-leb n (length b.block) high)) stays)
 
 -- LOADS
 
@@ -84,13 +87,53 @@ parcels-are b prefix spares rest long is_rest is_long some known =
 abbrev pub is_user : Problem → Reg → ℕ → Bool
 is_user b x n = uses (row_at b n) x
 
-by-is : (b : Problem) (prefix users : List ℕ) (x : Reg) → users ≡ filter (is_user b x) (remaining b.block prefix) → chain_by b prefix x ≡ greatest (λ n. done_of (points_of b prefix) x + longest_tail b n) users
-by-is b prefix users x is =
-    sym (greatest-filter (is_user b x) (λ n. done_of (points_of b prefix) x + longest_tail b n) (remaining b.block prefix))
-    ∙ ap (greatest (λ n. done_of (points_of b prefix) x + longest_tail b n)) (sym is)
+-- the chains from a register by the greatest longest tail of its users that remain
+pub by-greatest : (b : Problem) (prefix : List ℕ) (x : Reg) (done tail : ℕ) → done ≡ done_of (points_of b prefix) x → IsGreatestTail b (λ n. not (has n prefix) && is_user b x n) tail → done + tail ≡ chain_by b prefix x
+by-greatest b prefix x done tail is greatest_one =
+    let f : ℕ → ℕ = λ n. cond (is_user b x n) (done_of (points_of b prefix) x + longest_tail b n) 0 in
+    let (n, low, high, passes, own) = greatest_one.met in
+    let (stays, used) = and_parts (not (has n prefix)) (is_user b x n) passes in
+    let reached : f n ≤ chain_by b prefix x = le-greatest f n (remaining b.block prefix) (among-left b prefix n low high stays) in
+    let most : chain_by b prefix x ≤ done + tail =
+    greatest-le f (done + tail) (remaining b.block prefix) (λ m among.
+    let (from, to, new) = remaining-parts b.block prefix m (remaining-among b.block prefix m among) in
+    cond_both (is_user b x m) (done_of (points_of b prefix) x + longest_tail b m) 0 (λ k. k ≤ done + tail)
+    (λ user. omega (arith, is, greatest_one.most m from to (and_from (not (has m prefix)) (is_user b x m) (ap not new) user)))
+    (λ other. omega arith))
+    in
+    omega (arith, reached, cond-true {A = ℕ} (is_user b x n) (done_of (points_of b prefix) x + longest_tail b n) 0 used, own, is, most)
 
-pub by-words : (b : Problem) (prefix words users : List ℕ) (done : ℕ) (x : Reg) → HasWords b (longest_tail b) words → users ≡ filter (is_user b x) (remaining b.block prefix) → done ≡ done_of (points_of b prefix) x →
-    greatest (λ n. done + get_or words (n - 1) 0) users ≡ chain_by b prefix x
-by-words b prefix words users done x known is late =
-    greatest-same (λ n. done + get_or words (n - 1) 0) (λ n. done_of (points_of b prefix) x + longest_tail b n) users (λ n among. omega (arith, late, words-those b prefix (longest_tail b) words users (is_user b x) known is n among))
-    ∙ sym (by-is b prefix users x is)
+-- if none of its users remains
+pub by-none : (b : Problem) (prefix : List ℕ) (x : Reg) (set : Set) → AreRanks b (λ n. not (has n prefix) && is_user b x n) set → numbers_in set ≡ [] → chain_by b prefix x ≡ 0
+by-none b prefix x set are none =
+    let f : ℕ → ℕ = λ n. cond (is_user b x n) (done_of (points_of b prefix) x + longest_tail b n) 0 in
+    let most : chain_by b prefix x ≤ 0 =
+    greatest-le f 0 (remaining b.block prefix) (λ m among.
+    let (from, to, new) = remaining-parts b.block prefix m (remaining-among b.block prefix m among) in
+    cond_both (is_user b x m) (done_of (points_of b prefix) x + longest_tail b m) 0 (λ k. k ≤ 0)
+    (λ user. absurd (true≢false (sym (and_from (not (has m prefix)) (is_user b x m) (ap not new) user) ∙ (sym (are.each m from to) ∙ ap (has (rank b m)) none))))
+    (λ other. omega arith))
+    in
+    omega (arith, most)
+
+-- THE GREATEST LONGEST TAIL
+
+pub tail-greatest : (b : Problem) (prefix : List ℕ) (tail : ℕ) → IsGreatestTail b (λ n. not (has n prefix)) tail → tail ≡ tail_remaining b prefix
+tail-greatest b prefix tail greatest_one =
+    let (n, low, high, stays, own) = greatest_one.met in
+    let reached : longest_tail b n ≤ tail_remaining b prefix = le-greatest (longest_tail b) n (remaining b.block prefix) (among-left b prefix n low high stays) in
+    let most : tail_remaining b prefix ≤ tail =
+    greatest-le (longest_tail b) tail (remaining b.block prefix) (λ m among.
+    let (from, to, new) = remaining-parts b.block prefix m (remaining-among b.block prefix m among) in
+    greatest_one.most m from to (ap not new))
+    in
+    omega (arith, reached, own, most)
+
+pub tail-none : (b : Problem) (prefix : List ℕ) (set : Set) → AreRanks b (λ n. not (has n prefix)) set → numbers_in set ≡ [] → 0 ≡ tail_remaining b prefix
+tail-none b prefix set are none =
+    let most : tail_remaining b prefix ≤ 0 =
+    greatest-le (longest_tail b) 0 (remaining b.block prefix) (λ m among.
+    let (from, to, new) = remaining-parts b.block prefix m (remaining-among b.block prefix m among) in
+    absurd (true≢false (sym (ap not new) ∙ (sym (are.each m from to) ∙ ap (has (rank b m)) none))))
+    in
+    omega (arith, most)

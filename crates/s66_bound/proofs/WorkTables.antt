@@ -1,10 +1,9 @@
 -- The work of each kind, of the whole block and of what remains.
-use Rattle.std.proofs.Common.{ℕ, ◌+◌, ◌-◌, ◌*◌, ◌≤◌, ◌<◌, ◌≡◌, ◌≢◌, true≢false, cond, List, [], ◌∷◌, length, set, get_or, sym, ap, arith, inl, inr, ◌∙◌, eqb-true, eq-eqb}
+use Rattle.std.proofs.Common.{ℕ, ◌+◌, ◌*◌, ◌≤◌, ◌≡◌, ◌≢◌, true≢false, List, [], ◌∷◌, length, set, get_or, sym, ap, arith, inl, inr, ◌∙◌, eqb-true, eq-eqb}
 use Rattle.std.proofs.lemmas.Bool.{cases_Bool, cond_both, cond-true, cond-false}
 use Rattle.std.proofs.lemmas.List.{get_or-set_same, get_or-set_other}
-use Rattle.s66_isa.specs.Table.{Row, kind_number, same_kind, numbers}
+use Rattle.s66_isa.specs.Table.{kind_number, same_kind}
 use Rattle.s66_isa.specs.declared.instr.Kind.{Kind}
-use Rattle.s66_isa.specs.declared.limits.TheConstants.{BLOCK_LIMIT}
 use Rattle.s66_isa.specs.Lists.{weigh, rising}
 use Rattle.s66_isa.proofs.Lists.{weigh-append}
 use Rattle.s66_model.specs.Timing.{Problem, Point, row_at, point_of, points_of, points_after}

@@ -1,4 +1,5 @@
 pub mod LeafValues
+pub mod Ranks
 pub mod InstructionCosts
 pub mod TableWords
-pub mod TopNumbers
+pub mod LeastWords

@@ -1,9 +1,9 @@
 -- Used by contracts within the crate alone: what the tables of a block hold.
-use Rattle.std.specs.Prelude.{ℕ, ◌+◌, ◌-◌, ◌≡◌, ◌≤◌, ◌<◌, ◌==◌, Bool, List, length, get_or}
+use Rattle.std.specs.Prelude.{ℕ, ◌+◌, ◌-◌, ◌≡◌, ◌≤◌, ◌<◌, ◌==◌, Bool, true, List, length, get_or}
 use Rattle.std.specs.List.{filter}
 use Rattle.s66_isa.specs.declared.profile.Profile.{Profile}
 use Rattle.s66_isa.specs.declared.instr.Kind.{Kind}
-use Rattle.s66_isa.specs.Lists.{Among, weigh}
+use Rattle.s66_isa.specs.Lists.{Among, has, weigh}
 use Rattle.s66_isa.specs.Table.{Reg, kind_number, numbers}
 use Rattle.s66_isa.specs.Registers.{index_of}
 use Rattle.s66_isa.specs.declared.limits.TheConstants.{BLOCK_LIMIT}
@@ -16,9 +16,9 @@ use Rattle.s66_model.specs.Tails.{longest_tail, spare, HasWritten, HasWords}
 use Rattle.s66_dep.specs.declared.set.Set.{Set}
 use Rattle.s66_dep.specs.Members.{numbers_in, no_set}
 use Rattle.s66_time.specs.Ticking.{Ticking}
-use Rattle.s66_bound.specs.declared.numbers.TheConstants.{TOP_COUNT}
 use Rattle.s66_bound.specs.declared.tables.Tables.{Tables}
-use Rattle.s66_bound.specs.TopNumbers.{IsTop, AreEnds}
+use Rattle.s66_bound.specs.LeastWords.{AreEnds}
+use Rattle.s66_bound.specs.Ranks.{rank, AreRanks}
 
 abbrev pub timed_by : Block → Profile → Problem
 timed_by block profile = record { block = instrs_of block; profile = profile }
@@ -35,8 +35,22 @@ AreThose b test set = numbers_in set ≡ filter test (numbers b.block)
 abbrev pub HasWorks : Problem → List ℕ → Type 0
 HasWorks b words = (kind : Kind) → get_or words (kind_number kind) 0 ≡ weigh (λ n. work_of kind (row_at b n)) (numbers b.block)
 
+-- the longest tail of each number, at the place below its rank
+abbrev pub HasTails : Problem → List ℕ → Type 0
+HasTails b words = (n : ℕ) → 1 ≤ n → n ≤ length b.block → get_or words (rank b n - 1) 0 ≡ longest_tail b n
+
+-- the numbers are the block's
+abbrev pub AreOfBlock : Problem → Set → Type 0
+AreOfBlock b set = (n : ℕ) → has n (numbers_in set) ≡ true → (1 ≤ n) × (n ≤ length b.block)
+
+-- of the numbers of the block that pass, one has this longest tail, and none a longer one
+pub record IsGreatestTail (b : Problem) (test : ℕ → Bool) (tail : ℕ) : Type 0 where
+  pub met : (n : ℕ) × (1 ≤ n) × (n ≤ length b.block) × (test n ≡ true) × (tail ≡ longest_tail b n)
+  pub most : (n : ℕ) → 1 ≤ n → n ≤ length b.block → test n ≡ true → longest_tail b n ≤ tail
+
+-- the ranks of what reads or writes each register
 abbrev pub HasUsers : Problem → List Set → Type 0
-HasUsers b sets = (x : Reg) → x.digit ≤ 7 → AreThose b (λ n. uses (row_at b n) x) (get_or sets (index_of x) no_set)
+HasUsers b sets = (x : Reg) → x.digit ≤ 7 → AreRanks b (λ n. uses (row_at b n) x) (get_or sets (index_of x) no_set)
 
 -- each is a register of the machine
 abbrev pub AreRegisters : List Reg → Type 0
@@ -44,14 +58,16 @@ AreRegisters xs = (x : Reg) → Among x xs → x.digit ≤ 7
 
 -- the tables of a block under a profile
 pub record IsTables (b : Problem) (t : Tables) : Type 0 where
+  pub few : length b.block ≤ BLOCK_LIMIT
   pub all : numbers_in t.all ≡ numbers b.block
   pub long : AreThose b (λ n. (row_at b n).parcels == 2) t.long
   pub longest : HasWords b (longest_tail b) t.longest
   pub spare : HasWords b (spare b) t.spare
-  pub tops : (i : ℕ) → i < TOP_COUNT → IsTop t.longest (length b.block) (get_or t.tops i no_set)
+  pub ranks : HasWords b (rank b) t.ranks
+  pub tails : HasTails b t.tails
   pub ends : AreEnds t.spare (length b.block) t.ends
   pub works : HasWorks b t.works
-  pub users : HasUsers b t.users
+  pub users : HasUsers b t.users_by_rank
   pub written : HasWritten b t.written.items
   pub registers : AreRegisters t.written.items
 

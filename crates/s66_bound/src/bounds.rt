@@ -2,9 +2,13 @@ use crate::entry::{Entry, entries_of};
 use crate::floors::{floor_of, floor_of_value};
 use crate::leaf::{ChainLeaf, Leaf};
 use crate::printed::chain_numbers;
+use crate::ranks::ranks_of;
 use crate::tables::Tables;
-use crate::values::{chain_of, floor_value_of, load_of, parcels_of, remaining_numbers};
+use crate::values::{
+    chain_of, floor_value_of, load_of, parcels_of, remaining_numbers, remaining_ranks,
+};
 use arrayvec::ArrayVec;
+use s66_dep::Set;
 use s66_isa::{BLOCK_LIMIT, Kind, Profile};
 use s66_line::Block;
 use s66_time::Clock;
@@ -32,7 +36,8 @@ impl<'a> Model for Bounds<'a> {
 }
 
 impl<'a> Bounds<'a> {
-    ghost use Rattle.std.specs.Prelude.{ℕ, List, ◌≡◌, ◌<◌, ◌≤◌, ◌++◌, length};
+    ghost use Rattle.std.specs.Prelude.{ℕ, List, ◌≡◌, ◌<◌, ◌≤◌, ◌++◌, [], length};
+    ghost use Rattle.s66_isa.specs.declared.limits.TheConstants.{BLOCK_LIMIT};
     ghost use Rattle.s66_line.specs.Block.{instrs_of};
     ghost use Rattle.s66_model.specs.Timing.{total_of};
     ghost use Rattle.s66_model.specs.LegalOrder.{IsLegal};
@@ -40,6 +45,7 @@ impl<'a> Bounds<'a> {
     ghost use Rattle.s66_model.specs.Tails.{longest_tail};
     ghost use Rattle.s66_time.specs.Ticking.{problem_of};
     ghost use Rattle.s66_bound.specs.LeafValues.{leaf_of, value_of};
+    ghost use Rattle.s66_bound.specs.Ranks.{rank, AreRanksLeft};
 
     /// Of a block under a profile, in time quadratic in the block's length.
     pub fn of(block: &'a Block<'a>, profile: &Profile) -> Bounds<'a>
@@ -62,6 +68,23 @@ impl<'a> Bounds<'a> {
     {
         prove!(self.block.count() <= BLOCK_LIMIT);
         self.tables.longest[n as usize - 1]
+    }
+
+    /// The rank of a number of the block by its longest tail: rank 1 has the greatest. In constant time.
+    pub fn rank(&self, n: u8) -> u8
+        requires { (1 ≤ n) × (n ≤ length self.now.block) }
+        ensures value { result ≡ rank self.now n }
+        ensures range { (1 ≤ result) × (result ≤ BLOCK_LIMIT) }
+    {
+        prove!(self.block.count() <= BLOCK_LIMIT);
+        self.tables.ranks[n as usize - 1]
+    }
+
+    /// The ranks of all numbers of the block: of what remains after the empty prefix.
+    pub fn all_ranks(&self) -> Set
+        ensures { AreRanksLeft self.now [] result }
+    {
+        ranks_of(&self.tables.ranks, &self.tables.all)
     }
 
     /// The greatest value of a chain, in minor cycles.
@@ -100,10 +123,23 @@ impl<'a> Bounds<'a> {
         ensures bound { (rest : List ℕ) → IsLegal self.now.block (clock.now.numbers ++ rest) → result ≤ total_of self.now (clock.now.numbers ++ rest) }
     {
         let rest = remaining_numbers(&self.tables, clock);
+        let ranks = remaining_ranks(&self.tables, clock, &rest);
+        self.floor_value_by_ranks(clock, &ranks)
+    }
+
+    /// `floor_value` for a caller that keeps the ranks of what remains: the first of them has the longest tail, so that the chain
+    /// takes a look or two at each late register.
+    pub fn floor_value_by_ranks(&self, clock: &Clock<'_>, ranks: &Set) -> u32
+        requires same { self.now ≡ problem_of clock.now }
+        requires ranks { AreRanksLeft self.now clock.now.numbers ranks.now }
+        ensures value { result ≡ floor_value self.now clock.now.numbers }
+        ensures bound { (rest : List ℕ) → IsLegal self.now.block (clock.now.numbers ++ rest) → result ≤ total_of self.now (clock.now.numbers ++ rest) }
+    {
+        let rest = remaining_numbers(&self.tables, clock);
         if rest.count() == 0 {
             return clock.total();
         }
-        floor_value_of(&self.tables, clock, &rest)
+        floor_value_of(&self.tables, clock, &rest, ranks)
     }
 
     /// The greatest chain, and of equal ones the first in a dictionary.

@@ -9,6 +9,7 @@ mod longest;
 mod numbers;
 mod once;
 mod printed;
+mod ranks;
 mod tables;
 mod values;
 

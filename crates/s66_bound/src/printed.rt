@@ -27,9 +27,10 @@ fn head_of(tables: &Tables, clock: &Clock<'_>, number: u8) -> u32
     requires number { (1 ≤ number) × (number ≤ length (instrs_of clock.now.block)) }
     ensures { result ≡ head (points clock.now) (row_at (problem_of clock.now) number) }
 {
+    let rank = tables.ranks[number as usize - 1];
     let mut head = clock.next();
     for register in tables.written.as_slice() {
-        if tables.users[register.index() as usize].has(number) {
+        if tables.users_by_rank[register.index() as usize].has(rank) {
             head = head.max(clock.done_of(*register));
         }
     }

@@ -9,11 +9,13 @@ ghost use Rattle.s66_model.specs.Leaves.{uses};
 ghost use Rattle.s66_model.specs.Tails.{spare, HasWords, HasWritten};
 ghost use Rattle.s66_bound.specs.InstructionCosts.{AreEntries};
 ghost use Rattle.s66_bound.specs.declared.entry.Entry.{Entry as EntryOf};
+ghost use Rattle.s66_bound.specs.Ranks.{rank};
 ghost use Rattle.s66_bound.specs.TableWords.{AreThose, AreRegisters, HasWorks, HasUsers, IsTables};
 
 use crate::entry::Entry;
 use crate::longest::longest_tails;
-use crate::numbers::{TOP_COUNT, ends_of, tops_of};
+use crate::numbers::ends_of;
+use crate::ranks::{ranks_by_number, ranks_of, tails_by_rank};
 use arrayvec::ArrayVec;
 use s66_dep::Set;
 use s66_isa::{BLOCK_LIMIT, KIND_COUNT, REGISTER_COUNT, Reg, Write, is_same_register, kind_number};
@@ -29,14 +31,16 @@ pub struct Tables {
     pub longest: [u32; BLOCK_LIMIT],
     /// By how much its own tail is longer than its parcels.
     pub spare: [u32; BLOCK_LIMIT],
-    /// The numbers of the longest tails: those of at least half the greatest, those of at least a quarter of it, and so on.
-    pub tops: [Set; TOP_COUNT],
+    /// The rank of each number by its longest tail: rank 1 has the greatest.
+    pub ranks: [u8; BLOCK_LIMIT],
+    /// The longest tail of the number of each rank, at the place below the rank.
+    pub tails: [u32; BLOCK_LIMIT],
     /// The numbers of the least spare.
     pub ends: Set,
     /// Of each kind, by its number, for how long the instructions take a unit, summed: each for its hold and one.
     pub works: [u32; KIND_COUNT],
-    /// The numbers that read or write each register, by its index.
-    pub users: [Set; REGISTER_COUNT],
+    /// The ranks of the numbers that read or write each register, by its index.
+    pub users_by_rank: [Set; REGISTER_COUNT],
     /// The registers that the block writes, each once.
     pub written: ArrayVec<Reg, REGISTER_COUNT>,
 }
@@ -50,15 +54,17 @@ impl Tables {
     {
         let longest = longest_tails(entries);
         let spare = spares(entries);
+        let ranks = ranks_by_number(&longest, entries.len());
         Tables {
             all: Set::up_to(entries.len()),
             long: long_numbers(entries),
-            tops: tops_of(&longest, entries.len()),
+            tails: tails_by_rank(&longest, &ranks, entries.len()),
             ends: ends_of(&spare, entries.len()),
+            users_by_rank: users_by_rank(entries, &ranks),
             longest,
             spare,
+            ranks,
             works: works_by_kind(entries),
-            users: users_by_register(entries),
             written: written_registers(entries),
         }
     }
@@ -127,14 +133,15 @@ fn register_at(index: usize) -> Reg
     Reg::of_index(index as u8)
 }
 
-/// The numbers that read or write each register, by its index.
-fn users_by_register(entries: &[Entry]) -> [Set; REGISTER_COUNT]
+/// The ranks of the numbers that read or write each register, by its index.
+fn users_by_rank(entries: &[Entry], ranks: &[u8; BLOCK_LIMIT]) -> [Set; REGISTER_COUNT]
     requires few { length entries.now ≤ BLOCK_LIMIT }
-    ensures { (b : Problem) → AreEntries b entries.now → HasUsers b result }
+    requires known { (b : Problem) × AreEntries b entries.now × HasWords b (rank b) ranks.now }
+    ensures { (b : Problem) → AreEntries b entries.now → HasWords b (rank b) ranks.now → HasUsers b result }
 {
     let mut users = [Set::empty(); REGISTER_COUNT];
     for index in 0..REGISTER_COUNT {
-        users[index] = users_of(entries, register_at(index));
+        users[index] = ranks_of(ranks, &users_of(entries, register_at(index)));
     }
     users
 }

@@ -1,20 +1,21 @@
 //! The values of the bounds, by the tables of the clock's block. All are in minor cycles.
 
-ghost use Rattle.std.specs.Prelude.{◌≡◌, ◌+◌, ◌-◌, ◌<◌, ◌≤◌, ◌^◌, length, max, get_or};
-ghost use Rattle.std.specs.List.{filter};
+ghost use Rattle.std.specs.Prelude.{ℕ, ◌≡◌, ◌+◌, ◌-◌, ◌<◌, ◌≤◌, ◌^◌, Bool, [], IfSome, IfNone, length, max, get_or};
 ghost use Rattle.s66_isa.specs.Lists.{greatest, least};
 ghost use Rattle.s66_isa.specs.Table.{all_kinds};
 ghost use Rattle.s66_line.specs.Block.{instrs_of};
-ghost use Rattle.s66_model.specs.Timing.{row_at};
-ghost use Rattle.s66_model.specs.LegalOrder.{remaining, sum_remaining};
-ghost use Rattle.s66_model.specs.Leaves.{uses, work_of, over, chain, load, parcels, floor_value};
-ghost use Rattle.s66_model.specs.Tails.{chain_by};
+ghost use Rattle.s66_model.specs.Timing.{Problem, row_at};
+ghost use Rattle.s66_model.specs.LegalOrder.{IsBeginning, sum_remaining};
+ghost use Rattle.s66_model.specs.Leaves.{work_of, over, chain, load, parcels, floor_value};
+ghost use Rattle.s66_model.specs.Tails.{tail_remaining, chain_by};
 ghost use Rattle.s66_dep.specs.Members.{numbers_in};
 ghost use Rattle.s66_time.specs.declared.limits.TheConstants.{COPIES_LIMIT, TOTAL_LIMIT};
 ghost use Rattle.s66_time.specs.Ticking.{problem_of};
-ghost use Rattle.s66_bound.specs.TableWords.{AreRemaining, IsTables};
+ghost use Rattle.s66_bound.specs.Ranks.{AreRanks, AreRanksLeft};
+ghost use Rattle.s66_bound.specs.TableWords.{AreRemaining, HasTails, IsGreatestTail, IsTables};
 
-use crate::numbers::{TOP_COUNT, greatest_from, greatest_of, least_of};
+use crate::numbers::least_of;
+use crate::ranks::ranks_of;
 use crate::tables::Tables;
 use s66_dep::Set;
 use s66_isa::{Kind, Reg, kind_number};
@@ -28,54 +29,66 @@ pub fn remaining_numbers(tables: &Tables, clock: &Clock<'_>) -> Set
     tables.all.without(&clock.pushed())
 }
 
-/// The numbers that remain and read or write a register.
-fn remaining_users(tables: &Tables, clock: &Clock<'_>, rest: &Set, register: Reg) -> Set
+/// The ranks of the numbers that remain: a step for each of them.
+pub fn remaining_ranks(tables: &Tables, clock: &Clock<'_>, rest: &Set) -> Set
     requires tables { IsTables (problem_of clock.now) tables.now }
     requires rest { AreRemaining clock.now rest.now }
-    ensures { numbers_in result ≡ filter (λ n. uses (row_at (problem_of clock.now) n) register) (remaining (instrs_of clock.now.block) clock.now.numbers) }
+    ensures { AreRanksLeft (problem_of clock.now) clock.now.numbers result }
 {
-    rest.both(&tables.users[register.index() as usize])
+    ranks_of(&tables.ranks, rest)
+}
+
+/// The greatest longest tail of the numbers of these ranks: that of the first.
+fn first_tail(tables: &Tables, ranks: &Set) -> Option<u32>
+    ensures some { (b : Problem) (test : ℕ → Bool) → HasTails b tables.now.tails → AreRanks b test ranks.now → IfSome result (λ tail. IsGreatestTail b test tail) }
+    ensures none { IfNone result (numbers_in ranks.now ≡ []) }
+{
+    let mut rest = *ranks;
+    let first = rest.pop_first()?;
+    Some(tables.tails[first as usize - 1])
+}
+
+/// The greatest of the longest tails of the numbers that remain.
+fn greatest_tail(tables: &Tables, clock: &Clock<'_>, ranks: &Set) -> u32
+    requires tables { IsTables (problem_of clock.now) tables.now }
+    requires ranks { AreRanksLeft (problem_of clock.now) clock.now.numbers ranks.now }
+    ensures { result ≡ tail_remaining (problem_of clock.now) clock.now.numbers }
+{
+    match first_tail(tables, ranks) {
+        Some(tail) => tail,
+        None => 0,
+    }
 }
 
 /// The greatest chain that starts when the register is done; 0 if no number that remains reads or writes it.
-fn chain_by(tables: &Tables, clock: &Clock<'_>, rest: &Set, register: Reg) -> u32
+fn chain_by(tables: &Tables, clock: &Clock<'_>, ranks: &Set, register: Reg) -> u32
     requires tables { IsTables (problem_of clock.now) tables.now }
-    requires rest { AreRemaining clock.now rest.now }
+    requires begins { IsBeginning (instrs_of clock.now.block) clock.now.numbers }
+    requires ranks { AreRanksLeft (problem_of clock.now) clock.now.numbers ranks.now }
     requires some { length clock.now.numbers < length (instrs_of clock.now.block) }
     ensures { result ≡ chain_by (problem_of clock.now) clock.now.numbers register }
 {
-    let users = remaining_users(tables, clock, rest, register);
-    greatest_from(&tables.longest, clock.done_of(register), &users)
-}
-
-/// The greatest of the longest tails of the numbers that remain. They are looked for among the longest tails first.
-fn greatest_tail(tables: &Tables, clock: &Clock<'_>, rest: &Set) -> u32
-    requires tables { IsTables (problem_of clock.now) tables.now }
-    requires rest { AreRemaining clock.now rest.now }
-    ensures { result ≡ greatest (λ n. get_or tables.now.longest (n - 1) 0) (numbers_in rest.now) }
-{
-    for index in 0..TOP_COUNT {
-        let those = rest.both(&tables.tops[index]);
-        if those.count() != 0 {
-            return greatest_of(&tables.longest, &those);
-        }
+    let users = ranks.both(&tables.users_by_rank[register.index() as usize]);
+    match first_tail(tables, &users) {
+        Some(tail) => clock.done_of(register) + tail,
+        None => 0,
     }
-    greatest_of(&tables.longest, rest)
 }
 
 /// A value, or the greatest value of a chain if that is greater. A chain starts in the next slot, or when a register is done that
 /// is late. Only the registers are looked at that are so late that they can make a greater one.
-fn least_or_chain(tables: &Tables, clock: &Clock<'_>, rest: &Set, least: u32) -> u32
+fn least_or_chain(tables: &Tables, clock: &Clock<'_>, ranks: &Set, least: u32) -> u32
     requires tables { IsTables (problem_of clock.now) tables.now }
-    requires rest { AreRemaining clock.now rest.now }
+    requires begins { IsBeginning (instrs_of clock.now.block) clock.now.numbers }
+    requires ranks { AreRanksLeft (problem_of clock.now) clock.now.numbers ranks.now }
     requires some { length clock.now.numbers < length (instrs_of clock.now.block) }
     ensures { result ≡ max least (chain (problem_of clock.now) clock.now.numbers) }
 {
-    let tail = greatest_tail(tables, clock, rest);
+    let tail = greatest_tail(tables, clock, ranks);
     let mut most = least.max(clock.next() + tail);
     let mut late = clock.late(most - tail);
     while let Some(register) = late.pop_first() {
-        most = most.max(chain_by(tables, clock, rest, register));
+        most = most.max(chain_by(tables, clock, ranks, register));
     }
     most
 }
@@ -87,7 +100,7 @@ pub fn chain_of(tables: &Tables, clock: &Clock<'_>, rest: &Set) -> u32
     requires some { length clock.now.numbers < length (instrs_of clock.now.block) }
     ensures { result ≡ chain (problem_of clock.now) clock.now.numbers }
 {
-    least_or_chain(tables, clock, rest, 0)
+    least_or_chain(tables, clock, &remaining_ranks(tables, clock, rest), 0)
 }
 
 /// The work that remains for a kind of unit.
@@ -165,14 +178,15 @@ pub fn greatest_load(tables: &Tables, clock: &Clock<'_>) -> u32
     load_of(tables, clock, Kind::Boolean).max(shift)
 }
 
-/// The greatest of the chain, the loads and the parcels.
-pub fn floor_value_of(tables: &Tables, clock: &Clock<'_>, rest: &Set) -> u32
+/// The greatest of the chain, the loads and the parcels; `ranks` are those of what remains.
+pub fn floor_value_of(tables: &Tables, clock: &Clock<'_>, rest: &Set, ranks: &Set) -> u32
     requires tables { IsTables (problem_of clock.now) tables.now }
     requires rest { AreRemaining clock.now rest.now }
+    requires ranks { AreRanksLeft (problem_of clock.now) clock.now.numbers ranks.now }
     requires some { length clock.now.numbers < length (instrs_of clock.now.block) }
     ensures { result ≡ floor_value (problem_of clock.now) clock.now.numbers }
 {
     let loads = greatest_load(tables, clock);
     let parcels = parcels_of(tables, clock, rest);
-    least_or_chain(tables, clock, rest, loads.max(parcels))
+    least_or_chain(tables, clock, ranks, loads.max(parcels))
 }

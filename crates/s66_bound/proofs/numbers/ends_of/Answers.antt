@@ -1,7 +1,7 @@
 use Rattle.std.proofs.Common.{◌+◌, ◌-◌, ◌≡◌, arith, sym, subst, ap, true≢false, ◌∙◌, inl, inr, get_or}
 use Rattle.std.proofs.lemmas.Bool.{cases_eq}
 use Rattle.s66_isa.specs.Lists.{has}
-use Rattle.s66_bound.proofs.TopNumbers.{AreOf, of-push}
+use Rattle.s66_bound.proofs.LeastWords.{AreOf, of-push}
 use Rattle.s66_bound.proofs.numbers.ends_of.Goals as goal
 use Rattle.s66_bound.proofs.numbers.ends_of.Goals.{then-words-position, else-words-position}
 

@@ -1,5 +1,5 @@
 use Rattle.std.proofs.Common.{ℕ, ◌-◌, ◌≤◌, get_or}
-use Rattle.s66_bound.proofs.TopNumbers.{AreOf}
+use Rattle.s66_bound.proofs.LeastWords.{AreOf}
 use Rattle.s66_bound.proofs.numbers.ends_of.Given as goal
 
 abbrev pub invariant-loop-place : goal.invariant-loop-place

@@ -1,8 +1,12 @@
-use Rattle.std.proofs.Common.{rules, ◌+◌, ◌-◌, ◌<◌, ◌≡◌, ◌^◌, arith, get_or}
-use Rattle.s66_model.specs.Timing.{row_at}
-use Rattle.s66_model.specs.Leaves.{link}
+use Rattle.std.proofs.Common.{ℕ, ◌+◌, ◌-◌, ◌≡◌, Bool, true, ◌&&◌, not, eqb, ltb, arith, get_or, refl, sym, ◌∙◌, eq-eqb, ne_eqb}
+use Rattle.std.proofs.lemmas.Bool.{and_left, and_right, and_from, not_from_true, not_from_false, lt-ltb, le-ltb}
+use Rattle.s66_model.specs.Timing.{Problem, row_at}
+use Rattle.s66_model.specs.Leaves.{tail, link, is_linked}
+use Rattle.s66_model.specs.Tails.{longest_tail}
 use Rattle.s66_model.proofs.TailTable.{link-small, tail-fits}
+use Rattle.s66_bound.specs.InstructionCosts.{IsEntry}
 use Rattle.s66_bound.proofs.EntryOfNumber.{entry-of}
+use Rattle.s66_bound.proofs.printed.goes_on.Goals.{then-from-longest-via-then-from-longest, then-from-longest-via-else-from-longest+then-other-number}
 use Rattle.s66_bound.proofs.printed.goes_on.Goals as goal
 
 pub overflow_add-result : goal.overflow_add-result
@@ -14,7 +18,56 @@ overflow_add-result c =
     (entry-of b c.args.entries.now c.args.number c.index-entries-number.result entries low high c.index-entries-number.is)
     (entry-of b c.args.entries.now c.args.other c.index-entries-other.result entries other_low other_high c.index-entries-other.is)
     in
-    let within : c.link-link.result + get_or c.args.tables.now.longest (c.args.other - 1) 0 < 2 ^ 32 =
     omega (arith, linked, link-small b c.args.number c.args.other, tables.longest c.args.other other_low (omega (arith, other_high, entries.count)), tail-fits b c.args.other (omega (arith, entries.count, c.requires.few)))
-    in
-    search rules
+
+-- the walk from n ends with its tail
+abbrev ends : Problem → ℕ → Bool
+ends b n = eqb (tail (row_at b n)) (longest_tail b n)
+
+-- m keeps it as long
+abbrev keeps : Problem → ℕ → ℕ → Bool
+keeps b n m = eqb (link (row_at b n) (row_at b m) + longest_tail b m) (longest_tail b n)
+
+pub returns-then-from-longest : goal.returns-then-from-longest
+returns-then-from-longest c = λ b entries tables.
+    let n : ℕ = c.args.number in
+    let m : ℕ = c.args.other in
+    let (low, high, other_low, other_high) = c.requires.numbers in
+    let from : IsEntry (row_at b n) c.index-entries-number.result = entry-of b c.args.entries.now n c.index-entries-number.result entries low high c.index-entries-number.is in
+    let own = tables.longest n low (omega (arith, high, entries.count)) in
+    elim c.then-from-longest.branch [
+      | then-from-longest-via-then-from-longest w ↦
+          sym (and_left (not (ends b n)) (is_linked b n m && keeps b n m) (not_from_true (ends b n) (eq-eqb (tail (row_at b n)) (longest_tail b n) (sym from.tail ∙ (w.if-from-longest.true ∙ own)))))
+      | then-from-longest-via-else-from-longest+then-other-number w ↦
+          sym (and_right (not (ends b n)) (is_linked b n m && keeps b n m) (and_left (is_linked b n m) (keeps b n m) (and_left (ltb n m) (ltb 0 (link (row_at b n) (row_at b m))) (le-ltb n m w.if-other-number.true))))
+    ]
+
+last-counts : (x y z : Bool) → x ≡ true → y ≡ true → z ≡ (x && (y && z))
+last-counts x y z first second = rw (first, second) refl
+
+pub returns-then-link-gt0 : goal.returns-then-link-gt0
+returns-then-link-gt0 c = λ b entries tables.
+    let n : ℕ = c.args.number in
+    let m : ℕ = c.args.other in
+    let (low, high, other_low, other_high) = c.requires.numbers in
+    let from : IsEntry (row_at b n) c.index-entries-number.result = entry-of b c.args.entries.now n c.index-entries-number.result entries low high c.index-entries-number.is in
+    let to : IsEntry (row_at b m) c.index-entries-other.result = entry-of b c.args.entries.now m c.index-entries-other.result entries other_low other_high c.index-entries-other.is in
+    let own = tables.longest n low (omega (arith, high, entries.count)) in
+    let others = tables.longest m other_low (omega (arith, other_high, entries.count)) in
+    let linked = c.link-link.ensures (row_at b n) (row_at b m) from to in
+    let same : eqb (c.link-link.result + get_or c.args.tables.now.longest (m - 1) 0) (get_or c.args.tables.now.longest (n - 1) 0) ≡ keeps b n m = rw (linked, others, own) refl in
+    same
+    ∙ last-counts (not (ends b n)) (is_linked b n m) (keeps b n m)
+    (not_from_false (ends b n) (ne_eqb (tail (row_at b n)) (longest_tail b n) (λ is. c.if-from-longest.false (from.tail ∙ (is ∙ sym own)))))
+    (and_from (ltb n m) (ltb 0 (link (row_at b n) (row_at b m))) (lt-ltb n m (omega (arith, c.if-other-number.false))) (lt-ltb 0 (link (row_at b n) (row_at b m)) (omega (arith, linked, c.if-link-gt0.true))))
+
+pub returns-else-link-gt0 : goal.returns-else-link-gt0
+returns-else-link-gt0 c = λ b entries tables.
+    let n : ℕ = c.args.number in
+    let m : ℕ = c.args.other in
+    let (low, high, other_low, other_high) = c.requires.numbers in
+    let from : IsEntry (row_at b n) c.index-entries-number.result = entry-of b c.args.entries.now n c.index-entries-number.result entries low high c.index-entries-number.is in
+    let to : IsEntry (row_at b m) c.index-entries-other.result = entry-of b c.args.entries.now m c.index-entries-other.result entries other_low other_high c.index-entries-other.is in
+    let linked = c.link-link.ensures (row_at b n) (row_at b m) from to in
+    le-ltb 0 c.link-link.result (omega (arith, c.if-link-gt0.false))
+    ∙ sym (and_right (not (ends b n)) (is_linked b n m && keeps b n m) (and_left (is_linked b n m) (keeps b n m) (and_right (ltb n m) (ltb 0 (link (row_at b n) (row_at b m))) (le-ltb 0 (link (row_at b n) (row_at b m)) (omega (arith, linked, c.if-link-gt0.false))))))

@@ -1,4 +1,4 @@
-use Rattle.std.proofs.Common.{ℕ, ◌≡◌, ◌≤◌, ◌<◌, get_or, sym, subst, ap, arith, ◌∙◌, length}
+use Rattle.std.proofs.Common.{ℕ, ◌-◌, ◌≡◌, ◌≤◌, ◌<◌, get_or, sym, subst, ap, arith, ◌∙◌, length}
 use Rattle.std.proofs.lemmas.List.{drop_all}
 use Rattle.s66_isa.specs.Lists.{greatest, has}
 use Rattle.s66_model.specs.Timing.{row_at}
@@ -24,7 +24,7 @@ loop-register-preserved c =
     let step = greatest-drop (done_for b t.numbers n) items c.loop-register.register-index x within in
     let item : done_for b t.numbers n (get_or items c.loop-register.register-index x) ≡ done_for b t.numbers n x = ap (done_for b t.numbers n) (sym here) in
     let known : c.has.result ≡ uses (row_at b n) x =
-    c.has.ensures ∙ (ap (λ i. has n (numbers_in (get_or c.args.tables.now.users i no_set))) c.index.ensures.value ∙ has-users b c.args.tables.now n x c.requires.tables c.requires.number.0 c.requires.number.1 c.index.ensures.digit)
+    c.has.ensures ∙ (ap (λ i. has (get_or c.args.tables.now.ranks (n - 1) 0) (numbers_in (get_or c.args.tables.now.users_by_rank i no_set))) c.index.ensures.value ∙ has-users b c.args.tables.now n x c.requires.tables c.requires.number.0 c.requires.number.1 c.index.ensures.digit)
     in
     elim c.if-has.branch [
       | then-has w ↦ omega (arith, c.loop-register.invariant, step, item, done-used b t.numbers n x (sym known ∙ w.if-has.true), w.done_of.ensures, w.max-head.ensures, w.head-is)

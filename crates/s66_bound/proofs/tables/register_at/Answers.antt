@@ -1,4 +1,4 @@
-use Rattle.std.proofs.Common.{ap, arith, ◌≤◌, ◌∙◌}
+use Rattle.std.proofs.Common.{ap, arith, ◌∙◌}
 use Rattle.s66_isa.specs.Table.{Reg}
 use Rattle.s66_isa.specs.Registers.{index_of}
 use Rattle.s66_isa.specs.RegisterIndices.{register_at-index}

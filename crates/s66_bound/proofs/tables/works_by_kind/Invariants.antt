@@ -1,4 +1,4 @@
-use Rattle.std.proofs.Common.{ℕ, ◌≡◌, ◌≤◌, ◌*◌, length, get_or}
+use Rattle.std.proofs.Common.{◌≡◌, length}
 use Rattle.s66_model.specs.Timing.{Problem}
 use Rattle.s66_bound.specs.InstructionCosts.{AreEntries}
 use Rattle.s66_bound.proofs.WorkTables.{HasFirstWorks}

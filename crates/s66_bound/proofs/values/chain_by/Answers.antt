@@ -1,26 +1,46 @@
-use Rattle.std.proofs.Common.{arith, ◌≡◌, ◌+◌, ◌-◌, get_or}
-use Rattle.s66_isa.specs.Lists.{greatest}
+use Rattle.std.proofs.Common.{ℕ, ◌+◌, ◌≡◌, ◌≤◌, not, ◌&&◌, List, get_or, sym, subst, arith}
+use Rattle.s66_isa.specs.Lists.{has}
+use Rattle.s66_isa.specs.Registers.{index_of}
+use Rattle.s66_isa.specs.Table.{Reg}
+use Rattle.s66_model.specs.Timing.{Problem}
 use Rattle.s66_model.specs.Tails.{chain_by}
 use Rattle.s66_model.proofs.FloorParts.{by-fits}
-use Rattle.s66_dep.specs.Members.{numbers_in}
+use Rattle.s66_dep.specs.declared.set.Set.{Set}
+use Rattle.s66_dep.specs.Members.{numbers_in, no_set}
 use Rattle.s66_time.specs.Ticking.{problem_of}
-use Rattle.s66_bound.proofs.RemainingSums.{by-words}
+use Rattle.s66_bound.specs.Ranks.{AreRanks}
+use Rattle.s66_bound.specs.TableWords.{HasUsers}
+use Rattle.s66_bound.proofs.RankOrder.{ranks-both}
+use Rattle.s66_bound.proofs.RemainingSums.{is_user, by-greatest, by-none}
 use Rattle.s66_bound.proofs.values.chain_by.Goals as goal
 
-pub greatest_from-requires : goal.greatest_from-requires
-greatest_from-requires c =
-    let t = c.args.clock.now in
-    omega (
-      arith,
-      by-words (problem_of t) t.numbers c.args.tables.now.longest (numbers_in c.remaining_users-users.result) c.done_of.result c.args.register c.requires.tables.longest c.remaining_users-users.ensures c.done_of.ensures,
-      by-fits (problem_of t) t.numbers c.args.register c.requires.rest.begins c.requires.rest.few c.requires.some,
-    )
+-- the ranks of the users that remain
+users-are : (b : Problem) (prefix : List ℕ) (sets : List Set) (x : Reg) (i : ℕ) (ranks both : Set) → HasUsers b sets → i ≡ index_of x → x.digit ≤ 7 → AreRanks b (λ n. not (has n prefix)) ranks →
+    ((r : ℕ) → has r (numbers_in both) ≡ (has r (numbers_in ranks) && has r (numbers_in (get_or sets i no_set)))) → AreRanks b (λ n. not (has n prefix) && is_user b x n) both
+users-are b prefix sets x i ranks both known here digit left joined =
+    ranks-both b (λ n. not (has n prefix)) (is_user b x) ranks (get_or sets i no_set) both left (subst (λ k. AreRanks b (is_user b x) (get_or sets k no_set)) (sym here) (known x digit)) joined
 
-pub returns : goal.returns
-returns c =
+module _ (c : goal.After-done_of) where
+  sum-is : c.done_of.result + c.in-Some.tail ≡ chain_by (problem_of c.args.clock.now) c.args.clock.now.numbers c.args.register
+  sum-is =
+      let t = c.args.clock.now in
+      let b = problem_of t in
+      let x = c.args.register in
+      by-greatest b t.numbers x c.done_of.result c.in-Some.tail c.done_of.ensures
+      (c.in-Some.ensures.some b (λ n. not (has n t.numbers) && is_user b x n) c.requires.tables.tails (users-are b t.numbers c.args.tables.now.users_by_rank x c.index.result c.args.ranks.now c.both-users.result c.requires.tables.users c.index.ensures.value c.index.ensures.digit c.requires.ranks c.both-users.ensures))
+
+pub overflow_add-result : goal.overflow_add-result
+overflow_add-result c =
     let t = c.args.clock.now in
-    omega (
-      arith,
-      c.greatest_from.ensures,
-      by-words (problem_of t) t.numbers c.args.tables.now.longest (numbers_in c.remaining_users-users.result) c.done_of.result c.args.register c.requires.tables.longest c.remaining_users-users.ensures c.done_of.ensures,
-    )
+    omega (arith, sum-is c, by-fits (problem_of t) t.numbers c.args.register c.requires.begins c.requires.tables.few c.requires.some)
+
+pub returns-in-Some : goal.returns-in-Some
+returns-in-Some c = sum-is c
+
+pub returns-in-None : goal.returns-in-None
+returns-in-None c =
+    let t = c.args.clock.now in
+    let b = problem_of t in
+    let x = c.args.register in
+    sym (by-none b t.numbers x c.both-users.result
+    (users-are b t.numbers c.args.tables.now.users_by_rank x c.index.result c.args.ranks.now c.both-users.result c.requires.tables.users c.index.ensures.value c.index.ensures.digit c.requires.ranks c.both-users.ensures) c.in-None.ensures.none)

@@ -1,8 +1,8 @@
-use Rattle.std.proofs.Common.{◌-◌, ap, arith, get_or}
+use Rattle.std.proofs.Common.{ap, arith}
 use Rattle.s66_isa.specs.Lists.{greatest}
 use Rattle.s66_isa.specs.Registers.{registers_in}
 use Rattle.s66_model.specs.Tails.{chain_by}
-use Rattle.s66_model.proofs.FloorParts.{chain-fits, tail_remaining-words}
+use Rattle.s66_model.proofs.FloorParts.{chain-fits}
 use Rattle.s66_time.specs.Ticking.{problem_of}
 use Rattle.s66_bound.proofs.ValueBounds.{chain-covered, late-covers}
 use Rattle.s66_bound.proofs.values.least_or_chain.Goals as goal
@@ -15,23 +15,16 @@ overflow_add-next c =
       arith,
       c.next.ensures.value,
       c.greatest_tail-tail.ensures,
-      ap (greatest (λ n. get_or c.args.tables.now.longest (n - 1) 0)) c.requires.rest.numbers,
-      tail_remaining-words b t.numbers c.args.tables.now.longest c.requires.tables.longest,
-      chain-covered b t.numbers c.args.tables.now.written.items c.requires.rest.begins c.requires.some c.requires.tables.written,
-      chain-fits b t.numbers c.requires.rest.begins c.requires.rest.few c.requires.some,
+      chain-covered b t.numbers c.args.tables.now.written.items c.requires.begins c.requires.some c.requires.tables.written,
+      chain-fits b t.numbers c.requires.begins c.requires.tables.few c.requires.some,
     )
 
 pub loop-register-init : goal.loop-register-init
 loop-register-init c =
     let t = c.args.clock.now in
     let b = problem_of t in
-    late-covers b t.numbers c.args.tables.now.written.items (registers_in c.late-late.result) c.max-most.result c.args.least c.greatest_tail-tail.result c.requires.rest.begins c.requires.some c.requires.tables.written c.requires.tables.registers
-    (omega (
-      arith,
-      c.greatest_tail-tail.ensures,
-      ap (greatest (λ n. get_or c.args.tables.now.longest (n - 1) 0)) c.requires.rest.numbers,
-      tail_remaining-words b t.numbers c.args.tables.now.longest c.requires.tables.longest,
-    ))
+    late-covers b t.numbers c.args.tables.now.written.items (registers_in c.late-late.result) c.max-most.result c.args.least c.greatest_tail-tail.result c.requires.begins c.requires.some c.requires.tables.written c.requires.tables.registers
+    c.greatest_tail-tail.ensures
     (omega (arith, c.max-most.ensures, c.next.ensures.value))
     c.late-late.ensures
 

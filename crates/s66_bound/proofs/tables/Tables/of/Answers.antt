@@ -1,19 +1,32 @@
-use Rattle.std.proofs.Common.{subst, get_or, rules}
-use Rattle.s66_dep.specs.Members.{no_set}
-use Rattle.s66_bound.specs.TopNumbers.{IsTop, AreEnds}
+use Rattle.std.proofs.Common.{subst, arith, rules}
+use Rattle.s66_bound.specs.LeastWords.{AreEnds}
 use Rattle.s66_bound.proofs.tables.Tables.of.Goals as goal
+
+pub tails_by_rank-requires-clause-known : goal.tails_by_rank-requires-clause-known
+tails_by_rank-requires-clause-known c =
+    let (b, are) = c.requires.known in
+    (b, c.ranks_by_number-ranks.ensures b (c.longest_tails-longest.ensures b are) are.count, are.count)
+
+pub users_by_rank-requires-clause-known : goal.users_by_rank-requires-clause-known
+users_by_rank-requires-clause-known c =
+    let (b, are) = c.requires.known in
+    (b, are, c.ranks_by_number-ranks.ensures b (c.longest_tails-longest.ensures b are) are.count)
 
 pub returns : goal.returns
 returns c = λ b are.
+    let longest = c.longest_tails-longest.ensures b are in
+    let ranks = c.ranks_by_number-ranks.ensures b longest are.count in
     record {
+      few = omega (arith, are.count, c.requires.few);
       all = search rules;
       long = c.long_numbers.ensures b are;
-      longest = c.longest_tails-longest.ensures b are;
+      longest = longest;
       spare = c.spares-spare.ensures b are;
-      tops = λ i few. subst (λ k. IsTop c.longest_tails-longest.result k (get_or c.tops_of.result i no_set)) are.count (c.tops_of.ensures i few);
+      ranks = ranks;
+      tails = c.tails_by_rank.ensures b longest ranks are.count;
       ends = subst (λ k. AreEnds c.spares-spare.result k c.ends_of.result) are.count c.ends_of.ensures;
       works = c.works_by_kind.ensures b are;
-      users = c.users_by_register.ensures b are;
+      users = c.users_by_rank.ensures b are ranks;
       written = c.written_registers.ensures.written b are;
       registers = c.written_registers.ensures.registers;
     }
