@@ -1,6 +1,6 @@
 -- A walk is at a beginning, before and after each step.
-use Rattle.std.proofs.Common.{ℕ, ◌+◌, ◌-◌, ◌≤◌, ◌<◌, ◌≡◌, ◌⊎◌, true, List, [], ◌∷◌, ◌++◌, length, take, get_or, sym, ap, arith, inl, inr, ◌∙◌, length-append, subst, eqb, ◌||◌}
-use Rattle.std.proofs.lemmas.Bool.{cases_eq, eq-eqb}
+use Rattle.std.proofs.Common.{ℕ, ◌+◌, ◌-◌, ◌≤◌, ◌<◌, ◌≡◌, ◌⊎◌, Bool, true, false, not, ◌&&◌, refl, List, [], ◌∷◌, ◌++◌, length, take, get_or, sym, ap, arith, inl, inr, ◌∙◌, length-append, subst, eqb, ◌||◌}
+use Rattle.std.proofs.lemmas.Bool.{cases_eq, eq-eqb, ne_eqb, or_left}
 use Rattle.std.proofs.lemmas.List.{take_more, take_all, take-append-le}
 use Rattle.s66_isa.specs.declared.instr.Instr.{Instr}
 use Rattle.s66_line.specs.Block.{instrs_of}
@@ -17,6 +17,8 @@ use Rattle.s66_dep.specs.declared.set.Set.{Set}
 use Rattle.s66_dep.specs.Members.{numbers_in}
 use Rattle.s66_dep.proofs.Opened.{count-needs}
 use Rattle.s66_time.specs.Ticking.{Ticking, problem_of}
+use Rattle.s66_bound.specs.Ranks.{rank, AreRanksLeft}
+use Rattle.s66_bound.proofs.RankOrder.{ranks-same, ranks-with, ranks-without}
 use Rattle.s66_node.specs.declared.walk.ReadyFront.{ReadyFront}
 use Rattle.s66_node.specs.Walked.{Walked, IsWalked, IsReadyFront}
 
@@ -63,7 +65,7 @@ front-whole block ns f all placed is =
 
 -- THE WALK
 
-module _ (c : Ticking) (b : Problem) (d : List (List ℕ)) (ns : List ℕ) (f : ReadyFront) (w : Walked) (h : IsWalked c b d ns f) (seen : record { problem = problem_of c; numbers = c.numbers } ≡ w) where
+module _ (c : Ticking) (b : Problem) (d : List (List ℕ)) (ns : List ℕ) (left : Set) (f : ReadyFront) (w : Walked) (h : IsWalked c b d ns left f) (seen : record { problem = problem_of c; numbers = c.numbers } ≡ w) where
   ready-here : (n : ℕ) → is_ready w.problem.block w.numbers n ≡ true → is_ready (instrs_of c.block) c.numbers n ≡ true
   ready-here n is = subst (λ (x : Walked). is_ready x.problem.block x.numbers n ≡ true) (sym seen) is
 
@@ -72,8 +74,37 @@ module _ (c : Ticking) (b : Problem) (d : List (List ℕ)) (ns : List ℕ) (f : 
   push-fits n is =
       omega (arith, h.few, ap length h.numbers, beginning-few (instrs_of c.block) (c.numbers ++ n ∷ []) (step-begins (instrs_of c.block) c.numbers n h.begins (ready-here n is)), length-append c.numbers (n ∷ []))
 
-  pub walked-push : (n : ℕ) (c2 : Ticking) (ns2 : List ℕ) → is_ready w.problem.block w.numbers n ≡ true → c2 ≡ record c { numbers = c.numbers ++ n ∷ []; looks = c2.looks } → ns2 ≡ ns ++ n ∷ [] → IsWalked c2 b d ns2 f
-  walked-push n c2 ns2 is pushed more =
+  number-in : (n : ℕ) → is_ready (instrs_of c.block) c.numbers n ≡ true → (1 ≤ n) × (n ≤ length b.block)
+  number-in n is =
+      let (low, high, new, met) = ready-parts (instrs_of c.block) c.numbers n is in
+      (low, omega (arith, high, ap (λ (p : Problem). length p.block) h.bounds))
+
+  -- a number that is ready has a rank
+  pub push-ranked : (n : ℕ) → is_ready w.problem.block w.numbers n ≡ true → (1 ≤ n) × (n ≤ length b.block)
+  push-ranked n is = number-in n (ready-here n is)
+
+  -- without its rank they are those of what remains after it
+  pub ranks-push : (n r : ℕ) (none placed less : Set) → is_ready w.problem.block w.numbers n ≡ true → r ≡ rank b n → numbers_in none ≡ [] → ((m : ℕ) → has m (numbers_in placed) ≡ (eqb m r || has m (numbers_in none))) →
+      ((m : ℕ) → has m (numbers_in less) ≡ (has m (numbers_in left) && not (has m (numbers_in placed)))) → AreRanksLeft b (c.numbers ++ n ∷ []) less
+  ranks-push n r none placed less is here nothing adds takes =
+      let (low, high) = push-ranked n is in
+      ranks-same b (λ m. not (has m c.numbers) && not (eqb m n)) (λ m. not (has m (c.numbers ++ n ∷ []))) less
+      (λ m from to. apart (has m c.numbers) (eqb m n) ∙ ap not (sym (has-push m n c.numbers)))
+      (ranks-without b (λ m. not (has m c.numbers)) n left less low high h.ranks (λ m.
+      takes m ∙ ap (λ x. has m (numbers_in left) && not x) (adds m ∙ (ap (λ x. eqb m r || x) (ap (has m) nothing) ∙ (alone (eqb m r) ∙ ap (eqb m) here)))))
+    where
+      alone : (x : Bool) → (x || false) ≡ x
+      alone true = refl
+      alone false = refl
+
+      apart : (x y : Bool) → (not x && not y) ≡ not (y || x)
+      apart true true = refl
+      apart true false = refl
+      apart false true = refl
+      apart false false = refl
+
+  pub walked-push : (n : ℕ) (c2 : Ticking) (ns2 : List ℕ) (less : Set) → AreRanksLeft b (c.numbers ++ n ∷ []) less → is_ready w.problem.block w.numbers n ≡ true → c2 ≡ record c { numbers = c.numbers ++ n ∷ []; looks = c2.looks } → ns2 ≡ ns ++ n ∷ [] → IsWalked c2 b d ns2 less f
+  walked-push n c2 ns2 less ranks is pushed more =
       let block : c2.block ≡ c.block = ap (λ (x : Ticking). x.block) pushed in
       let numbers : c2.numbers ≡ c.numbers ++ n ∷ [] = ap (λ (x : Ticking). x.numbers) pushed in
       let begins : IsBeginning (instrs_of c.block) (c.numbers ++ n ∷ []) = step-begins (instrs_of c.block) c.numbers n h.begins (ready-here n is) in
@@ -83,11 +114,12 @@ module _ (c : Ticking) (b : Problem) (d : List (List ℕ)) (ns : List ℕ) (f : 
         numbers = more ∙ (ap (λ xs. xs ++ n ∷ []) h.numbers ∙ sym numbers);
         begins = rw (block, numbers) begins;
         few = rw block h.few;
+        ranks = subst (λ xs. AreRanksLeft b xs less) (sym numbers) ranks;
         front = rw (block, numbers) (front-longer (instrs_of c.block) c.numbers (n ∷ []) f h.front);
       }
 
-  pub walked-undo : (c2 : Ticking) (ns2 : List ℕ) (f2 : ReadyFront) → c2 ≡ record c { numbers = take (length c.numbers - 1) c.numbers; looks = c2.looks } → ns2 ≡ take (length ns - 1) ns → IsReadyFront (instrs_of c.block) ns2 f2 → IsWalked c2 b d ns2 f2
-  walked-undo c2 ns2 f2 undone less is =
+  pub walked-undo : (c2 : Ticking) (ns2 : List ℕ) (more : Set) (f2 : ReadyFront) → AreRanksLeft b ns2 more → c2 ≡ record c { numbers = take (length c.numbers - 1) c.numbers; looks = c2.looks } → ns2 ≡ take (length ns - 1) ns → IsReadyFront (instrs_of c.block) ns2 f2 → IsWalked c2 b d ns2 more f2
+  walked-undo c2 ns2 more f2 ranks undone less is =
       let block : c2.block ≡ c.block = ap (λ (x : Ticking). x.block) undone in
       let numbers : c2.numbers ≡ take (length c.numbers - 1) c.numbers = ap (λ (x : Ticking). x.numbers) undone in
       let begins : IsBeginning (instrs_of c.block) (take (length c.numbers - 1) c.numbers) = begins-at (instrs_of c.block) c.numbers (length c.numbers - 1) h.begins in
@@ -98,6 +130,7 @@ module _ (c : Ticking) (b : Problem) (d : List (List ℕ)) (ns : List ℕ) (f : 
         numbers = same;
         begins = rw (block, numbers) begins;
         few = rw block h.few;
+        ranks = subst (λ xs. AreRanksLeft b xs more) same ranks;
         front = subst (λ xs. IsReadyFront (instrs_of c2.block) xs f2) same (rw block is);
       }
 
@@ -146,6 +179,29 @@ module _ (c : Ticking) (b : Problem) (d : List (List ℕ)) (ns : List ℕ) (f : 
     -- the last number
     pub last-range : (1 ≤ n) × (n ≤ length d)
     last-range = ready-range ns2 n parts.1
+
+    last-parts : (1 ≤ n) × (n ≤ length b.block) × (has n ns2 ≡ false)
+    last-parts =
+        let (low, high, new, met) = ready-parts (instrs_of c.block) ns2 n parts.1 in
+        (low, omega (arith, high, ap (λ (p : Problem). length p.block) h.bounds), new)
+
+    pub last-ranked : (1 ≤ n) × (n ≤ length b.block)
+    last-ranked = (let (low, high, new) = last-parts in (low, high))
+
+    -- with its rank they are those of what remains before it
+    pub ranks-undo : (r : ℕ) (more : Set) → r ≡ rank b n → ((m : ℕ) → has m (numbers_in more) ≡ (eqb m r || has m (numbers_in left))) → AreRanksLeft b ns2 more
+    ranks-undo r more here adds =
+        let (low, high, new) = last-parts in
+        ranks-same b (λ m. eqb m n || not (has m c.numbers)) (λ m. not (has m ns2)) more
+        (λ m from to. back m new)
+        (ranks-with b (λ m. not (has m c.numbers)) n left more low high h.ranks (λ m. adds m ∙ ap (λ k. eqb m k || has m (numbers_in left)) here))
+      where
+        back : (m : ℕ) → has n ns2 ≡ false → (eqb m n || not (has m c.numbers)) ≡ not (has m ns2)
+        back m new =
+            elim (cases_eq m n) [
+              | inl same ↦ or_left (eqb m n) (not (has m c.numbers)) (eq-eqb m n same) ∙ sym (ap not (ap (λ k. has k ns2) same ∙ new))
+              | inr other ↦ rw (ne_eqb m n other) (ap not (ap (has m) whole ∙ (has-push m n ns2 ∙ rw (ne_eqb m n other) refl)))
+            ]
 
     -- the front goes back with the prefix
     pub front-back : (f2 : ReadyFront) → length ns2 < f.count → f2.count ≡ length ns2 → ((m : ℕ) → has m (numbers_in f2.placed) ≡ has m ns2) →

@@ -7,8 +7,10 @@ use Rattle.s66_line.specs.Block.{instrs_of}
 use Rattle.s66_model.specs.Dependence.{all_needs}
 use Rattle.s66_model.specs.LegalOrder.{IsBeginning, ready}
 use Rattle.s66_model.specs.Timing.{Problem}
+use Rattle.s66_dep.specs.declared.set.Set.{Set}
 use Rattle.s66_dep.specs.Members.{numbers_in}
 use Rattle.s66_time.specs.Ticking.{Ticking, problem_of}
+use Rattle.s66_bound.specs.Ranks.{AreRanksLeft}
 use Rattle.s66_node.specs.declared.walk.ReadyFront.{ReadyFront}
 
 pub record Walked : Type 0 where
@@ -25,11 +27,12 @@ pub record IsReadyFront (block : List Instr) (prefix : List ℕ) (f : ReadyFront
   pub placed : (m : ℕ) → has m (numbers_in f.placed) ≡ has m (take f.count prefix)
   pub ready : numbers_in f.ready ≡ ready block (take f.count prefix)
 
--- what is true of every walk: its clock, its bounds, its dependences, its numbers and the front go together
-pub record IsWalked (c : Ticking) (b : Problem) (d : List (List ℕ)) (ns : List ℕ) (f : ReadyFront) : Type 0 where
+-- what is true of every walk: its clock, its bounds, its dependences, its numbers, the ranks that remain and the front go together
+pub record IsWalked (c : Ticking) (b : Problem) (d : List (List ℕ)) (ns : List ℕ) (left : Set) (f : ReadyFront) : Type 0 where
   pub bounds : b ≡ problem_of c
   pub needs : d ≡ all_needs (instrs_of c.block)
   pub numbers : ns ≡ c.numbers
   pub begins : IsBeginning (instrs_of c.block) c.numbers
   pub few : length (instrs_of c.block) ≤ BLOCK_LIMIT
+  pub ranks : AreRanksLeft b c.numbers left
   pub front : IsReadyFront (instrs_of c.block) c.numbers f

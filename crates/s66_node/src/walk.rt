@@ -41,6 +41,8 @@ pub struct Walk<'a> {
     bounds: Bounds<'a>,
     openings: Openings,
     numbers: ArrayVec<u8, BLOCK_LIMIT>,
+    /// The ranks of the numbers that remain.
+    ranks: Set,
     /// It follows the prefix only when what is ready is asked for, since most pushes are undone before that.
     front: ReadyFront,
 }
@@ -53,7 +55,7 @@ impl<'a> Model for Walk<'a> {
 
     ghost view = { λ w. record { problem = problem_of w.clock; numbers = w.clock.numbers } };
 
-    ghost invariant = { λ w. IsWalked w.clock w.bounds w.openings w.numbers.items w.front };
+    ghost invariant = { λ w. IsWalked w.clock w.bounds w.openings w.numbers.items w.ranks w.front };
 }
 
 impl<'a> Walk<'a> {
@@ -79,11 +81,14 @@ impl<'a> Walk<'a> {
         let openings = Openings::of(block);
         let placed = Set::empty();
         let ready = openings.dependences().ready(&placed);
+        let bounds = Bounds::of(block, profile);
+        let ranks = bounds.all_ranks();
         Walk {
             clock: Clock::new(block, profile),
-            bounds: Bounds::of(block, profile),
+            bounds,
             openings,
             numbers: ArrayVec::new(),
+            ranks,
             front: ReadyFront {
                 count: 0,
                 placed,
@@ -98,8 +103,10 @@ impl<'a> Walk<'a> {
         requires { is_ready self.old.problem.block self.old.numbers n ≡ true }
         ensures { self.new ≡ record self.old { numbers = self.old.numbers ++ n ∷ [] } }
     {
+        let rank = self.bounds.rank(n);
         self.clock.push(n);
         self.numbers.push(n);
+        self.ranks = self.ranks.without(&Set::empty().with(rank));
     }
 
     /// Goes back by the last number, in constant time.
@@ -111,6 +118,7 @@ impl<'a> Walk<'a> {
         let Some(n) = self.numbers.pop() else {
             unreachable!()
         };
+        self.ranks = self.ranks.with(self.bounds.rank(n));
         if self.numbers.len() < self.front.count {
             self.front = ReadyFront {
                 count: self.numbers.len(),
@@ -179,12 +187,13 @@ impl<'a> Walk<'a> {
         self.numbers.len() == self.clock.block().count()
     }
 
-    /// The value of the prefix's floor, in minor cycles; the total if the prefix is a whole order. The time is that of a few
-    /// looks at each instruction that remains.
+    /// The value of the prefix's floor, in minor cycles; the total if the prefix is a whole order. The time is that of a few looks at
+    /// each kind of unit and each register that is done late; if no number of the block's least spare remains, also of one look at
+    /// each that does.
     pub fn floor_value(&self) -> u32
         ensures { result ≡ floor_value self.now.problem self.now.numbers }
     {
-        self.bounds.floor_value(&self.clock)
+        self.bounds.floor_value_by_ranks(&self.clock, &self.ranks)
     }
 
     /// The prefix's floor.

@@ -1,7 +1,5 @@
-use Rattle.std.proofs.Common.{◌∙◌, inl, inr, arith, ap, length, subst}
-use Rattle.s66_isa.specs.Lists.{Among}
+use Rattle.std.proofs.Common.{◌∙◌, inl, inr, arith, ap, length}
 use Rattle.s66_dep.proofs.LongestBeginning.{beginning-few}
-use Rattle.s66_node.specs.MarkTables.{MarkTable}
 use Rattle.s66_node.proofs.marks.Marks.insert.Goals as goal
 
 pub copy_of-requires : goal.copy_of-requires

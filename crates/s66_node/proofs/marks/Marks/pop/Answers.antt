@@ -1,6 +1,5 @@
-use Rattle.std.proofs.Common.{◌≡◌, ◌∙◌, ◌++◌, ◌∷◌, [], List, sym, ap, map, subst}
-use Rattle.s66_node.specs.declared.marks.Entry.{Entry}
-use Rattle.s66_node.specs.MarkTables.{MarkTable, IsEntry, AreEntries, numbers_of}
+use Rattle.std.proofs.Common.{◌≡◌, ◌∙◌, ◌++◌, ◌∷◌, [], sym, ap, map, subst}
+use Rattle.s66_node.specs.MarkTables.{MarkTable, IsEntry, numbers_of}
 use Rattle.s66_node.proofs.Earlier.{entries-pop, names-pop}
 use Rattle.s66_node.proofs.marks.Marks.pop.Goals as goal
 use Rattle.s66_node.proofs.marks.Marks.pop.Goals.{then-is_empty, else-is_empty}
