@@ -77,14 +77,14 @@ pub(crate) const ROWS: &[Row] = &[
         &["a/b", "deps", "--help"],
         "",
         0,
-        "Tells on what each instruction of a block depends\n\nUsage: s66 deps < SOURCE\n\nOptions:\n  -h, --help  Print help\n\nExample: s66 deps < SOURCE\n\nStatus: 0 done, 2 usage, 3 the source was refused, 4 out of memory, 6 a read or write failed\n",
+        "Prints on what each instruction of a block depends\n\nUsage: s66 deps < SOURCE\n\nOptions:\n  -h, --help  Print help\n\nExample: s66 deps < SOURCE\n\nStatus: 0 done, 2 usage, 3 the source was refused, 4 out of memory, 6 a read or write failed\n",
     ),
     (
         "help of order",
         &["s66", "order", "-h"],
         "",
         0,
-        "Writes each block of a source in the best order that was found\n\nUsage: s66 order [OPTIONS] < SOURCE\n\nOptions:\n      --workers <N>     How many workers search, 1 to 16 [default: 4]\n      --nodes <N>       The most splits of a block's search, 0 to 1000000 [default: 100000]\n      --profile <TEXT>  The timing profile, a JSON object [default: {}, the standard one]\n      --dominate        Leaves out beginnings of orders that an earlier one dominates\n      --dominate-tree   Leaves out beginnings of orders that any other one dominates: proves far more blocks best\n      --trace           Tells the number of splits of each block\n  -h, --help            Print help (see more with '--help')\n\nExample: s66 order --nodes 1000 < SOURCE\n\nStatus: 0 done, 2 usage, 3 the source or the profile was refused, 4 out of memory, 6 a read or write failed, 7 some block is only bounded\n",
+        "Writes each block of a source in the best order that was found\n\nUsage: s66 order [OPTIONS] < SOURCE\n\nOptions:\n      --workers <N>     How many workers search, 1 to 16 [default: 4]\n      --nodes <N>       The most splits of a block's search, 0 to 1000000 [default: 100000]\n      --profile <TEXT>  The timing profile, a JSON object [default: {}, the standard one]\n      --dominate        Leaves out beginnings of orders that an earlier one dominates\n      --dominate-tree   Leaves out beginnings of orders that any other one dominates: proves far more blocks best\n      --trace           Prints the number of splits of each block\n  -h, --help            Print help (see more with '--help')\n\nExample: s66 order --nodes 1000 < SOURCE\n\nStatus: 0 done, 2 usage, 3 the source or the profile was refused, 4 out of memory, 6 a read or write failed, 7 some block is only bounded\n",
     ),
     (
         "help of prove",
