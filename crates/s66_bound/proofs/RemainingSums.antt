@@ -1,6 +1,5 @@
 -- Work, parcels and chains of what remains, by sets of its numbers.
-use Rattle.std.proofs.Common.{ℕ, ◌+◌, ◌-◌, ◌≤◌, ◌<◌, ◌≡◌, ◌==◌, ◌&&◌, Bool, true, true≢false, not, leb, cond, List, [], ◌∷◌, length, get_or, refl, sym, subst, ap, arith, inl, inr, div-one, ◌∙◌}
-use Rattle.std.proofs.Math.Nat.{div-le_self}
+use Rattle.std.proofs.Common.{ℕ, ◌+◌, ◌-◌, ◌≤◌, ◌<◌, ◌≡◌, ◌==◌, ◌&&◌, Bool, true, true≢false, not, leb, cond, List, [], ◌∷◌, length, get_or, refl, sym, subst, ap, arith, inl, inr, ◌∙◌}
 use Rattle.std.proofs.lemmas.Bool.{cases_Bool, and_parts, and_from, le-leb, cond-true, cond-false, cond_both, eqb-true, eqb-false}
 use Rattle.std.specs.List.{filter}
 use Rattle.s66_isa.specs.declared.instr.Kind.{Kind}
@@ -30,20 +29,6 @@ among-left b prefix n low high stays =
 pub load-is : (b : Problem) (prefix : List ℕ) (kind : Kind) (sum busy count slot : ℕ) → sum ≡ sum_remaining b.block prefix (λ n. work_of kind (row_at b n)) →
     busy ≡ weigh (rest_busy kind (next (points_of b prefix))) (points_of b prefix) → count ≡ copies b kind → slot ≡ next (points_of b prefix) → over (sum + busy) count + slot ≡ load b prefix kind
 load-is b prefix kind sum busy count slot e1 e2 e3 e4 = rw (e1, e2, e3, e4) refl
-
-pub over-small : (x c : ℕ) → over x c ≤ x + (c - 1)
-over-small x c = div-le_self (x + (c - 1)) c
-
-pub over-one : (x : ℕ) → over x 1 ≡ x
-over-one x = div-one (x + (1 - 1)) ∙ (let e : x + (1 - 1) ≡ x = omega arith in e)
-
--- if there is one unit
-pub load-alone : (b : Problem) (prefix : List ℕ) (kind : Kind) (sum free : ℕ) → copies b kind ≡ 1 → sum ≡ sum_remaining b.block prefix (λ n. work_of kind (row_at b n)) →
-    free ≡ next (points_of b prefix) + weigh (rest_busy kind (next (points_of b prefix))) (points_of b prefix) → sum + free ≡ load b prefix kind
-load-alone b prefix kind sum free one e1 e2 =
-    let slot = next (points_of b prefix) in
-    let busy = weigh (rest_busy kind slot) (points_of b prefix) in
-    omega (arith, e2, over-one (sum + busy), ap (over (sum + busy)) one, load-is b prefix kind sum busy (copies b kind) slot e1 refl refl refl)
 
 -- PARCELS
 

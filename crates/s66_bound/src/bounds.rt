@@ -127,8 +127,8 @@ impl<'a> Bounds<'a> {
         self.floor_value_by_ranks(clock, &ranks)
     }
 
-    /// `floor_value` for a caller that keeps the ranks of what remains: the first of them has the longest tail, so that the chain
-    /// takes a look or two at each late register.
+    /// The same value as `floor_value`, in minor cycles, for a caller that keeps the ranks of what remains. The first rank has the
+    /// longest tail, so that the chain takes one look at each late register, and none at a number.
     pub fn floor_value_by_ranks(&self, clock: &Clock<'_>, ranks: &Set) -> u32
         requires same { self.now ≡ problem_of clock.now }
         requires ranks { AreRanksLeft self.now clock.now.numbers ranks.now }

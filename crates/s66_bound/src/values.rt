@@ -129,7 +129,7 @@ pub fn load_of(tables: &Tables, clock: &Clock<'_>, kind: Kind) -> u32
 {
     let work = remaining_work(tables, clock, kind);
     let copies = clock.profile().copies(kind);
-    // most kinds have one unit, and the others two: so neither a loop nor a division is left of them
+    // the standard machine has one or two units of a kind, for which this is neither a loop nor a division
     if copies == 1 {
         return work + clock.free(kind);
     }
