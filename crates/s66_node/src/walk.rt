@@ -23,13 +23,14 @@ pub(crate) fn common_length(left: &[u8], right: &[u8]) -> usize
     shorter
 }
 
-/// A front of a walk's prefix, and what is ready after it.
+/// A front of a walk's prefix, with what is ready after it.
 #[derive(Clone, Copy, Debug)]
 struct ReadyFront {
     /// How many numbers it has.
     count: usize,
     /// The set of them.
     placed: Set,
+    /// The numbers that are ready after them.
     ready: Set,
 }
 
@@ -43,7 +44,8 @@ pub struct Walk<'a> {
     numbers: ArrayVec<u8, BLOCK_LIMIT>,
     /// The ranks of the numbers that remain.
     ranks: Set,
-    /// It follows the prefix only when what is ready is asked for, since most pushes are undone before that.
+    /// A front of the prefix, or all of it. A push leaves it where it is, and `ready` brings it forward: most pushes are undone
+    /// before what is ready is needed.
     front: ReadyFront,
 }
 
@@ -213,8 +215,8 @@ impl<'a> Walk<'a> {
         self.bounds.floor_of_value(&self.clock, value)
     }
 
-    /// The numbers that are ready after the prefix. They follow from those of a front of it that was asked for before: each number
-    /// from there on takes one look for each instruction that depends on it directly.
+    /// The numbers that are ready after the prefix. They follow from those after the front of it that the last call left: each
+    /// number from there on takes one look for each instruction that depends on it directly.
     pub fn ready(&mut self) -> Set
         ensures ready { numbers_in result ≡ ready self.old.problem.block self.old.numbers }
         ensures same { self.new ≡ self.old }
