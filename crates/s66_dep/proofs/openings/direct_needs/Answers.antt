@@ -1,5 +1,6 @@
-use Rattle.std.proofs.Common.{ℕ, Bool, ◌≡◌, ◌∙◌, ◌&&◌, ◌==◌, not, true, false, ap, sym, refl}
+use Rattle.std.proofs.Common.{ℕ, ◌∙◌, ◌&&◌, ◌==◌, not, ap, sym, refl}
 use Rattle.std.proofs.lemmas.Bool.{or_left, or_right, eq-eqb}
+use Rattle.std.proofs.Math.Bool.{and-true}
 use Rattle.s66_isa.specs.Lists.{has, some_of}
 use Rattle.s66_dep.specs.Members.{numbers_in}
 use Rattle.s66_dep.specs.Opens.{needs_of}
@@ -33,13 +34,9 @@ loop-k-preserved c =
           ∙ c.loop-k.invariant.found m));
     }
 
-and_all : (b : Bool) → b ≡ (b && true)
-and_all true = refl
-and_all false = refl
-
 pub returns : goal.returns
 returns c = λ m.
     let direct = numbers_in c.loop-k.direct in
-    and_all (has m direct)
+    sym (and-true (has m direct))
     ∙ (ap (λ ns. has m direct && not (some_of (λ a. has m (needs_of c.args.dependences.now a)) ns)) (sym c.in_default.ensures.none)
     ∙ c.loop-k.invariant.found m)

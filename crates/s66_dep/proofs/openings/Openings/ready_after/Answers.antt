@@ -1,9 +1,10 @@
 use Rattle.std.proofs.Common.{ℕ, Bool, ◌≡◌, ◌∙◌, ◌-◌, ◌||◌, ◌&&◌, ◌==◌, ◌↔◌, IsTrue, not, List, [], true, ap, sym, subst, refl, arith, length, get_or}
 use Rattle.std.proofs.lemmas.Bool.{or_left, or_right, eq-eqb}
+use Rattle.std.proofs.Math.Bool.{or-false}
 use Rattle.s66_isa.specs.Lists.{has, every}
 use Rattle.s66_dep.specs.Members.{numbers_in}
 use Rattle.s66_dep.specs.Opens.{needs_of, opens}
-use Rattle.s66_dep.proofs.Readiness.{every-tested, found-next, and_with, or_with, or_none}
+use Rattle.s66_dep.proofs.Readiness.{every-tested, found-next, and_with, or_with}
 use Rattle.s66_dep.proofs.Opened.{count-needs, opens-range, after-is, ready-set}
 use Rattle.s66_dep.proofs.openings.Openings.ready_after.Goals as goal
 
@@ -68,7 +69,7 @@ returns c =
     let count = ap (λ (ns : List (List ℕ)). length ns) all in
     ready-set c.loop-m.after block _ (omega (arith, few, count, count-needs block))
     (λ m.
-    or_none (has m after)
+    sym (or-false (has m after))
     ∙ (ap (λ ns. has m after || (has m ns && every (λ a. has a placed) (needs_of c.args.self.now m))) (sym c.in_default.ensures.none)
     ∙ (c.loop-m.invariant.found m
     ∙ (ap (λ ns. (has m was && not (has m placed)) || (has m (opens ns n) && every (λ a. has a placed) (needs_of ns m))) all
