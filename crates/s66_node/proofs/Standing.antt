@@ -2,6 +2,7 @@
 use Rattle.std.proofs.Common.{ℕ, ◌+◌, ◌-◌, ◌≤◌, ◌<◌, ◌≡◌, ◌⊎◌, Bool, true, false, not, ◌&&◌, refl, List, [], ◌∷◌, ◌++◌, length, take, get_or, sym, ap, arith, inl, inr, ◌∙◌, length-append, subst, eqb, ◌||◌}
 use Rattle.std.proofs.lemmas.Bool.{cases_eq, eq-eqb, ne_eqb, or_left}
 use Rattle.std.proofs.lemmas.List.{take_more, take_all, take-append-le}
+use Rattle.std.proofs.Math.Bool.{or-false}
 use Rattle.s66_isa.specs.declared.instr.Instr.{Instr}
 use Rattle.s66_line.specs.Block.{instrs_of}
 use Rattle.s66_isa.specs.declared.limits.TheConstants.{BLOCK_LIMIT}
@@ -91,12 +92,8 @@ module _ (c : Ticking) (b : Problem) (d : List (List ℕ)) (ns : List ℕ) (left
       ranks-same b (λ m. not (has m c.numbers) && not (eqb m n)) (λ m. not (has m (c.numbers ++ n ∷ []))) less
       (λ m from to. apart (has m c.numbers) (eqb m n) ∙ ap not (sym (has-push m n c.numbers)))
       (ranks-without b (λ m. not (has m c.numbers)) n left less low high h.ranks (λ m.
-      takes m ∙ ap (λ x. has m (numbers_in left) && not x) (adds m ∙ (ap (λ x. eqb m r || x) (ap (has m) nothing) ∙ (alone (eqb m r) ∙ ap (eqb m) here)))))
+      takes m ∙ ap (λ x. has m (numbers_in left) && not x) (adds m ∙ (ap (λ x. eqb m r || x) (ap (has m) nothing) ∙ (or-false (eqb m r) ∙ ap (eqb m) here)))))
     where
-      alone : (x : Bool) → (x || false) ≡ x
-      alone true = refl
-      alone false = refl
-
       apart : (x y : Bool) → (not x && not y) ≡ not (y || x)
       apart true true = refl
       apart true false = refl
