@@ -310,29 +310,38 @@ fn check_closed<'a, R: AllocGlobal + Abort>(rt: &R, hub: Hub<'a>, seats: Vec<Sea
 fn outlives_idle_seats(rt: HostRuntime) -> Result<(), Fail> {
     let source = read_source(rt.alloc(), MULTIPLIES.as_bytes())?;
     let block = only_block(&source).expect(&rt, "one block");
-    check_idle_seat(&rt, block, true, true);
-    check_idle_seat(&rt, block, true, false);
-    check_idle_seat(&rt, block, false, true);
+    check_idle_seat(&rt, block, Idle::Both);
+    check_idle_seat(&rt, block, Idle::Splits);
+    check_idle_seat(&rt, block, Idle::Root);
     Ok(())
 }
 
-/// A seat keeps the whole budget, or drops the root's ticket, or both, and does nothing more, while two workers look for work.
+/// What an idle seat takes from the others.
+#[derive(Clone, Copy, Debug, PartialEq, Eq)]
+enum Idle {
+    /// It keeps the whole budget.
+    Splits,
+    /// It drops the root's ticket.
+    Root,
+    Both,
+}
+
+/// A seat takes something and does nothing more, while two workers look for work.
 fn check_idle_seat<R: AllocGlobal + Abort + Threads + Wait + Sync>(
     rt: &R,
     block: &Block,
-    keeps_splits: bool,
-    drops_root: bool,
+    idle: Idle,
 ) {
     let (hub, mut seats) = open_hub(rt, &*block, 10, 3);
-    let mut idle = take_seat(rt, &hub, &mut seats, 3);
-    if keeps_splits {
-        assert_eq!(rt; grant(rt, &hub, &mut idle), 10);
+    let mut seat = take_seat(rt, &hub, &mut seats, 3);
+    if idle != Idle::Root {
+        assert_eq!(rt; grant(rt, &hub, &mut seat), 10);
     }
-    if drops_root {
-        claim_root(rt, &hub, &mut idle);
+    if idle != Idle::Splits {
+        claim_root(rt, &hub, &mut seat);
     }
     let mut seats = work_by(rt, &hub, seats, block, Rule::NoneNamed);
-    put_seat(rt, &hub, &mut seats, idle);
+    put_seat(rt, &hub, &mut seats, seat);
     check_closed(rt, hub, seats);
 }
 
