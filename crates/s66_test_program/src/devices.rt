@@ -57,7 +57,7 @@ impl Feed for GivesFew<'_> {
     }
 }
 
-/// A reader of so many bytes of a text.
+/// A reader of `left` bytes of a text, again and again from its beginning, which then ends or fails.
 fn reader_of(text: &[u8], left: u32, is_ending: bool) -> GivesFew<'_>
     ensures { result.failed ≡ 0 }
 {
@@ -221,7 +221,7 @@ fn tells_write_faults(rt: HostRuntime) {
     }
 }
 
-/// Runs a subcommand with a writer that has room for so many bytes; it takes all of this text, or a beginning of it and fails.
+/// Runs a subcommand with a writer that has room for `room` bytes: it takes all of this text, or a beginning of it and fails.
 fn check_room<R: AllocGlobal + Abort + Threads + Wait + Sync>(
     rt: &R,
     words: &[&str],
@@ -285,6 +285,7 @@ impl Write for TakesNone {
     }
 }
 
+/// A write that takes nothing is a failed one.
 #[test]
 fn fails_where_nothing_is_taken(rt: HostRuntime) {
     let mut reader = OverRead::new(CODE.as_bytes());
