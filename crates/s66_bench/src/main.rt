@@ -8,10 +8,9 @@ mod tree;
 
 use rounds::{sum_of_pushes, sum_of_rounds};
 use s66_isa::Profile;
-use s66_ledger::BUDGET_LIMIT;
-use s66_line::{Block, Source, read_source};
-use s66_model::Rule;
-use s66_pool::{Options, WORKERS_LIMIT};
+use s66_line::Block;
+use s66_model::{BUDGET_LIMIT, Options, Rule, WORKERS_LIMIT};
+use s66_source::{Source, read_source};
 use searches::{search_alone, search_by_workers};
 use std::alloc::AllocError;
 use std::io::Read;

@@ -1,7 +1,9 @@
 //! Sources, the only blocks of some, and what is printed and found of them.
 
 use crate::Answered;
-use s66_line::{Block, Placed, Source, SourceError, findings_in, print_source, read_source};
+use s66_line::Block;
+use s66_lint::findings_in;
+use s66_source::{Placed, Source, SourceError, print_source, read_source};
 use s66_test_blocks::{ONE_LOAD, only_block};
 use std::alloc::{AllocError, Global};
 

@@ -3,7 +3,7 @@ use Rattle.std.proofs.Common.{◌≡◌, ℕ, ◌+◌, min, List, [], ◌++◌, 
 use Rattle.std.proofs.Math.Seq.{take-append-add}
 use Rattle.std.proofs.lemmas.List.{append-nil, take-append-le, take_min}
 use Rattle.std.specs.Io.KnownBytes.{Appends}
-use Rattle.s66_line.specs.Devices.{Writer, Written}
+use Rattle.s66_device.specs.Devices.{Writer, Written}
 use Rattle.s66_cert.specs.Pages.{IsPrinted, Printed}
 
 -- a beginning of the text was written

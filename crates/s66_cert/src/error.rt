@@ -2,7 +2,7 @@ ghost use Rattle.std.specs.Prelude.{◌≡◌};
 ghost use Rattle.s66_cert.specs.declared.error.CertError.TheVariants.{OutOfMemory};
 
 use arrayvec::ArrayString;
-use s66_line::{FAULT_ROOM, line_refusal, short_text};
+use s66_device::{FAULT_ROOM, line_refusal, short_text};
 use std::alloc::{AllocError, AllocFailed};
 use std::{error, fmt};
 
@@ -38,7 +38,7 @@ impl<T: Drop> From<AllocFailed<T>> for CertError {
 
 impl CertError {
     ghost use Rattle.std.specs.Prelude.{◌≡◌, ◌<◌, length};
-    ghost use Rattle.s66_line.specs.declared.limits.TheConstants.{FAULT_ROOM};
+    ghost use Rattle.s66_device.specs.declared.limits.TheConstants.{FAULT_ROOM};
     ghost use Rattle.s66_cert.specs.Refusals.{document_refusal_line};
 
     /// The line that reports it, without a newline.

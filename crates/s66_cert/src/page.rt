@@ -10,8 +10,8 @@ ghost use Rattle.s66_cert.specs.DocumentParts.{vertex_of, IsShort};
 use crate::tree::TreeLine;
 use arrayvec::ArrayVec;
 use itoa::Buffer;
+use s66_device::{Sink, WriteError, write_all};
 use s66_isa::{BLOCK_LIMIT, Kind};
-use s66_line::{Sink, WriteError, write_all};
 use std::marker::Model;
 
 /// The bytes of a page.

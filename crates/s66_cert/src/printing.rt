@@ -1,5 +1,5 @@
 ghost use Rattle.std.specs.Prelude.{◌≡◌, ◌-◌, ◌^◌, ◌<◌, ◌++◌, ℕ, [], codes};
-ghost use Rattle.s66_line.specs.Devices.{Written};
+ghost use Rattle.s66_device.specs.Devices.{Written};
 ghost use Rattle.s66_cert.specs.Document.{document_text, instruction_lines, tree_lines, version};
 ghost use Rattle.s66_cert.specs.Pages.{Printed, AreShort, opening, claim_lines};
 ghost use Rattle.s66_cert.specs.DocumentParts.{document_of};
@@ -8,7 +8,7 @@ use crate::document::Document;
 use crate::instruction::InstructionText;
 use crate::page::Page;
 use crate::tree::TreeLines;
-use s66_line::{Sink, WriteError};
+use s66_device::{Sink, WriteError};
 use s66_model::Rule;
 
 /// The version of a document by this rule.

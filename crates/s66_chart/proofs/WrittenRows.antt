@@ -4,7 +4,7 @@ use Rattle.std.proofs.lemmas.Bool.{cases_lt}
 use Rattle.std.proofs.lemmas.List.{take-append-drop, take-append-le, drop-append-le, take_all, drop_all, drop-drop, append-nil}
 use Rattle.std.specs.List.{range_with_len}
 use Rattle.std.specs.Io.KnownBytes.{Appends}
-use Rattle.s66_line.proofs.Bytes.{Appends-more}
+use Rattle.s66_device.proofs.Bytes.{Appends-more}
 use Rattle.s66_time.specs.TimedOrder.{TimedOrder}
 use Rattle.s66_chart.specs.Chart.{instruction_row, filler_row, chart_text}
 

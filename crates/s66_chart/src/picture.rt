@@ -1,5 +1,5 @@
 ghost use Rattle.std.specs.Prelude.{◌≡◌, ◌+◌, ◌-◌, ◌^◌, ◌<◌, ◌≤◌, length};
-ghost use Rattle.s66_line.specs.Devices.{Written};
+ghost use Rattle.s66_device.specs.Devices.{Written};
 ghost use Rattle.s66_model.specs.Timing.{total_of};
 ghost use Rattle.s66_chart.specs.declared.row.TheConstants.{NAME_ROOM, ROW_FRAME};
 ghost use Rattle.s66_chart.specs.Runs.{IsInOrder};
@@ -8,7 +8,7 @@ ghost use Rattle.s66_chart.specs.Chart.{row_text, instruction_row, filler_row, h
 use crate::activity::Activity;
 use crate::row::{ROW_FRAME, ROW_LIMIT, draw_row};
 use itoa::Buffer;
-use s66_line::{Sink, WriteError, write_all};
+use s66_device::{Sink, WriteError, write_all};
 use s66_time::Timed;
 
 /// The bytes of a page on which the rows of most blocks fit.

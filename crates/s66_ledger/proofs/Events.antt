@@ -21,7 +21,7 @@ use Rattle.s66_time.specs.TimedOrder.{TimedOrder}
 use Rattle.s66_ledger.specs.declared.node.Node.{Node}
 use Rattle.s66_ledger.specs.declared.node.State.{State}
 use Rattle.s66_ledger.specs.declared.node.State.TheVariants as state
-use Rattle.s66_ledger.specs.declared.limits.TheConstants.{BUDGET_LIMIT}
+use Rattle.s66_model.specs.declared.limits.TheConstants.{BUDGET_LIMIT}
 use Rattle.s66_ledger.specs.Nodes.{prefixes, name_at, seen_state, nodes_of, node_at, with_state, HaveFloors, has_floor, is_open_state, is_open}
 use Rattle.s66_ledger.specs.OpenNodes.{IsOut, ranked}
 use Rattle.s66_ledger.specs.LedgerMachine.{MachineOf, IsMove, state_of, machine_of, IsKept}

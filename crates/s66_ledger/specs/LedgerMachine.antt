@@ -7,7 +7,7 @@ use Rattle.s66_model.specs.Ledger.{Ledger, Event, Reply, Step}
 use Rattle.s66_model.specs.Reached.{IsReached}
 use Rattle.s66_time.specs.TimedOrder.{TimedOrder}
 use Rattle.s66_ledger.specs.declared.node.Node.{Node}
-use Rattle.s66_ledger.specs.declared.limits.TheConstants.{BUDGET_LIMIT}
+use Rattle.s66_model.specs.declared.limits.TheConstants.{BUDGET_LIMIT}
 use Rattle.s66_ledger.specs.Nodes.{nodes_of, lines_of, HaveFloors}
 
 -- a ledger without its history, for a budget and this many workers

@@ -39,7 +39,7 @@ impl Answer {
     ghost use Rattle.s66_model.specs.Answer.{IsAnswer, IsBestAnswer};
     ghost use Rattle.s66_model.specs.BestAndBound.{IsBound};
     ghost use Rattle.s66_ledger.specs.Answers.{answer_of};
-    ghost use Rattle.s66_ledger.specs.declared.limits.TheConstants.{BUDGET_LIMIT};
+    ghost use Rattle.s66_model.specs.declared.limits.TheConstants.{BUDGET_LIMIT};
 
     /// The order.
     pub fn order(&self) -> &Order

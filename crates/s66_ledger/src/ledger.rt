@@ -5,7 +5,6 @@ ghost use Rattle.s66_ledger.specs.Subtrees.{root_bytes};
 use crate::answer::Answer;
 use crate::entry::{Entry, refusal_of};
 use crate::history::History;
-use crate::limits::BUDGET_LIMIT;
 use crate::machine::Machine;
 use crate::reply::{BackError, GraftError, Offered};
 use crate::subtree::{Subtree, byte_of};
@@ -13,7 +12,7 @@ use crate::ticket::{Ticket, node_of};
 use arrayvec::ArrayVec;
 use s66_isa::{BLOCK_LIMIT, Profile};
 use s66_line::Block;
-use s66_model::Rule;
+use s66_model::{BUDGET_LIMIT, Rule};
 use s66_node::Piece;
 use s66_time::Timed;
 use std::alloc::{AllocError, Global};
@@ -69,7 +68,7 @@ impl<'a> Ledger<'a> {
     ghost use Rattle.s66_ledger.specs.Subtrees.{IsSubtreeOf};
     ghost use Rattle.s66_ledger.specs.ClaimedNodes.{claimed_node, IsTicketOf, IsLeastOpen};
     ghost use Rattle.s66_ledger.specs.Replies.{offered_reply};
-    ghost use Rattle.s66_ledger.specs.declared.limits.TheConstants.{BUDGET_LIMIT};
+    ghost use Rattle.s66_model.specs.declared.limits.TheConstants.{BUDGET_LIMIT};
     ghost use Rattle.s66_ledger.specs.declared.reply.BackError.TheVariants as refused;
 
     /// A ledger of one open node, the empty prefix, whose best order is the source order, and whose history is empty; the workers

@@ -27,7 +27,7 @@ pub use answer::Answer;
 pub use entry::{Entry, Refusal};
 pub use history::History;
 pub use ledger::Ledger;
-pub use limits::{BUDGET_LIMIT, DOMINATED_PIECE_LIMIT, GRANT_LIMIT, SCHEDULE_ROUNDS};
+pub use limits::{DOMINATED_PIECE_LIMIT, GRANT_LIMIT, SCHEDULE_ROUNDS};
 pub use reply::{BackError, GraftError, Offered};
 pub use s66_model::coverage_law;
 pub use step::{Event, Reply};

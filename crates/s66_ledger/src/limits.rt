@@ -1,6 +1,3 @@
-/// The most splits of a search.
-pub const BUDGET_LIMIT: u32 = 1_000_000;
-
 /// The most splits that one grant moves.
 pub const GRANT_LIMIT: u32 = 64;
 

@@ -1,5 +1,5 @@
 use crate::answer::Answer;
-use crate::limits::{BUDGET_LIMIT, GRANT_LIMIT};
+use crate::limits::GRANT_LIMIT;
 use crate::node_table::NodeTable;
 use crate::reply::{BackError, GraftError, Offered};
 use crate::subtree::Subtree;
@@ -9,7 +9,7 @@ use s66_bound::Bounds;
 use s66_dep::Order;
 use s66_isa::{BLOCK_LIMIT, Profile};
 use s66_line::Block;
-use s66_model::Rule;
+use s66_model::{BUDGET_LIMIT, Rule};
 use s66_node::{Marks, Piece, Priority, Walk};
 use s66_time::{Clock, Timed, time_of};
 use std::alloc::{AllocError, Global};
@@ -62,7 +62,7 @@ impl<'a> Machine<'a> {
     ghost use Rattle.s66_ledger.specs.Replies.{offered_reply};
     ghost use Rattle.s66_ledger.specs.Opened.{opened};
     ghost use Rattle.s66_ledger.specs.Subtrees.{IsSubtreeOf};
-    ghost use Rattle.s66_ledger.specs.declared.limits.TheConstants.{BUDGET_LIMIT};
+    ghost use Rattle.s66_model.specs.declared.limits.TheConstants.{BUDGET_LIMIT};
     ghost use Rattle.s66_ledger.specs.declared.reply.BackError.TheVariants as refused;
 
     /// A machine of one open node, the empty prefix, whose best order is the source order; the workers count from 1, and the rule is

@@ -1,10 +1,19 @@
--- To be believed: what a block shows, by the numbers of its instructions, from 1.
+-- To be believed: a block, and what it shows by the numbers of its instructions, from 1.
 use Rattle.std.specs.Prelude.{ℕ, zero, suc, List, [], ◌∷◌, map, Option, None, Some, slice_get}
 use Rattle.s66_isa.specs.declared.instr.Instr.{Instr}
 use Rattle.s66_isa.specs.Table.{instr_at}
 use Rattle.s66_line.specs.Operand.{constant_of}
 use Rattle.s66_line.specs.InstructionText.{spelling, operation_in, operand_in, instr_in_text}
-use Rattle.s66_line.specs.Source.{Entry, Block}
+
+-- an instruction of a block: the number of its line, and the bytes of that line from its operation on
+pub record Entry : Type 0 where
+  pub instr : Instr
+  pub line : ℕ
+  pub bytes : List ℕ
+
+pub record Block : Type 0 where
+  pub label : List ℕ
+  pub entries : List Entry
 
 abbrev pub instrs_of : Block → List Instr
 instrs_of block = map (λ (e : Entry). e.instr) block.entries

@@ -1,11 +1,8 @@
 -- To be believed: what the letters of an operation can mean, as the manual lists it, and a spelling of each octal code.
-use Rattle.std.specs.Prelude.{◌≡◌, ◌≤◌, ◌+◌, ℕ, List, [], ◌∷◌, ◌++◌, codes, map, Result, Ok, Err}
+use Rattle.std.specs.Prelude.{◌≡◌, ◌≤◌, ◌+◌, ℕ, List, [], ◌∷◌, ◌++◌, codes}
 use Rattle.s66_isa.specs.declared.instr.Instr.{Instr}
 use Rattle.s66_isa.specs.Lists.{Among, rising}
-use Rattle.s66_line.specs.Fields.{upper}
 use Rattle.s66_isa.specs.Table.{instr}
-use Rattle.s66_line.specs.Source.{Entry, Block}
-use Rattle.s66_line.specs.declared.error.SourceError.{SourceError}
 
 -- the two letters of each operation, and the octal codes that it can mean
 abbrev pub operations : List (List ℕ × List ℕ)
@@ -120,15 +117,3 @@ spellings i j k =
 -- the octal codes, rising; there is no 46
 abbrev pub all_codes : List ℕ
 all_codes = rising 30 0o10 ++ 0o47 ∷ rising 24 0o50
-
--- WHAT IS READ, BUT FOR THE CASE OF LETTERS: labels and bytes in upper case, instructions and lines as they are
-
-abbrev pub upper_entry : Entry → Entry
-upper_entry e = record { instr = e.instr; line = e.line; bytes = upper e.bytes }
-
-abbrev pub upper_block : Block → Block
-upper_block b = record { label = upper b.label; entries = map upper_entry b.entries }
-
-abbrev pub upper_read : Result (List Block) SourceError → Result (List Block) SourceError
-upper_read (Ok blocks) = Ok (map upper_block blocks)
-upper_read (Err e) = Err e

@@ -18,7 +18,7 @@ pub struct Block<'a> {
 
 impl<'a> Model for Block<'a> {
     ghost use Rattle.std.specs.Prelude.{◌≤◌, ◌<◌, length};
-    ghost use Rattle.s66_line.specs.Source.{Block};
+    ghost use Rattle.s66_line.specs.Block.{Block};
     ghost use Rattle.s66_isa.specs.declared.limits.TheConstants.{BLOCK_LIMIT};
 
     ghost Value = { Block };
@@ -57,7 +57,7 @@ impl<'a> Block<'a> {
     ghost use Rattle.s66_isa.specs.declared.limits.TheConstants.{BLOCK_LIMIT};
     ghost use Rattle.s66_line.specs.declared.limits.TheConstants.{TEXT_LIMIT};
 
-    pub(crate) fn new(label: &'a [u8], entries: Vec<Entry<'a>>) -> Block<'a>
+    pub fn new(label: &'a [u8], entries: Vec<Entry<'a>>) -> Block<'a>
         requires some { 0 < length entries.items }
         requires few { length entries.items ≤ BLOCK_LIMIT }
         ensures { result ≡ record { label = label.now; entries = entries.entry.items } }

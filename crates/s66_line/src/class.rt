@@ -1,8 +1,7 @@
 ghost use Rattle.std.specs.Prelude.{◌≡◌, ◌≤◌, true, length};
 ghost use Rattle.s66_line.specs.Fields.{upper, body, operation, operand, from_operation, label_bytes};
 ghost use Rattle.s66_line.specs.InstructionText.{operation_in, operand_in};
-ghost use Rattle.s66_line.specs.Reader.{IsSpelled};
-ghost use Rattle.s66_line.specs.Source.{class_of, by_operation, is_code, is_located, is_pad};
+ghost use Rattle.s66_line.specs.Class.{IsSpelled, class_of, by_operation, is_code, is_located, is_pad};
 ghost use Rattle.s66_line.specs.declared.limits.TheConstants.{LINE_BYTES_LIMIT, TEXT_LIMIT};
 
 use crate::fields::{
@@ -29,10 +28,10 @@ pub enum Class {
 
 impl Class {
     ghost use Rattle.std.specs.Prelude.{◌≡◌};
-    ghost use Rattle.s66_line.specs.Source.{is_code};
+    ghost use Rattle.s66_line.specs.Class.{is_code};
 
     /// Whether it is an instruction or a `NO`.
-    pub(crate) fn is_code(&self) -> bool
+    pub fn is_code(&self) -> bool
         ensures { result ≡ is_code self.now }
     {
         matches!(self, Class::Instruction { .. } | Class::Pad { .. })
@@ -70,7 +69,7 @@ fn class_by_operation(located: bool, bytes: &[u8]) -> Class
 
 /// A line with its class; if that is Instruction or Pad, its label and its bytes from the operation on.
 #[derive(Clone, Copy, Debug)]
-pub(crate) struct Classified<'a> {
+pub struct Classified<'a> {
     pub class: Class,
     pub label: &'a [u8],
     pub bytes: &'a [u8],
@@ -94,7 +93,7 @@ fn class_by_fields(line: &[u8]) -> Classified<'_>
 }
 
 /// A line with its class, by whether the line directly before it is code.
-pub(crate) fn classify(after_code: bool, line: &[u8]) -> Classified<'_>
+pub fn classify(after_code: bool, line: &[u8]) -> Classified<'_>
     requires { length line.now ≤ LINE_BYTES_LIMIT }
     ensures class { result.class ≡ class_of after_code line.now }
     ensures label { is_code result.class ≡ true → result.label.now ≡ label_bytes (body line.now) }

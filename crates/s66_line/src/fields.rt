@@ -1,6 +1,6 @@
 ghost use Rattle.std.specs.Prelude.{◌≡◌, ◌≤◌, ◌<◌, ◌+◌, ◌-◌, ◌==◌, ◌||◌, nat_le, not, length};
 ghost use Rattle.std.specs.List.{prefix_len};
-ghost use Rattle.s66_line.specs.Fields.{is_blank, upper_byte, body, skip_blanks, word, after_word, blanks, is_comment, from_location, location, from_operation, label_bytes, continues};
+ghost use Rattle.s66_line.specs.Fields.{is_blank, upper_byte, body, skip_blanks, word, after_word, blanks, is_comment, from_location, location, from_operation, from_operand, label_bytes, continues};
 
 /// The fields of a line that is no comment; a field that is not there is empty.
 #[derive(Clone, Copy, Debug)]
@@ -36,7 +36,7 @@ fn word_length(bytes: &[u8]) -> usize
 
 /// The bytes before the first blank, and those from it on.
 #[tactic(auto, using(crate::proofs::LineFields::word_steps))]
-pub(crate) fn split_word(bytes: &[u8]) -> (&[u8], &[u8])
+pub fn split_word(bytes: &[u8]) -> (&[u8], &[u8])
     ensures word { result.0.now ≡ word bytes.now }
     ensures rest { result.1.now ≡ after_word bytes.now }
     ensures word_within { length result.0.now ≤ length bytes.now }
@@ -56,7 +56,7 @@ fn without_blanks(bytes: &[u8]) -> &[u8]
 }
 
 /// A line without the carriage returns at its end.
-pub(crate) fn body_of(line: &[u8]) -> &[u8]
+pub fn body_of(line: &[u8]) -> &[u8]
     ensures value { result.now ≡ body line.now }
     ensures within { length result.now ≤ length line.now }
 {
@@ -78,7 +78,7 @@ fn is_indented_away(line: &[u8]) -> bool
 
 /// Whether a body is a comment: a star in column 1, blanks alone, or 29 blanks in front.
 #[tactic(auto, using(crate::proofs::LineFields::indented_no))]
-pub(crate) fn is_comment_line(line: &[u8]) -> bool
+pub fn is_comment_line(line: &[u8]) -> bool
     ensures { result ≡ is_comment line.now }
 {
     match line {
@@ -88,7 +88,7 @@ pub(crate) fn is_comment_line(line: &[u8]) -> bool
 }
 
 /// Whether a body continues the line before it: a comma in column 1.
-pub(crate) fn is_continuation(line: &[u8]) -> bool
+pub fn is_continuation(line: &[u8]) -> bool
     ensures { result ≡ continues line.now }
 {
     matches!(line, [b',', ..])
@@ -107,7 +107,7 @@ fn from_location_column(line: &[u8]) -> &[u8]
 
 /// The fields of a body.
 #[tactic(auto, using(crate::proofs::LineFields::from_operation_within))]
-pub(crate) fn fields_of(line: &[u8]) -> Fields<'_>
+pub fn fields_of(line: &[u8]) -> Fields<'_>
     ensures location { result.location.now ≡ location line.now }
     ensures label { result.label.now ≡ label_bytes line.now }
     ensures from_operation { result.from_operation.now ≡ from_operation line.now }
@@ -122,6 +122,15 @@ pub(crate) fn fields_of(line: &[u8]) -> Fields<'_>
     }
 }
 
+/// A body from its operand on.
+pub fn from_operand(line: &[u8]) -> &[u8]
+    ensures value { result.now ≡ from_operand line.now }
+    ensures within { length result.now ≤ length line.now }
+{
+    let (_, rest) = split_word(fields_of(line).from_operation);
+    without_blanks(rest)
+}
+
 /// The word after the blanks in front of these bytes.
 pub(crate) fn next_word(bytes: &[u8]) -> &[u8]
     ensures value { result.now ≡ word (skip_blanks bytes.now) }
@@ -132,7 +141,7 @@ pub(crate) fn next_word(bytes: &[u8]) -> &[u8]
 }
 
 /// The operation and the operand in front of these bytes.
-pub(crate) fn operation_and_operand(bytes: &[u8]) -> (&[u8], &[u8])
+pub fn operation_and_operand(bytes: &[u8]) -> (&[u8], &[u8])
     ensures operation { result.0.now ≡ word bytes.now }
     ensures operand { result.1.now ≡ word (skip_blanks (after_word bytes.now)) }
     ensures operation_within { length result.0.now ≤ length bytes.now }

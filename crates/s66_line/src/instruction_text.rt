@@ -22,7 +22,7 @@ fn push_upper_case(letters: &mut ArrayVec<u8, TEXT_LIMIT>, bytes: &[u8])
 }
 
 /// The bytes, each letter in upper case.
-pub(crate) fn upper_case(bytes: &[u8]) -> ArrayVec<u8, TEXT_LIMIT>
+pub fn upper_case(bytes: &[u8]) -> ArrayVec<u8, TEXT_LIMIT>
     requires { length bytes.now ≤ TEXT_LIMIT }
     ensures value { result.items ≡ upper bytes.now }
     ensures count { length result.items ≡ length bytes.now }

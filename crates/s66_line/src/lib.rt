@@ -1,38 +1,26 @@
-//! Lines of a COMPASS source, its straight-line blocks, and the devices that bytes come from and go to.
+//! Lines of a COMPASS source: their fields, their classes, what operands spell, and straight-line blocks.
 #![tactic(auto)]
 
 mod block;
-mod block_text;
 mod class;
-mod device;
 mod entry;
-mod error;
 mod fields;
-mod findings;
 mod instruction_text;
 mod laws;
 mod limits;
 mod operand;
-mod pads;
-mod placed;
-mod printer;
-mod reader;
-mod source;
-mod text;
 
 pub use block::Block;
-pub use device::{Failed, Feed, OverRead, OverWrite, Sink, WriteError, write_all};
-pub use error::{SourceError, line_refusal, short_text};
-pub use findings::findings_in;
-pub use instruction_text::{instruction_of_text, is_instruction};
-pub use laws::{
-    byte_examples, case_law, code_law, constant_examples, copied_law, findings_examples,
-    findings_law, instruction_examples, line_examples, line_law, operation_law, parts_law,
-    printed_examples, read_again_examples, read_again_law, set_form_law, spelled_law, term_law,
-    whole_law,
+pub use class::{Class, Classified, classify};
+pub use entry::Entry;
+pub use fields::{
+    Fields, body_of, fields_of, from_operand, is_comment_line, is_continuation,
+    operation_and_operand, split_word,
 };
-pub use limits::{FAULT_ROOM, LINE_BYTES_LIMIT, SOURCE_LINES_LIMIT, TEXT_LIMIT};
-pub use placed::Placed;
-pub use printer::print_source;
-pub use source::{Source, read_source};
-pub use text::push_field;
+pub use instruction_text::{instruction_of_text, is_instruction, upper_case};
+pub use laws::{
+    byte_examples, code_law, constant_examples, instruction_examples, operation_law, set_form_law,
+    term_law, whole_law,
+};
+pub use limits::{LINE_BYTES_LIMIT, TEXT_LIMIT};
+pub use operand::{is_octal_digit, is_table_name};

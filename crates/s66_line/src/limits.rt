@@ -3,9 +3,3 @@ pub const LINE_BYTES_LIMIT: usize = 200;
 
 /// The most bytes of the text of an instruction: its operation begins after column 1 of a line.
 pub const TEXT_LIMIT: usize = LINE_BYTES_LIMIT - 1;
-
-/// The most lines of a source.
-pub const SOURCE_LINES_LIMIT: u32 = 20_000;
-
-/// How many bytes there is room for of the line of a fault, with its newline.
-pub const FAULT_ROOM: usize = 64;

@@ -1,7 +1,7 @@
 //! The process: its words, its standard streams, and its status.
 #![tactic(auto)]
 
-use s66_line::{OverRead, OverWrite};
+use s66_device::{OverRead, OverWrite};
 use s66_program::{Progress, refuse_words, run_program};
 use std::io::{IsTerminal, Write};
 use std::process::ExitCode;

@@ -5,17 +5,15 @@ ghost use Rattle.s66_pool.specs.Workers.{AreSameSeats, ArePlaced, IsSameMember, 
 use crate::gate::Gate;
 use crate::hint::Hint;
 use crate::hub::Hub;
-use crate::limits::WORKERS_LIMIT;
 use crate::locals::{lanes_for, locals_for};
 use crate::member::{Local, Member};
-use crate::options::Options;
 use crate::seat::Seat;
 use crate::shared_marks::SharedMarks;
 use crate::victim::Victim;
 use crate::worker::{Site, work_at};
 use s66_isa::Profile;
 use s66_line::Block;
-use s66_model::Rule;
+use s66_model::{Options, Rule, WORKERS_LIMIT};
 use std::alloc::AllocError;
 use std::sync::Wait;
 use std::sync::atomic::AtomicUsize;

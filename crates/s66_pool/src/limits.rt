@@ -1,6 +1,3 @@
-/// How many workers search at most.
-pub const WORKERS_LIMIT: u8 = 16;
-
 /// How many nodes a worker claims in one turn at most.
 pub const CLAIMS_LIMIT: usize = 8;
 

@@ -6,9 +6,9 @@ ghost use Rattle.s66_pool.specs.Workers.{AllPlaced, ArePlaced, ids_of};
 
 use crate::hint::{Hint, HintSeat};
 use crate::incumbent::Incumbent;
-use crate::limits::WORKERS_LIMIT;
 use crate::member::Local;
 use crate::victim::Victim;
+use s66_model::WORKERS_LIMIT;
 use s66_steal::{CAPACITY_LIMIT, Lane, Thief, lane};
 use std::alloc::{AllocError, Global};
 

@@ -1,16 +1,16 @@
 ghost use Rattle.std.specs.Prelude.{◌≡◌, ◌≤◌, IfOk, OnOk};
 ghost use Rattle.s66_line.specs.Block.{instrs_of};
-ghost use Rattle.s66_ledger.specs.declared.limits.TheConstants.{BUDGET_LIMIT};
-ghost use Rattle.s66_pool.specs.declared.limits.TheConstants.{WORKERS_LIMIT};
+ghost use Rattle.s66_model.specs.declared.limits.TheConstants.{BUDGET_LIMIT};
+ghost use Rattle.s66_model.specs.declared.limits.TheConstants.{WORKERS_LIMIT};
 ghost use Rattle.s66_pool.specs.Workers.{IsSameSearch};
 
 use crate::crew::work;
 use crate::gate::Gate;
 use crate::hub::Hub;
-use crate::options::Options;
 use s66_isa::Profile;
 use s66_ledger::{Answer, Ledger};
 use s66_line::Block;
+use s66_model::Options;
 use s66_node::{Priority, Walk, schedule_below};
 use std::alloc::AllocError;
 use std::sync::Wait;

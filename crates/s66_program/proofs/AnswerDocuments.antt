@@ -12,8 +12,7 @@ use Rattle.s66_isa.specs.Table.{entries, numbers}
 use Rattle.s66_isa.proofs.Lists.{least-le}
 use Rattle.s66_isa.proofs.Profiles.{entries-in-range}
 use Rattle.s66_isa.specs.declared.limits.TheConstants.{BLOCK_LIMIT, PROFILE_LIMIT}
-use Rattle.s66_line.specs.Block.{instrs_of, text_of}
-use Rattle.s66_line.specs.Source.{Block}
+use Rattle.s66_line.specs.Block.{instrs_of, text_of, Block}
 use Rattle.s66_model.specs.Answer.{Answer, IsAnswer, MayEnd, ending_values}
 use Rattle.s66_model.specs.Leaves.{Leaf, Whole, Chain, Load, Parcels, MayStand, IsWalk, link, floor}
 use Rattle.s66_model.specs.LegalOrder.{Completes, GoesOn, IsBeginning, IsIncomplete, IsLegal, is_ready, ready}

@@ -6,10 +6,10 @@ use Rattle.s66_isa.specs.declared.profile.Profile.{Profile}
 use Rattle.s66_isa.specs.Table.{instr_at}
 use Rattle.s66_isa.proofs.Profiles.{profile_of-entries}
 use Rattle.s66_isa.specs.declared.limits.TheConstants.{BLOCK_LIMIT}
-use Rattle.s66_line.specs.Block.{instrs_of, text_of}
+use Rattle.s66_line.specs.Block.{instrs_of, text_of, Block}
 use Rattle.s66_line.specs.InstructionText.{Spells, instr_in_text}
-use Rattle.s66_line.specs.Source.{Block, source_of}
-use Rattle.s66_line.proofs.SpelledLaw.{some, few, spelled}
+use Rattle.s66_source.specs.Source.{source_of}
+use Rattle.s66_source.proofs.SpelledLaw.{some, few, spelled}
 use Rattle.s66_model.specs.Answer.{Answer, IsAnswer}
 use Rattle.s66_model.specs.LegalOrder.{IsLegal}
 use Rattle.s66_model.specs.Timing.{Problem, total_of}

@@ -3,9 +3,8 @@ use Rattle.std.proofs.Common.{ℕ, ◌+◌, ◌-◌, ◌≡◌, ◌<◌, ◌∙�
 use Rattle.std.proofs.lemmas.Bool.{cases_lt}
 use Rattle.s66_isa.specs.Lists.{rising}
 use Rattle.s66_isa.specs.Table.{instr_at}
-use Rattle.s66_line.specs.Block.{instrs_of, text_of}
+use Rattle.s66_line.specs.Block.{instrs_of, text_of, Block}
 use Rattle.s66_line.specs.InstructionText.{IsTextOf}
-use Rattle.s66_line.specs.Source.{Block}
 use Rattle.s66_program.specs.ProvedAnswers.{IsSpelledTo}
 use Rattle.s66_program.specs.ProveText.{texts_of}
 use Rattle.s66_program.proofs.Dependences.{rising-next}

@@ -2,7 +2,7 @@
 use Rattle.std.proofs.Common.{◌≡◌, ℕ, ◌+◌, ◌<◌, ◌≤◌, ◌∙◌, min, max, List, ◌++◌, Option, None, Some, Result, Ok, Err, IfErr, append_assoc, ap, sym, subst, arith}
 use Rattle.std.specs.Io.KnownBytes.{Consumes}
 use Rattle.std.specs.Result.{IsErr, IsErrAnd}
-use Rattle.s66_line.specs.Devices.{Feeds, Grows, Reader}
+use Rattle.s66_device.specs.Devices.{Feeds, Grows, Reader}
 use Rattle.s66_program.specs.declared.limits.TheConstants.{FEED_CALLS, FEED_ROOM}
 use Rattle.s66_program.specs.declared.outcome.Fault.{Fault}
 use Rattle.s66_program.specs.declared.outcome.Fault.TheVariants.{Memory}

@@ -4,12 +4,14 @@ use Rattle.std.specs.Prelude.{◌==◌}
 use Rattle.std.proofs.lemmas.List.{length-append}
 use Rattle.std.proofs.lemmas.Bool.{cases_lt, le-ltb, lt-ltb}
 use Rattle.s66_line.specs.Fields.{lines_from}
-use Rattle.s66_line.specs.Source.{blocks_of, class_of, classed_lines, classes_from, is_code, label_after, operand_refusal, or_else, place_after, refusal, run_after, source_of, unless_refused}
+use Rattle.s66_source.specs.Source.{blocks_of, classed_lines, classes_from, label_after, operand_refusal, or_else, place_after, refusal, run_after, source_of, unless_refused}
+use Rattle.s66_line.specs.Class.{class_of, is_code}
 use Rattle.s66_line.specs.declared.class.Class.{Class}
 use Rattle.s66_line.specs.declared.class.Class.TheVariants.{Comment, Other, Refused, Pad, Instruction}
-use Rattle.s66_line.specs.declared.error.SourceError.{SourceError}
-use Rattle.s66_line.specs.declared.error.SourceError.TheVariants.{BadOperand, LineTooLong, TooLarge}
-use Rattle.s66_line.specs.declared.limits.TheConstants.{LINE_BYTES_LIMIT, SOURCE_LINES_LIMIT}
+use Rattle.s66_source.specs.declared.error.SourceError.{SourceError}
+use Rattle.s66_source.specs.declared.error.SourceError.TheVariants.{BadOperand, LineTooLong, TooLarge}
+use Rattle.s66_line.specs.declared.limits.TheConstants.{LINE_BYTES_LIMIT}
+use Rattle.s66_source.specs.declared.limits.TheConstants.{SOURCE_LINES_LIMIT}
 use Rattle.s66_program.specs.declared.limits.TheConstants.{SOURCE_FRONT}
 
 -- both are refused, for the same

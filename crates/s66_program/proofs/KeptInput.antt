@@ -2,8 +2,9 @@
 use Rattle.std.proofs.Common.{◌≡◌, ◌≤◌, ℕ, true, List, [], ◌++◌, length, Option, None, Some, IfSome, Ok, Err, inl, inr, append_assoc, refl, ap, sym, subst, ◌∙◌}
 use Rattle.std.proofs.lemmas.List.{append-nil}
 use Rattle.s66_isa.specs.declared.profile.Profile.{Profile}
-use Rattle.s66_line.specs.Source.{Block, source_of}
-use Rattle.s66_line.specs.declared.error.SourceError.{SourceError}
+use Rattle.s66_line.specs.Block.{Block}
+use Rattle.s66_source.specs.Source.{source_of}
+use Rattle.s66_source.specs.declared.error.SourceError.{SourceError}
 use Rattle.s66_program.specs.declared.command.Command.{Command}
 use Rattle.s66_program.specs.declared.command.Command.TheVariants.{Time, Deps, Chart, Order, Prove, Check, Lint, Sum}
 use Rattle.s66_program.specs.declared.limits.TheConstants.{SOURCE_FRONT}

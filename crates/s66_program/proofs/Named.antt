@@ -17,9 +17,9 @@ use Rattle.clap.specs.Simple.{entered, label_of, names_of}
 use Rattle.clap.specs.Faults.{check_fault, defaults_fault, entered_fault, fault_of, level_fault, settle_fault, other_fault, turn_fault, walk_fault, word_fault}
 use Rattle.clap.proofs.SimpleLemmas.{is_nil}
 use Rattle.clap.proofs.WalkLemmas.{both, first_value-rows, one_text-rows}
-use Rattle.s66_ledger.specs.declared.limits.TheConstants.{BUDGET_LIMIT}
+use Rattle.s66_model.specs.declared.limits.TheConstants.{BUDGET_LIMIT}
 use Rattle.s66_model.specs.declared.rule.Rule.{Rule as LeafRule}
-use Rattle.s66_pool.specs.declared.limits.TheConstants.{WORKERS_LIMIT}
+use Rattle.s66_model.specs.declared.limits.TheConstants.{WORKERS_LIMIT}
 use Rattle.s66_program.specs.declared.limits.TheConstants.{NODES_DEFAULT, WORKERS_DEFAULT}
 use Rattle.s66_program.specs.OptionNumbers.{IsNumber, IsReadAs}
 use Rattle.s66_program.specs.Usage.{AsksFor, GivesProfile, GivesRule, GivesSearch, gives_both, has_option, option_text, rule_by, rule_unless_both, s66_app, subcommand_name}

@@ -3,9 +3,10 @@ use Rattle.std.proofs.Common.{ℕ, ◌≡◌, ◌∙◌, Bool, List, [], ◌∷�
 use Rattle.std.proofs.lemmas.List.{length-map}
 use Rattle.s66_isa.specs.declared.instr.Instr.{Instr}
 use Rattle.s66_isa.specs.declared.profile.Profile.{Profile}
-use Rattle.s66_line.specs.ReadAgain.{AreComplete, ArePlacedAgain, IsPlacedAgain}
-use Rattle.s66_line.specs.Source.{Entry, Block, source_of}
-use Rattle.s66_line.proofs.ReadAgain.{read-again}
+use Rattle.s66_source.specs.ReadAgain.{AreComplete, ArePlacedAgain, IsPlacedAgain}
+use Rattle.s66_line.specs.Block.{Entry, Block}
+use Rattle.s66_source.specs.Source.{source_of}
+use Rattle.s66_source.proofs.ReadAgain.{read-again}
 use Rattle.s66_model.specs.declared.rule.Rule.{Rule}
 use Rattle.s66_model.specs.Answer.{Answer, IsAnswer, source_time}
 use Rattle.s66_model.proofs.WrittenOrders.{written-order}

@@ -4,10 +4,10 @@ use Rattle.std.proofs.lemmas.List.{append-nil, at_drop_all, drop_more, length-ma
 use Rattle.s66_isa.specs.declared.instr.Instr.{Instr}
 use Rattle.s66_isa.specs.declared.profile.Profile.{Profile}
 use Rattle.s66_isa.specs.Lists.{Among}
-use Rattle.s66_line.specs.declared.error.SourceError.{SourceError}
-use Rattle.s66_line.specs.Block.{instrs_of}
-use Rattle.s66_line.specs.Printed.{Placed, ArePlaced, printed}
-use Rattle.s66_line.specs.Source.{Entry, Block, blocks_of, classed_lines, refusal, source_of, unless_refused}
+use Rattle.s66_source.specs.declared.error.SourceError.{SourceError}
+use Rattle.s66_line.specs.Block.{instrs_of, Entry, Block}
+use Rattle.s66_source.specs.Printed.{Placed, ArePlaced, printed}
+use Rattle.s66_source.specs.Source.{blocks_of, classed_lines, refusal, source_of, unless_refused}
 use Rattle.s66_model.specs.declared.rule.Rule.{Rule}
 use Rattle.s66_model.specs.Answer.{Answer}
 use Rattle.s66_model.specs.LegalOrder.{GoesOn, IsLegal}

@@ -1,7 +1,6 @@
 -- To be believed: how the first line of a block begins, whatever the command.
 use Rattle.std.specs.Prelude.{ℕ, List, ◌++◌, codes, decimal}
-use Rattle.s66_line.specs.Block.{line_of}
-use Rattle.s66_line.specs.Source.{Block}
+use Rattle.s66_line.specs.Block.{line_of, Block}
 
 -- the number of the block, from 1, and the line of its first instruction
 abbrev pub block_head : ℕ → Block → List ℕ

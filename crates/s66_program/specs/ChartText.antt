@@ -2,8 +2,7 @@
 use Rattle.std.specs.Prelude.{ℕ, List, ◌++◌, codes, decimal}
 use Rattle.s66_isa.specs.declared.profile.Profile.{Profile}
 use Rattle.s66_chart.specs.Chart.{chart_text}
-use Rattle.s66_line.specs.Block.{instrs_of}
-use Rattle.s66_line.specs.Source.{Block}
+use Rattle.s66_line.specs.Block.{instrs_of, Block}
 use Rattle.s66_program.specs.AsWritten.{as_written, total_time}
 use Rattle.s66_program.specs.BlockHead.{block_head}
 

@@ -4,8 +4,7 @@ use Rattle.s66_isa.specs.declared.instr.Instr.{Instr}
 use Rattle.s66_isa.specs.Lists.{after_blanks, weigh}
 use Rattle.s66_isa.specs.Table.{numbers}
 use Rattle.s66_model.specs.Dependence.{needs, all_needs}
-use Rattle.s66_line.specs.Block.{instrs_of}
-use Rattle.s66_line.specs.Source.{Block}
+use Rattle.s66_line.specs.Block.{instrs_of, Block}
 use Rattle.s66_program.specs.BlockHead.{block_head}
 
 -- how many pairs of instructions depend

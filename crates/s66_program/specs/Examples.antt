@@ -2,7 +2,8 @@
 -- what `decimal` computes by
 unfoldable pub use Rattle.std.specs.Fmt.{digits}
 use Rattle.std.specs.Prelude.{ℕ, List, [], ◌∷◌, ◌++◌, codes}
-use Rattle.s66_line.specs.Source.{Block, blocks_of, classed_lines}
+use Rattle.s66_line.specs.Block.{Block}
+use Rattle.s66_source.specs.Source.{blocks_of, classed_lines}
 use Rattle.s66_model.specs.Answer.{Answer}
 use Rattle.s66_model.specs.Leaves.{Chain}
 use Rattle.s66_model.specs.Tree.{Alone}

@@ -1,6 +1,6 @@
 -- To be believed: what `lint` writes for a source, which may be any text, and how it ends.
 use Rattle.std.specs.Prelude.{ℕ, ◌≡◌, List, [], ◌∷◌}
-use Rattle.s66_line.specs.Findings.{findings_text}
+use Rattle.s66_lint.specs.Findings.{findings_text}
 use Rattle.s66_program.specs.declared.outcome.Status.{Status}
 use Rattle.s66_program.specs.declared.outcome.Status.TheVariants.{Done, Denied}
 

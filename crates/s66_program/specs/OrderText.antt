@@ -2,9 +2,9 @@
 use Rattle.std.specs.Prelude.{ℕ, ◌≡◌, ◌==◌, if◌then◌else◌, Bool, List, [], ◌∷◌, Some, None, Ok}
 use Rattle.s66_isa.specs.Lists.{every}
 use Rattle.s66_isa.specs.declared.profile.Profile.{Profile}
-use Rattle.s66_line.specs.Block.{instrs_of}
-use Rattle.s66_line.specs.Printed.{Placed, printed}
-use Rattle.s66_line.specs.Source.{Block, source_of}
+use Rattle.s66_line.specs.Block.{instrs_of, Block}
+use Rattle.s66_source.specs.Printed.{Placed, printed}
+use Rattle.s66_source.specs.Source.{source_of}
 use Rattle.s66_model.specs.declared.rule.Rule.{Rule}
 use Rattle.s66_model.specs.Answer.{Answer, IsAnswer, source_time}
 use Rattle.s66_model.specs.Timing.{Problem}

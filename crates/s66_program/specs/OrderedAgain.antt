@@ -1,9 +1,9 @@
 -- To be believed: how long the blocks take, as written, of what `order` wrote.
 use Rattle.std.specs.Prelude.{ℕ, ◌≡◌, Bool, List, Ok, map}
 use Rattle.s66_isa.specs.declared.profile.Profile.{Profile}
-use Rattle.s66_line.specs.Block.{instrs_of}
-use Rattle.s66_line.specs.Printed.{printed}
-use Rattle.s66_line.specs.Source.{Block, source_of}
+use Rattle.s66_line.specs.Block.{instrs_of, Block}
+use Rattle.s66_source.specs.Printed.{printed}
+use Rattle.s66_source.specs.Source.{source_of}
 use Rattle.s66_model.specs.declared.rule.Rule.{Rule}
 use Rattle.s66_model.specs.Answer.{Answer}
 use Rattle.s66_program.specs.AsWritten.{as_written, total_time}

@@ -2,9 +2,9 @@
 use Rattle.std.specs.Prelude.{ℕ, List, codes}
 use Rattle.s66_cert.specs.declared.error.CertError.{CertError}
 use Rattle.s66_cert.specs.declared.error.CertError.TheVariants as cert
-use Rattle.s66_line.specs.declared.error.SourceError.{SourceError}
-use Rattle.s66_line.specs.declared.error.SourceError.TheVariants.{BadOperand, LineTooLong, OutOfMemory, TooLarge}
-use Rattle.s66_line.specs.Refusals.{refusal_line}
+use Rattle.s66_source.specs.declared.error.SourceError.{SourceError}
+use Rattle.s66_source.specs.declared.error.SourceError.TheVariants.{BadOperand, LineTooLong, OutOfMemory, TooLarge}
+use Rattle.s66_source.specs.Refusals.{refusal_line}
 use Rattle.s66_cert.specs.Refusals.{document_refusal_line}
 use Rattle.s66_profile.specs.declared.error.ProfileError.{ProfileError}
 use Rattle.s66_profile.specs.declared.error.ProfileError.TheVariants as profile

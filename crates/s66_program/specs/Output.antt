@@ -3,9 +3,10 @@ use Rattle.std.specs.Prelude.{ℕ, ◌+◌, ◌≡◌, ◌≤◌, Bool, true, fa
 use Rattle.s66_isa.specs.declared.profile.Profile.{Profile}
 use Rattle.s66_isa.specs.Table.{standard}
 use Rattle.s66_model.specs.declared.rule.Rule.TheVariants.{NoneNamed}
-use Rattle.s66_ledger.specs.declared.limits.TheConstants.{BUDGET_LIMIT}
-use Rattle.s66_line.specs.Source.{Block, source_of}
-use Rattle.s66_pool.specs.declared.limits.TheConstants.{WORKERS_LIMIT}
+use Rattle.s66_model.specs.declared.limits.TheConstants.{BUDGET_LIMIT}
+use Rattle.s66_line.specs.Block.{Block}
+use Rattle.s66_source.specs.Source.{source_of}
+use Rattle.s66_model.specs.declared.limits.TheConstants.{WORKERS_LIMIT}
 use Rattle.s66_profile.specs.ProfileText.{profile_in_text}
 use Rattle.s66_program.specs.declared.command.Command.{Command}
 use Rattle.s66_program.specs.declared.command.Command.TheVariants.{Time, Deps, Chart, Order, Prove, Check, Lint, Sum}

@@ -2,8 +2,8 @@
 use Rattle.std.specs.Prelude.{ℕ, ◌≡◌, ◌==◌, Bool, List}
 use Rattle.s66_isa.specs.declared.profile.Profile.{Profile}
 use Rattle.s66_isa.specs.Lists.{every}
-use Rattle.s66_line.specs.Printed.{Placed}
-use Rattle.s66_line.specs.Source.{Block}
+use Rattle.s66_source.specs.Printed.{Placed}
+use Rattle.s66_line.specs.Block.{Block}
 use Rattle.s66_model.specs.declared.rule.Rule.{Rule}
 use Rattle.s66_model.specs.Answer.{Answer, IsAnswer}
 use Rattle.s66_program.specs.OrderText.{AreAnswers, all_placed, placed_by, problem_of}

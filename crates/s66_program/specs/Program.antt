@@ -3,7 +3,7 @@ use Rattle.std.specs.Prelude.{◌≡◌, ◌≢◌, ◌⊎◌, ℕ, List, ◌++�
 use Rattle.std.specs.declared.io.ErrorKind.{ErrorKind}
 use Rattle.std.specs.declared.io.ErrorKind.TheVariants as kind
 use Rattle.clap.specs.Words.{Text}
-use Rattle.s66_line.specs.Devices.{IsUntouched, Reader, WriteFails, Writer, Writes}
+use Rattle.s66_device.specs.Devices.{IsUntouched, Reader, WriteFails, Writer, Writes}
 use Rattle.s66_program.specs.declared.command.Command.{Command}
 use Rattle.s66_program.specs.declared.outcome.Fault.{Fault}
 use Rattle.s66_program.specs.declared.outcome.Fault.TheVariants.{Memory, Write}

@@ -2,8 +2,8 @@
 use Rattle.std.specs.Prelude.{ℕ, ◌≡◌, if◌then◌else◌, List, [], ◌∷◌, Ok, map}
 use Rattle.s66_isa.specs.declared.profile.Profile.{Profile}
 use Rattle.s66_isa.specs.Table.{entries, numbers}
-use Rattle.s66_line.specs.Block.{instrs_of, text_of}
-use Rattle.s66_line.specs.Source.{Block, source_of}
+use Rattle.s66_line.specs.Block.{instrs_of, text_of, Block}
+use Rattle.s66_source.specs.Source.{source_of}
 use Rattle.s66_model.specs.declared.rule.Rule.{Rule}
 use Rattle.s66_model.specs.declared.rule.Rule.TheVariants.{NoneNamed}
 use Rattle.s66_model.specs.Answer.{Answer}

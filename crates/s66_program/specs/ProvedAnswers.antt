@@ -3,9 +3,8 @@ use Rattle.std.specs.Prelude.{ℕ, ◌≡◌, ◌≤◌, ◌==◌, Bool, List, �
 use Rattle.s66_isa.specs.declared.profile.Profile.{Profile}
 use Rattle.s66_isa.specs.Table.{instr_at}
 use Rattle.s66_isa.specs.declared.limits.TheConstants.{BLOCK_LIMIT}
-use Rattle.s66_line.specs.Block.{instrs_of, text_of}
+use Rattle.s66_line.specs.Block.{instrs_of, text_of, Block}
 use Rattle.s66_line.specs.InstructionText.{IsTextOf}
-use Rattle.s66_line.specs.Source.{Block}
 use Rattle.s66_model.specs.declared.rule.Rule.{Rule}
 use Rattle.s66_model.specs.Answer.{Answer, IsAnswer}
 use Rattle.s66_cert.specs.Document.{document_text, documents_text}

@@ -1,9 +1,9 @@
 -- To be believed: what a command leaves of its reader and its writer.
 use Rattle.std.specs.Prelude.{◌≡◌, ◌≢◌, ◌⊎◌, ℕ, true, List, None, Result, Ok, Err}
 use Rattle.s66_isa.specs.declared.profile.Profile.{Profile}
-use Rattle.s66_line.specs.declared.error.SourceError.TheVariants.{OutOfMemory}
-use Rattle.s66_line.specs.Devices.{IsUntouched, Reader, WriteFails, Writer, Writes}
-use Rattle.s66_line.specs.Source.{source_of}
+use Rattle.s66_source.specs.declared.error.SourceError.TheVariants.{OutOfMemory}
+use Rattle.s66_device.specs.Devices.{IsUntouched, Reader, WriteFails, Writer, Writes}
+use Rattle.s66_source.specs.Source.{source_of}
 use Rattle.s66_cert.specs.Faults.{IsFault}
 use Rattle.s66_program.specs.declared.command.Command.{Command}
 use Rattle.s66_program.specs.declared.outcome.Fault.{Fault}

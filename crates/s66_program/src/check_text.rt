@@ -7,7 +7,7 @@ use crate::observer::Observer;
 use crate::outcome::{Output, Status};
 use s66_cert::{CertError, Document, read};
 use s66_checker::{Verdict, verify};
-use s66_line::push_field;
+use s66_device::push_field;
 use std::alloc::{AllocError, Global};
 
 /// The line of a document, whose number is from 1.

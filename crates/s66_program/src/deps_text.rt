@@ -9,7 +9,8 @@ ghost use Rattle.s66_program.specs.DepsText.{dependences_in, deps_line, needs_li
 
 use crate::fields::push_block_head;
 use s66_dep::{Dependences, Set};
-use s66_line::{Block, push_field};
+use s66_device::push_field;
+use s66_line::Block;
 use std::alloc::AllocError;
 
 /// How many pairs depend in a block of `count` instructions.

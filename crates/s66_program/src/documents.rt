@@ -10,9 +10,9 @@ ghost use Rattle.s66_program.specs.ProvedAnswers.{IsSpelled};
 use arrayvec::ArrayVec;
 use s66_cert::{Claim, Document, InstructionText, Tree};
 use s66_isa::{BLOCK_LIMIT, Profile};
-use s66_ledger::{Answer, BUDGET_LIMIT};
+use s66_ledger::Answer;
 use s66_line::Block;
-use s66_model::Rule;
+use s66_model::{BUDGET_LIMIT, Rule};
 use std::alloc::{AllocError, Global};
 
 /// The instructions of a block with their texts.

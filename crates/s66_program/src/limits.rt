@@ -1,4 +1,5 @@
-use s66_line::{LINE_BYTES_LIMIT, SOURCE_LINES_LIMIT};
+use s66_line::LINE_BYTES_LIMIT;
+use s66_source::SOURCE_LINES_LIMIT;
 
 /// The most calls that reading an input makes.
 pub const FEED_CALLS: u32 = 16_777_216;

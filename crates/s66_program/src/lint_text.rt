@@ -2,7 +2,7 @@ ghost use Rattle.std.specs.Prelude.{IfOk};
 ghost use Rattle.s66_program.specs.LintText.{IsLintOutput};
 
 use crate::outcome::{Output, Status};
-use s66_line::findings_in;
+use s66_lint::findings_in;
 use std::alloc::{AllocError, Global};
 
 /// What is stated of the lines of a source, which may be any text.

@@ -8,8 +8,10 @@ use crate::observer::Observer;
 use crate::outcome::{Output, Status};
 use s66_dep::Order;
 use s66_isa::Profile;
-use s66_line::{Block, Placed, Source, print_source};
-use s66_pool::{Free, Options, run};
+use s66_line::Block;
+use s66_model::Options;
+use s66_pool::{Free, run};
+use s66_source::{Placed, Source, print_source};
 use s66_time::time_of;
 use std::alloc::{AllocError, Global};
 use std::marker::Model;
@@ -27,7 +29,7 @@ pub(crate) struct Found {
 }
 
 impl Model for Found {
-    ghost use Rattle.s66_line.specs.Printed.{Placed};
+    ghost use Rattle.s66_source.specs.Printed.{Placed};
 
     ghost Value = { Placed };
 

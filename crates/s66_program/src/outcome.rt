@@ -4,8 +4,9 @@ ghost use Rattle.s66_program.specs.Outcome.{document_fault, profile_fault, sourc
 
 use arrayvec::ArrayString;
 use s66_cert::CertError;
-use s66_line::{FAULT_ROOM, SourceError, short_text};
+use s66_device::{FAULT_ROOM, short_text};
 use s66_profile::ProfileError;
+use s66_source::SourceError;
 use std::alloc::{AllocError, AllocFailed};
 use std::{error, fmt};
 
@@ -110,7 +111,7 @@ impl From<ProfileError> for Fault {
 
 impl Fault {
     ghost use Rattle.std.specs.Prelude.{◌≡◌, ◌<◌, length};
-    ghost use Rattle.s66_line.specs.declared.limits.TheConstants.{FAULT_ROOM};
+    ghost use Rattle.s66_device.specs.declared.limits.TheConstants.{FAULT_ROOM};
     ghost use Rattle.s66_program.specs.Outcome.{fault_code, fault_line};
 
     /// The status of the process.

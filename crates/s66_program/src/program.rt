@@ -7,7 +7,7 @@ use crate::observer::Observer;
 use crate::outcome::Fault;
 use crate::run::run_observed;
 use crate::usage::{Usage, command_of};
-use s66_line::{Feed, Sink, write_all};
+use s66_device::{Feed, Sink, write_all};
 use std::convert::AsStr;
 use std::io;
 use std::sync::Wait;

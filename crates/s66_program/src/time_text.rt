@@ -5,7 +5,8 @@ ghost use Rattle.s66_program.specs.TimeText.{fillers_as_written, time_line, trac
 
 use crate::fields::push_block_head;
 use s66_dep::Order;
-use s66_line::{Block, push_field};
+use s66_device::push_field;
+use s66_line::Block;
 use s66_time::{Timed, Timer, pack};
 use std::alloc::AllocError;
 

@@ -1,8 +1,8 @@
 ghost use Rattle.std.specs.Prelude.{◌≡◌, IfOk, IfErr, List, codes, map};
 ghost use Rattle.clap.specs.Words.{Text, app_of, found_of, kind_of, new_app, one_text};
 ghost use Rattle.clap.specs.declared.error.kind.ErrorKind.TheVariants.{ArgumentConflict};
-ghost use Rattle.s66_ledger.specs.declared.limits.TheConstants.{BUDGET_LIMIT};
-ghost use Rattle.s66_pool.specs.declared.limits.TheConstants.{WORKERS_LIMIT};
+ghost use Rattle.s66_model.specs.declared.limits.TheConstants.{BUDGET_LIMIT};
+ghost use Rattle.s66_model.specs.declared.limits.TheConstants.{WORKERS_LIMIT};
 ghost use Rattle.s66_program.specs.declared.limits.TheConstants.{NODES_DEFAULT, WORKERS_DEFAULT};
 ghost use Rattle.s66_program.specs.Usage.{Asks, IsArgumentOf, IsCommandOf, IsUsageOf, Refuses, chart_app, check_app, deps_app, dominating_app, flag_rule, lint_app, nodes_rule, order_app, profile_rule, prove_app, rule_unless_both, s66_app, search_app, sum_app, time_app, workers_rule};
 ghost use Rattle.s66_program.specs.OptionNumbers.{IsNumber, IsReadAs};
@@ -13,9 +13,7 @@ use crate::limits::{NODES_DEFAULT, WORKERS_DEFAULT};
 use clap::error::ErrorKind;
 use clap::{Arg, ArgAction, ArgMatches, Command, Error, value_parser};
 use s66_isa::PROFILE_LIMIT;
-use s66_ledger::BUDGET_LIMIT;
-use s66_model::Rule;
-use s66_pool::WORKERS_LIMIT;
+use s66_model::{BUDGET_LIMIT, Rule, WORKERS_LIMIT};
 use std::alloc::{AllocError, Global};
 use std::convert::AsStr;
 

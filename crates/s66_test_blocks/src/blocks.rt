@@ -1,4 +1,5 @@
-use s66_line::{Block, Source};
+use s66_line::Block;
+use s66_source::Source;
 
 /// The legal orders take 16 (1 2 3), 12 (1 3 2) and 13 (3 1 2).
 pub const ONE_LOAD: &str = "  SA1 A1+B1\n  BX6 X1\n  BX7 X2\n";

@@ -1,6 +1,6 @@
 ghost use Rattle.s66_program.specs.Output.{IsWithin};
 
-use s66_line::{OverRead, OverWrite};
+use s66_device::{OverRead, OverWrite};
 use s66_program::{Command, Fault, Status, run_command};
 use std::process::Abort;
 use std::sync::Wait;

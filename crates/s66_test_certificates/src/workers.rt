@@ -1,5 +1,5 @@
 ghost use Rattle.std.specs.Prelude.{◌≤◌};
-ghost use Rattle.s66_pool.specs.declared.limits.TheConstants.{WORKERS_LIMIT};
+ghost use Rattle.s66_model.specs.declared.limits.TheConstants.{WORKERS_LIMIT};
 
 use crate::commands::{check_output, run};
 use crate::documents::THREE_MULTIPLIES;

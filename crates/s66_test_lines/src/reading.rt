@@ -1,5 +1,6 @@
 use s66_isa::Instr;
-use s66_line::{Block, read_source};
+use s66_line::Block;
+use s66_source::read_source;
 use std::alloc::{AllocError, Global};
 use std::process::Abort;
 

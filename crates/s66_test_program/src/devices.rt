@@ -2,7 +2,7 @@ ghost use Rattle.std.specs.Prelude.{◌≡◌, ◌≤◌, ◌-◌, ◌^◌, ◌<
 
 use crate::running::{CHART, CHECK, DEPS, LINT, ORDER, SUM, TIME, run, run_observed};
 use arrayvec::ArrayVec;
-use s66_line::{Failed, Feed, OverRead, OverWrite, Sink};
+use s66_device::{Failed, Feed, OverRead, OverWrite, Sink};
 use s66_program::{FEED_CALLS, FEED_ROOM, Silent, run_program};
 use std::cell::Cell;
 use std::io::{self, Read, Write};

@@ -1,6 +1,6 @@
 use s66_cert::CertError;
-use s66_line::SourceError;
 use s66_program::Fault;
+use s66_source::SourceError;
 use std::alloc::AllocError;
 use std::fmt::Display;
 use std::process::Abort;

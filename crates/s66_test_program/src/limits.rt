@@ -1,5 +1,5 @@
 use crate::running::{CHART, CHECK, DEPS, TIME, TRACE, check_sum, run};
-use s66_line::SOURCE_LINES_LIMIT;
+use s66_source::SOURCE_LINES_LIMIT;
 use std::alloc::AllocError;
 use std::test::Fail;
 

@@ -1,6 +1,6 @@
 use crate::running::{CHECK, ORDER, run_observed};
 use arrayvec::ArrayVec;
-use s66_line::OverRead;
+use s66_device::OverRead;
 use s66_program::{Observer, Progress};
 use std::io;
 use std::process::Abort;

@@ -1,6 +1,6 @@
 ghost use Rattle.std.specs.Prelude.{◌-◌, ◌^◌, ◌<◌};
 
-use s66_line::{Feed, OverRead, OverWrite};
+use s66_device::{Feed, OverRead, OverWrite};
 use s66_program::{Observer, Silent, run_program};
 use std::alloc::AllocError;
 use std::process::Abort;

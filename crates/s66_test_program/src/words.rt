@@ -1,5 +1,5 @@
 use crate::running::run;
-use s66_line::{OverRead, OverWrite};
+use s66_device::{OverRead, OverWrite};
 use s66_model::Rule;
 use s66_program::{Command, Status, command_of, run_command};
 use std::test::Fail;

@@ -2,8 +2,8 @@ ghost use Rattle.std.specs.Prelude.{ℕ, ◌≡◌, ◌≤◌};
 
 use s66_dep::{Set, is_beginning};
 use s66_isa::Profile;
-use s66_line::read_source;
 use s66_node::{Constant, Least, Piece, Vertex, expand, expand_with};
+use s66_source::read_source;
 use s66_test_blocks::{MULTIPLIES, ONE_LOAD, SEVEN_MULTIPLIES, only_block};
 use std::process::Abort;
 use std::test::Fail;

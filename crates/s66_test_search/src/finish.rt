@@ -1,7 +1,8 @@
 use s66_isa::Profile;
 use s66_ledger::Ledger;
-use s66_line::{Block, read_source};
+use s66_line::Block;
 use s66_model::Rule;
+use s66_source::read_source;
 use s66_test_blocks::only_block;
 use std::process::Abort;
 use std::test::Fail;

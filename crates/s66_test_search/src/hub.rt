@@ -1,12 +1,13 @@
 ghost use Rattle.std.specs.Prelude.{◌≡◌, ◌≤◌, All};
-ghost use Rattle.s66_ledger.specs.declared.limits.TheConstants.{BUDGET_LIMIT};
+ghost use Rattle.s66_model.specs.declared.limits.TheConstants.{BUDGET_LIMIT};
 
 use s66_dep::{Order, is_beginning};
 use s66_isa::Profile;
 use s66_ledger::{GraftError, Ledger, Offered, Ticket};
-use s66_line::{Block, read_source};
+use s66_line::Block;
 use s66_node::{Piece, expand};
 use s66_pool::{Hub, Needs, Seat, SeatsMissing, Supply};
+use s66_source::read_source;
 use s66_test_blocks::{MULTIPLIES, ONE_LOAD, only_block};
 use s66_time::{Timed, time_of};
 use std::process::Abort;

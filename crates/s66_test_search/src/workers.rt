@@ -1,14 +1,14 @@
 ghost use Rattle.std.specs.Prelude.{◌≤◌};
-ghost use Rattle.s66_ledger.specs.declared.limits.TheConstants.{BUDGET_LIMIT};
-ghost use Rattle.s66_pool.specs.declared.limits.TheConstants.{WORKERS_LIMIT};
+ghost use Rattle.s66_model.specs.declared.limits.TheConstants.{BUDGET_LIMIT};
+ghost use Rattle.s66_model.specs.declared.limits.TheConstants.{WORKERS_LIMIT};
 
 use crate::gates::{Claimants, Filling, Held, Meeting};
 use crate::hub::open_hub;
 use s66_isa::Profile;
-use s66_ledger::BUDGET_LIMIT;
-use s66_line::{Block, read_source};
-use s66_model::Rule;
-use s66_pool::{Free, Gate, Options, Seat, run, work};
+use s66_line::Block;
+use s66_model::{BUDGET_LIMIT, Options, Rule};
+use s66_pool::{Free, Gate, Seat, run, work};
+use s66_source::read_source;
 use s66_test_blocks::{MULTIPLIES, only_block};
 use std::process::Abort;
 use std::sync::Wait;

@@ -1,6 +1,7 @@
 use s66_bound::{Leaf, chain, floor, load, parcels};
 use s66_isa::{Kind, Profile};
-use s66_line::{Block, read_source};
+use s66_line::Block;
+use s66_source::read_source;
 use s66_test_blocks::{MULTIPLIES, ONE_LOAD, only_block};
 use s66_time::Clock;
 use std::process::Abort;

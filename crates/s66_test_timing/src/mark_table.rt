@@ -4,9 +4,10 @@ ghost use Rattle.s66_line.specs.Block.{instrs_of};
 
 use arrayvec::ArrayVec;
 use s66_isa::Profile;
-use s66_line::{Block, read_source};
+use s66_line::Block;
 use s66_model::Rule;
 use s66_node::{Marks, Place, Walk};
+use s66_source::read_source;
 use s66_test_blocks::only_block;
 use std::process::Abort;
 use std::test::Fail;

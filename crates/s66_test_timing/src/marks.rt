@@ -1,6 +1,7 @@
 use crate::walk::push_ready;
 use s66_isa::Profile;
-use s66_line::{Block, read_source};
+use s66_line::Block;
+use s66_source::read_source;
 use s66_test_blocks::only_block;
 use s66_time::{Clock, Mark, dominates, dominates_clamped};
 use std::process::Abort;

@@ -1,5 +1,6 @@
 use s66_dep::{NotLegal, Order};
-use s66_line::{Block, read_source};
+use s66_line::Block;
+use s66_source::read_source;
 use s66_test_blocks::{ONE_LOAD, only_block};
 use std::test::Fail;
 

@@ -4,7 +4,7 @@ ghost use Rattle.s66_line.specs.Operand.{is_octal, x_digit, b_digit, two_x, bool
 use crate::operand::encoding::Encoding;
 use crate::operand::terms::is_expression;
 
-pub(crate) fn is_octal_digit(byte: u8) -> bool
+pub fn is_octal_digit(byte: u8) -> bool
     ensures { result ≡ is_octal byte }
 {
     byte >= b'0' && byte <= b'7'

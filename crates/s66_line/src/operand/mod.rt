@@ -6,5 +6,6 @@ mod operation;
 mod set;
 mod terms;
 
-pub(crate) use computing::is_octal_digit;
-pub(crate) use operation::{decode, operation_of, syntax_of};
+pub use computing::is_octal_digit;
+pub use operation::is_table_name;
+pub(crate) use operation::{decode, operation_of};

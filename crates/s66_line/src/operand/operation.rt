@@ -1,4 +1,4 @@
-ghost use Rattle.std.specs.Prelude.{◌≡◌, ◌≤◌, IfSome};
+ghost use Rattle.std.specs.Prelude.{◌≡◌, ◌≤◌, IfSome, is_some};
 ghost use Rattle.s66_line.specs.Choices.{IsOfTheTable};
 ghost use Rattle.s66_line.specs.Fields.{upper};
 ghost use Rattle.s66_line.specs.Operand.{syntax_of, decode, operation_of};
@@ -40,7 +40,7 @@ pub(crate) enum Syntax {
 }
 
 /// The syntax of an operation by its two letters.
-pub(crate) fn syntax_of(first: u8, second: u8) -> Option<Syntax>
+fn syntax_of(first: u8, second: u8) -> Option<Syntax>
     ensures { result ≡ syntax_of first second }
 {
     match (first, second) {
@@ -88,6 +88,13 @@ pub(crate) fn syntax_of(first: u8, second: u8) -> Option<Syntax>
         (b'S', b'B') => Some(Syntax::Set { bank: Bank::B }),
         _ => None,
     }
+}
+
+/// Whether the operations of the table that begin with these letters have a digit after them.
+pub fn is_table_name(first: u8, second: u8) -> bool
+    ensures { result ≡ is_some (syntax_of first second) }
+{
+    syntax_of(first, second).is_some()
 }
 
 /// What an operation of the table takes, and its digit: two letters, in upper or in lower case, and a digit 0 to 7.

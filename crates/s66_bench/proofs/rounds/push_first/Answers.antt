@@ -1,6 +1,5 @@
 use Rattle.std.proofs.Common.{ℕ, ◌+◌, ◌++◌, ◌∷◌, [], List, ◌≡◌, length, subst, sym, ap, arith, true, ◌∙◌}
-use Rattle.s66_line.specs.Block.{instrs_of}
-use Rattle.s66_line.specs.Source.{Block}
+use Rattle.s66_line.specs.Block.{instrs_of, Block}
 use Rattle.s66_model.specs.LegalOrder.{is_ready}
 use Rattle.s66_model.proofs.Beginnings.{length-rising}
 use Rattle.s66_dep.proofs.OrderNumbers.{rising-more}

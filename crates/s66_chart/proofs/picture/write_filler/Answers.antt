@@ -1,6 +1,6 @@
 use Rattle.std.proofs.Common.{ap, subst, ◌∙◌, ◌≡◌, codes, sym, true, arith}
 use Rattle.std.proofs.lemmas.Bool.{cond-true}
-use Rattle.s66_line.specs.Devices.{Written}
+use Rattle.s66_device.specs.Devices.{Written}
 use Rattle.s66_chart.specs.Chart.{row_text, filler_row, has_filler}
 use Rattle.s66_chart.proofs.picture.write_filler.Goals as goal
 

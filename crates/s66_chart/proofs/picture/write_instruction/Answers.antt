@@ -1,5 +1,5 @@
 use Rattle.std.proofs.Common.{ap, subst, ◌∙◌, ◌≡◌, refl}
-use Rattle.s66_line.specs.Devices.{Written}
+use Rattle.s66_device.specs.Devices.{Written}
 use Rattle.s66_chart.specs.Chart.{row_text, instruction_row}
 use Rattle.s66_chart.proofs.picture.write_instruction.Goals as goal
 

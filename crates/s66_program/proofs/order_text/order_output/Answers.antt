@@ -1,6 +1,6 @@
 use Rattle.std.proofs.Common.{◌≡◌, ◌∙◌, if◌then◌else◌, ap, sym, subst}
-use Rattle.s66_line.specs.Printed.{ArePlaced, printed}
-use Rattle.s66_line.specs.Source.{blocks_of, classed_lines}
+use Rattle.s66_source.specs.Printed.{ArePlaced, printed}
+use Rattle.s66_source.specs.Source.{blocks_of, classed_lines}
 use Rattle.s66_program.specs.declared.outcome.Status.TheVariants.{Done, Bounded}
 use Rattle.s66_program.specs.PlacedAnswers.{tell_best}
 use Rattle.s66_program.proofs.PlacedAnswers.{order-output, placed-within}

@@ -1,5 +1,5 @@
 use Rattle.std.proofs.Common.{sym, subst, List, ◌++◌}
-use Rattle.s66_line.specs.Printed.{Placed}
+use Rattle.s66_source.specs.Printed.{Placed}
 use Rattle.s66_program.specs.PlacedAnswers.{AreAllPlaced}
 use Rattle.s66_program.proofs.PlacedAnswers.{goes-on, placed-all}
 use Rattle.s66_program.proofs.order_text.search_all.Goals as goal

@@ -1,6 +1,6 @@
 use Rattle.std.proofs.Common.{◌≡◌, ◌≤◌, ◌∙◌, false, if◌then◌else◌, List, length, ap, sym, subst}
-use Rattle.s66_line.specs.declared.limits.TheConstants.{SOURCE_LINES_LIMIT}
-use Rattle.s66_line.specs.Printed.{Placed}
+use Rattle.s66_source.specs.declared.limits.TheConstants.{SOURCE_LINES_LIMIT}
+use Rattle.s66_source.specs.Printed.{Placed}
 use Rattle.s66_program.specs.declared.outcome.Status.TheVariants.{Done, Bounded}
 use Rattle.s66_program.specs.declared.sum_text.Row.{Row}
 use Rattle.s66_program.specs.PlacedAnswers.{tell_best}

@@ -1,6 +1,5 @@
 use Rattle.std.proofs.Common.{◌∙◌, sym, ap}
-use Rattle.s66_line.specs.Source.{Block}
-use Rattle.s66_line.specs.Block.{instrs_of}
+use Rattle.s66_line.specs.Block.{Block, instrs_of}
 use Rattle.s66_model.specs.LegalOrder.{is_ready}
 use Rattle.s66_dep.specs.Members.{numbers_in}
 use Rattle.s66_dep.proofs.Readiness.{has-ready_same}

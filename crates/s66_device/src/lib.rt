@@ -1,0 +1,10 @@
+//! The devices that bytes come from and go to, and short texts.
+#![tactic(auto)]
+
+mod device;
+mod limits;
+mod text;
+
+pub use device::{Failed, Feed, OverRead, OverWrite, Sink, WriteError, write_all};
+pub use limits::FAULT_ROOM;
+pub use text::{line_refusal, push_field, short_text};

@@ -1,0 +1,2 @@
+/// How many bytes there is room for of the line of a fault, with its newline.
+pub const FAULT_ROOM: usize = 64;

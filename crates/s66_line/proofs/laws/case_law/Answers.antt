@@ -1,5 +1,0 @@
-use Rattle.s66_line.proofs.CaseLaw.{either_case}
-use Rattle.s66_line.proofs.laws.case_law.Goals as goal
-
-pub returns : goal.returns
-returns c = either_case

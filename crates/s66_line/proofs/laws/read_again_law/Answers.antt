@@ -1,5 +1,0 @@
-use Rattle.s66_line.proofs.ReadAgain.{read-again}
-use Rattle.s66_line.proofs.laws.read_again_law.Goals as goal
-
-pub returns : goal.returns
-returns c = read-again

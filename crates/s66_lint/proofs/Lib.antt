@@ -1,0 +1,2 @@
+pub mod FindingLines
+pub mod FindingsLaw

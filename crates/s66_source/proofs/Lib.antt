@@ -1,0 +1,14 @@
+pub mod ReaderLines
+pub mod ReaderBlocks
+pub mod PartsLaw
+pub mod CaseLaw
+pub mod LineLaw
+pub mod PadsLaw
+pub mod PlacedBlocks
+pub mod PrintedLines
+pub mod ReadBack
+pub mod ReadLine
+pub mod ReadComments
+pub mod ReadBlock
+pub mod ReadAgain
+pub mod SpelledLaw

@@ -1,0 +1,477 @@
+-- A printed text that is accepted when it is read again has the blocks of its source in their placed orders.
+use Rattle.std.proofs.Common.{◌≡◌, ◌≤◌, ◌<◌, ◌+◌, ◌%◌, ◌==◌, ℕ, suc, Bool, true, false, if◌then◌else◌, List, [], ◌∷◌, ◌++◌, None, codes, length, map, refl, sym, ap, ◌∙◌, subst, inl, inr, arith, append_assoc, eqb}
+use Rattle.std.specs.Prelude.{Result, Ok, ◌⊎◌}
+use Rattle.std.proofs.lemmas.Bool.{ne_eqb, eqb-true, eqb-false, true≢false, and_parts}
+use Rattle.std.proofs.lemmas.List.{append-nil, length-map}
+use Rattle.std.proofs.lemmas.Nat.{mod_below}
+use Rattle.s66_isa.specs.declared.instr.Instr.{Instr}
+use Rattle.s66_isa.specs.Lists.{every}
+use Rattle.s66_line.specs.Fields.{is_return, lines_of, body, from_operation, label_bytes}
+use Rattle.s66_line.specs.Operand.{is_filled}
+use Rattle.s66_source.specs.Source.{Line, run_at, run_after, place_at, place_after, label_at, label_after, classes_from, classed_lines, operand_refusal, refusal_at, refusal, instructions, begins_block, put_before, parts_of, entry_of, block_of, blocks_of, source_of}
+use Rattle.s66_line.specs.Block.{Block}
+use Rattle.s66_line.specs.Class.{class_of, is_code, begins_run, instr_in}
+use Rattle.s66_line.specs.InstructionText.{Spells}
+use Rattle.s66_source.specs.Roles.{is_copied}
+use Rattle.s66_source.specs.Printed.{Placed, ArePlaced, copied_line, copied_text, text_of_lines, printed}
+use Rattle.s66_source.specs.ReadAgain.{AreComplete, ArePlacedAgain}
+use Rattle.s66_source.specs.Reader.{State, start, with_open, end_block, begin_run, count_line, by_class, and_then, read_from}
+use Rattle.s66_line.specs.declared.class.Class.{Class}
+use Rattle.s66_line.specs.declared.class.Class.TheVariants.{Comment, Other, Refused, Pad, Instruction}
+use Rattle.s66_isa.specs.declared.limits.TheConstants.{BLOCK_LIMIT}
+use Rattle.s66_source.specs.declared.error.SourceError.{SourceError}
+use Rattle.s66_source.proofs.LineLaw.{no_refusal, neither, operand-none}
+use Rattle.s66_source.proofs.PrintedLines.{text-first, instruction-not_copied, same-blocks, accepted-is}
+use Rattle.s66_source.proofs.ReadLine.{IsLabel, label-of_code, spells-of_class, every-from_operation, every-trimmed}
+use Rattle.s66_source.proofs.ReadComments.{read-as, read-copied, AreLinesOfSource, lines-of_source}
+use Rattle.s66_source.proofs.ReadBlock.{AreSound, Ended, read-block}
+use Rattle.s66_source.proofs.ReaderBlocks.{from_class, Begins, fresh, next-index, full-index, read_from-start}
+use Rattle.s66_line.proofs.Wholes.{is_inside, AreLines-lines_of}
+
+-- THE PARTS of the lines to come: what is left of the part that is begun, and the parts after it
+
+abbrev left : List (List Line) → List Line
+left [] = []
+left ([] ∷ parts) = []
+left ((l ∷ more) ∷ parts) = if begins_block l then [] else l ∷ more
+
+abbrev behind : List (List Line) → List (List Line)
+behind [] = []
+behind ([] ∷ parts) = parts
+behind ((l ∷ more) ∷ parts) = if begins_block l then (l ∷ more) ∷ parts else parts
+
+put-before : (l : Line) (parts : List (List Line)) → put_before l parts ≡ (l ∷ left parts) ∷ behind parts
+put-before l [] = refl
+put-before l ([] ∷ parts) = refl
+put-before l ((next ∷ more) ∷ parts) =
+    elim (begins_block next) as (λ t. (if t then (l ∷ []) ∷ (next ∷ more) ∷ parts else (l ∷ next ∷ more) ∷ parts) ≡ (l ∷ (if t then [] else next ∷ more)) ∷ (if t then (next ∷ more) ∷ parts else parts))
+    [ true ↦ refl | false ↦ refl ]
+
+left-put : (l : Line) (parts : List (List Line)) → left (put_before l parts) ≡ (if begins_block l then [] else l ∷ left parts)
+left-put l parts = ap left (put-before l parts)
+
+behind-put : (l : Line) (parts : List (List Line)) → behind (put_before l parts) ≡ (if begins_block l then (l ∷ left parts) ∷ behind parts else behind parts)
+behind-put l parts = ap behind (put-before l parts)
+
+left-begins : (parts : List (List Line)) → Begins parts → left parts ≡ []
+left-begins [] h = refl
+left-begins ([] ∷ parts) h = refl
+left-begins ((l ∷ more) ∷ parts) h = rw h refl
+
+behind-begins : (parts : List (List Line)) → Begins parts → behind parts ≡ parts
+behind-begins [] h = refl
+behind-begins ([] ∷ parts) h = absurd h
+behind-begins ((l ∷ more) ∷ parts) h = rw h refl
+
+-- the parts of these lines
+abbrev parts_from : ℕ → ℕ → ℕ → List ℕ → Bool → List (List ℕ) → List (List Line)
+parts_from number run index label after lines = parts_of (instructions (classes_from number run index label after lines))
+
+-- A PART HAS AT MOST BLOCK_LIMIT LINES
+
+abbrev Fits : List (List ℕ) → Type 0
+Fits lines = (number run index : ℕ) (label : List ℕ) (after : Bool) → index % BLOCK_LIMIT + length (left (parts_from number run index label after lines)) ≤ BLOCK_LIMIT
+
+begun-below : (index : ℕ) → index % BLOCK_LIMIT < BLOCK_LIMIT
+begun-below index = mod_below index BLOCK_LIMIT (omega arith)
+
+none-left : (lines : List (List ℕ)) (number run index : ℕ) (label : List ℕ) (after : Bool) → index % BLOCK_LIMIT ≡ 0 → left (parts_from number run index label after lines) ≡ []
+none-left lines number run index label after h = left-begins (parts_from number run index label after lines) (fresh lines number run index label after h)
+
+-- one instruction more of the part
+fits-next : (lines : List (List ℕ)) → Fits lines → (number run index : ℕ) (label : List ℕ) → suc (index % BLOCK_LIMIT) + length (left (parts_from number run (suc index) label true lines)) ≤ BLOCK_LIMIT
+fits-next lines fits number run index label = by_full (eqb (suc (index % BLOCK_LIMIT)) BLOCK_LIMIT) refl
+  where
+    by_full : (t : Bool) → eqb (suc (index % BLOCK_LIMIT)) BLOCK_LIMIT ≡ t → suc (index % BLOCK_LIMIT) + length (left (parts_from number run (suc index) label true lines)) ≤ BLOCK_LIMIT
+    by_full true stated =
+        let all = eqb-true (suc (index % BLOCK_LIMIT)) BLOCK_LIMIT stated in
+        let none = ap (λ (ls : List Line). length ls) (none-left lines number run (suc index) label true (full-index index (index % BLOCK_LIMIT) refl all)) in
+        omega (arith, all, none)
+    by_full false stated =
+        let next = next-index index (index % BLOCK_LIMIT) refl (eqb-false (suc (index % BLOCK_LIMIT)) BLOCK_LIMIT stated) in
+        let few = fits number run (suc index) label true in
+        omega (arith, next, few)
+
+-- nothing is left if a block begins
+left-of_fresh : (lines : List (List ℕ)) (index number run later : ℕ) (label : List ℕ) (after : Bool) → later % BLOCK_LIMIT ≡ 0 → index % BLOCK_LIMIT + length (left (parts_from number run later label after lines)) ≤ BLOCK_LIMIT
+left-of_fresh lines index number run later label after h =
+    let none = ap (λ (ls : List Line). length ls) (none-left lines number run later label after h) in
+    let below = begun-below index in
+    omega (arith, none, below)
+
+fits-instruction : (lines : List (List ℕ)) → Fits lines → (l : Line) (number run index : ℕ) (label : List ℕ) → l.index ≡ index →
+    index % BLOCK_LIMIT + length (left (put_before l (parts_from number run (suc index) label true lines))) ≤ BLOCK_LIMIT
+fits-instruction lines fits l number run index label at =
+    let rest = parts_from number run (suc index) label true lines in
+    let next = fits-next lines fits number run index label in
+    let below = begun-below index in
+    subst (λ ls. index % BLOCK_LIMIT + length ls ≤ BLOCK_LIMIT) (sym (left-put l rest))
+    (elim (begins_block l) as (λ t. index % BLOCK_LIMIT + length (if t then [] else l ∷ left rest) ≤ BLOCK_LIMIT) [ true ↦ omega (arith, below) | false ↦ omega (arith, next) ])
+
+-- the parts of a line of this class and the lines after it
+abbrev parts_by : ℕ → ℕ → ℕ → List ℕ → Class → List ℕ → List (List ℕ) → List (List Line)
+parts_by number run index label c line lines = parts_of (instructions (from_class number run index label c line lines))
+
+fits-class : (c : Class) (line : List ℕ) (lines : List (List ℕ)) → Fits lines → (number run index : ℕ) (label : List ℕ) → index % BLOCK_LIMIT + length (left (parts_by number run index label c line lines)) ≤ BLOCK_LIMIT
+fits-class Comment line lines fits number run index label = fits (suc number) run index label false
+fits-class Refused line lines fits number run index label = fits (suc number) run index label false
+fits-class (Pad false) line lines fits number run index label = fits (suc number) run index label true
+fits-class Other line lines fits number run index label = left-of_fresh lines index (suc number) (suc run) 0 [] false refl
+fits-class (Pad true) line lines fits number run index label = left-of_fresh lines index (suc number) (suc run) 0 (label_bytes (body line)) true refl
+fits-class (Instruction false n) line lines fits number run index label =
+    fits-instruction lines fits (record { number = number; bytes = line; class = Instruction false n; run = run; index = index; label = label }) (suc number) run index label refl
+fits-class (Instruction true n) line lines fits number run index label =
+    let l : Line = record { number = number; bytes = line; class = Instruction true n; run = suc run; index = 0; label = label_bytes (body line) } in
+    let below = begun-below index in
+    let none = ap (λ (ls : List Line). length ls) (left-put l (parts_from (suc number) (suc run) 1 (label_bytes (body line)) true lines)) in
+    omega (arith, below, none)
+
+fits-all : (lines : List (List ℕ)) → Fits lines
+fits-all [] number run index label after = let below = begun-below index in omega (arith, below)
+fits-all (line ∷ lines) number run index label after = fits-class (class_of after line) line lines (fits-all lines) number run index label
+
+-- THE LINES OF A PART spell their instructions
+
+abbrev pub AreSoundLines : List Line → Type 0
+AreSoundLines lines = AreSound (map entry_of lines)
+
+pub sound-instructions : (lines : List (List ℕ)) (number run index : ℕ) (label : List ℕ) (after : Bool) → every (every is_inside) lines ≡ true → AreSoundLines (instructions (classes_from number run index label after lines))
+sound-instructions [] number run index label after h = tt
+sound-instructions (line ∷ lines) number run index label after h =
+    let both = and_parts (every is_inside line) (every (every is_inside) lines) h in
+    let c : Class = class_of after line in
+    by_class c refl both.0 (sound-instructions lines (suc number) (run_after run c) (place_after index c) (label_after label c line) (is_code c) both.1)
+  where
+    by_class : (c : Class) → class_of after line ≡ c → every is_inside line ≡ true → AreSoundLines (instructions (classes_from (suc number) (run_after run c) (place_after index c) (label_after label c line) (is_code c) lines)) →
+        AreSoundLines (instructions (from_class number run index label c line lines))
+    by_class Comment stated inside rest = rest
+    by_class Other stated inside rest = rest
+    by_class Refused stated inside rest = rest
+    by_class (Pad located) stated inside rest = rest
+    by_class (Instruction located n) stated inside rest = ((spells-of_class after line located n stated, every-from_operation is_inside (body line) (every-trimmed is_inside is_return line inside)), rest)
+
+sound-left : (lines : List Line) → AreSoundLines lines → AreSoundLines (left (parts_of lines))
+sound-left [] h = tt
+sound-left (l ∷ lines) h =
+    subst AreSoundLines (sym (left-put l (parts_of lines)))
+    (elim (begins_block l) as (λ t. AreSoundLines (if t then [] else l ∷ left (parts_of lines))) [ true ↦ tt | false ↦ (h.0, sound-left lines h.1) ])
+
+-- BLOCKS TO COME begin at a line to come
+
+abbrev FirstFrom : ℕ → List (List Line) → Type 0
+FirstFrom low [] = Unit {0}
+FirstFrom low ([] ∷ parts) = ⊥
+FirstFrom low ((l ∷ more) ∷ parts) = low ≤ l.number
+
+FirstFrom-lower : (low high : ℕ) (parts : List (List Line)) → low ≤ high → FirstFrom high parts → FirstFrom low parts
+FirstFrom-lower low high [] le h = tt
+FirstFrom-lower low high ([] ∷ parts) le h = absurd h
+FirstFrom-lower low high ((l ∷ more) ∷ parts) le h = omega (arith, le, h)
+
+first-put : (low : ℕ) (l : Line) (parts : List (List Line)) → low ≤ l.number → FirstFrom low (behind parts) → FirstFrom low (behind (put_before l parts))
+first-put low l parts le h =
+    subst (FirstFrom low) (sym (behind-put l parts)) (elim (begins_block l) as (λ t. FirstFrom low (if t then (l ∷ left parts) ∷ behind parts else behind parts)) [ true ↦ le | false ↦ h ])
+
+first-from : (lines : List (List ℕ)) (number run index : ℕ) (label : List ℕ) (after : Bool) → FirstFrom number (behind (parts_from number run index label after lines))
+first-from [] number run index label after = tt
+first-from (line ∷ lines) number run index label after =
+    let c : Class = class_of after line in
+    by_class c (FirstFrom-lower number (suc number) (behind (parts_from (suc number) (run_after run c) (place_after index c) (label_after label c line) (is_code c) lines)) (omega arith)
+    (first-from lines (suc number) (run_after run c) (place_after index c) (label_after label c line) (is_code c)))
+  where
+    by_class : (c : Class) → FirstFrom number (behind (parts_from (suc number) (run_after run c) (place_after index c) (label_after label c line) (is_code c) lines)) → FirstFrom number (behind (parts_by number run index label c line lines))
+    by_class Comment rest = rest
+    by_class Other rest = rest
+    by_class Refused rest = rest
+    by_class (Pad located) rest = rest
+    by_class (Instruction located n) rest =
+        first-put number (record { number = number; bytes = line; class = Instruction located n; run = run_at run (Instruction located n); index = place_at index (Instruction located n); label = label_at label (Instruction located n) line })
+        (parts_from (suc number) (run_after run (Instruction located n)) (place_after index (Instruction located n)) (label_after label (Instruction located n) line) true lines) (omega arith) rest
+
+-- a line at which no block begins is printed as a copy, or not at all
+text-copied : (all : List Line) (n : ℕ) (parts : List (List Line)) (ps : List Placed) (l : Line) (lines : List Line) → FirstFrom (suc l.number) parts → ArePlaced (map block_of parts) ps →
+    text_of_lines all n (map block_of parts) ps (l ∷ lines) ≡ copied_text all l ++ text_of_lines all n (map block_of parts) ps lines
+text-copied all n [] [] l lines h placed = refl
+text-copied all n [] (p ∷ ps) l lines h placed = absurd placed
+text-copied all n ([] ∷ parts) ps l lines h placed = absurd h
+text-copied all n ((m ∷ more) ∷ parts) [] l lines h placed = absurd placed
+text-copied all n ((m ∷ more) ∷ parts) (p ∷ ps) l lines h placed = rw (ne_eqb m.number l.number (λ same. absurd (omega (arith, same, h)))) refl
+
+-- WHAT IS READ
+
+-- what has to be known of the state before lines to come, of which this many are left of the begun part: an unlabelled block that
+-- begins next stands for itself
+abbrev Ready : ℕ → List ℕ → ℕ → State → Type 0
+Ready index label count t = (index % BLOCK_LIMIT ≡ 0 → (if index == 0 then label else []) ≡ [] → Ended t) × (index % BLOCK_LIMIT + count ≡ BLOCK_LIMIT → Ended t)
+
+-- these blocks, and then those of the parts in their placed orders
+record Follows (parts : List (List Line)) (ps : List Placed) (blocks again : List Block) : Type 0 where
+  new : List Block
+  whole : again ≡ blocks ++ new
+  placed : ArePlacedAgain (map block_of parts) ps new
+
+abbrev open_blocks : State → List Block
+open_blocks t = with_open t.blocks t.label t.entries
+
+-- the text of these lines, with the blocks of these parts
+abbrev read_text : State → List Line → ℕ → List (List Line) → List Placed → List Line → Result (List Block) SourceError
+read_text t all n parts ps lines = read_from t (lines_of (text_of_lines all n (map block_of parts) ps lines))
+
+abbrev Reads : List (List ℕ) → Type 0
+Reads lines = (all : List Line) (n number run index : ℕ) (label : List ℕ) (after : Bool) (ps : List Placed) (t : State) (again : List Block) →
+    AreLinesOfSource all → every (every is_inside) lines ≡ true → refusal (classes_from number run index label after lines) ≡ None → IsLabel label →
+    ArePlaced (map block_of (behind (parts_from number run index label after lines))) ps → AreComplete (map block_of (behind (parts_from number run index label after lines))) ps →
+    Ready index label (length (left (parts_from number run index label after lines))) t →
+    read_text t all n (behind (parts_from number run index label after lines)) ps (classes_from number run index label after lines) ≡ Ok again →
+    Follows (behind (parts_from number run index label after lines)) ps (open_blocks t) again
+
+abbrev ReadsClass : Class → List ℕ → List (List ℕ) → Type 0
+ReadsClass c line lines = (all : List Line) (n number run index : ℕ) (label : List ℕ) (after : Bool) (ps : List Placed) (t : State) (again : List Block) →
+    class_of after line ≡ c → every is_inside line ≡ true →
+    AreLinesOfSource all → every (every is_inside) lines ≡ true → refusal (from_class number run index label c line lines) ≡ None → IsLabel label →
+    ArePlaced (map block_of (behind (parts_by number run index label c line lines))) ps → AreComplete (map block_of (behind (parts_by number run index label c line lines))) ps →
+    Ready index label (length (left (parts_by number run index label c line lines))) t →
+    read_text t all n (behind (parts_by number run index label c line lines)) ps (from_class number run index label c line lines) ≡ Ok again →
+    Follows (behind (parts_by number run index label c line lines)) ps (open_blocks t) again
+
+-- A LINE THAT IS COPIED, or that is left out
+
+rest-taken : (l : Line) (lines : List Line) → refusal (l ∷ lines) ≡ None → refusal lines ≡ None
+rest-taken l lines h = (neither (refusal_at l) (refusal lines) h).1
+
+-- the lines after it are read after it, or as if it weren't there
+copied-line : (all : List Line) (n : ℕ) (parts : List (List Line)) (ps : List Placed) (l : Line) (lines : List Line) (after : Bool) (t : State) (again : List Block) → class_of after l.bytes ≡ l.class →
+    every is_inside l.bytes ≡ true → operand_refusal l.number l.class ≡ None → FirstFrom (suc l.number) parts → ArePlaced (map block_of parts) ps → read_text t all n parts ps (l ∷ lines) ≡ Ok again →
+    (read_text t all n parts ps lines ≡ Ok again)
+    ⊎ (and_then (by_class t l.class (label_bytes (body l.bytes)) (from_operation (body l.bytes))) (λ u. read_text u all n parts ps lines) ≡ Ok again)
+copied-line all n parts ps l lines after t again stated inside accepted first placed h =
+    by_copied (is_copied all l) (read-as t _ _ again (text-copied all n parts ps l lines first placed) h)
+  where
+    by_copied : (copied : Bool) → read_from t (lines_of ((if copied then copied_line l else []) ++ text_of_lines all n (map block_of parts) ps lines)) ≡ Ok again →
+        (read_text t all n parts ps lines ≡ Ok again)
+        ⊎ (and_then (by_class t l.class (label_bytes (body l.bytes)) (from_operation (body l.bytes))) (λ u. read_text u all n parts ps lines) ≡ Ok again)
+    by_copied false h = inl h
+    by_copied true h =
+        inr (ap (λ c. and_then (by_class t c (label_bytes (body l.bytes)) (from_operation (body l.bytes))) (λ u. read_text u all n parts ps lines)) (sym stated)
+        ∙ read-copied t after l.bytes (text_of_lines all n (map block_of parts) ps lines) l.number again inside (ap (operand_refusal l.number) stated ∙ accepted) h)
+
+reads-comment : (line : List ℕ) (lines : List (List ℕ)) → Reads lines → ReadsClass Comment line lines
+reads-comment line lines reads all n number run index label after ps t again stated inside source insides taken is placed complete ready h =
+    let l : Line = record { number = number; bytes = line; class = Comment; run = run; index = index; label = label } in
+    let rest : List Line = classes_from (suc number) run index label false lines in
+    let parts : List (List Line) = behind (parts_from (suc number) run index label false lines) in
+    elim (copied-line all n parts ps l rest after t again stated inside refl (first-from lines (suc number) run index label false) placed h) [
+      | inl kept ↦ reads all n (suc number) run index label false ps t again source insides (rest-taken l rest taken) is placed complete ready kept
+      | inr step ↦ reads all n (suc number) run index label false ps (count_line false t) again source insides (rest-taken l rest taken) is placed complete ready step
+    ]
+
+reads-pad : (line : List ℕ) (lines : List (List ℕ)) → Reads lines → ReadsClass (Pad false) line lines
+reads-pad line lines reads all n number run index label after ps t again stated inside source insides taken is placed complete ready h =
+    let l : Line = record { number = number; bytes = line; class = Pad false; run = run; index = index; label = label } in
+    let rest : List Line = classes_from (suc number) run index label true lines in
+    let parts : List (List Line) = behind (parts_from (suc number) run index label true lines) in
+    elim (copied-line all n parts ps l rest after t again stated inside refl (first-from lines (suc number) run index label true) placed h) [
+      | inl kept ↦ reads all n (suc number) run index label true ps t again source insides (rest-taken l rest taken) is placed complete ready kept
+      | inr step ↦ reads all n (suc number) run index label true ps (count_line true t) again source insides (rest-taken l rest taken) is placed complete ready step
+    ]
+
+-- if a run begins with a label, nothing has to be known of the state
+ready-labelled : (lines : List (List ℕ)) (number run : ℕ) (label : List ℕ) (after : Bool) (t : State) → is_filled label ≡ true → Ready 0 label (length (left (parts_from number run 0 label after lines))) t
+ready-labelled lines number run label after t some =
+    let none = ap (λ (ls : List Line). length ls) (none-left lines number run 0 label after refl) in
+    (λ here empty. absurd (true≢false (sym some ∙ ap is_filled empty)), λ all. absurd (omega (arith, none, all)))
+
+reads-labelled_pad : (line : List ℕ) (lines : List (List ℕ)) → Reads lines → ReadsClass (Pad true) line lines
+reads-labelled_pad line lines reads all n number run index label after ps t again stated inside source insides taken is placed complete ready h =
+    let new : List ℕ = label_bytes (body line) in
+    let l : Line = record { number = number; bytes = line; class = Pad true; run = suc run; index = 0; label = new } in
+    let rest : List Line = classes_from (suc number) (suc run) 0 new true lines in
+    let parts : List (List Line) = behind (parts_from (suc number) (suc run) 0 new true lines) in
+    let fresh_label = label-of_code after line (ap begins_run stated) inside in
+    elim (copied-line all n parts ps l rest after t again stated inside refl (first-from lines (suc number) (suc run) 0 new true) placed h) [
+      | inl kept ↦ reads all n (suc number) (suc run) 0 new true ps t again source insides (rest-taken l rest taken) fresh_label.0 placed complete (ready-labelled lines (suc number) (suc run) new true t fresh_label.1) kept
+      | inr step ↦
+          reads all n (suc number) (suc run) 0 new true ps (count_line true (begin_run new t)) again source insides (rest-taken l rest taken) fresh_label.0 placed complete
+          (ready-labelled lines (suc number) (suc run) new true (count_line true (begin_run new t)) fresh_label.1) step
+    ]
+
+reads-other : (line : List ℕ) (lines : List (List ℕ)) → Reads lines → ReadsClass Other line lines
+reads-other line lines reads all n number run index label after ps t again stated inside source insides taken is placed complete ready h =
+    let l : Line = record { number = number; bytes = line; class = Other; run = run; index = index; label = label } in
+    let rest : List Line = classes_from (suc number) (suc run) 0 [] false lines in
+    let parts : List (List Line) = behind (parts_from (suc number) (suc run) 0 [] false lines) in
+    let text : List ℕ = text_of_lines all n (map block_of parts) ps rest in
+    let copied : read_from t (lines_of ((body line ++ codes "\n") ++ text)) ≡ Ok again =
+    read-as t _ _ again (text-copied all n parts ps l rest (first-from lines (suc number) (suc run) 0 [] false) placed) h in
+    let step = read-copied t after line text number again inside (ap (operand_refusal number) stated) copied in
+    reads all n (suc number) (suc run) 0 [] false ps (count_line false (end_block t)) again source insides (rest-taken l rest taken) (refl, refl) placed complete (λ here empty. (refl, refl), λ all. (refl, refl))
+    (ap (λ c. and_then (by_class t c (label_bytes (body line)) (from_operation (body line))) (λ u. read_from u (lines_of text))) (sym stated) ∙ step)
+
+-- AN INSTRUCTION
+
+label-or_none : (t : Bool) (label : List ℕ) → IsLabel label → IsLabel (if t then label else [])
+label-or_none true label is = is
+label-or_none false label is = (refl, refl)
+
+-- one block more, and then the others
+one-more : (blocks later again new : List Block) (made : Block) → later ≡ blocks ++ made ∷ [] → again ≡ later ++ new → again ≡ blocks ++ made ∷ new
+one-more blocks later again new made h k = k ∙ ap (λ bs. bs ++ new) h ∙ append_assoc blocks (made ∷ []) new
+
+-- the lines after an instruction, and their parts
+abbrev lines_after : ℕ → Line → List (List ℕ) → List Line
+lines_after run l lines = classes_from (suc l.number) run (suc l.index) l.label true lines
+
+abbrev parts_after : ℕ → Line → List (List ℕ) → List (List Line)
+parts_after run l lines = parts_of (instructions (lines_after run l lines))
+
+-- the parts from one that begins with it on
+abbrev parts_at : ℕ → Line → List (List ℕ) → List (List Line)
+parts_at run l lines = (l ∷ left (parts_after run l lines)) ∷ behind (parts_after run l lines)
+
+-- the first of a block
+reads-first : (lines : List (List ℕ)) → Reads lines → (all : List Line) (n run : ℕ) (l : Line) (ps : List Placed) (t : State) (again : List Block) →
+    AreLinesOfSource all → every (every is_inside) lines ≡ true → refusal (lines_after run l lines) ≡ None → IsLabel l.label → l.index % BLOCK_LIMIT ≡ 0 → AreSoundLines (l ∷ []) →
+    ((if l.index == 0 then l.label else []) ≡ [] → Ended t) →
+    ArePlaced (map block_of (parts_at run l lines)) ps →
+    AreComplete (map block_of (parts_at run l lines)) ps →
+    read_text t all n (parts_at run l lines) ps (l ∷ lines_after run l lines) ≡ Ok again →
+    Follows (parts_at run l lines) ps (open_blocks t) again
+reads-first lines reads all n run l [] t again source insides taken is begins sound new placed complete h = absurd placed
+reads-first lines reads all n run l (p ∷ ps) t again source insides taken is begins sound new placed complete h =
+    let rest : List Line = lines_after run l lines in
+    let parts : List (List Line) = parts_after run l lines in
+    let block : Block = block_of (l ∷ left parts) in
+    let text : List ℕ = text_of_lines all (suc n) (map block_of (behind parts)) ps rest in
+    let next : suc l.index % BLOCK_LIMIT ≡ 1 = next-index l.index 0 begins (λ same. absurd (omega (arith, same))) in
+    let fits = fits-all lines (suc l.number) run (suc l.index) l.label true in
+    let count : length (map entry_of (left parts)) ≡ length (left parts) = length-map (left parts) entry_of in
+    let a = read-block all n block p t text again source (label-or_none (l.index == 0) l.label is) new
+    (sound.0, sound-left (instructions rest) (sound-instructions lines (suc l.number) run (suc l.index) l.label true insides)) placed.0
+    (omega (arith, complete.0)) (omega (arith, complete.0, fits, next, count))
+    (read-as t _ _ again (text-first all n block (map block_of (behind parts)) p ps l rest refl) h) in
+    let f = reads all (suc n) (suc l.number) run (suc l.index) l.label true ps a.state again source insides taken is placed.1 complete.1
+    (λ here empty. absurd (omega (arith, next, here)), λ all. a.full (omega (arith, all, next, count, complete.0))) a.read in
+    record {
+      new = a.made ∷ f.new;
+      whole = one-more (open_blocks t) (open_blocks a.state) again f.new a.made a.whole f.whole;
+      placed = (a.placed, f.placed);
+    }
+
+-- one more of a block, which is printed before it
+ready-more : (lines : List (List ℕ)) (number run index count : ℕ) (label : List ℕ) (t : State) → (index % BLOCK_LIMIT ≡ 0 → ⊥) → count ≡ suc (length (left (parts_from number run (suc index) label true lines))) → Ready index label count t →
+    Ready (suc index) label (length (left (parts_from number run (suc index) label true lines))) t
+ready-more lines number run index count label t inside one ready = by_full (eqb (suc (index % BLOCK_LIMIT)) BLOCK_LIMIT) refl
+  where
+    by_full : (full : Bool) → eqb (suc (index % BLOCK_LIMIT)) BLOCK_LIMIT ≡ full → Ready (suc index) label (length (left (parts_from number run (suc index) label true lines))) t
+    by_full true stated =
+        let all = eqb-true (suc (index % BLOCK_LIMIT)) BLOCK_LIMIT stated in
+        let begins = full-index index (index % BLOCK_LIMIT) refl all in
+        let none = ap (λ (ls : List Line). length ls) (none-left lines number run (suc index) label true begins) in
+        (λ here empty. ready.1 (omega (arith, all, none, one)), λ many. absurd (omega (arith, begins, none, many)))
+    by_full false stated =
+        let next = next-index index (index % BLOCK_LIMIT) refl (eqb-false (suc (index % BLOCK_LIMIT)) BLOCK_LIMIT stated) in
+        (λ here empty. absurd (omega (arith, next, here)), λ many. ready.1 (omega (arith, next, many, one)))
+
+sound-line : (after : Bool) (l : Line) (located : Bool) (i : Instr) → l.class ≡ Instruction located i → class_of after l.bytes ≡ Instruction located i → every is_inside l.bytes ≡ true → AreSoundLines (l ∷ [])
+sound-line after l located i is stated inside =
+    let spelled : Spells (from_operation (body l.bytes)) (instr_in l.class) = subst (λ c. Spells (from_operation (body l.bytes)) (instr_in c)) (sym is) (spells-of_class after l.bytes located i stated) in
+    ((spelled, every-from_operation is_inside (body l.bytes) (every-trimmed is_inside is_return l.bytes inside)), tt)
+
+-- one instruction, whether its block begins with it or before
+reads-put : (lines : List (List ℕ)) → Reads lines → (all : List Line) (n run : ℕ) (l : Line) (located : Bool) (i : Instr) (ps : List Placed) (t : State) (again : List Block) → l.class ≡ Instruction located i →
+    AreLinesOfSource all → every (every is_inside) lines ≡ true → refusal (lines_after run l lines) ≡ None → IsLabel l.label → AreSoundLines (l ∷ []) →
+    (l.index % BLOCK_LIMIT ≡ 0 → (if l.index == 0 then l.label else []) ≡ [] → Ended t) →
+    ((l.index % BLOCK_LIMIT ≡ 0 → ⊥) → Ready (suc l.index) l.label (length (left (parts_after run l lines))) t) →
+    ArePlaced (map block_of (behind (put_before l (parts_after run l lines)))) ps →
+    AreComplete (map block_of (behind (put_before l (parts_after run l lines)))) ps →
+    read_text t all n (behind (put_before l (parts_after run l lines))) ps (l ∷ lines_after run l lines) ≡ Ok again →
+    Follows (behind (put_before l (parts_after run l lines))) ps (open_blocks t) again
+reads-put lines reads all n run l located i ps t again stated source insides taken is sound new more placed complete h =
+    let rest : List Line = lines_after run l lines in
+    let parts : List (List Line) = parts_after run l lines in
+    let cut = behind-put l parts in
+    subst (λ found. Follows found ps (open_blocks t) again) (sym cut)
+    (by_begins (begins_block l) refl (subst (λ found. ArePlaced (map block_of found) ps) cut placed) (subst (λ found. AreComplete (map block_of found) ps) cut complete)
+    (subst (λ found. read_text t all n found ps (l ∷ rest) ≡ Ok again) cut h))
+  where
+    by_begins : (begins : Bool) → begins_block l ≡ begins →
+        ArePlaced (map block_of (if begins then parts_at run l lines else behind (parts_after run l lines))) ps →
+        AreComplete (map block_of (if begins then parts_at run l lines else behind (parts_after run l lines))) ps →
+        read_text t all n (if begins then parts_at run l lines else behind (parts_after run l lines)) ps (l ∷ lines_after run l lines) ≡ Ok again →
+        Follows (if begins then parts_at run l lines else behind (parts_after run l lines)) ps (open_blocks t) again
+    by_begins true here placed complete h =
+        let at = eqb-true (l.index % BLOCK_LIMIT) 0 here in
+        reads-first lines reads all n run l ps t again source insides taken is at sound (new at) placed complete h
+    by_begins false here placed complete h =
+        let parts : List (List Line) = parts_after run l lines in
+        let rest : List Line = lines_after run l lines in
+        reads all n (suc l.number) run (suc l.index) l.label true ps t again source insides taken is placed complete (more (eqb-false (l.index % BLOCK_LIMIT) 0 here))
+        (read-as t _ _ again
+        (text-copied all n (behind parts) ps l rest (first-from lines (suc l.number) run (suc l.index) l.label true) placed
+        ∙ ap (λ copied. copied ++ text_of_lines all n (map block_of (behind parts)) ps rest) (instruction-not_copied all l located i stated)) h)
+
+reads-instruction : (i : Instr) (line : List ℕ) (lines : List (List ℕ)) → Reads lines → ReadsClass (Instruction false i) line lines
+reads-instruction i line lines reads all n number run index label after ps t again stated inside source insides taken is placed complete ready h =
+    let l : Line = record { number = number; bytes = line; class = Instruction false i; run = run; index = index; label = label } in
+    let rest : List Line = classes_from (suc number) run (suc index) label true lines in
+    let parts : List (List Line) = parts_from (suc number) run (suc index) label true lines in
+    let one : (index % BLOCK_LIMIT ≡ 0 → ⊥) → length (left (put_before l parts)) ≡ suc (length (left parts)) =
+    λ later. ap (λ (ls : List Line). length ls) (left-put l parts ∙ ap (λ begins. if begins then [] else l ∷ left parts) (ne_eqb (index % BLOCK_LIMIT) 0 (λ at. absurd (later at)))) in
+    reads-put lines reads all n run l false i ps t again refl source insides (rest-taken l rest taken) is (sound-line after l false i refl stated inside) ready.0
+    (λ later. ready-more lines (suc number) run index (length (left (put_before l parts))) label t later (one later) ready) placed complete h
+
+reads-labelled : (i : Instr) (line : List ℕ) (lines : List (List ℕ)) → Reads lines → ReadsClass (Instruction true i) line lines
+reads-labelled i line lines reads all n number run index label after ps t again stated inside source insides taken is placed complete ready h =
+    let new : List ℕ = label_bytes (body line) in
+    let l : Line = record { number = number; bytes = line; class = Instruction true i; run = suc run; index = 0; label = new } in
+    let rest : List Line = classes_from (suc number) (suc run) 1 new true lines in
+    let fresh_label = label-of_code after line (ap begins_run stated) inside in
+    reads-put lines reads all n (suc run) l true i ps t again refl source insides (rest-taken l rest taken) fresh_label.0 (sound-line after l true i refl stated inside)
+    (λ here empty. absurd (true≢false (sym fresh_label.1 ∙ ap is_filled empty))) (λ later. absurd (later refl)) placed complete h
+
+-- ALL LINES
+
+none-refused : (number : ℕ) (lines : List Line) (l : Line) → l.class ≡ Refused → refusal (l ∷ lines) ≡ None → ⊥
+none-refused number lines l stated taken = some-refused l.number l.class stated (operand-none (l ∷ lines) l taken (inl refl))
+  where
+    some-refused : (number : ℕ) (c : Class) → c ≡ Refused → operand_refusal number c ≡ None → ⊥
+    some-refused number Comment stated h = cc
+    some-refused number Other stated h = cc
+    some-refused number Refused stated h = cc
+    some-refused number (Pad located) stated h = cc
+    some-refused number (Instruction located i) stated h = cc
+
+reads-class : (c : Class) (line : List ℕ) (lines : List (List ℕ)) → Reads lines → ReadsClass c line lines
+reads-class Comment line lines reads = reads-comment line lines reads
+reads-class Other line lines reads = reads-other line lines reads
+reads-class Refused line lines reads = λ all n number run index label after ps t again stated inside source insides taken is placed complete ready h.
+    absurd (none-refused number (classes_from (suc number) run index label false lines) (record { number = number; bytes = line; class = Refused; run = run; index = index; label = label }) refl taken)
+reads-class (Pad true) line lines reads = reads-labelled_pad line lines reads
+reads-class (Pad false) line lines reads = reads-pad line lines reads
+reads-class (Instruction true i) line lines reads = reads-labelled i line lines reads
+reads-class (Instruction false i) line lines reads = reads-instruction i line lines reads
+
+reads-all : (lines : List (List ℕ)) → Reads lines
+reads-all [] all n number run index label after [] t again source insides taken is placed complete ready h = record { new = []; whole = same-blocks again (open_blocks t) (Ok (open_blocks t)) h refl ∙ sym (append-nil (open_blocks t)); placed = tt }
+reads-all [] all n number run index label after (p ∷ ps) t again source insides taken is placed complete ready h = absurd placed
+reads-all (line ∷ lines) all n number run index label after ps t again source insides taken is placed complete ready h =
+    let both = and_parts (every is_inside line) (every (every is_inside) lines) insides in
+    reads-class (class_of after line) line lines (reads-all lines) all n number run index label after ps t again refl both.0 source both.1 taken is placed complete ready h
+
+-- A WHOLE TEXT
+
+pub read-again : (text : List ℕ) (blocks again : List Block) (ps : List Placed) → source_of text ≡ Ok blocks → ArePlaced blocks ps → AreComplete blocks ps → source_of (printed text ps) ≡ Ok again → ArePlacedAgain blocks ps again
+read-again text blocks again ps accepted placed complete again_accepted =
+    let lines : List (List ℕ) = lines_of text in
+    let all : List Line = classed_lines text in
+    let parts : List (List Line) = parts_of (instructions all) in
+    let fresh_parts = fresh lines 1 0 0 [] false refl in
+    let cut : map block_of (behind parts) ≡ blocks = ap (map block_of) (behind-begins parts fresh_parts) ∙ accepted-is text blocks accepted in
+    let none = ap (λ (ls : List Line). length ls) (left-begins parts fresh_parts) in
+    let insides = (AreLines-lines_of text).no_newline in
+    let read : read_text start all 1 (behind parts) ps all ≡ Ok again =
+    ap (λ found. read_from start (lines_of (text_of_lines all 1 (map block_of found) ps all))) (behind-begins parts fresh_parts) ∙ read_from-start (printed text ps) ∙ again_accepted in
+    let f = reads-all lines all 1 1 0 0 [] false ps start again (lines-of_source lines 1 0 0 [] false insides) insides (no_refusal (refusal all) (blocks_of all) blocks accepted) (refl, refl)
+    (subst (λ found. ArePlaced found ps) (sym cut) placed) (subst (λ found. AreComplete found ps) (sym cut) complete)
+    (λ here empty. (refl, refl), λ many. absurd (omega (arith, none, many))) read in
+    subst (λ found. ArePlacedAgain found ps again) cut (subst (ArePlacedAgain (map block_of (behind parts)) ps) (sym f.whole) f.placed)

@@ -1,0 +1,54 @@
+-- What is printed, read again.
+use Rattle.std.proofs.Common.{◌≡◌, ◌&&◌, not, ℕ, Bool, true, false, if◌then◌else◌, List, [], ◌∷◌, ◌++◌, refl, sym, ap, ◌∙◌, append_assoc}
+use Rattle.std.proofs.lemmas.Bool.{and_parts, not-true}
+use Rattle.std.proofs.lemmas.List.{append-nil}
+use Rattle.s66_isa.specs.Lists.{every}
+use Rattle.s66_line.specs.Fields.{trim, body, is_return, is_newline, is_comment, continues, upper, operation, operand, lines_from, lines_of}
+use Rattle.s66_line.specs.Class.{class_of, by_operation, is_located}
+use Rattle.s66_line.specs.declared.class.Class.{Class}
+use Rattle.s66_line.specs.declared.class.Class.TheVariants.{Comment, Other, Refused}
+use Rattle.s66_line.proofs.LineCuts.{lines_from-here, lines_from-later}
+
+-- what is left of a list that does not pass does not pass
+first-passes : (t : Bool) (test : ℕ → Bool) (bytes : List ℕ) → (every test bytes ≡ false → every test (trim test bytes) ≡ false) → (t && every test bytes) ≡ false → (t && every test (trim test bytes)) ≡ false
+first-passes true test bytes later h = later h
+first-passes false test bytes later h = refl
+
+pub every-trim : (test : ℕ → Bool) (bytes : List ℕ) → every test bytes ≡ false → every test (trim test bytes) ≡ false
+every-trim test [] h = cc
+every-trim test (b ∷ bytes) h = rw h (first-passes (test b) test bytes (every-trim test bytes) h)
+
+pub trim-kept : (test : ℕ → Bool) (b : ℕ) (bytes : List ℕ) → every test (b ∷ bytes) ≡ false → trim test (b ∷ bytes) ≡ b ∷ trim test bytes
+trim-kept test b bytes h = rw h refl
+
+trim-by : (t : Bool) (test : ℕ → Bool) (b : ℕ) (bytes : List ℕ) → every test (b ∷ bytes) ≡ t → trim test (trim test bytes) ≡ trim test bytes →
+    trim test (if t then [] else b ∷ trim test bytes) ≡ (if t then [] else b ∷ trim test bytes)
+trim-by true test b bytes stated ih = refl
+trim-by false test b bytes stated ih =
+    trim-kept test b (trim test bytes) (first-passes (test b) test bytes (every-trim test bytes) stated) ∙ ap (λ bs. b ∷ bs) ih
+
+-- nothing more is cut off
+pub trim-twice : (test : ℕ → Bool) (bytes : List ℕ) → trim test (trim test bytes) ≡ trim test bytes
+trim-twice test [] = refl
+trim-twice test (b ∷ bytes) = trim-by (every test (b ∷ bytes)) test b bytes refl (trim-twice test bytes)
+
+abbrev pub class_of_body : Bool → List ℕ → Class
+class_of_body after line =
+    if is_comment line then Comment
+    else (if continues line then (if after then Refused else Other) else by_operation (is_located line) (upper (operation line)) (upper (operand line)))
+
+-- a line without the carriage returns at its end is of the same class
+pub class_of-body : (after : Bool) (line : List ℕ) → class_of after (body line) ≡ class_of after line
+class_of-body after line = ap (class_of_body after) (trim-twice is_return line)
+
+lines_from-line : (begun line text : List ℕ) → every (λ b. not (is_newline b)) line ≡ true → lines_from begun (line ++ 10 ∷ text) ≡ (begun ++ line) ∷ lines_from [] text
+lines_from-line begun [] text h = lines_from-here begun text 10 refl ∙ ap (λ line. line ∷ lines_from [] text) (sym (append-nil begun))
+lines_from-line begun (b ∷ line) text h =
+    let both = and_parts (not (is_newline b)) (every (λ b. not (is_newline b)) line) h in
+    lines_from-later begun (line ++ 10 ∷ text) b (not-true (is_newline b) both.0)
+    ∙ lines_from-line (begun ++ b ∷ []) line text both.1
+    ∙ ap (λ first. first ∷ lines_from [] text) (append_assoc begun (b ∷ []) line)
+
+-- it is cut at its newline
+pub lines_of-line : (line text : List ℕ) → every (λ b. not (is_newline b)) line ≡ true → lines_of (line ++ 10 ∷ text) ≡ line ∷ lines_of text
+lines_of-line line text h = lines_from-line [] line text h

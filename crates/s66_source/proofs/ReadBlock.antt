@@ -1,0 +1,214 @@
+-- The lines of a printed block, read again, are the block in its placed order.
+use Rattle.std.proofs.Common.{◌≡◌, ◌≤◌, ◌<◌, ◌+◌, ℕ, zero, suc, Bool, true, false, if◌then◌else◌, List, [], ◌∷◌, ◌++◌, Some, length, map, refl, sym, ap, ◌∙◌, subst, inl, inr, arith, append_assoc, eqb}
+use Rattle.std.specs.Prelude.{Ok, slice_get}
+use Rattle.std.proofs.lemmas.Bool.{ne_eqb, eqb-false}
+use Rattle.s66_isa.specs.declared.instr.Instr.{Instr}
+use Rattle.s66_isa.specs.Lists.{Among, every}
+use Rattle.s66_isa.specs.Table.{instr_at}
+use Rattle.s66_line.specs.Fields.{lines_of, trim, body, label_bytes}
+use Rattle.s66_line.specs.Operand.{is_filled}
+use Rattle.s66_line.specs.InstructionText.{Spells}
+use Rattle.s66_source.specs.Source.{Line}
+use Rattle.s66_line.specs.Block.{Entry, Block, instrs_of, entry_at, bytes_of}
+use Rattle.s66_source.specs.Printed.{Placed, is_trailing, label_field, instruction_line, instruction_lines, report, notes_text, block_text}
+use Rattle.s66_source.specs.ReadAgain.{IsPlacedAgain}
+use Rattle.s66_source.specs.Reader.{State, with_open, end_block, begin_run_if, with_entry, count_line, read_from}
+use Rattle.s66_line.specs.declared.class.Class.TheVariants.{Instruction}
+use Rattle.s66_isa.specs.declared.limits.TheConstants.{BLOCK_LIMIT}
+use Rattle.s66_line.proofs.BlockEntries.{instr_at-entry}
+use Rattle.s66_source.proofs.ReadLine.{IsLabel, read-line, inside-line}
+use Rattle.s66_source.proofs.ReadComments.{read-as, read-class, Passed, passes-append, passes-report, AreLinesOfSource, passes-notes}
+use Rattle.s66_source.proofs.ReaderBlocks.{labelled, length-push}
+use Rattle.s66_line.proofs.Wholes.{is_inside}
+
+-- ENTRIES that were read
+
+abbrev pub IsSound : Entry → Type 0
+IsSound e = Spells e.bytes e.instr × (every is_inside e.bytes ≡ true)
+
+abbrev pub AreSound : List Entry → Type 0
+AreSound [] = Unit {0}
+AreSound (e ∷ es) = IsSound e × AreSound es
+
+-- the bytes of a number spell its instruction
+abbrev IsSoundAt : Block → ℕ → Type 0
+IsSoundAt block n = Spells (bytes_of block n) (instr_at (instrs_of block) n) × (every is_inside (bytes_of block n) ≡ true)
+
+record Found (entries : List Entry) (n : ℕ) : Type 0 where
+  entry : Entry
+  here : slice_get entries n ≡ Some entry
+  sound : IsSound entry
+
+found : (entries : List Entry) (n : ℕ) → AreSound entries → n < length entries → Found entries n
+found [] n h few = absurd (omega (arith, few))
+found (e ∷ es) zero h few = record { entry = e; here = refl; sound = h.0 }
+found (e ∷ es) (suc n) h few =
+    let later = found es n h.1 (omega (arith, few)) in
+    record { entry = later.entry; here = later.here; sound = later.sound }
+
+pub bytes_of-entry : (block : Block) (n : ℕ) (e : Entry) → entry_at block n ≡ Some e → bytes_of block n ≡ e.bytes
+bytes_of-entry block n e here = rw here refl
+
+sound-at : (block : Block) (n : ℕ) → AreSound block.entries → 1 ≤ n → n ≤ length block.entries → IsSoundAt block n
+sound-at block zero h some few = absurd (omega (arith, some))
+sound-at block (suc n) h some few =
+    let there = found block.entries n h (omega (arith, few)) in
+    let bytes = bytes_of-entry block (suc n) there.entry there.here in
+    let instr = instr_at-entry block (suc n) there.entry there.here in
+    (subst (λ i. Spells (bytes_of block (suc n)) i) instr (subst (λ bs. Spells bs there.entry.instr) (sym bytes) there.sound.0), ap (every is_inside) bytes ∙ there.sound.1)
+
+-- AN INSTRUCTION LINE
+
+-- the run begins with a label if there is one
+abbrev begun : List ℕ → State → State
+begun label t = begin_run_if (is_filled label) label t
+
+same-run : (t : Bool) (label other : List ℕ) (s : State) → (t ≡ true → label ≡ other) → begin_run_if t label s ≡ begin_run_if t other s
+same-run true label other s h = ap (λ l. begin_run_if true l s) (h refl)
+same-run false label other s h = refl
+
+read-instruction : (label bytes : List ℕ) (n : Instr) (t : State) (text : List ℕ) (again : List Block) → IsLabel label → Spells bytes n → every is_inside bytes ≡ true →
+    read_from t (lines_of (instruction_line label bytes ++ text)) ≡ Ok again → read_from (count_line true (with_entry n (trim is_trailing bytes) (begun label t))) (lines_of text) ≡ Ok again
+read-instruction label bytes n t text again is spells inside h =
+    let line : List ℕ = label_field label ++ trim is_trailing bytes in
+    let r = read-line label bytes n is spells in
+    let step = read-class t line text (Instruction (is_filled label) n) again (inside-line label bytes is.1 inside) (r.classed t.after) h in
+    ap (λ u. read_from (count_line true (with_entry n (trim is_trailing bytes) u)) (lines_of text)) (sym (same-run (is_filled label) (label_bytes (body line)) label t r.labelled))
+    ∙ ap (λ bs. read_from (count_line true (with_entry n bs (begin_run_if (is_filled label) (label_bytes (body line)) t))) (lines_of text)) (sym r.left)
+    ∙ step
+
+-- ALL INSTRUCTIONS of a block
+
+abbrev pub Ended : State → Type 0
+Ended t = (t.entries ≡ []) × (t.label ≡ [])
+
+-- read after state, with nothing but these instructions more in the open block
+record Fed (block : Block) (ns : List ℕ) (t : State) (text : List ℕ) (again : List Block) : Type 0 where
+  state : State
+  read : read_from state (lines_of text) ≡ Ok again
+  made : List Entry
+  whole : with_open state.blocks state.label state.entries ≡ t.blocks ++ labelled t.label (t.entries ++ made) ∷ []
+  instrs : map (λ (e : Entry). e.instr) made ≡ map (instr_at (instrs_of block)) ns
+  bytes : map (λ (e : Entry). e.bytes) made ≡ map (λ n. trim is_trailing (bytes_of block n)) ns
+  full : length t.entries + length ns ≡ BLOCK_LIMIT → Ended state
+
+with_open-push : (blocks : List Block) (label : List ℕ) (entries : List Entry) (e : Entry) → with_open blocks label (entries ++ e ∷ []) ≡ blocks ++ labelled label (entries ++ e ∷ []) ∷ []
+with_open-push blocks label [] e = refl
+with_open-push blocks label (a ∷ entries) e = refl
+
+abbrev with_one : Entry → State → State
+with_one e t = record t { entries = t.entries ++ e ∷ [] }
+
+abbrev entry_now : Block → ℕ → State → Entry
+entry_now block n t = record { instr = instr_at (instrs_of block) n; line = suc t.count; bytes = trim is_trailing (bytes_of block n) }
+
+fed-last : (full : Bool) (block : Block) (n : ℕ) (t : State) (text : List ℕ) (again : List Block) → eqb (length (t.entries ++ entry_now block n t ∷ [])) BLOCK_LIMIT ≡ full →
+    read_from (count_line true (if full then end_block (with_one (entry_now block n t) t) else with_one (entry_now block n t) t)) (lines_of text) ≡ Ok again → Fed block (n ∷ []) t text again
+fed-last true block n t text again stated h = record {
+  state = count_line true (end_block (with_one (entry_now block n t) t));
+  read = h;
+  made = entry_now block n t ∷ [];
+  whole = with_open-push t.blocks t.label t.entries (entry_now block n t);
+  instrs = refl;
+  bytes = refl;
+  full = λ all. (refl, refl);
+}
+fed-last false block n t text again stated h = record {
+  state = count_line true (with_one (entry_now block n t) t);
+  read = h;
+  made = entry_now block n t ∷ [];
+  whole = with_open-push t.blocks t.label t.entries (entry_now block n t);
+  instrs = refl;
+  bytes = refl;
+  full = λ all. absurd (eqb-false (length (t.entries ++ entry_now block n t ∷ [])) BLOCK_LIMIT stated (omega (arith, all, length-push t.entries (entry_now block n t))));
+}
+
+-- one instruction, and then the others
+fed-more : (block : Block) (n : ℕ) (ns : List ℕ) (t : State) (text : List ℕ) (again : List Block) → Fed block ns (count_line true (with_one (entry_now block n t) t)) text again → Fed block (n ∷ ns) t text again
+fed-more block n ns t text again rest = record {
+  state = rest.state;
+  read = rest.read;
+  made = entry_now block n t ∷ rest.made;
+  whole = rest.whole ∙ ap (λ es. t.blocks ++ labelled t.label es ∷ []) (append_assoc t.entries (entry_now block n t ∷ []) rest.made);
+  instrs = ap (λ is. instr_at (instrs_of block) n ∷ is) rest.instrs;
+  bytes = ap (λ bs. trim is_trailing (bytes_of block n) ∷ bs) rest.bytes;
+  full = λ all. rest.full (omega (arith, all, length-push t.entries (entry_now block n t)));
+}
+
+feed : (block : Block) (n : ℕ) (ns : List ℕ) (label : List ℕ) (t : State) (text : List ℕ) (again : List Block) → IsLabel label → ((k : ℕ) → Among k (n ∷ ns) → IsSoundAt block k) →
+    length (begun label t).entries + length (n ∷ ns) ≤ BLOCK_LIMIT → read_from t (lines_of (instruction_lines block label (n ∷ ns) ++ text)) ≡ Ok again → Fed block (n ∷ ns) (begun label t) text again
+feed block n [] label t text again is sound few h =
+    let u : State = begun label t in
+    let here = sound n (inl refl) in
+    let next = read-instruction label (bytes_of block n) (instr_at (instrs_of block) n) t text again is here.0 here.1
+    (read-as t _ _ again (append_assoc (instruction_line label (bytes_of block n)) [] text) h) in
+    fed-last (eqb (length (u.entries ++ entry_now block n u ∷ [])) BLOCK_LIMIT) block n u text again refl next
+feed block n (m ∷ ns) label t text again is sound few h =
+    let u : State = begun label t in
+    let e : Entry = entry_now block n u in
+    let here = sound n (inl refl) in
+    let next = read-instruction label (bytes_of block n) (instr_at (instrs_of block) n) t (instruction_lines block [] (m ∷ ns) ++ text) again is here.0 here.1
+    (read-as t _ _ again (append_assoc (instruction_line label (bytes_of block n)) (instruction_lines block [] (m ∷ ns)) text) h) in
+    let more : eqb (length (u.entries ++ e ∷ [])) BLOCK_LIMIT ≡ false = ne_eqb (length (u.entries ++ e ∷ [])) BLOCK_LIMIT (λ all. absurd (omega (arith, all, few, length-push u.entries e))) in
+    let rest = feed block m ns [] (count_line true (with_one e u)) text again (refl, refl) (λ k among. sound k (inr among)) (omega (arith, few, length-push u.entries e))
+    (subst (λ full. read_from (count_line true (if full then end_block (with_one e u) else with_one e u)) (lines_of (instruction_lines block [] (m ∷ ns) ++ text)) ≡ Ok again) more next) in
+    fed-more block n (m ∷ ns) u text again rest
+
+-- A WHOLE BLOCK
+
+-- read after state, with this block more
+pub record Again (block : Block) (order : List ℕ) (t : State) (text : List ℕ) (again : List Block) : Type 0 where
+  pub state : State
+  pub read : read_from state (lines_of text) ≡ Ok again
+  pub made : Block
+  pub whole : with_open state.blocks state.label state.entries ≡ with_open t.blocks t.label t.entries ++ made ∷ []
+  pub placed : IsPlacedAgain block made order
+  pub full : length order ≡ BLOCK_LIMIT → Ended state
+
+-- a run that begins here, or goes on if a block has ended
+begun-new : (label : List ℕ) (t : State) → (label ≡ [] → Ended t) → ((begun label t).entries ≡ []) × ((begun label t).label ≡ label) × ((begun label t).blocks ≡ with_open t.blocks t.label t.entries)
+begun-new [] t h =
+    let ended = h refl in
+    (ended.0, ended.1, sym (ap (λ es. with_open t.blocks t.label es) ended.0))
+begun-new (b ∷ label) t h = (refl, refl, refl)
+
+block-fed : (block : Block) (order : List ℕ) (label : List ℕ) (t s : State) (text : List ℕ) (again : List Block) → block.label ≡ label → Fed block order (begun label s) text again →
+    ((begun label s).entries ≡ []) × ((begun label s).label ≡ label) × ((begun label s).blocks ≡ with_open t.blocks t.label t.entries) → Again block order t text again
+block-fed block order label t s text again is fed new =
+    let u : State = begun label s in
+    let made : Block = labelled u.label (u.entries ++ fed.made) in
+    let all : u.entries ++ fed.made ≡ fed.made = ap (λ es. es ++ fed.made) new.0 in
+    record {
+      state = fed.state;
+      read = fed.read;
+      made = made;
+      whole = fed.whole ∙ ap (λ bs. bs ++ made ∷ []) new.2;
+      placed = record {
+        label = new.1 ∙ sym is;
+        instrs = ap (λ es. map (λ (e : Entry). e.instr) es) all ∙ fed.instrs;
+        bytes = ap (λ es. map (λ (e : Entry). e.bytes) es) all ∙ fed.bytes;
+      };
+      full = λ many. fed.full (omega (arith, many, ap (λ (es : List Entry). length es) new.0));
+    }
+
+pub read-block : (all : List Line) (n : ℕ) (block : Block) (p : Placed) (t : State) (text : List ℕ) (again : List Block) → AreLinesOfSource all → IsLabel block.label → (block.label ≡ [] → Ended t) → AreSound block.entries →
+    ((k : ℕ) → Among k p.order → (1 ≤ k) × (k ≤ length block.entries)) → 1 ≤ length p.order → length p.order ≤ BLOCK_LIMIT →
+    read_from t (lines_of (block_text all n block p ++ text)) ≡ Ok again → Again block p.order t text again
+read-block all n block p t text again source is new sound numbers some few h = by_order p.order numbers some few passed
+  where
+    head : List ℕ
+    head = report n (length block.entries) p ++ notes_text block all
+
+    passed : Passed t (instruction_lines block block.label p.order ++ text) again
+    passed = passes-append (report n (length block.entries) p) (notes_text block all) (passes-report n (length block.entries) p) (passes-notes block all source) t (instruction_lines block block.label p.order ++ text) again
+        (read-as t _ _ again (append_assoc head (instruction_lines block block.label p.order) text) h)
+
+    by_order : (order : List ℕ) → ((k : ℕ) → Among k order → (1 ≤ k) × (k ≤ length block.entries)) → 1 ≤ length order → length order ≤ BLOCK_LIMIT → Passed t (instruction_lines block block.label order ++ text) again →
+        Again block order t text again
+    by_order [] numbers some few passed = absurd (omega (arith, some))
+    by_order (k ∷ ks) numbers some few passed =
+        let s : State = record t { count = passed.count; after = passed.after } in
+        let begins = begun-new block.label s new in
+        block-fed block (k ∷ ks) block.label t s text again refl
+        (feed block k ks block.label s text again is (λ m among. let number = numbers m among in sound-at block m sound number.0 number.1) (omega (arith, few, ap (λ (es : List Entry). length es) begins.0)) passed.read)
+        begins

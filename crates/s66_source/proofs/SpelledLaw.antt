@@ -1,0 +1,121 @@
+-- Each instruction of an accepted source is spelled by its text.
+use Rattle.std.proofs.Common.{◌≡◌, ◌≤◌, ◌<◌, ℕ, zero, suc, Bool, true, false, if◌then◌else◌, List, [], ◌∷◌, Option, None, Some, length, map, nat_lt, refl, sym, ap, ◌∙◌, subst, inl, inr, arith}
+use Rattle.std.specs.Prelude.{Ok, slice_get}
+use Rattle.std.proofs.lemmas.Bool.{ltb-false}
+use Rattle.std.proofs.lemmas.List.{length-map}
+use Rattle.s66_isa.specs.Lists.{Among, every}
+use Rattle.s66_isa.specs.Table.{instr_at}
+use Rattle.s66_isa.proofs.Lists.{among-front, among-rest}
+use Rattle.s66_line.specs.Fields.{is_return, lines_of, trim, body}
+use Rattle.s66_line.specs.InstructionText.{IsTextOf}
+use Rattle.s66_source.specs.Source.{Line, classed_lines, operand_refusal, refusal, instructions, parts_of, entry_of, block_of, blocks_of, source_of}
+use Rattle.s66_line.specs.Block.{Entry, Block, instrs_of, text_of}
+use Rattle.s66_source.specs.BlockParts.{all_of}
+use Rattle.s66_isa.specs.declared.limits.TheConstants.{BLOCK_LIMIT}
+use Rattle.s66_line.specs.declared.limits.TheConstants.{LINE_BYTES_LIMIT, TEXT_LIMIT}
+use Rattle.s66_source.specs.declared.limits.TheConstants.{SOURCE_LINES_LIMIT}
+use Rattle.s66_source.specs.declared.error.SourceError.{SourceError}
+use Rattle.s66_source.specs.declared.error.SourceError.TheVariants.{LineTooLong, TooLarge}
+use Rattle.s66_line.proofs.BlockEntries.{instr_at-entry}
+use Rattle.s66_line.proofs.InstructionTexts.{text-of_bytes}
+use Rattle.s66_line.proofs.LineFields.{from_operation_within}
+use Rattle.s66_source.proofs.LineLaw.{no_refusal, none-at}
+use Rattle.s66_source.proofs.PartsLaw.{parts}
+use Rattle.s66_source.proofs.PrintedLines.{of-instructions, accepted-is}
+use Rattle.s66_source.proofs.ReadAgain.{sound-instructions}
+use Rattle.s66_source.proofs.ReadBlock.{IsSound, AreSound, bytes_of-entry}
+use Rattle.s66_line.proofs.Wholes.{AreLines-lines_of}
+
+-- THE LINES OF A BLOCK
+
+among-map : {X Y : Type 0} (f : X → Y) (y : Y) (xs : List X) → Among y (map f xs) → (x : X) × Among x xs × (y ≡ f x)
+among-map f y [] among = absurd among
+among-map f y (x ∷ xs) (inl same) = (x, inl refl, same)
+among-map f y (x ∷ xs) (inr among) = let there = among-map f y xs among in (there.0, inr there.1, there.2)
+
+among-part : (l : Line) (part : List Line) (parts : List (List Line)) → Among l part → Among part parts → Among l (all_of parts)
+among-part l part [] in_part among = absurd among
+among-part l part (p ∷ parts) in_part (inl same) = among-front l p (all_of parts) (subst (Among l) same in_part)
+among-part l part (p ∷ parts) in_part (inr among) = among-rest l p (all_of parts) (among-part l part parts in_part among)
+
+-- the line of a number
+numbered : (part : List Line) (n : ℕ) → n < length part → (l : Line) × Among l part × (slice_get (map entry_of part) n ≡ Some (entry_of l))
+numbered [] n few = absurd (omega (arith, few))
+numbered (l ∷ part) zero few = (l, inl refl, refl)
+numbered (l ∷ part) (suc n) few = let there = numbered part n (omega (arith, few)) in (there.0, inr there.1, there.2)
+
+-- THE BYTES OF AN ENTRY
+
+sound-entry : (lines : List Line) (l : Line) → AreSound (map entry_of lines) → Among l lines → IsSound (entry_of l)
+sound-entry [] l sound among = absurd among
+sound-entry (m ∷ lines) l sound (inl same) = subst (λ line. IsSound (entry_of line)) (sym same) sound.0
+sound-entry (m ∷ lines) l sound (inr among) = sound-entry lines l sound.1 among
+
+not-long : (long many : Bool) (e f : SourceError) (o : Option SourceError) → (if long then Some e else (if many then Some f else o)) ≡ None → long ≡ false
+not-long true many e f o h = cc
+not-long false many e f o h = refl
+
+few-bytes : (lines : List Line) (l : Line) → refusal lines ≡ None → Among l lines → length l.bytes ≤ LINE_BYTES_LIMIT
+few-bytes lines l taken among =
+    ltb-false LINE_BYTES_LIMIT (length l.bytes)
+    (not-long (nat_lt LINE_BYTES_LIMIT (length l.bytes)) (nat_lt SOURCE_LINES_LIMIT l.number) (LineTooLong l.number) TooLarge (operand_refusal l.number l.class) (none-at lines l taken among))
+
+trim-length : (test : ℕ → Bool) (bytes : List ℕ) → length (trim test bytes) ≤ length bytes
+trim-length test [] = omega arith
+trim-length test (b ∷ bytes) =
+    elim (every test (b ∷ bytes)) as (λ t. length (if t then [] else b ∷ trim test bytes) ≤ suc (length bytes))
+    [ true ↦ omega arith | false ↦ (let h = trim-length test bytes in omega (arith, h)) ]
+
+-- the operation begins after column 1
+few-entry : (l : Line) → length l.bytes ≤ LINE_BYTES_LIMIT → length (entry_of l).bytes ≤ TEXT_LIMIT
+few-entry l few =
+    let trimmed = trim-length is_return l.bytes in
+    let within = from_operation_within (body l.bytes) in
+    omega (arith, few, trimmed, within)
+
+-- AN INSTRUCTION OF A BLOCK
+
+spelled-by : (block : Block) (n : ℕ) (l : Line) → slice_get block.entries n ≡ Some (entry_of l) → IsSound (entry_of l) → length l.bytes ≤ LINE_BYTES_LIMIT → IsTextOf (text_of block (suc n)) (instr_at (instrs_of block) (suc n))
+spelled-by block n l here sound few =
+    let e : Entry = entry_of l in
+    rw (bytes_of-entry block (suc n) e here, ← instr_at-entry block (suc n) e here) (text-of_bytes e.bytes e.instr sound.0 (few-entry l few))
+
+-- OF A SOURCE
+
+-- a block is made of a part
+part-of : (text : List ℕ) (blocks : List Block) (block : Block) → source_of text ≡ Ok blocks → Among block blocks →
+    (part : List Line) × Among part (parts_of (instructions (classed_lines text))) × (block ≡ block_of part)
+part-of text blocks block accepted among =
+    among-map block_of block (parts_of (instructions (classed_lines text))) (subst (Among block) (sym (accepted-is text blocks accepted)) among)
+
+count-instrs : (part : List Line) (block : Block) → block ≡ block_of part → length (instrs_of block) ≡ length part
+count-instrs part block made =
+    length-map block.entries (λ (e : Entry). e.instr) ∙ ap (λ (b : Block). length b.entries) made ∙ length-map part entry_of
+
+sizes : (text : List ℕ) (blocks : List Block) (block : Block) → source_of text ≡ Ok blocks → Among block blocks →
+    (1 ≤ length (instrs_of block)) × (length (instrs_of block) ≤ BLOCK_LIMIT)
+sizes text blocks block accepted among =
+    let made = part-of text blocks block accepted among in
+    let cut = (parts text).sizes made.0 made.1 in
+    let count = count-instrs made.0 block made.2 in
+    (omega (arith, cut.0, count), omega (arith, cut.1, count))
+
+pub some : (text : List ℕ) (blocks : List Block) (block : Block) → source_of text ≡ Ok blocks → Among block blocks → 1 ≤ length (instrs_of block)
+some text blocks block accepted among = (sizes text blocks block accepted among).0
+
+pub few : (text : List ℕ) (blocks : List Block) (block : Block) → source_of text ≡ Ok blocks → Among block blocks → length (instrs_of block) ≤ BLOCK_LIMIT
+few text blocks block accepted among = (sizes text blocks block accepted among).1
+
+pub spelled : (text : List ℕ) (blocks : List Block) (block : Block) → source_of text ≡ Ok blocks → Among block blocks →
+    (n : ℕ) → 1 ≤ n → n ≤ length (instrs_of block) → IsTextOf (text_of block n) (instr_at (instrs_of block) n)
+spelled text blocks block accepted among zero first last = absurd (omega (arith, first))
+spelled text blocks block accepted among (suc n) first last =
+    let lines : List Line = classed_lines text in
+    let made = part-of text blocks block accepted among in
+    let count = count-instrs made.0 block made.2 in
+    let there = numbered made.0 n (omega (arith, last, count)) in
+    let in_parts = among-part there.0 made.0 (parts_of (instructions lines)) there.1 made.1 in
+    let in_source : Among there.0 (instructions lines) = subst (Among there.0) (parts text).whole in_parts in
+    let sound = sound-instructions (lines_of text) 1 0 0 [] false (AreLines-lines_of text).no_newline in
+    spelled-by block n there.0 (ap (λ (b : Block). slice_get b.entries n) made.2 ∙ there.2) (sound-entry (instructions lines) there.0 sound in_source)
+    (few-bytes lines there.0 (no_refusal (refusal lines) (blocks_of lines) blocks accepted) (of-instructions lines there.0 in_source).0)

@@ -1,0 +1,5 @@
+use Rattle.s66_source.proofs.ReadAgain.{read-again}
+use Rattle.s66_source.proofs.laws.read_again_law.Goals as goal
+
+pub returns : goal.returns
+returns c = read-again

@@ -1,0 +1,12 @@
+use Rattle.std.proofs.Common.{◌∙◌, arith}
+use Rattle.s66_source.proofs.PrintedLines.{print-source, few-lines}
+use Rattle.s66_source.proofs.printer.print_source.Goals as goal
+
+pub print_all-requires-clause-lines : goal.print_all-requires-clause-lines
+print_all-requires-clause-lines c =
+    rw c.text.ensures (let few = few-lines c.args.source.now c.blocks-2.result.now c.blocks-2.ensures in omega (arith, few))
+
+pub returns : goal.returns
+returns c =
+    c.in_ok-print_all.ensures.text
+    ∙ rw (c.new-out.ensures.items, c.dropped.ensures, c.text.ensures) (print-source c.args.source.now c.blocks-2.result.now c.args.placed.now c.blocks-2.ensures c.requires)

@@ -1,0 +1,12 @@
+pub mod Source
+pub mod BlockParts
+pub mod Roles
+pub mod Printed
+pub mod ReadAgain
+pub mod Gives
+pub mod Pads
+pub mod Printer
+pub mod Reader
+pub mod SourceReader
+pub mod Refusals
+pub mod UpperRead

@@ -1,0 +1,44 @@
+-- Used by contracts within the crate alone: the pads of a source read line by line, those that are left out and those of which it is still open.
+use Rattle.std.specs.Prelude.{ℕ, suc, Bool, true, false, if◌then◌else◌, List, [], ◌∷◌, ◌++◌}
+use Rattle.s66_line.specs.Class.{class_of, is_code}
+use Rattle.s66_line.specs.declared.class.Class.{Class}
+use Rattle.s66_line.specs.declared.class.Class.TheVariants.{Comment, Other, Refused, Pad, Instruction}
+
+pub record Pads : Type 0 where
+  -- the lines of the pads of runs with an instruction
+  pub dropped : List ℕ
+  -- the lines of the pads of the open run, while it has no instruction
+  pub undecided : List ℕ
+  -- the open run has an instruction
+  pub has_instruction : Bool
+
+abbrev pub no_pads : Pads
+no_pads = record { dropped = []; undecided = []; has_instruction = false }
+
+abbrev pub put_pad : ℕ → Pads → Pads
+put_pad line pads =
+    if pads.has_instruction then record pads { dropped = pads.dropped ++ line ∷ [] } else (record pads { undecided = pads.undecided ++ line ∷ [] })
+
+-- the open run has an instruction
+abbrev pub settle : Pads → Pads
+settle pads = record { dropped = pads.dropped ++ pads.undecided; undecided = []; has_instruction = true }
+
+abbrev pub end_run : Pads → Pads
+end_run pads = record { dropped = pads.dropped; undecided = []; has_instruction = false }
+
+abbrev pub end_run_if : Bool → Pads → Pads
+end_run_if located pads = if located then end_run pads else pads
+
+-- the line of this number is of this class
+abbrev pub pads_by_class : Class → ℕ → Pads → Pads
+pads_by_class Comment line pads = pads
+pads_by_class Other line pads = end_run pads
+pads_by_class Refused line pads = pads
+pads_by_class (Pad located) line pads = put_pad line (end_run_if located pads)
+pads_by_class (Instruction located n) line pads = settle (end_run_if located pads)
+
+-- after count lines, of which the last is code or not
+abbrev pub pads_of_lines : ℕ → Bool → Pads → List (List ℕ) → Pads
+pads_of_lines count after pads [] = pads
+pads_of_lines count after pads (line ∷ lines) =
+    pads_of_lines (suc count) (is_code (class_of after line)) (pads_by_class (class_of after line) (suc count) pads) lines

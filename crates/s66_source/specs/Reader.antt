@@ -1,0 +1,85 @@
+-- Used by contracts within the crate alone: a source read line by line: the blocks so far, and the instructions of the open one.
+use Rattle.std.specs.Prelude.{◌≡◌, ◌==◌, if◌then◌else◌, ℕ, suc, Bool, true, false, List, [], ◌∷◌, ◌++◌, Result, Ok, Err, nat_lt, nat_le, length}
+use Rattle.s66_isa.specs.declared.instr.Instr.{Instr}
+use Rattle.s66_line.specs.Fields.{body, from_operation, label_bytes}
+use Rattle.s66_line.specs.InstructionText.{Spells}
+use Rattle.s66_line.specs.Block.{Block, Entry}
+use Rattle.s66_line.specs.Class.{class_of}
+use Rattle.s66_line.specs.declared.class.Class.{Class}
+use Rattle.s66_line.specs.declared.class.Class.TheVariants.{Comment, Other, Refused, Pad, Instruction}
+use Rattle.s66_isa.specs.declared.limits.TheConstants.{BLOCK_LIMIT}
+use Rattle.s66_line.specs.declared.limits.TheConstants.{LINE_BYTES_LIMIT}
+use Rattle.s66_source.specs.declared.limits.TheConstants.{SOURCE_LINES_LIMIT}
+use Rattle.s66_source.specs.declared.error.SourceError.{SourceError}
+use Rattle.s66_source.specs.declared.error.SourceError.TheVariants.{BadOperand, LineTooLong, TooLarge, OutOfMemory}
+
+pub record State : Type 0 where
+  pub blocks : List Block
+  -- the label of the run until its first block is ended; none from then on
+  pub label : List ℕ
+  -- the instructions of the block that is not ended, fewer than BLOCK_LIMIT
+  pub entries : List Entry
+  -- how many lines were read
+  pub count : ℕ
+  -- the last of them is an Instruction or a Pad
+  pub after : Bool
+
+abbrev pub start : State
+start = record { blocks = []; label = []; entries = []; count = 0; after = false }
+
+-- the blocks, and then the open one if it has an instruction
+abbrev pub with_open : List Block → List ℕ → List Entry → List Block
+with_open blocks label [] = blocks
+with_open blocks label (e ∷ es) = blocks ++ record { label = label; entries = e ∷ es } ∷ []
+
+abbrev pub end_block : State → State
+end_block s = record s { blocks = with_open s.blocks s.label s.entries; label = []; entries = [] }
+
+-- the open block ends, and a run with this label begins
+abbrev pub begin_run : List ℕ → State → State
+begin_run label s = record (end_block s) { label = label }
+
+abbrev pub begin_run_if : Bool → List ℕ → State → State
+begin_run_if located label s = if located then begin_run label s else s
+
+-- it ends if it is full, too
+abbrev pub end_block_if_full : State → State
+end_block_if_full s = if length s.entries == BLOCK_LIMIT then end_block s else s
+
+abbrev pub with_entry : Instr → List ℕ → State → State
+with_entry n bytes s =
+    end_block_if_full (record s { entries = s.entries ++ record { instr = n; line = suc s.count; bytes = bytes } ∷ [] })
+
+abbrev pub count_line : Bool → State → State
+count_line after s = record s { count = suc s.count; after = after }
+
+-- the next line is of this class, with its label and its bytes from the operation on
+abbrev pub by_class : State → Class → List ℕ → List ℕ → Result State SourceError
+by_class s Comment label bytes = Ok (count_line false s)
+by_class s Other label bytes = Ok (count_line false (end_block s))
+by_class s Refused label bytes = Err (BadOperand (suc s.count))
+by_class s (Pad located) label bytes = Ok (count_line true (begin_run_if located label s))
+by_class s (Instruction located n) label bytes = Ok (count_line true (with_entry n bytes (begin_run_if located label s)))
+
+abbrev pub line_step : State → List ℕ → Result State SourceError
+line_step s line =
+    if nat_lt LINE_BYTES_LIMIT (length line) then Err (LineTooLong (suc s.count))
+    else (if nat_le SOURCE_LINES_LIMIT s.count then Err TooLarge else by_class s (class_of s.after line) (label_bytes (body line)) (from_operation (body line)))
+
+abbrev pub and_then : {A B : Type 0} → Result A SourceError → (A → Result B SourceError) → Result B SourceError
+and_then (Ok x) next = next x
+and_then (Err e) next = Err e
+
+abbrev pub lines_step : State → List (List ℕ) → Result State SourceError
+lines_step s [] = Ok s
+lines_step s (line ∷ lines) = and_then (line_step s line) (λ t. lines_step t lines)
+
+-- the blocks of all lines
+abbrev pub read_from : State → List (List ℕ) → Result (List Block) SourceError
+read_from s lines = and_then (lines_step s lines) (λ t. Ok (with_open t.blocks t.label t.entries))
+
+-- what changed is what the step makes, and a refusal is its refusal, unless memory was refused
+abbrev pub Steps : State → Result (Unit {0}) SourceError → Result State SourceError → Type 0
+Steps new (Ok u) made = made ≡ Ok new
+Steps new (Err OutOfMemory) made = Unit {0}
+Steps new (Err e) made = made ≡ Err e

@@ -1,0 +1,132 @@
+ghost use Rattle.std.specs.Prelude.{ℕ, ◌≡◌, ◌≤◌, ◌++◌, codes, decimal, length, OnOk};
+ghost use Rattle.s66_isa.specs.Lists.{Among};
+ghost use Rattle.s66_line.specs.Fields.{body, trim};
+ghost use Rattle.s66_source.specs.Printed.{is_trailing, bound_text, splits_line, times_text, report, label_field, instruction_line, instruction_lines};
+ghost use Rattle.s66_isa.specs.declared.limits.TheConstants.{BLOCK_LIMIT};
+
+use crate::placed::Placed;
+use s66_device::push_field;
+use s66_line::{Block, body_of};
+use std::alloc::AllocError;
+
+/// The bytes before the operation of an instruction that is printed.
+const LABEL_WIDTH: usize = 10;
+
+/// That this order is best, or what every order takes at least.
+fn push_bound(out: &mut Vec<u8>, placed: &Placed) -> Result<(), AllocError>
+    ensures { OnOk result (out.new.items ≡ out.old.items ++ bound_text placed.now) }
+{
+    if placed.bound == placed.time {
+        return out.extend_from_slice(b" BEST\n");
+    }
+    push_field(out, b" AT LEAST ", placed.bound as usize)?;
+    out.extend_from_slice(b"\n")
+}
+
+fn push_splits(out: &mut Vec<u8>, splits: Option<u32>) -> Result<(), AllocError>
+    ensures { OnOk result (out.new.items ≡ out.old.items ++ splits_line splits) }
+{
+    match splits {
+        None => Ok(()),
+        Some(splits) => {
+            push_field(out, b"* SPLITS ", splits as usize)?;
+            out.extend_from_slice(b"\n")
+        }
+    }
+}
+
+/// How the report of a block begins, whose number is from 1, with `count` instructions: how long it takes as it was read and as
+/// it is printed, in minor cycles.
+fn push_times(
+    out: &mut Vec<u8>,
+    number: u32,
+    count: usize,
+    source: u32,
+    time: u32,
+) -> Result<(), AllocError>
+    requires { count ≤ BLOCK_LIMIT }
+    ensures { OnOk result (out.new.items ≡ out.old.items ++ times_text number count source time) }
+{
+    push_field(out, b"* BLOCK ", number as usize)?;
+    push_field(out, b" COUNT ", count)?;
+    push_field(out, b" SOURCE ", source as usize)?;
+    push_field(out, b" TIME ", time as usize)
+}
+
+/// The report of a block, whose number is from 1, with `count` instructions.
+pub(crate) fn push_report(
+    out: &mut Vec<u8>,
+    number: u32,
+    count: usize,
+    placed: &Placed,
+) -> Result<(), AllocError>
+    requires { count ≤ BLOCK_LIMIT }
+    ensures { OnOk result (out.new.items ≡ out.old.items ++ report number count placed.now) }
+{
+    push_times(out, number, count, placed.source, placed.time)?;
+    push_bound(out, placed)?;
+    push_splits(out, placed.splits)
+}
+
+/// A label filled with blanks to `LABEL_WIDTH` bytes, or followed by one blank if it has as many or more.
+fn push_label(out: &mut Vec<u8>, label: &[u8]) -> Result<(), AllocError>
+    ensures { OnOk result (out.new.items ≡ out.old.items ++ label_field label.now) }
+{
+    out.extend_from_slice(label)?;
+    if label.len() < LABEL_WIDTH {
+        out.extend_from_slice(&[b' '; LABEL_WIDTH][label.len()..])
+    } else {
+        out.extend_from_slice(b" ")
+    }
+}
+
+fn is_trailing_byte(byte: u8) -> bool
+    ensures { result ≡ is_trailing byte }
+{
+    byte == b' ' || byte == b'\t' || byte == b'\r'
+}
+
+/// The bytes without the blanks and carriage returns at their end.
+fn without_trailing(bytes: &[u8]) -> &[u8]
+    ensures { result.now ≡ trim is_trailing bytes.now }
+{
+    let mut end = bytes.len();
+    while end > 0 && is_trailing_byte(bytes[end - 1]) {
+        end -= 1;
+    }
+    &bytes[..end]
+}
+
+/// The line of an instruction after a label, by its bytes from the operation on.
+fn push_instruction(out: &mut Vec<u8>, label: &[u8], bytes: &[u8]) -> Result<(), AllocError>
+    ensures { OnOk result (out.new.items ≡ out.old.items ++ instruction_line label.now bytes.now) }
+{
+    push_label(out, label)?;
+    out.extend_from_slice(without_trailing(bytes))?;
+    out.extend_from_slice(b"\n")
+}
+
+/// The lines of the instructions of these numbers, the first with the label of the block.
+pub(crate) fn push_instructions(
+    out: &mut Vec<u8>,
+    block: &Block,
+    order: &[u8],
+) -> Result<(), AllocError>
+    requires { (n : ℕ) → Among n order.now → (1 ≤ n) × (n ≤ length block.now.entries) }
+    ensures { OnOk result (out.new.items ≡ out.old.items ++ instruction_lines block.now block.now.label order.now) }
+{
+    let mut label = block.label();
+    for number in order {
+        push_instruction(out, label, block.bytes(*number as usize))?;
+        label = &[];
+    }
+    Ok(())
+}
+
+/// A line as it was read, without the carriage returns at its end.
+pub(crate) fn push_copied(out: &mut Vec<u8>, line: &[u8]) -> Result<(), AllocError>
+    ensures { OnOk result (out.new.items ≡ out.old.items ++ body line.now ++ codes "\n") }
+{
+    out.extend_from_slice(body_of(line))?;
+    out.extend_from_slice(b"\n")
+}

@@ -1,0 +1,112 @@
+ghost use Rattle.std.specs.Prelude.{◌≡◌, ◌≤◌, ℕ, List, ◌∷◌, ◌++◌, Some, None, Ok, Bool, true, map, length, codes, [], not};
+ghost use Rattle.s66_isa.specs.Table.{instr, instr_at};
+ghost use Rattle.s66_isa.specs.Lists.{Among, tally, every};
+ghost use Rattle.s66_line.specs.Fields.{is_newline, upper, body, lines_of};
+ghost use Rattle.s66_line.specs.InstructionText.{IsTextOf};
+ghost use Rattle.s66_source.specs.UpperRead.{upper_read};
+ghost use Rattle.s66_source.specs.Source.{Line, classed_lines, instructions, parts_of, blocks_of, source_of};
+ghost use Rattle.s66_line.specs.Block.{Block, instrs_of, text_of, constants_in};
+ghost use Rattle.s66_line.specs.Class.{class_of, is_instruction};
+ghost use Rattle.s66_isa.specs.declared.limits.TheConstants.{BLOCK_LIMIT};
+ghost use Rattle.s66_source.specs.BlockParts.{AreParts};
+ghost use Rattle.s66_source.specs.Printed.{Placed, ArePlaced, label_field, printed};
+ghost use Rattle.s66_source.specs.ReadAgain.{AreComplete, ArePlacedAgain};
+ghost use Rattle.s66_source.specs.Roles.{is_note, is_note_of, is_dropped, is_copied, roles, lines_that, mixed_source, outside_source};
+
+/// Lower case reads as upper case. Texts that differ only in the case of letters have the same blocks but for the case of letters
+/// in what is stored of their lines, or the same refusal.
+pub fn case_law()
+    ensures { (text other : List ℕ) → upper text ≡ upper other → upper_read (source_of text) ≡ upper_read (source_of other) }
+{}
+
+/// The blocks of a source are its instruction lines, cut into runs, and these into blocks of `BLOCK_LIMIT` lines and what is left.
+pub fn parts_law()
+    ensures { (text : List ℕ) → AreParts (classed_lines text) (parts_of (instructions (classed_lines text))) }
+{}
+
+/// Each block of an accepted source has 1 to `BLOCK_LIMIT` instructions, each of which its text spells.
+pub fn spelled_law()
+    ensures some { (text : List ℕ) (blocks : List Block) (block : Block) → source_of text ≡ Ok blocks → Among block blocks → 1 ≤ length (instrs_of block) }
+    ensures few { (text : List ℕ) (blocks : List Block) (block : Block) → source_of text ≡ Ok blocks → Among block blocks → length (instrs_of block) ≤ BLOCK_LIMIT }
+    ensures spelled { (text : List ℕ) (blocks : List Block) (block : Block) → source_of text ≡ Ok blocks → Among block blocks → (n : ℕ) → 1 ≤ n → n ≤ length (instrs_of block) → IsTextOf (text_of block n) (instr_at (instrs_of block) n) }
+{}
+
+/// Each line of an accepted source is exactly one of these: an instruction, a note, a `NO` that is left out, or copied. A note is
+/// one of exactly one block.
+pub fn line_law()
+    ensures one { (text : List ℕ) (blocks : List Block) (line : Line) → source_of text ≡ Ok blocks → Among line (classed_lines text) → tally (λ is. is) (roles (classed_lines text) line) ≡ 1 }
+    ensures note { (text : List ℕ) (line : Line) → Among line (classed_lines text) → is_note (classed_lines text) line ≡ true → tally (is_note_of line) (blocks_of (classed_lines text)) ≡ 1 }
+{}
+
+/// A line that is printed in its place is cut out again at its newline, and is of the same class as before, after code or not.
+pub fn copied_law()
+    ensures cut { (line text : List ℕ) → every (λ b. not (is_newline b)) line ≡ true → lines_of (line ++ codes "\n" ++ text) ≡ line ∷ lines_of text }
+    ensures class { (after : Bool) (line : List ℕ) → class_of after (body line) ≡ class_of after line }
+{}
+
+/// If a printed source is accepted when it is read again, its blocks are those of the source, each in its placed order. It is
+/// refused if a line or the source has grown too long.
+pub fn read_again_law()
+    ensures { (text : List ℕ) (blocks again : List Block) (ps : List Placed) → source_of text ≡ Ok blocks → ArePlaced blocks ps → AreComplete blocks ps → source_of (printed text ps) ≡ Ok again → ArePlacedAgain blocks ps again }
+{}
+
+/// What becomes of the lines of a small source, and of comments and a `NO` outside of blocks.
+pub fn line_examples()
+    ensures instructions { lines_that (λ lines line. is_instruction line.class) mixed_source ≡ 2 ∷ 5 ∷ 6 ∷ 8 ∷ [] }
+    ensures notes { lines_that is_note mixed_source ≡ 4 ∷ [] }
+    ensures dropped { lines_that is_dropped mixed_source ≡ 3 ∷ [] }
+    ensures copied { lines_that is_copied mixed_source ≡ 1 ∷ 7 ∷ 9 ∷ [] }
+    ensures dropped_outside { lines_that is_dropped outside_source ≡ 4 ∷ 7 ∷ [] }
+    ensures copied_outside { lines_that is_copied outside_source ≡ 1 ∷ 2 ∷ 3 ∷ 5 ∷ 8 ∷ [] }
+{}
+
+/// The texts of the constants in the instructions of a block.
+pub fn block_examples()
+    ensures { map (λ block. map (constants_in block) (1 ∷ 2 ∷ 3 ∷ [])) (blocks_of (classed_lines (codes "  SA1 A1+n\n  BX6 X1\n  LX6 6\n"))) ≡ (codes "+N" ∷ [] ∷ codes "6" ∷ []) ∷ [] }
+{}
+
+/// Sources printed: one with lines of each sort; one with comments and `NO`s around a block; one with a label on a `NO`; and one
+/// with two instructions exchanged, a label in column 2, a tab, carriage returns, and a bound alone.
+#[tactic(auto, unfolding(crate::specs::Printed::digits))]
+pub fn printed_examples()
+    ensures mixed { printed mixed_source (record { order = 1 ∷ 2 ∷ []; source = 12; time = 12; bound = 12; splits = None } ∷ record { order = 1 ∷ []; source = 4; time = 4; bound = 4; splits = None } ∷ record { order = 1 ∷ []; source = 4; time = 4; bound = 4; splits = None } ∷ []) ≡
+        codes "* TEST\n" ++
+        codes "* BLOCK 1 COUNT 2 SOURCE 12 TIME 12 BEST\n" ++
+        codes "* NOTE\n" ++
+        codes "LOOP      SA1 A1+1     LOAD\n" ++
+        codes "          BX6 X1\n" ++
+        codes "* BLOCK 2 COUNT 1 SOURCE 4 TIME 4 BEST\n" ++
+        codes "+         SA6 A6+B1    STORE\n" ++
+        codes "          ZR X1,LOOP\n" ++
+        codes "* BLOCK 3 COUNT 1 SOURCE 4 TIME 4 BEST\n" ++
+        codes "          BX1 X2\n" ++
+        codes "          VFD 60/0\n" }
+    ensures outside { printed outside_source (record { order = 1 ∷ []; source = 4; time = 4; bound = 4; splits = None } ∷ []) ≡
+        codes "* BEFORE\n" ++
+        codes "  NO\n" ++
+        codes "  ZR X1,L\n" ++
+        codes "* BETWEEN\n" ++
+        codes "* BLOCK 1 COUNT 1 SOURCE 4 TIME 4 BEST\n" ++
+        codes "          BX1 X2\n" ++
+        codes "* AFTER\n" }
+    ensures label_on_a_pad { printed (codes "LOOP NO  WAIT\n* LOADED\n  BX1 X2\n") (record { order = 1 ∷ []; source = 4; time = 4; bound = 4; splits = None } ∷ []) ≡
+        codes "* LOADED\n" ++
+        codes "* BLOCK 1 COUNT 1 SOURCE 4 TIME 4 BEST\n" ++
+        codes "LOOP      BX1 X2\n" }
+    ensures exchanged { printed (codes " LP       SA1    A1+B1   NEXT WORD\r\n\tBX6 X2 \r\r\n") (record { order = 2 ∷ 1 ∷ []; source = 9; time = 8; bound = 7; splits = Some 3 } ∷ []) ≡
+        codes "* BLOCK 1 COUNT 2 SOURCE 9 TIME 8 AT LEAST 7\n" ++
+        codes "* SPLITS 3\n" ++
+        codes " LP       BX6 X2\n" ++
+        codes "          SA1    A1+B1   NEXT WORD\n" }
+    ensures long_label { label_field (codes " ABCDEFGHI") ≡ codes " ABCDEFGHI " }
+    ensures short_label { label_field (codes "ABCDEFGHI") ≡ codes "ABCDEFGHI " }
+{}
+
+/// A source printed with the instructions of its first block exchanged, and read again. The label of a `NO` that was left out is
+/// that of the block, and the bytes are those of the lines, with their remarks, but for what ends them.
+#[tactic(auto, unfolding(crate::specs::Printed::digits))]
+pub fn read_again_examples()
+    ensures { source_of (printed (codes " LP NO\n  SA1 A1+B1  NEXT\r\n* NOTE\n  bx6 x2 \r\r\n  ZR X1,LP\n\tFX0 X1*X2\n") (record { order = 2 ∷ 1 ∷ []; source = 9; time = 8; bound = 7; splits = Some 3 } ∷ record { order = 1 ∷ []; source = 4; time = 4; bound = 4; splits = None } ∷ [])) ≡
+        Ok (record { label = codes " LP"; entries = record { instr = instr 0o10 6 2 0; line = 4; bytes = codes "bx6 x2" } ∷ record { instr = instr 0o54 1 1 1; line = 5; bytes = codes "SA1 A1+B1  NEXT" } ∷ [] }
+        ∷ record { label = []; entries = record { instr = instr 0o40 0 1 2; line = 8; bytes = codes "FX0 X1*X2" } ∷ [] } ∷ []) }
+{}

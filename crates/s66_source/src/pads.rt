@@ -1,0 +1,81 @@
+use std::alloc::{AllocError, Global};
+use std::marker::Model;
+
+/// The lines of the `NO`s of a source, from 1. Which of them are left out when it is printed is known once their run ends or has
+/// an instruction.
+#[derive(Debug, Drop)]
+pub(crate) struct Pads {
+    /// Those of runs with an instruction, which are left out.
+    dropped: Vec<u32>,
+    /// Those of the open run, while it has no instruction.
+    undecided: Vec<u32>,
+    /// Whether the open run has an instruction.
+    has_instruction: bool,
+}
+
+impl Model for Pads {
+    ghost use Rattle.s66_source.specs.Pads.{Pads};
+
+    ghost Value = { Pads };
+
+    ghost view = { λ p. record { dropped = p.dropped.items; undecided = p.undecided.items; has_instruction = p.has_instruction } };
+}
+
+impl Pads {
+    ghost use Rattle.std.specs.Prelude.{◌≡◌, OnOk};
+    ghost use Rattle.s66_source.specs.Pads.{no_pads, put_pad, settle, end_run};
+
+    pub(crate) fn new(alloc: Global) -> Pads
+        ensures { result ≡ no_pads }
+    {
+        Pads {
+            dropped: Vec::new(alloc),
+            undecided: Vec::new(alloc),
+            has_instruction: false,
+        }
+    }
+
+    /// The lines of those that are left out, in order.
+    pub(crate) fn into_dropped(self) -> Vec<u32>
+        ensures { result.items ≡ self.dropped }
+    {
+        let Pads {
+            dropped,
+            undecided: _,
+            has_instruction: _,
+        } = self;
+        dropped
+    }
+
+    /// One of the open run.
+    pub(crate) fn put(&mut self, line: u32) -> Result<(), AllocError>
+        ensures { OnOk result (self.new ≡ put_pad line self.old) }
+    {
+        if self.has_instruction {
+            self.dropped.push(line)?;
+        } else {
+            self.undecided.push(line)?;
+        }
+        Ok(())
+    }
+
+    /// The open run has an instruction.
+    pub(crate) fn settle(&mut self) -> Result<(), AllocError>
+        ensures { OnOk result (self.new ≡ settle self.old) }
+    {
+        if !self.undecided.is_empty() {
+            self.dropped.extend_from_slice(self.undecided.as_slice())?;
+            self.undecided.clear();
+        }
+        self.has_instruction = true;
+        Ok(())
+    }
+
+    /// The open run ends.
+    pub(crate) fn end_run(&mut self)
+        ensures { self.new ≡ end_run self.old }
+    {
+        self.undecided.clear();
+        self.has_instruction = false;
+    }
+}

@@ -1,0 +1,24 @@
+use std::marker::Model;
+
+/// How a block is to be printed, and what is reported of it; times are in minor cycles of 100 ns.
+#[derive(Debug, Drop)]
+pub struct Placed<'a> {
+    /// The numbers of its instructions, from 1, in the order in which they are printed.
+    pub order: &'a [u8],
+    /// The time of the source order.
+    pub source: u32,
+    /// The time of this order.
+    pub time: u32,
+    /// What every order takes at least: if it is `time`, this order is best.
+    pub bound: u32,
+    /// How many splits the search took, if that is to be printed.
+    pub splits: Option<u32>,
+}
+
+impl<'a> Model for Placed<'a> {
+    ghost use Rattle.s66_source.specs.Printed.{Placed};
+
+    ghost Value = { Placed };
+
+    ghost view = { λ p. record { order = p.order.now; source = p.source; time = p.time; bound = p.bound; splits = p.splits } };
+}

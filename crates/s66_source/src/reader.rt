@@ -1,0 +1,186 @@
+ghost use Rattle.std.specs.Prelude.{◌≡◌, ◌≤◌, ◌<◌, suc, [], length, OnOk};
+ghost use Rattle.s66_line.specs.Fields.{lines_from};
+ghost use Rattle.s66_line.specs.InstructionText.{Spells};
+ghost use Rattle.s66_source.specs.Pads.{settle, pads_by_class, pads_of_lines};
+ghost use Rattle.s66_source.specs.Pads as pads;
+ghost use Rattle.s66_source.specs.Reader.{Steps, end_block, begin_run, with_entry, by_class, line_step, lines_step};
+ghost use Rattle.s66_line.specs.Class.{IsSpelled, class_of, is_code};
+ghost use Rattle.s66_source.specs.SourceReader.{state};
+ghost use Rattle.s66_isa.specs.declared.limits.TheConstants.{BLOCK_LIMIT};
+ghost use Rattle.s66_source.specs.declared.limits.TheConstants.{SOURCE_LINES_LIMIT};
+ghost use Rattle.s66_line.specs.declared.limits.TheConstants.{TEXT_LIMIT};
+
+use crate::error::SourceError;
+use crate::limits::SOURCE_LINES_LIMIT;
+use crate::pads::Pads;
+use memchr::memchr;
+use s66_isa::{BLOCK_LIMIT, Instr};
+use s66_line::{Block, Class, Classified, Entry, LINE_BYTES_LIMIT, classify};
+use std::alloc::{AllocError, Global};
+use std::mem;
+
+/// What was made of the lines of a source so far.
+#[derive(Debug, Drop)]
+pub struct Reader<'a> {
+    pub blocks: Vec<Block<'a>>,
+    /// The label of the run until its first block is ended, empty from then on.
+    pub label: &'a [u8],
+    /// The instructions of the open block, fewer than `BLOCK_LIMIT`.
+    pub entries: Vec<Entry<'a>>,
+    pub pads: Pads,
+    /// How many lines were read.
+    pub lines: u32,
+    /// Whether the last of them is an Instruction or a Pad.
+    pub after_code: bool,
+}
+
+impl<'a> Reader<'a> {
+    /// Ends the open block if it has an instruction.
+    pub(crate) fn end_block(&mut self, alloc: Global) -> Result<(), AllocError>
+        requires { length self.old.entries.items ≤ BLOCK_LIMIT }
+        ensures step { OnOk result (state self.new ≡ end_block (state self.old)) }
+        ensures pads { self.new.pads ≡ self.old.pads }
+    {
+        if !self.entries.is_empty() {
+            let entries = mem::replace(&mut self.entries, Vec::new(alloc));
+            self.blocks.push(Block::new(self.label, entries))?;
+        }
+        self.label = &[];
+        Ok(())
+    }
+
+    /// Ends the open run, and its open block.
+    fn end_run(&mut self, alloc: Global) -> Result<(), AllocError>
+        requires { length self.old.entries.items ≤ BLOCK_LIMIT }
+        ensures step { OnOk result (state self.new ≡ end_block (state self.old)) }
+        ensures pads { OnOk result (self.new.pads ≡ pads.end_run self.old.pads) }
+    {
+        self.pads.end_run();
+        self.end_block(alloc)
+    }
+
+    /// Ends the open run, and begins one with this label.
+    fn begin_run(&mut self, alloc: Global, label: &'a [u8]) -> Result<(), AllocError>
+        requires { length self.old.entries.items ≤ BLOCK_LIMIT }
+        ensures step { OnOk result (state self.new ≡ begin_run label.now (state self.old)) }
+        ensures pads { OnOk result (self.new.pads ≡ pads.end_run self.old.pads) }
+    {
+        self.end_run(alloc)?;
+        self.label = label;
+        Ok(())
+    }
+
+    /// Puts the instruction of the next line into the open block, which ends if it is full.
+    fn put(&mut self, alloc: Global, instr: Instr, bytes: &'a [u8]) -> Result<(), AllocError>
+        requires few { length self.old.entries.items < BLOCK_LIMIT }
+        requires lines { self.old.lines < SOURCE_LINES_LIMIT }
+        requires bytes { length bytes.now ≤ TEXT_LIMIT }
+        requires spelled { Spells bytes.now instr }
+        ensures step { OnOk result (state self.new ≡ with_entry instr bytes.now (state self.old)) }
+        ensures pads { OnOk result (self.new.pads ≡ settle self.old.pads) }
+        ensures few { OnOk result (length self.new.entries.items < BLOCK_LIMIT) }
+    {
+        let line = self.lines + 1;
+        self.pads.settle()?;
+        self.entries.push(Entry { instr, line, bytes })?;
+        if self.entries.len() == BLOCK_LIMIT {
+            self.end_block(alloc)?;
+        }
+        Ok(())
+    }
+
+    /// Reads the next line, which was classified.
+    fn take_classified(&mut self, alloc: Global, line: Classified<'a>) -> Result<(), SourceError>
+        requires few { length self.old.entries.items < BLOCK_LIMIT }
+        requires lines { self.old.lines < SOURCE_LINES_LIMIT }
+        requires bytes { length line.bytes.now ≤ TEXT_LIMIT }
+        requires spelled { IsSpelled line.class line.bytes.now }
+        ensures step { Steps (state self.new) result (by_class (state self.old) line.entry.class line.entry.label.now line.entry.bytes.now) }
+        ensures pads { OnOk result (self.new.pads ≡ pads_by_class line.entry.class (suc self.old.lines) self.old.pads) }
+        ensures count { OnOk result (self.new.lines ≡ suc self.old.lines) }
+        ensures after_code { OnOk result (self.new.after_code ≡ is_code line.entry.class) }
+        ensures few { OnOk result (length self.new.entries.items < BLOCK_LIMIT) }
+        ensures lines { OnOk result (self.new.lines ≤ SOURCE_LINES_LIMIT) }
+    {
+        let mut after_code = false;
+        let class = line.class;
+        match class {
+            Class::Comment => {}
+            Class::Other => self.end_run(alloc)?,
+            Class::Refused => {
+                return Err(SourceError::BadOperand {
+                    line: self.lines + 1,
+                });
+            }
+            Class::Pad { located } => {
+                if located {
+                    self.begin_run(alloc, line.label)?;
+                }
+                self.pads.put(self.lines + 1)?;
+                after_code = true;
+            }
+            Class::Instruction { located, instr } => {
+                if located {
+                    self.begin_run(alloc, line.label)?;
+                }
+                self.put(alloc, instr, line.bytes)?;
+                after_code = true;
+            }
+        }
+        self.lines += 1;
+        self.after_code = after_code;
+        Ok(())
+    }
+
+    /// Reads the next line.
+    fn take_line(&mut self, alloc: Global, line: &'a [u8]) -> Result<(), SourceError>
+        requires few { length self.old.entries.items < BLOCK_LIMIT }
+        requires lines { self.old.lines ≤ SOURCE_LINES_LIMIT }
+        ensures step { Steps (state self.new) result (line_step (state self.old) line.now) }
+        ensures pads { OnOk result (self.new.pads ≡ pads_by_class (class_of self.old.after_code line.now) (suc self.old.lines) self.old.pads) }
+        ensures count { OnOk result (self.new.lines ≡ suc self.old.lines) }
+        ensures after_code { OnOk result (self.new.after_code ≡ is_code (class_of self.old.after_code line.now)) }
+        ensures few { OnOk result (length self.new.entries.items < BLOCK_LIMIT) }
+        ensures lines { OnOk result (self.new.lines ≤ SOURCE_LINES_LIMIT) }
+    {
+        if line.len() > LINE_BYTES_LIMIT {
+            return Err(SourceError::LineTooLong {
+                line: self.lines + 1,
+            });
+        }
+        if self.lines >= SOURCE_LINES_LIMIT {
+            return Err(SourceError::TooLarge);
+        }
+        self.take_classified(alloc, classify(self.after_code, line))
+    }
+
+    /// Reads a last line that lacks its newline, if there is one.
+    fn take_last(&mut self, alloc: Global, line: &'a [u8]) -> Result<(), SourceError>
+        requires few { length self.old.entries.items < BLOCK_LIMIT }
+        requires lines { self.old.lines ≤ SOURCE_LINES_LIMIT }
+        ensures step { Steps (state self.new) result (lines_step (state self.old) (lines_from line.now [])) }
+        ensures pads { OnOk result (self.new.pads ≡ pads_of_lines self.old.lines self.old.after_code self.old.pads (lines_from line.now [])) }
+        ensures few { OnOk result (length self.new.entries.items < BLOCK_LIMIT) }
+    {
+        if line.is_empty() {
+            return Ok(());
+        }
+        self.take_line(alloc, line)
+    }
+
+    /// Reads all lines of a text.
+    pub(crate) fn take_all(&mut self, alloc: Global, text: &'a [u8]) -> Result<(), SourceError>
+        requires few { length self.old.entries.items < BLOCK_LIMIT }
+        requires lines { self.old.lines ≤ SOURCE_LINES_LIMIT }
+        ensures step { Steps (state self.new) result (lines_step (state self.old) (lines_from [] text.now)) }
+        ensures pads { OnOk result (self.new.pads ≡ pads_of_lines self.old.lines self.old.after_code self.old.pads (lines_from [] text.now)) }
+        ensures few { OnOk result (length self.new.entries.items < BLOCK_LIMIT) }
+    {
+        let mut rest = text;
+        while let Some(end) = memchr(b'\n', rest) {
+            self.take_line(alloc, &rest[..end])?;
+            rest = &rest[end + 1..];
+        }
+        self.take_last(alloc, rest)
+    }
+}
