@@ -1,4 +1,5 @@
 pub mod ProfileText
 pub mod Gives
 pub mod Refusals
+pub mod Hint
 pub mod Examples

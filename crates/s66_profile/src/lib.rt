@@ -3,10 +3,12 @@
 
 mod error;
 mod examples;
+mod hint;
 mod profile;
 #[cfg(test)]
 mod tests;
 
 pub use error::ProfileError;
 pub use examples::{profile_examples, refusal_examples};
+pub use hint::profile_hint;
 pub use profile::read_profile;

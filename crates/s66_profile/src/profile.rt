@@ -33,7 +33,7 @@ const NAMES: [&str; PROFILE_LENGTH] = [
 ];
 
 /// The place of the number of this name.
-fn place(name: &str) -> Option<usize>
+pub(crate) fn place(name: &str) -> Option<usize>
     ensures value { result ≡ place_of name.now }
     ensures within { IfSome result (λ at. at < PROFILE_LENGTH) }
 {
@@ -41,7 +41,7 @@ fn place(name: &str) -> Option<usize>
 }
 
 /// The number that a value is, if it may be in a profile.
-fn number(value: &Value) -> Option<u8>
+pub(crate) fn number(value: &Value) -> Option<u8>
     ensures value { result ≡ number_in (view value.now) }
     ensures range { IfSome result (λ n. (1 ≤ n) × (n ≤ PROFILE_LIMIT)) }
 {

@@ -1,0 +1,68 @@
+ghost use Rattle.std.specs.Prelude.{◌≡◌, ◌++◌, IfOk, codes, string_bytes};
+ghost use Rattle.serde_json.specs.View.{members_view};
+ghost use Rattle.s66_profile.specs.Hint.{hint_in_members, hint_in_text, shown};
+
+use crate::profile::{number, place};
+use serde_json::{Map, Value};
+use std::alloc::{AllocError, Global};
+
+/// A key as JSON writes it: in quotes, with each quote, backslash and control character below a space escaped.
+fn shown(alloc: Global, key: &str) -> Result<String, AllocError>
+    ensures { IfOk result (λ text. string_bytes text ≡ shown key.now) }
+{
+    Value::String(String::from_str(alloc, key)?).to_string(alloc)
+}
+
+/// What is wrong with a key that names no number.
+fn no_such_number(alloc: Global, key: &str) -> Result<String, AllocError>
+    ensures { IfOk result (λ hint. string_bytes hint ≡ codes "no number of a profile is called " ++ shown key.now) }
+{
+    let mut hint = String::from_str(alloc, "no number of a profile is called ")?;
+    hint.push_str(shown(alloc, key)?.as_str())?;
+    Ok(hint)
+}
+
+/// What is wrong with the value of a key that names a number.
+fn no_whole_number(alloc: Global, key: &str) -> Result<String, AllocError>
+    ensures { IfOk result (λ hint. string_bytes hint ≡ shown key.now ++ codes " is no whole number 1 to 100") }
+{
+    let mut hint = shown(alloc, key)?;
+    hint.push_str(" is no whole number 1 to 100")?;
+    Ok(hint)
+}
+
+/// What is wrong with the first member that sets no number, in the order of the keys; empty if each sets one.
+fn hint_in(alloc: Global, members: &Map<String, Value>) -> Result<String, AllocError>
+    ensures { IfOk result (λ hint. string_bytes hint ≡ hint_in_members (members_view members.now.entries)) }
+{
+    for (name, value) in members.iter() {
+        if place(name.as_str()).is_none() {
+            return no_such_number(alloc, name.as_str());
+        }
+        if number(value).is_none() {
+            return no_whole_number(alloc, name.as_str());
+        }
+    }
+    Ok(String::new(alloc))
+}
+
+/// Why a text gives no profile, as a line without its newline; empty if it gives one. For after `read_profile` gave `BadProfile`.
+///
+/// # Errors
+///
+/// `AllocError` if a growth was refused.
+pub fn profile_hint(alloc: Global, text: &str) -> Result<String, AllocError>
+    ensures { IfOk result (λ hint. string_bytes hint ≡ hint_in_text text.now) }
+{
+    match Value::from_str(alloc, text) {
+        Ok(value) => match value.as_object() {
+            Some(members) => hint_in(alloc, members),
+            None => String::from_str(alloc, NO_OBJECT),
+        },
+        Err(e) if e.is_memory() => Err(AllocError),
+        Err(_) => String::from_str(alloc, NO_OBJECT),
+    }
+}
+
+/// What is wrong with a text that is no JSON object.
+const NO_OBJECT: &str = "no JSON object";
