@@ -1,8 +1,9 @@
-//! Worked examples of the definition: the numbers of the profile that a text gives, or that it gives none. Each clause is a text, and the
-//! functions do nothing.
+//! Worked examples of the definitions: the numbers of the profile that a text gives, or that it gives none, and why. Each clause is a
+//! text, and the functions do nothing.
 
 ghost use Rattle.std.specs.Prelude.{[], ◌∷◌, ◌≡◌, ◌++◌, Some, None, codes};
 ghost use Rattle.s66_profile.specs.Examples.{standard_but};
+ghost use Rattle.s66_profile.specs.Hint.{hint_in_text};
 ghost use Rattle.s66_profile.specs.ProfileText.{numbers_in_text};
 
 /// Texts that give a profile.
@@ -50,4 +51,24 @@ pub fn refusal_examples()
     ensures more { numbers_in_text (codes "{\"boolean\":5} x") ≡ None }
     ensures two_objects { numbers_in_text (codes "{} {}") ≡ None }
     ensures last_comma { numbers_in_text (codes "{\"boolean\":1,}") ≡ None }
+{}
+
+/// Why texts give no profile.
+#[tactic(auto, unfolding(serde_json::proofs::OnLiterals::serde_json_on_literals))]
+pub fn hint_examples()
+    ensures file_name { hint_in_text (codes "slow.json") ≡ codes "no JSON object" }
+    ensures nothing { hint_in_text [] ≡ codes "no JSON object" }
+    ensures array { hint_in_text (codes "[]") ≡ codes "no JSON object" }
+    ensures other_key { hint_in_text (codes "{\"units_mult\":1}") ≡ codes "no number of a profile is called \"units_mult\"" }
+    ensures zero { hint_in_text (codes "{\"multiply\":0}") ≡ codes "\"multiply\" is no whole number 1 to 100" }
+    ensures above { hint_in_text (codes "{\"multiply\":101}") ≡ codes "\"multiply\" is no whole number 1 to 100" }
+    ensures text { hint_in_text (codes "{\"multiply\":\"5\"}") ≡ codes "\"multiply\" is no whole number 1 to 100" }
+    ensures key_before_value { hint_in_text (codes "{\"branch\":0}") ≡ codes "no number of a profile is called \"branch\"" }
+    ensures first_in_order_of_keys { hint_in_text (codes "{\"units_mult\":1,\"multiply\":0}") ≡ codes "\"multiply\" is no whole number 1 to 100" }
+    ensures after_good_keys { hint_in_text (codes "{\"add\":5,\"multiply\":0,\"load\":2}") ≡ codes "\"multiply\" is no whole number 1 to 100" }
+    ensures last_of_equal_keys { hint_in_text (codes "{\"multiply\":5,\"multiply\":0}") ≡ codes "\"multiply\" is no whole number 1 to 100" }
+    ensures newline { hint_in_text (codes "{\"add\\n\":5}") ≡ codes "no number of a profile is called \"add\\n\"" }
+    ensures escape { hint_in_text (codes "{\"\\u001b[2J\":5}") ≡ codes "no number of a profile is called \"\\u001b[2J\"" }
+    ensures quote { hint_in_text (codes "{\"\\\"\":5}") ≡ codes "no number of a profile is called \"\\\"\"" }
+    ensures profile { hint_in_text (codes "{\"multiply\":5}") ≡ [] }
 {}

@@ -1,12 +1,18 @@
-ghost use Rattle.std.specs.Prelude.{◌≡◌, ◌++◌, IfOk, codes, string_bytes};
+ghost use Rattle.std.specs.Prelude.{[], ◌≡◌, ◌↔◌, ◌++◌, IfOk, IsSome, codes, string_bytes};
 ghost use Rattle.serde_json.specs.View.{members_view};
 ghost use Rattle.s66_profile.specs.Hint.{hint_in_members, hint_in_text, shown};
+ghost use Rattle.s66_profile.specs.ProfileText.{profile_in_text};
 
 use crate::profile::{number, place};
+use s66_isa::PROFILE_LIMIT;
 use serde_json::{Map, Value};
 use std::alloc::{AllocError, Global};
 
-/// A key as JSON writes it: in quotes, with each quote, backslash and control character below a space escaped.
+/// What is wrong with a text that is no JSON object.
+const NO_OBJECT: &str = "no JSON object";
+
+/// A key as JSON writes it: in quotes, with each quote, each backslash and each byte below a space escaped. Other bytes stand as they
+/// are, also those of the control characters U+007F to U+009F.
 fn shown(alloc: Global, key: &str) -> Result<String, AllocError>
     ensures { IfOk result (λ text. string_bytes text ≡ shown key.now) }
 {
@@ -21,6 +27,9 @@ fn no_such_number(alloc: Global, key: &str) -> Result<String, AllocError>
     hint.push_str(shown(alloc, key)?.as_str())?;
     Ok(hint)
 }
+
+// `no_whole_number` writes the limit out.
+const _: () = prove!(PROFILE_LIMIT == 100);
 
 /// What is wrong with the value of a key that names a number.
 fn no_whole_number(alloc: Global, key: &str) -> Result<String, AllocError>
@@ -52,7 +61,8 @@ fn hint_in(alloc: Global, members: &Map<String, Value>) -> Result<String, AllocE
 ///
 /// `AllocError` if a growth was refused.
 pub fn profile_hint(alloc: Global, text: &str) -> Result<String, AllocError>
-    ensures { IfOk result (λ hint. string_bytes hint ≡ hint_in_text text.now) }
+    ensures value { IfOk result (λ hint. string_bytes hint ≡ hint_in_text text.now) }
+    ensures empty { IfOk result (λ hint. (string_bytes hint ≡ []) ↔ IsSome (profile_in_text text.now)) }
 {
     match Value::from_str(alloc, text) {
         Ok(value) => match value.as_object() {
@@ -63,6 +73,3 @@ pub fn profile_hint(alloc: Global, text: &str) -> Result<String, AllocError>
         Err(_) => String::from_str(alloc, NO_OBJECT),
     }
 }
-
-/// What is wrong with a text that is no JSON object.
-const NO_OBJECT: &str = "no JSON object";

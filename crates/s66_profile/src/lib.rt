@@ -9,6 +9,6 @@ mod profile;
 mod tests;
 
 pub use error::ProfileError;
-pub use examples::{profile_examples, refusal_examples};
+pub use examples::{hint_examples, profile_examples, refusal_examples};
 pub use hint::profile_hint;
 pub use profile::read_profile;

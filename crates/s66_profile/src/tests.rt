@@ -1,6 +1,7 @@
-//! That a text is read if memory is left, which no clause says.
+//! That a text is read if memory is left, and said why it gives no profile, which no clause says.
 
 use crate::error::ProfileError;
+use crate::hint::profile_hint;
 use crate::profile::read_profile;
 use std::alloc::AllocError;
 use std::process::Abort;
@@ -35,6 +36,25 @@ const REFUSED: &[&str] = &[
     "{\"boolean\":5} x",
 ];
 
+/// Texts, and why they give no profile.
+const HINTS: &[(&str, &str)] = &[
+    ("slow.json", "no JSON object"),
+    ("[]", "no JSON object"),
+    (
+        "{\"units_mult\":1}",
+        "no number of a profile is called \"units_mult\"",
+    ),
+    (
+        "{\"multiply\":0}",
+        "\"multiply\" is no whole number 1 to 100",
+    ),
+    (
+        "{\"a\\u001b\\n\":5}",
+        "no number of a profile is called \"a\\u001b\\n\"",
+    ),
+    ("{}", ""),
+];
+
 /// Checks the numbers of the profile that a text gives, or why it gives none.
 fn check_numbers<R: AllocGlobal + Abort>(
     rt: &R,
@@ -58,5 +78,14 @@ fn reads_profiles(rt: HostRuntime) -> Result<(), Fail> {
         check_numbers(&rt, text, "BAD PROFILE")?;
     }
     assert!(rt; ProfileError::OutOfMemory.line() == "OUT OF MEMORY");
+    Ok(())
+}
+
+#[test]
+fn gives_hints(rt: HostRuntime) -> Result<(), Fail> {
+    for (text, wanted) in HINTS {
+        let hint = profile_hint(rt.alloc(), text)?;
+        assert!(rt; hint.as_str() == *wanted, "{text}: {hint}");
+    }
     Ok(())
 }
