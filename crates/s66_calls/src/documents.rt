@@ -83,8 +83,7 @@ impl Sink for Counts {
 /// How many bytes `sum` writes of three multiplies; a refusal has written none.
 pub fn summed<R: AllocGlobal + Threads + Wait + Sync>(rt: &R) -> Result<Answered, AllocError> {
     let command = Command::Sum {
-        workers: OPTIONS.workers,
-        nodes: OPTIONS.nodes,
+        options: OPTIONS,
         profile: None,
     };
     let mut reader = OverRead::new(MULTIPLIES.as_bytes());

@@ -5,8 +5,8 @@ use Rattle.s66_isa.specs.declared.profile.Profile.{Profile}
 use Rattle.s66_line.specs.Block.{Block}
 use Rattle.s66_source.specs.Source.{source_of}
 use Rattle.s66_source.specs.declared.error.SourceError.{SourceError}
-use Rattle.s66_program.specs.declared.command.Command.{Command}
-use Rattle.s66_program.specs.declared.command.Command.TheVariants.{Time, Deps, Chart, Order, Prove, Check, Lint, Sum}
+use Rattle.s66_command.specs.declared.command.Command.{Command}
+use Rattle.s66_command.specs.declared.command.Command.TheVariants.{Time, Deps, Chart, Order, Prove, Check, Lint, Sum}
 use Rattle.s66_program.specs.declared.limits.TheConstants.{SOURCE_FRONT}
 use Rattle.s66_program.specs.declared.outcome.Fault.{Fault}
 use Rattle.s66_program.specs.declared.outcome.Fault.TheVariants as fault
@@ -35,11 +35,11 @@ accepted : (p : Profile) (command : Command) (input text : List ℕ) (status : S
 accepted p (Time trace profile) input text status reads ((blocks, ok, is), done) = (blocks, ok)
 accepted p Deps input text status reads ((blocks, ok, is), done) = (blocks, ok)
 accepted p (Chart profile) input text status reads ((blocks, ok, is), done) = (blocks, ok)
-accepted p (Order workers nodes rule trace profile) input text status reads (blocks, ok, is) = (blocks, ok)
-accepted p (Prove workers nodes rule profile) input text status reads (blocks, ok, is) = (blocks, ok)
+accepted p (Order options trace profile) input text status reads (blocks, ok, is) = (blocks, ok)
+accepted p (Prove options profile) input text status reads (blocks, ok, is) = (blocks, ok)
 accepted p Check input text status reads is = absurd (cc)
 accepted p Lint input text status reads is = absurd (cc)
-accepted p (Sum workers nodes profile) input text status reads (blocks, ok, is) = (blocks, ok)
+accepted p (Sum options profile) input text status reads (blocks, ok, is) = (blocks, ok)
 
 -- a full front is refused, and so is the input, for the same
 full-refused : (command : Command) (most : Option ℕ) (held rest : List ℕ) → IsMost command most → IsFull most held →
@@ -59,11 +59,11 @@ no-documents : (command : Command) → reads_source command ≡ true → reads_d
 no-documents (Time trace profile) source documents = cc
 no-documents Deps source documents = cc
 no-documents (Chart profile) source documents = cc
-no-documents (Order workers nodes rule trace profile) source documents = cc
-no-documents (Prove workers nodes rule profile) source documents = cc
+no-documents (Order options trace profile) source documents = cc
+no-documents (Prove options profile) source documents = cc
 no-documents Check source documents = cc
 no-documents Lint source documents = cc
-no-documents (Sum workers nodes profile) source documents = cc
+no-documents (Sum options profile) source documents = cc
 
 refused-for : (command : Command) (input held : List ℕ) (f : Fault) → reads_source command ≡ true → source_of input ≡ source_of held → IsRefusal command held f → IsRefusal command input f
 refused-for command input held (fault.Source e) reads same (is, other, refused) = (is, other, same ∙ refused)

@@ -4,7 +4,7 @@ use Rattle.std.specs.Io.KnownBytes.{Keeps}
 use Rattle.std.specs.Result.{IsErr, IsErrAnd}
 use Rattle.s66_isa.specs.declared.profile.Profile.{Profile}
 use Rattle.s66_device.specs.Devices.{IsUntouched, Reader, Writer}
-use Rattle.s66_program.specs.declared.command.Command.{Command}
+use Rattle.s66_command.specs.declared.command.Command.{Command}
 use Rattle.s66_program.specs.declared.outcome.Fault.{Fault}
 use Rattle.s66_program.specs.declared.outcome.Fault.TheVariants as fault
 use Rattle.s66_program.specs.declared.outcome.Status.{Status}

@@ -18,7 +18,5 @@ pub mod Device
 pub mod Kept
 pub mod Outcome
 pub mod Run
-pub mod Usage
-pub mod OptionNumbers
 pub mod Program
 pub mod Examples

@@ -1,15 +1,15 @@
 -- To be believed: what each command writes for what it reads, and how it ends.
-use Rattle.std.specs.Prelude.{ℕ, ◌+◌, ◌≡◌, ◌≤◌, Bool, true, false, List, [], ◌∷◌, ◌++◌, Option, None, Some, option_map, Ok}
+use Rattle.std.specs.Prelude.{ℕ, ◌+◌, ◌≡◌, ◌≤◌, Bool, true, false, List, [], ◌∷◌, ◌++◌, Option, None, Some, Ok}
 use Rattle.s66_isa.specs.declared.profile.Profile.{Profile}
 use Rattle.s66_isa.specs.Table.{standard}
-use Rattle.s66_model.specs.declared.rule.Rule.TheVariants.{NoneNamed}
 use Rattle.s66_model.specs.declared.limits.TheConstants.{BUDGET_LIMIT}
 use Rattle.s66_line.specs.Block.{Block}
 use Rattle.s66_source.specs.Source.{source_of}
 use Rattle.s66_model.specs.declared.limits.TheConstants.{WORKERS_LIMIT}
 use Rattle.s66_profile.specs.ProfileText.{profile_in_text}
-use Rattle.s66_program.specs.declared.command.Command.{Command}
-use Rattle.s66_program.specs.declared.command.Command.TheVariants.{Time, Deps, Chart, Order, Prove, Check, Lint, Sum}
+use Rattle.s66_command.specs.declared.command.Command.{Command}
+use Rattle.s66_command.specs.declared.command.Command.TheVariants.{Time, Deps, Chart, Order, Prove, Check, Lint, Sum}
+use Rattle.s66_command.specs.Profile.{profile_text}
 use Rattle.s66_program.specs.declared.outcome.Status.{Status}
 use Rattle.s66_program.specs.declared.outcome.Status.TheVariants.{Done}
 use Rattle.s66_program.specs.declared.output.Listing.{Listing}
@@ -32,24 +32,13 @@ abbrev pub IsWithin : Command → Type 0
 IsWithin (Time trace profile) = Unit {0}
 IsWithin Deps = Unit {0}
 IsWithin (Chart profile) = Unit {0}
-IsWithin (Order workers nodes rule trace profile) = IsSearchWithin workers nodes
-IsWithin (Prove workers nodes rule profile) = IsSearchWithin workers nodes
+IsWithin (Order options trace profile) = IsSearchWithin options.workers options.nodes
+IsWithin (Prove options profile) = IsSearchWithin options.workers options.nodes
 IsWithin Check = Unit {0}
 IsWithin Lint = Unit {0}
-IsWithin (Sum workers nodes profile) = IsSearchWithin workers nodes
+IsWithin (Sum options profile) = IsSearchWithin options.workers options.nodes
 
 -- PROFILES
-
--- the text of a profile that a command has, if any
-abbrev pub profile_text : Command → Option (List ℕ)
-profile_text (Time trace profile) = option_map (λ text. text.now) profile
-profile_text Deps = None
-profile_text (Chart profile) = option_map (λ text. text.now) profile
-profile_text (Order workers nodes rule trace profile) = option_map (λ text. text.now) profile
-profile_text (Prove workers nodes rule profile) = option_map (λ text. text.now) profile
-profile_text Check = None
-profile_text Lint = None
-profile_text (Sum workers nodes profile) = option_map (λ text. text.now) profile
 
 -- the profile that is asked for: that of the text, or the standard one without a text
 abbrev pub profile_asked : Option (List ℕ) → Option Profile
@@ -84,22 +73,22 @@ abbrev pub IsOutput : Profile → Command → (input text : List ℕ) → Status
 IsOutput p (Time trace profile) input text status = IsListing p (listing.Times trace) input text × (status ≡ Done)
 IsOutput p Deps input text status = IsListing p listing.Dependences input text × (status ≡ Done)
 IsOutput p (Chart profile) input text status = IsListing p listing.Chart input text × (status ≡ Done)
-IsOutput p (Order workers nodes rule trace profile) input text status = IsOrderOutput rule p nodes trace input text status
-IsOutput p (Prove workers nodes rule profile) input text status = IsProveOutput rule p nodes input text status
+IsOutput p (Order options trace profile) input text status = IsOrderOutput options.rule p options.nodes trace input text status
+IsOutput p (Prove options profile) input text status = IsProveOutput options.rule p options.nodes input text status
 IsOutput p Check input text status = IsCheckOutput input text status
 IsOutput p Lint input text status = IsLintOutput input text status
-IsOutput p (Sum workers nodes profile) input text status = IsSumOutput NoneNamed p nodes input text status
+IsOutput p (Sum options profile) input text status = IsSumOutput options.rule p options.nodes input text status
 
 -- the command reads a source, and refuses some
 abbrev pub reads_source : Command → Bool
 reads_source (Time trace profile) = true
 reads_source Deps = true
 reads_source (Chart profile) = true
-reads_source (Order workers nodes rule trace profile) = true
-reads_source (Prove workers nodes rule profile) = true
+reads_source (Order options trace profile) = true
+reads_source (Prove options profile) = true
 reads_source Check = false
 reads_source Lint = false
-reads_source (Sum workers nodes profile) = true
+reads_source (Sum options profile) = true
 
 -- the command reads documents, and refuses some
 abbrev pub reads_documents : Command → Bool

@@ -2,18 +2,17 @@
 use Rattle.std.specs.Prelude.{◌≡◌, ◌≢◌, ◌⊎◌, ℕ, List, ◌++◌, Result, Ok, Err, codes, string_bytes}
 use Rattle.std.specs.declared.io.ErrorKind.{ErrorKind}
 use Rattle.std.specs.declared.io.ErrorKind.TheVariants as kind
-use Rattle.clap.specs.Words.{Text}
 use Rattle.s66_device.specs.Devices.{IsUntouched, Reader, WriteFails, Writer, Writes}
-use Rattle.s66_program.specs.declared.command.Command.{Command}
+use Rattle.s66_command.specs.declared.command.Command.{Command}
 use Rattle.s66_program.specs.declared.outcome.Fault.{Fault}
 use Rattle.s66_program.specs.declared.outcome.Fault.TheVariants.{Memory, Write}
 use Rattle.s66_program.specs.declared.outcome.Status.{Status}
-use Rattle.s66_program.specs.declared.usage.Usage.{Usage}
-use Rattle.s66_program.specs.declared.usage.Usage.TheVariants.{Help, Bad, OutOfMemory}
+use Rattle.s66_command.specs.declared.usage.Usage.{Usage}
+use Rattle.s66_command.specs.declared.usage.Usage.TheVariants.{Help, Bad, OutOfMemory}
 use Rattle.s66_program.specs.Device.{Tells}
 use Rattle.s66_program.specs.Outcome.{fault_code, fault_line, status_code}
 use Rattle.s66_program.specs.Run.{IsOutcome}
-use Rattle.s66_program.specs.Usage.{Asks, Refuses, usage_code}
+use Rattle.s66_command.specs.Usage.{Asks, Refuses, Text, usage_code}
 
 -- the line of a fault was printed, and the status is the fault's
 abbrev pub EndsAt : Fault → Writer → Writer → ℕ → Type 0

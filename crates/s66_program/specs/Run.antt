@@ -5,12 +5,13 @@ use Rattle.s66_source.specs.declared.error.SourceError.TheVariants.{OutOfMemory}
 use Rattle.s66_device.specs.Devices.{IsUntouched, Reader, WriteFails, Writer, Writes}
 use Rattle.s66_source.specs.Source.{source_of}
 use Rattle.s66_cert.specs.Faults.{IsFault}
-use Rattle.s66_program.specs.declared.command.Command.{Command}
+use Rattle.s66_command.specs.declared.command.Command.{Command}
+use Rattle.s66_command.specs.Profile.{profile_text}
 use Rattle.s66_program.specs.declared.outcome.Fault.{Fault}
 use Rattle.s66_program.specs.declared.outcome.Fault.TheVariants as fault
 use Rattle.s66_program.specs.declared.outcome.Status.{Status}
 use Rattle.s66_program.specs.Device.{ReadFails, ReadsAll, ReadsSome}
-use Rattle.s66_program.specs.Output.{IsOutput, IsUnder, profile_asked, profile_text, reads_documents, reads_source}
+use Rattle.s66_program.specs.Output.{IsOutput, IsUnder, profile_asked, reads_documents, reads_source}
 
 -- why a command writes nothing for an input
 abbrev pub IsRefusal : Command → List ℕ → Fault → Type 0

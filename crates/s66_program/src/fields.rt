@@ -2,7 +2,6 @@ ghost use Rattle.std.specs.Prelude.{◌≡◌, ◌++◌, OnOk};
 ghost use Rattle.s66_program.specs.BlockHead.{block_head};
 
 use s66_device::push_field;
-
 use s66_line::Block;
 use std::alloc::AllocError;
 

@@ -9,9 +9,3 @@ pub const FEED_ROOM: usize = 65_536;
 
 /// A text of this many bytes has at least a line too many, or one that is too long.
 pub const SOURCE_FRONT: usize = (LINE_BYTES_LIMIT + 1) * (SOURCE_LINES_LIMIT as usize + 1);
-
-/// How many workers search if the words give no number.
-pub const WORKERS_DEFAULT: u8 = 4;
-
-/// The most splits of a block's search if the words give no number.
-pub const NODES_DEFAULT: u32 = 100_000;

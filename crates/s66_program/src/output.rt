@@ -5,7 +5,6 @@ ghost use Rattle.s66_program.specs.Run.{IsRefusal};
 
 use crate::chart_text::push_chart_lines;
 use crate::check_text::check_output;
-use crate::command::Command;
 use crate::deps_text::push_deps_lines;
 use crate::lint_text::lint_output;
 use crate::observer::Observer;
@@ -14,9 +13,9 @@ use crate::outcome::{Fault, Output, Status};
 use crate::prove_text::prove_output;
 use crate::sum_text::sum_output;
 use crate::time_text::push_time_lines;
+use s66_command::Command;
 use s66_isa::Profile;
 use s66_line::Block;
-use s66_model::{Options, Rule};
 use s66_source::{Source, read_source};
 use s66_time::Timer;
 use std::alloc::{AllocError, Global};
@@ -112,48 +111,20 @@ pub fn output_for<R: AllocGlobal + Threads + Wait + Sync, O: Observer>(
             let listing = Listing::Chart;
             listing_output(alloc, profile, &listing, &read_source(alloc, input)?)?
         }
-        Command::Order {
-            workers,
-            nodes,
-            rule,
+        Command::Order { options, trace, .. } => order_output(
+            rt,
+            &read_source(alloc, input)?,
+            profile,
+            options,
             trace,
-            ..
-        } => {
-            let options = Options {
-                workers,
-                nodes,
-                rule,
-            };
-            order_output(
-                rt,
-                &read_source(alloc, input)?,
-                profile,
-                options,
-                trace,
-                observer,
-            )?
-        }
-        Command::Prove {
-            workers,
-            nodes,
-            rule,
-            ..
-        } => {
-            let options = Options {
-                workers,
-                nodes,
-                rule,
-            };
+            observer,
+        )?,
+        Command::Prove { options, .. } => {
             prove_output(rt, &read_source(alloc, input)?, profile, options, observer)?
         }
         Command::Check => check_output(alloc, input, observer)?,
         Command::Lint => lint_output(alloc, input)?,
-        Command::Sum { workers, nodes, .. } => {
-            let options = Options {
-                workers,
-                nodes,
-                rule: Rule::NoneNamed,
-            };
+        Command::Sum { options, .. } => {
             sum_output(rt, &read_source(alloc, input)?, profile, options, observer)?
         }
     };

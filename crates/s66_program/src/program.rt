@@ -6,7 +6,7 @@ ghost use Rattle.s66_program.specs.Program.{EndsAt, IsRun, LacksWords, ShowsUsag
 use crate::observer::Observer;
 use crate::outcome::Fault;
 use crate::run::run_observed;
-use crate::usage::{Usage, command_of};
+use s66_command::{Usage, command_of};
 use s66_device::{Feed, Sink, write_all};
 use std::convert::AsStr;
 use std::io;

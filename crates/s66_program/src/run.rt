@@ -5,11 +5,11 @@ ghost use Rattle.s66_program.specs.Output.{IsUnder, IsWithin, reads_source};
 ghost use Rattle.s66_program.specs.declared.limits.TheConstants.{SOURCE_FRONT};
 ghost use Rattle.s66_program.specs.Run.{IsOutcome, IsOutcomeUnder, IsProfileFault, IsReadFault};
 
-use crate::command::Command;
 use crate::limits::{FEED_CALLS, FEED_ROOM, SOURCE_FRONT};
 use crate::observer::{Observer, Silent};
 use crate::outcome::{Fault, Status};
 use crate::output::output_for;
+use s66_command::Command;
 use s66_device::{Feed, Sink, write_all};
 use s66_isa::Profile;
 use s66_profile::read_profile;

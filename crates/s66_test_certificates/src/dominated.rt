@@ -5,7 +5,7 @@ use crate::commands::check_output;
 use crate::documents::{ONE_DOMINATED, THREE_DOMINATED, THREE_MULTIPLIES};
 use crate::verdicts::{altered, check_denied, check_refused};
 use s66_cert::CertError;
-use s66_model::Rule;
+use s66_model::{Options, Rule};
 use s66_program::{Command, Status};
 use std::process::Abort;
 use std::sync::Wait;
@@ -107,17 +107,21 @@ fn check_left_out<R: AllocGlobal + Abort + Threads + Wait + Sync>(
     requires { (1 ≤ workers) × (workers ≤ WORKERS_LIMIT) }
 {
     let order = Command::Order {
-        workers,
-        nodes: 100,
-        rule,
+        options: Options {
+            workers,
+            nodes: 100,
+            rule,
+        },
         trace: true,
         profile: None,
     };
     check_output(rt, order, THREE_ALIKE, Status::Done, SEVEN_SPLITS);
     let prove = Command::Prove {
-        workers,
-        nodes: 100,
-        rule,
+        options: Options {
+            workers,
+            nodes: 100,
+            rule,
+        },
         profile: None,
     };
     check_output(rt, prove, THREE_ALIKE, Status::Done, document);

@@ -1,6 +1,6 @@
 use crate::commands::{check_output, run};
 use crate::documents::{ONE_LOAD, THREE_MULTIPLIES};
-use s66_model::Rule;
+use s66_model::{Options, Rule};
 use s66_program::{Command, Status};
 use s66_test_blocks::{MULTIPLIES, SEVEN_MULTIPLIES};
 use std::test::Fail;
@@ -30,9 +30,11 @@ const PROOFS: &[(&str, &str)] = &[
 #[test]
 fn proves_worked_rows(rt: HostRuntime) {
     let prove = Command::Prove {
-        workers: 1,
-        nodes: 100_000,
-        rule: Rule::NoneNamed,
+        options: Options {
+            workers: 1,
+            nodes: 100_000,
+            rule: Rule::NoneNamed,
+        },
         profile: None,
     };
     for &(source, documents) in PROOFS {
@@ -55,9 +57,11 @@ fn lines(text: &[u8]) -> u32 {
 #[test]
 fn proves_and_checks_large_trees(rt: HostRuntime) -> Result<(), Fail> {
     let prove = Command::Prove {
-        workers: 16,
-        nodes: 100_000,
-        rule: Rule::NoneNamed,
+        options: Options {
+            workers: 16,
+            nodes: 100_000,
+            rule: Rule::NoneNamed,
+        },
         profile: None,
     };
     let (result, document) = run(&rt, prove, SEVEN_MULTIPLIES.as_bytes());
@@ -80,9 +84,11 @@ fn proves_and_checks_large_trees(rt: HostRuntime) -> Result<(), Fail> {
 #[test]
 fn proves_and_checks_a_block_of_128(rt: HostRuntime) -> Result<(), Fail> {
     let prove = Command::Prove {
-        workers: 1,
-        nodes: 0,
-        rule: Rule::NoneNamed,
+        options: Options {
+            workers: 1,
+            nodes: 0,
+            rule: Rule::NoneNamed,
+        },
         profile: None,
     };
     let source = "  BX0 X0\n".repeat(rt.alloc(), 128)?;

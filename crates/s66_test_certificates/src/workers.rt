@@ -3,7 +3,7 @@ ghost use Rattle.s66_model.specs.declared.limits.TheConstants.{WORKERS_LIMIT};
 
 use crate::commands::{check_output, run};
 use crate::documents::THREE_MULTIPLIES;
-use s66_model::Rule;
+use s66_model::{Options, Rule};
 use s66_program::{Command, Status};
 use s66_test_blocks::MULTIPLIES;
 use std::process::Abort;
@@ -23,17 +23,21 @@ fn check_order<R: AllocGlobal + Abort + Threads + Wait + Sync>(rt: &R, workers: 
     requires { (1 ≤ workers) × (workers ≤ WORKERS_LIMIT) }
 {
     let order = Command::Order {
-        workers,
-        nodes: 10,
-        rule: Rule::NoneNamed,
+        options: Options {
+            workers,
+            nodes: 10,
+            rule: Rule::NoneNamed,
+        },
         trace: true,
         profile: None,
     };
     check_output(rt, order, MULTIPLIES, Status::Done, BEST_ORDER);
     let order = Command::Order {
-        workers,
-        nodes: 9,
-        rule: Rule::NoneNamed,
+        options: Options {
+            workers,
+            nodes: 9,
+            rule: Rule::NoneNamed,
+        },
         trace: true,
         profile: None,
     };
@@ -46,16 +50,20 @@ fn check_proof<R: AllocGlobal + Abort + Threads + Wait + Sync>(rt: &R, workers: 
     requires { (1 ≤ workers) × (workers ≤ WORKERS_LIMIT) }
 {
     let prove = Command::Prove {
-        workers,
-        nodes: 10,
-        rule: Rule::NoneNamed,
+        options: Options {
+            workers,
+            nodes: 10,
+            rule: Rule::NoneNamed,
+        },
         profile: None,
     };
     check_output(rt, prove, MULTIPLIES, Status::Done, THREE_MULTIPLIES);
     let prove = Command::Prove {
-        workers,
-        nodes: 9,
-        rule: Rule::NoneNamed,
+        options: Options {
+            workers,
+            nodes: 9,
+            rule: Rule::NoneNamed,
+        },
         profile: None,
     };
     let (result, document) = run(rt, prove, MULTIPLIES.as_bytes());

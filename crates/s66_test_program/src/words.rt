@@ -1,6 +1,6 @@
 use crate::running::run;
 use s66_device::{OverRead, OverWrite};
-use s66_model::Rule;
+use s66_model::{Options, Rule};
 use s66_program::{Command, Status, command_of, run_command};
 use std::test::Fail;
 
@@ -86,26 +86,33 @@ const COMMANDS: &[(&[&str], Command)] = &[
     (
         &["s66", "prove", "--profile", "no profile", "--nodes", "7"],
         Command::Prove {
-            workers: 4,
-            nodes: 7,
-            rule: Rule::NoneNamed,
+            options: Options {
+                workers: 4,
+                nodes: 7,
+                rule: Rule::NoneNamed,
+            },
             profile: Some("no profile"),
         },
     ),
     (
         &["s66", "sum", "--workers", "16", "--profile", "{}"],
         Command::Sum {
-            workers: 16,
-            nodes: 100_000,
+            options: Options {
+                workers: 16,
+                nodes: 100_000,
+                rule: Rule::NoneNamed,
+            },
             profile: Some("{}"),
         },
     ),
     (
         &["s66", "order", "--trace", "--profile=--trace"],
         Command::Order {
-            workers: 4,
-            nodes: 100_000,
-            rule: Rule::NoneNamed,
+            options: Options {
+                workers: 4,
+                nodes: 100_000,
+                rule: Rule::NoneNamed,
+            },
             trace: true,
             profile: Some("--trace"),
         },
@@ -113,9 +120,11 @@ const COMMANDS: &[(&[&str], Command)] = &[
     (
         &["s66", "order"],
         Command::Order {
-            workers: 4,
-            nodes: 100_000,
-            rule: Rule::NoneNamed,
+            options: Options {
+                workers: 4,
+                nodes: 100_000,
+                rule: Rule::NoneNamed,
+            },
             trace: false,
             profile: None,
         },
@@ -123,9 +132,11 @@ const COMMANDS: &[(&[&str], Command)] = &[
     (
         &["s66", "order", "--trace"],
         Command::Order {
-            workers: 4,
-            nodes: 100_000,
-            rule: Rule::NoneNamed,
+            options: Options {
+                workers: 4,
+                nodes: 100_000,
+                rule: Rule::NoneNamed,
+            },
             trace: true,
             profile: None,
         },
@@ -133,9 +144,11 @@ const COMMANDS: &[(&[&str], Command)] = &[
     (
         &["s66", "order", "--workers", "1", "--nodes", "0"],
         Command::Order {
-            workers: 1,
-            nodes: 0,
-            rule: Rule::NoneNamed,
+            options: Options {
+                workers: 1,
+                nodes: 0,
+                rule: Rule::NoneNamed,
+            },
             trace: false,
             profile: None,
         },
@@ -143,9 +156,11 @@ const COMMANDS: &[(&[&str], Command)] = &[
     (
         &["s66", "order", "--nodes=1000000", "--workers=16", "--trace"],
         Command::Order {
-            workers: 16,
-            nodes: 1_000_000,
-            rule: Rule::NoneNamed,
+            options: Options {
+                workers: 16,
+                nodes: 1_000_000,
+                rule: Rule::NoneNamed,
+            },
             trace: true,
             profile: None,
         },
@@ -153,9 +168,11 @@ const COMMANDS: &[(&[&str], Command)] = &[
     (
         &["s66", "order", "--dominate"],
         Command::Order {
-            workers: 4,
-            nodes: 100_000,
-            rule: Rule::WrittenEarlier,
+            options: Options {
+                workers: 4,
+                nodes: 100_000,
+                rule: Rule::WrittenEarlier,
+            },
             trace: false,
             profile: None,
         },
@@ -163,9 +180,11 @@ const COMMANDS: &[(&[&str], Command)] = &[
     (
         &["s66", "order", "--trace", "--dominate-tree", "--nodes", "8"],
         Command::Order {
-            workers: 4,
-            nodes: 8,
-            rule: Rule::ClampedStanding,
+            options: Options {
+                workers: 4,
+                nodes: 8,
+                rule: Rule::ClampedStanding,
+            },
             trace: true,
             profile: None,
         },
@@ -173,18 +192,22 @@ const COMMANDS: &[(&[&str], Command)] = &[
     (
         &["s66", "prove", "--dominate", "--profile=--dominate-tree"],
         Command::Prove {
-            workers: 4,
-            nodes: 100_000,
-            rule: Rule::WrittenEarlier,
+            options: Options {
+                workers: 4,
+                nodes: 100_000,
+                rule: Rule::WrittenEarlier,
+            },
             profile: Some("--dominate-tree"),
         },
     ),
     (
         &["s66", "prove", "--dominate-tree"],
         Command::Prove {
-            workers: 4,
-            nodes: 100_000,
-            rule: Rule::ClampedStanding,
+            options: Options {
+                workers: 4,
+                nodes: 100_000,
+                rule: Rule::ClampedStanding,
+            },
             profile: None,
         },
     ),

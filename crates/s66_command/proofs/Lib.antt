@@ -1,0 +1,6 @@
+pub mod CommandLine
+pub mod Faults
+pub mod Flags
+pub mod Named
+pub mod OptionRanges
+pub mod Refused

@@ -1,0 +1,151 @@
+use Rattle.std.proofs.Common.{rules, ◌∙◌, ap, codes, inl, inr, map, option_map, refl, sym}
+use Rattle.clap.specs.Words.{app_of, found_of}
+use Rattle.s66_command.proofs.Named.{asks-for, both-of, flag-of, matched, name-known, order-flags, profile-of, prove-flags, rule-of, search-of, taken}
+use Rattle.s66_command.proofs.Refused.{refused, refused-both}
+use Rattle.s66_command.proofs.usage.command_of.Goals as goal
+use Rattle.s66_command.proofs.usage.command_of.Goals.{in_default-via-in-Some+in_default, in_default-via-in_default}
+
+pub unreachable-requires : goal.unreachable-requires
+unreachable-requires g c =
+    let words = map g.S.AsStr.text c.args.words.now in
+    let m = c.in-Ok.matches in
+    let is = taken m (app_of c.in_ok-program.field-0) words c.in_ok-program.ensures c.in-Ok.ensures.kinds c.in-Ok.ensures.matches in
+    elim c.in_default.branch [
+      | in_default-via-in-Some+in_default w ↦
+          elim (name-known m words _ is (ap (option_map (λ p. p.0.now)) (sym w.in_default.is) ∙ c.subcommand.ensures.name)) [
+            | inl e ↦ search rules
+            | inr (inl e) ↦ search rules
+            | inr (inr (inl e)) ↦ search rules
+            | inr (inr (inr (inl e))) ↦ search rules
+            | inr (inr (inr (inr (inl e)))) ↦ search rules
+            | inr (inr (inr (inr (inr (inl e))))) ↦ search rules
+            | inr (inr (inr (inr (inr (inr (inl e)))))) ↦ search rules
+            | inr (inr (inr (inr (inr (inr (inr (inl e))))))) ↦ search rules
+            | inr (inr (inr (inr (inr (inr (inr (inr none))))))) ↦ none
+          ]
+      | in_default-via-in_default w ↦ name-known m words _ is (ap (option_map (λ p. p.0.now)) (sym w.in_default.is) ∙ c.subcommand.ensures.name)
+    ]
+
+pub returns-in-Err-clause-err : goal.returns-in-Err-clause-err
+returns-in-Err-clause-err g c =
+    refused c.usage_of.result c.in-Err.error (app_of c.in_ok-program.field-0) (map g.S.AsStr.text c.args.words.now) c.in_ok-program.ensures
+    c.in-Err.ensures.kinds c.usage_of.ensures
+
+pub returns-in-Some-time-default-clause-ok : goal.returns-in-Some-time-default-clause-ok
+returns-in-Some-time-default-clause-ok g c =
+    let words = map g.S.AsStr.text c.args.words.now in
+    let m = c.in-Ok.matches in
+    let is = taken m (app_of c.in_ok-program.field-0) words c.in_ok-program.ensures c.in-Ok.ensures.kinds c.in-Ok.ensures.matches in
+    let asks = asks-for m words c.in-Some-time-default.field-0-0.now (codes "time") is c.in-Some-time-default.ensures.name c.in-Some-time-default.is-time in
+    let found = found_of c.in-Some-time-default.time.now in
+    let here = matched m words found _ is asks.1 refl c.in-Some-time-default.ensures.rows in (
+      asks,
+      flag-of words found c.get_flag.result _ (codes "trace") (codes "trace") here (inr refl, (inl refl, (inr refl, tt))) refl c.get_flag.ensures.value c.get_flag.ensures.other,
+      profile-of words found _ c.get_str.result here c.get_str.ensures,
+    )
+
+pub returns-in-Some-deps-default-clause-ok : goal.returns-in-Some-deps-default-clause-ok
+returns-in-Some-deps-default-clause-ok g c =
+    let words = map g.S.AsStr.text c.args.words.now in
+    let m = c.in-Ok.matches in
+    let is = taken m (app_of c.in_ok-program.field-0) words c.in_ok-program.ensures c.in-Ok.ensures.kinds c.in-Ok.ensures.matches in
+    asks-for m words c.in-Some-deps-default.field-0-0.now (codes "deps") is c.in-Some-deps-default.ensures.name c.in-Some-deps-default.is-deps
+
+pub returns-in-Some-chart-default-clause-ok : goal.returns-in-Some-chart-default-clause-ok
+returns-in-Some-chart-default-clause-ok g c =
+    let words = map g.S.AsStr.text c.args.words.now in
+    let m = c.in-Ok.matches in
+    let is = taken m (app_of c.in_ok-program.field-0) words c.in_ok-program.ensures c.in-Ok.ensures.kinds c.in-Ok.ensures.matches in
+    let asks = asks-for m words c.in-Some-chart-default.field-0-0.now (codes "chart") is c.in-Some-chart-default.ensures.name c.in-Some-chart-default.is-chart in
+    let found = found_of c.in-Some-chart-default.chart.now in
+    let here = matched m words found _ is asks.1 refl c.in-Some-chart-default.ensures.rows in
+    (asks, profile-of words found _ c.get_str-in-Some-chart-default.result here c.get_str-in-Some-chart-default.ensures)
+
+pub returns-in-Some-order-default-clause-ok : goal.returns-in-Some-order-default-clause-ok
+returns-in-Some-order-default-clause-ok g c =
+    let words = map g.S.AsStr.text c.args.words.now in
+    let m = c.in-Ok.matches in
+    let is = taken m (app_of c.in_ok-program.field-0) words c.in_ok-program.ensures c.in-Ok.ensures.kinds c.in-Ok.ensures.matches in
+    let asks = asks-for m words c.in-Some-order-default.field-0-0.now (codes "order") is c.in-Some-order-default.ensures.name c.in-Some-order-default.is-order in
+    let found = found_of c.in-Some-order-default.order.now in
+    let here = matched m words found _ is asks.1 refl c.in-Some-order-default.ensures.rows in (
+      asks,
+      search-of words found _ c.workers_in.result c.nodes_in.result here (inl refl, (inr refl, (inr refl, (inr refl, (inr refl, (inr refl, (inr refl, tt))))))) (inr refl, (inl refl, (inr refl, (inr refl, (inr refl, (inr refl, (inr refl, tt)))))))
+          c.workers_in.ensures c.nodes_in.ensures,
+      rule-of words found c.get_flag-dominate.result c.get_flag-in-Some-order-default.result c.in-Some.rule _ here order-flags (c.get_flag-dominate.ensures.value, c.get_flag-dominate.ensures.other)
+          (c.get_flag-in-Some-order-default.ensures.value, c.get_flag-in-Some-order-default.ensures.other) c.in-Some.ensures,
+      flag-of words found c.get_flag-in-Some-order-default-2.result _ (codes "trace") (codes "trace") here (inr refl, (inr refl, (inr refl, (inr refl, (inr refl, (inl refl, (inr refl, tt))))))) refl
+          c.get_flag-in-Some-order-default-2.ensures.value c.get_flag-in-Some-order-default-2.ensures.other,
+      profile-of words found _ c.get_str-in-Some-order-default.result here c.get_str-in-Some-order-default.ensures,
+    )
+
+pub returns-in_default-rule_of-clause-err : goal.returns-in_default-rule_of-clause-err
+returns-in_default-rule_of-clause-err g c =
+    let words = map g.S.AsStr.text c.args.words.now in
+    let m = c.in-Ok.matches in
+    let is = taken m (app_of c.in_ok-program.field-0) words c.in_ok-program.ensures c.in-Ok.ensures.kinds c.in-Ok.ensures.matches in
+    let asks = asks-for m words c.in-Some-order-default.field-0-0.now (codes "order") is c.in-Some-order-default.ensures.name c.in-Some-order-default.is-order in
+    let found = found_of c.in-Some-order-default.order.now in
+    let here = matched m words found _ is asks.1 refl c.in-Some-order-default.ensures.rows in
+    refused-both c.both_given.result words asks.0
+    (both-of words found c.get_flag-dominate.result c.get_flag-in-Some-order-default.result _ here order-flags (c.get_flag-dominate.ensures.value, c.get_flag-dominate.ensures.other)
+    (c.get_flag-in-Some-order-default.ensures.value, c.get_flag-in-Some-order-default.ensures.other) c.in_default-rule_of.ensures) c.both_given.ensures
+
+pub returns-in-Some-prove-default-clause-ok : goal.returns-in-Some-prove-default-clause-ok
+returns-in-Some-prove-default-clause-ok g c =
+    let words = map g.S.AsStr.text c.args.words.now in
+    let m = c.in-Ok.matches in
+    let is = taken m (app_of c.in_ok-program.field-0) words c.in_ok-program.ensures c.in-Ok.ensures.kinds c.in-Ok.ensures.matches in
+    let asks = asks-for m words c.in-Some-prove-default.field-0-0.now (codes "prove") is c.in-Some-prove-default.ensures.name c.in-Some-prove-default.is-prove in
+    let found = found_of c.in-Some-prove-default.prove.now in
+    let here = matched m words found _ is asks.1 refl c.in-Some-prove-default.ensures.rows in (
+      asks,
+      search-of words found _ c.workers_in-in-Some-prove-default.result c.nodes_in-in-Some-prove-default.result here (inl refl, (inr refl, (inr refl, (inr refl, (inr refl, (inr refl, tt)))))) (inr refl, (inl refl, (inr refl, (inr refl, (inr refl, (inr refl, tt))))))
+          c.workers_in-in-Some-prove-default.ensures c.nodes_in-in-Some-prove-default.ensures,
+      rule-of words found c.get_flag-dominate-in-Some-prove-default.result c.get_flag-in-Some-prove-default.result c.in-Some-rule_of.rule _ here prove-flags
+          (c.get_flag-dominate-in-Some-prove-default.ensures.value, c.get_flag-dominate-in-Some-prove-default.ensures.other)
+          (c.get_flag-in-Some-prove-default.ensures.value, c.get_flag-in-Some-prove-default.ensures.other) c.in-Some-rule_of.ensures,
+      profile-of words found _ c.get_str-in-Some-prove-default.result here c.get_str-in-Some-prove-default.ensures,
+    )
+
+pub returns-in_default-rule_of-2-clause-err : goal.returns-in_default-rule_of-2-clause-err
+returns-in_default-rule_of-2-clause-err g c =
+    let words = map g.S.AsStr.text c.args.words.now in
+    let m = c.in-Ok.matches in
+    let is = taken m (app_of c.in_ok-program.field-0) words c.in_ok-program.ensures c.in-Ok.ensures.kinds c.in-Ok.ensures.matches in
+    let asks = asks-for m words c.in-Some-prove-default.field-0-0.now (codes "prove") is c.in-Some-prove-default.ensures.name c.in-Some-prove-default.is-prove in
+    let found = found_of c.in-Some-prove-default.prove.now in
+    let here = matched m words found _ is asks.1 refl c.in-Some-prove-default.ensures.rows in
+    refused-both c.both_given-in_default-rule_of-2.result words asks.0
+    (both-of words found c.get_flag-dominate-in-Some-prove-default.result c.get_flag-in-Some-prove-default.result _ here prove-flags
+    (c.get_flag-dominate-in-Some-prove-default.ensures.value, c.get_flag-dominate-in-Some-prove-default.ensures.other)
+    (c.get_flag-in-Some-prove-default.ensures.value, c.get_flag-in-Some-prove-default.ensures.other) c.in_default-rule_of-2.ensures) c.both_given-in_default-rule_of-2.ensures
+
+pub returns-in-Some-check-default-clause-ok : goal.returns-in-Some-check-default-clause-ok
+returns-in-Some-check-default-clause-ok g c =
+    let words = map g.S.AsStr.text c.args.words.now in
+    let m = c.in-Ok.matches in
+    let is = taken m (app_of c.in_ok-program.field-0) words c.in_ok-program.ensures c.in-Ok.ensures.kinds c.in-Ok.ensures.matches in
+    asks-for m words c.in-Some-check-default.field-0-0.now (codes "check") is c.in-Some-check-default.ensures.name c.in-Some-check-default.is-check
+
+pub returns-in-Some-lint-default-clause-ok : goal.returns-in-Some-lint-default-clause-ok
+returns-in-Some-lint-default-clause-ok g c =
+    let words = map g.S.AsStr.text c.args.words.now in
+    let m = c.in-Ok.matches in
+    let is = taken m (app_of c.in_ok-program.field-0) words c.in_ok-program.ensures c.in-Ok.ensures.kinds c.in-Ok.ensures.matches in
+    asks-for m words c.in-Some-lint-default.field-0-0.now (codes "lint") is c.in-Some-lint-default.ensures.name c.in-Some-lint-default.is-lint
+
+pub returns-in-Some-sum-default-clause-ok : goal.returns-in-Some-sum-default-clause-ok
+returns-in-Some-sum-default-clause-ok g c =
+    let words = map g.S.AsStr.text c.args.words.now in
+    let m = c.in-Ok.matches in
+    let is = taken m (app_of c.in_ok-program.field-0) words c.in_ok-program.ensures c.in-Ok.ensures.kinds c.in-Ok.ensures.matches in
+    let asks = asks-for m words c.in-Some-sum-default.field-0-0.now (codes "sum") is c.in-Some-sum-default.ensures.name c.in-Some-sum-default.is-sum in
+    let found = found_of c.in-Some-sum-default.sum.now in
+    let here = matched m words found _ is asks.1 refl c.in-Some-sum-default.ensures.rows in (
+      asks,
+      search-of words found _ c.workers_in-in-Some-sum-default.result c.nodes_in-in-Some-sum-default.result here (inl refl, (inr refl, (inr refl, (inr refl, tt)))) (inr refl, (inl refl, (inr refl, (inr refl, tt))))
+          c.workers_in-in-Some-sum-default.ensures c.nodes_in-in-Some-sum-default.ensures,
+      refl,
+      profile-of words found _ c.get_str-in-Some-sum-default.result here c.get_str-in-Some-sum-default.ensures,
+    )

@@ -1,0 +1,15 @@
+-- To be believed: which commands have a text of a profile.
+use Rattle.std.specs.Prelude.{ℕ, List, Option, None, option_map}
+use Rattle.s66_command.specs.declared.command.Command.{Command}
+use Rattle.s66_command.specs.declared.command.Command.TheVariants.{Time, Deps, Chart, Order, Prove, Check, Lint, Sum}
+
+-- the text of a profile that a command has, if any
+abbrev pub profile_text : Command → Option (List ℕ)
+profile_text (Time trace profile) = option_map (λ text. text.now) profile
+profile_text Deps = None
+profile_text (Chart profile) = option_map (λ text. text.now) profile
+profile_text (Order options trace profile) = option_map (λ text. text.now) profile
+profile_text (Prove options profile) = option_map (λ text. text.now) profile
+profile_text Check = None
+profile_text Lint = None
+profile_text (Sum options profile) = option_map (λ text. text.now) profile

@@ -1,0 +1,193 @@
+-- To be believed: the command line, by clap's rules: the subcommands `time`, `deps`, `chart`, `order`, `prove`, `check`, `lint`
+-- and `sum`, and a version. `time`, `chart`, `order`, `prove` and `sum` have the option `--profile`, the last three also
+-- `--workers` and `--nodes`. `time` and `order` have the flag `--trace`, and `order` and `prove` one at most of the flags
+-- `--dominate` and `--dominate-tree`.
+use Rattle.std.specs.Prelude.{◌≡◌, ◌≢◌, ◌⊎◌, ◌≤◌, ◌&&◌, if◌then◌else◌, ℕ, Bool, List, [], false, true, Option, None, Some, codes, option_and_then, pos}
+use Rattle.std.specs.Borrow.{Bor}
+use Rattle.std.specs.Option.{option_map, option_map_or}
+use Rattle.std.specs.Str.Parse.{digits_value, without_leading_plus}
+use Rattle.clap.specs.Words.{App, IsAmong, Rule, app_of, fault_of, first_of, new_app, new_rule, one_of, rule_of, subcommand_of, with_rule, with_subcommand}
+pub use Rattle.clap.specs.Words.{Text}
+use Rattle.clap.specs.Takes.{is_given}
+use Rattle.clap.specs.declared.builder.action.ArgAction.TheVariants.{SetTrue}
+use Rattle.clap.specs.declared.builder.arg.Arg.{Arg}
+use Rattle.clap.specs.declared.builder.command.Command.{Command as CommandLine}
+use Rattle.clap.specs.declared.builder.command.Command.TheViews.{out-Command}
+use Rattle.clap.specs.declared.builder.value_parser.ValueParser.TheVariants.{Signed}
+use Rattle.clap.specs.declared.error.kind.ErrorKind.{ErrorKind}
+use Rattle.clap.specs.declared.error.kind.ErrorKind.TheVariants as kind
+use Rattle.s66_model.specs.declared.limits.TheConstants.{BUDGET_LIMIT}
+use Rattle.s66_model.specs.declared.rule.Rule.{Rule as LeafRule}
+use Rattle.s66_model.specs.declared.rule.Rule.TheVariants.{NoneNamed, WrittenEarlier, ClampedStanding}
+use Rattle.s66_model.specs.declared.limits.TheConstants.{WORKERS_LIMIT}
+use Rattle.s66_command.specs.declared.limits.TheConstants.{NODES_DEFAULT, WORKERS_DEFAULT}
+use Rattle.s66_command.specs.declared.command.Command.{Command}
+use Rattle.s66_command.specs.declared.command.Command.TheVariants.{Time, Deps, Chart, Order, Prove, Check, Lint, Sum}
+use Rattle.s66_command.specs.declared.usage.Usage.{Usage}
+use Rattle.s66_command.specs.declared.usage.Usage.TheVariants.{Help, Bad, OutOfMemory}
+
+-- a flag by its name
+abbrev pub flag_rule : Text → Rule
+flag_rule name = record (new_rule name) { long = Some name; action = Some SetTrue }
+
+abbrev pub trace_rule : Rule
+trace_rule = flag_rule (codes "trace")
+
+abbrev pub dominate_rule : Rule
+dominate_rule = flag_rule (codes "dominate")
+
+abbrev pub dominate_tree_rule : Rule
+dominate_tree_rule = flag_rule (codes "dominate-tree")
+
+-- an option whose value is a number from the least to the most
+abbrev pub number_rule : Text → ℕ → ℕ → Rule
+number_rule name least most = record (new_rule name) { long = Some name; value_names = 1; parser = Some (Signed (pos least) (pos most)) }
+
+abbrev pub workers_rule : Rule
+workers_rule = number_rule (codes "workers") 1 WORKERS_LIMIT
+
+abbrev pub nodes_rule : Rule
+nodes_rule = number_rule (codes "nodes") 0 BUDGET_LIMIT
+
+-- its value is any text
+abbrev pub profile_rule : Rule
+profile_rule = record (new_rule (codes "profile")) { long = Some (codes "profile"); value_names = 1 }
+
+abbrev pub time_app : App
+time_app = with_rule (with_rule (new_app (codes "time")) profile_rule) trace_rule
+
+abbrev pub deps_app : App
+deps_app = new_app (codes "deps")
+
+abbrev pub chart_app : App
+chart_app = with_rule (new_app (codes "chart")) profile_rule
+
+-- a subcommand that searches
+abbrev pub search_app : Text → App
+search_app name = with_rule (with_rule (with_rule (new_app name) workers_rule) nodes_rule) profile_rule
+
+-- a subcommand that searches, and may leave out what is dominated
+abbrev pub dominating_app : Text → App
+dominating_app name = with_rule (with_rule (search_app name) dominate_rule) dominate_tree_rule
+
+abbrev pub order_app : App
+order_app = with_rule (dominating_app (codes "order")) trace_rule
+
+abbrev pub prove_app : App
+prove_app = dominating_app (codes "prove")
+
+abbrev pub check_app : App
+check_app = new_app (codes "check")
+
+abbrev pub lint_app : App
+lint_app = new_app (codes "lint")
+
+abbrev pub sum_app : App
+sum_app = search_app (codes "sum")
+
+abbrev pub s66_app : App
+s66_app =
+    let drawing = with_subcommand (with_subcommand (with_subcommand (new_app (codes "s66")) time_app.top) deps_app.top) chart_app.top in
+    let searching = with_subcommand (with_subcommand drawing order_app.top) prove_app.top in
+    let a = with_subcommand (with_subcommand (with_subcommand searching check_app.top) lint_app.top) sum_app.top in
+    record a { top = record a.top { subcommand_required = true; has_version = true } }
+
+-- the argument is this one, and not for all subcommands
+abbrev pub IsArgumentOf : Rule → Arg → Type 0
+IsArgumentOf r a = (rule_of a ≡ r) × (a.global ≡ false)
+
+-- the command line is this one, and none of its options is for all subcommands
+abbrev pub IsCommandOf : App → CommandLine → Type 0
+IsCommandOf a c = (app_of c ≡ a) × ((out-Command c).has_globals ≡ false)
+
+-- the subcommand that the words name
+abbrev pub subcommand_name : List Text → Option Text
+subcommand_name words = option_map (λ s. s.0) (subcommand_of s66_app words)
+
+-- the words give the subcommand this option
+abbrev pub has_option : Text → List Text → Bool
+has_option id words = option_map_or (λ s. is_given id s.1) (subcommand_of s66_app words) false
+
+-- the text that the words give the subcommand for this option
+abbrev pub option_text : Text → List Text → Option Text
+option_text id words = option_and_then (λ s. one_of id s.1) (subcommand_of s66_app words)
+
+-- the text that the words give the subcommand for this option, as it stands
+abbrev pub plain_text : Text → List Text → Option Text
+plain_text id words = option_and_then (λ s. first_of id s.1) (subcommand_of s66_app words)
+
+-- the number that the words give the subcommand for this option, or else the default
+abbrev pub option_number : Text → ℕ → List Text → ℕ
+option_number id default words = option_map_or (λ text. digits_value 10 (without_leading_plus text)) (option_text id words) default
+
+-- the words, of which the first is the program's name, have no fault and name the subcommand
+abbrev pub AsksFor : List Text → Text → Type 0
+AsksFor words name = (fault_of s66_app words ≡ []) × (subcommand_name words ≡ Some name)
+
+-- they give a search these numbers
+abbrev pub GivesSearch : List Text → (workers nodes : ℕ) → Type 0
+GivesSearch words workers nodes =
+    (workers ≡ option_number (codes "workers") WORKERS_DEFAULT words) × (1 ≤ workers) × (workers ≤ WORKERS_LIMIT)
+    × (nodes ≡ option_number (codes "nodes") NODES_DEFAULT words) × (nodes ≤ BUDGET_LIMIT)
+
+-- which nodes dominated leaves name by the flags `--dominate` and `--dominate-tree`
+abbrev pub rule_by : (dominate dominate_tree : Bool) → LeafRule
+rule_by dominate dominate_tree = if dominate_tree then ClampedStanding else (if dominate then WrittenEarlier else NoneNamed)
+
+-- by one of them at most
+abbrev pub rule_unless_both : (dominate dominate_tree : Bool) → Option LeafRule
+rule_unless_both dominate dominate_tree = if dominate && dominate_tree then None else Some (rule_by dominate dominate_tree)
+
+-- by the words
+abbrev pub rule_given : List Text → LeafRule
+rule_given words = rule_by (has_option (codes "dominate") words) (has_option (codes "dominate-tree") words)
+
+-- the words give both flags
+abbrev pub gives_both : List Text → Bool
+gives_both words = has_option (codes "dominate") words && has_option (codes "dominate-tree") words
+
+-- they give a search this rule, by one flag at most
+abbrev pub GivesRule : List Text → LeafRule → Type 0
+GivesRule words rule = (rule ≡ rule_given words) × (gives_both words ≡ false)
+
+-- they give it this text for its profile, if any
+abbrev pub GivesProfile : List Text → Option (Bor Text) → Type 0
+GivesProfile words profile = option_map (λ text. text.now) profile ≡ plain_text (codes "profile") words
+
+-- they ask for the command
+abbrev pub Asks : List Text → Command → Type 0
+Asks words (Time trace profile) =
+    AsksFor words (codes "time") × (trace ≡ has_option (codes "trace") words) × GivesProfile words profile
+Asks words Deps = AsksFor words (codes "deps")
+Asks words (Chart profile) = AsksFor words (codes "chart") × GivesProfile words profile
+Asks words (Order options trace profile) =
+    AsksFor words (codes "order") × GivesSearch words options.workers options.nodes × GivesRule words options.rule
+    × (trace ≡ has_option (codes "trace") words) × GivesProfile words profile
+Asks words (Prove options profile) =
+    AsksFor words (codes "prove") × GivesSearch words options.workers options.nodes × GivesRule words options.rule × GivesProfile words profile
+Asks words Check = AsksFor words (codes "check")
+Asks words Lint = AsksFor words (codes "lint")
+Asks words (Sum options profile) =
+    AsksFor words (codes "sum") × GivesSearch words options.workers options.nodes × (options.rule ≡ NoneNamed) × GivesProfile words profile
+
+-- a kind of error that is no mistake
+abbrev pub IsHelp : ErrorKind → Type 0
+IsHelp k = (k ≡ kind.DisplayHelp) ⊎ (k ≡ kind.DisplayVersion)
+
+-- how an error of this kind is shown; out of memory may come in place of any other
+abbrev pub IsUsageOf : ErrorKind → Usage → Type 0
+IsUsageOf k (Help text) = IsHelp k
+IsUsageOf k (Bad text) = (IsHelp k → ⊥) × (k ≢ kind.OutOfMemory)
+IsUsageOf k OutOfMemory = Unit {0}
+
+-- the words are no command: they ask for help, or they have a fault that is no help, or they have none but give two flags that exclude one another
+abbrev pub Refuses : List Text → Usage → Type 0
+Refuses words (Help text) = (k : ErrorKind) × IsAmong k (fault_of s66_app words) × IsHelp k
+Refuses words (Bad text) =
+    ((k : ErrorKind) × IsAmong k (fault_of s66_app words) × (IsHelp k → ⊥)) ⊎ ((fault_of s66_app words ≡ []) × (gives_both words ≡ true))
+Refuses words OutOfMemory = Unit {0}
+
+abbrev pub usage_code : Usage → ℕ
+usage_code (Help text) = 0
+usage_code (Bad text) = 2
+usage_code OutOfMemory = 4

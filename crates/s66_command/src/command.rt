@@ -1,0 +1,66 @@
+use s66_model::Options;
+
+/// What the program is asked for.
+#[derive(Clone, Copy, Debug, PartialEq, Eq)]
+pub enum Command<'a> {
+    /// The times of each block of a source, as it was written.
+    Time {
+        /// Whether the times of each instruction are printed.
+        trace: bool,
+        /// The text of the profile, if it isn't the standard one.
+        profile: Option<&'a str>,
+    },
+    /// On which instructions each instruction of a block depends.
+    Deps,
+    /// A chart of each block of a source, as it was written.
+    Chart {
+        /// The text of the profile, if it isn't the standard one.
+        profile: Option<&'a str>,
+    },
+    /// Each block of a source in the best order that was found.
+    Order {
+        /// How the orders of each block are searched.
+        options: Options,
+        /// Whether the number of splits is printed.
+        trace: bool,
+        /// The text of the profile, if it isn't the standard one.
+        profile: Option<&'a str>,
+    },
+    /// A document for each block of a source: an order, its time, a bound, and a tree that shows the bound.
+    Prove {
+        /// How the orders of each block are searched.
+        options: Options,
+        /// The text of the profile, if it isn't the standard one.
+        profile: Option<&'a str>,
+    },
+    /// The verdict on each document.
+    Check,
+    /// How long each block of a source takes in the best order that was found, and all of them.
+    Sum {
+        /// How the orders of each block are searched.
+        options: Options,
+        /// The text of the profile, if it isn't the standard one.
+        profile: Option<&'a str>,
+    },
+    /// The lines of a source, which may be any text, that are refused or that may not do what was meant.
+    Lint,
+}
+
+impl<'a> Command<'a> {
+    ghost use Rattle.std.specs.Prelude.{◌≡◌, option_map};
+    ghost use Rattle.s66_command.specs.Profile.{profile_text};
+
+    /// The text of its profile, if it has one.
+    pub fn profile_text(self) -> Option<&'a str>
+        ensures { option_map (λ text. text.now) result ≡ profile_text self.entry }
+    {
+        match self {
+            Command::Time { profile, .. }
+            | Command::Chart { profile }
+            | Command::Order { profile, .. }
+            | Command::Prove { profile, .. }
+            | Command::Sum { profile, .. } => profile,
+            Command::Deps | Command::Check | Command::Lint => None,
+        }
+    }
+}

@@ -1,0 +1,10 @@
+//! The command line: what the words that the program is called with ask for.
+#![tactic(auto)]
+
+mod command;
+mod limits;
+mod usage;
+
+pub use command::Command;
+pub use limits::{NODES_DEFAULT, WORKERS_DEFAULT};
+pub use usage::{Usage, VERSION, command_of};

@@ -1,0 +1,469 @@
+ghost use Rattle.std.specs.Prelude.{◌≡◌, IfOk, IfErr, List, codes, map};
+ghost use Rattle.clap.specs.Words.{Text, app_of, found_of, kind_of, new_app, one_text};
+ghost use Rattle.clap.specs.declared.error.kind.ErrorKind.TheVariants.{ArgumentConflict};
+ghost use Rattle.s66_model.specs.declared.limits.TheConstants.{BUDGET_LIMIT};
+ghost use Rattle.s66_model.specs.declared.limits.TheConstants.{WORKERS_LIMIT};
+ghost use Rattle.s66_command.specs.declared.limits.TheConstants.{NODES_DEFAULT, WORKERS_DEFAULT};
+ghost use Rattle.s66_command.specs.Usage.{Asks, IsArgumentOf, IsCommandOf, IsUsageOf, Refuses, chart_app, check_app, deps_app, dominating_app, flag_rule, lint_app, nodes_rule, order_app, profile_rule, prove_app, rule_unless_both, s66_app, search_app, sum_app, time_app, workers_rule};
+ghost use Rattle.s66_command.specs.OptionNumbers.{IsNumber, IsReadAs};
+ghost use Rattle.s66_command.specs.declared.usage.Usage.TheVariants.{OutOfMemory};
+
+use crate::command::Command as Asked;
+use crate::limits::{NODES_DEFAULT, WORKERS_DEFAULT};
+use clap::error::ErrorKind;
+use clap::{Arg, ArgAction, ArgMatches, Command, Error, value_parser};
+use s66_isa::PROFILE_LIMIT;
+use s66_model::{BUDGET_LIMIT, Options, Rule, WORKERS_LIMIT};
+use std::alloc::{AllocError, Global};
+use std::convert::AsStr;
+
+/// The version of the program.
+pub const VERSION: &str = "0.1.0";
+
+/// Why words are no command.
+#[derive(Debug, Drop)]
+pub enum Usage {
+    /// They ask for help or for the version, which is the text.
+    Help(String),
+    /// They are a mistake, which the text names.
+    Bad(String),
+    OutOfMemory,
+}
+
+impl From<AllocError> for Usage {
+    ghost from_gives = { λ _ usage. usage ≡ OutOfMemory };
+
+    fn from(_e: AllocError) -> Usage {
+        Usage::OutOfMemory
+    }
+}
+
+impl Usage {
+    ghost use Rattle.std.specs.Prelude.{◌≡◌};
+    ghost use Rattle.s66_command.specs.Usage.{usage_code};
+
+    /// The status of the process.
+    pub fn code(&self) -> u8
+        ensures { result ≡ usage_code self.now }
+    {
+        match self {
+            Usage::Help(_) => 0,
+            Usage::Bad(_) => 2,
+            Usage::OutOfMemory => 4,
+        }
+    }
+}
+
+/// What an error of clap's is, with its text.
+fn usage_of(alloc: Global, error: &Error) -> Usage
+    ensures { IsUsageOf (kind_of error.now) result }
+{
+    let Ok(text) = error.to_string(alloc) else {
+        return Usage::OutOfMemory;
+    };
+    match error.kind() {
+        ErrorKind::DisplayHelp | ErrorKind::DisplayVersion => Usage::Help(text),
+        ErrorKind::OutOfMemory => Usage::OutOfMemory,
+        _ => Usage::Bad(text),
+    }
+}
+
+/// What the help of a subcommand ends with: an example, the statuses, and those that it has alone.
+macro_rules! help_ending {
+    ($example:literal) => {
+        help_ending!($example, "the source or the profile was refused", "")
+    };
+    ($example:literal, $refusal:literal, $own_statuses:literal) => {
+        concat!(
+            "Example: ",
+            $example,
+            "\n\nStatus: 0 done, 2 usage, 3 ",
+            $refusal,
+            ", 4 out of memory, 6 a read or write failed",
+            $own_statuses
+        )
+    };
+}
+
+const TIME_ENDING: &str = help_ending!("s66 time --trace < SOURCE");
+
+const DEPS_ENDING: &str = help_ending!("s66 deps < SOURCE", "the source was refused", "");
+
+const CHART_ENDING: &str = help_ending!("s66 chart < SOURCE");
+
+const ORDER_ENDING: &str = help_ending!(
+    "s66 order --nodes 1000 < SOURCE",
+    "the source or the profile was refused",
+    ", 7 some block is only bounded"
+);
+
+const PROVE_ENDING: &str = help_ending!(
+    "s66 prove --nodes 1000 < SOURCE",
+    "the source or the profile was refused",
+    ", 7 some block is only bounded"
+);
+
+const SUM_ENDING: &str = help_ending!(
+    "s66 sum --nodes 1000 < SOURCE",
+    "the source or the profile was refused",
+    ", 7 some block is only bounded"
+);
+
+const CHECK_ENDING: &str = help_ending!(
+    "s66 check < CERTIFICATES",
+    "the documents were refused",
+    ", 5 some verdict is NO"
+);
+
+const LINT_ENDING: &str = "\
+Example: s66 lint < SOURCE
+
+Status: 0 done, 2 usage, 4 out of memory, 5 some line is listed, 6 a read or write failed";
+
+const PROFILE_HELP: &str = "\
+The timing profile, a JSON object; what it does not name is standard, and {} is the standard profile.
+
+Times in minor cycles: boolean, shift, normalise, add, longadd, multiply, divide, population, increment, load.
+Units of each kind: units_boolean, units_shift, units_add, units_longadd, units_multiply, units_divide, units_increment.
+Each is 1 to 100.
+
+A third Multiply unit: --profile '{\"units_multiply\":3}'";
+
+const NODES_HELP: &str = "\
+The most splits of a block's search, 0 to 1000000 [default: 100000]
+
+A split divides all orders with one beginning by the instruction that comes next.";
+
+const DOMINATE_HELP: &str = "Leaves out beginnings of orders that an earlier one dominates";
+
+const DOMINATE_TREE_HELP: &str =
+    "Leaves out beginnings of orders that any other one dominates: proves far more blocks best";
+
+/// A flag by its name.
+fn flag<'a>(alloc: Global, name: &'a str, help: &'a str) -> Arg<'a>
+    ensures { IsArgumentOf (flag_rule name.entry.now) result }
+{
+    Arg::new(alloc, name)
+        .long(name)
+        .help(help)
+        .action(ArgAction::SetTrue)
+}
+
+// the help of the options says these as numbers
+const _: () = prove!(PROFILE_LIMIT == 100);
+
+const _: () = prove!(WORKERS_LIMIT == 16);
+
+const _: () = prove!(WORKERS_DEFAULT == 4);
+
+const _: () = prove!(BUDGET_LIMIT == 1_000_000);
+
+const _: () = prove!(NODES_DEFAULT == 100_000);
+
+/// The option `--workers`.
+fn workers_option<'a>(alloc: Global) -> Arg<'a>
+    ensures { IsArgumentOf workers_rule result }
+{
+    Arg::new(alloc, "workers")
+        .long("workers")
+        .value_name("N")
+        .help("How many workers search, 1 to 16 [default: 4]")
+        .value_parser(value_parser!(u8).range(1..=i64::from(WORKERS_LIMIT)))
+}
+
+/// The option `--nodes`.
+fn nodes_option<'a>(alloc: Global) -> Arg<'a>
+    ensures { IsArgumentOf nodes_rule result }
+{
+    Arg::new(alloc, "nodes")
+        .long("nodes")
+        .value_name("N")
+        .help("The most splits of a block's search, 0 to 1000000 [default: 100000]")
+        .long_help(NODES_HELP)
+        .value_parser(value_parser!(u32).range(..=i64::from(BUDGET_LIMIT)))
+}
+
+/// The option `--profile`.
+fn profile_option<'a>(alloc: Global) -> Arg<'a>
+    ensures { IsArgumentOf profile_rule result }
+{
+    Arg::new(alloc, "profile")
+        .long("profile")
+        .value_name("TEXT")
+        .help("The timing profile, a JSON object [default: {}, the standard one]")
+        .long_help(PROFILE_HELP)
+}
+
+/// A subcommand by its name, with its help: what it does, how it is called, and how the help ends.
+fn described<'a>(
+    alloc: Global,
+    name: &'a str,
+    about: &'a str,
+    usage: &'a str,
+    ending: &'a str,
+) -> Command<'a>
+    ensures { IsCommandOf (new_app name.entry.now) result }
+{
+    Command::new(alloc, name)
+        .about(about)
+        .override_usage(usage)
+        .after_help(ending)
+}
+
+/// The subcommand `time`.
+fn time_command<'a>(alloc: Global) -> Result<Command<'a>, AllocError>
+    ensures { IfOk result (IsCommandOf time_app) }
+{
+    described(
+        alloc,
+        "time",
+        "Times each block of a source as it was written",
+        "s66 time [OPTIONS] < SOURCE",
+        TIME_ENDING,
+    )
+    .arg(profile_option(alloc))?
+    .arg(flag(alloc, "trace", "Prints the times of each instruction"))
+}
+
+/// The subcommand `deps`.
+fn deps_command<'a>(alloc: Global) -> Command<'a>
+    ensures { IsCommandOf deps_app result }
+{
+    described(
+        alloc,
+        "deps",
+        "Prints on what each instruction of a block depends",
+        "s66 deps < SOURCE",
+        DEPS_ENDING,
+    )
+}
+
+/// The subcommand `chart`.
+fn chart_command<'a>(alloc: Global) -> Result<Command<'a>, AllocError>
+    ensures { IfOk result (IsCommandOf chart_app) }
+{
+    described(
+        alloc,
+        "chart",
+        "Draws each block of a source as it was written",
+        "s66 chart [OPTIONS] < SOURCE",
+        CHART_ENDING,
+    )
+    .arg(profile_option(alloc))
+}
+
+/// A subcommand that searches.
+fn search_command<'a>(
+    alloc: Global,
+    name: &'a str,
+    about: &'a str,
+    usage: &'a str,
+    ending: &'a str,
+) -> Result<Command<'a>, AllocError>
+    ensures { IfOk result (IsCommandOf (search_app name.entry.now)) }
+{
+    described(alloc, name, about, usage, ending)
+        .arg(workers_option(alloc))?
+        .arg(nodes_option(alloc))?
+        .arg(profile_option(alloc))
+}
+
+/// A subcommand that searches, with the flags that tell which nodes dominated leaves name.
+fn dominating_command<'a>(
+    alloc: Global,
+    name: &'a str,
+    about: &'a str,
+    usage: &'a str,
+    ending: &'a str,
+) -> Result<Command<'a>, AllocError>
+    ensures { IfOk result (IsCommandOf (dominating_app name.entry.now)) }
+{
+    search_command(alloc, name, about, usage, ending)?
+        .arg(flag(alloc, "dominate", DOMINATE_HELP))?
+        .arg(flag(alloc, "dominate-tree", DOMINATE_TREE_HELP))
+}
+
+/// The subcommand `order`.
+fn order_command<'a>(alloc: Global) -> Result<Command<'a>, AllocError>
+    ensures { IfOk result (IsCommandOf order_app) }
+{
+    dominating_command(
+        alloc,
+        "order",
+        "Writes each block of a source in the best order that was found",
+        "s66 order [OPTIONS] < SOURCE",
+        ORDER_ENDING,
+    )?
+    .arg(flag(alloc, "trace", "Prints the number of splits of each block"))
+}
+
+/// The subcommand `prove`.
+fn prove_command<'a>(alloc: Global) -> Result<Command<'a>, AllocError>
+    ensures { IfOk result (IsCommandOf prove_app) }
+{
+    dominating_command(
+        alloc,
+        "prove",
+        "Writes a certificate for each block of a source: the best order that was found, and a bound with its proof",
+        "s66 prove [OPTIONS] < SOURCE",
+        PROVE_ENDING,
+    )
+}
+
+/// The subcommand `check`.
+fn check_command<'a>(alloc: Global) -> Command<'a>
+    ensures { IsCommandOf check_app result }
+{
+    described(
+        alloc,
+        "check",
+        "Checks each certificate by itself",
+        "s66 check < CERTIFICATES",
+        CHECK_ENDING,
+    )
+}
+
+/// The subcommand `lint`.
+fn lint_command<'a>(alloc: Global) -> Command<'a>
+    ensures { IsCommandOf lint_app result }
+{
+    described(
+        alloc,
+        "lint",
+        "Lists each line of a source that is refused, or that may not do what was meant",
+        "s66 lint < SOURCE",
+        LINT_ENDING,
+    )
+}
+
+/// The subcommand `sum`.
+fn sum_command<'a>(alloc: Global) -> Result<Command<'a>, AllocError>
+    ensures { IfOk result (IsCommandOf sum_app) }
+{
+    search_command(
+        alloc,
+        "sum",
+        "Prints what each block of a source takes in the best order that was found, and all of them",
+        "s66 sum [OPTIONS] < SOURCE",
+        SUM_ENDING,
+    )
+}
+
+/// The command line of the program, which usage and help call s66 whatever the program's file is named.
+fn program<'a>(alloc: Global) -> Result<Command<'a>, AllocError>
+    ensures { IfOk result (λ c. app_of c ≡ s66_app) }
+{
+    Command::new(alloc, "s66")
+        .bin_name("s66")?
+        .version(VERSION)
+        .about(
+            "Times, draws, orders and proves straight-line blocks of COMPASS code for the CDC 6600",
+        )
+        .subcommand_required(true)
+        .subcommand(time_command(alloc)?)?
+        .subcommand(deps_command(alloc))?
+        .subcommand(chart_command(alloc)?)?
+        .subcommand(order_command(alloc)?)?
+        .subcommand(prove_command(alloc)?)?
+        .subcommand(check_command(alloc))?
+        .subcommand(lint_command(alloc))?
+        .subcommand(sum_command(alloc)?)
+}
+
+/// How many workers search, by the words of a subcommand that searches.
+fn workers_in(matches: &ArgMatches) -> u8
+    ensures { IsNumber 1 WORKERS_LIMIT (one_text (found_of matches.now) (codes "workers")) → IsReadAs 1 WORKERS_LIMIT WORKERS_DEFAULT (one_text (found_of matches.now) (codes "workers")) result }
+{
+    matches.get_one("workers").unwrap_or(WORKERS_DEFAULT)
+}
+
+/// The most splits of a search, by the words of a subcommand that searches.
+fn nodes_in(matches: &ArgMatches) -> u32
+    ensures { IsNumber 0 BUDGET_LIMIT (one_text (found_of matches.now) (codes "nodes")) → IsReadAs 0 BUDGET_LIMIT NODES_DEFAULT (one_text (found_of matches.now) (codes "nodes")) result }
+{
+    matches.get_one("nodes").unwrap_or(NODES_DEFAULT)
+}
+
+/// Which nodes dominated leaves name by the flags `--dominate` and `--dominate-tree`, unless both are given.
+fn rule_of(dominate: bool, dominate_tree: bool) -> Option<Rule>
+    ensures { result ≡ rule_unless_both dominate dominate_tree }
+{
+    match (dominate, dominate_tree) {
+        (false, false) => Some(Rule::NoneNamed),
+        (true, false) => Some(Rule::WrittenEarlier),
+        (false, true) => Some(Rule::ClampedStanding),
+        (true, true) => None,
+    }
+}
+
+/// The mistake of words that give a subcommand both flags.
+fn both_given(alloc: Global, mut command: Command<'_>) -> Usage
+    ensures { IsUsageOf ArgumentConflict result }
+{
+    let message = "the argument '--dominate' cannot be used with '--dominate-tree'";
+    match command.error(ErrorKind::ArgumentConflict, message) {
+        Ok(error) => usage_of(alloc, &error),
+        Err(AllocError) => Usage::OutOfMemory,
+    }
+}
+
+/// The command that the words give, of which the first is the program's name.
+pub fn command_of<'a, S: AsStr>(alloc: Global, words: &'a [S]) -> Result<Asked<'a>, Usage>
+    ensures ok { IfOk result (λ command. Asks (map S.text words.entry.now) command) }
+    ensures err { IfErr result (λ usage. Refuses (map S.text words.entry.now) usage) }
+{
+    let matches = match program(alloc)?.try_get_matches_from(words) {
+        Ok(matches) => matches,
+        Err(error) => return Err(usage_of(alloc, &error)),
+    };
+    match matches.subcommand() {
+        Some(("time", time)) => Ok(Asked::Time {
+            trace: time.get_flag("trace"),
+            profile: time.get_str("profile"),
+        }),
+        Some(("deps", _)) => Ok(Asked::Deps),
+        Some(("chart", chart)) => Ok(Asked::Chart {
+            profile: chart.get_str("profile"),
+        }),
+        Some(("order", order)) => {
+            let dominate = order.get_flag("dominate");
+            let Some(rule) = rule_of(dominate, order.get_flag("dominate-tree")) else {
+                return Err(both_given(alloc, order_command(alloc)?));
+            };
+            Ok(Asked::Order {
+                options: Options {
+                    workers: workers_in(order),
+                    nodes: nodes_in(order),
+                    rule,
+                },
+                trace: order.get_flag("trace"),
+                profile: order.get_str("profile"),
+            })
+        }
+        Some(("prove", prove)) => {
+            let dominate = prove.get_flag("dominate");
+            let Some(rule) = rule_of(dominate, prove.get_flag("dominate-tree")) else {
+                return Err(both_given(alloc, prove_command(alloc)?));
+            };
+            Ok(Asked::Prove {
+                options: Options {
+                    workers: workers_in(prove),
+                    nodes: nodes_in(prove),
+                    rule,
+                },
+                profile: prove.get_str("profile"),
+            })
+        }
+        Some(("check", _)) => Ok(Asked::Check),
+        Some(("lint", _)) => Ok(Asked::Lint),
+        Some(("sum", sum)) => Ok(Asked::Sum {
+            options: Options {
+                workers: workers_in(sum),
+                nodes: nodes_in(sum),
+                rule: Rule::NoneNamed,
+            },
+            profile: sum.get_str("profile"),
+        }),
+        _ => unreachable!(),
+    }
+}

@@ -1,9 +1,0 @@
-use Rattle.std.proofs.lemmas.Result.{IfOk-weaker}
-use Rattle.s66_program.specs.Usage.{IsCommandOf, chart_app, profile_rule}
-use Rattle.s66_program.proofs.CommandLine.{with-arg}
-use Rattle.s66_program.proofs.usage.chart_command.Goals as goal
-
-pub returns : goal.returns
-returns c =
-    let ended = c.described.ensures in
-    IfOk-weaker c.arg.result _ (IsCommandOf chart_app) (λ r adds. with-arg _ profile_rule c.described.result r c.profile_option.result ended c.profile_option.ensures.0 c.profile_option.ensures.1 adds) c.arg.ensures
