@@ -84,6 +84,7 @@ impl Sink for Counts {
 pub fn summed<R: AllocGlobal + Threads + Wait + Sync>(rt: &R) -> Result<Answered, AllocError> {
     let command = Command::Sum {
         options: OPTIONS,
+        trace: false,
         profile: None,
     };
     let mut reader = OverRead::new(MULTIPLIES.as_bytes());

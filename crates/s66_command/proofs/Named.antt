@@ -17,12 +17,12 @@ use Rattle.clap.specs.Simple.{entered, label_of, names_of}
 use Rattle.clap.specs.Faults.{check_fault, defaults_fault, entered_fault, fault_of, level_fault, settle_fault, other_fault, turn_fault, walk_fault, word_fault}
 use Rattle.clap.proofs.SimpleLemmas.{is_nil}
 use Rattle.clap.proofs.WalkLemmas.{both, first_value-rows, one_text-rows}
-use Rattle.s66_model.specs.declared.limits.TheConstants.{BUDGET_LIMIT}
+use Rattle.s66_model.specs.declared.limits.TheConstants.{BUDGET_LIMIT, WORKERS_LIMIT}
+use Rattle.s66_model.specs.declared.options.Options.{Options}
 use Rattle.s66_model.specs.declared.rule.Rule.{Rule as LeafRule}
-use Rattle.s66_model.specs.declared.limits.TheConstants.{WORKERS_LIMIT}
 use Rattle.s66_command.specs.declared.limits.TheConstants.{NODES_DEFAULT, WORKERS_DEFAULT}
-use Rattle.s66_command.specs.OptionNumbers.{IsNumber, IsReadAs}
-use Rattle.s66_command.specs.Usage.{AsksFor, GivesProfile, GivesRule, GivesSearch, gives_both, has_option, option_text, rule_by, rule_unless_both, s66_app, subcommand_name}
+use Rattle.s66_command.specs.FoundOptions.{AreOptionsFound, IsFlagFound, IsNumber, IsNumberFound, IsReadAs, IsRuleFound}
+use Rattle.s66_command.specs.Usage.{AsksFor, GivesProfile, GivesSearch, gives_both, has_option, option_text, rule_by, rule_unless_both, s66_app, subcommand_name}
 use Rattle.s66_command.proofs.Faults.{first-none, full, second-none}
 use Rattle.s66_command.proofs.Flags.{HasFlag, flag-is}
 use Rattle.s66_command.proofs.OptionRanges.{HasNumber, number-is}
@@ -265,72 +265,16 @@ matched m words found s is name at rows =
       subst (λ (t : Shape). level_fault t [] nothing_held met.1 false [] ≡ []) same-shape met.5,
     )
 
+-- the options have the flag of this name
+abbrev pub HasFlagOf : Text → List Rule → Type 0
+HasFlagOf name rules = HasFlag name name rules × (is_some (arg_by_id rules name) ≡ true)
+
 -- a flag of a subcommand, as it was read of what was found for it
-pub flag-of : (words : List Text) (found : Found) (flag : Bool) (s : Shape) (id long : Text) → IsMatched found words s → HasFlag id long s.rules →
-    is_some (arg_by_id s.rules id) ≡ true → (one_text found id ≡ Some (codes "true") → flag ≡ true) →
-    (one_text found id ≡ Some (codes "false") → flag ≡ false) → flag ≡ has_option id words
-flag-of words found flag s id long is options there when-true when-false =
-    flag-is id long s.rules options there is.0 (rows_of found) (one_text found id) flag is.1 (one_text-rows found id) when-true when-false
-    ∙ sym (ap (λ o. option_map_or (λ (p : Text × List Row). is_given id p.1) o false) is.2)
-
--- THE FLAGS `--dominate` AND `--dominate-tree`
-
--- the options have both
-abbrev pub HasRuleFlags : List Rule → Type 0
-HasRuleFlags rules =
-    HasFlag (codes "dominate") (codes "dominate") rules × HasFlag (codes "dominate-tree") (codes "dominate-tree") rules
-    × (is_some (arg_by_id rules (codes "dominate")) ≡ true) × (is_some (arg_by_id rules (codes "dominate-tree")) ≡ true)
-
--- the options of the subcommand of that name
-abbrev rules_at : Text → List Rule
-rules_at name = option_map_or (λ (s : Shape). s.rules) (subcommand_at name) []
-
-pub order-flags : HasRuleFlags (rules_at (codes "order"))
-order-flags = (
-  (inr refl, (inr refl, (inr refl, (inl refl, (inr refl, (inr refl, (inr refl, tt))))))),
-  (inr refl, (inr refl, (inr refl, (inr refl, (inl refl, (inr refl, (inr refl, tt))))))),
-  refl,
-  refl,
-)
-
-pub prove-flags : HasRuleFlags (rules_at (codes "prove"))
-prove-flags = (
-  (inr refl, (inr refl, (inr refl, (inl refl, (inr refl, (inr refl, tt)))))),
-  (inr refl, (inr refl, (inr refl, (inr refl, (inl refl, (inr refl, tt)))))),
-  refl,
-  refl,
-)
-
--- a flag as clap returns it of what was found
-abbrev pub IsStated : Found → Text → Bool → Type 0
-IsStated found id flag = (one_text found id ≡ Some (codes "true") → flag ≡ true) × (one_text found id ≡ Some (codes "false") → flag ≡ false)
-
--- each is what the words give
-flags-of : (words : List Text) (found : Found) (dominate any : Bool) (s : Shape) → IsMatched found words s → HasRuleFlags s.rules →
-    IsStated found (codes "dominate") dominate → IsStated found (codes "dominate-tree") any → rule_unless_both dominate any ≡ rule_unless_both (has_option (codes "dominate") words) (has_option (codes "dominate-tree") words)
-flags-of words found dominate any s is has stated any-stated =
-    ap₂ rule_unless_both (flag-of words found dominate s (codes "dominate") (codes "dominate") is has.0 has.2 stated.0 stated.1)
-    (flag-of words found any s (codes "dominate-tree") (codes "dominate-tree") is has.1 has.3 any-stated.0 any-stated.1)
-
-one-given : (dominate any : Bool) (rule : LeafRule) → Some rule ≡ rule_unless_both dominate any → (rule ≡ rule_by dominate any) × ((dominate && any) ≡ false)
-one-given true true rule is = absurd (true≢false (ap is_some is))
-one-given true false rule is = (ap (λ o. unwrap_or o rule) is, refl)
-one-given false any rule is = (ap (λ o. unwrap_or o rule) is, refl)
-
-pub rule-of : (words : List Text) (found : Found) (dominate any : Bool) (rule : LeafRule) (s : Shape) → IsMatched found words s → HasRuleFlags s.rules →
-    IsStated found (codes "dominate") dominate → IsStated found (codes "dominate-tree") any → Some rule ≡ rule_unless_both dominate any → GivesRule words rule
-rule-of words found dominate any rule s is has stated any-stated gives =
-    one-given (has_option (codes "dominate") words) (has_option (codes "dominate-tree") words) rule (gives ∙ flags-of words found dominate any s is has stated any-stated)
-
-both-given : (dominate any : Bool) → None ≡ rule_unless_both dominate any → (dominate && any) ≡ true
-both-given true true is = refl
-both-given true false is = absurd (true≢false (ap is_some (sym is)))
-both-given false any is = absurd (true≢false (ap is_some (sym is)))
-
-pub both-of : (words : List Text) (found : Found) (dominate any : Bool) (s : Shape) → IsMatched found words s → HasRuleFlags s.rules →
-    IsStated found (codes "dominate") dominate → IsStated found (codes "dominate-tree") any → None ≡ rule_unless_both dominate any → gives_both words ≡ true
-both-of words found dominate any s is has stated any-stated gives =
-    both-given (has_option (codes "dominate") words) (has_option (codes "dominate-tree") words) (gives ∙ flags-of words found dominate any s is has stated any-stated)
+pub flag-of : (words : List Text) (found : Found) (flag : Bool) (s : Shape) (name : Text) → IsMatched found words s → HasFlagOf name s.rules → IsFlagFound found name flag →
+    flag ≡ has_option name words
+flag-of words found flag s name is (options, there) (when-true, when-false) =
+    flag-is name name s.rules options there is.0 (rows_of found) (one_text found name) flag is.1 (one_text-rows found name) when-true when-false
+    ∙ sym (ap (λ o. option_map_or (λ (p : Text × List Row). is_given name p.1) o false) is.2)
 
 -- the text of a subcommand's profile, as it was found
 pub profile-of : (words : List Text) (found : Found) (s : Shape) (profile : Option (Bor Text)) → IsMatched found words s →
@@ -348,17 +292,71 @@ number-of words found s id least most is options = (
 
 -- a number's option of a subcommand, as it was read of what was found for it
 number-given : (words : List Text) (found : Found) (s : Shape) (id : Text) (least most default n : ℕ) → IsMatched found words s → HasNumber id least most s.rules →
-    (IsNumber least most (one_text found id) → IsReadAs least most default (one_text found id) n) → IsReadAs least most default (option_text id words) n
+    IsNumberFound found id least most default n → IsReadAs least most default (option_text id words) n
 number-given words found s id least most default n is options read =
     let there = number-of words found s id least most is options in
     subst (λ text. IsReadAs least most default text n) there.1 (read there.0)
 
--- the numbers of a search, as they were read of what was found for its subcommand
-pub search-of : (words : List Text) (found : Found) (s : Shape) (workers nodes : ℕ) → IsMatched found words s →
-    HasNumber (codes "workers") 1 WORKERS_LIMIT s.rules → HasNumber (codes "nodes") 0 BUDGET_LIMIT s.rules →
-    (IsNumber 1 WORKERS_LIMIT (one_text found (codes "workers")) → IsReadAs 1 WORKERS_LIMIT WORKERS_DEFAULT (one_text found (codes "workers")) workers) →
-    (IsNumber 0 BUDGET_LIMIT (one_text found (codes "nodes")) → IsReadAs 0 BUDGET_LIMIT NODES_DEFAULT (one_text found (codes "nodes")) nodes) → GivesSearch words workers nodes
-search-of words found s workers nodes is has-workers has-nodes read-workers read-nodes =
-    let by = number-given words found s (codes "workers") 1 WORKERS_LIMIT WORKERS_DEFAULT workers is has-workers read-workers in
-    let up-to = number-given words found s (codes "nodes") 0 BUDGET_LIMIT NODES_DEFAULT nodes is has-nodes read-nodes in
-    (by.0, by.1, by.2, up-to.0, up-to.2)
+-- THE OPTIONS OF A SEARCH
+
+-- the options have the numbers of a search and both flags
+abbrev pub HasSearchOptions : List Rule → Type 0
+HasSearchOptions rules =
+    HasNumber (codes "workers") 1 WORKERS_LIMIT rules × HasNumber (codes "nodes") 0 BUDGET_LIMIT rules
+    × HasFlagOf (codes "dominate") rules × HasFlagOf (codes "dominate-tree") rules
+
+-- the options of the subcommand of that name
+abbrev rules_at : Text → List Rule
+rules_at name = option_map_or (λ (s : Shape). s.rules) (subcommand_at name) []
+
+pub order-options : HasSearchOptions (rules_at (codes "order"))
+order-options = (
+  (inl refl, (inr refl, (inr refl, (inr refl, (inr refl, (inr refl, (inr refl, tt))))))),
+  (inr refl, (inl refl, (inr refl, (inr refl, (inr refl, (inr refl, (inr refl, tt))))))),
+  ((inr refl, (inr refl, (inr refl, (inl refl, (inr refl, (inr refl, (inr refl, tt))))))), refl),
+  ((inr refl, (inr refl, (inr refl, (inr refl, (inl refl, (inr refl, (inr refl, tt))))))), refl),
+)
+
+pub prove-options : HasSearchOptions (rules_at (codes "prove"))
+prove-options = (
+  (inl refl, (inr refl, (inr refl, (inr refl, (inr refl, (inr refl, tt)))))),
+  (inr refl, (inl refl, (inr refl, (inr refl, (inr refl, (inr refl, tt)))))),
+  ((inr refl, (inr refl, (inr refl, (inl refl, (inr refl, (inr refl, tt)))))), refl),
+  ((inr refl, (inr refl, (inr refl, (inr refl, (inl refl, (inr refl, tt)))))), refl),
+)
+
+pub sum-options : HasSearchOptions (rules_at (codes "sum"))
+sum-options = (
+  (inl refl, (inr refl, (inr refl, (inr refl, (inr refl, (inr refl, (inr refl, tt))))))),
+  (inr refl, (inl refl, (inr refl, (inr refl, (inr refl, (inr refl, (inr refl, tt))))))),
+  ((inr refl, (inr refl, (inr refl, (inl refl, (inr refl, (inr refl, (inr refl, tt))))))), refl),
+  ((inr refl, (inr refl, (inr refl, (inr refl, (inl refl, (inr refl, (inr refl, tt))))))), refl),
+)
+
+-- the rule is what the words give
+rule-given : (words : List Text) (found : Found) (rule : Option LeafRule) (s : Shape) → IsMatched found words s → HasSearchOptions s.rules → IsRuleFound found rule →
+    rule ≡ rule_unless_both (has_option (codes "dominate") words) (has_option (codes "dominate-tree") words)
+rule-given words found rule s is (workers, nodes, has, has-tree) (dominate, any, read, any-read, by) =
+    by ∙ ap₂ rule_unless_both (flag-of words found dominate s (codes "dominate") is has read) (flag-of words found any s (codes "dominate-tree") is has-tree any-read)
+
+one-given : (dominate any : Bool) (rule : LeafRule) → Some rule ≡ rule_unless_both dominate any → (rule ≡ rule_by dominate any) × ((dominate && any) ≡ false)
+one-given true true rule is = absurd (true≢false (ap is_some is))
+one-given true false rule is = (ap (λ o. unwrap_or o rule) is, refl)
+one-given false any rule is = (ap (λ o. unwrap_or o rule) is, refl)
+
+pub search-of : (words : List Text) (found : Found) (options : Options) (s : Shape) → IsMatched found words s → HasSearchOptions s.rules →
+    AreOptionsFound found (Some options) → GivesSearch words options
+search-of words found options s is has read =
+    let by = number-given words found s (codes "workers") 1 WORKERS_LIMIT WORKERS_DEFAULT options.workers is has.0 read.0 in
+    let up-to = number-given words found s (codes "nodes") 0 BUDGET_LIMIT NODES_DEFAULT options.nodes is has.1 read.1 in
+    let (same, one) = one-given (has_option (codes "dominate") words) (has_option (codes "dominate-tree") words) options.rule (rule-given words found (Some options.rule) s is has read.2) in
+    (by.0, by.1, by.2, up-to.0, up-to.2, same, one)
+
+both-given : (dominate any : Bool) → None ≡ rule_unless_both dominate any → (dominate && any) ≡ true
+both-given true true is = refl
+both-given true false is = absurd (true≢false (ap is_some (sym is)))
+both-given false any is = absurd (true≢false (ap is_some (sym is)))
+
+pub both-of : (words : List Text) (found : Found) (s : Shape) → IsMatched found words s → HasSearchOptions s.rules → AreOptionsFound found None → gives_both words ≡ true
+both-of words found s is has read =
+    both-given (has_option (codes "dominate") words) (has_option (codes "dominate-tree") words) (rule-given words found None s is has read)

@@ -21,7 +21,7 @@ use Rattle.clap.specs.declared.parser.matches.ValueSource.{ValueSource}
 use Rattle.clap.specs.declared.parser.matches.ValueSource.TheVariants.{CommandLine, DefaultValue}
 use Rattle.clap.proofs.CallerReads.{signed_reads}
 use Rattle.clap.proofs.ValueTestLemmas.{accepts-Accepts}
-use Rattle.s66_command.specs.OptionNumbers.{IsNumber, IsReadAs}
+use Rattle.s66_command.specs.FoundOptions.{IsNumber, IsReadAs}
 use Rattle.s66_command.specs.Usage.{number_rule}
 use Rattle.s66_command.proofs.Faults.{first-none, full, second-none}
 

@@ -1,3 +1,3 @@
 pub mod Usage
-pub mod OptionNumbers
+pub mod FoundOptions
 pub mod Profile

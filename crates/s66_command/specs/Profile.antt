@@ -12,4 +12,4 @@ profile_text (Order options trace profile) = option_map (λ text. text.now) prof
 profile_text (Prove options profile) = option_map (λ text. text.now) profile
 profile_text Check = None
 profile_text Lint = None
-profile_text (Sum options profile) = option_map (λ text. text.now) profile
+profile_text (Sum options trace profile) = option_map (λ text. text.now) profile

@@ -1,7 +1,7 @@
 -- To be believed: the command line, by clap's rules: the subcommands `time`, `deps`, `chart`, `order`, `prove`, `check`, `lint`
 -- and `sum`, and a version. `time`, `chart`, `order`, `prove` and `sum` have the option `--profile`, the last three also
--- `--workers` and `--nodes`. `time` and `order` have the flag `--trace`, and `order` and `prove` one at most of the flags
--- `--dominate` and `--dominate-tree`.
+-- `--workers` and `--nodes`, and one at most of the flags `--dominate` and `--dominate-tree`. `time`, `order` and `sum` have the
+-- flag `--trace`.
 use Rattle.std.specs.Prelude.{◌≡◌, ◌≢◌, ◌⊎◌, ◌≤◌, ◌&&◌, if◌then◌else◌, ℕ, Bool, List, [], false, true, Option, None, Some, codes, option_and_then, pos}
 use Rattle.std.specs.Borrow.{Bor}
 use Rattle.std.specs.Option.{option_map, option_map_or}
@@ -16,10 +16,10 @@ use Rattle.clap.specs.declared.builder.command.Command.TheViews.{out-Command}
 use Rattle.clap.specs.declared.builder.value_parser.ValueParser.TheVariants.{Signed}
 use Rattle.clap.specs.declared.error.kind.ErrorKind.{ErrorKind}
 use Rattle.clap.specs.declared.error.kind.ErrorKind.TheVariants as kind
-use Rattle.s66_model.specs.declared.limits.TheConstants.{BUDGET_LIMIT}
+use Rattle.s66_model.specs.declared.limits.TheConstants.{BUDGET_LIMIT, WORKERS_LIMIT}
+use Rattle.s66_model.specs.declared.options.Options.{Options}
 use Rattle.s66_model.specs.declared.rule.Rule.{Rule as LeafRule}
 use Rattle.s66_model.specs.declared.rule.Rule.TheVariants.{NoneNamed, WrittenEarlier, ClampedStanding}
-use Rattle.s66_model.specs.declared.limits.TheConstants.{WORKERS_LIMIT}
 use Rattle.s66_command.specs.declared.limits.TheConstants.{NODES_DEFAULT, WORKERS_DEFAULT}
 use Rattle.s66_command.specs.declared.command.Command.{Command}
 use Rattle.s66_command.specs.declared.command.Command.TheVariants.{Time, Deps, Chart, Order, Prove, Check, Lint, Sum}
@@ -62,19 +62,17 @@ deps_app = new_app (codes "deps")
 abbrev pub chart_app : App
 chart_app = with_rule (new_app (codes "chart")) profile_rule
 
--- a subcommand that searches
-abbrev pub search_app : Text → App
-search_app name = with_rule (with_rule (with_rule (new_app name) workers_rule) nodes_rule) profile_rule
-
 -- a subcommand that searches, and may leave out what is dominated
-abbrev pub dominating_app : Text → App
-dominating_app name = with_rule (with_rule (search_app name) dominate_rule) dominate_tree_rule
+abbrev pub search_app : Text → App
+search_app name =
+    let counted = with_rule (with_rule (new_app name) workers_rule) nodes_rule in
+    with_rule (with_rule (with_rule counted profile_rule) dominate_rule) dominate_tree_rule
 
 abbrev pub order_app : App
-order_app = with_rule (dominating_app (codes "order")) trace_rule
+order_app = with_rule (search_app (codes "order")) trace_rule
 
 abbrev pub prove_app : App
-prove_app = dominating_app (codes "prove")
+prove_app = search_app (codes "prove")
 
 abbrev pub check_app : App
 check_app = new_app (codes "check")
@@ -83,7 +81,7 @@ abbrev pub lint_app : App
 lint_app = new_app (codes "lint")
 
 abbrev pub sum_app : App
-sum_app = search_app (codes "sum")
+sum_app = with_rule (search_app (codes "sum")) trace_rule
 
 abbrev pub s66_app : App
 s66_app =
@@ -124,12 +122,6 @@ option_number id default words = option_map_or (λ text. digits_value 10 (withou
 abbrev pub AsksFor : List Text → Text → Type 0
 AsksFor words name = (fault_of s66_app words ≡ []) × (subcommand_name words ≡ Some name)
 
--- they give a search these numbers
-abbrev pub GivesSearch : List Text → (workers nodes : ℕ) → Type 0
-GivesSearch words workers nodes =
-    (workers ≡ option_number (codes "workers") WORKERS_DEFAULT words) × (1 ≤ workers) × (workers ≤ WORKERS_LIMIT)
-    × (nodes ≡ option_number (codes "nodes") NODES_DEFAULT words) × (nodes ≤ BUDGET_LIMIT)
-
 -- which nodes dominated leaves name by the flags `--dominate` and `--dominate-tree`
 abbrev pub rule_by : (dominate dominate_tree : Bool) → LeafRule
 rule_by dominate dominate_tree = if dominate_tree then ClampedStanding else (if dominate then WrittenEarlier else NoneNamed)
@@ -146,9 +138,12 @@ rule_given words = rule_by (has_option (codes "dominate") words) (has_option (co
 abbrev pub gives_both : List Text → Bool
 gives_both words = has_option (codes "dominate") words && has_option (codes "dominate-tree") words
 
--- they give a search this rule, by one flag at most
-abbrev pub GivesRule : List Text → LeafRule → Type 0
-GivesRule words rule = (rule ≡ rule_given words) × (gives_both words ≡ false)
+-- they give a search these options: numbers within their limits, and a rule by one flag at most
+abbrev pub GivesSearch : List Text → Options → Type 0
+GivesSearch words options =
+    (options.workers ≡ option_number (codes "workers") WORKERS_DEFAULT words) × (1 ≤ options.workers) × (options.workers ≤ WORKERS_LIMIT)
+    × (options.nodes ≡ option_number (codes "nodes") NODES_DEFAULT words) × (options.nodes ≤ BUDGET_LIMIT)
+    × (options.rule ≡ rule_given words) × (gives_both words ≡ false)
 
 -- they give it this text for its profile, if any
 abbrev pub GivesProfile : List Text → Option (Bor Text) → Type 0
@@ -156,19 +151,15 @@ GivesProfile words profile = option_map (λ text. text.now) profile ≡ plain_te
 
 -- they ask for the command
 abbrev pub Asks : List Text → Command → Type 0
-Asks words (Time trace profile) =
-    AsksFor words (codes "time") × (trace ≡ has_option (codes "trace") words) × GivesProfile words profile
+Asks words (Time trace profile) = AsksFor words (codes "time") × (trace ≡ has_option (codes "trace") words) × GivesProfile words profile
 Asks words Deps = AsksFor words (codes "deps")
 Asks words (Chart profile) = AsksFor words (codes "chart") × GivesProfile words profile
 Asks words (Order options trace profile) =
-    AsksFor words (codes "order") × GivesSearch words options.workers options.nodes × GivesRule words options.rule
-    × (trace ≡ has_option (codes "trace") words) × GivesProfile words profile
-Asks words (Prove options profile) =
-    AsksFor words (codes "prove") × GivesSearch words options.workers options.nodes × GivesRule words options.rule × GivesProfile words profile
+    AsksFor words (codes "order") × GivesSearch words options × (trace ≡ has_option (codes "trace") words) × GivesProfile words profile
+Asks words (Prove options profile) = AsksFor words (codes "prove") × GivesSearch words options × GivesProfile words profile
 Asks words Check = AsksFor words (codes "check")
 Asks words Lint = AsksFor words (codes "lint")
-Asks words (Sum options profile) =
-    AsksFor words (codes "sum") × GivesSearch words options.workers options.nodes × (options.rule ≡ NoneNamed) × GivesProfile words profile
+Asks words (Sum options trace profile) = AsksFor words (codes "sum") × GivesSearch words options × (trace ≡ has_option (codes "trace") words) × GivesProfile words profile
 
 -- a kind of error that is no mistake
 abbrev pub IsHelp : ErrorKind → Type 0

@@ -39,6 +39,8 @@ pub enum Command<'a> {
     Sum {
         /// How the orders of each block are searched.
         options: Options,
+        /// Whether the numbers of splits are printed.
+        trace: bool,
         /// The text of the profile, if it isn't the standard one.
         profile: Option<&'a str>,
     },

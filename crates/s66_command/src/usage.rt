@@ -1,11 +1,8 @@
-ghost use Rattle.std.specs.Prelude.{◌≡◌, IfOk, IfErr, List, codes, map};
-ghost use Rattle.clap.specs.Words.{Text, app_of, found_of, kind_of, new_app, one_text};
+ghost use Rattle.std.specs.Prelude.{◌≡◌, IfOk, IfErr, List, map};
+ghost use Rattle.clap.specs.Words.{Text, app_of, found_of, kind_of, new_app};
 ghost use Rattle.clap.specs.declared.error.kind.ErrorKind.TheVariants.{ArgumentConflict};
-ghost use Rattle.s66_model.specs.declared.limits.TheConstants.{BUDGET_LIMIT};
-ghost use Rattle.s66_model.specs.declared.limits.TheConstants.{WORKERS_LIMIT};
-ghost use Rattle.s66_command.specs.declared.limits.TheConstants.{NODES_DEFAULT, WORKERS_DEFAULT};
-ghost use Rattle.s66_command.specs.Usage.{Asks, IsArgumentOf, IsCommandOf, IsUsageOf, Refuses, chart_app, check_app, deps_app, dominating_app, flag_rule, lint_app, nodes_rule, order_app, profile_rule, prove_app, rule_unless_both, s66_app, search_app, sum_app, time_app, workers_rule};
-ghost use Rattle.s66_command.specs.OptionNumbers.{IsNumber, IsReadAs};
+ghost use Rattle.s66_command.specs.FoundOptions.{AreNodesFound, AreOptionsFound, AreWorkersFound};
+ghost use Rattle.s66_command.specs.Usage.{Asks, IsArgumentOf, IsCommandOf, IsUsageOf, Refuses, chart_app, check_app, deps_app, flag_rule, lint_app, nodes_rule, order_app, profile_rule, prove_app, rule_unless_both, s66_app, search_app, sum_app, time_app, workers_rule};
 ghost use Rattle.s66_command.specs.declared.usage.Usage.TheVariants.{OutOfMemory};
 
 use crate::command::Command as Asked;
@@ -265,20 +262,7 @@ fn search_command<'a>(
     described(alloc, name, about, usage, ending)
         .arg(workers_option(alloc))?
         .arg(nodes_option(alloc))?
-        .arg(profile_option(alloc))
-}
-
-/// A subcommand that searches, with the flags that tell which nodes dominated leaves name.
-fn dominating_command<'a>(
-    alloc: Global,
-    name: &'a str,
-    about: &'a str,
-    usage: &'a str,
-    ending: &'a str,
-) -> Result<Command<'a>, AllocError>
-    ensures { IfOk result (IsCommandOf (dominating_app name.entry.now)) }
-{
-    search_command(alloc, name, about, usage, ending)?
+        .arg(profile_option(alloc))?
         .arg(flag(alloc, "dominate", DOMINATE_HELP))?
         .arg(flag(alloc, "dominate-tree", DOMINATE_TREE_HELP))
 }
@@ -287,7 +271,7 @@ fn dominating_command<'a>(
 fn order_command<'a>(alloc: Global) -> Result<Command<'a>, AllocError>
     ensures { IfOk result (IsCommandOf order_app) }
 {
-    dominating_command(
+    search_command(
         alloc,
         "order",
         "Writes each block of a source in the best order that was found",
@@ -301,7 +285,7 @@ fn order_command<'a>(alloc: Global) -> Result<Command<'a>, AllocError>
 fn prove_command<'a>(alloc: Global) -> Result<Command<'a>, AllocError>
     ensures { IfOk result (IsCommandOf prove_app) }
 {
-    dominating_command(
+    search_command(
         alloc,
         "prove",
         "Writes a certificate for each block of a source: the best order that was found, and a bound with its proof",
@@ -346,7 +330,12 @@ fn sum_command<'a>(alloc: Global) -> Result<Command<'a>, AllocError>
         "Prints what each block of a source takes in the best order that was found, and all of them",
         "s66 sum [OPTIONS] < SOURCE",
         SUM_ENDING,
-    )
+    )?
+    .arg(flag(
+        alloc,
+        "trace",
+        "Prints the number of splits of each block, and of all",
+    ))
 }
 
 /// The command line of the program, which usage and help call s66 whatever the program's file is named.
@@ -372,14 +361,14 @@ fn program<'a>(alloc: Global) -> Result<Command<'a>, AllocError>
 
 /// How many workers search, by the words of a subcommand that searches.
 fn workers_in(matches: &ArgMatches) -> u8
-    ensures { IsNumber 1 WORKERS_LIMIT (one_text (found_of matches.now) (codes "workers")) → IsReadAs 1 WORKERS_LIMIT WORKERS_DEFAULT (one_text (found_of matches.now) (codes "workers")) result }
+    ensures { AreWorkersFound (found_of matches.now) result }
 {
     matches.get_one("workers").unwrap_or(WORKERS_DEFAULT)
 }
 
 /// The most splits of a search, by the words of a subcommand that searches.
 fn nodes_in(matches: &ArgMatches) -> u32
-    ensures { IsNumber 0 BUDGET_LIMIT (one_text (found_of matches.now) (codes "nodes")) → IsReadAs 0 BUDGET_LIMIT NODES_DEFAULT (one_text (found_of matches.now) (codes "nodes")) result }
+    ensures { AreNodesFound (found_of matches.now) result }
 {
     matches.get_one("nodes").unwrap_or(NODES_DEFAULT)
 }
@@ -394,6 +383,19 @@ fn rule_of(dominate: bool, dominate_tree: bool) -> Option<Rule>
         (false, true) => Some(Rule::ClampedStanding),
         (true, true) => None,
     }
+}
+
+/// How a subcommand that searches is to search by its words, unless they give both flags.
+fn options_in(matches: &ArgMatches) -> Option<Options>
+    ensures { AreOptionsFound (found_of matches.now) result }
+{
+    let dominate = matches.get_flag("dominate");
+    let rule = rule_of(dominate, matches.get_flag("dominate-tree"))?;
+    Some(Options {
+        workers: workers_in(matches),
+        nodes: nodes_in(matches),
+        rule,
+    })
 }
 
 /// The mistake of words that give a subcommand both flags.
@@ -426,44 +428,36 @@ pub fn command_of<'a, S: AsStr>(alloc: Global, words: &'a [S]) -> Result<Asked<'
             profile: chart.get_str("profile"),
         }),
         Some(("order", order)) => {
-            let dominate = order.get_flag("dominate");
-            let Some(rule) = rule_of(dominate, order.get_flag("dominate-tree")) else {
+            let Some(options) = options_in(order) else {
                 return Err(both_given(alloc, order_command(alloc)?));
             };
             Ok(Asked::Order {
-                options: Options {
-                    workers: workers_in(order),
-                    nodes: nodes_in(order),
-                    rule,
-                },
+                options,
                 trace: order.get_flag("trace"),
                 profile: order.get_str("profile"),
             })
         }
         Some(("prove", prove)) => {
-            let dominate = prove.get_flag("dominate");
-            let Some(rule) = rule_of(dominate, prove.get_flag("dominate-tree")) else {
+            let Some(options) = options_in(prove) else {
                 return Err(both_given(alloc, prove_command(alloc)?));
             };
             Ok(Asked::Prove {
-                options: Options {
-                    workers: workers_in(prove),
-                    nodes: nodes_in(prove),
-                    rule,
-                },
+                options,
                 profile: prove.get_str("profile"),
             })
         }
         Some(("check", _)) => Ok(Asked::Check),
         Some(("lint", _)) => Ok(Asked::Lint),
-        Some(("sum", sum)) => Ok(Asked::Sum {
-            options: Options {
-                workers: workers_in(sum),
-                nodes: nodes_in(sum),
-                rule: Rule::NoneNamed,
-            },
-            profile: sum.get_str("profile"),
-        }),
+        Some(("sum", sum)) => {
+            let Some(options) = options_in(sum) else {
+                return Err(both_given(alloc, sum_command(alloc)?));
+            };
+            Ok(Asked::Sum {
+                options,
+                trace: sum.get_flag("trace"),
+                profile: sum.get_str("profile"),
+            })
+        }
         _ => unreachable!(),
     }
 }

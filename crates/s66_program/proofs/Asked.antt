@@ -1,19 +1,20 @@
 -- The numbers of a command that the words ask for are within their limits.
-use Rattle.std.proofs.Common.{ℕ, List}
+use Rattle.std.proofs.Common.{List}
+use Rattle.s66_model.specs.declared.options.Options.{Options}
 use Rattle.s66_command.specs.declared.command.Command.{Command}
 use Rattle.s66_command.specs.declared.command.Command.TheVariants.{Time, Deps, Chart, Order, Prove, Check, Lint, Sum}
 use Rattle.s66_program.specs.Output.{IsSearchWithin, IsWithin}
 use Rattle.s66_command.specs.Usage.{Asks, GivesSearch, Text}
 
-search-within : (words : List Text) (workers nodes : ℕ) → GivesSearch words workers nodes → IsSearchWithin workers nodes
-search-within words workers nodes h = (h.1, h.2, h.4)
+search-within : (words : List Text) (options : Options) → GivesSearch words options → IsSearchWithin options.workers options.nodes
+search-within words options h = (h.1, h.2, h.4)
 
 pub asked-within : (words : List Text) (command : Command) → Asks words command → IsWithin command
 asked-within words (Time trace profile) h = tt
 asked-within words Deps h = tt
 asked-within words (Chart profile) h = tt
-asked-within words (Order options trace profile) h = search-within words options.workers options.nodes h.1
-asked-within words (Prove options profile) h = search-within words options.workers options.nodes h.1
+asked-within words (Order options trace profile) h = search-within words options h.1
+asked-within words (Prove options profile) h = search-within words options h.1
 asked-within words Check h = tt
 asked-within words Lint h = tt
-asked-within words (Sum options profile) h = search-within words options.workers options.nodes h.1
+asked-within words (Sum options trace profile) h = search-within words options h.1

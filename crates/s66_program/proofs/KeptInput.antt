@@ -39,7 +39,7 @@ accepted p (Order options trace profile) input text status reads (blocks, ok, is
 accepted p (Prove options profile) input text status reads (blocks, ok, is) = (blocks, ok)
 accepted p Check input text status reads is = absurd (cc)
 accepted p Lint input text status reads is = absurd (cc)
-accepted p (Sum options profile) input text status reads (blocks, ok, is) = (blocks, ok)
+accepted p (Sum options trace profile) input text status reads (blocks, ok, is) = (blocks, ok)
 
 -- a full front is refused, and so is the input, for the same
 full-refused : (command : Command) (most : Option ℕ) (held rest : List ℕ) → IsMost command most → IsFull most held →
@@ -63,7 +63,7 @@ no-documents (Order options trace profile) source documents = cc
 no-documents (Prove options profile) source documents = cc
 no-documents Check source documents = cc
 no-documents Lint source documents = cc
-no-documents (Sum options profile) source documents = cc
+no-documents (Sum options trace profile) source documents = cc
 
 refused-for : (command : Command) (input held : List ℕ) (f : Fault) → reads_source command ≡ true → source_of input ≡ source_of held → IsRefusal command held f → IsRefusal command input f
 refused-for command input held (fault.Source e) reads same (is, other, refused) = (is, other, same ∙ refused)

@@ -36,7 +36,7 @@ IsWithin (Order options trace profile) = IsSearchWithin options.workers options.
 IsWithin (Prove options profile) = IsSearchWithin options.workers options.nodes
 IsWithin Check = Unit {0}
 IsWithin Lint = Unit {0}
-IsWithin (Sum options profile) = IsSearchWithin options.workers options.nodes
+IsWithin (Sum options trace profile) = IsSearchWithin options.workers options.nodes
 
 -- PROFILES
 
@@ -77,7 +77,7 @@ IsOutput p (Order options trace profile) input text status = IsOrderOutput optio
 IsOutput p (Prove options profile) input text status = IsProveOutput options.rule p options.nodes input text status
 IsOutput p Check input text status = IsCheckOutput input text status
 IsOutput p Lint input text status = IsLintOutput input text status
-IsOutput p (Sum options profile) input text status = IsSumOutput options.rule p options.nodes input text status
+IsOutput p (Sum options trace profile) input text status = IsSumOutput options.rule p options.nodes trace input text status
 
 -- the command reads a source, and refuses some
 abbrev pub reads_source : Command → Bool
@@ -88,7 +88,7 @@ reads_source (Order options trace profile) = true
 reads_source (Prove options profile) = true
 reads_source Check = false
 reads_source Lint = false
-reads_source (Sum options profile) = true
+reads_source (Sum options trace profile) = true
 
 -- the command reads documents, and refuses some
 abbrev pub reads_documents : Command → Bool

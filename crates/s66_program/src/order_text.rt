@@ -25,7 +25,7 @@ pub(crate) struct Found {
     pub source: u32,
     pub time: u32,
     pub bound: u32,
-    splits: Option<u32>,
+    pub splits: Option<u32>,
 }
 
 impl Model for Found {

@@ -124,9 +124,14 @@ pub fn output_for<R: AllocGlobal + Threads + Wait + Sync, O: Observer>(
         }
         Command::Check => check_output(alloc, input, observer)?,
         Command::Lint => lint_output(alloc, input)?,
-        Command::Sum { options, .. } => {
-            sum_output(rt, &read_source(alloc, input)?, profile, options, observer)?
-        }
+        Command::Sum { options, trace, .. } => sum_output(
+            rt,
+            &read_source(alloc, input)?,
+            profile,
+            options,
+            trace,
+            observer,
+        )?,
     };
     Ok(output)
 }

@@ -37,10 +37,9 @@ const NO_COMMANDS: &[(&[&str], u8)] = &[
     (&["s66", "time", "--dominate"], 2),
     (&["s66", "check", "--nodes", "5"], 2),
     (&["s66", "lint", "--trace"], 2),
-    (&["s66", "sum", "--trace"], 2),
+    (&["s66", "sum", "--trace", "--trace"], 2),
     (&["s66", "sum", "--workers", "0"], 2),
-    (&["s66", "sum", "--dominate"], 2),
-    (&["s66", "sum", "--dominate-tree"], 2),
+    (&["s66", "sum", "--dominate", "--dominate-tree"], 2),
     (&["s66", "help"], 0),
     (&["s66", "--help"], 0),
     (&["s66", "time", "--help"], 0),
@@ -102,7 +101,32 @@ const COMMANDS: &[(&[&str], Command)] = &[
                 nodes: 100_000,
                 rule: Rule::NoneNamed,
             },
+            trace: false,
             profile: Some("{}"),
+        },
+    ),
+    (
+        &["s66", "sum", "--dominate-tree", "--trace", "--nodes=0"],
+        Command::Sum {
+            options: Options {
+                workers: 4,
+                nodes: 0,
+                rule: Rule::ClampedStanding,
+            },
+            trace: true,
+            profile: None,
+        },
+    ),
+    (
+        &["s66", "sum", "--dominate"],
+        Command::Sum {
+            options: Options {
+                workers: 4,
+                nodes: 100_000,
+                rule: Rule::WrittenEarlier,
+            },
+            trace: false,
+            profile: None,
         },
     ),
     (

@@ -5,6 +5,9 @@ use crate::running::SUM;
 const FOUR_BLOCKS: &str =
     "  NX1 B0,X2\n  SB0 5\n  SX3 B0\n  ZR X1,L\n  SA1 A1+B1\n  BX6 X1\n  BX7 X2\n  EQ L\n  BX7 X2\n  LX3 1\n  IX4 X5+X6\n  SA1 A1+100\n+ BX1 X2\n";
 
+/// Orders of which one is as good as any other.
+const THREE_ALIKE: &str = "  SB0 B1\n  SB0 B1\n  SB0 B1\n";
+
 pub(crate) const ROWS: &[Row] = &[
     (
         "empty input",
@@ -40,6 +43,41 @@ pub(crate) const ROWS: &[Row] = &[
         THREE_MULTIPLIES,
         7,
         "BLOCK 1 LINE 1 COUNT 3 SOURCE 22 TIME 22 AT LEAST 17\nTOTAL BLOCKS 1 SOURCE 22 TIME 22 BEST 0\n",
+    ),
+    (
+        "no block, with the trace",
+        &["s66", "sum", "--trace"],
+        "* NOTE\n  NO\n",
+        0,
+        "TOTAL BLOCKS 0 SOURCE 0 TIME 0 BEST 0 SPLITS 0\n",
+    ),
+    (
+        "three multiplies twice, one split short",
+        &["s66", "sum", "--workers", "1", "--nodes", "9", "--trace"],
+        "  FX1 X2*X3\n  FX4 X5*X6\n  FX0 X7*X7\n  EQ L\n  FX1 X2*X3\n  FX4 X5*X6\n  FX0 X7*X7\n",
+        7,
+        "BLOCK 1 LINE 1 COUNT 3 SOURCE 22 TIME 22 AT LEAST 17 SPLITS 9\nBLOCK 2 LINE 5 COUNT 3 SOURCE 22 TIME 22 AT LEAST 17 SPLITS 9\nTOTAL BLOCKS 2 SOURCE 44 TIME 44 BEST 0 SPLITS 18\n",
+    ),
+    (
+        "three alike",
+        &["s66", "sum", "--workers", "1", "--trace"],
+        THREE_ALIKE,
+        0,
+        "BLOCK 1 LINE 1 COUNT 3 SOURCE 8 TIME 8 BEST SPLITS 10\nTOTAL BLOCKS 1 SOURCE 8 TIME 8 BEST 1 SPLITS 10\n",
+    ),
+    (
+        "three alike, what is dominated left out",
+        &["s66", "sum", "--workers", "1", "--dominate", "--trace"],
+        THREE_ALIKE,
+        0,
+        "BLOCK 1 LINE 1 COUNT 3 SOURCE 8 TIME 8 BEST SPLITS 7\nTOTAL BLOCKS 1 SOURCE 8 TIME 8 BEST 1 SPLITS 7\n",
+    ),
+    (
+        "three alike, what any other dominates left out",
+        &["s66", "sum", "--workers", "1", "--dominate-tree", "--trace"],
+        THREE_ALIKE,
+        0,
+        "BLOCK 1 LINE 1 COUNT 3 SOURCE 8 TIME 8 BEST SPLITS 7\nTOTAL BLOCKS 1 SOURCE 8 TIME 8 BEST 1 SPLITS 7\n",
     ),
     (
         "three multiplies in three units",

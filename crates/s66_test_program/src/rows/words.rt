@@ -66,6 +66,13 @@ pub(crate) const ROWS: &[Row] = &[
         "error: the argument '--dominate' cannot be used with '--dominate-tree'\n\nUsage: s66 prove [OPTIONS] < SOURCE\n\nFor more information, try '--help'.\n",
     ),
     (
+        "two options that exclude one another",
+        &["s66", "sum", "--dominate", "--trace", "--dominate-tree"],
+        "  SA1 *+2\n",
+        2,
+        "error: the argument '--dominate' cannot be used with '--dominate-tree'\n\nUsage: s66 sum [OPTIONS] < SOURCE\n\nFor more information, try '--help'.\n",
+    ),
+    (
         "version",
         &["a/b", "--version"],
         "  SA1 *+2\n",
@@ -92,5 +99,12 @@ pub(crate) const ROWS: &[Row] = &[
         "",
         0,
         "Writes a certificate for each block of a source: the best order that was found, and a bound with its proof\n\nUsage: s66 prove [OPTIONS] < SOURCE\n\nOptions:\n      --workers <N>     How many workers search, 1 to 16 [default: 4]\n      --nodes <N>       The most splits of a block's search, 0 to 1000000 [default: 100000]\n      --profile <TEXT>  The timing profile, a JSON object [default: {}, the standard one]\n      --dominate        Leaves out beginnings of orders that an earlier one dominates\n      --dominate-tree   Leaves out beginnings of orders that any other one dominates: proves far more blocks best\n  -h, --help            Print help (see more with '--help')\n\nExample: s66 prove --nodes 1000 < SOURCE\n\nStatus: 0 done, 2 usage, 3 the source or the profile was refused, 4 out of memory, 6 a read or write failed, 7 some block is only bounded\n",
+    ),
+    (
+        "help of sum",
+        &["s66", "sum", "-h"],
+        "",
+        0,
+        "Prints what each block of a source takes in the best order that was found, and all of them\n\nUsage: s66 sum [OPTIONS] < SOURCE\n\nOptions:\n      --workers <N>     How many workers search, 1 to 16 [default: 4]\n      --nodes <N>       The most splits of a block's search, 0 to 1000000 [default: 100000]\n      --profile <TEXT>  The timing profile, a JSON object [default: {}, the standard one]\n      --dominate        Leaves out beginnings of orders that an earlier one dominates\n      --dominate-tree   Leaves out beginnings of orders that any other one dominates: proves far more blocks best\n      --trace           Prints the number of splits of each block, and of all\n  -h, --help            Print help (see more with '--help')\n\nExample: s66 sum --nodes 1000 < SOURCE\n\nStatus: 0 done, 2 usage, 3 the source or the profile was refused, 4 out of memory, 6 a read or write failed, 7 some block is only bounded\n",
     ),
 ];

@@ -1,6 +1,6 @@
 use Rattle.std.proofs.Common.{rules, ◌∙◌, ap, codes, inl, inr, map, option_map, refl, sym}
 use Rattle.clap.specs.Words.{app_of, found_of}
-use Rattle.s66_command.proofs.Named.{asks-for, both-of, flag-of, matched, name-known, order-flags, profile-of, prove-flags, rule-of, search-of, taken}
+use Rattle.s66_command.proofs.Named.{asks-for, both-of, flag-of, matched, name-known, order-options, profile-of, prove-options, search-of, sum-options, taken}
 use Rattle.s66_command.proofs.Refused.{refused, refused-both}
 use Rattle.s66_command.proofs.usage.command_of.Goals as goal
 use Rattle.s66_command.proofs.usage.command_of.Goals.{in_default-via-in-Some+in_default, in_default-via-in_default}
@@ -40,7 +40,7 @@ returns-in-Some-time-default-clause-ok g c =
     let found = found_of c.in-Some-time-default.time.now in
     let here = matched m words found _ is asks.1 refl c.in-Some-time-default.ensures.rows in (
       asks,
-      flag-of words found c.get_flag.result _ (codes "trace") (codes "trace") here (inr refl, (inl refl, (inr refl, tt))) refl c.get_flag.ensures.value c.get_flag.ensures.other,
+      flag-of words found c.get_flag.result _ (codes "trace") here ((inr refl, (inl refl, (inr refl, tt))), refl) (c.get_flag.ensures.value, c.get_flag.ensures.other),
       profile-of words found _ c.get_str.result here c.get_str.ensures,
     )
 
@@ -70,26 +70,20 @@ returns-in-Some-order-default-clause-ok g c =
     let found = found_of c.in-Some-order-default.order.now in
     let here = matched m words found _ is asks.1 refl c.in-Some-order-default.ensures.rows in (
       asks,
-      search-of words found _ c.workers_in.result c.nodes_in.result here (inl refl, (inr refl, (inr refl, (inr refl, (inr refl, (inr refl, (inr refl, tt))))))) (inr refl, (inl refl, (inr refl, (inr refl, (inr refl, (inr refl, (inr refl, tt)))))))
-          c.workers_in.ensures c.nodes_in.ensures,
-      rule-of words found c.get_flag-dominate.result c.get_flag-in-Some-order-default.result c.in-Some.rule _ here order-flags (c.get_flag-dominate.ensures.value, c.get_flag-dominate.ensures.other)
-          (c.get_flag-in-Some-order-default.ensures.value, c.get_flag-in-Some-order-default.ensures.other) c.in-Some.ensures,
-      flag-of words found c.get_flag-in-Some-order-default-2.result _ (codes "trace") (codes "trace") here (inr refl, (inr refl, (inr refl, (inr refl, (inr refl, (inl refl, (inr refl, tt))))))) refl
-          c.get_flag-in-Some-order-default-2.ensures.value c.get_flag-in-Some-order-default-2.ensures.other,
+      search-of words found c.in-Some.options _ here order-options c.in-Some.ensures,
+      flag-of words found c.get_flag-in-Some-order-default.result _ (codes "trace") here ((inr refl, (inr refl, (inr refl, (inr refl, (inr refl, (inl refl, (inr refl, tt))))))), refl) (c.get_flag-in-Some-order-default.ensures.value, c.get_flag-in-Some-order-default.ensures.other),
       profile-of words found _ c.get_str-in-Some-order-default.result here c.get_str-in-Some-order-default.ensures,
     )
 
-pub returns-in_default-rule_of-clause-err : goal.returns-in_default-rule_of-clause-err
-returns-in_default-rule_of-clause-err g c =
+pub returns-in_default-options_in-clause-err : goal.returns-in_default-options_in-clause-err
+returns-in_default-options_in-clause-err g c =
     let words = map g.S.AsStr.text c.args.words.now in
     let m = c.in-Ok.matches in
     let is = taken m (app_of c.in_ok-program.field-0) words c.in_ok-program.ensures c.in-Ok.ensures.kinds c.in-Ok.ensures.matches in
     let asks = asks-for m words c.in-Some-order-default.field-0-0.now (codes "order") is c.in-Some-order-default.ensures.name c.in-Some-order-default.is-order in
     let found = found_of c.in-Some-order-default.order.now in
     let here = matched m words found _ is asks.1 refl c.in-Some-order-default.ensures.rows in
-    refused-both c.both_given.result words asks.0
-    (both-of words found c.get_flag-dominate.result c.get_flag-in-Some-order-default.result _ here order-flags (c.get_flag-dominate.ensures.value, c.get_flag-dominate.ensures.other)
-    (c.get_flag-in-Some-order-default.ensures.value, c.get_flag-in-Some-order-default.ensures.other) c.in_default-rule_of.ensures) c.both_given.ensures
+    refused-both c.both_given.result words asks.0 (both-of words found _ here order-options c.in_default-options_in.ensures) c.both_given.ensures
 
 pub returns-in-Some-prove-default-clause-ok : goal.returns-in-Some-prove-default-clause-ok
 returns-in-Some-prove-default-clause-ok g c =
@@ -100,26 +94,19 @@ returns-in-Some-prove-default-clause-ok g c =
     let found = found_of c.in-Some-prove-default.prove.now in
     let here = matched m words found _ is asks.1 refl c.in-Some-prove-default.ensures.rows in (
       asks,
-      search-of words found _ c.workers_in-in-Some-prove-default.result c.nodes_in-in-Some-prove-default.result here (inl refl, (inr refl, (inr refl, (inr refl, (inr refl, (inr refl, tt)))))) (inr refl, (inl refl, (inr refl, (inr refl, (inr refl, (inr refl, tt))))))
-          c.workers_in-in-Some-prove-default.ensures c.nodes_in-in-Some-prove-default.ensures,
-      rule-of words found c.get_flag-dominate-in-Some-prove-default.result c.get_flag-in-Some-prove-default.result c.in-Some-rule_of.rule _ here prove-flags
-          (c.get_flag-dominate-in-Some-prove-default.ensures.value, c.get_flag-dominate-in-Some-prove-default.ensures.other)
-          (c.get_flag-in-Some-prove-default.ensures.value, c.get_flag-in-Some-prove-default.ensures.other) c.in-Some-rule_of.ensures,
+      search-of words found c.in-Some-options_in.options _ here prove-options c.in-Some-options_in.ensures,
       profile-of words found _ c.get_str-in-Some-prove-default.result here c.get_str-in-Some-prove-default.ensures,
     )
 
-pub returns-in_default-rule_of-2-clause-err : goal.returns-in_default-rule_of-2-clause-err
-returns-in_default-rule_of-2-clause-err g c =
+pub returns-in_default-options_in-2-clause-err : goal.returns-in_default-options_in-2-clause-err
+returns-in_default-options_in-2-clause-err g c =
     let words = map g.S.AsStr.text c.args.words.now in
     let m = c.in-Ok.matches in
     let is = taken m (app_of c.in_ok-program.field-0) words c.in_ok-program.ensures c.in-Ok.ensures.kinds c.in-Ok.ensures.matches in
     let asks = asks-for m words c.in-Some-prove-default.field-0-0.now (codes "prove") is c.in-Some-prove-default.ensures.name c.in-Some-prove-default.is-prove in
     let found = found_of c.in-Some-prove-default.prove.now in
     let here = matched m words found _ is asks.1 refl c.in-Some-prove-default.ensures.rows in
-    refused-both c.both_given-in_default-rule_of-2.result words asks.0
-    (both-of words found c.get_flag-dominate-in-Some-prove-default.result c.get_flag-in-Some-prove-default.result _ here prove-flags
-    (c.get_flag-dominate-in-Some-prove-default.ensures.value, c.get_flag-dominate-in-Some-prove-default.ensures.other)
-    (c.get_flag-in-Some-prove-default.ensures.value, c.get_flag-in-Some-prove-default.ensures.other) c.in_default-rule_of-2.ensures) c.both_given-in_default-rule_of-2.ensures
+    refused-both c.both_given-in_default-options_in-2.result words asks.0 (both-of words found _ here prove-options c.in_default-options_in-2.ensures) c.both_given-in_default-options_in-2.ensures
 
 pub returns-in-Some-check-default-clause-ok : goal.returns-in-Some-check-default-clause-ok
 returns-in-Some-check-default-clause-ok g c =
@@ -144,8 +131,17 @@ returns-in-Some-sum-default-clause-ok g c =
     let found = found_of c.in-Some-sum-default.sum.now in
     let here = matched m words found _ is asks.1 refl c.in-Some-sum-default.ensures.rows in (
       asks,
-      search-of words found _ c.workers_in-in-Some-sum-default.result c.nodes_in-in-Some-sum-default.result here (inl refl, (inr refl, (inr refl, (inr refl, tt)))) (inr refl, (inl refl, (inr refl, (inr refl, tt))))
-          c.workers_in-in-Some-sum-default.ensures c.nodes_in-in-Some-sum-default.ensures,
-      refl,
+      search-of words found c.in-Some-options_in-2.options _ here sum-options c.in-Some-options_in-2.ensures,
+      flag-of words found c.get_flag-in-Some-sum-default.result _ (codes "trace") here ((inr refl, (inr refl, (inr refl, (inr refl, (inr refl, (inl refl, (inr refl, tt))))))), refl) (c.get_flag-in-Some-sum-default.ensures.value, c.get_flag-in-Some-sum-default.ensures.other),
       profile-of words found _ c.get_str-in-Some-sum-default.result here c.get_str-in-Some-sum-default.ensures,
     )
+
+pub returns-in_default-options_in-3-clause-err : goal.returns-in_default-options_in-3-clause-err
+returns-in_default-options_in-3-clause-err g c =
+    let words = map g.S.AsStr.text c.args.words.now in
+    let m = c.in-Ok.matches in
+    let is = taken m (app_of c.in_ok-program.field-0) words c.in_ok-program.ensures c.in-Ok.ensures.kinds c.in-Ok.ensures.matches in
+    let asks = asks-for m words c.in-Some-sum-default.field-0-0.now (codes "sum") is c.in-Some-sum-default.ensures.name c.in-Some-sum-default.is-sum in
+    let found = found_of c.in-Some-sum-default.sum.now in
+    let here = matched m words found _ is asks.1 refl c.in-Some-sum-default.ensures.rows in
+    refused-both c.both_given-in_default-options_in-3.result words asks.0 (both-of words found _ here sum-options c.in_default-options_in-3.ensures) c.both_given-in_default-options_in-3.ensures

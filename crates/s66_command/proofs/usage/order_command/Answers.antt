@@ -5,4 +5,4 @@ use Rattle.s66_command.proofs.usage.order_command.Goals as goal
 
 pub returns : goal.returns
 returns c =
-    IfOk-weaker c.arg.result _ (IsCommandOf order_app) (λ r adds. with-arg _ trace_rule c.in_ok-dominating_command.field-0 r c.flag.result c.in_ok-dominating_command.ensures c.flag.ensures.0 c.flag.ensures.1 adds) c.arg.ensures
+    IfOk-weaker c.arg.result _ (IsCommandOf order_app) (λ r adds. with-arg _ trace_rule c.in_ok-search_command.field-0 r c.flag.result c.in_ok-search_command.ensures c.flag.ensures.0 c.flag.ensures.1 adds) c.arg.ensures

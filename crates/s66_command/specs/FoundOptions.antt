@@ -1,0 +1,47 @@
+-- Used by contracts within the crate alone: the options of a search, as clap found them among the words of a subcommand.
+use Rattle.std.specs.Prelude.{◌≡◌, ◌≤◌, ℕ, Bool, true, false, Option, None, Some, codes, pos}
+use Rattle.std.specs.Option.{option_map_or}
+use Rattle.std.specs.Str.Parse.{digits_value, without_leading_plus}
+use Rattle.clap.specs.Values.{IsSignedIn}
+use Rattle.clap.specs.Words.{Text, one_text, without_minus}
+use Rattle.clap.specs.declared.parser.matches.Found.{Found}
+use Rattle.s66_model.specs.declared.limits.TheConstants.{BUDGET_LIMIT, WORKERS_LIMIT}
+use Rattle.s66_model.specs.declared.options.Options.{Options}
+use Rattle.s66_model.specs.declared.rule.Rule.{Rule as LeafRule}
+use Rattle.s66_command.specs.declared.limits.TheConstants.{NODES_DEFAULT, WORKERS_DEFAULT}
+use Rattle.s66_command.specs.Usage.{rule_unless_both}
+
+-- the text, if there is one, is a number from the least to the most
+abbrev pub IsNumber : (least most : ℕ) → Option Text → Type 0
+IsNumber least most None = Unit {0}
+IsNumber least most (Some text) = (v : Text) × (text ≡ without_minus v) × IsSignedIn (pos least) (pos most) v
+
+-- the number of the text, or the default if there is none, is within the limits
+abbrev pub IsReadAs : (least most default : ℕ) → Option Text → ℕ → Type 0
+IsReadAs least most default text n =
+    (n ≡ option_map_or (λ t. digits_value 10 (without_leading_plus t)) text default) × (least ≤ n) × (n ≤ most)
+
+-- a number as it is read of what was found for its option, if that is a number within the limits
+abbrev pub IsNumberFound : Found → Text → (least most default : ℕ) → ℕ → Type 0
+IsNumberFound found id least most default n = IsNumber least most (one_text found id) → IsReadAs least most default (one_text found id) n
+
+abbrev pub AreWorkersFound : Found → ℕ → Type 0
+AreWorkersFound found workers = IsNumberFound found (codes "workers") 1 WORKERS_LIMIT WORKERS_DEFAULT workers
+
+abbrev pub AreNodesFound : Found → ℕ → Type 0
+AreNodesFound found nodes = IsNumberFound found (codes "nodes") 0 BUDGET_LIMIT NODES_DEFAULT nodes
+
+-- a flag as it is read of what was found for it
+abbrev pub IsFlagFound : Found → Text → Bool → Type 0
+IsFlagFound found id flag = (one_text found id ≡ Some (codes "true") → flag ≡ true) × (one_text found id ≡ Some (codes "false") → flag ≡ false)
+
+-- the rule by the two flags, unless both were found
+abbrev pub IsRuleFound : Found → Option LeafRule → Type 0
+IsRuleFound found rule =
+    (dominate : Bool) × (dominate_tree : Bool) × IsFlagFound found (codes "dominate") dominate × IsFlagFound found (codes "dominate-tree") dominate_tree
+    × (rule ≡ rule_unless_both dominate dominate_tree)
+
+-- the options of a search, unless both flags were found
+abbrev pub AreOptionsFound : Found → Option Options → Type 0
+AreOptionsFound found (Some options) = AreWorkersFound found options.workers × AreNodesFound found options.nodes × IsRuleFound found (Some options.rule)
+AreOptionsFound found None = IsRuleFound found None
