@@ -13,7 +13,7 @@ use Rattle.s66_model.proofs.Floors.{floor-whole}
 use Rattle.s66_model.proofs.LedgerRuns.{run-falls}
 use Rattle.s66_time.specs.TimedOrder.{TimedOrder}
 use Rattle.s66_node.specs.Pieces.{PieceOf, tree_of, IsBestTimed}
-use Rattle.s66_ledger.specs.Tickets.{TicketOf}
+use Rattle.s66_model.specs.Tickets.{TicketOf}
 use Rattle.s66_ledger.specs.ClaimedNodes.{IsLeastOpen}
 use Rattle.s66_ledger.specs.LedgerMachine.{MachineOf, IsMove}
 use Rattle.s66_model.proofs.LedgerSteps.{root-stands}

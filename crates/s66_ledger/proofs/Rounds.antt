@@ -19,7 +19,7 @@ use Rattle.s66_model.specs.DominatedLeaves.{Bounding}
 use Rattle.s66_model.specs.Ledger.{Ledger, Node, State, Open, Out, Cut, Closed, Grant, Claim, Graft, Back, Granted, Claimed, Taken, OverAllowance, Returned, no_node, node_at, with_state, is_out_state, is_out, is_live_state, best_time, allowance, share_of, state_of, root_state, sibling_nodes, new_nodes, after_offer, after_graft, Offer, Moves, Event}
 use Rattle.s66_model.specs.Coverage.{Covers}
 use Rattle.s66_node.specs.Pieces.{PieceOf, tree_of}
-use Rattle.s66_ledger.specs.Tickets.{TicketOf}
+use Rattle.s66_model.specs.Tickets.{TicketOf}
 use Rattle.s66_ledger.specs.LedgerMachine.{MachineOf, IsMove}
 use Rattle.s66_ledger.specs.Opened.{with_lines}
 use Rattle.s66_ledger.specs.GraftMoves.{IsGraftMove, taken_event, IsTakenMove}

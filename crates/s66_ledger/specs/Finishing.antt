@@ -5,7 +5,7 @@ use Rattle.s66_model.specs.Timing.{Problem}
 use Rattle.s66_model.specs.LegalOrder.{IsComplete}
 use Rattle.s66_model.specs.Leaves.{floor_value}
 use Rattle.s66_model.specs.Ledger.{Ledger, Node, Out, Event, Reply, Run, IsOut, is_open, is_out, is_live, best_time, allowance, node_at, after_offer}
-use Rattle.s66_ledger.specs.Tickets.{TicketOf}
+use Rattle.s66_model.specs.Tickets.{TicketOf}
 use Rattle.s66_ledger.specs.LedgerMachine.{MachineOf}
 
 -- some events lead from one to the other

@@ -7,7 +7,6 @@ pub mod HistoryEntries
 pub mod Finishing
 pub mod GraftMoves
 pub mod Grafts
-pub mod Tickets
 pub mod LedgerMachine
 pub mod Ledgers
 pub mod Links

@@ -7,12 +7,12 @@ use crate::entry::{Entry, refusal_of};
 use crate::history::History;
 use crate::machine::Machine;
 use crate::reply::{BackError, GraftError, Offered};
+use crate::step::node_of;
 use crate::subtree::{Subtree, byte_of};
-use crate::ticket::{Ticket, node_of};
 use arrayvec::ArrayVec;
 use s66_isa::{BLOCK_LIMIT, Profile};
 use s66_line::Block;
-use s66_model::{BUDGET_LIMIT, Rule};
+use s66_model::{BUDGET_LIMIT, Rule, Summed, Ticket};
 use s66_node::Piece;
 use s66_time::Timed;
 use std::alloc::{AllocError, Global};
@@ -34,6 +34,12 @@ impl<'a> Model for Ledger<'a> {
     ghost view = { λ l. with_history l.machine l.history.entries.items l.history.bytes.items };
 
     ghost invariant = { λ l. IsRecorded (with_history l.machine l.history.entries.items l.history.bytes.items) };
+}
+
+impl<'a> Summed for Ledger<'a> {
+    ghost use Rattle.s66_ledger.specs.Ledgers.{account_summary};
+
+    ghost summary = { λ l. account_summary l };
 }
 
 /// Appends the bytes of a piece's root to those that are stored: its prefix and the byte of its line. `Err` is out of memory.

@@ -21,7 +21,6 @@ mod search;
 mod step;
 mod subtree;
 mod taking;
-mod ticket;
 
 pub use answer::Answer;
 pub use entry::{Entry, Refusal};
@@ -29,7 +28,6 @@ pub use history::History;
 pub use ledger::Ledger;
 pub use limits::{DOMINATED_PIECE_LIMIT, GRANT_LIMIT, SCHEDULE_ROUNDS};
 pub use reply::{BackError, GraftError, Offered};
-pub use s66_model::coverage_law;
+pub use s66_model::{Ticket, coverage_law};
 pub use step::{Event, Reply};
 pub use subtree::Subtree;
-pub use ticket::Ticket;

@@ -2,8 +2,7 @@ use crate::limits::{DOMINATED_PIECE_LIMIT, SCHEDULE_ROUNDS};
 use crate::machine::Machine;
 use crate::reply::{BackError, GraftError};
 use crate::subtree::Subtree;
-use crate::ticket::Ticket;
-use s66_model::Rule;
+use s66_model::{Rule, Ticket};
 use s66_node::{Constant, Marks, Piece, Priority, Walk, schedule_below};
 use std::alloc::{AllocError, Global};
 

@@ -1,11 +1,12 @@
 ghost use Rattle.std.specs.Prelude.{◌≡◌};
+ghost use Rattle.s66_ledger.specs.ClaimedNodes.{claimed_node};
 ghost use Rattle.s66_ledger.specs.Replies.{offered_reply};
 ghost use Rattle.s66_ledger.specs.Steps.{reply_of};
 
 use crate::ledger::Ledger;
 use crate::reply::{BackError, GraftError, Offered};
 use crate::subtree::Subtree;
-use crate::ticket::node_of;
+use s66_model::Ticket;
 use s66_node::Piece;
 use s66_time::Timed;
 use std::alloc::AllocError;
@@ -121,5 +122,15 @@ fn reply_of_offer(offered: Offered) -> Reply
         Offered::Lower => Reply::Lower,
         Offered::NotLower { least } => Reply::NotLower(least),
         Offered::OtherBlock => Reply::OtherBlock,
+    }
+}
+
+/// The number of the node that was claimed.
+pub(crate) fn node_of(ticket: &Option<Ticket>) -> Option<u32>
+    ensures { result ≡ claimed_node ticket.now }
+{
+    match ticket {
+        Some(ticket) => Some(ticket.node()),
+        None => None,
     }
 }

@@ -25,6 +25,7 @@ pub mod Dominance
 pub mod Digits
 pub mod NodeNames
 pub mod DominatedLeaves
+pub mod Tickets
 pub mod Reached
 pub mod Recorded
 pub mod Examples

@@ -1,16 +1,10 @@
-pub mod Books
-pub mod Dealt
 pub mod Returned
-pub mod Seats
-pub mod Sums
 pub mod SeatEvents
 pub mod AfterCalls
 pub mod Supplied
 pub mod Spending
 pub mod Dealing
 pub mod Present
-pub mod Turns
 pub mod Collecting
 pub mod Members
-pub mod HintSteps
 pub mod PartSteps

@@ -6,12 +6,12 @@ use Rattle.s66_model.specs.Recorded.{spends}
 use Rattle.s66_model.specs.Tree.{splits}
 use Rattle.s66_model.specs.Accounts.{SeatRecord, Agrees, after_event, least_after}
 use Rattle.s66_node.specs.Pieces.{PieceOf, tree_of}
-use Rattle.s66_ledger.specs.Tickets.{TicketOf}
+use Rattle.s66_model.specs.Tickets.{TicketOf}
 use Rattle.s66_ledger.specs.Ledgers.{LedgerOf, IsEvent, account_summary}
 use Rattle.s66_ledger.specs.Grafts.{IsGraftAt}
 use Rattle.s66_pool.specs.declared.supply.Supply.{Supply}
 use Rattle.s66_pool.specs.Supplies.{AreEvents, after_events, grants, claims, last_claim, supplied}
-use Rattle.s66_pool.specs.SeatViews.{Follows, renewed}
+use Rattle.s66_lock.specs.SeatViews.{Follows, renewed}
 use Rattle.s66_pool.specs.Hubs.{SeatOf, HasSupply, HasGrafted, HasGraftedAndSupply}
 use Rattle.s66_pool.proofs.SeatEvents.{event-follows, event-agrees, follows-itself, follows-on, renewed-is, renewed-agrees}
 use Rattle.s66_pool.proofs.AfterCalls.{Keeps, grafted}

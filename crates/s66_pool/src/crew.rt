@@ -3,7 +3,6 @@ ghost use Rattle.s66_steal.specs.Lanes.{LaneId};
 ghost use Rattle.s66_pool.specs.Workers.{AreSameSeats, ArePlaced, IsSameMember, IsSameSeat, lanes_of, locals_of, seats_of, victims_of};
 
 use crate::gate::Gate;
-use crate::hint::Hint;
 use crate::hub::Hub;
 use crate::locals::{lanes_for, locals_for};
 use crate::member::{Local, Member};
@@ -13,6 +12,7 @@ use crate::victim::Victim;
 use crate::worker::{Site, work_at};
 use s66_isa::Profile;
 use s66_line::Block;
+use s66_lock::Hint;
 use s66_model::{Options, Rule, WORKERS_LIMIT};
 use std::alloc::AllocError;
 use std::sync::Wait;

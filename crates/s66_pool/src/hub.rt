@@ -1,22 +1,16 @@
-use crate::lock::{Lock, Summed};
 use crate::opening::{have_seats, splits_of_workers};
 use crate::seat::Seat;
 use s66_ledger::Ledger;
+use s66_lock::Lock;
 use std::alloc::{AllocError, Global};
 use std::boxed::Box;
 use std::marker::Model;
 use thiserror::Error;
 
-// boxed, so that a call moves a pointer
-impl<'a> Summed for Box<Ledger<'a>> {
-    ghost use Rattle.s66_ledger.specs.Ledgers.{account_summary};
-
-    ghost summary = { λ l. account_summary l.value };
-}
-
 /// The ledger of a search under its lock.
 #[derive(Drop)]
 pub struct Hub<'a> {
+    // boxed, so that a call moves a pointer
     pub(crate) lock: Lock<Box<Ledger<'a>>>,
     pub(crate) workers: u8,
     pub(crate) alloc: Global,

@@ -1,6 +1,6 @@
 ghost use Rattle.std.specs.Prelude.{◌≡◌, ◌≤◌, min};
 
-use crate::hint::{Hint, HintSeat};
+use s66_lock::{Hint, HintSeat};
 use s66_node::Least;
 
 /// The best time as a worker knows it: a hint, and the worker's seat there.

@@ -6,6 +6,3 @@ pub const NONES_LIMIT: u32 = 1_000;
 
 /// How often a worker that got no node checks whether another has one, before it claims again.
 pub const LOOKS: u32 = 16;
-
-/// How often a worker checks whether the lock is free before it lets other threads run. Most turns at the lock are over in less.
-pub const SPINS: u32 = 100;

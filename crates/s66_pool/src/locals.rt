@@ -4,10 +4,10 @@ ghost use Rattle.std.specs.Prelude.{◌≡◌, ◌≤◌, ◌<◌, All, IfOk, []
 ghost use Rattle.s66_steal.specs.Lanes.{LaneId, LaneOf};
 ghost use Rattle.s66_pool.specs.Workers.{AllPlaced, ArePlaced, ids_of};
 
-use crate::hint::{Hint, HintSeat};
 use crate::incumbent::Incumbent;
 use crate::member::Local;
 use crate::victim::Victim;
+use s66_lock::{Hint, HintSeat};
 use s66_model::WORKERS_LIMIT;
 use s66_steal::{CAPACITY_LIMIT, Lane, Thief, lane};
 use std::alloc::{AllocError, Global};

@@ -8,11 +8,11 @@ ghost use Rattle.s66_line.specs.Block.{instrs_of};
 ghost use Rattle.s66_dep.specs.Members.{numbers_in};
 ghost use Rattle.s66_time.specs.Marks.{IsMarkOf};
 
-use crate::limits::SPINS;
 use atomic_table::{Play, Refused, Seat, Table, TableRule};
 use s66_dep::Set;
 use s66_isa::Profile;
 use s66_line::Block;
+use s66_lock::SPINS;
 use s66_model::Rule;
 use s66_node::{Entry, Marks, Name, Place, Walk};
 use s66_time::Mark;

@@ -1,4 +1,4 @@
-use s66_ledger::Ticket;
+use s66_model::Ticket;
 use s66_steal::{Lane, Pass, Thief};
 use std::marker::Model;
 

@@ -5,7 +5,7 @@ use crate::owner::Lane;
 use crate::protocol::{Hand, Rule};
 use crate::thief::Thief;
 use crossbeam_deque::Worker;
-use s66_ledger::Ticket;
+use s66_model::Ticket;
 use std::alloc::{AllocError, Global};
 
 /// An empty lane whose first `capacity` puts need no memory, and the thief that its passes steal with.

@@ -1,5 +1,5 @@
 use crate::protocol::Hand;
-use s66_ledger::Ticket;
+use s66_model::Ticket;
 use std::marker::Model;
 
 /// A thief's place at a lane, with which it steals. If it is dropped, it stays out.

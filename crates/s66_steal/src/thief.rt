@@ -1,7 +1,7 @@
 use crate::pass::Pass;
 use crate::protocol::{Hand, Rule, Takes};
 use crossbeam_deque::{Steal, Stealer};
-use s66_ledger::Ticket;
+use s66_model::Ticket;
 use std::alloc::Global;
 use std::marker::Model;
 

@@ -7,7 +7,7 @@ use Rattle.s66_model.specs.Ledger as model
 use Rattle.s66_ledger.specs.declared.node.Node.{Node}
 use Rattle.s66_ledger.specs.declared.node.State.TheVariants as state
 use Rattle.s66_ledger.specs.Nodes.{prefixes, lines_of, no_node, node_at}
-use Rattle.s66_ledger.specs.Tickets.{TicketOf}
+use Rattle.s66_model.specs.Tickets.{TicketOf}
 use Rattle.s66_ledger.specs.LedgerMachine.{MachineOf, IsMove, IsKept, machine_of}
 use Rattle.s66_ledger.proofs.NodePrefixes.{prefixes-set, lines-state}
 use Rattle.s66_ledger.proofs.SeenNodes.{at-nodes}

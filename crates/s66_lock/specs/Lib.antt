@@ -1,0 +1,4 @@
+pub mod SeatViews
+pub mod Locked
+pub mod LockTokens
+pub mod Hints
