@@ -9,7 +9,8 @@ use Rattle.s66_model.specs.Tree.{Tree, Alone, Parted, Siblings, NoMore, Unsplit,
 use Rattle.s66_model.specs.DominatedLeaves.{Ending, Bounding}
 use Rattle.s66_model.specs.Preorder.{SiblingsMatch, TreeMatches}
 use Rattle.s66_model.proofs.Forests.{read-flat}
-use Rattle.s66_cert.specs.Document.{Document, IsDocumentWithin, AreDocumentsWithin, AreInstructions, SiblingsFit, TreeFits, has_dominated_line, has_dominated, names_nodes}
+use Rattle.s66_tree.specs.Lines.{has_dominated_line}
+use Rattle.s66_cert.specs.Document.{Document, IsDocumentWithin, AreDocumentsWithin, AreInstructions, SiblingsFit, TreeFits, has_dominated, names_nodes}
 use Rattle.s66_cert.proofs.DocumentLines.{open_lines, document_lines, documents_lines, instructions_of, vertices_of}
 use Rattle.s66_cert.specs.Lines.{Line, Header, Profile, Block, Instruction, Time, Bound, Order, OfTree, End, bytes_of, IsInRange}
 use Rattle.s66_cert.specs.DocumentParts.{Parts, tree_of}

@@ -1,5 +1,4 @@
 pub mod Texts
-pub mod Marks
 pub mod NodePlaces
 pub mod FewLines
 pub mod NumberTexts

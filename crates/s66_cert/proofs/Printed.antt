@@ -9,7 +9,8 @@ use Rattle.s66_model.specs.DominatedLeaves.{Ending, Bounding, Dominated}
 use Rattle.s66_cert.specs.Document.{IsLeafLine, SiblingsFit, TreeFits, version, document_text, leaf_line, instruction_lines, tree_lines}
 use Rattle.s66_cert.specs.Pages.{AreShort, IsPrinted, opening, claim_lines}
 use Rattle.s66_cert.proofs.Pages.{IsUnderway, printed-here, underway-more}
-use Rattle.s66_cert.specs.DocumentParts.{Parts, AreWhole, IsShort, document_of, tree_of}
+use Rattle.s66_tree.specs.Lines.{IsShort}
+use Rattle.s66_cert.specs.DocumentParts.{Parts, AreWhole, document_of, tree_of}
 
 -- THE LINES OF A TREE HAVE FEW NUMBERS
 

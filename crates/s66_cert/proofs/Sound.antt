@@ -10,7 +10,8 @@ use Rattle.s66_model.specs.Leaves.{Whole}
 use Rattle.s66_model.specs.Tree.{Tree, Alone, Parted, Siblings, NoMore, Unsplit, Split, Vertex, AtTerminal, AtSplit, flat_siblings, flat, sibling_splits, splits}
 use Rattle.s66_model.specs.DominatedLeaves.{Ending, Bounding}
 use Rattle.s66_line.specs.InstructionText.{IsInstruction}
-use Rattle.s66_cert.specs.Document.{Document, IsDocumentWithin, AreDocumentsWithin, AreNumbers, AreInstructions, IsLeafLine, SiblingsFit, TreeFits, IsTextWithin, documents_text, has_dominated_line, names_nodes}
+use Rattle.s66_tree.specs.Lines.{has_dominated_line}
+use Rattle.s66_cert.specs.Document.{Document, IsDocumentWithin, AreDocumentsWithin, AreNumbers, AreInstructions, IsLeafLine, SiblingsFit, TreeFits, IsTextWithin, documents_text, names_nodes}
 use Rattle.s66_cert.specs.Faults.{with_newlines, IsOpenWithin}
 use Rattle.s66_cert.specs.Lines.{Line, Header, Profile, Block, Instruction, Time, Bound, Order, OfTree, End, bytes_of, IsInRange, line_of}
 use Rattle.s66_cert.specs.DocumentParts.{Parts, document_of, tree_of}

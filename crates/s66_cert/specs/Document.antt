@@ -10,6 +10,7 @@ use Rattle.s66_model.specs.DominatedLeaves.{Ending, Bounding, Dominated}
 use Rattle.s66_isa.specs.Lists.{after_blanks}
 use Rattle.s66_line.specs.InstructionText.{IsInstruction}
 use Rattle.s66_isa.specs.declared.limits.TheConstants.{PROFILE_LENGTH, PROFILE_LIMIT}
+use Rattle.s66_tree.specs.Lines.{has_dominated_line}
 use Rattle.s66_cert.specs.declared.limits.TheConstants.{TIME_LIMIT, SPLIT_LIMIT}
 
 -- what it claims: under this profile, the instructions of these texts, in this order, take this time, and none takes less than the bound, as the tree shows by the rule
@@ -54,13 +55,6 @@ TreeFits limit (Alone leaf) = IsLeafLine limit leaf
 TreeFits limit (Parted numbers siblings) = AreNumbers limit numbers × SiblingsFit limit numbers siblings
 
 -- DOMINATED LEAVES
-
--- whether one of these lines is a dominated leaf
-abbrev pub has_dominated_line : List (Vertex Ending) → Bool
-has_dominated_line [] = false
-has_dominated_line (AtTerminal (Bounding leaf) ∷ vertices) = has_dominated_line vertices
-has_dominated_line (AtTerminal (Dominated name) ∷ vertices) = true
-has_dominated_line (AtSplit numbers ∷ vertices) = has_dominated_line vertices
 
 -- whether a leaf of the tree is dominated
 abbrev pub has_dominated : Tree Ending → Bool

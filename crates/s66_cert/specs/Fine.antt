@@ -3,7 +3,8 @@ use Rattle.std.specs.Prelude.{◌≡◌, ◌≤◌, ◌+◌, ℕ, zero, suc, tru
 use Rattle.s66_isa.specs.declared.limits.TheConstants.{BLOCK_LIMIT}
 use Rattle.s66_model.specs.Tree.{Vertex, AtTerminal, AtSplit}
 use Rattle.s66_model.specs.DominatedLeaves.{Ending}
-use Rattle.s66_cert.specs.Document.{AreDocumentsWithin, AreIn, AreNumbers, AreInstructions, IsLeafLine, has_dominated_line, names_nodes}
+use Rattle.s66_tree.specs.Lines.{has_dominated_line}
+use Rattle.s66_cert.specs.Document.{AreDocumentsWithin, AreIn, AreNumbers, AreInstructions, IsLeafLine, names_nodes}
 use Rattle.s66_cert.specs.DocumentParts.{Parts}
 use Rattle.s66_cert.specs.Reading.{State}
 use Rattle.s66_isa.specs.declared.limits.TheConstants.{PROFILE_LENGTH, PROFILE_LIMIT}

@@ -4,7 +4,6 @@ pub mod Examples
 pub mod Faults
 pub mod Fine
 pub mod Lines
-pub mod Marks
 pub mod NodePlaces
 pub mod Pages
 pub mod DocumentParts

@@ -1,9 +1,9 @@
 use crate::indexed_tree::IndexedTree;
 use crate::instruction::InstructionText;
-use crate::tree::{Tree, TreeLine, TreeLines};
 use arrayvec::ArrayVec;
 use s66_isa::{BLOCK_LIMIT, PROFILE_LENGTH};
 use s66_model::Rule;
+use s66_tree::{Tree, TreeLine, TreeLines};
 use std::marker::Model;
 
 /// What a document says.
@@ -60,7 +60,8 @@ impl Document {
     ghost use Rattle.std.specs.Prelude.{◌≡◌, []};
     ghost use Rattle.std.specs.Option.{option_map};
     ghost use Rattle.s66_model.specs.NodeNames.{node_at};
-    ghost use Rattle.s66_cert.specs.DocumentParts.{AreWhole, document_of, vertex_of};
+    ghost use Rattle.s66_tree.specs.Lines.{vertex_of};
+    ghost use Rattle.s66_cert.specs.DocumentParts.{AreWhole, document_of};
 
     /// The document that says this. Its numbers have to be in their ranges, its texts those of instructions, and the lines of its
     /// tree those of one whole tree of at most `SPLIT_LIMIT` splits. Its rule names nodes exactly when a leaf is dominated. It

@@ -1,8 +1,8 @@
 ghost use Rattle.std.specs.Prelude.{◌≡◌, get_or};
-ghost use Rattle.s66_cert.specs.DocumentParts.{vertex_of};
+ghost use Rattle.s66_tree.specs.Lines.{vertex_of};
 ghost use Rattle.s66_cert.specs.NodePlaces.{end_behind, sibling_count};
 
-use crate::tree::{KeptLines, Tree, TreeLine, TreeLines};
+use s66_tree::{KeptLines, Tree, TreeLine, TreeLines};
 use std::marker::Model;
 
 /// How many trees follow a line as its children.
@@ -63,7 +63,8 @@ impl IndexedTree {
     ghost use Rattle.std.specs.Prelude.{◌≡◌, ◌<◌, ◌≤◌, ◌^◌, [], length};
     ghost use Rattle.std.specs.Option.{option_map};
     ghost use Rattle.s66_model.specs.NodeNames.{node_at};
-    ghost use Rattle.s66_cert.specs.DocumentParts.{vertex_of, tree_of};
+    ghost use Rattle.s66_tree.specs.Lines.{vertex_of};
+    ghost use Rattle.s66_cert.specs.DocumentParts.{tree_of};
     ghost use Rattle.s66_cert.specs.NodePlaces.{IsChildAt};
 
     /// The same lines, in one pass over them; nothing is allocated.

@@ -18,7 +18,6 @@ mod reading;
 mod readings;
 mod scan;
 mod text;
-mod tree;
 
 pub use document::{Claim, Document};
 pub use error::CertError;
@@ -29,5 +28,5 @@ pub use limits::{SPLIT_LIMIT, TIME_LIMIT};
 pub use printing::print;
 pub use reading::read;
 pub use readings::{fault_examples, reading_examples};
+pub use s66_tree::{Tree, TreeLine, TreeLines};
 pub use text::text_examples;
-pub use tree::{Tree, TreeLine, TreeLines};

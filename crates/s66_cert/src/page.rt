@@ -5,13 +5,13 @@ ghost use Rattle.s66_line.specs.declared.limits.TheConstants.{TEXT_LIMIT};
 ghost use Rattle.s66_model.specs.Tree.{AtTerminal, Vertex};
 ghost use Rattle.s66_cert.specs.Document.{kind_name, instruction_lines, tree_lines};
 ghost use Rattle.s66_cert.specs.Pages.{Printed};
-ghost use Rattle.s66_cert.specs.DocumentParts.{vertex_of, IsShort};
+ghost use Rattle.s66_tree.specs.Lines.{vertex_of, IsShort};
 
-use crate::tree::TreeLine;
 use arrayvec::ArrayVec;
 use itoa::Buffer;
 use s66_device::{Sink, WriteError, write_all};
 use s66_isa::{BLOCK_LIMIT, Kind};
+use s66_tree::TreeLine;
 use std::marker::Model;
 
 /// The bytes of a page.

@@ -7,9 +7,9 @@ ghost use Rattle.s66_cert.specs.DocumentParts.{document_of};
 use crate::document::Document;
 use crate::instruction::InstructionText;
 use crate::page::Page;
-use crate::tree::TreeLines;
 use s66_device::{Sink, WriteError};
 use s66_model::Rule;
+use s66_tree::TreeLines;
 
 /// The version of a document by this rule.
 fn version(rule: Rule) -> u32

@@ -18,7 +18,8 @@ use s66_isa::Kind;
 
 impl Prefix {
     ghost use Rattle.std.specs.Prelude.{◌≡◌};
-    ghost use Rattle.s66_cert.specs.DocumentParts.{document_of, vertex_of};
+    ghost use Rattle.s66_tree.specs.Lines.{vertex_of};
+    ghost use Rattle.s66_cert.specs.DocumentParts.{document_of};
     ghost use Rattle.s66_checker.specs.Verdict.{problem_of, line_fault};
 
     /// What is wrong with a line of a document's tree at the prefix, if anything is. A leaf's value has to reach the bound, and

@@ -8,8 +8,8 @@
 //!
 //! It shares nothing with the search that made the certificate: no clock, no marks, no sets of dependences, no bounds, no ledger.
 //! So a mistake there, or in what is proved of it, doesn't come back here as a yes. It uses the table of instructions
-//! (`s66_isa`), the definitions of the model (`s66_model`), and documents and their texts (`s66_cert`, `s66_line`). It allocates
-//! nothing.
+//! (`s66_isa`), the definitions of the model (`s66_model`), and documents, their trees and their texts (`s66_cert`, `s66_tree`,
+//! `s66_line`). It allocates nothing.
 //!
 //! What each instruction depends on is tested pair by pair, and stored in a word (`needs`, `marks`). One prefix is pushed and
 //! popped along the tree (`prefix`, `walk`), with its points and what they leave for the next instruction (`past`, `words`,

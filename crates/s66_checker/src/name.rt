@@ -3,7 +3,8 @@
 ghost use Rattle.std.specs.Prelude.{◌≡◌, IsTrue};
 ghost use Rattle.std.specs.Option.{option_map};
 ghost use Rattle.s66_model.specs.DominatedLeaves.{may_be_named};
-ghost use Rattle.s66_cert.specs.DocumentParts.{document_of, vertex_of};
+ghost use Rattle.s66_tree.specs.Lines.{vertex_of};
+ghost use Rattle.s66_cert.specs.DocumentParts.{document_of};
 ghost use Rattle.s66_checker.specs.Verdict.{problem_of, is_early_enough, is_name};
 
 use crate::prefix::Prefix;

@@ -1,6 +1,7 @@
 ghost use Rattle.std.specs.Prelude.{◌≡◌, []};
 ghost use Rattle.s66_model.specs.Later.{IsNextReady, later};
-ghost use Rattle.s66_cert.specs.DocumentParts.{document_of, vertex_of};
+ghost use Rattle.s66_tree.specs.Lines.{vertex_of};
+ghost use Rattle.s66_cert.specs.DocumentParts.{document_of};
 ghost use Rattle.s66_checker.specs.Verdict.{problem_of, tree_placed, tree_line, lines_verdict};
 ghost use Rattle.s66_checker.specs.Walk.{coming, after_line, HasReady};
 

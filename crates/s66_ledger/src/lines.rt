@@ -15,9 +15,9 @@ use crate::links::Links;
 use crate::node::{Node, State};
 use crate::path::{name_of, up};
 use s66_bound::Leaf;
-use s66_cert::{Tree, TreeLine};
 use s66_dep::Set;
 use s66_node::Walk;
+use s66_tree::{Tree, TreeLine};
 use std::alloc::AllocError;
 
 /// Appends the line of a leaf, which leaves out its value.

@@ -31,7 +31,8 @@ use Rattle.s66_model.proofs.Growth.{total-le}
 use Rattle.s66_model.proofs.LegalOrders.{legal-order, ready-parts}
 use Rattle.s66_model.proofs.Remaining.{among-ready, legal-parts, ready-among, remaining-parts, rest-first, step-begins}
 use Rattle.s66_cert.specs.declared.limits.TheConstants.{SPLIT_LIMIT, TIME_LIMIT}
-use Rattle.s66_cert.specs.Document.{AreIn, AreInstructions, AreNumbers, IsDocument, IsLeafLine, SiblingsFit, TreeFits, has_dominated_line, has_dominated, names_nodes}
+use Rattle.s66_tree.specs.Lines.{has_dominated_line}
+use Rattle.s66_cert.specs.Document.{AreIn, AreInstructions, AreNumbers, IsDocument, IsLeafLine, SiblingsFit, TreeFits, has_dominated, names_nodes}
 use Rattle.s66_cert.specs.DocumentParts.{Parts, AreWhole, document_of, tree_of}
 use Rattle.s66_program.specs.ProvedAnswers.{IsSpelled}
 use Rattle.s66_program.specs.ProveText.{document_under, rule_of, texts_of}

@@ -2,7 +2,7 @@ ghost use Rattle.std.specs.Prelude.{◌≡◌, if◌then◌else◌, IfOk};
 ghost use Rattle.s66_line.specs.Block.{instrs_of};
 ghost use Rattle.s66_ledger.specs.Answers.{answer_of};
 ghost use Rattle.s66_model.specs.declared.rule.Rule.TheVariants.{NoneNamed};
-ghost use Rattle.s66_cert.specs.Document.{has_dominated_line};
+ghost use Rattle.s66_tree.specs.Lines.{has_dominated_line};
 ghost use Rattle.s66_cert.specs.DocumentParts.{document_of};
 ghost use Rattle.s66_program.specs.ProveText.{document_under, texts_of};
 ghost use Rattle.s66_program.specs.ProvedAnswers.{IsSpelled};

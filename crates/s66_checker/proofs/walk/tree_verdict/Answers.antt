@@ -1,7 +1,8 @@
 use Rattle.std.proofs.Common.{◌∙◌, ◌+◌, [], length, refl, sym, ap, arith, inl, inr, true, false, List}
 use Rattle.s66_model.specs.Tree.{Vertex}
 use Rattle.s66_model.specs.DominatedLeaves.{Ending}
-use Rattle.s66_cert.specs.DocumentParts.{document_of, vertex_of}
+use Rattle.s66_tree.specs.Lines.{vertex_of}
+use Rattle.s66_cert.specs.DocumentParts.{document_of}
 use Rattle.s66_checker.specs.Checked.{Checked}
 use Rattle.s66_checker.specs.Verdict.{problem_of}
 use Rattle.s66_checker.specs.Walk.{coming}

@@ -1,7 +1,7 @@
 ghost use Rattle.std.specs.Prelude.{◌≡◌, ◌<◌, ◌+◌, ◌∷◌, drop, length};
 ghost use Rattle.s66_isa.specs.Lists.{some_of};
-ghost use Rattle.s66_cert.specs.DocumentParts.{vertex_of};
-ghost use Rattle.s66_cert.specs.Marks.{is_dominated, vertices_of, AreKept};
+ghost use Rattle.s66_tree.specs.Lines.{vertex_of};
+ghost use Rattle.s66_tree.specs.Marks.{is_dominated, vertices_of, AreKept};
 
 use s66_isa::Kind;
 use std::alloc::{AllocError, Global};
@@ -37,8 +37,8 @@ pub(crate) enum Mark {
 
 impl Mark {
     ghost use Rattle.std.specs.Prelude.{◌≡◌, length};
-    ghost use Rattle.s66_cert.specs.DocumentParts.{vertex_of};
-    ghost use Rattle.s66_cert.specs.Marks.{number_count, is_dominated, marked};
+    ghost use Rattle.s66_tree.specs.Lines.{vertex_of};
+    ghost use Rattle.s66_tree.specs.Marks.{number_count, is_dominated, marked};
 
     /// How many numbers its line has.
     fn number_count(self) -> usize
@@ -100,7 +100,7 @@ fn line_at<'a>(marks: &[Mark], numbers: &'a [u8], begins: &[usize], place: usize
 
 /// The lines of a tree in preorder, in ten bytes a line and one a number.
 #[derive(Debug, Drop)]
-pub(crate) struct KeptLines {
+pub struct KeptLines {
     marks: Vec<Mark>,
     numbers: Vec<u8>,
     /// Where the numbers of each line begin.
@@ -111,7 +111,7 @@ impl Model for KeptLines {
     ghost use Rattle.std.specs.Prelude.{List};
     ghost use Rattle.s66_model.specs.Tree.{Vertex};
     ghost use Rattle.s66_model.specs.DominatedLeaves.{Ending};
-    ghost use Rattle.s66_cert.specs.Marks.{vertices_of, AreKept};
+    ghost use Rattle.s66_tree.specs.Marks.{vertices_of, AreKept};
 
     ghost Value = { List (Vertex Ending) };
 
@@ -122,9 +122,8 @@ impl Model for KeptLines {
 
 impl KeptLines {
     ghost use Rattle.std.specs.Prelude.{◌≡◌, ◌<◌, ◌+◌, ◌++◌, [], ◌∷◌, drop, length, OnOk, OnErr};
-    ghost use Rattle.s66_cert.specs.Document.{has_dominated_line};
-    ghost use Rattle.s66_cert.specs.DocumentParts.{vertex_of, IsShort};
-    ghost use Rattle.s66_cert.specs.Marks.{number_count, marked};
+    ghost use Rattle.s66_tree.specs.Lines.{vertex_of, IsShort, has_dominated_line};
+    ghost use Rattle.s66_tree.specs.Marks.{number_count, marked};
 
     /// No lines.
     fn new(alloc: Global) -> KeptLines
@@ -172,7 +171,7 @@ impl KeptLines {
 
     /// How many there are.
     #[tactic(auto, using(crate::proofs::Marks::line_count))]
-    pub(crate) fn len(&self) -> usize
+    pub fn len(&self) -> usize
         ensures { result ≡ length self.now }
     {
         self.marks.len()
@@ -180,7 +179,7 @@ impl KeptLines {
 
     /// The line at a place, from 0.
     #[tactic(auto, using(crate::proofs::Marks::line_count))]
-    pub(crate) fn at(&self, place: usize) -> TreeLine<'_>
+    pub fn at(&self, place: usize) -> TreeLine<'_>
         requires { place < length self.now }
         ensures { drop place self.now ≡ vertex_of result ∷ drop (place + 1) self.now }
     {
@@ -201,7 +200,7 @@ impl KeptLines {
     }
 
     /// The lines, from the first on.
-    pub(crate) fn iter(&self) -> TreeLines<'_>
+    pub fn iter(&self) -> TreeLines<'_>
         ensures { result ≡ self.now }
     {
         TreeLines {
@@ -233,8 +232,7 @@ impl Model for Tree {
 
 impl Tree {
     ghost use Rattle.std.specs.Prelude.{◌≡◌, ◌++◌, [], ◌∷◌, length, OnOk, OnErr};
-    ghost use Rattle.s66_cert.specs.Document.{has_dominated_line};
-    ghost use Rattle.s66_cert.specs.DocumentParts.{vertex_of, IsShort};
+    ghost use Rattle.s66_tree.specs.Lines.{vertex_of, IsShort, has_dominated_line};
 
     /// No lines.
     pub fn new(alloc: Global) -> Tree
@@ -273,7 +271,7 @@ impl Tree {
     }
 
     /// The lines, and room for a place of each.
-    pub(crate) fn into_parts(self) -> (KeptLines, Vec<u32>)
+    pub fn into_parts(self) -> (KeptLines, Vec<u32>)
         ensures lines { result.0 ≡ self }
         ensures room { length result.1.items ≡ length self }
     {
@@ -292,7 +290,7 @@ impl<'a> Model for TreeLines<'a> {
     ghost use Rattle.std.specs.Prelude.{List};
     ghost use Rattle.s66_model.specs.Tree.{Vertex};
     ghost use Rattle.s66_model.specs.DominatedLeaves.{Ending};
-    ghost use Rattle.s66_cert.specs.Marks.{vertices_of, AreCounted};
+    ghost use Rattle.s66_tree.specs.Marks.{vertices_of, AreCounted};
 
     ghost Value = { List (Vertex Ending) };
 
@@ -302,7 +300,7 @@ impl<'a> Model for TreeLines<'a> {
 }
 
 impl<'a> TreeLines<'a> {
-    ghost use Rattle.s66_cert.specs.DocumentParts.{IsNextLine};
+    ghost use Rattle.s66_tree.specs.Lines.{IsNextLine};
 
     /// The next line, if there is one.
     pub fn next(&mut self) -> Option<TreeLine<'a>>

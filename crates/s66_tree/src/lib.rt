@@ -1,0 +1,6 @@
+//! The lines of a tree as an answer gives them, and as a certificate keeps them.
+#![tactic(auto)]
+
+mod tree;
+
+pub use tree::{KeptLines, Tree, TreeLine, TreeLines};
