@@ -22,7 +22,7 @@ kept b c h =
     (λ e. refl)
 
 -- what is in upper case stays
-upper_byte-twice : (b : ℕ) → upper_byte (upper_byte b) ≡ upper_byte b
+pub upper_byte-twice : (b : ℕ) → upper_byte (upper_byte b) ≡ upper_byte b
 upper_byte-twice b =
     cond_both (is_lower b) (b - 32) b (λ u. upper_byte u ≡ u)
     (λ e. let bounds = lower-bounds b e in
@@ -63,15 +63,15 @@ upper-trim [] = refl
 upper-trim (b ∷ text) =
     rw (upper-if (every is_return (b ∷ text)) [] (b ∷ trim is_return text), return-kept b, every-return text, upper-trim text) refl
 
-upper-skip_blanks : (text : List ℕ) → skip_blanks (upper text) ≡ upper (skip_blanks text)
+pub upper-skip_blanks : (text : List ℕ) → skip_blanks (upper text) ≡ upper (skip_blanks text)
 upper-skip_blanks [] = refl
 upper-skip_blanks (b ∷ text) = rw (upper-if (is_blank b) (skip_blanks text) (b ∷ text), blank-kept b, upper-skip_blanks text) refl
 
-upper-word : (text : List ℕ) → word (upper text) ≡ upper (word text)
+pub upper-word : (text : List ℕ) → word (upper text) ≡ upper (word text)
 upper-word [] = refl
 upper-word (b ∷ text) = rw (upper-if (is_blank b) [] (b ∷ word text), blank-kept b, upper-word text) refl
 
-upper-after_word : (text : List ℕ) → after_word (upper text) ≡ upper (after_word text)
+pub upper-after_word : (text : List ℕ) → after_word (upper text) ≡ upper (after_word text)
 upper-after_word [] = refl
 upper-after_word (b ∷ text) = rw (upper-if (is_blank b) (b ∷ text) (after_word text), blank-kept b, upper-after_word text) refl
 

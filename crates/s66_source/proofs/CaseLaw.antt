@@ -1,28 +1,15 @@
 -- Letters in upper case leave the classes of lines, and so the blocks of a source, as they are.
 use Rattle.std.proofs.Common.{◌≡◌, ◌==◌, ℕ, suc, Bool, true, false, cond, if◌then◌else◌, List, [], ◌∷◌, ◌++◌, map, refl, sym, ap, ap₂, ◌∙◌, lit<, Option, None, Some}
-use Rattle.s66_line.specs.Fields.{last_line, lines_from, lines_of, upper, body, is_comment, operation, operand, from_operation, label_bytes, continues}
+use Rattle.s66_line.specs.Fields.{last_line, lines_from, lines_of, upper, body, from_operation, label_bytes}
+use Rattle.s66_source.specs.LeftAlone.{Reading, Flagged, at_first, class_at, flagged_from, flagged_lines}
 use Rattle.s66_source.specs.Source.{Line, run_at, run_after, place_at, place_after, label_at, label_after, classes_from, classed_lines, refusal_at, refusal, instructions, begins_block, put_before, parts_of, entry_of, label_in, block_of, blocks_of, unless_refused, source_of}
 use Rattle.s66_line.specs.Block.{Entry, Block}
-use Rattle.s66_line.specs.Class.{by_operation, is_located, class_of, is_instruction, is_code, begins_run, ends_run, instr_in}
+use Rattle.s66_line.specs.Class.{is_instruction, is_code, begins_run, ends_run, instr_in}
 use Rattle.s66_source.specs.UpperRead.{upper_entry, upper_block, upper_read}
 use Rattle.s66_source.specs.declared.error.SourceError.{SourceError}
 use Rattle.s66_line.specs.declared.class.Class.{Class}
-use Rattle.s66_line.specs.declared.class.Class.TheVariants.{Comment, Other, Refused}
-use Rattle.s66_line.proofs.UpperCase.{kept, upper-append, length-upper, upper-trim, upper-if, upper-from_operation, upper-label_bytes, same-location, same-operation, same-operand, same-comment, same-continues}
-
--- CLASSES
-
-abbrev class_of_body : Bool → List ℕ → Class
-class_of_body after line =
-    if is_comment line then Comment
-    else (if continues line then (if after then Refused else Other)
-    else by_operation (is_located line) (upper (operation line)) (upper (operand line)))
-
-same-body : (after : Bool) (line : List ℕ) → class_of_body after (upper line) ≡ class_of_body after line
-same-body after line = rw (same-comment line, same-continues line, same-location line, same-operation line, same-operand line) refl
-
-same-class : (after : Bool) (line : List ℕ) → class_of after (upper line) ≡ class_of after line
-same-class after line = ap (class_of_body after) (upper-trim line) ∙ same-body after (body line)
+use Rattle.s66_line.proofs.UpperCase.{kept, upper-append, length-upper, upper-trim, upper-if, upper-from_operation, upper-label_bytes}
+use Rattle.s66_source.proofs.UpperSwitches.{upper_flagged, same-class_at, upper-flagged}
 
 -- LINES
 
@@ -53,20 +40,21 @@ same-label_after label c line =
     ap (λ bytes. if ends_run c then [] else bytes) (same-label_at label c line) ∙ sym (upper-if (ends_run c) [] (label_at label c line))
 
 -- a classed line, and those after it
-abbrev before_lines : ℕ → ℕ → ℕ → List ℕ → List (List ℕ) → Class → List ℕ → List ℕ → List Line
+abbrev before_lines : ℕ → ℕ → ℕ → List ℕ → List Flagged → Class → List ℕ → List ℕ → List Line
 before_lines number run index line lines c label after_label =
     record { number = number; bytes = line; class = c; run = run_at run c; index = place_at index c; label = label }
     ∷ classes_from (suc number) (run_after run c) (place_after index c) after_label (is_code c) lines
 
-upper-classed : (lines : List (List ℕ)) (number run index : ℕ) (label : List ℕ) (after : Bool) →
-    classes_from number run index (upper label) after (map upper lines) ≡ map upper_line (classes_from number run index label after lines)
+upper-classed : (lines : List Flagged) (number run index : ℕ) (label : List ℕ) (after : Bool) →
+    classes_from number run index (upper label) after (map upper_flagged lines) ≡ map upper_line (classes_from number run index label after lines)
 upper-classed [] number run index label after = refl
 upper-classed (line ∷ lines) number run index label after =
-    let c : Class = class_of after line in
-    let classes = ap (λ d. before_lines number run index (upper line) (map upper lines) d (label_at (upper label) d (upper line)) (label_after (upper label) d (upper line))) (same-class after line) in
-    let labels = ap₂ (before_lines number run index (upper line) (map upper lines) c) (same-label_at label c line) (same-label_after label c line) in
-    let rest = ap (λ ls. upper_line (record { number = number; bytes = line; class = c; run = run_at run c; index = place_at index c; label = label_at label c line }) ∷ ls)
-    (upper-classed lines (suc number) (run_after run c) (place_after index c) (label_after label c line) (is_code c)) in
+    let c : Class = class_at after line in
+    let bytes : List ℕ = line.bytes in
+    let classes = ap (λ d. before_lines number run index (upper bytes) (map upper_flagged lines) d (label_at (upper label) d (upper bytes)) (label_after (upper label) d (upper bytes))) (same-class_at after line) in
+    let labels = ap₂ (before_lines number run index (upper bytes) (map upper_flagged lines) c) (same-label_at label c bytes) (same-label_after label c bytes) in
+    let rest = ap (λ ls. upper_line (record { number = number; bytes = bytes; class = c; run = run_at run c; index = place_at index c; label = label_at label c bytes }) ∷ ls)
+    (upper-classed lines (suc number) (run_after run c) (place_after index c) (label_after label c bytes) (is_code c)) in
     classes ∙ labels ∙ rest
 
 -- WHAT IS MADE OF THEM
@@ -129,18 +117,25 @@ same-blocks lines =
     ∙ ap (map block_of) (same-parts_of (instructions lines))
     ∙ same-each (parts_of (instructions lines))
 
-same-lines : (text : List ℕ) → classed_lines (upper text) ≡ map upper_line (classed_lines text)
-same-lines text = ap (classes_from 1 0 0 [] false) (upper-lines [] text) ∙ upper-classed (lines_of text) 1 0 0 [] false
+-- its text in upper case
+abbrev upper_text : Reading → Reading
+upper_text source = record { cut = source.cut; text = upper source.text }
+
+same-lines : (source : Reading) → classed_lines (upper_text source) ≡ map upper_line (classed_lines source)
+same-lines source =
+    ap (λ lines. classes_from 1 0 0 [] false (flagged_from source.cut at_first lines)) (upper-lines [] source.text)
+    ∙ ap (classes_from 1 0 0 [] false) (upper-flagged source.cut at_first (lines_of source.text))
+    ∙ upper-classed (flagged_lines source) 1 0 0 [] false
 
 same-read : (e : Option SourceError) (blocks : List Block) → unless_refused e (map upper_block blocks) ≡ upper_read (unless_refused e blocks)
 same-read None blocks = refl
 same-read (Some e) blocks = refl
 
-same-source : (text : List ℕ) → source_of (upper text) ≡ upper_read (source_of text)
-same-source text =
-    ap (λ ls. unless_refused (refusal ls) (blocks_of ls)) (same-lines text)
-    ∙ ap₂ unless_refused (same-refusal (classed_lines text)) (same-blocks (classed_lines text))
-    ∙ same-read (refusal (classed_lines text)) (blocks_of (classed_lines text))
+same-source : (source : Reading) → source_of (upper_text source) ≡ upper_read (source_of source)
+same-source source =
+    ap (λ ls. unless_refused (refusal ls) (blocks_of ls)) (same-lines source)
+    ∙ ap₂ unless_refused (same-refusal (classed_lines source)) (same-blocks (classed_lines source))
+    ∙ same-read (refusal (classed_lines source)) (blocks_of (classed_lines source))
 
-pub either_case : (text other : List ℕ) → upper text ≡ upper other → upper_read (source_of text) ≡ upper_read (source_of other)
-either_case text other e = sym (same-source text) ∙ ap source_of e ∙ same-source other
+pub either_case : (source other : Reading) → source.cut ≡ other.cut → upper source.text ≡ upper other.text → upper_read (source_of source) ≡ upper_read (source_of other)
+either_case source other same e = sym (same-source source) ∙ ap₂ (λ cut text. source_of (record { cut = cut; text = text })) same e ∙ same-source other

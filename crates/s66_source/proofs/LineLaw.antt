@@ -4,10 +4,10 @@ use Rattle.std.specs.Prelude.{◌⊎◌, Ok}
 use Rattle.std.proofs.Math.Bool.{and-false}
 use Rattle.std.proofs.lemmas.Bool.{cases_lt, le-ltb}
 use Rattle.s66_isa.specs.Lists.{Among, tally, some_of}
-use Rattle.s66_line.specs.Fields.{lines_of}
 use Rattle.s66_source.specs.Source.{Line, run_after, place_after, label_after, classes_from, classed_lines, operand_refusal, refusal_at, or_else, refusal, instructions, parts_of, entry_of, block_of, blocks_of, unless_refused, source_of}
 use Rattle.s66_line.specs.Block.{Block, line_of}
-use Rattle.s66_line.specs.Class.{class_of, is_instruction, is_code}
+use Rattle.s66_line.specs.Class.{is_instruction, is_code}
+use Rattle.s66_source.specs.LeftAlone.{Reading, Flagged, class_at, flagged_lines}
 use Rattle.s66_source.specs.BlockParts.{all_of}
 use Rattle.s66_source.specs.Roles.{is_comment_class, is_pad_class, is_other_class, is_note_of, is_note, has_block, roles}
 use Rattle.s66_line.specs.declared.class.Class.{Class}
@@ -62,9 +62,9 @@ one_by (Pad located) note true number h none = rw (none refl) refl
 one_by (Pad located) note false number h none = rw (none refl) refl
 one_by (Instruction located n) note block number h none = rw (none refl) refl
 
-pub one : (text : List ℕ) (blocks : List Block) (line : Line) → source_of text ≡ Ok blocks → Among line (classed_lines text) → tally (λ is. is) (roles (classed_lines text) line) ≡ 1
-one text blocks line accepted among =
-    let lines : List Line = classed_lines text in
+pub one : (source : Reading) (blocks : List Block) (line : Line) → source_of source ≡ Ok blocks → Among line (classed_lines source) → tally (λ is. is) (roles (classed_lines source) line) ≡ 1
+one source blocks line accepted among =
+    let lines : List Line = classed_lines source in
     let taken = operand-none lines line (no_refusal (refusal lines) (blocks_of lines) blocks accepted) among in
     one_by line.class (is_note lines line) (has_block lines line) line.number taken (not_comment line (blocks_of lines))
 
@@ -79,11 +79,11 @@ pub Rising-lower : (low high : ℕ) (lines : List Line) → low ≤ high → Ris
 Rising-lower low high [] le h = tt
 Rising-lower low high (l ∷ lines) le h = (omega (arith, le, h.0), h.1)
 
-rising-classed : (lines : List (List ℕ)) (number run index : ℕ) (label : List ℕ) (after : Bool) → Rising number (classes_from number run index label after lines)
+rising-classed : (lines : List Flagged) (number run index : ℕ) (label : List ℕ) (after : Bool) → Rising number (classes_from number run index label after lines)
 rising-classed [] number run index label after = tt
 rising-classed (line ∷ lines) number run index label after =
-    let c : Class = class_of after line in
-    (omega arith, rising-classed lines (suc number) (run_after run c) (place_after index c) (label_after label c line) (is_code c))
+    let c : Class = class_at after line in
+    (omega arith, rising-classed lines (suc number) (run_after run c) (place_after index c) (label_after label c line.bytes) (is_code c))
 
 pub rising-instructions : (low : ℕ) (lines : List Line) → Rising low lines → Rising low (instructions lines)
 rising-instructions low [] h = tt
@@ -161,9 +161,9 @@ some-tally : {X : Type 0} (test : X → Bool) (xs : List X) → some_of test xs 
 some-tally test [] h = cc
 some-tally test (x ∷ xs) h = some-either (test x) test xs h (some-tally test xs)
 
-pub note : (text : List ℕ) (line : Line) → Among line (classed_lines text) → is_note (classed_lines text) line ≡ true → tally (is_note_of line) (blocks_of (classed_lines text)) ≡ 1
-note text line among h =
-    let lines : List Line = classed_lines text in
-    let cut = parts text in
-    let rising : Rising 1 (all_of (parts_of (instructions lines))) = rw cut.whole (rising-instructions 1 lines (rising-classed (lines_of text) 1 0 0 [] false)) in
+pub note : (source : Reading) (line : Line) → Among line (classed_lines source) → is_note (classed_lines source) line ≡ true → tally (is_note_of line) (blocks_of (classed_lines source)) ≡ 1
+note source line among h =
+    let lines : List Line = classed_lines source in
+    let cut = parts source in
+    let rising : Rising 1 (all_of (parts_of (instructions lines))) = rw cut.whole (rising-instructions 1 lines (rising-classed (flagged_lines source) 1 0 0 [] false)) in
     omega (arith, at_most_one line 1 (parts_of (instructions lines)) (λ part stands. (cut.sizes part stands).0) rising, some-tally (is_note_of line) (blocks_of lines) h)

@@ -4,9 +4,9 @@ use Rattle.std.specs.List.{filter}
 use Rattle.std.proofs.lemmas.Bool.{ne_eqb, eq-eqb}
 use Rattle.std.proofs.lemmas.List.{append-nil}
 use Rattle.s66_isa.specs.Lists.{some_of}
-use Rattle.s66_line.specs.Fields.{lines_of}
 use Rattle.s66_source.specs.Source.{Line, run_at, run_after, place_at, place_after, label_at, label_after, classes_from, classed_lines}
-use Rattle.s66_line.specs.Class.{class_of, is_instruction, is_code}
+use Rattle.s66_line.specs.Class.{is_instruction, is_code}
+use Rattle.s66_source.specs.LeftAlone.{Reading, Flagged, class_at, flagged_lines}
 use Rattle.s66_source.specs.Roles.{is_pad_class, is_dropped, lines_that}
 use Rattle.s66_source.specs.Pads.{no_pads, pads_by_class, pads_of_lines}
 use Rattle.s66_line.specs.declared.class.Class.{Class}
@@ -47,12 +47,12 @@ run_at-le run (Pad false) = (omega arith, omega arith)
 run_at-le run (Instruction true n) = (omega arith, omega arith)
 run_at-le run (Instruction false n) = (omega arith, omega arith)
 
-at_least : (lines : List (List ℕ)) (number run index : ℕ) (label : List ℕ) (after : Bool) → AtLeast run (classes_from number run index label after lines)
+at_least : (lines : List Flagged) (number run index : ℕ) (label : List ℕ) (after : Bool) → AtLeast run (classes_from number run index label after lines)
 at_least [] number run index label after = tt
 at_least (line ∷ lines) number run index label after =
-    let c : Class = class_of after line in
+    let c : Class = class_at after line in
     let le = run_at-le run c in
-    (le.0, AtLeast-lower run (run_after run c) _ (omega (arith, le.0, le.1)) (at_least lines (suc number) (run_after run c) (place_after index c) (label_after label c line) (is_code c)))
+    (le.0, AtLeast-lower run (run_after run c) _ (omega (arith, le.0, le.1)) (at_least lines (suc number) (run_after run c) (place_after index c) (label_after label c line.bytes) (is_code c)))
 
 ahead-none : (run low : ℕ) (lines : List Line) → run < low → AtLeast low lines → ahead run lines ≡ false
 ahead-none run low [] lt h = refl
@@ -100,20 +100,20 @@ exchanged_past false false false stated = refl
 -- READING, from any line on
 
 -- the open run has an instruction
-abbrev Settled : List (List ℕ) → Type 0
+abbrev Settled : List Flagged → Type 0
 Settled lines = (dropped : List ℕ) (count run index : ℕ) (label : List ℕ) (after : Bool) →
     (pads_of_lines count after (record { dropped = dropped; undecided = []; has_instruction = true }) lines).dropped
     ≡ dropped ++ pads_in (λ r. ahead r (classes_from (suc count) run index label after lines) || eqb run r) (classes_from (suc count) run index label after lines)
 
 -- or it has none
-abbrev Undecided : List (List ℕ) → Type 0
+abbrev Undecided : List Flagged → Type 0
 Undecided lines = (dropped undecided : List ℕ) (count run index : ℕ) (label : List ℕ) (after : Bool) →
     (pads_of_lines count after (record { dropped = dropped; undecided = undecided; has_instruction = false }) lines).dropped
     ≡ dropped ++ ((if ahead run (classes_from (suc count) run index label after lines) then undecided else [])
     ++ pads_in (λ r. ahead r (classes_from (suc count) run index label after lines)) (classes_from (suc count) run index label after lines))
 
 -- the lines from one on, of this class
-abbrev from_class : ℕ → ℕ → ℕ → List ℕ → Class → List ℕ → List (List ℕ) → List Line
+abbrev from_class : ℕ → ℕ → ℕ → List ℕ → Class → List ℕ → List Flagged → List Line
 from_class number run index label c line lines =
     record { number = number; bytes = line; class = c; run = run_at run c; index = place_at index c; label = label_at label c line }
     ∷ classes_from (suc number) (run_after run c) (place_after index c) (label_after label c line) (is_code c) lines
@@ -168,7 +168,7 @@ before run rest h = ahead-none run (suc run) rest (omega arith) h
 same-run : (run : ℕ) → eqb run run ≡ true
 same-run run = eq-eqb run run refl
 
-settled-class : (c : Class) (line : List ℕ) (lines : List (List ℕ)) → Settled lines → Undecided lines → (dropped : List ℕ) (count run index : ℕ) (label : List ℕ) →
+settled-class : (c : Class) (line : List ℕ) (lines : List Flagged) → Settled lines → Undecided lines → (dropped : List ℕ) (count run index : ℕ) (label : List ℕ) →
     (pads_of_lines (suc count) (is_code c) (pads_by_class c (suc count) (record { dropped = dropped; undecided = []; has_instruction = true })) lines).dropped
     ≡ dropped ++ pads_in (λ r. ahead r (from_class (suc count) run index label c line lines) || eqb run r) (from_class (suc count) run index label c line lines)
 settled-class Comment line lines settled undecided dropped count run index label =
@@ -212,7 +212,7 @@ settled-class (Instruction true n) line lines settled undecided dropped count ru
     ∙ settled-more dropped _ _ (pads_in-same _ _ (suc run) rest (at_least lines (suc (suc count)) (suc run) 1 new true)
     (λ r le. sym (exchanged_past (eqb (suc run) r) (eqb run r) (ahead r rest) (past run r le))))
 
-undecided-class : (c : Class) (line : List ℕ) (lines : List (List ℕ)) → Settled lines → Undecided lines → (dropped some : List ℕ) (count run index : ℕ) (label : List ℕ) →
+undecided-class : (c : Class) (line : List ℕ) (lines : List Flagged) → Settled lines → Undecided lines → (dropped some : List ℕ) (count run index : ℕ) (label : List ℕ) →
     (pads_of_lines (suc count) (is_code c) (pads_by_class c (suc count) (record { dropped = dropped; undecided = some; has_instruction = false })) lines).dropped
     ≡ dropped ++ ((if ahead run (from_class (suc count) run index label c line lines) then some else [])
     ++ pads_in (λ r. ahead r (from_class (suc count) run index label c line lines)) (from_class (suc count) run index label c line lines))
@@ -258,12 +258,12 @@ undecided-class (Instruction true n) line lines settled undecided dropped some c
     ∙ settles-new (eqb (suc run) run && true || ahead run rest) dropped _ _ some (rw (ne_eqb (suc run) run (λ same. absurd (omega (arith, same)))) (before run rest least))
     (pads_in-same _ _ (suc run) rest least (λ r le. sym (exchanged (eqb (suc run) r) (ahead r rest))))
 
-read-pads : (lines : List (List ℕ)) → Settled lines × Undecided lines
+read-pads : (lines : List Flagged) → Settled lines × Undecided lines
 read-pads [] = (λ dropped count run index label after. sym (append-nil dropped), λ dropped undecided count run index label after. sym (append-nil dropped))
 read-pads (line ∷ lines) =
     let rest = read-pads lines in (
-      λ dropped count run index label after. settled-class (class_of after line) line lines rest.0 rest.1 dropped count run index label,
-      λ dropped undecided count run index label after. undecided-class (class_of after line) line lines rest.0 rest.1 dropped undecided count run index label,
+      λ dropped count run index label after. settled-class (class_at after line) line.bytes lines rest.0 rest.1 dropped count run index label,
+      λ dropped undecided count run index label after. undecided-class (class_at after line) line.bytes lines rest.0 rest.1 dropped undecided count run index label,
     )
 
 no_choice : (t : Bool) (ns : List ℕ) → ((if t then [] else []) ++ ns) ≡ ns
@@ -271,7 +271,7 @@ no_choice true ns = refl
 no_choice false ns = refl
 
 -- what reading leaves out is what the definition leaves out
-pub dropped-read : (text : List ℕ) → (pads_of_lines 0 false no_pads (lines_of text)).dropped ≡ lines_that is_dropped text
-dropped-read text =
-    let lines : List Line = classed_lines text in
-    (read-pads (lines_of text)).1 [] [] 0 0 0 [] false ∙ no_choice (ahead 0 lines) (pads_in (λ r. ahead r lines) lines) ∙ sym (filter-pads (λ r. ahead r lines) lines)
+pub dropped-read : (source : Reading) → (pads_of_lines 0 false no_pads (flagged_lines source)).dropped ≡ lines_that is_dropped source
+dropped-read source =
+    let lines : List Line = classed_lines source in
+    (read-pads (flagged_lines source)).1 [] [] 0 0 0 [] false ∙ no_choice (ahead 0 lines) (pads_in (λ r. ahead r lines) lines) ∙ sym (filter-pads (λ r. ahead r lines) lines)

@@ -5,10 +5,10 @@ use Rattle.std.proofs.lemmas.Nat.{mod_below}
 use Rattle.std.proofs.lemmas.Bool.{eqb-false, eqb-true, cases_lt}
 use Rattle.std.proofs.Math.Nat.{suc-mod, mod-eq_of_lt}
 use Rattle.s66_isa.specs.Lists.{Among}
-use Rattle.s66_line.specs.Fields.{lines_of}
 use Rattle.s66_isa.specs.declared.limits.TheConstants.{BLOCK_LIMIT}
 use Rattle.s66_source.specs.Source.{Line, run_at, run_after, place_at, place_after, label_at, label_after, classes_from, classed_lines, instructions, begins_block, put_before, parts_of}
-use Rattle.s66_line.specs.Class.{class_of, is_code}
+use Rattle.s66_line.specs.Class.{is_code}
+use Rattle.s66_source.specs.LeftAlone.{Reading, Flagged, class_at, flagged_lines}
 use Rattle.s66_source.specs.BlockParts.{all_of, AreFull, AreParts}
 use Rattle.s66_line.specs.declared.class.Class.{Class}
 use Rattle.s66_line.specs.declared.class.Class.TheVariants.{Comment, Other, Refused, Pad, Instruction}
@@ -42,10 +42,10 @@ Follow-later : (run index : ℕ) (lines : List Line) → Follow (suc run) 0 line
 Follow-later run index [] h = tt
 Follow-later run index (l ∷ lines) h = (After-later run index l h.0, h.1)
 
-abbrev Followed : List (List ℕ) → Type 0
+abbrev Followed : List Flagged → Type 0
 Followed lines = (number run index : ℕ) (label : List ℕ) (after : Bool) → Follow run index (instructions (classes_from number run index label after lines))
 
-follow-class : (c : Class) (number run index : ℕ) (label line : List ℕ) (lines : List (List ℕ)) → Followed lines →
+follow-class : (c : Class) (number run index : ℕ) (label line : List ℕ) (lines : List Flagged) → Followed lines →
     Follow run index (instructions (record { number = number; bytes = line; class = c; run = run_at run c; index = place_at index c; label = label_at label c line }
     ∷ classes_from (suc number) (run_after run c) (place_after index c) (label_after label c line) (is_code c) lines))
 follow-class Comment number run index label line lines ih = ih (suc number) run index _ false
@@ -56,9 +56,9 @@ follow-class (Pad false) number run index label line lines ih = ih (suc number) 
 follow-class (Instruction true n) number run index label line lines ih = (inr (omega arith, refl), ih (suc number) (suc run) 1 _ true)
 follow-class (Instruction false n) number run index label line lines ih = (inl (refl, refl), ih (suc number) run (suc index) _ true)
 
-follow : (lines : List (List ℕ)) → Followed lines
+follow : (lines : List Flagged) → Followed lines
 follow [] number run index label after = tt
-follow (line ∷ lines) number run index label after = follow-class (class_of after line) number run index label line lines (follow lines)
+follow (line ∷ lines) number run index label after = follow-class (class_at after line) number run index label line.bytes lines (follow lines)
 
 -- PARTS: each of one run, its lines by rising index, no more than a block may have
 
@@ -193,12 +193,12 @@ cut-full ((a ∷ more) ∷ ([] ∷ parts)) zeroth cut = absurd cut.2
 cut-full ((a ∷ more) ∷ ((b ∷ others) ∷ parts)) zeroth cut =
     (full-part a b more others zeroth cut.0 cut.3.0 (omega (arith, cut.1)) cut.2, cut-full ((b ∷ others) ∷ parts) cut.2.0 cut.3)
 
-pub parts : (text : List ℕ) → AreParts (classed_lines text) (parts_of (instructions (classed_lines text)))
-parts text =
-    let cut = cut-parts_of 0 0 (instructions (classed_lines text)) (follow (lines_of text) 1 0 0 [] false) in
+pub parts : (source : Reading) → AreParts (classed_lines source) (parts_of (instructions (classed_lines source)))
+parts source =
+    let cut = cut-parts_of 0 0 (instructions (classed_lines source)) (follow (flagged_lines source) 1 0 0 [] false) in
     record {
-      whole = all_of-parts_of (instructions (classed_lines text));
-      sizes = cut-sizes (parts_of (instructions (classed_lines text))) cut.1;
-      runs = cut-runs (parts_of (instructions (classed_lines text))) cut.1;
-      full = cut-full (parts_of (instructions (classed_lines text))) (Zeroth-starts 0 (parts_of (instructions (classed_lines text))) cut.0) cut.1;
+      whole = all_of-parts_of (instructions (classed_lines source));
+      sizes = cut-sizes (parts_of (instructions (classed_lines source))) cut.1;
+      runs = cut-runs (parts_of (instructions (classed_lines source))) cut.1;
+      full = cut-full (parts_of (instructions (classed_lines source))) (Zeroth-starts 0 (parts_of (instructions (classed_lines source))) cut.0) cut.1;
     }

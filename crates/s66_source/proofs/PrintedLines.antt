@@ -8,9 +8,10 @@ use Rattle.s66_isa.specs.Lists.{Among, some_of}
 use Rattle.s66_isa.specs.declared.instr.Instr.{Instr}
 use Rattle.s66_isa.proofs.Lists.{among-rest}
 use Rattle.s66_line.specs.Fields.{body, lines_of}
+use Rattle.s66_source.specs.LeftAlone.{Reading, Flagged, class_at, at_first, flagged_lines}
 use Rattle.s66_source.specs.Source.{Line, run_after, place_after, label_after, classes_from, classed_lines, refusal, refusal_at, operand_refusal, instructions, parts_of, entry_of, block_of, blocks_of, source_of}
 use Rattle.s66_line.specs.Block.{Entry, Block, line_of}
-use Rattle.s66_line.specs.Class.{class_of, is_instruction, is_code, ends_run}
+use Rattle.s66_line.specs.Class.{is_instruction, is_code, ends_run}
 use Rattle.s66_source.specs.BlockParts.{all_of}
 use Rattle.s66_source.specs.Roles.{is_comment_class, is_pad_class, is_other_class, is_note_of, is_note, has_block, is_dropped, lines_that}
 use Rattle.s66_source.specs.Printed.{Placed, ArePlaced, report, instruction_lines, copied_line, copied_text, notes_text, block_text, text_of_lines, printed}
@@ -24,6 +25,7 @@ use Rattle.s66_source.specs.declared.error.SourceError.{SourceError}
 use Rattle.s66_source.specs.declared.error.SourceError.TheVariants.{LineTooLong, TooLarge}
 use Rattle.s66_source.proofs.PartsLaw.{parts}
 use Rattle.s66_source.proofs.ReaderBlocks.{Gives-accepted}
+use Rattle.s66_source.proofs.FlaggedLines.{bytes-flagged, length-flagged}
 use Rattle.s66_source.proofs.LineLaw.{no_refusal, neither, operand-none, Rising, Rising-lower, rising-instructions, last_number, Rising-behind, outside}
 
 -- A STEP OF THE PRINTER
@@ -54,17 +56,17 @@ abbrev Ordered : ℕ → ℕ → List Line → Type 0
 Ordered number run [] = Unit {0}
 Ordered number run (l ∷ lines) = (l.number ≡ number) × (run ≤ l.run) × Ordered (suc number) (run_behind l) lines
 
-ordered-classed : (lines : List (List ℕ)) (number run index : ℕ) (label : List ℕ) (after : Bool) → Ordered number run (classes_from number run index label after lines)
+ordered-classed : (lines : List Flagged) (number run index : ℕ) (label : List ℕ) (after : Bool) → Ordered number run (classes_from number run index label after lines)
 ordered-classed [] number run index label after = tt
 ordered-classed (line ∷ lines) number run index label after =
-    let c : Class = class_of after line in
-    (refl, (run_at-le run c).0, ordered-classed lines (suc number) (run_after run c) (place_after index c) (label_after label c line) (is_code c))
+    let c : Class = class_at after line in
+    (refl, (run_at-le run c).0, ordered-classed lines (suc number) (run_after run c) (place_after index c) (label_after label c line.bytes) (is_code c))
 
-bytes-classed : (lines : List (List ℕ)) (number run index : ℕ) (label : List ℕ) (after : Bool) → map (λ (l : Line). l.bytes) (classes_from number run index label after lines) ≡ lines
+bytes-classed : (lines : List Flagged) (number run index : ℕ) (label : List ℕ) (after : Bool) → map (λ (l : Line). l.bytes) (classes_from number run index label after lines) ≡ map (λ (m : Flagged). m.bytes) lines
 bytes-classed [] number run index label after = refl
 bytes-classed (line ∷ lines) number run index label after =
-    let c : Class = class_of after line in
-    ap (λ ls. line ∷ ls) (bytes-classed lines (suc number) (run_after run c) (place_after index c) (label_after label c line) (is_code c))
+    let c : Class = class_at after line in
+    ap (λ ls. line.bytes ∷ ls) (bytes-classed lines (suc number) (run_after run c) (place_after index c) (label_after label c line.bytes) (is_code c))
 
 Rising-ordered : (number run : ℕ) (lines : List Line) → Ordered number run lines → Rising number lines
 Rising-ordered number run [] h = tt
@@ -730,19 +732,19 @@ one-run ((a ∷ more) ∷ parts) some same =
 pub same-blocks : (found blocks : List Block) (read : Result (List Block) SourceError) → read ≡ Ok found → read ≡ Ok blocks → found ≡ blocks
 same-blocks found blocks read h g = cc
 
-pub accepted-is : (text : List ℕ) (blocks : List Block) → source_of text ≡ Ok blocks → blocks_of (classed_lines text) ≡ blocks
-accepted-is text blocks accepted = same-blocks (blocks_of (classed_lines text)) blocks (source_of text) (Gives-accepted text blocks accepted) accepted
+pub accepted-is : (source : Reading) (blocks : List Block) → source_of source ≡ Ok blocks → blocks_of (classed_lines source) ≡ blocks
+accepted-is source blocks accepted = same-blocks (blocks_of (classed_lines source)) blocks (source_of source) (Gives-accepted source blocks accepted) accepted
 
-pub print-source : (text : List ℕ) (blocks : List Block) (ps : List Placed) → source_of text ≡ Ok blocks → ArePlaced (blocks_of (classed_lines text)) ps →
-    text_of (printer blocks ps (lines_that is_dropped text) 1 0 0) (lines_of text) ≡ printed text ps
-print-source text blocks ps accepted placed =
-    let all : List Line = classed_lines text in
-    let cut = parts text in
+pub print-source : (source : Reading) (blocks : List Block) (ps : List Placed) → source_of source ≡ Ok blocks → ArePlaced (blocks_of (classed_lines source)) ps →
+    text_of (printer blocks ps (lines_that is_dropped source) 1 0 0) (lines_of source.text) ≡ printed source ps
+print-source source blocks ps accepted placed =
+    let all : List Line = classed_lines source in
+    let cut = parts source in
     let found : List (List Line) = parts_of (instructions all) in
-    ap (λ blocks. text_of (printer blocks ps (dropped_in all all) 1 0 0) (lines_of text)) (sym (accepted-is text blocks accepted))
-    ∙ ap (λ lines. text_of (printer (blocks_of all) ps (dropped_in all all) 1 0 0) lines) (sym (bytes-classed (lines_of text) 1 0 0 [] false))
+    ap (λ blocks. text_of (printer blocks ps (dropped_in all all) 1 0 0) (lines_of source.text)) (sym (accepted-is source blocks accepted))
+    ∙ ap (λ lines. text_of (printer (blocks_of all) ps (dropped_in all all) 1 0 0) lines) (sym (bytes-classed (flagged_lines source) 1 0 0 [] false ∙ bytes-flagged source.cut at_first (lines_of source.text)))
     ∙ (print-lines all all).1 [] [] found ps 0 0 1
-    (record { whole = refl; below = tt; ordered = ordered-classed (lines_of text) 1 0 0 [] false; taken = no_refusal (refusal all) (blocks_of all) blocks accepted })
+    (record { whole = refl; below = tt; ordered = ordered-classed (flagged_lines source) 1 0 0 [] false; taken = no_refusal (refusal all) (blocks_of all) blocks accepted })
     (record { blocks = refl; behind = tt; one = one-run found (λ part among. (cut.sizes part among).0) cut.runs; left = sym cut.whole; placed = placed })
 
 not-many : (long many : Bool) (e f : SourceError) (o : Option SourceError) → (if long then Some e else (if many then Some f else o)) ≡ None → many ≡ false
@@ -750,16 +752,16 @@ not-many true many e f o h = cc
 not-many false true e f o h = cc
 not-many false false e f o h = refl
 
-few-from : (lines : List (List ℕ)) (count run index : ℕ) (label : List ℕ) (after : Bool) → count ≤ SOURCE_LINES_LIMIT → refusal (classes_from (suc count) run index label after lines) ≡ None → count + length lines ≤ SOURCE_LINES_LIMIT
+few-from : (lines : List Flagged) (count run index : ℕ) (label : List ℕ) (after : Bool) → count ≤ SOURCE_LINES_LIMIT → refusal (classes_from (suc count) run index label after lines) ≡ None → count + length lines ≤ SOURCE_LINES_LIMIT
 few-from [] count run index label after few taken = omega (arith, few)
 few-from (line ∷ lines) count run index label after few taken =
-    let c : Class = class_of after line in
+    let c : Class = class_at after line in
     let both = neither _ _ taken in
-    let one = not-many (nat_lt LINE_BYTES_LIMIT (length line)) (nat_lt SOURCE_LINES_LIMIT (suc count)) (LineTooLong (suc count)) TooLarge (operand_refusal (suc count) c) both.0 in
-    omega (arith, few-from lines (suc count) (run_after run c) (place_after index c) (label_after label c line) (is_code c) (ltb-false SOURCE_LINES_LIMIT (suc count) one) both.1)
+    let one = not-many (nat_lt LINE_BYTES_LIMIT (length line.bytes)) (nat_lt SOURCE_LINES_LIMIT (suc count)) (LineTooLong (suc count)) TooLarge (operand_refusal (suc count) c) both.0 in
+    omega (arith, few-from lines (suc count) (run_after run c) (place_after index c) (label_after label c line.bytes) (is_code c) (ltb-false SOURCE_LINES_LIMIT (suc count) one) both.1)
 
 -- an accepted source has no more lines than are allowed
-pub few-lines : (text : List ℕ) (blocks : List Block) → source_of text ≡ Ok blocks → length (lines_of text) ≤ SOURCE_LINES_LIMIT
-few-lines text blocks accepted =
-    let few = few-from (lines_of text) 0 0 0 [] false (omega arith) (no_refusal (refusal (classed_lines text)) (blocks_of (classed_lines text)) blocks accepted) in
-    omega (arith, few)
+pub few-lines : (source : Reading) (blocks : List Block) → source_of source ≡ Ok blocks → length (lines_of source.text) ≤ SOURCE_LINES_LIMIT
+few-lines source blocks accepted =
+    let few = few-from (flagged_lines source) 0 0 0 [] false (omega arith) (no_refusal (refusal (classed_lines source)) (blocks_of (classed_lines source)) blocks accepted) in
+    omega (arith, few, length-flagged source.cut at_first (lines_of source.text))

@@ -1,21 +1,22 @@
 -- A printed text that is accepted when it is read again has the blocks of its source in their placed orders.
-use Rattle.std.proofs.Common.{◌≡◌, ◌≤◌, ◌<◌, ◌+◌, ◌%◌, ◌==◌, ℕ, suc, Bool, true, false, if◌then◌else◌, List, [], ◌∷◌, ◌++◌, None, codes, length, map, refl, sym, ap, ◌∙◌, subst, inl, inr, arith, append_assoc, eqb}
+use Rattle.std.proofs.Common.{◌≡◌, ◌≤◌, ◌<◌, ◌+◌, ◌%◌, ◌==◌, ◌&&◌, ℕ, suc, Bool, true, false, if◌then◌else◌, List, [], ◌∷◌, ◌++◌, None, codes, length, map, refl, sym, ap, ◌∙◌, subst, inl, inr, arith, append_assoc, eqb}
 use Rattle.std.specs.Prelude.{Result, Ok, ◌⊎◌}
 use Rattle.std.proofs.lemmas.Bool.{ne_eqb, eqb-true, eqb-false, true≢false, and_parts}
 use Rattle.std.proofs.lemmas.List.{append-nil, length-map}
 use Rattle.std.proofs.lemmas.Nat.{mod_below}
 use Rattle.s66_isa.specs.declared.instr.Instr.{Instr}
 use Rattle.s66_isa.specs.Lists.{every}
-use Rattle.s66_line.specs.Fields.{is_return, lines_of, body, from_operation, label_bytes}
+use Rattle.s66_line.specs.Fields.{is_return, lines_of, body, continues, from_operation, label_bytes}
 use Rattle.s66_line.specs.Operand.{is_filled}
 use Rattle.s66_source.specs.Source.{Line, run_at, run_after, place_at, place_after, label_at, label_after, classes_from, classed_lines, operand_refusal, refusal_at, refusal, instructions, begins_block, put_before, parts_of, entry_of, block_of, blocks_of, source_of}
 use Rattle.s66_line.specs.Block.{Block}
 use Rattle.s66_line.specs.Class.{class_of, is_code, begins_run, instr_in}
 use Rattle.s66_line.specs.InstructionText.{Spells}
-use Rattle.s66_source.specs.Roles.{is_copied}
+use Rattle.s66_source.specs.LeftAlone.{Reading, Flagged, after_line, at_first, class_at, is_alone, is_continued, flagged_from, flagged_lines}
+use Rattle.s66_source.specs.Roles.{is_copied, is_comment_class}
 use Rattle.s66_source.specs.Printed.{Placed, ArePlaced, copied_line, copied_text, text_of_lines, printed}
 use Rattle.s66_source.specs.ReadAgain.{AreComplete, ArePlacedAgain}
-use Rattle.s66_source.specs.Reader.{State, start, with_open, end_block, begin_run, count_line, by_class, and_then, read_from}
+use Rattle.s66_source.specs.Reader.{State, start, with_open, end_block, begin_run, count_line, by_class, and_then}
 use Rattle.s66_line.specs.declared.class.Class.{Class}
 use Rattle.s66_line.specs.declared.class.Class.TheVariants.{Comment, Other, Refused, Pad, Instruction}
 use Rattle.s66_isa.specs.declared.limits.TheConstants.{BLOCK_LIMIT}
@@ -23,7 +24,10 @@ use Rattle.s66_source.specs.declared.error.SourceError.{SourceError}
 use Rattle.s66_source.proofs.LineLaw.{no_refusal, neither, operand-none}
 use Rattle.s66_source.proofs.PrintedLines.{text-first, instruction-not_copied, same-blocks, accepted-is}
 use Rattle.s66_source.proofs.ReadLine.{IsLabel, label-of_code, spells-of_class, every-from_operation, every-trimmed}
-use Rattle.s66_source.proofs.ReadComments.{read-as, read-copied, AreLinesOfSource, lines-of_source}
+use Rattle.s66_source.specs.declared.standing.Standing.{Standing}
+use Rattle.s66_source.proofs.Standings.{code-stays}
+use Rattle.s66_source.proofs.ReadStanding.{flagged_at, is_holding, taken, comma-alone, comment-stays, continues-copied, text-quiet, IsQuiet}
+use Rattle.s66_source.proofs.ReadComments.{read_at, read-as, read-copied, comment-line, AreLinesOfSource, lines-of_source}
 use Rattle.s66_source.proofs.ReadBlock.{AreSound, Ended, read-block}
 use Rattle.s66_source.proofs.ReaderBlocks.{from_class, Begins, fresh, next-index, full-index, read_from-start}
 use Rattle.s66_line.proofs.Wholes.{is_inside, AreLines-lines_of}
@@ -64,22 +68,22 @@ behind-begins ([] ∷ parts) h = absurd h
 behind-begins ((l ∷ more) ∷ parts) h = rw h refl
 
 -- the parts of these lines
-abbrev parts_from : ℕ → ℕ → ℕ → List ℕ → Bool → List (List ℕ) → List (List Line)
+abbrev parts_from : ℕ → ℕ → ℕ → List ℕ → Bool → List Flagged → List (List Line)
 parts_from number run index label after lines = parts_of (instructions (classes_from number run index label after lines))
 
 -- A PART HAS AT MOST BLOCK_LIMIT LINES
 
-abbrev Fits : List (List ℕ) → Type 0
+abbrev Fits : List Flagged → Type 0
 Fits lines = (number run index : ℕ) (label : List ℕ) (after : Bool) → index % BLOCK_LIMIT + length (left (parts_from number run index label after lines)) ≤ BLOCK_LIMIT
 
 begun-below : (index : ℕ) → index % BLOCK_LIMIT < BLOCK_LIMIT
 begun-below index = mod_below index BLOCK_LIMIT (omega arith)
 
-none-left : (lines : List (List ℕ)) (number run index : ℕ) (label : List ℕ) (after : Bool) → index % BLOCK_LIMIT ≡ 0 → left (parts_from number run index label after lines) ≡ []
+none-left : (lines : List Flagged) (number run index : ℕ) (label : List ℕ) (after : Bool) → index % BLOCK_LIMIT ≡ 0 → left (parts_from number run index label after lines) ≡ []
 none-left lines number run index label after h = left-begins (parts_from number run index label after lines) (fresh lines number run index label after h)
 
 -- one instruction more of the part
-fits-next : (lines : List (List ℕ)) → Fits lines → (number run index : ℕ) (label : List ℕ) → suc (index % BLOCK_LIMIT) + length (left (parts_from number run (suc index) label true lines)) ≤ BLOCK_LIMIT
+fits-next : (lines : List Flagged) → Fits lines → (number run index : ℕ) (label : List ℕ) → suc (index % BLOCK_LIMIT) + length (left (parts_from number run (suc index) label true lines)) ≤ BLOCK_LIMIT
 fits-next lines fits number run index label = by_full (eqb (suc (index % BLOCK_LIMIT)) BLOCK_LIMIT) refl
   where
     by_full : (t : Bool) → eqb (suc (index % BLOCK_LIMIT)) BLOCK_LIMIT ≡ t → suc (index % BLOCK_LIMIT) + length (left (parts_from number run (suc index) label true lines)) ≤ BLOCK_LIMIT
@@ -93,13 +97,13 @@ fits-next lines fits number run index label = by_full (eqb (suc (index % BLOCK_L
         omega (arith, next, few)
 
 -- nothing is left if a block begins
-left-of_fresh : (lines : List (List ℕ)) (index number run later : ℕ) (label : List ℕ) (after : Bool) → later % BLOCK_LIMIT ≡ 0 → index % BLOCK_LIMIT + length (left (parts_from number run later label after lines)) ≤ BLOCK_LIMIT
+left-of_fresh : (lines : List Flagged) (index number run later : ℕ) (label : List ℕ) (after : Bool) → later % BLOCK_LIMIT ≡ 0 → index % BLOCK_LIMIT + length (left (parts_from number run later label after lines)) ≤ BLOCK_LIMIT
 left-of_fresh lines index number run later label after h =
     let none = ap (λ (ls : List Line). length ls) (none-left lines number run later label after h) in
     let below = begun-below index in
     omega (arith, none, below)
 
-fits-instruction : (lines : List (List ℕ)) → Fits lines → (l : Line) (number run index : ℕ) (label : List ℕ) → l.index ≡ index →
+fits-instruction : (lines : List Flagged) → Fits lines → (l : Line) (number run index : ℕ) (label : List ℕ) → l.index ≡ index →
     index % BLOCK_LIMIT + length (left (put_before l (parts_from number run (suc index) label true lines))) ≤ BLOCK_LIMIT
 fits-instruction lines fits l number run index label at =
     let rest = parts_from number run (suc index) label true lines in
@@ -109,10 +113,10 @@ fits-instruction lines fits l number run index label at =
     (elim (begins_block l) as (λ t. index % BLOCK_LIMIT + length (if t then [] else l ∷ left rest) ≤ BLOCK_LIMIT) [ true ↦ omega (arith, below) | false ↦ omega (arith, next) ])
 
 -- the parts of a line of this class and the lines after it
-abbrev parts_by : ℕ → ℕ → ℕ → List ℕ → Class → List ℕ → List (List ℕ) → List (List Line)
+abbrev parts_by : ℕ → ℕ → ℕ → List ℕ → Class → List ℕ → List Flagged → List (List Line)
 parts_by number run index label c line lines = parts_of (instructions (from_class number run index label c line lines))
 
-fits-class : (c : Class) (line : List ℕ) (lines : List (List ℕ)) → Fits lines → (number run index : ℕ) (label : List ℕ) → index % BLOCK_LIMIT + length (left (parts_by number run index label c line lines)) ≤ BLOCK_LIMIT
+fits-class : (c : Class) (line : List ℕ) (lines : List Flagged) → Fits lines → (number run index : ℕ) (label : List ℕ) → index % BLOCK_LIMIT + length (left (parts_by number run index label c line lines)) ≤ BLOCK_LIMIT
 fits-class Comment line lines fits number run index label = fits (suc number) run index label false
 fits-class Refused line lines fits number run index label = fits (suc number) run index label false
 fits-class (Pad false) line lines fits number run index label = fits (suc number) run index label true
@@ -126,29 +130,39 @@ fits-class (Instruction true n) line lines fits number run index label =
     let none = ap (λ (ls : List Line). length ls) (left-put l (parts_from (suc number) (suc run) 1 (label_bytes (body line)) true lines)) in
     omega (arith, below, none)
 
-fits-all : (lines : List (List ℕ)) → Fits lines
+fits-all : (lines : List Flagged) → Fits lines
 fits-all [] number run index label after = let below = begun-below index in omega (arith, below)
-fits-all (line ∷ lines) number run index label after = fits-class (class_of after line) line lines (fits-all lines) number run index label
+fits-all (line ∷ lines) number run index label after = fits-class (class_at after line) line.bytes lines (fits-all lines) number run index label
 
 -- THE LINES OF A PART spell their instructions
+
+taken-by : (alone : Bool) (c : Class) (located : Bool) (n : Instr) → (if alone then Other else c) ≡ Instruction located n → (alone ≡ false) × (c ≡ Instruction located n)
+taken-by true c located n h = cc
+taken-by false c located n h = (refl, h)
 
 abbrev pub AreSoundLines : List Line → Type 0
 AreSoundLines lines = AreSound (map entry_of lines)
 
-pub sound-instructions : (lines : List (List ℕ)) (number run index : ℕ) (label : List ℕ) (after : Bool) → every (every is_inside) lines ≡ true → AreSoundLines (instructions (classes_from number run index label after lines))
-sound-instructions [] number run index label after h = tt
-sound-instructions (line ∷ lines) number run index label after h =
+pub sound-instructions : (cut : Bool) (s : Standing) (lines : List (List ℕ)) (number run index : ℕ) (label : List ℕ) (after : Bool) → every (every is_inside) lines ≡ true →
+    AreSoundLines (instructions (classes_from number run index label after (flagged_from cut s lines)))
+sound-instructions cut s [] number run index label after h = tt
+sound-instructions cut s (line ∷ lines) number run index label after h =
     let both = and_parts (every is_inside line) (every (every is_inside) lines) h in
-    let c : Class = class_of after line in
-    by_class c refl both.0 (sound-instructions lines (suc number) (run_after run c) (place_after index c) (label_after label c line) (is_code c) both.1)
+    let c : Class = class_at after (flagged_at cut s line (is_continued lines)) in
+    by_class c refl both.0 (sound-instructions cut (after_line cut s line) lines (suc number) (run_after run c) (place_after index c) (label_after label c line) (is_code c) both.1)
   where
-    by_class : (c : Class) → class_of after line ≡ c → every is_inside line ≡ true → AreSoundLines (instructions (classes_from (suc number) (run_after run c) (place_after index c) (label_after label c line) (is_code c) lines)) →
-        AreSoundLines (instructions (from_class number run index label c line lines))
+    rest : List Flagged
+    rest = flagged_from cut (after_line cut s line) lines
+
+    by_class : (c : Class) → class_at after (flagged_at cut s line (is_continued lines)) ≡ c → every is_inside line ≡ true →
+        AreSoundLines (instructions (classes_from (suc number) (run_after run c) (place_after index c) (label_after label c line) (is_code c) rest)) → AreSoundLines (instructions (from_class number run index label c line rest))
     by_class Comment stated inside rest = rest
     by_class Other stated inside rest = rest
     by_class Refused stated inside rest = rest
     by_class (Pad located) stated inside rest = rest
-    by_class (Instruction located n) stated inside rest = ((spells-of_class after line located n stated, every-from_operation is_inside (body line) (every-trimmed is_inside is_return line inside)), rest)
+    by_class (Instruction located n) stated inside rest =
+        let is = (taken-by (is_alone cut s line (is_continued lines)) (class_of after line) located n stated).1 in
+        ((spells-of_class after line located n is, every-from_operation is_inside (body line) (every-trimmed is_inside is_return line inside)), rest)
 
 sound-left : (lines : List Line) → AreSoundLines lines → AreSoundLines (left (parts_of lines))
 sound-left [] h = tt
@@ -172,30 +186,62 @@ first-put : (low : ℕ) (l : Line) (parts : List (List Line)) → low ≤ l.numb
 first-put low l parts le h =
     subst (FirstFrom low) (sym (behind-put l parts)) (elim (begins_block l) as (λ t. FirstFrom low (if t then (l ∷ left parts) ∷ behind parts else behind parts)) [ true ↦ le | false ↦ h ])
 
-first-from : (lines : List (List ℕ)) (number run index : ℕ) (label : List ℕ) (after : Bool) → FirstFrom number (behind (parts_from number run index label after lines))
+first-from : (lines : List Flagged) (number run index : ℕ) (label : List ℕ) (after : Bool) → FirstFrom number (behind (parts_from number run index label after lines))
 first-from [] number run index label after = tt
 first-from (line ∷ lines) number run index label after =
-    let c : Class = class_of after line in
-    by_class c (FirstFrom-lower number (suc number) (behind (parts_from (suc number) (run_after run c) (place_after index c) (label_after label c line) (is_code c) lines)) (omega arith)
-    (first-from lines (suc number) (run_after run c) (place_after index c) (label_after label c line) (is_code c)))
+    let c : Class = class_at after line in
+    by_class c (FirstFrom-lower number (suc number) (behind (parts_from (suc number) (run_after run c) (place_after index c) (label_after label c line.bytes) (is_code c) lines)) (omega arith)
+    (first-from lines (suc number) (run_after run c) (place_after index c) (label_after label c line.bytes) (is_code c)))
   where
-    by_class : (c : Class) → FirstFrom number (behind (parts_from (suc number) (run_after run c) (place_after index c) (label_after label c line) (is_code c) lines)) → FirstFrom number (behind (parts_by number run index label c line lines))
+    by_class : (c : Class) → FirstFrom number (behind (parts_from (suc number) (run_after run c) (place_after index c) (label_after label c line.bytes) (is_code c) lines)) → FirstFrom number (behind (parts_by number run index label c line.bytes lines))
     by_class Comment rest = rest
     by_class Other rest = rest
     by_class Refused rest = rest
     by_class (Pad located) rest = rest
     by_class (Instruction located n) rest =
-        first-put number (record { number = number; bytes = line; class = Instruction located n; run = run_at run (Instruction located n); index = place_at index (Instruction located n); label = label_at label (Instruction located n) line })
-        (parts_from (suc number) (run_after run (Instruction located n)) (place_after index (Instruction located n)) (label_after label (Instruction located n) line) true lines) (omega arith) rest
+        first-put number (record { number = number; bytes = line.bytes; class = Instruction located n; run = run_at run (Instruction located n); index = place_at index (Instruction located n); label = label_at label (Instruction located n) line.bytes })
+        (parts_from (suc number) (run_after run (Instruction located n)) (place_after index (Instruction located n)) (label_after label (Instruction located n) line.bytes) true lines) (omega arith) rest
 
 -- a line at which no block begins is printed as a copy, or not at all
-text-copied : (all : List Line) (n : ℕ) (parts : List (List Line)) (ps : List Placed) (l : Line) (lines : List Line) → FirstFrom (suc l.number) parts → ArePlaced (map block_of parts) ps →
+text-copied : (all : List Line) (n : ℕ) (parts : List (List Line)) (ps : List Placed) (l : Line) (lines : List Line) → FirstFrom (suc l.number) parts →
     text_of_lines all n (map block_of parts) ps (l ∷ lines) ≡ copied_text all l ++ text_of_lines all n (map block_of parts) ps lines
-text-copied all n [] [] l lines h placed = refl
-text-copied all n [] (p ∷ ps) l lines h placed = absurd placed
-text-copied all n ([] ∷ parts) ps l lines h placed = absurd h
-text-copied all n ((m ∷ more) ∷ parts) [] l lines h placed = absurd placed
-text-copied all n ((m ∷ more) ∷ parts) (p ∷ ps) l lines h placed = rw (ne_eqb m.number l.number (λ same. absurd (omega (arith, same, h)))) refl
+text-copied all n [] [] l lines h = refl
+text-copied all n [] (p ∷ ps) l lines h = refl
+text-copied all n ([] ∷ parts) ps l lines h = absurd h
+text-copied all n ((m ∷ more) ∷ parts) [] l lines h = refl
+text-copied all n ((m ∷ more) ∷ parts) (p ∷ ps) l lines h = rw (ne_eqb m.number l.number (λ same. absurd (omega (arith, same, h)))) refl
+
+-- THE NEXT LINE
+
+-- the text of a source that is read so from here on
+abbrev text_from : Bool → Standing → List Line → ℕ → List Placed → ℕ → ℕ → ℕ → List ℕ → Bool → List (List ℕ) → List ℕ
+text_from cut s all n ps number run index label after lines =
+    text_of_lines all n (map block_of (behind (parts_from number run index label after (flagged_from cut s lines)))) ps (classes_from number run index label after (flagged_from cut s lines))
+
+other-first : (all : List Line) (n number run index : ℕ) (label : List ℕ) (ps : List Placed) (c : Class) (line : List ℕ) (lines : List Flagged) → c ≡ Other → continues line ≡ true →
+    continues (text_of_lines all n (map block_of (behind (parts_by number run index label c line lines))) ps (from_class number run index label c line lines)) ≡ true
+other-first all n number run index label ps Other line lines stated comma =
+    let rest : List Line = classes_from (suc number) (suc run) 0 [] false lines in
+    let parts : List (List Line) = behind (parts_from (suc number) (suc run) 0 [] false lines) in
+    let l : Line = record { number = number; bytes = line; class = Other; run = run; index = index; label = label } in
+    ap continues (text-copied all n parts ps l rest (first-from lines (suc number) (suc run) 0 [] false)) ∙ continues-copied line (text_of_lines all n (map block_of parts) ps rest) ∙ comma
+other-first all n number run index label ps Comment line lines stated comma = cc
+other-first all n number run index label ps Refused line lines stated comma = cc
+other-first all n number run index label ps (Pad located) line lines stated comma = cc
+other-first all n number run index label ps (Instruction located i) line lines stated comma = cc
+
+-- with `--cut` a comma comes next in the printed text if it does in the source
+next-same : (cut : Bool) (s : Standing) (lines : List (List ℕ)) (all : List Line) (n : ℕ) (ps : List Placed) (number run index : ℕ) (label : List ℕ) (after : Bool) →
+    (cut && continues (text_from cut s all n ps number run index label after lines)) ≡ (cut && is_continued lines)
+next-same false s lines all n ps number run index label after = refl
+next-same true s [] all n ps number run index label after = refl
+next-same true s (line ∷ lines) all n ps number run index label after = by_comma (continues line) refl
+  where
+    by_comma : (t : Bool) → continues line ≡ t → continues (text_from true s all n ps number run index label after (line ∷ lines)) ≡ t
+    by_comma true comma =
+        other-first all n number run index label ps (class_at after (flagged_at true s line (is_continued lines))) line (flagged_from true (after_line true s line) lines)
+        (ap (λ alone. if alone then Other else class_of after line) (comma-alone s line (is_continued lines) comma)) comma
+    by_comma false none = text-quiet (line ∷ lines) s all n (map block_of (behind (parts_from number run index label after (flagged_from true s (line ∷ lines))))) ps number run index label after none
 
 -- WHAT IS READ
 
@@ -214,25 +260,28 @@ abbrev open_blocks : State → List Block
 open_blocks t = with_open t.blocks t.label t.entries
 
 -- the text of these lines, with the blocks of these parts
-abbrev read_text : State → List Line → ℕ → List (List Line) → List Placed → List Line → Result (List Block) SourceError
-read_text t all n parts ps lines = read_from t (lines_of (text_of_lines all n (map block_of parts) ps lines))
+abbrev read_text : Bool → Standing → State → List Line → ℕ → List (List Line) → List Placed → List Line → Result (List Block) SourceError
+read_text cut s t all n parts ps lines = read_at cut s t (text_of_lines all n (map block_of parts) ps lines)
 
-abbrev Reads : List (List ℕ) → Type 0
-Reads lines = (all : List Line) (n number run index : ℕ) (label : List ℕ) (after : Bool) (ps : List Placed) (t : State) (again : List Block) →
-    AreLinesOfSource all → every (every is_inside) lines ≡ true → refusal (classes_from number run index label after lines) ≡ None → IsLabel label →
-    ArePlaced (map block_of (behind (parts_from number run index label after lines))) ps → AreComplete (map block_of (behind (parts_from number run index label after lines))) ps →
-    Ready index label (length (left (parts_from number run index label after lines))) t →
-    read_text t all n (behind (parts_from number run index label after lines)) ps (classes_from number run index label after lines) ≡ Ok again →
-    Follows (behind (parts_from number run index label after lines)) ps (open_blocks t) again
+-- the text is read after what stands before these lines
+abbrev Reads : Bool → List (List ℕ) → Type 0
+Reads cut lines = (s : Standing) (all : List Line) (n number run index : ℕ) (label : List ℕ) (after : Bool) (ps : List Placed) (t : State) (again : List Block) →
+    let flagged : List Flagged = flagged_from cut s lines in
+    AreLinesOfSource cut all → every (every is_inside) lines ≡ true → refusal (classes_from number run index label after flagged) ≡ None → IsLabel label →
+    ArePlaced (map block_of (behind (parts_from number run index label after flagged))) ps → AreComplete (map block_of (behind (parts_from number run index label after flagged))) ps →
+    Ready index label (length (left (parts_from number run index label after flagged))) t →
+    read_text cut s t all n (behind (parts_from number run index label after flagged)) ps (classes_from number run index label after flagged) ≡ Ok again →
+    Follows (behind (parts_from number run index label after flagged)) ps (open_blocks t) again
 
-abbrev ReadsClass : Class → List ℕ → List (List ℕ) → Type 0
-ReadsClass c line lines = (all : List Line) (n number run index : ℕ) (label : List ℕ) (after : Bool) (ps : List Placed) (t : State) (again : List Block) →
-    class_of after line ≡ c → every is_inside line ≡ true →
-    AreLinesOfSource all → every (every is_inside) lines ≡ true → refusal (from_class number run index label c line lines) ≡ None → IsLabel label →
-    ArePlaced (map block_of (behind (parts_by number run index label c line lines))) ps → AreComplete (map block_of (behind (parts_by number run index label c line lines))) ps →
-    Ready index label (length (left (parts_by number run index label c line lines))) t →
-    read_text t all n (behind (parts_by number run index label c line lines)) ps (from_class number run index label c line lines) ≡ Ok again →
-    Follows (behind (parts_by number run index label c line lines)) ps (open_blocks t) again
+abbrev ReadsClass : Bool → Class → List ℕ → List (List ℕ) → Type 0
+ReadsClass cut c line lines = (s : Standing) (all : List Line) (n number run index : ℕ) (label : List ℕ) (after : Bool) (ps : List Placed) (t : State) (again : List Block) →
+    let flagged : List Flagged = flagged_from cut (after_line cut s line) lines in
+    class_at after (flagged_at cut s line (is_continued lines)) ≡ c → every is_inside line ≡ true →
+    AreLinesOfSource cut all → every (every is_inside) lines ≡ true → refusal (from_class number run index label c line flagged) ≡ None → IsLabel label →
+    ArePlaced (map block_of (behind (parts_by number run index label c line flagged))) ps → AreComplete (map block_of (behind (parts_by number run index label c line flagged))) ps →
+    Ready index label (length (left (parts_by number run index label c line flagged))) t →
+    read_text cut s t all n (behind (parts_by number run index label c line flagged)) ps (from_class number run index label c line flagged) ≡ Ok again →
+    Follows (behind (parts_by number run index label c line flagged)) ps (open_blocks t) again
 
 -- A LINE THAT IS COPIED, or that is left out
 
@@ -240,72 +289,98 @@ rest-taken : (l : Line) (lines : List Line) → refusal (l ∷ lines) ≡ None �
 rest-taken l lines h = (neither (refusal_at l) (refusal lines) h).1
 
 -- the lines after it are read after it, or as if it weren't there
-copied-line : (all : List Line) (n : ℕ) (parts : List (List Line)) (ps : List Placed) (l : Line) (lines : List Line) (after : Bool) (t : State) (again : List Block) → class_of after l.bytes ≡ l.class →
-    every is_inside l.bytes ≡ true → operand_refusal l.number l.class ≡ None → FirstFrom (suc l.number) parts → ArePlaced (map block_of parts) ps → read_text t all n parts ps (l ∷ lines) ≡ Ok again →
-    (read_text t all n parts ps lines ≡ Ok again)
-    ⊎ (and_then (by_class t l.class (label_bytes (body l.bytes)) (from_operation (body l.bytes))) (λ u. read_text u all n parts ps lines) ≡ Ok again)
-copied-line all n parts ps l lines after t again stated inside accepted first placed h =
-    by_copied (is_copied all l) (read-as t _ _ again (text-copied all n parts ps l lines first placed) h)
+copied-line : (cut : Bool) (s : Standing) (all : List Line) (n : ℕ) (parts : List (List Line)) (ps : List Placed) (l : Line) (lines : List Line) (after continued : Bool) (t : State) (again : List Block) →
+    class_at after (flagged_at cut s l.bytes continued) ≡ l.class → every is_inside l.bytes ≡ true → operand_refusal l.number l.class ≡ None → FirstFrom (suc l.number) parts →
+    (cut && continues (text_of_lines all n (map block_of parts) ps lines)) ≡ (cut && continued) → after_line cut s l.bytes ≡ s → read_text cut s t all n parts ps (l ∷ lines) ≡ Ok again →
+    (read_text cut (after_line cut s l.bytes) t all n parts ps lines ≡ Ok again)
+    ⊎ (and_then (by_class t l.class (label_bytes (body l.bytes)) (from_operation (body l.bytes))) (λ u. read_text cut (after_line cut s l.bytes) u all n parts ps lines) ≡ Ok again)
+copied-line cut s all n parts ps l lines after continued t again stated inside accepted first next stays h =
+    by_copied (is_copied all l) (read-as cut s t _ _ again (text-copied all n parts ps l lines first) h)
   where
-    by_copied : (copied : Bool) → read_from t (lines_of ((if copied then copied_line l else []) ++ text_of_lines all n (map block_of parts) ps lines)) ≡ Ok again →
-        (read_text t all n parts ps lines ≡ Ok again)
-        ⊎ (and_then (by_class t l.class (label_bytes (body l.bytes)) (from_operation (body l.bytes))) (λ u. read_text u all n parts ps lines) ≡ Ok again)
-    by_copied false h = inl h
+    by_copied : (copied : Bool) → read_at cut s t ((if copied then copied_line l else []) ++ text_of_lines all n (map block_of parts) ps lines) ≡ Ok again →
+        (read_text cut (after_line cut s l.bytes) t all n parts ps lines ≡ Ok again)
+        ⊎ (and_then (by_class t l.class (label_bytes (body l.bytes)) (from_operation (body l.bytes))) (λ u. read_text cut (after_line cut s l.bytes) u all n parts ps lines) ≡ Ok again)
+    by_copied false h = inl (subst (λ stands. read_text cut stands t all n parts ps lines ≡ Ok again) (sym stays) h)
     by_copied true h =
-        inr (ap (λ c. and_then (by_class t c (label_bytes (body l.bytes)) (from_operation (body l.bytes))) (λ u. read_text u all n parts ps lines)) (sym stated)
-        ∙ read-copied t after l.bytes (text_of_lines all n (map block_of parts) ps lines) l.number again inside (ap (operand_refusal l.number) stated ∙ accepted) h)
+        inr (ap (λ c. and_then (by_class t c (label_bytes (body l.bytes)) (from_operation (body l.bytes))) (λ u. read_text cut (after_line cut s l.bytes) u all n parts ps lines)) (sym stated)
+        ∙ read-copied cut s t after continued l.bytes (text_of_lines all n (map block_of parts) ps lines) l.number again inside next (ap (operand_refusal l.number) stated ∙ accepted) h)
 
-reads-comment : (line : List ℕ) (lines : List (List ℕ)) → Reads lines → ReadsClass Comment line lines
-reads-comment line lines reads all n number run index label after ps t again stated inside source insides taken is placed complete ready h =
+-- a comment changes nothing of what stands
+stays-comment : (cut : Bool) (s : Standing) (after continued : Bool) (line : List ℕ) → class_at after (flagged_at cut s line continued) ≡ Comment → after_line cut s line ≡ s
+stays-comment cut s after continued line stated =
+    let parts = comment-line after (is_alone cut s line continued) line (ap is_comment_class stated) in
+    let is = taken cut s line continued parts.0 in
+    comment-stays cut s line is.free is.unflagged parts.1
+
+reads-comment : (cut : Bool) (line : List ℕ) (lines : List (List ℕ)) → Reads cut lines → ReadsClass cut Comment line lines
+reads-comment cut line lines reads s all n number run index label after ps t again stated inside source insides taken is placed complete ready h =
+    let stands : Standing = after_line cut s line in
+    let flagged : List Flagged = flagged_from cut stands lines in
     let l : Line = record { number = number; bytes = line; class = Comment; run = run; index = index; label = label } in
-    let rest : List Line = classes_from (suc number) run index label false lines in
-    let parts : List (List Line) = behind (parts_from (suc number) run index label false lines) in
-    elim (copied-line all n parts ps l rest after t again stated inside refl (first-from lines (suc number) run index label false) placed h) [
-      | inl kept ↦ reads all n (suc number) run index label false ps t again source insides (rest-taken l rest taken) is placed complete ready kept
-      | inr step ↦ reads all n (suc number) run index label false ps (count_line false t) again source insides (rest-taken l rest taken) is placed complete ready step
+    let rest : List Line = classes_from (suc number) run index label false flagged in
+    let parts : List (List Line) = behind (parts_from (suc number) run index label false flagged) in
+    elim (copied-line cut s all n parts ps l rest after (is_continued lines) t again stated inside refl (first-from flagged (suc number) run index label false)
+    (next-same cut stands lines all n ps (suc number) run index label false) (stays-comment cut s after (is_continued lines) line stated) h) [
+      | inl kept ↦ reads stands all n (suc number) run index label false ps t again source insides (rest-taken l rest taken) is placed complete ready kept
+      | inr step ↦ reads stands all n (suc number) run index label false ps (count_line false t) again source insides (rest-taken l rest taken) is placed complete ready step
     ]
 
-reads-pad : (line : List ℕ) (lines : List (List ℕ)) → Reads lines → ReadsClass (Pad false) line lines
-reads-pad line lines reads all n number run index label after ps t again stated inside source insides taken is placed complete ready h =
+reads-pad : (cut : Bool) (line : List ℕ) (lines : List (List ℕ)) → Reads cut lines → ReadsClass cut (Pad false) line lines
+reads-pad cut line lines reads s all n number run index label after ps t again stated inside source insides taken is placed complete ready h =
+    let stands : Standing = after_line cut s line in
+    let flagged : List Flagged = flagged_from cut stands lines in
     let l : Line = record { number = number; bytes = line; class = Pad false; run = run; index = index; label = label } in
-    let rest : List Line = classes_from (suc number) run index label true lines in
-    let parts : List (List Line) = behind (parts_from (suc number) run index label true lines) in
-    elim (copied-line all n parts ps l rest after t again stated inside refl (first-from lines (suc number) run index label true) placed h) [
-      | inl kept ↦ reads all n (suc number) run index label true ps t again source insides (rest-taken l rest taken) is placed complete ready kept
-      | inr step ↦ reads all n (suc number) run index label true ps (count_line true t) again source insides (rest-taken l rest taken) is placed complete ready step
+    let rest : List Line = classes_from (suc number) run index label true flagged in
+    let parts : List (List Line) = behind (parts_from (suc number) run index label true flagged) in
+    elim (copied-line cut s all n parts ps l rest after (is_continued lines) t again stated inside refl (first-from flagged (suc number) run index label true)
+    (next-same cut stands lines all n ps (suc number) run index label true) (code-stays cut (is_continued lines) after s line (ap is_code stated)) h) [
+      | inl kept ↦ reads stands all n (suc number) run index label true ps t again source insides (rest-taken l rest taken) is placed complete ready kept
+      | inr step ↦ reads stands all n (suc number) run index label true ps (count_line true t) again source insides (rest-taken l rest taken) is placed complete ready step
     ]
 
 -- if a run begins with a label, nothing has to be known of the state
-ready-labelled : (lines : List (List ℕ)) (number run : ℕ) (label : List ℕ) (after : Bool) (t : State) → is_filled label ≡ true → Ready 0 label (length (left (parts_from number run 0 label after lines))) t
+ready-labelled : (lines : List Flagged) (number run : ℕ) (label : List ℕ) (after : Bool) (t : State) → is_filled label ≡ true → Ready 0 label (length (left (parts_from number run 0 label after lines))) t
 ready-labelled lines number run label after t some =
     let none = ap (λ (ls : List Line). length ls) (none-left lines number run 0 label after refl) in
     (λ here empty. absurd (true≢false (sym some ∙ ap is_filled empty)), λ all. absurd (omega (arith, none, all)))
 
-reads-labelled_pad : (line : List ℕ) (lines : List (List ℕ)) → Reads lines → ReadsClass (Pad true) line lines
-reads-labelled_pad line lines reads all n number run index label after ps t again stated inside source insides taken is placed complete ready h =
+-- what is in front of code that isn't left alone is a label
+located-label : (after alone : Bool) (line : List ℕ) → begins_run (class_at after (record { alone = alone; bytes = line })) ≡ true → every is_inside line ≡ true →
+    IsLabel (label_bytes (body line)) × (is_filled (label_bytes (body line)) ≡ true)
+located-label after true line begins inside = absurd (true≢false (sym begins))
+located-label after false line begins inside = label-of_code after line begins inside
+
+reads-labelled_pad : (cut : Bool) (line : List ℕ) (lines : List (List ℕ)) → Reads cut lines → ReadsClass cut (Pad true) line lines
+reads-labelled_pad cut line lines reads s all n number run index label after ps t again stated inside source insides taken is placed complete ready h =
+    let stands : Standing = after_line cut s line in
+    let flagged : List Flagged = flagged_from cut stands lines in
     let new : List ℕ = label_bytes (body line) in
     let l : Line = record { number = number; bytes = line; class = Pad true; run = suc run; index = 0; label = new } in
-    let rest : List Line = classes_from (suc number) (suc run) 0 new true lines in
-    let parts : List (List Line) = behind (parts_from (suc number) (suc run) 0 new true lines) in
-    let fresh_label = label-of_code after line (ap begins_run stated) inside in
-    elim (copied-line all n parts ps l rest after t again stated inside refl (first-from lines (suc number) (suc run) 0 new true) placed h) [
-      | inl kept ↦ reads all n (suc number) (suc run) 0 new true ps t again source insides (rest-taken l rest taken) fresh_label.0 placed complete (ready-labelled lines (suc number) (suc run) new true t fresh_label.1) kept
+    let rest : List Line = classes_from (suc number) (suc run) 0 new true flagged in
+    let parts : List (List Line) = behind (parts_from (suc number) (suc run) 0 new true flagged) in
+    let fresh_label = located-label after (is_alone cut s line (is_continued lines)) line (ap begins_run stated) inside in
+    elim (copied-line cut s all n parts ps l rest after (is_continued lines) t again stated inside refl (first-from flagged (suc number) (suc run) 0 new true)
+    (next-same cut stands lines all n ps (suc number) (suc run) 0 new true) (code-stays cut (is_continued lines) after s line (ap is_code stated)) h) [
+      | inl kept ↦
+          reads stands all n (suc number) (suc run) 0 new true ps t again source insides (rest-taken l rest taken) fresh_label.0 placed complete (ready-labelled flagged (suc number) (suc run) new true t fresh_label.1) kept
       | inr step ↦
-          reads all n (suc number) (suc run) 0 new true ps (count_line true (begin_run new t)) again source insides (rest-taken l rest taken) fresh_label.0 placed complete
-          (ready-labelled lines (suc number) (suc run) new true (count_line true (begin_run new t)) fresh_label.1) step
+          reads stands all n (suc number) (suc run) 0 new true ps (count_line true (begin_run new t)) again source insides (rest-taken l rest taken) fresh_label.0 placed complete
+          (ready-labelled flagged (suc number) (suc run) new true (count_line true (begin_run new t)) fresh_label.1) step
     ]
 
-reads-other : (line : List ℕ) (lines : List (List ℕ)) → Reads lines → ReadsClass Other line lines
-reads-other line lines reads all n number run index label after ps t again stated inside source insides taken is placed complete ready h =
+reads-other : (cut : Bool) (line : List ℕ) (lines : List (List ℕ)) → Reads cut lines → ReadsClass cut Other line lines
+reads-other cut line lines reads s all n number run index label after ps t again stated inside source insides taken is placed complete ready h =
+    let stands : Standing = after_line cut s line in
+    let flagged : List Flagged = flagged_from cut stands lines in
     let l : Line = record { number = number; bytes = line; class = Other; run = run; index = index; label = label } in
-    let rest : List Line = classes_from (suc number) (suc run) 0 [] false lines in
-    let parts : List (List Line) = behind (parts_from (suc number) (suc run) 0 [] false lines) in
+    let rest : List Line = classes_from (suc number) (suc run) 0 [] false flagged in
+    let parts : List (List Line) = behind (parts_from (suc number) (suc run) 0 [] false flagged) in
     let text : List ℕ = text_of_lines all n (map block_of parts) ps rest in
-    let copied : read_from t (lines_of ((body line ++ codes "\n") ++ text)) ≡ Ok again =
-    read-as t _ _ again (text-copied all n parts ps l rest (first-from lines (suc number) (suc run) 0 [] false) placed) h in
-    let step = read-copied t after line text number again inside (ap (operand_refusal number) stated) copied in
-    reads all n (suc number) (suc run) 0 [] false ps (count_line false (end_block t)) again source insides (rest-taken l rest taken) (refl, refl) placed complete (λ here empty. (refl, refl), λ all. (refl, refl))
-    (ap (λ c. and_then (by_class t c (label_bytes (body line)) (from_operation (body line))) (λ u. read_from u (lines_of text))) (sym stated) ∙ step)
+    let copied : read_at cut s t ((body line ++ codes "\n") ++ text) ≡ Ok again =
+    read-as cut s t _ _ again (text-copied all n parts ps l rest (first-from flagged (suc number) (suc run) 0 [] false)) h in
+    let step = read-copied cut s t after (is_continued lines) line text number again inside (next-same cut stands lines all n ps (suc number) (suc run) 0 [] false) (ap (operand_refusal number) stated) copied in
+    reads stands all n (suc number) (suc run) 0 [] false ps (count_line false (end_block t)) again source insides (rest-taken l rest taken) (refl, refl) placed complete (λ here empty. (refl, refl), λ all. (refl, refl))
+    (ap (λ c. and_then (by_class t c (label_bytes (body line)) (from_operation (body line))) (λ u. read_at cut stands u text)) (sym stated) ∙ step)
 
 -- AN INSTRUCTION
 
@@ -318,39 +393,49 @@ one-more : (blocks later again new : List Block) (made : Block) → later ≡ bl
 one-more blocks later again new made h k = k ∙ ap (λ bs. bs ++ new) h ∙ append_assoc blocks (made ∷ []) new
 
 -- the lines after an instruction, and their parts
-abbrev lines_after : ℕ → Line → List (List ℕ) → List Line
+abbrev lines_after : ℕ → Line → List Flagged → List Line
 lines_after run l lines = classes_from (suc l.number) run (suc l.index) l.label true lines
 
-abbrev parts_after : ℕ → Line → List (List ℕ) → List (List Line)
+abbrev parts_after : ℕ → Line → List Flagged → List (List Line)
 parts_after run l lines = parts_of (instructions (lines_after run l lines))
 
 -- the parts from one that begins with it on
-abbrev parts_at : ℕ → Line → List (List ℕ) → List (List Line)
+abbrev parts_at : ℕ → Line → List Flagged → List (List Line)
 parts_at run l lines = (l ∷ left (parts_after run l lines)) ∷ behind (parts_after run l lines)
 
+-- what an instruction that isn't left alone leaves: what stands is as it was, and no continuation comes next
+record IsLeft (cut : Bool) (s stands : Standing) (lines : List (List ℕ)) : Type 0 where
+  free : is_holding cut s ≡ false
+  stays : stands ≡ s
+  ended : (cut && is_continued lines) ≡ false
+
 -- the first of a block
-reads-first : (lines : List (List ℕ)) → Reads lines → (all : List Line) (n run : ℕ) (l : Line) (ps : List Placed) (t : State) (again : List Block) →
-    AreLinesOfSource all → every (every is_inside) lines ≡ true → refusal (lines_after run l lines) ≡ None → IsLabel l.label → l.index % BLOCK_LIMIT ≡ 0 → AreSoundLines (l ∷ []) →
+reads-first : (cut : Bool) (lines : List (List ℕ)) → Reads cut lines → (s stands : Standing) (all : List Line) (n run : ℕ) (l : Line) (ps : List Placed) (t : State) (again : List Block) →
+    let flagged : List Flagged = flagged_from cut stands lines in
+    IsLeft cut s stands lines → AreLinesOfSource cut all → every (every is_inside) lines ≡ true → refusal (lines_after run l flagged) ≡ None → IsLabel l.label → l.index % BLOCK_LIMIT ≡ 0 → AreSoundLines (l ∷ []) →
     ((if l.index == 0 then l.label else []) ≡ [] → Ended t) →
-    ArePlaced (map block_of (parts_at run l lines)) ps →
-    AreComplete (map block_of (parts_at run l lines)) ps →
-    read_text t all n (parts_at run l lines) ps (l ∷ lines_after run l lines) ≡ Ok again →
-    Follows (parts_at run l lines) ps (open_blocks t) again
-reads-first lines reads all n run l [] t again source insides taken is begins sound new placed complete h = absurd placed
-reads-first lines reads all n run l (p ∷ ps) t again source insides taken is begins sound new placed complete h =
-    let rest : List Line = lines_after run l lines in
-    let parts : List (List Line) = parts_after run l lines in
+    ArePlaced (map block_of (parts_at run l flagged)) ps →
+    AreComplete (map block_of (parts_at run l flagged)) ps →
+    read_text cut s t all n (parts_at run l flagged) ps (l ∷ lines_after run l flagged) ≡ Ok again →
+    Follows (parts_at run l flagged) ps (open_blocks t) again
+reads-first cut lines reads s stands all n run l [] t again left_by source insides taken is begins sound new placed complete h = absurd placed
+reads-first cut lines reads s stands all n run l (p ∷ ps) t again left_by source insides taken is begins sound new placed complete h =
+    let flagged : List Flagged = flagged_from cut stands lines in
+    let rest : List Line = lines_after run l flagged in
+    let parts : List (List Line) = parts_after run l flagged in
     let block : Block = block_of (l ∷ left parts) in
     let text : List ℕ = text_of_lines all (suc n) (map block_of (behind parts)) ps rest in
     let next : suc l.index % BLOCK_LIMIT ≡ 1 = next-index l.index 0 begins (λ same. absurd (omega (arith, same))) in
-    let fits = fits-all lines (suc l.number) run (suc l.index) l.label true in
+    let fits = fits-all flagged (suc l.number) run (suc l.index) l.label true in
     let count : length (map entry_of (left parts)) ≡ length (left parts) = length-map (left parts) entry_of in
-    let a = read-block all n block p t text again source (label-or_none (l.index == 0) l.label is) new
-    (sound.0, sound-left (instructions rest) (sound-instructions lines (suc l.number) run (suc l.index) l.label true insides)) placed.0
+    let quiet : IsQuiet cut text = next-same cut stands lines all (suc n) ps (suc l.number) run (suc l.index) l.label true ∙ left_by.ended in
+    let a = read-block cut s all n block p t text again left_by.free quiet source (label-or_none (l.index == 0) l.label is) new
+    (sound.0, sound-left (instructions rest) (sound-instructions cut stands lines (suc l.number) run (suc l.index) l.label true insides)) placed.0
     (omega (arith, complete.0)) (omega (arith, complete.0, fits, next, count))
-    (read-as t _ _ again (text-first all n block (map block_of (behind parts)) p ps l rest refl) h) in
-    let f = reads all (suc n) (suc l.number) run (suc l.index) l.label true ps a.state again source insides taken is placed.1 complete.1
-    (λ here empty. absurd (omega (arith, next, here)), λ all. a.full (omega (arith, all, next, count, complete.0))) a.read in
+    (read-as cut s t _ _ again (text-first all n block (map block_of (behind parts)) p ps l rest refl) h) in
+    let f = reads stands all (suc n) (suc l.number) run (suc l.index) l.label true ps a.state again source insides taken is placed.1 complete.1
+    (λ here empty. absurd (omega (arith, next, here)), λ all. a.full (omega (arith, all, next, count, complete.0)))
+    (subst (λ u. read_at cut u a.state text ≡ Ok again) (sym left_by.stays) a.read) in
     record {
       new = a.made ∷ f.new;
       whole = one-more (open_blocks t) (open_blocks a.state) again f.new a.made a.whole f.whole;
@@ -358,7 +443,7 @@ reads-first lines reads all n run l (p ∷ ps) t again source insides taken is b
     }
 
 -- one more of a block, which is printed before it
-ready-more : (lines : List (List ℕ)) (number run index count : ℕ) (label : List ℕ) (t : State) → (index % BLOCK_LIMIT ≡ 0 → ⊥) → count ≡ suc (length (left (parts_from number run (suc index) label true lines))) → Ready index label count t →
+ready-more : (lines : List Flagged) (number run index count : ℕ) (label : List ℕ) (t : State) → (index % BLOCK_LIMIT ≡ 0 → ⊥) → count ≡ suc (length (left (parts_from number run (suc index) label true lines))) → Ready index label count t →
     Ready (suc index) label (length (left (parts_from number run (suc index) label true lines))) t
 ready-more lines number run index count label t inside one ready = by_full (eqb (suc (index % BLOCK_LIMIT)) BLOCK_LIMIT) refl
   where
@@ -378,55 +463,79 @@ sound-line after l located i is stated inside =
     ((spelled, every-from_operation is_inside (body l.bytes) (every-trimmed is_inside is_return l.bytes inside)), tt)
 
 -- one instruction, whether its block begins with it or before
-reads-put : (lines : List (List ℕ)) → Reads lines → (all : List Line) (n run : ℕ) (l : Line) (located : Bool) (i : Instr) (ps : List Placed) (t : State) (again : List Block) → l.class ≡ Instruction located i →
-    AreLinesOfSource all → every (every is_inside) lines ≡ true → refusal (lines_after run l lines) ≡ None → IsLabel l.label → AreSoundLines (l ∷ []) →
+reads-put : (cut : Bool) (lines : List (List ℕ)) → Reads cut lines → (s stands : Standing) (all : List Line) (n run : ℕ) (l : Line) (located : Bool) (i : Instr) (ps : List Placed) (t : State) (again : List Block) →
+    let flagged : List Flagged = flagged_from cut stands lines in
+    l.class ≡ Instruction located i → IsLeft cut s stands lines →
+    AreLinesOfSource cut all → every (every is_inside) lines ≡ true → refusal (lines_after run l flagged) ≡ None → IsLabel l.label → AreSoundLines (l ∷ []) →
     (l.index % BLOCK_LIMIT ≡ 0 → (if l.index == 0 then l.label else []) ≡ [] → Ended t) →
-    ((l.index % BLOCK_LIMIT ≡ 0 → ⊥) → Ready (suc l.index) l.label (length (left (parts_after run l lines))) t) →
-    ArePlaced (map block_of (behind (put_before l (parts_after run l lines)))) ps →
-    AreComplete (map block_of (behind (put_before l (parts_after run l lines)))) ps →
-    read_text t all n (behind (put_before l (parts_after run l lines))) ps (l ∷ lines_after run l lines) ≡ Ok again →
-    Follows (behind (put_before l (parts_after run l lines))) ps (open_blocks t) again
-reads-put lines reads all n run l located i ps t again stated source insides taken is sound new more placed complete h =
-    let rest : List Line = lines_after run l lines in
-    let parts : List (List Line) = parts_after run l lines in
-    let cut = behind-put l parts in
-    subst (λ found. Follows found ps (open_blocks t) again) (sym cut)
-    (by_begins (begins_block l) refl (subst (λ found. ArePlaced (map block_of found) ps) cut placed) (subst (λ found. AreComplete (map block_of found) ps) cut complete)
-    (subst (λ found. read_text t all n found ps (l ∷ rest) ≡ Ok again) cut h))
+    ((l.index % BLOCK_LIMIT ≡ 0 → ⊥) → Ready (suc l.index) l.label (length (left (parts_after run l flagged))) t) →
+    ArePlaced (map block_of (behind (put_before l (parts_after run l flagged)))) ps →
+    AreComplete (map block_of (behind (put_before l (parts_after run l flagged)))) ps →
+    read_text cut s t all n (behind (put_before l (parts_after run l flagged))) ps (l ∷ lines_after run l flagged) ≡ Ok again →
+    Follows (behind (put_before l (parts_after run l flagged))) ps (open_blocks t) again
+reads-put cut lines reads s stands all n run l located i ps t again stated left_by source insides taken is sound new more placed complete h =
+    let cut_at = behind-put l parts in
+    subst (λ found. Follows found ps (open_blocks t) again) (sym cut_at)
+    (by_begins (begins_block l) refl (subst (λ found. ArePlaced (map block_of found) ps) cut_at placed) (subst (λ found. AreComplete (map block_of found) ps) cut_at complete)
+    (subst (λ found. read_text cut s t all n found ps (l ∷ rest) ≡ Ok again) cut_at h))
   where
+    flagged : List Flagged
+    flagged = flagged_from cut stands lines
+
+    rest : List Line
+    rest = lines_after run l flagged
+
+    parts : List (List Line)
+    parts = parts_after run l flagged
+
     by_begins : (begins : Bool) → begins_block l ≡ begins →
-        ArePlaced (map block_of (if begins then parts_at run l lines else behind (parts_after run l lines))) ps →
-        AreComplete (map block_of (if begins then parts_at run l lines else behind (parts_after run l lines))) ps →
-        read_text t all n (if begins then parts_at run l lines else behind (parts_after run l lines)) ps (l ∷ lines_after run l lines) ≡ Ok again →
-        Follows (if begins then parts_at run l lines else behind (parts_after run l lines)) ps (open_blocks t) again
+        ArePlaced (map block_of (if begins then parts_at run l flagged else behind parts)) ps →
+        AreComplete (map block_of (if begins then parts_at run l flagged else behind parts)) ps →
+        read_text cut s t all n (if begins then parts_at run l flagged else behind parts) ps (l ∷ rest) ≡ Ok again →
+        Follows (if begins then parts_at run l flagged else behind parts) ps (open_blocks t) again
     by_begins true here placed complete h =
         let at = eqb-true (l.index % BLOCK_LIMIT) 0 here in
-        reads-first lines reads all n run l ps t again source insides taken is at sound (new at) placed complete h
+        reads-first cut lines reads s stands all n run l ps t again left_by source insides taken is at sound (new at) placed complete h
     by_begins false here placed complete h =
-        let parts : List (List Line) = parts_after run l lines in
-        let rest : List Line = lines_after run l lines in
-        reads all n (suc l.number) run (suc l.index) l.label true ps t again source insides taken is placed complete (more (eqb-false (l.index % BLOCK_LIMIT) 0 here))
-        (read-as t _ _ again
-        (text-copied all n (behind parts) ps l rest (first-from lines (suc l.number) run (suc l.index) l.label true) placed
-        ∙ ap (λ copied. copied ++ text_of_lines all n (map block_of (behind parts)) ps rest) (instruction-not_copied all l located i stated)) h)
+        reads stands all n (suc l.number) run (suc l.index) l.label true ps t again source insides taken is placed complete (more (eqb-false (l.index % BLOCK_LIMIT) 0 here))
+        (subst (λ u. read_text cut u t all n (behind parts) ps rest ≡ Ok again) (sym left_by.stays)
+        (read-as cut s t _ _ again
+        (text-copied all n (behind parts) ps l rest (first-from flagged (suc l.number) run (suc l.index) l.label true)
+        ∙ ap (λ copied. copied ++ text_of_lines all n (map block_of (behind parts)) ps rest) (instruction-not_copied all l located i stated)) h))
 
-reads-instruction : (i : Instr) (line : List ℕ) (lines : List (List ℕ)) → Reads lines → ReadsClass (Instruction false i) line lines
-reads-instruction i line lines reads all n number run index label after ps t again stated inside source insides taken is placed complete ready h =
+left-by : (cut : Bool) (s : Standing) (after : Bool) (line : List ℕ) (lines : List (List ℕ)) (located : Bool) (i : Instr) → class_at after (flagged_at cut s line (is_continued lines)) ≡ Instruction located i →
+    IsLeft cut s (after_line cut s line) lines
+left-by cut s after line lines located i stated =
+    let is = taken cut s line (is_continued lines) (taken-by (is_alone cut s line (is_continued lines)) (class_of after line) located i stated).0 in
+    record { free = is.free; stays = code-stays cut (is_continued lines) after s line (ap is_code stated); ended = is.ended }
+
+class-taken : (cut : Bool) (s : Standing) (after : Bool) (line : List ℕ) (lines : List (List ℕ)) (located : Bool) (i : Instr) → class_at after (flagged_at cut s line (is_continued lines)) ≡ Instruction located i →
+    class_of after line ≡ Instruction located i
+class-taken cut s after line lines located i stated = (taken-by (is_alone cut s line (is_continued lines)) (class_of after line) located i stated).1
+
+reads-instruction : (cut : Bool) (i : Instr) (line : List ℕ) (lines : List (List ℕ)) → Reads cut lines → ReadsClass cut (Instruction false i) line lines
+reads-instruction cut i line lines reads s all n number run index label after ps t again stated inside source insides taken is placed complete ready h =
+    let stands : Standing = after_line cut s line in
+    let flagged : List Flagged = flagged_from cut stands lines in
     let l : Line = record { number = number; bytes = line; class = Instruction false i; run = run; index = index; label = label } in
-    let rest : List Line = classes_from (suc number) run (suc index) label true lines in
-    let parts : List (List Line) = parts_from (suc number) run (suc index) label true lines in
+    let rest : List Line = classes_from (suc number) run (suc index) label true flagged in
+    let parts : List (List Line) = parts_from (suc number) run (suc index) label true flagged in
     let one : (index % BLOCK_LIMIT ≡ 0 → ⊥) → length (left (put_before l parts)) ≡ suc (length (left parts)) =
     λ later. ap (λ (ls : List Line). length ls) (left-put l parts ∙ ap (λ begins. if begins then [] else l ∷ left parts) (ne_eqb (index % BLOCK_LIMIT) 0 (λ at. absurd (later at)))) in
-    reads-put lines reads all n run l false i ps t again refl source insides (rest-taken l rest taken) is (sound-line after l false i refl stated inside) ready.0
-    (λ later. ready-more lines (suc number) run index (length (left (put_before l parts))) label t later (one later) ready) placed complete h
+    reads-put cut lines reads s stands all n run l false i ps t again refl (left-by cut s after line lines false i stated) source insides (rest-taken l rest taken) is
+    (sound-line after l false i refl (class-taken cut s after line lines false i stated) inside) ready.0
+    (λ later. ready-more flagged (suc number) run index (length (left (put_before l parts))) label t later (one later) ready) placed complete h
 
-reads-labelled : (i : Instr) (line : List ℕ) (lines : List (List ℕ)) → Reads lines → ReadsClass (Instruction true i) line lines
-reads-labelled i line lines reads all n number run index label after ps t again stated inside source insides taken is placed complete ready h =
+reads-labelled : (cut : Bool) (i : Instr) (line : List ℕ) (lines : List (List ℕ)) → Reads cut lines → ReadsClass cut (Instruction true i) line lines
+reads-labelled cut i line lines reads s all n number run index label after ps t again stated inside source insides taken is placed complete ready h =
+    let stands : Standing = after_line cut s line in
+    let flagged : List Flagged = flagged_from cut stands lines in
     let new : List ℕ = label_bytes (body line) in
     let l : Line = record { number = number; bytes = line; class = Instruction true i; run = suc run; index = 0; label = new } in
-    let rest : List Line = classes_from (suc number) (suc run) 1 new true lines in
-    let fresh_label = label-of_code after line (ap begins_run stated) inside in
-    reads-put lines reads all n (suc run) l true i ps t again refl source insides (rest-taken l rest taken) fresh_label.0 (sound-line after l true i refl stated inside)
+    let rest : List Line = classes_from (suc number) (suc run) 1 new true flagged in
+    let fresh_label = located-label after (is_alone cut s line (is_continued lines)) line (ap begins_run stated) inside in
+    reads-put cut lines reads s stands all n (suc run) l true i ps t again refl (left-by cut s after line lines true i stated) source insides (rest-taken l rest taken) fresh_label.0
+    (sound-line after l true i refl (class-taken cut s after line lines true i stated) inside)
     (λ here empty. absurd (true≢false (sym fresh_label.1 ∙ ap is_filled empty))) (λ later. absurd (later refl)) placed complete h
 
 -- ALL LINES
@@ -441,37 +550,41 @@ none-refused number lines l stated taken = some-refused l.number l.class stated 
     some-refused number (Pad located) stated h = cc
     some-refused number (Instruction located i) stated h = cc
 
-reads-class : (c : Class) (line : List ℕ) (lines : List (List ℕ)) → Reads lines → ReadsClass c line lines
-reads-class Comment line lines reads = reads-comment line lines reads
-reads-class Other line lines reads = reads-other line lines reads
-reads-class Refused line lines reads = λ all n number run index label after ps t again stated inside source insides taken is placed complete ready h.
-    absurd (none-refused number (classes_from (suc number) run index label false lines) (record { number = number; bytes = line; class = Refused; run = run; index = index; label = label }) refl taken)
-reads-class (Pad true) line lines reads = reads-labelled_pad line lines reads
-reads-class (Pad false) line lines reads = reads-pad line lines reads
-reads-class (Instruction true i) line lines reads = reads-labelled i line lines reads
-reads-class (Instruction false i) line lines reads = reads-instruction i line lines reads
+reads-class : (cut : Bool) (c : Class) (line : List ℕ) (lines : List (List ℕ)) → Reads cut lines → ReadsClass cut c line lines
+reads-class cut Comment line lines reads = reads-comment cut line lines reads
+reads-class cut Other line lines reads = reads-other cut line lines reads
+reads-class cut Refused line lines reads = λ s all n number run index label after ps t again stated inside source insides taken is placed complete ready h.
+    absurd (none-refused number (classes_from (suc number) run index label false (flagged_from cut (after_line cut s line) lines))
+    (record { number = number; bytes = line; class = Refused; run = run; index = index; label = label }) refl taken)
+reads-class cut (Pad true) line lines reads = reads-labelled_pad cut line lines reads
+reads-class cut (Pad false) line lines reads = reads-pad cut line lines reads
+reads-class cut (Instruction true i) line lines reads = reads-labelled cut i line lines reads
+reads-class cut (Instruction false i) line lines reads = reads-instruction cut i line lines reads
 
-reads-all : (lines : List (List ℕ)) → Reads lines
-reads-all [] all n number run index label after [] t again source insides taken is placed complete ready h = record { new = []; whole = same-blocks again (open_blocks t) (Ok (open_blocks t)) h refl ∙ sym (append-nil (open_blocks t)); placed = tt }
-reads-all [] all n number run index label after (p ∷ ps) t again source insides taken is placed complete ready h = absurd placed
-reads-all (line ∷ lines) all n number run index label after ps t again source insides taken is placed complete ready h =
+reads-all : (cut : Bool) (lines : List (List ℕ)) → Reads cut lines
+reads-all cut [] s all n number run index label after [] t again source insides taken is placed complete ready h =
+    record { new = []; whole = same-blocks again (open_blocks t) (Ok (open_blocks t)) h refl ∙ sym (append-nil (open_blocks t)); placed = tt }
+reads-all cut [] s all n number run index label after (p ∷ ps) t again source insides taken is placed complete ready h = absurd placed
+reads-all cut (line ∷ lines) s all n number run index label after ps t again source insides taken is placed complete ready h =
     let both = and_parts (every is_inside line) (every (every is_inside) lines) insides in
-    reads-class (class_of after line) line lines (reads-all lines) all n number run index label after ps t again refl both.0 source both.1 taken is placed complete ready h
+    reads-class cut (class_at after (flagged_at cut s line (is_continued lines))) line lines (reads-all cut lines) s all n number run index label after ps t again refl both.0 source both.1 taken is placed complete ready h
 
--- A WHOLE TEXT
+-- A WHOLE SOURCE
 
-pub read-again : (text : List ℕ) (blocks again : List Block) (ps : List Placed) → source_of text ≡ Ok blocks → ArePlaced blocks ps → AreComplete blocks ps → source_of (printed text ps) ≡ Ok again → ArePlacedAgain blocks ps again
-read-again text blocks again ps accepted placed complete again_accepted =
-    let lines : List (List ℕ) = lines_of text in
-    let all : List Line = classed_lines text in
+pub read-again : (source : Reading) (blocks again : List Block) (ps : List Placed) → source_of source ≡ Ok blocks → ArePlaced blocks ps → AreComplete blocks ps →
+    source_of (record { cut = source.cut; text = printed source ps }) ≡ Ok again → ArePlacedAgain blocks ps again
+read-again source blocks again ps accepted placed complete again_accepted =
+    let lines : List (List ℕ) = lines_of source.text in
+    let all : List Line = classed_lines source in
     let parts : List (List Line) = parts_of (instructions all) in
-    let fresh_parts = fresh lines 1 0 0 [] false refl in
-    let cut : map block_of (behind parts) ≡ blocks = ap (map block_of) (behind-begins parts fresh_parts) ∙ accepted-is text blocks accepted in
+    let fresh_parts = fresh (flagged_lines source) 1 0 0 [] false refl in
+    let cut : map block_of (behind parts) ≡ blocks = ap (map block_of) (behind-begins parts fresh_parts) ∙ accepted-is source blocks accepted in
     let none = ap (λ (ls : List Line). length ls) (left-begins parts fresh_parts) in
-    let insides = (AreLines-lines_of text).no_newline in
-    let read : read_text start all 1 (behind parts) ps all ≡ Ok again =
-    ap (λ found. read_from start (lines_of (text_of_lines all 1 (map block_of found) ps all))) (behind-begins parts fresh_parts) ∙ read_from-start (printed text ps) ∙ again_accepted in
-    let f = reads-all lines all 1 1 0 0 [] false ps start again (lines-of_source lines 1 0 0 [] false insides) insides (no_refusal (refusal all) (blocks_of all) blocks accepted) (refl, refl)
+    let insides = (AreLines-lines_of source.text).no_newline in
+    let read : read_text source.cut at_first start all 1 (behind parts) ps all ≡ Ok again =
+    ap (λ found. read_at source.cut at_first start (text_of_lines all 1 (map block_of found) ps all)) (behind-begins parts fresh_parts)
+    ∙ read_from-start (record { cut = source.cut; text = printed source ps }) ∙ again_accepted in
+    let f = reads-all source.cut lines at_first all 1 1 0 0 [] false ps start again (lines-of_source source.cut at_first lines 1 0 0 [] false insides) insides (no_refusal (refusal all) (blocks_of all) blocks accepted) (refl, refl)
     (subst (λ found. ArePlaced found ps) (sym cut) placed) (subst (λ found. AreComplete found ps) (sym cut) complete)
     (λ here empty. (refl, refl), λ many. absurd (omega (arith, none, many))) read in
     subst (λ found. ArePlacedAgain found ps again) cut (subst (ArePlacedAgain (map block_of (behind parts)) ps) (sym f.whole) f.placed)

@@ -1,23 +1,29 @@
 -- The lines of a printed block, read again, are the block in its placed order.
-use Rattle.std.proofs.Common.{◌≡◌, ◌≤◌, ◌<◌, ◌+◌, ℕ, zero, suc, Bool, true, false, if◌then◌else◌, List, [], ◌∷◌, ◌++◌, Some, length, map, refl, sym, ap, ◌∙◌, subst, inl, inr, arith, append_assoc, eqb}
+use Rattle.std.proofs.Common.{◌≡◌, ◌≤◌, ◌<◌, ◌+◌, ℕ, zero, suc, Bool, true, false, if◌then◌else◌, List, [], ◌∷◌, ◌++◌, Some, codes, length, map, refl, sym, ap, ◌∙◌, subst, inl, inr, arith, append_assoc, eqb}
 use Rattle.std.specs.Prelude.{Ok, slice_get}
-use Rattle.std.proofs.lemmas.Bool.{ne_eqb, eqb-false}
+use Rattle.std.proofs.lemmas.Bool.{and_right, ne_eqb, eqb-false}
 use Rattle.s66_isa.specs.declared.instr.Instr.{Instr}
 use Rattle.s66_isa.specs.Lists.{Among, every}
 use Rattle.s66_isa.specs.Table.{instr_at}
-use Rattle.s66_line.specs.Fields.{lines_of, trim, body, label_bytes}
+use Rattle.s66_line.specs.Fields.{trim, body, continues, from_operation, label_bytes}
+use Rattle.s66_line.specs.Class.{is_code}
 use Rattle.s66_line.specs.Operand.{is_filled}
 use Rattle.s66_line.specs.InstructionText.{Spells}
 use Rattle.s66_source.specs.Source.{Line}
 use Rattle.s66_line.specs.Block.{Entry, Block, instrs_of, entry_at, bytes_of}
 use Rattle.s66_source.specs.Printed.{Placed, is_trailing, label_field, instruction_line, instruction_lines, report, notes_text, block_text}
 use Rattle.s66_source.specs.ReadAgain.{IsPlacedAgain}
-use Rattle.s66_source.specs.Reader.{State, with_open, end_block, begin_run_if, with_entry, count_line, read_from}
+use Rattle.s66_source.specs.Reader.{State, with_open, end_block, begin_run_if, with_entry, count_line}
+use Rattle.s66_line.specs.declared.class.Class.{Class}
 use Rattle.s66_line.specs.declared.class.Class.TheVariants.{Instruction}
 use Rattle.s66_isa.specs.declared.limits.TheConstants.{BLOCK_LIMIT}
 use Rattle.s66_line.proofs.BlockEntries.{instr_at-entry}
 use Rattle.s66_source.proofs.ReadLine.{IsLabel, read-line, inside-line}
-use Rattle.s66_source.proofs.ReadComments.{read-as, read-class, Passed, passes-append, passes-report, AreLinesOfSource, passes-notes}
+use Rattle.s66_source.specs.LeftAlone.{is_alone, is_refused}
+use Rattle.s66_source.specs.declared.standing.Standing.{Standing}
+use Rattle.s66_source.proofs.Standings.{code-line, code-stays}
+use Rattle.s66_source.proofs.ReadStanding.{is_holding, not-alone, code-unflagged, continues-body, continues-line, IsQuiet}
+use Rattle.s66_source.proofs.ReadComments.{read_at, read-as, read-class, taken-class, Passes, passes-append, passes-report, AreLinesOfSource, passes-notes}
 use Rattle.s66_source.proofs.ReaderBlocks.{labelled, length-push}
 use Rattle.s66_line.proofs.Wholes.{is_inside}
 
@@ -67,14 +73,27 @@ same-run : (t : Bool) (label other : List ℕ) (s : State) → (t ≡ true → l
 same-run true label other s h = ap (λ l. begin_run_if true l s) (h refl)
 same-run false label other s h = refl
 
-read-instruction : (label bytes : List ℕ) (n : Instr) (t : State) (text : List ℕ) (again : List Block) → IsLabel label → Spells bytes n → every is_inside bytes ≡ true →
-    read_from t (lines_of (instruction_line label bytes ++ text)) ≡ Ok again → read_from (count_line true (with_entry n (trim is_trailing bytes) (begun label t))) (lines_of text) ≡ Ok again
-read-instruction label bytes n t text again is spells inside h =
+-- it begins with no comma
+quiet-instruction : (cut : Bool) (label bytes : List ℕ) (n : Instr) (text : List ℕ) → IsLabel label → Spells bytes n → IsQuiet cut (instruction_line label bytes ++ text)
+quiet-instruction cut label bytes n text is spells =
     let line : List ℕ = label_field label ++ trim is_trailing bytes in
+    let parts = code-line false line (ap is_code ((read-line label bytes n is spells).classed false)) in
+    and_right cut (continues (instruction_line label bytes ++ text))
+    (ap continues (append_assoc line (codes "\n") text) ∙ continues-line line text ∙ sym (continues-body line) ∙ parts.1)
+
+read-instruction : (cut : Bool) (s : Standing) (label bytes : List ℕ) (n : Instr) (t : State) (text : List ℕ) (again : List Block) → is_holding cut s ≡ false → IsQuiet cut text → IsLabel label → Spells bytes n → every is_inside bytes ≡ true →
+    read_at cut s t (instruction_line label bytes ++ text) ≡ Ok again → read_at cut s (count_line true (with_entry n (trim is_trailing bytes) (begun label t))) text ≡ Ok again
+read-instruction cut s label bytes n t text again free quiet is spells inside h =
+    let line : List ℕ = label_field label ++ trim is_trailing bytes in
+    let c : Class = Instruction (is_filled label) n in
     let r = read-line label bytes n is spells in
-    let step = read-class t line text (Instruction (is_filled label) n) again (inside-line label bytes is.1 inside) (r.classed t.after) h in
-    ap (λ u. read_from (count_line true (with_entry n (trim is_trailing bytes) u)) (lines_of text)) (sym (same-run (is_filled label) (label_bytes (body line)) label t r.labelled))
-    ∙ ap (λ bs. read_from (count_line true (with_entry n bs (begin_run_if (is_filled label) (label_bytes (body line)) t))) (lines_of text)) (sym r.left)
+    let alone = not-alone cut s line (continues text) free (code-unflagged cut line (code-line false line (ap is_code (r.classed false))).0) quiet (ap is_refused (r.classed true)) in
+    let stated = taken-class t.after (is_alone cut s line (continues text)) line c alone (r.classed t.after) in
+    let step = subst (λ stands. read_at cut stands (count_line true (with_entry n (from_operation (body line)) (begin_run_if (is_filled label) (label_bytes (body line)) t))) text ≡ Ok again)
+    (code-stays cut (continues text) t.after s line (ap is_code stated))
+    (read-class cut s t line text c again (inside-line label bytes is.1 inside) stated h) in
+    ap (λ u. read_at cut s (count_line true (with_entry n (trim is_trailing bytes) u)) text) (sym (same-run (is_filled label) (label_bytes (body line)) label t r.labelled))
+    ∙ ap (λ bs. read_at cut s (count_line true (with_entry n bs (begin_run_if (is_filled label) (label_bytes (body line)) t))) text) (sym r.left)
     ∙ step
 
 -- ALL INSTRUCTIONS of a block
@@ -83,9 +102,9 @@ abbrev pub Ended : State → Type 0
 Ended t = (t.entries ≡ []) × (t.label ≡ [])
 
 -- read after state, with nothing but these instructions more in the open block
-record Fed (block : Block) (ns : List ℕ) (t : State) (text : List ℕ) (again : List Block) : Type 0 where
+record Fed (cut : Bool) (s : Standing) (block : Block) (ns : List ℕ) (t : State) (text : List ℕ) (again : List Block) : Type 0 where
   state : State
-  read : read_from state (lines_of text) ≡ Ok again
+  read : read_at cut s state text ≡ Ok again
   made : List Entry
   whole : with_open state.blocks state.label state.entries ≡ t.blocks ++ labelled t.label (t.entries ++ made) ∷ []
   instrs : map (λ (e : Entry). e.instr) made ≡ map (instr_at (instrs_of block)) ns
@@ -102,9 +121,9 @@ with_one e t = record t { entries = t.entries ++ e ∷ [] }
 abbrev entry_now : Block → ℕ → State → Entry
 entry_now block n t = record { instr = instr_at (instrs_of block) n; line = suc t.count; bytes = trim is_trailing (bytes_of block n) }
 
-fed-last : (full : Bool) (block : Block) (n : ℕ) (t : State) (text : List ℕ) (again : List Block) → eqb (length (t.entries ++ entry_now block n t ∷ [])) BLOCK_LIMIT ≡ full →
-    read_from (count_line true (if full then end_block (with_one (entry_now block n t) t) else with_one (entry_now block n t) t)) (lines_of text) ≡ Ok again → Fed block (n ∷ []) t text again
-fed-last true block n t text again stated h = record {
+fed-last : (full cut : Bool) (s : Standing) (block : Block) (n : ℕ) (t : State) (text : List ℕ) (again : List Block) → eqb (length (t.entries ++ entry_now block n t ∷ [])) BLOCK_LIMIT ≡ full →
+    read_at cut s (count_line true (if full then end_block (with_one (entry_now block n t) t) else with_one (entry_now block n t) t)) text ≡ Ok again → Fed cut s block (n ∷ []) t text again
+fed-last true cut s block n t text again stated h = record {
   state = count_line true (end_block (with_one (entry_now block n t) t));
   read = h;
   made = entry_now block n t ∷ [];
@@ -113,7 +132,7 @@ fed-last true block n t text again stated h = record {
   bytes = refl;
   full = λ all. (refl, refl);
 }
-fed-last false block n t text again stated h = record {
+fed-last false cut s block n t text again stated h = record {
   state = count_line true (with_one (entry_now block n t) t);
   read = h;
   made = entry_now block n t ∷ [];
@@ -124,8 +143,8 @@ fed-last false block n t text again stated h = record {
 }
 
 -- one instruction, and then the others
-fed-more : (block : Block) (n : ℕ) (ns : List ℕ) (t : State) (text : List ℕ) (again : List Block) → Fed block ns (count_line true (with_one (entry_now block n t) t)) text again → Fed block (n ∷ ns) t text again
-fed-more block n ns t text again rest = record {
+fed-more : (cut : Bool) (s : Standing) (block : Block) (n : ℕ) (ns : List ℕ) (t : State) (text : List ℕ) (again : List Block) → Fed cut s block ns (count_line true (with_one (entry_now block n t) t)) text again → Fed cut s block (n ∷ ns) t text again
+fed-more cut s block n ns t text again rest = record {
   state = rest.state;
   read = rest.read;
   made = entry_now block n t ∷ rest.made;
@@ -135,31 +154,33 @@ fed-more block n ns t text again rest = record {
   full = λ all. rest.full (omega (arith, all, length-push t.entries (entry_now block n t)));
 }
 
-feed : (block : Block) (n : ℕ) (ns : List ℕ) (label : List ℕ) (t : State) (text : List ℕ) (again : List Block) → IsLabel label → ((k : ℕ) → Among k (n ∷ ns) → IsSoundAt block k) →
-    length (begun label t).entries + length (n ∷ ns) ≤ BLOCK_LIMIT → read_from t (lines_of (instruction_lines block label (n ∷ ns) ++ text)) ≡ Ok again → Fed block (n ∷ ns) (begun label t) text again
-feed block n [] label t text again is sound few h =
+feed : (cut : Bool) (s : Standing) (block : Block) (n : ℕ) (ns : List ℕ) (label : List ℕ) (t : State) (text : List ℕ) (again : List Block) → is_holding cut s ≡ false → IsQuiet cut text → IsLabel label →
+    ((k : ℕ) → Among k (n ∷ ns) → IsSoundAt block k) → length (begun label t).entries + length (n ∷ ns) ≤ BLOCK_LIMIT →
+    read_at cut s t (instruction_lines block label (n ∷ ns) ++ text) ≡ Ok again → Fed cut s block (n ∷ ns) (begun label t) text again
+feed cut s block n [] label t text again free quiet is sound few h =
     let u : State = begun label t in
     let here = sound n (inl refl) in
-    let next = read-instruction label (bytes_of block n) (instr_at (instrs_of block) n) t text again is here.0 here.1
-    (read-as t _ _ again (append_assoc (instruction_line label (bytes_of block n)) [] text) h) in
-    fed-last (eqb (length (u.entries ++ entry_now block n u ∷ [])) BLOCK_LIMIT) block n u text again refl next
-feed block n (m ∷ ns) label t text again is sound few h =
+    let next = read-instruction cut s label (bytes_of block n) (instr_at (instrs_of block) n) t text again free quiet is here.0 here.1
+    (read-as cut s t _ _ again (append_assoc (instruction_line label (bytes_of block n)) [] text) h) in
+    fed-last (eqb (length (u.entries ++ entry_now block n u ∷ [])) BLOCK_LIMIT) cut s block n u text again refl next
+feed cut s block n (m ∷ ns) label t text again free quiet is sound few h =
     let u : State = begun label t in
     let e : Entry = entry_now block n u in
     let here = sound n (inl refl) in
-    let next = read-instruction label (bytes_of block n) (instr_at (instrs_of block) n) t (instruction_lines block [] (m ∷ ns) ++ text) again is here.0 here.1
-    (read-as t _ _ again (append_assoc (instruction_line label (bytes_of block n)) (instruction_lines block [] (m ∷ ns)) text) h) in
+    let later : List ℕ = instruction_lines block [] (m ∷ ns) ++ text in
+    let next = read-instruction cut s label (bytes_of block n) (instr_at (instrs_of block) n) t later again free (and_right cut (continues later) refl) is here.0 here.1
+    (read-as cut s t _ _ again (append_assoc (instruction_line label (bytes_of block n)) (instruction_lines block [] (m ∷ ns)) text) h) in
     let more : eqb (length (u.entries ++ e ∷ [])) BLOCK_LIMIT ≡ false = ne_eqb (length (u.entries ++ e ∷ [])) BLOCK_LIMIT (λ all. absurd (omega (arith, all, few, length-push u.entries e))) in
-    let rest = feed block m ns [] (count_line true (with_one e u)) text again (refl, refl) (λ k among. sound k (inr among)) (omega (arith, few, length-push u.entries e))
-    (subst (λ full. read_from (count_line true (if full then end_block (with_one e u) else with_one e u)) (lines_of (instruction_lines block [] (m ∷ ns) ++ text)) ≡ Ok again) more next) in
-    fed-more block n (m ∷ ns) u text again rest
+    let rest = feed cut s block m ns [] (count_line true (with_one e u)) text again free quiet (refl, refl) (λ k among. sound k (inr among)) (omega (arith, few, length-push u.entries e))
+    (subst (λ full. read_at cut s (count_line true (if full then end_block (with_one e u) else with_one e u)) later ≡ Ok again) more next) in
+    fed-more cut s block n (m ∷ ns) u text again rest
 
 -- A WHOLE BLOCK
 
 -- read after state, with this block more
-pub record Again (block : Block) (order : List ℕ) (t : State) (text : List ℕ) (again : List Block) : Type 0 where
+pub record Again (cut : Bool) (s : Standing) (block : Block) (order : List ℕ) (t : State) (text : List ℕ) (again : List Block) : Type 0 where
   pub state : State
-  pub read : read_from state (lines_of text) ≡ Ok again
+  pub read : read_at cut s state text ≡ Ok again
   pub made : Block
   pub whole : with_open state.blocks state.label state.entries ≡ with_open t.blocks t.label t.entries ++ made ∷ []
   pub placed : IsPlacedAgain block made order
@@ -172,9 +193,9 @@ begun-new [] t h =
     (ended.0, ended.1, sym (ap (λ es. with_open t.blocks t.label es) ended.0))
 begun-new (b ∷ label) t h = (refl, refl, refl)
 
-block-fed : (block : Block) (order : List ℕ) (label : List ℕ) (t s : State) (text : List ℕ) (again : List Block) → block.label ≡ label → Fed block order (begun label s) text again →
-    ((begun label s).entries ≡ []) × ((begun label s).label ≡ label) × ((begun label s).blocks ≡ with_open t.blocks t.label t.entries) → Again block order t text again
-block-fed block order label t s text again is fed new =
+block-fed : (cut : Bool) (stands : Standing) (block : Block) (order : List ℕ) (label : List ℕ) (t s : State) (text : List ℕ) (again : List Block) → block.label ≡ label → Fed cut stands block order (begun label s) text again →
+    ((begun label s).entries ≡ []) × ((begun label s).label ≡ label) × ((begun label s).blocks ≡ with_open t.blocks t.label t.entries) → Again cut stands block order t text again
+block-fed cut stands block order label t s text again is fed new =
     let u : State = begun label s in
     let made : Block = labelled u.label (u.entries ++ fed.made) in
     let all : u.entries ++ fed.made ≡ fed.made = ap (λ es. es ++ fed.made) new.0 in
@@ -191,24 +212,32 @@ block-fed block order label t s text again is fed new =
       full = λ many. fed.full (omega (arith, many, ap (λ (es : List Entry). length es) new.0));
     }
 
-pub read-block : (all : List Line) (n : ℕ) (block : Block) (p : Placed) (t : State) (text : List ℕ) (again : List Block) → AreLinesOfSource all → IsLabel block.label → (block.label ≡ [] → Ended t) → AreSound block.entries →
+pub read-block : (cut : Bool) (stands : Standing) (all : List Line) (n : ℕ) (block : Block) (p : Placed) (t : State) (text : List ℕ) (again : List Block) → is_holding cut stands ≡ false → IsQuiet cut text → AreLinesOfSource cut all →
+    IsLabel block.label → (block.label ≡ [] → Ended t) → AreSound block.entries →
     ((k : ℕ) → Among k p.order → (1 ≤ k) × (k ≤ length block.entries)) → 1 ≤ length p.order → length p.order ≤ BLOCK_LIMIT →
-    read_from t (lines_of (block_text all n block p ++ text)) ≡ Ok again → Again block p.order t text again
-read-block all n block p t text again source is new sound numbers some few h = by_order p.order numbers some few passed
+    read_at cut stands t (block_text all n block p ++ text) ≡ Ok again → Again cut stands block p.order t text again
+read-block cut stands all n block p t text again free quiet source is new sound numbers some few h =
+    by_order p.order numbers some few (read-as cut stands t _ _ again (append_assoc head (instruction_lines block block.label p.order) text) h)
   where
     head : List ℕ
     head = report n (length block.entries) p ++ notes_text block all
 
-    passed : Passed t (instruction_lines block block.label p.order ++ text) again
-    passed = passes-append (report n (length block.entries) p) (notes_text block all) (passes-report n (length block.entries) p) (passes-notes block all source) t (instruction_lines block block.label p.order ++ text) again
-        (read-as t _ _ again (append_assoc head (instruction_lines block block.label p.order) text) h)
+    passes : Passes cut stands head
+    passes = passes-append cut stands (report n (length block.entries) p) (notes_text block all) (passes-report cut stands n (length block.entries) p free) (passes-notes cut stands block all free source)
 
-    by_order : (order : List ℕ) → ((k : ℕ) → Among k order → (1 ≤ k) × (k ≤ length block.entries)) → 1 ≤ length order → length order ≤ BLOCK_LIMIT → Passed t (instruction_lines block block.label order ++ text) again →
-        Again block order t text again
-    by_order [] numbers some few passed = absurd (omega (arith, some))
-    by_order (k ∷ ks) numbers some few passed =
+    by_order : (order : List ℕ) → ((k : ℕ) → Among k order → (1 ≤ k) × (k ≤ length block.entries)) → 1 ≤ length order → length order ≤ BLOCK_LIMIT →
+        read_at cut stands t (head ++ (instruction_lines block block.label order ++ text)) ≡ Ok again → Again cut stands block order t text again
+    by_order [] numbers some few h = absurd (omega (arith, some))
+    by_order (k ∷ ks) numbers some few h =
+        let sound_at : (m : ℕ) → Among m (k ∷ ks) → IsSoundAt block m = λ m among. let number = numbers m among in sound-at block m sound number.0 number.1 in
+        let first = sound_at k (inl refl) in
+        let rest : List ℕ = instruction_lines block [] ks ++ text in
+        let quiet_lines : IsQuiet cut (instruction_lines block block.label (k ∷ ks) ++ text) =
+        subst (IsQuiet cut) (sym (append_assoc (instruction_line block.label (bytes_of block k)) (instruction_lines block [] ks) text))
+        (quiet-instruction cut block.label (bytes_of block k) (instr_at (instrs_of block) k) rest is first.0) in
+        let passed = passes.passes t (instruction_lines block block.label (k ∷ ks) ++ text) again quiet_lines h in
         let s : State = record t { count = passed.count; after = passed.after } in
         let begins = begun-new block.label s new in
-        block-fed block (k ∷ ks) block.label t s text again refl
-        (feed block k ks block.label s text again is (λ m among. let number = numbers m among in sound-at block m sound number.0 number.1) (omega (arith, few, ap (λ (es : List Entry). length es) begins.0)) passed.read)
+        block-fed cut stands block (k ∷ ks) block.label t s text again refl
+        (feed cut stands block k ks block.label s text again free quiet is sound_at (omega (arith, few, ap (λ (es : List Entry). length es) begins.0)) passed.read)
         begins

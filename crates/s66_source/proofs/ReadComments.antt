@@ -2,7 +2,7 @@
 use Rattle.std.proofs.Common.{◌≡◌, ◌+◌, ◌%◌, ◌/◌, ◌==◌, ◌&&◌, ℕ, zero, suc, Bool, true, false, if◌then◌else◌, true≢false, List, [], ◌∷◌, ◌++◌, Option, None, Some, is_some, codes, decimal, length, refl, sym, ap, ◌∙◌, subst, arith, nat_le, nat_lt, append_assoc}
 use Rattle.std.specs.Prelude.{Result, Ok, Err}
 use Rattle.std.specs.Fmt.{digits, digits_onto, digit_glyph}
-use Rattle.std.proofs.lemmas.Bool.{and_parts, ne_eqb}
+use Rattle.std.proofs.lemmas.Bool.{and_parts, and_right, ne_eqb}
 use Rattle.s66_isa.specs.Lists.{every}
 use Rattle.s66_isa.specs.declared.instr.Instr.{Instr}
 use Rattle.s66_line.specs.Fields.{is_return, lines_of, body, upper, is_comment, continues, operation, operand, from_operation, label_bytes}
@@ -10,96 +10,136 @@ use Rattle.s66_line.specs.Operand.{operation_of, instr_of}
 use Rattle.s66_source.specs.Source.{Line, run_after, place_after, label_after, classes_from, operand_refusal}
 use Rattle.s66_line.specs.Block.{Block, line_of}
 use Rattle.s66_line.specs.Class.{class_of, class_of_operand, is_pad, is_located, by_operation, is_code}
+use Rattle.s66_source.specs.LeftAlone.{Flagged, after_line, class_at, is_alone, is_continued, is_refused, flagged_from}
 use Rattle.s66_source.specs.Roles.{is_comment_class, is_note_of}
 use Rattle.s66_source.specs.Printed.{Placed, splits_line, bound_text, times_text, report, copied_line, notes_text}
-use Rattle.s66_source.specs.Reader.{State, with_open, by_class, line_step, lines_step, and_then, read_from}
+use Rattle.s66_source.specs.Reader.{State, with_open, count_line, by_class, line_step, lines_step, and_then, read_from}
 use Rattle.s66_line.specs.declared.class.Class.{Class}
 use Rattle.s66_line.specs.declared.class.Class.TheVariants.{Comment, Other, Refused, Pad}
 use Rattle.s66_line.specs.declared.limits.TheConstants.{LINE_BYTES_LIMIT}
 use Rattle.s66_source.specs.declared.limits.TheConstants.{SOURCE_LINES_LIMIT}
 use Rattle.s66_source.specs.declared.error.SourceError.{SourceError}
 use Rattle.s66_source.specs.declared.error.SourceError.TheVariants.{LineTooLong, TooLarge}
-use Rattle.s66_source.proofs.ReadBack.{trim-twice, class_of-body, lines_of-line}
+use Rattle.s66_source.specs.declared.standing.Standing.{Standing}
+use Rattle.s66_source.proofs.FlaggedLines.{continued-next}
+use Rattle.s66_source.proofs.ReadBack.{trim-twice, lines_of-line}
+use Rattle.s66_source.proofs.ReadStanding.{flagged_at, is_holding, is_flagged, taken, not-alone, same-alone, alone-body, after-body, flagged-body, class_at-body, continues-body, continues-line, comment-quiet, comment-stays, IsQuiet, quiet-append}
 use Rattle.s66_source.proofs.ReadLine.{every-trimmed}
 use Rattle.s66_source.proofs.ReaderBlocks.{then-then}
 use Rattle.s66_line.proofs.Wholes.{is_inside, every-append}
 
+-- a text read after what stands
+abbrev pub read_at : Bool → Standing → State → List ℕ → Result (List Block) SourceError
+read_at cut s t text = read_from t (flagged_from cut s (lines_of text))
+
 -- the same text is read alike
-pub read-as : (t : State) (first second : List ℕ) (again : List Block) → first ≡ second → read_from t (lines_of first) ≡ Ok again → read_from t (lines_of second) ≡ Ok again
-read-as t first second again same h = subst (λ bytes. read_from t (lines_of bytes) ≡ Ok again) same h
+pub read-as : (cut : Bool) (s : Standing) (t : State) (first second : List ℕ) (again : List Block) → first ≡ second → read_at cut s t first ≡ Ok again → read_at cut s t second ≡ Ok again
+read-as cut s t first second again same h = subst (λ bytes. read_at cut s t bytes ≡ Ok again) same h
 
 -- ONE LINE
 
-taken : (long many : Bool) (e f : SourceError) (made : Result State SourceError) (next : State → Result (List Block) SourceError) (again : List Block) →
+accepted-step : (long many : Bool) (e f : SourceError) (made : Result State SourceError) (next : State → Result (List Block) SourceError) (again : List Block) →
     and_then (if long then Err e else (if many then Err f else made)) next ≡ Ok again → and_then made next ≡ Ok again
-taken true many e f made next again h = cc
-taken false true e f made next again h = cc
-taken false false e f made next again h = h
+accepted-step true many e f made next again h = cc
+accepted-step false true e f made next again h = cc
+accepted-step false false e f made next again h = h
 
-read-step : (t : State) (line : List ℕ) (lines : List (List ℕ)) (again : List Block) → read_from t (line ∷ lines) ≡ Ok again →
-    and_then (by_class t (class_of t.after line) (label_bytes (body line)) (from_operation (body line))) (λ u. read_from u lines) ≡ Ok again
+read-step : (t : State) (line : Flagged) (lines : List Flagged) (again : List Block) → read_from t (line ∷ lines) ≡ Ok again →
+    and_then (by_class t (class_at t.after line) (label_bytes (body line.bytes)) (from_operation (body line.bytes))) (λ u. read_from u lines) ≡ Ok again
 read-step t line lines again h =
-    taken (nat_lt LINE_BYTES_LIMIT (length line)) (nat_le SOURCE_LINES_LIMIT t.count) (LineTooLong (suc t.count)) TooLarge (by_class t (class_of t.after line) (label_bytes (body line)) (from_operation (body line))) (λ u. read_from u lines) again
+    accepted-step (nat_lt LINE_BYTES_LIMIT (length line.bytes)) (nat_le SOURCE_LINES_LIMIT t.count) (LineTooLong (suc t.count)) TooLarge
+    (by_class t (class_at t.after line) (label_bytes (body line.bytes)) (from_operation (body line.bytes))) (λ u. read_from u lines) again
     (sym (then-then (line_step t line) (λ u. lines_step u lines) (λ u. Ok (with_open u.blocks u.label u.entries))) ∙ h)
 
 -- a line of this class, and then the rest
-pub read-class : (t : State) (line text : List ℕ) (c : Class) (again : List Block) → every is_inside line ≡ true → class_of t.after line ≡ c → read_from t (lines_of ((line ++ codes "\n") ++ text)) ≡ Ok again →
-    and_then (by_class t c (label_bytes (body line)) (from_operation (body line))) (λ u. read_from u (lines_of text)) ≡ Ok again
-read-class t line text c again inside stated h =
-    ap (λ k. and_then (by_class t k (label_bytes (body line)) (from_operation (body line))) (λ u. read_from u (lines_of text))) (sym stated)
-    ∙ read-step t line (lines_of text) again (ap (read_from t) (sym (ap lines_of (append_assoc line (10 ∷ []) text) ∙ lines_of-line line text inside)) ∙ h)
+pub read-class : (cut : Bool) (s : Standing) (t : State) (line text : List ℕ) (c : Class) (again : List Block) → every is_inside line ≡ true → class_at t.after (flagged_at cut s line (continues text)) ≡ c →
+    read_at cut s t ((line ++ codes "\n") ++ text) ≡ Ok again →
+    and_then (by_class t c (label_bytes (body line)) (from_operation (body line))) (λ u. read_at cut (after_line cut s line) u text) ≡ Ok again
+read-class cut s t line text c again inside stated h =
+    let rest : List Flagged = flagged_from cut (after_line cut s line) (lines_of text) in
+    ap (λ k. and_then (by_class t k (label_bytes (body line)) (from_operation (body line))) (λ u. read_from u rest)) (sym (ap (λ next. class_at t.after (flagged_at cut s line next)) (continued-next text) ∙ stated))
+    ∙ read-step t (flagged_at cut s line (is_continued (lines_of text))) rest again
+    (ap (λ lines. read_from t (flagged_from cut s lines)) (sym (ap lines_of (append_assoc line (10 ∷ []) text) ∙ lines_of-line line text inside)) ∙ h)
 
 -- A COPIED LINE is of its class again
 
-same-class : (comment comma after other : Bool) (c : Class) (number : ℕ) → operand_refusal number (if comment then Comment else (if comma then (if after then Refused else Other) else c)) ≡ None →
-    ((if comment then Comment else (if comma then (if other then Refused else Other) else c)) ≡ Refused → ⊥) →
-    (if comment then Comment else (if comma then (if other then Refused else Other) else c)) ≡ (if comment then Comment else (if comma then (if after then Refused else Other) else c))
-same-class true comma after other c number h other_none = refl
-same-class false false after other c number h other_none = refl
-same-class false true true other c number h other_none = cc
-same-class false true false true c number h other_none = absurd (other_none refl)
-same-class false true false false c number h other_none = refl
+same-class : (alone comment comma after other : Bool) (c : Class) (number : ℕ) →
+    operand_refusal number (if alone then Other else (if comment then Comment else (if comma then (if after then Refused else Other) else c))) ≡ None →
+    ((if alone then Other else (if comment then Comment else (if comma then (if other then Refused else Other) else c))) ≡ Refused → ⊥) →
+    (if alone then Other else (if comment then Comment else (if comma then (if other then Refused else Other) else c)))
+    ≡ (if alone then Other else (if comment then Comment else (if comma then (if after then Refused else Other) else c)))
+same-class true comment comma after other c number h other_none = refl
+same-class false true comma after other c number h other_none = refl
+same-class false false false after other c number h other_none = refl
+same-class false false true true other c number h other_none = cc
+same-class false false true false true c number h other_none = absurd (other_none refl)
+same-class false false true false false c number h other_none = refl
 
 refused : (t : State) (label bytes : List ℕ) (next : State → Result (List Block) SourceError) (again : List Block) → and_then (by_class t Refused label bytes) next ≡ Ok again → ⊥
 refused t label bytes next again h = cc
 
-pub read-copied : (t : State) (after : Bool) (line text : List ℕ) (number : ℕ) (again : List Block) → every is_inside line ≡ true → operand_refusal number (class_of after line) ≡ None →
-    read_from t (lines_of ((body line ++ codes "\n") ++ text)) ≡ Ok again →
-    and_then (by_class t (class_of after line) (label_bytes (body line)) (from_operation (body line))) (λ u. read_from u (lines_of text)) ≡ Ok again
-read-copied t after line text number again inside accepted h =
+-- if it is left alone as it was
+pub read-copied : (cut : Bool) (s : Standing) (t : State) (after continued : Bool) (line text : List ℕ) (number : ℕ) (again : List Block) → every is_inside line ≡ true → (cut && continues text) ≡ (cut && continued) →
+    operand_refusal number (class_at after (flagged_at cut s line continued)) ≡ None → read_at cut s t ((body line ++ codes "\n") ++ text) ≡ Ok again →
+    and_then (by_class t (class_at after (flagged_at cut s line continued)) (label_bytes (body line)) (from_operation (body line))) (λ u. read_at cut (after_line cut s line) u text) ≡ Ok again
+read-copied cut s t after continued line text number again inside next accepted h =
     let there : List ℕ = body line in
-    let step : and_then (by_class t (class_of t.after line) (label_bytes there) (from_operation there)) (λ u. read_from u (lines_of text)) ≡ Ok again =
-    ap (λ bs. and_then (by_class t (class_of t.after line) (label_bytes bs) (from_operation bs)) (λ u. read_from u (lines_of text))) (sym (trim-twice is_return line))
-    ∙ read-class t there text (class_of t.after line) again (every-trimmed is_inside is_return line inside) (class_of-body t.after line) h in
-    let same : class_of t.after line ≡ class_of after line =
-    same-class (is_comment there) (continues there) after t.after (by_operation (is_located there) (upper (operation there)) (upper (operand there))) number accepted
-    (λ is. refused t (label_bytes there) (from_operation there) (λ u. read_from u (lines_of text)) again
-    (ap (λ c. and_then (by_class t c (label_bytes there) (from_operation there)) (λ u. read_from u (lines_of text))) (sym is) ∙ step)) in
-    ap (λ c. and_then (by_class t c (label_bytes there) (from_operation there)) (λ u. read_from u (lines_of text))) (sym same) ∙ step
+    let alone : Bool = is_alone cut s line continued in
+    let rest : State → Result (List Block) SourceError = λ u. read_at cut (after_line cut s line) u text in
+    let switch : is_alone cut s there (continues text) ≡ alone = alone-body cut s line (continues text) ∙ same-alone cut s line (continues text) continued next in
+    let stated : class_at t.after (flagged_at cut s there (continues text)) ≡ class_at t.after (flagged_at cut s line continued) =
+    ap (λ is. class_at t.after (record { alone = is; bytes = there })) switch ∙ class_at-body t.after alone line in
+    let step : and_then (by_class t (class_at t.after (flagged_at cut s line continued)) (label_bytes there) (from_operation there)) rest ≡ Ok again =
+    ap (λ stands. and_then (by_class t (class_at t.after (flagged_at cut s line continued)) (label_bytes there) (from_operation there)) (λ u. read_at cut stands u text)) (sym (after-body cut s line))
+    ∙ ap (λ bs. and_then (by_class t (class_at t.after (flagged_at cut s line continued)) (label_bytes bs) (from_operation bs)) (λ u. read_at cut (after_line cut s there) u text)) (sym (trim-twice is_return line))
+    ∙ read-class cut s t there text (class_at t.after (flagged_at cut s line continued)) again (every-trimmed is_inside is_return line inside) stated h in
+    let same : class_at t.after (flagged_at cut s line continued) ≡ class_at after (flagged_at cut s line continued) =
+    same-class alone (is_comment there) (continues there) after t.after (by_operation (is_located there) (upper (operation there)) (upper (operand there))) number accepted
+    (λ is. refused t (label_bytes there) (from_operation there) rest again (ap (λ c. and_then (by_class t c (label_bytes there) (from_operation there)) rest) (sym is) ∙ step)) in
+    ap (λ c. and_then (by_class t c (label_bytes there) (from_operation there)) rest) (sym same) ∙ step
 
 -- TEXTS THAT CHANGE NOTHING but how many lines were read, and what the last was
 
-pub record Passed (t : State) (text : List ℕ) (again : List Block) : Type 0 where
+pub record Passed (cut : Bool) (s : Standing) (t : State) (text : List ℕ) (again : List Block) : Type 0 where
   pub count : ℕ
   pub after : Bool
-  pub read : read_from (record t { count = count; after = after }) (lines_of text) ≡ Ok again
+  pub read : read_at cut s (record t { count = count; after = after }) text ≡ Ok again
 
-abbrev pub Passes : List ℕ → Type 0
-Passes bytes = (t : State) (text : List ℕ) (again : List Block) → read_from t (lines_of (bytes ++ text)) ≡ Ok again → Passed t text again
+pub record Passes (cut : Bool) (s : Standing) (bytes : List ℕ) : Type 0 where
+  pub quiet : continues bytes ≡ false
+  pub passes : (t : State) (text : List ℕ) (again : List Block) → IsQuiet cut text → read_at cut s t (bytes ++ text) ≡ Ok again → Passed cut s t text again
 
-pub passes-nothing : Passes []
-passes-nothing t text again h = record { count = t.count; after = t.after; read = h }
+pub passes-nothing : (cut : Bool) (s : Standing) → Passes cut s []
+passes-nothing cut s = record { quiet = refl; passes = λ t text again quiet h. record { count = t.count; after = t.after; read = h } }
 
-pub passes-append : (first second : List ℕ) → Passes first → Passes second → Passes (first ++ second)
-passes-append first second p q t text again h =
-    let one = p t (second ++ text) again (read-as t _ _ again (append_assoc first second text) h) in
-    let two = q (record t { count = one.count; after = one.after }) text again one.read in
-    record { count = two.count; after = two.after; read = two.read }
+quiet-both : (first second : List ℕ) → continues first ≡ false → continues second ≡ false → continues (first ++ second) ≡ false
+quiet-both first second h k = quiet-append true first second h k
 
-pub passes-comment : (line : List ℕ) → every is_inside line ≡ true → ((after : Bool) → class_of after line ≡ Comment) → Passes (line ++ codes "\n")
-passes-comment line inside comment t text again h = record { count = suc t.count; after = false; read = read-class t line text Comment again inside (comment t.after) h }
+pub passes-append : (cut : Bool) (s : Standing) (first second : List ℕ) → Passes cut s first → Passes cut s second → Passes cut s (first ++ second)
+passes-append cut s first second p q = record {
+  quiet = quiet-both first second p.quiet q.quiet;
+  passes = λ t text again quiet h.
+      let one = p.passes t (second ++ text) again (quiet-append cut second text q.quiet quiet) (read-as cut s t _ _ again (append_assoc first second text) h) in
+      let two = q.passes (record t { count = one.count; after = one.after }) text again quiet one.read in
+      record { count = two.count; after = two.after; read = two.read };
+}
 
--- THE REPORT
+comment-class : (after : Bool) (line : List ℕ) → is_comment (body line) ≡ true → class_of after line ≡ Comment
+comment-class after line comment = rw comment refl
+
+pub taken-class : (after alone : Bool) (line : List ℕ) (c : Class) → alone ≡ false → class_of after line ≡ c → class_at after (record { alone = alone; bytes = line }) ≡ c
+taken-class after alone line c none stated = ap (λ t. if t then Other else class_of after line) none ∙ stated
+
+pub passes-comment : (cut : Bool) (s : Standing) (line : List ℕ) → is_holding cut s ≡ false → is_flagged cut line ≡ false → every is_inside line ≡ true → is_comment (body line) ≡ true → Passes cut s (line ++ codes "\n")
+passes-comment cut s line free unflagged inside comment = record {
+  quiet = continues-line line [] ∙ sym (continues-body line) ∙ comment-quiet (body line) comment;
+  passes = λ t text again quiet h.
+      let alone = not-alone cut s line (continues text) free unflagged quiet (ap is_refused (comment-class true line comment)) in
+      let step = read-class cut s t line text Comment again inside (taken-class t.after (is_alone cut s line (continues text)) line Comment alone (comment-class t.after line comment)) h in
+      record { count = suc t.count; after = false; read = subst (λ stands. read_at cut stands (count_line false t) text ≡ Ok again) (comment-stays cut s line free unflagged comment) step };
+}
+
+-- THE REPORT, whose lines are no switches and no directives
 
 inside-glyph : (d : ℕ) → is_inside (digit_glyph false d) ≡ true
 inside-glyph d = elim (nat_lt d 10) as (λ t. is_inside (if t then 48 + d else 87 + d) ≡ true)
@@ -130,38 +170,50 @@ inside-times n count source time =
     (inside-append (codes "* BLOCK ") (decimal n) refl (inside-decimal n)) refl) (inside-decimal count)) refl) (inside-decimal source)) refl) (inside-decimal time)
 
 -- the line of the times, up to this end
-passes-times : (n count source time : ℕ) (end : List ℕ) → every is_inside end ≡ true → Passes (times_text n count source time ++ (end ++ codes "\n"))
-passes-times n count source time end inside =
+passes-times : (cut : Bool) (s : Standing) (n count source time : ℕ) (end : List ℕ) → is_holding cut s ≡ false → every is_inside end ≡ true → Passes cut s (times_text n count source time ++ (end ++ codes "\n"))
+passes-times cut s n count source time end free inside =
     let times : List ℕ = times_text n count source time in
-    subst Passes (append_assoc times end (codes "\n")) (passes-comment (times ++ end) (inside-append times end (inside-times n count source time) inside) (λ after. refl))
+    subst (Passes cut s) (append_assoc times end (codes "\n")) (passes-comment cut s (times ++ end) free (and_right cut false refl) (inside-append times end (inside-times n count source time) inside) refl)
 
-passes-splits : (splits : Option ℕ) → Passes (splits_line splits)
-passes-splits None = passes-nothing
-passes-splits (Some splits) = passes-comment (codes "* SPLITS " ++ decimal splits) (inside-append (codes "* SPLITS ") (decimal splits) refl (inside-decimal splits)) (λ after. refl)
+passes-splits : (cut : Bool) (s : Standing) (splits : Option ℕ) → is_holding cut s ≡ false → Passes cut s (splits_line splits)
+passes-splits cut s None free = passes-nothing cut s
+passes-splits cut s (Some splits) free =
+    passes-comment cut s (codes "* SPLITS " ++ decimal splits) free (and_right cut false refl) (inside-append (codes "* SPLITS ") (decimal splits) refl (inside-decimal splits)) refl
 
-passes-first : (n count : ℕ) (p : Placed) → Passes (times_text n count p.source p.time ++ bound_text p)
-passes-first n count p =
-    elim (p.bound == p.time) as (λ t. Passes (times_text n count p.source p.time ++ (if t then codes " BEST\n" else (codes " AT LEAST " ++ decimal p.bound ++ codes "\n")))) [
-      | true ↦ passes-times n count p.source p.time (codes " BEST") refl
-      | false ↦ passes-times n count p.source p.time (codes " AT LEAST " ++ decimal p.bound) (inside-append (codes " AT LEAST ") (decimal p.bound) refl (inside-decimal p.bound))
+passes-first : (cut : Bool) (s : Standing) (n count : ℕ) (p : Placed) → is_holding cut s ≡ false → Passes cut s (times_text n count p.source p.time ++ bound_text p)
+passes-first cut s n count p free =
+    elim (p.bound == p.time) as (λ t. Passes cut s (times_text n count p.source p.time ++ (if t then codes " BEST\n" else (codes " AT LEAST " ++ decimal p.bound ++ codes "\n")))) [
+      | true ↦ passes-times cut s n count p.source p.time (codes " BEST") free refl
+      | false ↦ passes-times cut s n count p.source p.time (codes " AT LEAST " ++ decimal p.bound) free (inside-append (codes " AT LEAST ") (decimal p.bound) refl (inside-decimal p.bound))
     ]
 
-pub passes-report : (n count : ℕ) (p : Placed) → Passes (report n count p)
-passes-report n count p = passes-append (times_text n count p.source p.time ++ bound_text p) (splits_line p.splits) (passes-first n count p) (passes-splits p.splits)
+pub passes-report : (cut : Bool) (s : Standing) (n count : ℕ) (p : Placed) → is_holding cut s ≡ false → Passes cut s (report n count p)
+passes-report cut s n count p free =
+    passes-append cut s (times_text n count p.source p.time ++ bound_text p) (splits_line p.splits) (passes-first cut s n count p free) (passes-splits cut s p.splits free)
 
 -- NOTES
 
--- each line has no newline, and its class
-abbrev pub AreLinesOfSource : List Line → Type 0
-AreLinesOfSource [] = Unit {0}
-AreLinesOfSource (l ∷ lines) = ((every is_inside l.bytes ≡ true) × ((after : Bool) × (l.class ≡ class_of after l.bytes))) × AreLinesOfSource lines
+-- a line of a source has no newline, and the class of the line that was read
+pub record IsOfSource (cut : Bool) (l : Line) : Type 0 where
+  pub inside : every is_inside l.bytes ≡ true
+  pub standing : Standing
+  pub continued : Bool
+  pub after : Bool
+  pub class : l.class ≡ class_at after (flagged_at cut standing l.bytes continued)
 
-pub lines-of_source : (lines : List (List ℕ)) (number run index : ℕ) (label : List ℕ) (after : Bool) → every (every is_inside) lines ≡ true → AreLinesOfSource (classes_from number run index label after lines)
-lines-of_source [] number run index label after h = tt
-lines-of_source (line ∷ lines) number run index label after h =
-    let c : Class = class_of after line in
-    let both = and_parts (every is_inside line) (every (every is_inside) lines) h in
-    ((both.0, (after, refl)), lines-of_source lines (suc number) (run_after run c) (place_after index c) (label_after label c line) (is_code c) both.1)
+abbrev pub AreLinesOfSource : Bool → List Line → Type 0
+AreLinesOfSource cut [] = Unit {0}
+AreLinesOfSource cut (l ∷ lines) = IsOfSource cut l × AreLinesOfSource cut lines
+
+pub lines-of_source : (cut : Bool) (s : Standing) (lines : List (List ℕ)) (number run index : ℕ) (label : List ℕ) (after : Bool) → every (every is_inside) lines ≡ true →
+    AreLinesOfSource cut (classes_from number run index label after (flagged_from cut s lines))
+lines-of_source cut s [] number run index label after h = tt
+lines-of_source cut s (line ∷ lines) number run index label after h =
+    let c : Class = class_at after (flagged_at cut s line (is_continued lines)) in
+    let both = and_parts (every is_inside line) (every (every is_inside) lines) h in (
+      record { inside = both.0; standing = s; continued = is_continued lines; after = after; class = refl },
+      lines-of_source cut (after_line cut s line) lines (suc number) (run_after run c) (place_after index c) (label_after label c line) (is_code c) both.1,
+    )
 
 no-comment : (pad known located : Bool) (n : Option Instr) → is_comment_class (if pad then Pad located else (if known then class_of_operand located n else Other)) ≡ false
 no-comment true known located n = refl
@@ -169,33 +221,38 @@ no-comment false false located n = refl
 no-comment false true located None = refl
 no-comment false true located (Some n) = refl
 
-comment-parts : (comment comma after other : Bool) (c : Class) → is_comment_class c ≡ false → is_comment_class (if comment then Comment else (if comma then (if after then Refused else Other) else c)) ≡ true →
-    (if comment then Comment else (if comma then (if other then Refused else Other) else c)) ≡ Comment
-comment-parts true comma after other c none h = refl
-comment-parts false true true other c none h = absurd (true≢false (sym h))
-comment-parts false true false other c none h = absurd (true≢false (sym h))
-comment-parts false false after other c none h = absurd (true≢false (sym h ∙ none))
+comment-parts : (alone comment comma after : Bool) (c : Class) → is_comment_class c ≡ false →
+    is_comment_class (if alone then Other else (if comment then Comment else (if comma then (if after then Refused else Other) else c))) ≡ true → (alone ≡ false) × (comment ≡ true)
+comment-parts true comment comma after c none h = absurd (true≢false (sym h))
+comment-parts false true comma after c none h = (refl, refl)
+comment-parts false false true true c none h = absurd (true≢false (sym h))
+comment-parts false false true false c none h = absurd (true≢false (sym h))
+comment-parts false false false after c none h = absurd (true≢false (sym h ∙ none))
 
-comment-again : (after other : Bool) (line : List ℕ) → is_comment_class (class_of after line) ≡ true → class_of other (body line) ≡ Comment
-comment-again after other line h =
+-- a comment isn't left alone, and is one without the class
+pub comment-line : (after alone : Bool) (line : List ℕ) → is_comment_class (class_at after (record { alone = alone; bytes = line })) ≡ true → (alone ≡ false) × (is_comment (body line) ≡ true)
+comment-line after alone line h =
     let there : List ℕ = body line in
     let words : List ℕ = upper (operation there) in
-    class_of-body other line
-    ∙ comment-parts (is_comment there) (continues there) after other (by_operation (is_located there) words (upper (operand there)))
+    comment-parts alone (is_comment there) (continues there) after (by_operation (is_located there) words (upper (operand there)))
     (no-comment (is_pad words) (is_some (operation_of words)) (is_located there) (instr_of words (upper (operand there)))) h
 
-passes-line : (after : Bool) (line : List ℕ) → every is_inside line ≡ true → is_comment_class (class_of after line) ≡ true → Passes (body line ++ codes "\n")
-passes-line after line inside comment = passes-comment (body line) (every-trimmed is_inside is_return line inside) (λ other. comment-again after other line comment)
+passes-line : (cut : Bool) (s : Standing) (l : Line) → is_holding cut s ≡ false → IsOfSource cut l → is_comment_class l.class ≡ true → Passes cut s (body l.bytes ++ codes "\n")
+passes-line cut s l free is comment =
+    let parts = comment-line is.after (is_alone cut is.standing l.bytes is.continued) l.bytes (sym (ap is_comment_class is.class) ∙ comment) in
+    let unflagged = flagged-body cut l.bytes ∙ (taken cut is.standing l.bytes is.continued parts.0).unflagged in
+    passes-comment cut s (body l.bytes) free unflagged (every-trimmed is_inside is_return l.bytes is.inside) (ap is_comment (trim-twice is_return l.bytes) ∙ parts.1)
 
 note-comment : (l : Line) (block : Block) → is_note_of l block ≡ true → is_comment_class l.class ≡ true
 note-comment l block h =
     (and_parts (is_comment_class l.class) (nat_lt (line_of block 1) l.number)
     (and_parts (is_comment_class l.class && nat_lt (line_of block 1) l.number) (nat_lt l.number (line_of block (length block.entries))) h).0).0
 
-pub passes-notes : (block : Block) (lines : List Line) → AreLinesOfSource lines → Passes (notes_text block lines)
-passes-notes block [] h = passes-nothing
-passes-notes block (l ∷ lines) h = passes-append (if is_note_of l block then copied_line l else []) (notes_text block lines) (by_note (is_note_of l block) refl) (passes-notes block lines h.1)
+pub passes-notes : (cut : Bool) (s : Standing) (block : Block) (lines : List Line) → is_holding cut s ≡ false → AreLinesOfSource cut lines → Passes cut s (notes_text block lines)
+passes-notes cut s block [] free h = passes-nothing cut s
+passes-notes cut s block (l ∷ lines) free h =
+    passes-append cut s (if is_note_of l block then copied_line l else []) (notes_text block lines) (by_note (is_note_of l block) refl) (passes-notes cut s block lines free h.1)
   where
-    by_note : (t : Bool) → is_note_of l block ≡ t → Passes (if t then copied_line l else [])
-    by_note true stated = passes-line h.0.1.0 l.bytes h.0.0 (sym (ap is_comment_class h.0.1.1) ∙ note-comment l block stated)
-    by_note false stated = passes-nothing
+    by_note : (t : Bool) → is_note_of l block ≡ t → Passes cut s (if t then copied_line l else [])
+    by_note true stated = passes-line cut s l free h.0 (note-comment l block stated)
+    by_note false stated = passes-nothing cut s

@@ -7,13 +7,14 @@ use Rattle.std.proofs.lemmas.Bool.{ne_eqb, eqb-false, eqb-true, true≢false}
 use Rattle.std.proofs.Math.Dec.{leb-suc-suc, eqb-suc-suc, eqb-suc-zero}
 use Rattle.std.proofs.Math.Nat.{suc-mod, mod-eq_of_lt}
 use Rattle.s66_isa.specs.declared.instr.Instr.{Instr}
-use Rattle.s66_line.specs.Fields.{lines_of, body, from_operation, label_bytes}
+use Rattle.s66_line.specs.Fields.{body, from_operation, label_bytes}
 use Rattle.s66_isa.specs.declared.limits.TheConstants.{BLOCK_LIMIT}
 use Rattle.s66_line.specs.declared.limits.TheConstants.{LINE_BYTES_LIMIT}
 use Rattle.s66_source.specs.declared.limits.TheConstants.{SOURCE_LINES_LIMIT}
 use Rattle.s66_source.specs.Source.{Line, run_at, run_after, place_at, place_after, label_at, label_after, classes_from, classed_lines, operand_refusal, or_else, refusal, instructions, begins_block, put_before, parts_of, entry_of, label_in, block_of, blocks_of, unless_refused, source_of}
 use Rattle.s66_line.specs.Block.{Entry, Block}
-use Rattle.s66_line.specs.Class.{class_of, is_code}
+use Rattle.s66_line.specs.Class.{is_code}
+use Rattle.s66_source.specs.LeftAlone.{Reading, Flagged, class_at, flagged_lines}
 use Rattle.s66_source.specs.Gives.{Gives}
 use Rattle.s66_source.specs.Reader.{State, Steps, start, end_block, with_open, count_line, by_class, line_step, lines_step, and_then, read_from}
 use Rattle.s66_line.specs.declared.class.Class.{Class}
@@ -22,7 +23,7 @@ use Rattle.s66_source.specs.declared.error.SourceError.{SourceError}
 use Rattle.s66_source.specs.declared.error.SourceError.TheVariants.{LineTooLong, TooLarge, OutOfMemory}
 
 -- the lines from one on, of this class
-abbrev pub from_class : ℕ → ℕ → ℕ → List ℕ → Class → List ℕ → List (List ℕ) → List Line
+abbrev pub from_class : ℕ → ℕ → ℕ → List ℕ → Class → List ℕ → List Flagged → List Line
 from_class number run index run_label c line lines =
     record { number = number; bytes = line; class = c; run = run_at run c; index = place_at index c; label = label_at run_label c line }
     ∷ classes_from (suc number) (run_after run c) (place_after index c) (label_after run_label c line) (is_code c) lines
@@ -40,10 +41,10 @@ Begins-put l ([] ∷ parts) h = h
 Begins-put l ((next ∷ more) ∷ parts) h =
     elim (begins_block next) as (λ t. Begins (if t then (l ∷ []) ∷ (next ∷ more) ∷ parts else (l ∷ next ∷ more) ∷ parts)) [ true ↦ h | false ↦ h ]
 
-abbrev pub Fresh : List (List ℕ) → Type 0
+abbrev pub Fresh : List Flagged → Type 0
 Fresh lines = (number run index : ℕ) (run_label : List ℕ) (after : Bool) → index % BLOCK_LIMIT ≡ 0 → Begins (parts_of (instructions (classes_from number run index run_label after lines)))
 
-fresh-class : (c : Class) (number run index : ℕ) (run_label line : List ℕ) (lines : List (List ℕ)) → Fresh lines → index % BLOCK_LIMIT ≡ 0 →
+fresh-class : (c : Class) (number run index : ℕ) (run_label line : List ℕ) (lines : List Flagged) → Fresh lines → index % BLOCK_LIMIT ≡ 0 →
     Begins (parts_of (instructions (from_class number run index run_label c line lines)))
 fresh-class Comment number run index run_label line lines ih h = ih (suc number) run index run_label false h
 fresh-class Other number run index run_label line lines ih h = ih (suc number) (suc run) 0 [] false refl
@@ -57,9 +58,9 @@ fresh-class (Instruction false n) number run index run_label line lines ih h =
     Begins-put (record { number = number; bytes = line; class = Instruction false n; run = run; index = index; label = run_label })
     (parts_of (instructions (classes_from (suc number) run (suc index) run_label true lines))) (eq-eqb (index % BLOCK_LIMIT) 0 h)
 
-pub fresh : (lines : List (List ℕ)) → Fresh lines
+pub fresh : (lines : List Flagged) → Fresh lines
 fresh [] number run index run_label after h = tt
-fresh (line ∷ lines) number run index run_label after h = fresh-class (class_of after line) number run index run_label line lines (fresh lines) h
+fresh (line ∷ lines) number run index run_label after h = fresh-class (class_at after line) number run index run_label line.bytes lines (fresh lines) h
 
 -- THE OPEN BLOCK, and the lines to come
 
@@ -124,18 +125,18 @@ resumed-push label (a ∷ es) e parts = refl
 -- ALL LINES
 
 -- what is read is unlike the definition in no point, whatever was read before
-abbrev Read : List (List ℕ) → Type 0
+abbrev Read : List Flagged → Type 0
 Read lines = (blocks : List Block) (label : List ℕ) (entries : List Entry) (count run index : ℕ) (run_label : List ℕ) (after : Bool) →
     index % BLOCK_LIMIT ≡ length entries → label ≡ left_label run_label index (length entries) →
     read_from (record { blocks = blocks; label = label; entries = entries; count = count; after = after }) lines
     ≡ unless_refused (refusal (classes_from (suc count) run index run_label after lines)) (blocks ++ resumed label entries (parts_of (instructions (classes_from (suc count) run index run_label after lines))))
 
 -- reading a line of this class, and then the rest
-abbrev read_class : State → Class → List ℕ → List (List ℕ) → Result (List Block) SourceError
+abbrev read_class : State → Class → List ℕ → List Flagged → Result (List Block) SourceError
 read_class s c line lines = and_then (by_class s c (label_bytes (body line)) (from_operation (body line))) (λ t. read_from t lines)
 
 -- the definition's answer for it
-abbrev class_answer : List Block → List ℕ → List Entry → ℕ → ℕ → ℕ → List ℕ → Class → List ℕ → List (List ℕ) → Result (List Block) SourceError
+abbrev class_answer : List Block → List ℕ → List Entry → ℕ → ℕ → ℕ → List ℕ → Class → List ℕ → List Flagged → Result (List Block) SourceError
 class_answer blocks label entries count run index run_label c line lines =
     unless_refused (or_else (operand_refusal (suc count) c) (refusal (classes_from (suc (suc count)) (run_after run c) (place_after index c) (label_after run_label c line) (is_code c) lines)))
     (blocks ++ resumed label entries (parts_of (instructions (from_class (suc count) run index run_label c line lines))))
@@ -162,7 +163,7 @@ abbrev entry_at_line : Instr → List ℕ → ℕ → Entry
 entry_at_line n line count = record { instr = n; line = suc count; bytes = from_operation (body line) }
 
 -- the instruction goes to the open block, and ends it if it is full then
-put-full : (full : Bool) (n : Instr) (line : List ℕ) (lines : List (List ℕ)) → Read lines →
+put-full : (full : Bool) (n : Instr) (line : List ℕ) (lines : List Flagged) → Read lines →
     (blocks : List Block) (label : List ℕ) (entries : List Entry) (count run index : ℕ) (run_label : List ℕ) (after : Bool) →
     index % BLOCK_LIMIT ≡ length entries → label ≡ left_label run_label index (length entries) →
     eqb (length (entries ++ entry_at_line n line count ∷ [])) BLOCK_LIMIT ≡ full →
@@ -189,7 +190,7 @@ put-full false n line lines ih blocks label entries count run index run_label af
     ∙ ap (λ open_parts. unless_refused (refusal rest) (blocks ++ open_parts)) (resumed-push label entries e (parts_of (instructions rest)) ∙ sym (resumed-put label entries l (parts_of (instructions rest)) h left))
 
 -- an instruction that begins no run
-read-put : (n : Instr) (line : List ℕ) (lines : List (List ℕ)) → Read lines →
+read-put : (n : Instr) (line : List ℕ) (lines : List Flagged) → Read lines →
     (blocks : List Block) (label : List ℕ) (entries : List Entry) (count run index : ℕ) (run_label : List ℕ) (after : Bool) →
     index % BLOCK_LIMIT ≡ length entries → label ≡ left_label run_label index (length entries) →
     read_class (record { blocks = blocks; label = label; entries = entries; count = count; after = after }) (Instruction false n) line lines
@@ -198,7 +199,7 @@ read-put n line lines ih blocks label entries count run index run_label after h 
     put-full (eqb (length (entries ++ entry_at_line n line count ∷ [])) BLOCK_LIMIT) n line lines ih blocks label entries count run index run_label after h left refl
 
 -- one that begins a run
-read-begin : (n : Instr) (line : List ℕ) (lines : List (List ℕ)) → Read lines →
+read-begin : (n : Instr) (line : List ℕ) (lines : List Flagged) → Read lines →
     (blocks : List Block) (label : List ℕ) (entries : List Entry) (count run index : ℕ) (run_label : List ℕ) (after : Bool) →
     read_class (record { blocks = blocks; label = label; entries = entries; count = count; after = after }) (Instruction true n) line lines
     ≡ class_answer blocks label entries count run index run_label (Instruction true n) line lines
@@ -213,7 +214,7 @@ read-begin n line lines ih blocks label entries count run index run_label after 
     ∙ end_block-resumed blocks label [] entries (put_before l (parts_of (instructions rest))) (Begins-put l (parts_of (instructions rest)) refl))
 
 -- a line that ends the open block, and leaves this label to the next
-read-end : (next : List ℕ) (lines : List (List ℕ)) → Read lines → (blocks : List Block) (label : List ℕ) (entries : List Entry) (count run : ℕ) (after : Bool) →
+read-end : (next : List ℕ) (lines : List Flagged) → Read lines → (blocks : List Block) (label : List ℕ) (entries : List Entry) (count run : ℕ) (after : Bool) →
     read_from (record { blocks = with_open blocks label entries; label = next; entries = []; count = suc count; after = after }) lines
     ≡ unless_refused (refusal (classes_from (suc (suc count)) (suc run) 0 next after lines)) (blocks ++ resumed label entries (parts_of (instructions (classes_from (suc (suc count)) (suc run) 0 next after lines))))
 read-end next lines ih blocks label entries count run after =
@@ -221,7 +222,7 @@ read-end next lines ih blocks label entries count run after =
     ∙ ap (unless_refused (refusal (classes_from (suc (suc count)) (suc run) 0 next after lines)))
     (end_block-resumed blocks label next entries (parts_of (instructions (classes_from (suc (suc count)) (suc run) 0 next after lines))) (fresh lines (suc (suc count)) (suc run) 0 next after refl))
 
-read-class : (c : Class) (line : List ℕ) (lines : List (List ℕ)) → Read lines →
+read-class : (c : Class) (line : List ℕ) (lines : List Flagged) → Read lines →
     (blocks : List Block) (label : List ℕ) (entries : List Entry) (count run index : ℕ) (run_label : List ℕ) (after : Bool) →
     index % BLOCK_LIMIT ≡ length entries → label ≡ left_label run_label index (length entries) →
     read_class (record { blocks = blocks; label = label; entries = entries; count = count; after = after }) c line lines ≡ class_answer blocks label entries count run index run_label c line lines
@@ -234,7 +235,7 @@ read-class (Instruction true n) line lines ih blocks label entries count run ind
 read-class (Instruction false n) line lines ih blocks label entries count run index run_label after h left = read-put n line lines ih blocks label entries count run index run_label after h left
 
 -- whether the line is too long, and whether it is one too many
-read-line : (long many : Bool) (c : Class) (line : List ℕ) (lines : List (List ℕ)) → Read lines →
+read-line : (long many : Bool) (c : Class) (line : List ℕ) (lines : List Flagged) → Read lines →
     (blocks : List Block) (label : List ℕ) (entries : List Entry) (count run index : ℕ) (run_label : List ℕ) (after : Bool) →
     index % BLOCK_LIMIT ≡ length entries → label ≡ left_label run_label index (length entries) →
     and_then (if long then Err (LineTooLong (suc count)) else (if many then Err TooLarge
@@ -257,20 +258,20 @@ last-open blocks label (e ∷ es) = refl
 too-many : (count : ℕ) → nat_lt SOURCE_LINES_LIMIT (suc count) ≡ nat_le SOURCE_LINES_LIMIT count
 too-many count = leb-suc-suc SOURCE_LINES_LIMIT count
 
-read-all : (lines : List (List ℕ)) → Read lines
+read-all : (lines : List Flagged) → Read lines
 read-all [] blocks label entries count run index run_label after h left = ap Ok (last-open blocks label entries)
 read-all (line ∷ lines) blocks label entries count run index run_label after h left =
     then-then (line_step (record { blocks = blocks; label = label; entries = entries; count = count; after = after }) line) (λ t. lines_step t lines) (λ t. Ok (with_open t.blocks t.label t.entries))
-    ∙ rw (too-many count) (read-line (nat_lt LINE_BYTES_LIMIT (length line)) (nat_le SOURCE_LINES_LIMIT count) (class_of after line) line lines (read-all lines) blocks label entries count run index run_label after h left)
+    ∙ rw (too-many count) (read-line (nat_lt LINE_BYTES_LIMIT (length line.bytes)) (nat_le SOURCE_LINES_LIMIT count) (class_at after line) line.bytes lines (read-all lines) blocks label entries count run index run_label after h left)
 
 -- reading from the start is the definition
-pub read_from-start : (text : List ℕ) → read_from start (lines_of text) ≡ source_of text
-read_from-start text = read-all (lines_of text) [] [] [] 0 0 0 [] false refl refl
+pub read_from-start : (source : Reading) → read_from start (flagged_lines source) ≡ source_of source
+read_from-start source = read-all (flagged_lines source) [] [] [] 0 0 0 [] false refl refl
 
 -- the blocks at the end
-pub source-blocks : (text : List ℕ) (s r t : State) → s ≡ start → lines_step s (lines_of text) ≡ Ok r → t ≡ end_block r → source_of text ≡ Ok t.blocks
-source-blocks text s r t begin_run read closed =
-    sym (read_from-start text) ∙ ap (λ u. read_from u (lines_of text)) (sym begin_run) ∙ ap (λ made. and_then made (λ u. Ok (with_open u.blocks u.label u.entries))) read ∙ ap (λ u. Ok u.blocks) (sym closed)
+pub source-blocks : (source : Reading) (s r t : State) → s ≡ start → lines_step s (flagged_lines source) ≡ Ok r → t ≡ end_block r → source_of source ≡ Ok t.blocks
+source-blocks source s r t begin_run read closed =
+    sym (read_from-start source) ∙ ap (λ u. read_from u (flagged_lines source)) (sym begin_run) ∙ ap (λ made. and_then made (λ u. Ok (with_open u.blocks u.label u.entries))) read ∙ ap (λ u. Ok u.blocks) (sym closed)
 
 abbrev is_accepted : Result (List Block) SourceError → Bool
 is_accepted (Ok blocks) = true
@@ -280,12 +281,12 @@ accepted-blocks : (refused : Option SourceError) (found blocks : List Block) →
 accepted-blocks None found blocks h = refl
 accepted-blocks (Some e) found blocks h = absurd (true≢false (sym (ap is_accepted h)))
 
--- a text that is accepted has the blocks of its lines
-pub Gives-accepted : (text : List ℕ) (blocks : List Block) → source_of text ≡ Ok blocks → source_of text ≡ Ok (blocks_of (classed_lines text))
-Gives-accepted text blocks h = accepted-blocks (refusal (classed_lines text)) (blocks_of (classed_lines text)) blocks h
+-- a source that is accepted has the blocks of its lines
+pub Gives-accepted : (source : Reading) (blocks : List Block) → source_of source ≡ Ok blocks → source_of source ≡ Ok (blocks_of (classed_lines source))
+Gives-accepted source blocks h = accepted-blocks (refusal (classed_lines source)) (blocks_of (classed_lines source)) blocks h
 
 -- the refusal
-pub Gives-refusal : {X : Type 0} (view : X → List Block) (e : SourceError) (text : List ℕ) (s new : State) → s ≡ start → Steps new (Err e) (lines_step s (lines_of text)) → Gives view (Err e) (source_of text)
-Gives-refusal view OutOfMemory text s new begin_run read = tt
-Gives-refusal view e text s new begin_run read =
-    sym (read_from-start text) ∙ ap (λ u. read_from u (lines_of text)) (sym begin_run) ∙ ap (λ made. and_then made (λ u. Ok (with_open u.blocks u.label u.entries))) read
+pub Gives-refusal : {X : Type 0} (view : X → List Block) (e : SourceError) (source : Reading) (s new : State) → s ≡ start → Steps new (Err e) (lines_step s (flagged_lines source)) → Gives view (Err e) (source_of source)
+Gives-refusal view OutOfMemory source s new begin_run read = tt
+Gives-refusal view e source s new begin_run read =
+    sym (read_from-start source) ∙ ap (λ u. read_from u (flagged_lines source)) (sym begin_run) ∙ ap (λ made. and_then made (λ u. Ok (with_open u.blocks u.label u.entries))) read

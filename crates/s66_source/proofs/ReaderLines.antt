@@ -1,25 +1,33 @@
 -- What the lines of a text make, read one after the other.
-use Rattle.std.proofs.Common.{◌≡◌, ◌+◌, ℕ, Some, List, [], ◌∷◌, take, drop, sym, ap, ◌∙◌}
+use Rattle.std.proofs.Common.{◌≡◌, ◌+◌, ℕ, Bool, Some, List, [], ◌∷◌, take, drop, sym, ap, ◌∙◌}
 use Rattle.std.specs.Prelude.{Result, Ok, Err}
-use Rattle.s66_line.specs.Fields.{lines_from}
-use Rattle.s66_line.proofs.LineCuts.{IsFirstNewline, lines_from-found}
+use Rattle.s66_line.specs.Fields.{continues, lines_from}
+use Rattle.s66_line.proofs.LineCuts.{IsFirstNewline}
+use Rattle.s66_source.specs.LeftAlone.{Flagged, after_line, is_alone, flagged_from}
 use Rattle.s66_source.specs.Reader.{State, Steps, line_step, lines_step, and_then}
 use Rattle.s66_source.specs.declared.error.SourceError.{SourceError}
 use Rattle.s66_source.specs.declared.error.SourceError.TheVariants.{OutOfMemory}
+use Rattle.s66_source.specs.declared.standing.Standing.{Standing}
+use Rattle.s66_source.proofs.FlaggedLines.{flagged-found}
+
+-- a text's first line, which ends before byte k
+abbrev pub first_flagged : Bool → Standing → List ℕ → ℕ → Flagged
+first_flagged cut standing bytes k = record { alone = is_alone cut standing (take k bytes) (continues (drop (k + 1) bytes)); bytes = take k bytes }
 
 -- a line up to a newline, and then those after it
-pub lines_step-found : (s t : State) (bytes : List ℕ) (k : ℕ) (whole : Result State SourceError) → IsFirstNewline bytes (Some k) →
-    line_step s (take k bytes) ≡ Ok t → lines_step s (lines_from [] bytes) ≡ whole → lines_step t (lines_from [] (drop (k + 1) bytes)) ≡ whole
-lines_step-found s t bytes k whole first made same =
-    sym (ap (λ r. and_then r (λ u. lines_step u (lines_from [] (drop (k + 1) bytes)))) made)
-    ∙ sym (ap (lines_step s) (lines_from-found [] bytes k first)) ∙ same
+pub lines_step-found : (cut : Bool) (standing : Standing) (s t : State) (bytes : List ℕ) (k : ℕ) (whole : Result State SourceError) → IsFirstNewline bytes (Some k) →
+    line_step s (first_flagged cut standing bytes k) ≡ Ok t → lines_step s (flagged_from cut standing (lines_from [] bytes)) ≡ whole →
+    lines_step t (flagged_from cut (after_line cut standing (take k bytes)) (lines_from [] (drop (k + 1) bytes))) ≡ whole
+lines_step-found cut standing s t bytes k whole first made same =
+    sym (ap (λ r. and_then r (λ u. lines_step u (flagged_from cut (after_line cut standing (take k bytes)) (lines_from [] (drop (k + 1) bytes))))) made)
+    ∙ sym (ap (lines_step s) (flagged-found cut standing bytes k first)) ∙ same
 
 -- a line's refusal is that of all
-Steps-line : (e : SourceError) (s new any : State) (line : List ℕ) (lines : List (List ℕ)) (whole : Result State SourceError) → Steps new (Err e) (line_step s line) → lines_step s (line ∷ lines) ≡ whole → Steps any (Err e) whole
+Steps-line : (e : SourceError) (s new any : State) (line : Flagged) (lines : List Flagged) (whole : Result State SourceError) → Steps new (Err e) (line_step s line) → lines_step s (line ∷ lines) ≡ whole → Steps any (Err e) whole
 Steps-line OutOfMemory s new any line lines whole h same = tt
 Steps-line e s new any line lines whole h same = sym same ∙ ap (λ r. and_then r (λ t. lines_step t lines)) h
 
-pub Steps-found : (e : SourceError) (s new any : State) (bytes : List ℕ) (k : ℕ) (whole : Result State SourceError) → IsFirstNewline bytes (Some k) →
-    Steps new (Err e) (line_step s (take k bytes)) → lines_step s (lines_from [] bytes) ≡ whole → Steps any (Err e) whole
-Steps-found e s new any bytes k whole first made same =
-    Steps-line e s new any (take k bytes) (lines_from [] (drop (k + 1) bytes)) whole made (sym (ap (lines_step s) (lines_from-found [] bytes k first)) ∙ same)
+pub Steps-found : (cut : Bool) (standing : Standing) (e : SourceError) (s new any : State) (bytes : List ℕ) (k : ℕ) (whole : Result State SourceError) → IsFirstNewline bytes (Some k) →
+    Steps new (Err e) (line_step s (first_flagged cut standing bytes k)) → lines_step s (flagged_from cut standing (lines_from [] bytes)) ≡ whole → Steps any (Err e) whole
+Steps-found cut standing e s new any bytes k whole first made same =
+    Steps-line e s new any (first_flagged cut standing bytes k) (flagged_from cut (after_line cut standing (take k bytes)) (lines_from [] (drop (k + 1) bytes))) whole made (sym (ap (lines_step s) (flagged-found cut standing bytes k first)) ∙ same)

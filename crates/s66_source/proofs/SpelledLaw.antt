@@ -8,6 +8,7 @@ use Rattle.s66_isa.specs.Table.{instr_at}
 use Rattle.s66_isa.proofs.Lists.{among-front, among-rest}
 use Rattle.s66_line.specs.Fields.{is_return, lines_of, trim, body}
 use Rattle.s66_line.specs.InstructionText.{IsTextOf}
+use Rattle.s66_source.specs.LeftAlone.{Reading, at_first}
 use Rattle.s66_source.specs.Source.{Line, classed_lines, operand_refusal, refusal, instructions, parts_of, entry_of, block_of, blocks_of, source_of}
 use Rattle.s66_line.specs.Block.{Entry, Block, instrs_of, text_of}
 use Rattle.s66_source.specs.BlockParts.{all_of}
@@ -83,39 +84,39 @@ spelled-by block n l here sound few =
 -- OF A SOURCE
 
 -- a block is made of a part
-part-of : (text : List ℕ) (blocks : List Block) (block : Block) → source_of text ≡ Ok blocks → Among block blocks →
-    (part : List Line) × Among part (parts_of (instructions (classed_lines text))) × (block ≡ block_of part)
-part-of text blocks block accepted among =
-    among-map block_of block (parts_of (instructions (classed_lines text))) (subst (Among block) (sym (accepted-is text blocks accepted)) among)
+part-of : (source : Reading) (blocks : List Block) (block : Block) → source_of source ≡ Ok blocks → Among block blocks →
+    (part : List Line) × Among part (parts_of (instructions (classed_lines source))) × (block ≡ block_of part)
+part-of source blocks block accepted among =
+    among-map block_of block (parts_of (instructions (classed_lines source))) (subst (Among block) (sym (accepted-is source blocks accepted)) among)
 
 count-instrs : (part : List Line) (block : Block) → block ≡ block_of part → length (instrs_of block) ≡ length part
 count-instrs part block made =
     length-map block.entries (λ (e : Entry). e.instr) ∙ ap (λ (b : Block). length b.entries) made ∙ length-map part entry_of
 
-sizes : (text : List ℕ) (blocks : List Block) (block : Block) → source_of text ≡ Ok blocks → Among block blocks →
+sizes : (source : Reading) (blocks : List Block) (block : Block) → source_of source ≡ Ok blocks → Among block blocks →
     (1 ≤ length (instrs_of block)) × (length (instrs_of block) ≤ BLOCK_LIMIT)
-sizes text blocks block accepted among =
-    let made = part-of text blocks block accepted among in
-    let cut = (parts text).sizes made.0 made.1 in
+sizes source blocks block accepted among =
+    let made = part-of source blocks block accepted among in
+    let cut = (parts source).sizes made.0 made.1 in
     let count = count-instrs made.0 block made.2 in
     (omega (arith, cut.0, count), omega (arith, cut.1, count))
 
-pub some : (text : List ℕ) (blocks : List Block) (block : Block) → source_of text ≡ Ok blocks → Among block blocks → 1 ≤ length (instrs_of block)
-some text blocks block accepted among = (sizes text blocks block accepted among).0
+pub some : (source : Reading) (blocks : List Block) (block : Block) → source_of source ≡ Ok blocks → Among block blocks → 1 ≤ length (instrs_of block)
+some source blocks block accepted among = (sizes source blocks block accepted among).0
 
-pub few : (text : List ℕ) (blocks : List Block) (block : Block) → source_of text ≡ Ok blocks → Among block blocks → length (instrs_of block) ≤ BLOCK_LIMIT
-few text blocks block accepted among = (sizes text blocks block accepted among).1
+pub few : (source : Reading) (blocks : List Block) (block : Block) → source_of source ≡ Ok blocks → Among block blocks → length (instrs_of block) ≤ BLOCK_LIMIT
+few source blocks block accepted among = (sizes source blocks block accepted among).1
 
-pub spelled : (text : List ℕ) (blocks : List Block) (block : Block) → source_of text ≡ Ok blocks → Among block blocks →
+pub spelled : (source : Reading) (blocks : List Block) (block : Block) → source_of source ≡ Ok blocks → Among block blocks →
     (n : ℕ) → 1 ≤ n → n ≤ length (instrs_of block) → IsTextOf (text_of block n) (instr_at (instrs_of block) n)
-spelled text blocks block accepted among zero first last = absurd (omega (arith, first))
-spelled text blocks block accepted among (suc n) first last =
-    let lines : List Line = classed_lines text in
-    let made = part-of text blocks block accepted among in
+spelled source blocks block accepted among zero first last = absurd (omega (arith, first))
+spelled source blocks block accepted among (suc n) first last =
+    let lines : List Line = classed_lines source in
+    let made = part-of source blocks block accepted among in
     let count = count-instrs made.0 block made.2 in
     let there = numbered made.0 n (omega (arith, last, count)) in
     let in_parts = among-part there.0 made.0 (parts_of (instructions lines)) there.1 made.1 in
-    let in_source : Among there.0 (instructions lines) = subst (Among there.0) (parts text).whole in_parts in
-    let sound = sound-instructions (lines_of text) 1 0 0 [] false (AreLines-lines_of text).no_newline in
+    let in_source : Among there.0 (instructions lines) = subst (Among there.0) (parts source).whole in_parts in
+    let sound = sound-instructions source.cut at_first (lines_of source.text) 1 0 0 [] false (AreLines-lines_of source.text).no_newline in
     spelled-by block n there.0 (ap (λ (b : Block). slice_get b.entries n) made.2 ∙ there.2) (sound-entry (instructions lines) there.0 sound in_source)
     (few-bytes lines there.0 (no_refusal (refusal lines) (blocks_of lines) blocks accepted) (of-instructions lines there.0 in_source).0)

@@ -1,3 +1,5 @@
+pub mod Counts
+pub mod LeftAlone
 pub mod Source
 pub mod BlockParts
 pub mod Roles

@@ -1,6 +1,7 @@
 -- Used by contracts within the crate alone: the pads of a source read line by line, those that are left out and those of which it is still open.
 use Rattle.std.specs.Prelude.{ℕ, suc, Bool, true, false, if◌then◌else◌, List, [], ◌∷◌, ◌++◌}
-use Rattle.s66_line.specs.Class.{class_of, is_code}
+use Rattle.s66_line.specs.Class.{is_code}
+use Rattle.s66_source.specs.LeftAlone.{Flagged, class_at}
 use Rattle.s66_line.specs.declared.class.Class.{Class}
 use Rattle.s66_line.specs.declared.class.Class.TheVariants.{Comment, Other, Refused, Pad, Instruction}
 
@@ -38,7 +39,7 @@ pads_by_class (Pad located) line pads = put_pad line (end_run_if located pads)
 pads_by_class (Instruction located n) line pads = settle (end_run_if located pads)
 
 -- after count lines, of which the last is code or not
-abbrev pub pads_of_lines : ℕ → Bool → Pads → List (List ℕ) → Pads
+abbrev pub pads_of_lines : ℕ → Bool → Pads → List Flagged → Pads
 pads_of_lines count after pads [] = pads
 pads_of_lines count after pads (line ∷ lines) =
-    pads_of_lines (suc count) (is_code (class_of after line)) (pads_by_class (class_of after line) (suc count) pads) lines
+    pads_of_lines (suc count) (is_code (class_at after line)) (pads_by_class (class_at after line) (suc count) pads) lines

@@ -6,6 +6,7 @@ use Rattle.s66_isa.specs.Lists.{Among}
 use Rattle.s66_line.specs.Fields.{body, is_blank, is_return, trim}
 use Rattle.s66_source.specs.Source.{Line, blocks_of, classed_lines}
 use Rattle.s66_line.specs.Block.{Block, line_of, bytes_of}
+use Rattle.s66_source.specs.LeftAlone.{Reading}
 use Rattle.s66_source.specs.Roles.{is_note_of, is_copied}
 
 -- how a block is to be printed, and what is reported of it; times are in minor cycles
@@ -92,6 +93,6 @@ text_of_lines all n (block ∷ blocks) (p ∷ ps) (line ∷ lines) =
     else (copied_text all line ++ text_of_lines all n (block ∷ blocks) (p ∷ ps) lines)
 text_of_lines all n blocks ps (line ∷ lines) = copied_text all line ++ text_of_lines all n blocks ps lines
 
--- a text with its blocks in these orders, one for each
-abbrev pub printed : List ℕ → List Placed → List ℕ
-printed text ps = text_of_lines (classed_lines text) 1 (blocks_of (classed_lines text)) ps (classed_lines text)
+-- a source with its blocks in these orders, one for each
+abbrev pub printed : Reading → List Placed → List ℕ
+printed source ps = text_of_lines (classed_lines source) 1 (blocks_of (classed_lines source)) ps (classed_lines source)

@@ -4,7 +4,7 @@ use Rattle.s66_isa.specs.declared.instr.Instr.{Instr}
 use Rattle.s66_line.specs.Fields.{body, from_operation, label_bytes}
 use Rattle.s66_line.specs.InstructionText.{Spells}
 use Rattle.s66_line.specs.Block.{Block, Entry}
-use Rattle.s66_line.specs.Class.{class_of}
+use Rattle.s66_source.specs.LeftAlone.{Flagged, class_at}
 use Rattle.s66_line.specs.declared.class.Class.{Class}
 use Rattle.s66_line.specs.declared.class.Class.TheVariants.{Comment, Other, Refused, Pad, Instruction}
 use Rattle.s66_isa.specs.declared.limits.TheConstants.{BLOCK_LIMIT}
@@ -61,21 +61,21 @@ by_class s Refused label bytes = Err (BadOperand (suc s.count))
 by_class s (Pad located) label bytes = Ok (count_line true (begin_run_if located label s))
 by_class s (Instruction located n) label bytes = Ok (count_line true (with_entry n bytes (begin_run_if located label s)))
 
-abbrev pub line_step : State → List ℕ → Result State SourceError
+abbrev pub line_step : State → Flagged → Result State SourceError
 line_step s line =
-    if nat_lt LINE_BYTES_LIMIT (length line) then Err (LineTooLong (suc s.count))
-    else (if nat_le SOURCE_LINES_LIMIT s.count then Err TooLarge else by_class s (class_of s.after line) (label_bytes (body line)) (from_operation (body line)))
+    if nat_lt LINE_BYTES_LIMIT (length line.bytes) then Err (LineTooLong (suc s.count))
+    else (if nat_le SOURCE_LINES_LIMIT s.count then Err TooLarge else by_class s (class_at s.after line) (label_bytes (body line.bytes)) (from_operation (body line.bytes)))
 
 abbrev pub and_then : {A B : Type 0} → Result A SourceError → (A → Result B SourceError) → Result B SourceError
 and_then (Ok x) next = next x
 and_then (Err e) next = Err e
 
-abbrev pub lines_step : State → List (List ℕ) → Result State SourceError
+abbrev pub lines_step : State → List Flagged → Result State SourceError
 lines_step s [] = Ok s
 lines_step s (line ∷ lines) = and_then (line_step s line) (λ t. lines_step t lines)
 
 -- the blocks of all lines
-abbrev pub read_from : State → List (List ℕ) → Result (List Block) SourceError
+abbrev pub read_from : State → List Flagged → Result (List Block) SourceError
 read_from s lines = and_then (lines_step s lines) (λ t. Ok (with_open t.blocks t.label t.entries))
 
 -- what changed is what the step makes, and a refusal is its refusal, unless memory was refused

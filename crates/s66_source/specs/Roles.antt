@@ -4,6 +4,7 @@ use Rattle.std.specs.List.{filter}
 use Rattle.s66_isa.specs.Lists.{some_of}
 use Rattle.s66_line.specs.declared.class.Class.{Class}
 use Rattle.s66_line.specs.declared.class.Class.TheVariants.{Comment, Other, Pad}
+use Rattle.s66_source.specs.LeftAlone.{Reading}
 use Rattle.s66_source.specs.Source.{Line, classed_lines, blocks_of}
 use Rattle.s66_line.specs.Block.{Block, line_of}
 use Rattle.s66_line.specs.Class.{is_instruction}
@@ -46,9 +47,9 @@ is_copied lines line =
 abbrev pub roles : List Line → Line → List Bool
 roles lines line = is_instruction line.class ∷ is_note lines line ∷ is_dropped lines line ∷ is_copied lines line ∷ []
 
--- the numbers of the lines of a text that are so
-abbrev pub lines_that : (List Line → Line → Bool) → List ℕ → List ℕ
-lines_that are text = map (λ (l : Line). l.number) (filter (are (classed_lines text)) (classed_lines text))
+-- the numbers of the lines of a source that are so
+abbrev pub lines_that : (List Line → Line → Bool) → Reading → List ℕ
+lines_that are source = map (λ (l : Line). l.number) (filter (are (classed_lines source)) (classed_lines source))
 
 -- A SOURCE with lines of each sort
 

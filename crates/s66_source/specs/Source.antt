@@ -1,9 +1,10 @@
 -- To be believed: the lines of a source with their classes, its blocks, and its least refused line.
 use Rattle.std.specs.Prelude.{◌==◌, if◌then◌else◌, ℕ, suc, Bool, false, List, [], ◌∷◌, ◌%◌, Option, None, Some, Result, Ok, Err, nat_lt, length, map}
 use Rattle.std.specs.List.{filter}
-use Rattle.s66_line.specs.Fields.{lines_of, body, from_operation, label_bytes}
+use Rattle.s66_line.specs.Fields.{body, from_operation, label_bytes}
 use Rattle.s66_line.specs.Block.{Entry, Block}
-use Rattle.s66_line.specs.Class.{class_of, is_instruction, is_code, begins_run, ends_run, instr_in}
+use Rattle.s66_line.specs.Class.{is_instruction, is_code, begins_run, ends_run, instr_in}
+use Rattle.s66_source.specs.LeftAlone.{Reading, Flagged, class_at, flagged_lines}
 use Rattle.s66_line.specs.declared.class.Class.{Class}
 use Rattle.s66_line.specs.declared.class.Class.TheVariants.{Refused}
 use Rattle.s66_isa.specs.declared.limits.TheConstants.{BLOCK_LIMIT}
@@ -45,22 +46,23 @@ label_at label c line = if begins_run c then label_bytes (body line) else label
 abbrev pub label_after : List ℕ → Class → List ℕ → List ℕ
 label_after label c line = if ends_run c then [] else label_at label c line
 
-abbrev pub classes_from : ℕ → ℕ → ℕ → List ℕ → Bool → List (List ℕ) → List Line
+-- after: the line directly before is an Instruction or a Pad, so that a comma in column 1 would continue it
+abbrev pub classes_from : ℕ → ℕ → ℕ → List ℕ → Bool → List Flagged → List Line
 classes_from number run index label after [] = []
 classes_from number run index label after (line ∷ lines) =
     record {
       number = number;
-      bytes = line;
-      class = class_of after line;
-      run = run_at run (class_of after line);
-      index = place_at index (class_of after line);
-      label = label_at label (class_of after line) line;
+      bytes = line.bytes;
+      class = class_at after line;
+      run = run_at run (class_at after line);
+      index = place_at index (class_at after line);
+      label = label_at label (class_at after line) line.bytes;
     }
-    ∷ classes_from (suc number) (run_after run (class_of after line)) (place_after index (class_of after line)) (label_after label (class_of after line) line)
-    (is_code (class_of after line)) lines
+    ∷ classes_from (suc number) (run_after run (class_at after line)) (place_after index (class_at after line)) (label_after label (class_at after line) line.bytes)
+    (is_code (class_at after line)) lines
 
-abbrev pub classed_lines : List ℕ → List Line
-classed_lines text = classes_from 1 0 0 [] false (lines_of text)
+abbrev pub classed_lines : Reading → List Line
+classed_lines source = classes_from 1 0 0 [] false (flagged_lines source)
 
 -- THE LEAST REFUSED LINE: too long, then too many lines, then a bad operand
 
@@ -120,6 +122,6 @@ abbrev pub unless_refused : Option SourceError → List Block → Result (List B
 unless_refused None blocks = Ok blocks
 unless_refused (Some e) blocks = Err e
 
--- the blocks of a text, or its least refused line
-abbrev pub source_of : List ℕ → Result (List Block) SourceError
-source_of text = unless_refused (refusal (classed_lines text)) (blocks_of (classed_lines text))
+-- the blocks of a source, or its least refused line
+abbrev pub source_of : Reading → Result (List Block) SourceError
+source_of source = unless_refused (refusal (classed_lines source)) (blocks_of (classed_lines source))

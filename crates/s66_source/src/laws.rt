@@ -1,9 +1,12 @@
-ghost use Rattle.std.specs.Prelude.{◌≡◌, ◌≤◌, ℕ, List, ◌∷◌, ◌++◌, Some, None, Ok, Bool, true, map, length, codes, [], not};
+ghost use Rattle.std.specs.Prelude.{◌≡◌, ◌≤◌, ℕ, List, ◌∷◌, ◌++◌, Some, None, Ok, Bool, true, false, map, length, codes, [], not};
 ghost use Rattle.s66_isa.specs.Table.{instr, instr_at};
 ghost use Rattle.s66_isa.specs.Lists.{Among, tally, every};
 ghost use Rattle.s66_line.specs.Fields.{is_newline, upper, body, lines_of};
 ghost use Rattle.s66_line.specs.InstructionText.{IsTextOf};
 ghost use Rattle.s66_source.specs.UpperRead.{upper_read};
+ghost use Rattle.s66_source.specs.Counts.{cover_of};
+ghost use Rattle.s66_source.specs.LeftAlone.{Flagged, Reading, flagged_lines, plain};
+ghost use Rattle.s66_source.specs.declared.cover.Cover.TheVariants.{Nothing, Lines, ToItsEnd};
 ghost use Rattle.s66_source.specs.Source.{Line, classed_lines, instructions, parts_of, blocks_of, source_of};
 ghost use Rattle.s66_line.specs.Block.{Block, instrs_of, text_of, constants_in};
 ghost use Rattle.s66_line.specs.Class.{class_of, is_instruction};
@@ -16,26 +19,26 @@ ghost use Rattle.s66_source.specs.Roles.{is_note, is_note_of, is_dropped, is_cop
 /// Lower case reads as upper case. Texts that differ only in the case of letters have the same blocks but for the case of letters
 /// in what is stored of their lines, or the same refusal.
 pub fn case_law()
-    ensures { (text other : List ℕ) → upper text ≡ upper other → upper_read (source_of text) ≡ upper_read (source_of other) }
+    ensures { (source other : Reading) → source.cut ≡ other.cut → upper source.text ≡ upper other.text → upper_read (source_of source) ≡ upper_read (source_of other) }
 {}
 
 /// The blocks of a source are its instruction lines, cut into runs, and these into blocks of `BLOCK_LIMIT` lines and what is left.
 pub fn parts_law()
-    ensures { (text : List ℕ) → AreParts (classed_lines text) (parts_of (instructions (classed_lines text))) }
+    ensures { (source : Reading) → AreParts (classed_lines source) (parts_of (instructions (classed_lines source))) }
 {}
 
 /// Each block of an accepted source has 1 to `BLOCK_LIMIT` instructions, each of which its text spells.
 pub fn spelled_law()
-    ensures some { (text : List ℕ) (blocks : List Block) (block : Block) → source_of text ≡ Ok blocks → Among block blocks → 1 ≤ length (instrs_of block) }
-    ensures few { (text : List ℕ) (blocks : List Block) (block : Block) → source_of text ≡ Ok blocks → Among block blocks → length (instrs_of block) ≤ BLOCK_LIMIT }
-    ensures spelled { (text : List ℕ) (blocks : List Block) (block : Block) → source_of text ≡ Ok blocks → Among block blocks → (n : ℕ) → 1 ≤ n → n ≤ length (instrs_of block) → IsTextOf (text_of block n) (instr_at (instrs_of block) n) }
+    ensures some { (source : Reading) (blocks : List Block) (block : Block) → source_of source ≡ Ok blocks → Among block blocks → 1 ≤ length (instrs_of block) }
+    ensures few { (source : Reading) (blocks : List Block) (block : Block) → source_of source ≡ Ok blocks → Among block blocks → length (instrs_of block) ≤ BLOCK_LIMIT }
+    ensures spelled { (source : Reading) (blocks : List Block) (block : Block) → source_of source ≡ Ok blocks → Among block blocks → (n : ℕ) → 1 ≤ n → n ≤ length (instrs_of block) → IsTextOf (text_of block n) (instr_at (instrs_of block) n) }
 {}
 
 /// Each line of an accepted source is exactly one of these: an instruction, a note, a `NO` that is left out, or copied. A note is
 /// one of exactly one block.
 pub fn line_law()
-    ensures one { (text : List ℕ) (blocks : List Block) (line : Line) → source_of text ≡ Ok blocks → Among line (classed_lines text) → tally (λ is. is) (roles (classed_lines text) line) ≡ 1 }
-    ensures note { (text : List ℕ) (line : Line) → Among line (classed_lines text) → is_note (classed_lines text) line ≡ true → tally (is_note_of line) (blocks_of (classed_lines text)) ≡ 1 }
+    ensures one { (source : Reading) (blocks : List Block) (line : Line) → source_of source ≡ Ok blocks → Among line (classed_lines source) → tally (λ is. is) (roles (classed_lines source) line) ≡ 1 }
+    ensures note { (source : Reading) (line : Line) → Among line (classed_lines source) → is_note (classed_lines source) line ≡ true → tally (is_note_of line) (blocks_of (classed_lines source)) ≡ 1 }
 {}
 
 /// A line that is printed in its place is cut out again at its newline, and is of the same class as before, after code or not.
@@ -47,29 +50,64 @@ pub fn copied_law()
 /// If a printed source is accepted when it is read again, its blocks are those of the source, each in its placed order. It is
 /// refused if a line or the source has grown too long.
 pub fn read_again_law()
-    ensures { (text : List ℕ) (blocks again : List Block) (ps : List Placed) → source_of text ≡ Ok blocks → ArePlaced blocks ps → AreComplete blocks ps → source_of (printed text ps) ≡ Ok again → ArePlacedAgain blocks ps again }
+    ensures { (source : Reading) (blocks again : List Block) (ps : List Placed) → source_of source ≡ Ok blocks → ArePlaced blocks ps → AreComplete blocks ps → source_of (record { cut = source.cut; text = printed source ps }) ≡ Ok again → ArePlacedAgain blocks ps again }
 {}
 
 /// What becomes of the lines of a small source, and of comments and a `NO` outside of blocks.
 pub fn line_examples()
-    ensures instructions { lines_that (λ lines line. is_instruction line.class) mixed_source ≡ 2 ∷ 5 ∷ 6 ∷ 8 ∷ [] }
-    ensures notes { lines_that is_note mixed_source ≡ 4 ∷ [] }
-    ensures dropped { lines_that is_dropped mixed_source ≡ 3 ∷ [] }
-    ensures copied { lines_that is_copied mixed_source ≡ 1 ∷ 7 ∷ 9 ∷ [] }
-    ensures dropped_outside { lines_that is_dropped outside_source ≡ 4 ∷ 7 ∷ [] }
-    ensures copied_outside { lines_that is_copied outside_source ≡ 1 ∷ 2 ∷ 3 ∷ 5 ∷ 8 ∷ [] }
+    ensures instructions { lines_that (λ lines line. is_instruction line.class) (plain mixed_source) ≡ 2 ∷ 5 ∷ 6 ∷ 8 ∷ [] }
+    ensures notes { lines_that is_note (plain mixed_source) ≡ 4 ∷ [] }
+    ensures dropped { lines_that is_dropped (plain mixed_source) ≡ 3 ∷ [] }
+    ensures copied { lines_that is_copied (plain mixed_source) ≡ 1 ∷ 7 ∷ 9 ∷ [] }
+    ensures dropped_outside { lines_that is_dropped (plain outside_source) ≡ 4 ∷ 7 ∷ [] }
+    ensures copied_outside { lines_that is_copied (plain outside_source) ≡ 1 ∷ 2 ∷ 3 ∷ 5 ∷ 8 ∷ [] }
+{}
+
+/// What operations cover, by their operands.
+pub fn count_examples()
+    ensures dup { map (cover_of (codes "DUP")) (codes "3,2" ∷ codes "N" ∷ codes "N,0" ∷ []) ≡ Lines 2 ∷ Nothing ∷ Nothing ∷ [] }
+    ensures echo { map (cover_of (codes "ECHO")) (codes "2,P=(A,B)" ∷ codes ",P=(A,B)" ∷ []) ≡ Lines 2 ∷ Nothing ∷ [] }
+    ensures compared { map (cover_of (codes "IFEQ")) (codes "A,B,2" ∷ codes "A,1" ∷ codes "A,B,N" ∷ []) ≡ Lines 2 ∷ Nothing ∷ ToItsEnd ∷ [] }
+    ensures attribute { cover_of (codes "IF") (codes "DEF,A,4") ≡ Lines 4 }
+    ensures strings { map (cover_of (codes "IFC")) (codes "EQ,/A,B/C/,3" ∷ codes "EQ,/A/B/" ∷ codes "EQ,AB" ∷ []) ≡ Lines 3 ∷ Nothing ∷ ToItsEnd ∷ [] }
+    ensures positive { cover_of (codes "IFPL") (codes "N") ≡ Nothing }
+    ensures negative { cover_of (codes "IFMI") (codes "N,10") ≡ Lines 10 }
+    ensures otherwise { cover_of (codes "ELSE") (codes "2") ≡ Lines 2 }
+    ensures skip { map (cover_of (codes "SKIP")) (codes "99999999999999999999" ∷ codes "0" ∷ []) ≡ Lines 20000 ∷ Nothing ∷ [] }
+    ensures other { cover_of (codes "VFD") (codes "60/0") ≡ Nothing }
+{}
+
+/// Which lines of small sources are left alone: by switches, of which the last is to the end if no switch ends it; and with `--cut` in
+/// definitions, one in the other, under counts, of which a comment is none, directives, lines with an operand that is not taken,
+/// and what is continued. An operand in column 30 or later is a remark.
+pub fn left_alone_examples()
+    ensures switches { map (λ (m : Flagged). m.alone) (flagged_lines (plain (codes "*S66 OFF  BY HAND\n  BX6 X1\n*s66 on\n  BX6 X1\n"))) ≡ true ∷ true ∷ true ∷ false ∷ [] }
+    ensures switches_cut { map (λ (m : Flagged). m.alone) (flagged_lines (record { cut = true; text = codes "*S66 OFF  BY HAND\n  BX6 X1\n*s66 on\n  BX6 X1\n" })) ≡ true ∷ true ∷ true ∷ false ∷ [] }
+    ensures to_the_end { map (λ (m : Flagged). m.alone) (flagged_lines (plain (codes "  BX6 X1\n*S66 OFF\n  BX6 X1\n  ZR X1,L\n"))) ≡ false ∷ true ∷ true ∷ true ∷ [] }
+    ensures no_switch { map (λ (m : Flagged). m.alone) (flagged_lines (plain (codes "*S66 OFF\n*S66 ONE\n  BX6 X1\n"))) ≡ true ∷ true ∷ true ∷ [] }
+    ensures nested { map (λ (m : Flagged). m.alone) (flagged_lines (record { cut = true; text = codes "M MACRO A\n  BX6 X1\nN MACRO B\n  ENDM\n  BX6 X1\n  ENDM\n  BX6 X1\n" })) ≡ false ∷ true ∷ true ∷ true ∷ true ∷ true ∷ false ∷ [] }
+    ensures no_end { map (λ (m : Flagged). m.alone) (flagged_lines (record { cut = true; text = codes "M MACRO\n  BX6 X1\n  BX6 X1\n" })) ≡ false ∷ true ∷ true ∷ [] }
+    ensures counted { map (λ (m : Flagged). m.alone) (flagged_lines (record { cut = true; text = codes "  DUP 2,2\n  BX6 X1\n* NOTE\n  BX6 X1\n  BX6 X1\n" })) ≡ false ∷ true ∷ true ∷ true ∷ false ∷ [] }
+    ensures to_its_end { map (λ (m : Flagged). m.alone) (flagged_lines (record { cut = true; text = codes "  IFEQ A,B,N\n  BX6 X1\n  SA1 A1\n  ENDIF\n  BX6 X1\n" })) ≡ false ∷ true ∷ true ∷ true ∷ false ∷ [] }
+    ensures directive { map (λ (m : Flagged). m.alone) (flagged_lines (record { cut = true; text = codes "  BX6 X1\n*IF DEF,A\n  BX6 X2\n" })) ≡ false ∷ true ∷ false ∷ [] }
+    ensures bad_operand { map (λ (m : Flagged). m.alone) (flagged_lines (record { cut = true; text = codes "  BX6 X1\n  BX6 Q1\n" })) ≡ false ∷ true ∷ [] }
+    ensures continued { map (λ (m : Flagged). m.alone) (flagged_lines (record { cut = true; text = codes "  BX6 X1\n, X2\n  BX6 X3\n" })) ≡ true ∷ true ∷ false ∷ [] }
+    ensures remark { map (λ (m : Flagged). m.alone) (flagged_lines (record { cut = true; text = codes "  ELSE                       2 LINES\n  BX6 X1\n" })) ≡ false ∷ false ∷ [] }
+    ensures last_column { map (λ (m : Flagged). m.alone) (flagged_lines (record { cut = true; text = codes "  ELSE                      2 LINES\n  BX6 X1\n" })) ≡ false ∷ true ∷ [] }
+    ensures plain_macro { map (λ (m : Flagged). m.alone) (flagged_lines (plain (codes "M MACRO\n  BX6 X1\n  ENDM\n"))) ≡ false ∷ false ∷ false ∷ [] }
+    ensures plain_operand { map (λ (m : Flagged). m.alone) (flagged_lines (plain (codes "*IF DEF,A\n  BX6 Q1\n, X2\n"))) ≡ false ∷ false ∷ false ∷ [] }
 {}
 
 /// The texts of the constants in the instructions of a block.
 pub fn block_examples()
-    ensures { map (λ block. map (constants_in block) (1 ∷ 2 ∷ 3 ∷ [])) (blocks_of (classed_lines (codes "  SA1 A1+n\n  BX6 X1\n  LX6 6\n"))) ≡ (codes "+N" ∷ [] ∷ codes "6" ∷ []) ∷ [] }
+    ensures { map (λ block. map (constants_in block) (1 ∷ 2 ∷ 3 ∷ [])) (blocks_of (classed_lines (plain (codes "  SA1 A1+n\n  BX6 X1\n  LX6 6\n")))) ≡ (codes "+N" ∷ [] ∷ codes "6" ∷ []) ∷ [] }
 {}
 
 /// Sources printed: one with lines of each sort; one with comments and `NO`s around a block; one with a label on a `NO`; and one
 /// with two instructions exchanged, a label in column 2, a tab, carriage returns, and a bound alone.
 #[tactic(auto, unfolding(crate::specs::Printed::digits))]
 pub fn printed_examples()
-    ensures mixed { printed mixed_source (record { order = 1 ∷ 2 ∷ []; source = 12; time = 12; bound = 12; splits = None } ∷ record { order = 1 ∷ []; source = 4; time = 4; bound = 4; splits = None } ∷ record { order = 1 ∷ []; source = 4; time = 4; bound = 4; splits = None } ∷ []) ≡
+    ensures mixed { printed (plain mixed_source) (record { order = 1 ∷ 2 ∷ []; source = 12; time = 12; bound = 12; splits = None } ∷ record { order = 1 ∷ []; source = 4; time = 4; bound = 4; splits = None } ∷ record { order = 1 ∷ []; source = 4; time = 4; bound = 4; splits = None } ∷ []) ≡
         codes "* TEST\n" ++
         codes "* BLOCK 1 COUNT 2 SOURCE 12 TIME 12 BEST\n" ++
         codes "* NOTE\n" ++
@@ -81,7 +119,7 @@ pub fn printed_examples()
         codes "* BLOCK 3 COUNT 1 SOURCE 4 TIME 4 BEST\n" ++
         codes "          BX1 X2\n" ++
         codes "          VFD 60/0\n" }
-    ensures outside { printed outside_source (record { order = 1 ∷ []; source = 4; time = 4; bound = 4; splits = None } ∷ []) ≡
+    ensures outside { printed (plain outside_source) (record { order = 1 ∷ []; source = 4; time = 4; bound = 4; splits = None } ∷ []) ≡
         codes "* BEFORE\n" ++
         codes "  NO\n" ++
         codes "  ZR X1,L\n" ++
@@ -89,11 +127,11 @@ pub fn printed_examples()
         codes "* BLOCK 1 COUNT 1 SOURCE 4 TIME 4 BEST\n" ++
         codes "          BX1 X2\n" ++
         codes "* AFTER\n" }
-    ensures label_on_a_pad { printed (codes "LOOP NO  WAIT\n* LOADED\n  BX1 X2\n") (record { order = 1 ∷ []; source = 4; time = 4; bound = 4; splits = None } ∷ []) ≡
+    ensures label_on_a_pad { printed (plain (codes "LOOP NO  WAIT\n* LOADED\n  BX1 X2\n")) (record { order = 1 ∷ []; source = 4; time = 4; bound = 4; splits = None } ∷ []) ≡
         codes "* LOADED\n" ++
         codes "* BLOCK 1 COUNT 1 SOURCE 4 TIME 4 BEST\n" ++
         codes "LOOP      BX1 X2\n" }
-    ensures exchanged { printed (codes " LP       SA1    A1+B1   NEXT WORD\r\n\tBX6 X2 \r\r\n") (record { order = 2 ∷ 1 ∷ []; source = 9; time = 8; bound = 7; splits = Some 3 } ∷ []) ≡
+    ensures exchanged { printed (plain (codes " LP       SA1    A1+B1   NEXT WORD\r\n\tBX6 X2 \r\r\n")) (record { order = 2 ∷ 1 ∷ []; source = 9; time = 8; bound = 7; splits = Some 3 } ∷ []) ≡
         codes "* BLOCK 1 COUNT 2 SOURCE 9 TIME 8 AT LEAST 7\n" ++
         codes "* SPLITS 3\n" ++
         codes " LP       BX6 X2\n" ++
@@ -106,7 +144,7 @@ pub fn printed_examples()
 /// that of the block, and the bytes are those of the lines, with their remarks, but for what ends them.
 #[tactic(auto, unfolding(crate::specs::Printed::digits))]
 pub fn read_again_examples()
-    ensures { source_of (printed (codes " LP NO\n  SA1 A1+B1  NEXT\r\n* NOTE\n  bx6 x2 \r\r\n  ZR X1,LP\n\tFX0 X1*X2\n") (record { order = 2 ∷ 1 ∷ []; source = 9; time = 8; bound = 7; splits = Some 3 } ∷ record { order = 1 ∷ []; source = 4; time = 4; bound = 4; splits = None } ∷ [])) ≡
+    ensures { source_of (plain (printed (plain (codes " LP NO\n  SA1 A1+B1  NEXT\r\n* NOTE\n  bx6 x2 \r\r\n  ZR X1,LP\n\tFX0 X1*X2\n")) (record { order = 2 ∷ 1 ∷ []; source = 9; time = 8; bound = 7; splits = Some 3 } ∷ record { order = 1 ∷ []; source = 4; time = 4; bound = 4; splits = None } ∷ []))) ≡
         Ok (record { label = codes " LP"; entries = record { instr = instr 0o10 6 2 0; line = 4; bytes = codes "bx6 x2" } ∷ record { instr = instr 0o54 1 1 1; line = 5; bytes = codes "SA1 A1+B1  NEXT" } ∷ [] }
         ∷ record { label = []; entries = record { instr = instr 0o40 0 1 2; line = 8; bytes = codes "FX0 X1*X2" } ∷ [] } ∷ []) }
 {}

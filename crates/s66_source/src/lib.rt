@@ -2,6 +2,8 @@
 #![tactic(auto)]
 
 mod block_text;
+mod counts;
+mod cover;
 mod error;
 mod laws;
 mod limits;
@@ -10,13 +12,17 @@ mod placed;
 mod printer;
 mod reader;
 mod source;
+mod standing;
 
+pub use counts::{are_digits, counting_operand, cover_of, is_decimal_digit, is_one_of};
+pub use cover::Cover;
 pub use error::SourceError;
 pub use laws::{
-    block_examples, case_law, copied_law, line_examples, line_law, parts_law, printed_examples,
-    read_again_examples, read_again_law, spelled_law,
+    block_examples, case_law, copied_law, count_examples, left_alone_examples, line_examples,
+    line_law, parts_law, printed_examples, read_again_examples, read_again_law, spelled_law,
 };
 pub use limits::SOURCE_LINES_LIMIT;
 pub use placed::Placed;
 pub use printer::print_source;
-pub use source::{Source, read_source};
+pub use source::{Source, read_source, read_source_with};
+pub use standing::{DEFINITIONS, Standing, is_directive, is_switch};

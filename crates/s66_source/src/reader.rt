@@ -5,7 +5,8 @@ ghost use Rattle.s66_source.specs.Pads.{settle, pads_by_class, pads_of_lines};
 ghost use Rattle.s66_source.specs.Pads as pads;
 ghost use Rattle.s66_source.specs.Reader.{Steps, end_block, begin_run, with_entry, by_class, line_step, lines_step};
 ghost use Rattle.s66_line.specs.Class.{IsSpelled, class_of, is_code};
-ghost use Rattle.s66_source.specs.SourceReader.{state};
+ghost use Rattle.s66_source.specs.SourceReader.{flagged, state};
+ghost use Rattle.s66_source.specs.LeftAlone.{after_line, class_at, flagged_from};
 ghost use Rattle.s66_isa.specs.declared.limits.TheConstants.{BLOCK_LIMIT};
 ghost use Rattle.s66_source.specs.declared.limits.TheConstants.{SOURCE_LINES_LIMIT};
 ghost use Rattle.s66_line.specs.declared.limits.TheConstants.{TEXT_LIMIT};
@@ -13,9 +14,10 @@ ghost use Rattle.s66_line.specs.declared.limits.TheConstants.{TEXT_LIMIT};
 use crate::error::SourceError;
 use crate::limits::SOURCE_LINES_LIMIT;
 use crate::pads::Pads;
+use crate::standing::Standing;
 use memchr::memchr;
 use s66_isa::{BLOCK_LIMIT, Instr};
-use s66_line::{Block, Class, Classified, Entry, LINE_BYTES_LIMIT, classify};
+use s66_line::{Block, Class, Classified, Entry, LINE_BYTES_LIMIT, is_continuation};
 use std::alloc::{AllocError, Global};
 use std::mem;
 
@@ -32,6 +34,9 @@ pub struct Reader<'a> {
     pub lines: u32,
     /// Whether the last of them is an Instruction or a Pad.
     pub after_code: bool,
+    /// Whether lines that are refused, or covered by a count, a definition or a directive, are left alone.
+    pub cut: bool,
+    pub standing: Standing,
 }
 
 impl<'a> Reader<'a> {
@@ -40,6 +45,8 @@ impl<'a> Reader<'a> {
         requires { length self.old.entries.items ≤ BLOCK_LIMIT }
         ensures step { OnOk result (state self.new ≡ end_block (state self.old)) }
         ensures pads { self.new.pads ≡ self.old.pads }
+        ensures cut { self.new.cut ≡ self.old.cut }
+        ensures standing { self.new.standing ≡ self.old.standing }
     {
         if !self.entries.is_empty() {
             let entries = mem::replace(&mut self.entries, Vec::new(alloc));
@@ -54,6 +61,8 @@ impl<'a> Reader<'a> {
         requires { length self.old.entries.items ≤ BLOCK_LIMIT }
         ensures step { OnOk result (state self.new ≡ end_block (state self.old)) }
         ensures pads { OnOk result (self.new.pads ≡ pads.end_run self.old.pads) }
+        ensures cut { self.new.cut ≡ self.old.cut }
+        ensures standing { self.new.standing ≡ self.old.standing }
     {
         self.pads.end_run();
         self.end_block(alloc)
@@ -64,6 +73,8 @@ impl<'a> Reader<'a> {
         requires { length self.old.entries.items ≤ BLOCK_LIMIT }
         ensures step { OnOk result (state self.new ≡ begin_run label.now (state self.old)) }
         ensures pads { OnOk result (self.new.pads ≡ pads.end_run self.old.pads) }
+        ensures cut { self.new.cut ≡ self.old.cut }
+        ensures standing { self.new.standing ≡ self.old.standing }
     {
         self.end_run(alloc)?;
         self.label = label;
@@ -78,6 +89,8 @@ impl<'a> Reader<'a> {
         requires spelled { Spells bytes.now instr }
         ensures step { OnOk result (state self.new ≡ with_entry instr bytes.now (state self.old)) }
         ensures pads { OnOk result (self.new.pads ≡ settle self.old.pads) }
+        ensures cut { self.new.cut ≡ self.old.cut }
+        ensures standing { self.new.standing ≡ self.old.standing }
         ensures few { OnOk result (length self.new.entries.items < BLOCK_LIMIT) }
     {
         let line = self.lines + 1;
@@ -99,6 +112,8 @@ impl<'a> Reader<'a> {
         ensures pads { OnOk result (self.new.pads ≡ pads_by_class line.entry.class (suc self.old.lines) self.old.pads) }
         ensures count { OnOk result (self.new.lines ≡ suc self.old.lines) }
         ensures after_code { OnOk result (self.new.after_code ≡ is_code line.entry.class) }
+        ensures cut { self.new.cut ≡ self.old.cut }
+        ensures standing { self.new.standing ≡ self.old.standing }
         ensures few { OnOk result (length self.new.entries.items < BLOCK_LIMIT) }
         ensures lines { OnOk result (self.new.lines ≤ SOURCE_LINES_LIMIT) }
     {
@@ -132,16 +147,25 @@ impl<'a> Reader<'a> {
         Ok(())
     }
 
-    /// Reads the next line.
-    fn take_line(&mut self, alloc: Global, line: &'a [u8]) -> Result<(), SourceError>
+    /// Reads the next line, which is continued if the line after it has a comma in column 1.
+    fn take_line(
+        &mut self,
+        alloc: Global,
+        line: &'a [u8],
+        continued: bool,
+    ) -> Result<(), SourceError>
         requires few { length self.old.entries.items < BLOCK_LIMIT }
         requires lines { self.old.lines ≤ SOURCE_LINES_LIMIT }
-        ensures step { Steps (state self.new) result (line_step (state self.old) line.now) }
-        ensures pads { OnOk result (self.new.pads ≡ pads_by_class (class_of self.old.after_code line.now) (suc self.old.lines) self.old.pads) }
+        requires bodies { self.old.standing.bodies ≤ self.old.lines }
+        ensures step { Steps (state self.new) result (line_step (state self.old) (flagged self.old continued line.now)) }
+        ensures pads { OnOk result (self.new.pads ≡ pads_by_class (class_at self.old.after_code (flagged self.old continued line.now)) (suc self.old.lines) self.old.pads) }
         ensures count { OnOk result (self.new.lines ≡ suc self.old.lines) }
-        ensures after_code { OnOk result (self.new.after_code ≡ is_code (class_of self.old.after_code line.now)) }
+        ensures after_code { OnOk result (self.new.after_code ≡ is_code (class_at self.old.after_code (flagged self.old continued line.now))) }
+        ensures standing { OnOk result (self.new.standing ≡ after_line self.old.cut self.old.standing line.now) }
+        ensures cut { self.new.cut ≡ self.old.cut }
         ensures few { OnOk result (length self.new.entries.items < BLOCK_LIMIT) }
         ensures lines { OnOk result (self.new.lines ≤ SOURCE_LINES_LIMIT) }
+        ensures bodies { OnOk result (self.new.standing.bodies ≤ self.new.lines) }
     {
         if line.len() > LINE_BYTES_LIMIT {
             return Err(SourceError::LineTooLong {
@@ -151,35 +175,41 @@ impl<'a> Reader<'a> {
         if self.lines >= SOURCE_LINES_LIMIT {
             return Err(SourceError::TooLarge);
         }
-        self.take_classified(alloc, classify(self.after_code, line))
+        let classified = self
+            .standing
+            .take(self.cut, self.after_code, line, continued);
+        self.take_classified(alloc, classified)
     }
 
     /// Reads a last line that lacks its newline, if there is one.
     fn take_last(&mut self, alloc: Global, line: &'a [u8]) -> Result<(), SourceError>
         requires few { length self.old.entries.items < BLOCK_LIMIT }
         requires lines { self.old.lines ≤ SOURCE_LINES_LIMIT }
-        ensures step { Steps (state self.new) result (lines_step (state self.old) (lines_from line.now [])) }
-        ensures pads { OnOk result (self.new.pads ≡ pads_of_lines self.old.lines self.old.after_code self.old.pads (lines_from line.now [])) }
+        requires bodies { self.old.standing.bodies ≤ self.old.lines }
+        ensures step { Steps (state self.new) result (lines_step (state self.old) (flagged_from self.old.cut self.old.standing (lines_from line.now []))) }
+        ensures pads { OnOk result (self.new.pads ≡ pads_of_lines self.old.lines self.old.after_code self.old.pads (flagged_from self.old.cut self.old.standing (lines_from line.now []))) }
         ensures few { OnOk result (length self.new.entries.items < BLOCK_LIMIT) }
     {
         if line.is_empty() {
             return Ok(());
         }
-        self.take_line(alloc, line)
+        self.take_line(alloc, line, false)
     }
 
     /// Reads all lines of a text.
     pub(crate) fn take_all(&mut self, alloc: Global, text: &'a [u8]) -> Result<(), SourceError>
         requires few { length self.old.entries.items < BLOCK_LIMIT }
         requires lines { self.old.lines ≤ SOURCE_LINES_LIMIT }
-        ensures step { Steps (state self.new) result (lines_step (state self.old) (lines_from [] text.now)) }
-        ensures pads { OnOk result (self.new.pads ≡ pads_of_lines self.old.lines self.old.after_code self.old.pads (lines_from [] text.now)) }
+        requires bodies { self.old.standing.bodies ≤ self.old.lines }
+        ensures step { Steps (state self.new) result (lines_step (state self.old) (flagged_from self.old.cut self.old.standing (lines_from [] text.now))) }
+        ensures pads { OnOk result (self.new.pads ≡ pads_of_lines self.old.lines self.old.after_code self.old.pads (flagged_from self.old.cut self.old.standing (lines_from [] text.now))) }
         ensures few { OnOk result (length self.new.entries.items < BLOCK_LIMIT) }
     {
         let mut rest = text;
         while let Some(end) = memchr(b'\n', rest) {
-            self.take_line(alloc, &rest[..end])?;
+            let line = &rest[..end];
             rest = &rest[end + 1..];
+            self.take_line(alloc, line, is_continuation(rest))?;
         }
         self.take_last(alloc, rest)
     }

@@ -1,10 +1,12 @@
 ghost use Rattle.std.specs.Prelude.{◌≡◌, [], IfOk};
 ghost use Rattle.s66_source.specs.Source.{classed_lines, blocks_of, source_of};
 ghost use Rattle.s66_source.specs.Gives.{Gives};
+ghost use Rattle.s66_source.specs.LeftAlone.{plain};
 
 use crate::error::SourceError;
 use crate::pads::Pads;
 use crate::reader::Reader;
+use crate::standing::Standing;
 use s66_line::Block;
 use std::alloc::Global;
 use std::marker::Model;
@@ -13,21 +15,23 @@ use std::marker::Model;
 #[derive(Debug, Drop)]
 pub struct Source<'a> {
     text: &'a [u8],
+    cut: bool,
     blocks: Vec<Block<'a>>,
     /// The lines of the `NO`s that are left out when it is printed.
     dropped: Vec<u32>,
 }
 
 impl<'a> Model for Source<'a> {
-    ghost use Rattle.std.specs.Prelude.{◌≡◌, ℕ, List, Ok};
+    ghost use Rattle.std.specs.Prelude.{◌≡◌, Ok};
+    ghost use Rattle.s66_source.specs.LeftAlone.{Reading};
     ghost use Rattle.s66_source.specs.Roles.{is_dropped, lines_that};
     ghost use Rattle.s66_source.specs.Source.{source_of};
 
-    ghost Value = { List ℕ };
+    ghost Value = { Reading };
 
-    ghost view = { λ s. s.text.now };
+    ghost view = { λ s. record { cut = s.cut; text = s.text.now } };
 
-    ghost invariant = { λ s. (source_of s.text.now ≡ Ok s.blocks.items) × (s.dropped.items ≡ lines_that is_dropped s.text.now) };
+    ghost invariant = { λ s. (source_of (record { cut = s.cut; text = s.text.now }) ≡ Ok s.blocks.items) × (s.dropped.items ≡ lines_that is_dropped (record { cut = s.cut; text = s.text.now })) };
 }
 
 impl<'a> Source<'a> {
@@ -43,7 +47,7 @@ impl<'a> Source<'a> {
     }
 
     pub(crate) fn text(&self) -> &'a [u8]
-        ensures { result.now ≡ self.now }
+        ensures { result.now ≡ self.now.text }
     {
         self.text
     }
@@ -58,8 +62,17 @@ impl<'a> Source<'a> {
 
 /// Reads a source in one pass: its blocks, or its least refused line.
 pub fn read_source(alloc: Global, text: &[u8]) -> Result<Source<'_>, SourceError>
-    ensures text { IfOk result (λ source. source ≡ text.now) }
-    ensures read { Gives (λ source. blocks_of (classed_lines source)) result (source_of text.now) }
+    ensures source { IfOk result (λ source. source ≡ plain text.now) }
+    ensures read { Gives (λ source. blocks_of (classed_lines source)) result (source_of (plain text.now)) }
+{
+    read_source_with(alloc, false, text)
+}
+
+/// Reads a source as `read_source` does. With `cut` no operand is refused: a line with such an operand is left alone, and so are
+/// directives, definitions, and what operations cover that count lines.
+pub fn read_source_with(alloc: Global, cut: bool, text: &[u8]) -> Result<Source<'_>, SourceError>
+    ensures source { IfOk result (λ source. source ≡ record { cut = cut; text = text.now }) }
+    ensures read { Gives (λ source. blocks_of (classed_lines source)) result (source_of (record { cut = cut; text = text.now })) }
 {
     let mut reader = Reader {
         blocks: Vec::new(alloc),
@@ -68,6 +81,8 @@ pub fn read_source(alloc: Global, text: &[u8]) -> Result<Source<'_>, SourceError
         pads: Pads::new(alloc),
         lines: 0,
         after_code: false,
+        cut,
+        standing: Standing::at_first(),
     };
     reader.take_all(alloc, text)?;
     reader.end_block(alloc)?;
@@ -78,9 +93,12 @@ pub fn read_source(alloc: Global, text: &[u8]) -> Result<Source<'_>, SourceError
         pads,
         lines: _,
         after_code: _,
+        cut: _,
+        standing: _,
     } = reader;
     Ok(Source {
         text,
+        cut,
         blocks,
         dropped: pads.into_dropped(),
     })

@@ -2,6 +2,7 @@ use Rattle.std.proofs.Common.{◌≡◌, ◌≤◌, ◌<◌, [], length}
 use Rattle.s66_isa.specs.declared.limits.TheConstants.{BLOCK_LIMIT}
 use Rattle.s66_source.specs.declared.limits.TheConstants.{SOURCE_LINES_LIMIT}
 use Rattle.s66_line.specs.Fields.{lines_from}
+use Rattle.s66_source.specs.LeftAlone.{flagged_from}
 use Rattle.s66_source.specs.Pads.{pads_of_lines}
 use Rattle.s66_source.specs.Reader.{lines_step}
 use Rattle.s66_source.specs.SourceReader.{state}
@@ -10,10 +11,13 @@ use Rattle.s66_source.proofs.reader.Reader.take_all.Given as goal
 -- the lines so far, and then those of the rest, are those of all
 abbrev pub invariant-loop-end : goal.invariant-loop-end
 invariant-loop-end l = record {
-  rest : lines_step (state l.self) (lines_from [] l.rest) ≡ lines_step (state l.fn.self) (lines_from [] l.text);
-  pads : pads_of_lines l.self.lines l.self.after_code l.self.pads (lines_from [] l.rest) ≡ pads_of_lines l.fn.self.lines l.fn.self.after_code l.fn.self.pads (lines_from [] l.text);
+  rest : lines_step (state l.self) (flagged_from l.self.cut l.self.standing (lines_from [] l.rest)) ≡ lines_step (state l.fn.self) (flagged_from l.fn.self.cut l.fn.self.standing (lines_from [] l.text));
+  pads : pads_of_lines l.self.lines l.self.after_code l.self.pads (flagged_from l.self.cut l.self.standing (lines_from [] l.rest))
+      ≡ pads_of_lines l.fn.self.lines l.fn.self.after_code l.fn.self.pads (flagged_from l.fn.self.cut l.fn.self.standing (lines_from [] l.text));
   few : length l.self.entries.items < BLOCK_LIMIT;
   lines : l.self.lines ≤ SOURCE_LINES_LIMIT;
+  bodies : l.self.standing.bodies ≤ l.self.lines;
+  within : length l.rest ≤ length l.text;
 }
 
 abbrev pub decreases-loop-end : goal.decreases-loop-end

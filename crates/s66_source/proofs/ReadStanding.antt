@@ -1,0 +1,218 @@
+-- What stands before a line that is read again, and whether the line is left alone again.
+use Rattle.std.proofs.Common.{◌≡◌, ◌==◌, ◌-◌, ◌&&◌, ◌||◌, not, ℕ, suc, Bool, true, false, if◌then◌else◌, true≢false, List, [], ◌∷◌, ◌++◌, codes, nat_le, nat_lt, refl, sym, ap, ap₂, ◌∙◌, subst, arith, append_assoc}
+use Rattle.std.specs.Prelude.{bytes_eq}
+use Rattle.std.proofs.lemmas.Bool.{eqb-true, leb-true, ne_eqb, and_parts, and_right, or_parts, or_from, or_right}
+use Rattle.s66_isa.specs.Lists.{every}
+use Rattle.s66_line.specs.Class.{class_of, is_code}
+use Rattle.s66_line.specs.Fields.{after_word, body, is_blank, is_comment, is_return, continues, operation, skip_blanks, upper, upper_byte, word}
+use Rattle.s66_line.specs.declared.class.Class.{Class}
+use Rattle.s66_line.specs.declared.class.Class.TheVariants.{Other, Refused}
+use Rattle.s66_line.specs.Block.{Block, line_of}
+use Rattle.s66_line.proofs.LineFields.{indented_no}
+use Rattle.s66_source.specs.Counts.{counting_operand, is_covering}
+use Rattle.s66_source.specs.LeftAlone.{Flagged, after_body, after_line, after_operation, class_at, has_operation, is_alone, is_continued, is_directive, is_held, is_switch, is_off_switch, is_on_switch, is_refused, flagged_from, off_after, with_operation}
+use Rattle.s66_source.specs.Printed.{Placed, block_text, copied_text, text_of_lines}
+use Rattle.s66_source.specs.Roles.{is_copied, is_other_class}
+use Rattle.s66_source.specs.Source.{Line, run_at, run_after, place_at, place_after, label_at, label_after, classes_from}
+use Rattle.s66_source.specs.declared.standing.Standing.{Standing}
+use Rattle.s66_source.proofs.ReadBack.{trim-twice, class_of-body}
+use Rattle.s66_source.proofs.Standings.{same-off}
+
+-- a line with its switch, if it comes after what stands
+abbrev pub flagged_at : Bool → Standing → List ℕ → Bool → Flagged
+flagged_at cut s line continued = record { alone = is_alone cut s line continued; bytes = line }
+
+-- WHAT LEAVES A LINE ALONE
+
+-- what stands leaves the next line alone
+abbrev pub is_holding : Bool → Standing → Bool
+is_holding cut s = s.off || (cut && (nat_lt 0 s.bodies || is_covering s.cover))
+
+-- a line is a switch or a directive that leaves it alone
+abbrev pub is_flagged : Bool → List ℕ → Bool
+is_flagged cut line = is_off_switch (body line) || (cut && is_directive (body line))
+
+-- a line that isn't left alone
+pub record IsTaken (cut : Bool) (s : Standing) (line : List ℕ) (continued : Bool) : Type 0 where
+  pub free : is_holding cut s ≡ false
+  pub unflagged : is_flagged cut line ≡ false
+  pub ended : (cut && continued) ≡ false
+
+pub taken : (cut : Bool) (s : Standing) (line : List ℕ) (continued : Bool) → is_alone cut s line continued ≡ false → IsTaken cut s line continued
+taken true s line continued h =
+    let both = or_parts (is_held true s line continued) (is_refused (class_of true line)) h in
+    let off = or_parts s.off _ both.0 in
+    let switch = or_parts (is_off_switch (body line)) _ off.1 in
+    let bodies = or_parts (nat_lt 0 s.bodies) _ switch.1 in
+    let cover = or_parts (is_covering s.cover) _ bodies.1 in
+    let next = or_parts continued (is_directive (body line)) cover.1 in
+    record {
+      free = or_from s.off _ off.0 (or_from (nat_lt 0 s.bodies) (is_covering s.cover) bodies.0 cover.0);
+      unflagged = or_from (is_off_switch (body line)) (is_directive (body line)) switch.0 next.1;
+      ended = next.0;
+    }
+taken false s line continued h =
+    let both = or_parts (is_held false s line continued) false h in
+    let off = or_parts s.off _ both.0 in
+    let switch = or_parts (is_off_switch (body line)) false off.1 in
+    record { free = or_from s.off false off.0 refl; unflagged = or_from (is_off_switch (body line)) false switch.0 refl; ended = refl }
+
+-- the other way round, if it would not be refused
+pub not-alone : (cut : Bool) (s : Standing) (line : List ℕ) (continued : Bool) → is_holding cut s ≡ false → is_flagged cut line ≡ false → (cut && continued) ≡ false → is_refused (class_of true line) ≡ false →
+    is_alone cut s line continued ≡ false
+not-alone true s line continued free unflagged ended accepted =
+    let off = or_parts s.off _ free in
+    let switch = or_parts (is_off_switch (body line)) (is_directive (body line)) unflagged in
+    let both = or_parts (nat_lt 0 s.bodies) (is_covering s.cover) off.1 in
+    or_from (is_held true s line continued) (is_refused (class_of true line))
+    (or_from s.off _ off.0 (or_from (is_off_switch (body line)) _ switch.0 (or_from (nat_lt 0 s.bodies) _ both.0 (or_from (is_covering s.cover) _ both.1 (or_from continued (is_directive (body line)) ended switch.1)))))
+    accepted
+not-alone false s line continued free unflagged ended accepted =
+    let off = or_parts s.off false free in
+    let switch = or_parts (is_off_switch (body line)) false unflagged in
+    or_from (is_held false s line continued) false (or_from s.off _ off.0 (or_from (is_off_switch (body line)) false switch.0 refl)) refl
+
+-- without `--cut` it is the same whether the next line continues it
+pub same-alone : (cut : Bool) (s : Standing) (line : List ℕ) (continued other : Bool) → (cut && continued) ≡ (cut && other) → is_alone cut s line continued ≡ is_alone cut s line other
+same-alone true s line continued other same = ap (is_alone true s line) same
+same-alone false s line continued other same = refl
+
+-- A LINE WITHOUT THE RETURNS AT ITS END
+
+abbrev alone_body : Bool → Standing → Bool → List ℕ → Class → Bool
+alone_body cut s continued line c =
+    (s.off || (is_off_switch line || (cut && (nat_lt 0 s.bodies || (is_covering s.cover || (continued || is_directive line)))))) || (cut && is_refused c)
+
+pub alone-body : (cut : Bool) (s : Standing) (line : List ℕ) (continued : Bool) → is_alone cut s (body line) continued ≡ is_alone cut s line continued
+alone-body cut s line continued =
+    ap (λ bytes. alone_body cut s continued bytes (class_of true (body line))) (trim-twice is_return line) ∙ ap (alone_body cut s continued (body line)) (class_of-body true line)
+
+pub after-body : (cut : Bool) (s : Standing) (line : List ℕ) → after_line cut s (body line) ≡ after_line cut s line
+after-body cut s line = ap (after_body cut s) (trim-twice is_return line)
+
+pub flagged-body : (cut : Bool) (line : List ℕ) → is_flagged cut (body line) ≡ is_flagged cut line
+flagged-body cut line = ap (λ bytes. is_off_switch bytes || (cut && is_directive bytes)) (trim-twice is_return line)
+
+pub class_at-body : (after alone : Bool) (line : List ℕ) → class_at after (record { alone = alone; bytes = body line }) ≡ class_at after (record { alone = alone; bytes = line })
+class_at-body after true line = refl
+class_at-body after false line = class_of-body after line
+
+-- A COMMA IN COLUMN 1
+
+comma-kept : (b : ℕ) (rest : List ℕ) (all : Bool) → (is_return b && all) ≡ true → (b == 44) ≡ false
+comma-kept b rest all h = by_comma (b == 44) refl
+  where
+    by_comma : (t : Bool) → (b == 44) ≡ t → t ≡ false
+    by_comma true stated = absurd (true≢false (sym h ∙ ap (λ c. is_return c && all) (eqb-true b 44 stated)))
+    by_comma false stated = refl
+
+pub continues-body : (line : List ℕ) → continues (body line) ≡ continues line
+continues-body [] = refl
+continues-body (b ∷ line) = by_all (every is_return (b ∷ line)) refl
+  where
+    by_all : (t : Bool) → every is_return (b ∷ line) ≡ t → continues (if t then [] else b ∷ body line) ≡ (b == 44)
+    by_all true stated = sym (comma-kept b line (every is_return line) stated)
+    by_all false stated = refl
+
+-- a line that ends, and a text after it
+pub continues-line : (line text : List ℕ) → continues (line ++ 10 ∷ text) ≡ continues line
+continues-line [] text = refl
+continues-line (b ∷ line) text = refl
+
+comma-no_comment : (line : List ℕ) → continues line ≡ true → is_comment line ≡ false
+comma-no_comment [] h = absurd (true≢false (sym h))
+comma-no_comment (b ∷ line) h = subst (λ c. is_comment (c ∷ line) ≡ false) (sym (eqb-true b 44 h)) (indented_no 44 line refl)
+
+pub comment-quiet : (line : List ℕ) → is_comment line ≡ true → continues line ≡ false
+comment-quiet line h = by_comma (continues line) refl
+  where
+    by_comma : (t : Bool) → continues line ≡ t → t ≡ false
+    by_comma true stated = absurd (true≢false (sym h ∙ comma-no_comment line stated))
+    by_comma false stated = refl
+
+comma-refused : (line : List ℕ) → continues line ≡ true → class_of true line ≡ Refused
+comma-refused line h =
+    let comma : continues (body line) ≡ true = continues-body line ∙ h in
+    rw (comma-no_comment (body line) comma, comma) refl
+
+-- with `--cut` such a line is left alone
+pub comma-alone : (s : Standing) (line : List ℕ) (continued : Bool) → continues line ≡ true → is_alone true s line continued ≡ true
+comma-alone s line continued h = or_right (is_held true s line continued) (is_refused (class_of true line)) (ap is_refused (comma-refused line h))
+
+-- WHAT LEAVES THE STANDING AS IT IS
+
+no_star : (b : ℕ) → (b == 42) ≡ false → (upper_byte b == 42) ≡ false
+no_star b other = by_case (nat_le 97 b && nat_le b 122) refl
+  where
+    by_case : (t : Bool) → (nat_le 97 b && nat_le b 122) ≡ t → ((if t then b - 32 else b) == 42) ≡ false
+    by_case true stated = let low = leb-true 97 b (and_parts (nat_le 97 b) (nat_le b 122) stated).0 in ne_eqb (b - 32) 42 (λ same. absurd (omega (arith, low, same)))
+    by_case false stated = other
+
+no_switch : (second : List ℕ) (b : ℕ) (line : List ℕ) → (b == 42) ≡ false → is_switch second (b ∷ line) ≡ false
+no_switch second b line other =
+    elim (is_blank b) as (λ t. (bytes_eq (upper (if t then [] else b ∷ word line)) (codes "*S66") && bytes_eq (upper (word (skip_blanks (if t then b ∷ line else after_word line)))) second) ≡ false)
+    [ true ↦ refl | false ↦ rw (no_star b other) refl ]
+
+no_directive : (b : ℕ) (line : List ℕ) → (b == 42) ≡ false → is_directive (b ∷ line) ≡ false
+no_directive b [] other = refl
+no_directive b (c ∷ line) other = rw other refl
+
+unflagged-by : (cut : Bool) (line : List ℕ) → is_comment line ≡ false → (is_off_switch line || (cut && is_directive line)) ≡ false
+unflagged-by cut [] h = absurd (true≢false h)
+unflagged-by cut (b ∷ line) h =
+    let other = (or_parts (b == 42) _ h).0 in
+    or_from (is_off_switch (b ∷ line)) (cut && is_directive (b ∷ line)) (no_switch (codes "OFF") b line other) (and_right cut (is_directive (b ∷ line)) (no_directive b line other))
+
+-- what is no comment is neither a switch nor a directive
+pub code-unflagged : (cut : Bool) (line : List ℕ) → is_comment (body line) ≡ false → is_flagged cut line ≡ false
+code-unflagged cut line h = unflagged-by cut (body line) h
+
+pub comment-stays : (cut : Bool) (s : Standing) (line : List ℕ) → is_holding cut s ≡ false → is_flagged cut line ≡ false → is_comment (body line) ≡ true → after_line cut s line ≡ s
+comment-stays cut s line free unflagged comment =
+    let none : has_operation (body line) ≡ false = ap (λ is. not (is || continues (body line))) comment in
+    let same : with_operation cut s (body line) ≡ s =
+    ap (λ t. if t then after_operation s (upper (operation (body line))) (upper (counting_operand (body line))) else s) (and_right cut (has_operation (body line)) none) in
+    let off : off_after s.off (body line) ≡ s.off =
+    same-off (is_on_switch (body line)) s.off (is_off_switch (body line)) (or_parts s.off _ free).0 (or_parts (is_off_switch (body line)) _ unflagged).0 in
+    ap₂ (λ (t : Standing) (off : Bool). record t { off = off }) same off
+
+-- A PRINTED TEXT begins with no comma if the lines that it is printed for don't
+
+abbrev pub IsQuiet : Bool → List ℕ → Type 0
+IsQuiet cut text = (cut && continues text) ≡ false
+
+pub quiet-append : (cut : Bool) (first text : List ℕ) → continues first ≡ false → IsQuiet cut text → IsQuiet cut (first ++ text)
+quiet-append cut [] text h quiet = quiet
+quiet-append cut (b ∷ first) text h quiet = and_right cut (b == 44) h
+
+pub continues-copied : (line text : List ℕ) → continues ((body line ++ codes "\n") ++ text) ≡ continues line
+continues-copied line text = ap continues (append_assoc (body line) (codes "\n") text) ∙ continues-line (body line) text ∙ continues-body line
+
+copied-quiet : (copied : Bool) (line text : List ℕ) → continues line ≡ false → (copied ≡ false → continues text ≡ false) → continues ((if copied then body line ++ codes "\n" else []) ++ text) ≡ false
+copied-quiet true line text h rest = continues-copied line text ∙ h
+copied-quiet false line text h rest = rest refl
+
+line-quiet : (all : List Line) (n : ℕ) (blocks : List Block) (ps : List Placed) (l : Line) (lines : List Line) → continues l.bytes ≡ false →
+    ((n : ℕ) (blocks : List Block) (ps : List Placed) → is_copied all l ≡ false → continues (text_of_lines all n blocks ps lines) ≡ false) → continues (text_of_lines all n blocks ps (l ∷ lines)) ≡ false
+line-quiet all n [] ps l lines h rest = copied-quiet (is_copied all l) l.bytes (text_of_lines all n [] ps lines) h (rest n [] ps)
+line-quiet all n (block ∷ blocks) [] l lines h rest = copied-quiet (is_copied all l) l.bytes (text_of_lines all n (block ∷ blocks) [] lines) h (rest n (block ∷ blocks) [])
+line-quiet all n (block ∷ blocks) (p ∷ ps) l lines h rest =
+    let text : List ℕ = copied_text all l ++ text_of_lines all n (block ∷ blocks) (p ∷ ps) lines in
+    elim (line_of block 1 == l.number) as (λ t. continues (if t then block_text all n block p ++ text_of_lines all (suc n) blocks ps lines else text) ≡ false)
+    [ true ↦ refl | false ↦ copied-quiet (is_copied all l) l.bytes (text_of_lines all n (block ∷ blocks) (p ∷ ps) lines) h (rest n (block ∷ blocks) (p ∷ ps)) ]
+
+no_other : (alone : Bool) (c : Class) → is_other_class (if alone then Other else c) ≡ false → alone ≡ false
+no_other true c h = absurd (true≢false h)
+no_other false c h = refl
+
+-- with `--cut`
+pub text-quiet : (lines : List (List ℕ)) (s : Standing) (all : List Line) (n : ℕ) (blocks : List Block) (ps : List Placed) (number run index : ℕ) (label : List ℕ) (after : Bool) → is_continued lines ≡ false →
+    continues (text_of_lines all n blocks ps (classes_from number run index label after (flagged_from true s lines))) ≡ false
+text-quiet [] s all n blocks ps number run index label after h = refl
+text-quiet (line ∷ lines) s all n blocks ps number run index label after h =
+    let m : Flagged = flagged_at true s line (is_continued lines) in
+    let c : Class = class_at after m in
+    let l : Line = record { number = number; bytes = line; class = c; run = run_at run c; index = place_at index c; label = label_at label c line } in
+    line-quiet all n blocks ps l (classes_from (suc number) (run_after run c) (place_after index c) (label_after label c line) (is_code c) (flagged_from true (after_line true s line) lines)) h
+    (λ n blocks ps none. text-quiet lines (after_line true s line) all n blocks ps (suc number) (run_after run c) (place_after index c) (label_after label c line) (is_code c)
+    (taken true s line (is_continued lines) (no_other m.alone (class_of after line) (or_parts (is_other_class c) _ none).0)).ended)

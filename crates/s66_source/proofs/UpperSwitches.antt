@@ -1,0 +1,95 @@
+-- Letters in upper case leave what is left alone as it is.
+use Rattle.std.proofs.Common.{◌≡◌, ◌-◌, ◌&&◌, ◌||◌, ℕ, Bool, true, false, if◌then◌else◌, List, [], ◌∷◌, codes, length, map, nat_lt, refl, sym, ap, ap₂, ◌∙◌, lit<}
+use Rattle.std.specs.Prelude.{bytes_eq}
+use Rattle.s66_line.specs.Class.{class_of}
+use Rattle.s66_line.specs.Fields.{after_word, body, from_operand, from_operation, skip_blanks, upper, word}
+use Rattle.s66_line.specs.declared.class.Class.{Class}
+use Rattle.s66_line.specs.declared.class.Class.TheVariants.{Other}
+use Rattle.s66_line.proofs.UpperCase.{kept, length-upper, same-comment, same-continues, same-location, same-operand, same-operation, upper-after_word, upper-from_operation, upper-if, upper-skip_blanks, upper-trim, upper-twice, upper-word, upper_byte-twice}
+use Rattle.s66_source.proofs.ReadBack.{class_of_body}
+use Rattle.s66_source.specs.Counts.{counting_operand, is_covering}
+use Rattle.s66_source.specs.LeftAlone.{Flagged, after_body, after_line, class_at, is_alone, is_continued, is_directive, is_switch, is_off_switch, is_on_switch, is_refused, flagged_from, with_operation}
+use Rattle.s66_source.specs.declared.standing.Standing.{Standing}
+
+-- CLASSES
+
+same-body : (after : Bool) (line : List ℕ) → class_of_body after (upper line) ≡ class_of_body after line
+same-body after line = rw (same-comment line, same-continues line, same-location line, same-operation line, same-operand line) refl
+
+same-class : (after : Bool) (line : List ℕ) → class_of after (upper line) ≡ class_of after line
+same-class after line = ap (class_of_body after) (upper-trim line) ∙ same-body after (body line)
+
+-- WORDS
+
+same-word : (line : List ℕ) → upper (word (upper line)) ≡ upper (word line)
+same-word line = ap upper (upper-word line) ∙ upper-twice (word line)
+
+upper-next_word : (line : List ℕ) → skip_blanks (after_word (upper line)) ≡ upper (skip_blanks (after_word line))
+upper-next_word line = ap skip_blanks (upper-after_word line) ∙ upper-skip_blanks (after_word line)
+
+same-switch : (second line : List ℕ) → is_switch second (upper line) ≡ is_switch second line
+same-switch second line =
+    ap₂ (λ first next. bytes_eq first (codes "*S66") && bytes_eq next second) (same-word line) (ap (λ l. upper (word l)) (upper-next_word line) ∙ same-word (skip_blanks (after_word line)))
+
+same-directive : (line : List ℕ) → is_directive (upper line) ≡ is_directive line
+same-directive [] = refl
+same-directive (s ∷ []) = refl
+same-directive (s ∷ b ∷ line) = rw (kept s 42 (lit< tt), upper_byte-twice b) refl
+
+-- WHAT AN OPERATION COVERS
+
+upper-from_operand : (line : List ℕ) → from_operand (upper line) ≡ upper (from_operand line)
+upper-from_operand line = ap (λ l. skip_blanks (after_word l)) (upper-from_operation line) ∙ upper-next_word (from_operation line)
+
+same-counting : (line : List ℕ) → upper (counting_operand (upper line)) ≡ upper (counting_operand line)
+same-counting line =
+    let rest : List ℕ = from_operand line in
+    let near : Bool = nat_lt (length line - length rest) 29 in
+    ap (λ r. upper (if nat_lt (length (upper line) - length r) 29 then word r else [])) (upper-from_operand line)
+    ∙ ap₂ (λ m n. upper (if nat_lt (m - n) 29 then word (upper rest) else [])) (length-upper line) (length-upper rest)
+    ∙ upper-if near (word (upper rest)) []
+    ∙ ap (λ operand. if near then operand else []) (same-word rest)
+    ∙ sym (upper-if near (word rest) [])
+
+same-with_operation : (cut : Bool) (s : Standing) (line : List ℕ) → with_operation cut s (upper line) ≡ with_operation cut s line
+same-with_operation cut s line = rw (same-comment line, same-continues line, same-operation line, same-counting line) refl
+
+-- WHAT STANDS after a line
+
+same-after_body : (cut : Bool) (s : Standing) (line : List ℕ) → after_body cut s (upper line) ≡ after_body cut s line
+same-after_body cut s line =
+    ap (λ (t : Standing). record t { off = if is_on_switch (upper line) then false else (s.off || is_off_switch (upper line)) }) (same-with_operation cut s line)
+    ∙ ap₂ (λ on off. record (with_operation cut s line) { off = if on then false else (s.off || off) }) (same-switch (codes "ON") line) (same-switch (codes "OFF") line)
+
+same-after : (cut : Bool) (s : Standing) (line : List ℕ) → after_line cut s (upper line) ≡ after_line cut s line
+same-after cut s line = ap (after_body cut s) (upper-trim line) ∙ same-after_body cut s (body line)
+
+-- WHAT IS LEFT ALONE
+
+abbrev held_by : Bool → Standing → Bool → Bool → Bool → Bool
+held_by cut s continued off directive = s.off || (off || (cut && (nat_lt 0 s.bodies || (is_covering s.cover || (continued || directive)))))
+
+abbrev body_alone : Bool → Standing → Bool → List ℕ → Class → Bool
+body_alone cut s continued line c = held_by cut s continued (is_off_switch line) (is_directive line) || (cut && is_refused c)
+
+same-alone : (cut : Bool) (s : Standing) (line : List ℕ) (continued : Bool) → is_alone cut s (upper line) continued ≡ is_alone cut s line continued
+same-alone cut s line continued =
+    ap₂ (body_alone cut s continued) (upper-trim line) (same-class true line)
+    ∙ ap₂ (λ off directive. held_by cut s continued off directive || (cut && is_refused (class_of true line))) (same-switch (codes "OFF") (body line)) (same-directive (body line))
+
+same-continued : (lines : List (List ℕ)) → is_continued (map upper lines) ≡ is_continued lines
+same-continued [] = refl
+same-continued (line ∷ lines) = same-continues line
+
+abbrev pub upper_flagged : Flagged → Flagged
+upper_flagged line = record { alone = line.alone; bytes = upper line.bytes }
+
+pub same-class_at : (after : Bool) (line : Flagged) → class_at after (upper_flagged line) ≡ class_at after line
+same-class_at after line = ap (λ c. if line.alone then Other else c) (same-class after line.bytes)
+
+pub upper-flagged : (cut : Bool) (s : Standing) (lines : List (List ℕ)) → flagged_from cut s (map upper lines) ≡ map upper_flagged (flagged_from cut s lines)
+upper-flagged cut s [] = refl
+upper-flagged cut s (line ∷ lines) =
+    let alone = same-alone cut s line (is_continued (map upper lines)) ∙ ap (is_alone cut s line) (same-continued lines) in
+    let rest = ap (λ t. flagged_from cut t (map upper lines)) (same-after cut s line) ∙ upper-flagged cut (after_line cut s line) lines in
+    ap₂ (λ is ls. record { alone = is; bytes = upper line } ∷ ls) alone rest

@@ -1,0 +1,13 @@
+use Rattle.std.proofs.Common.{◌≡◌, ◌≤◌, drop, min, true}
+use Rattle.s66_isa.specs.Lists.{every}
+use Rattle.s66_source.specs.Counts.{is_decimal, spelled_after}
+use Rattle.s66_source.specs.declared.limits.TheConstants.{SOURCE_LINES_LIMIT}
+use Rattle.s66_source.proofs.counts.capped_number.Given as goal
+
+-- the digits so far, capped, and then those of the rest spell the number of all, capped
+abbrev pub invariant-loop-digit : goal.invariant-loop-digit
+invariant-loop-digit l = record {
+  capped : min (spelled_after l.number (drop l.digit-index l.digits)) SOURCE_LINES_LIMIT ≡ min (spelled_after 0 l.digits) SOURCE_LINES_LIMIT;
+  few : l.number ≤ SOURCE_LINES_LIMIT;
+  digits : every is_decimal (drop l.digit-index l.digits) ≡ true;
+}

@@ -1,0 +1,123 @@
+-- To be believed: which lines an operation of the assembler covers that counts the lines after it.
+use Rattle.std.specs.Prelude.{ℕ, zero, suc, Bool, true, false, ◌&&◌, ◌||◌, ◌==◌, ◌+◌, ◌*◌, ◌-◌, if◌then◌else◌, min, max, List, [], ◌∷◌, Option, None, Some, codes, length, nat_le, nat_lt, bytes_eq}
+use Rattle.s66_isa.specs.Lists.{every, some_of}
+use Rattle.s66_line.specs.Fields.{from_operand, word}
+use Rattle.s66_source.specs.declared.cover.Cover.{Cover}
+use Rattle.s66_source.specs.declared.cover.Cover.TheVariants.{Nothing, Lines, ToItsEnd}
+use Rattle.s66_source.specs.declared.limits.TheConstants.{SOURCE_LINES_LIMIT}
+
+-- NAMES, in upper case
+
+abbrev pub is_one_of : List (List ℕ) → List ℕ → Bool
+is_one_of names word = some_of (λ name. bytes_eq word name) names
+
+-- those that end a part which an IF, a SKIP, an ELSE, a DUP or an ECHO covers
+abbrev pub range_ends : List (List ℕ)
+range_ends = codes "ENDD" ∷ codes "ENDIF" ∷ codes "END" ∷ codes "IDENT" ∷ []
+
+-- COUNT
+abbrev pub counted_alone : List (List ℕ)
+counted_alone =
+    codes "SKIP" ∷ codes "ELSE" ∷ codes "IFCP" ∷ codes "IFCP6" ∷ codes "IFCP7" ∷ codes "IFPP" ∷ codes "IFPP6" ∷ codes "IFPP7" ∷ []
+
+-- REPETITIONS,COUNT or EXPRESSION,COUNT
+abbrev pub counted_after_one : List (List ℕ)
+counted_after_one = codes "DUP" ∷ codes "IFPL" ∷ codes "IFMI" ∷ []
+
+-- EXPRESSION,EXPRESSION,COUNT or ATTRIBUTE,SYMBOL,COUNT
+abbrev pub counted_after_two : List (List ℕ)
+counted_after_two =
+    codes "IF" ∷ codes "IFEQ" ∷ codes "IFNE" ∷ codes "IFGT" ∷ codes "IFGE" ∷ codes "IFLT" ∷ codes "IFLE" ∷ []
+
+-- COUNTS
+
+abbrev pub is_decimal : ℕ → Bool
+is_decimal b = nat_le 48 b && nat_le b 57
+
+-- one digit or more, and nothing else
+abbrev pub is_numeral : List ℕ → Bool
+is_numeral [] = false
+is_numeral (b ∷ bytes) = every is_decimal (b ∷ bytes)
+
+-- the number that digits spell after those that spell n
+abbrev pub spelled_after : ℕ → List ℕ → ℕ
+spelled_after n [] = n
+spelled_after n (b ∷ bytes) = spelled_after (10 * n + (b - 48)) bytes
+
+abbrev pub lines_covered : ℕ → Cover
+lines_covered zero = Nothing
+lines_covered (suc n) = Lines (suc n)
+
+-- an absent count, or 0, covers nothing; one that is no numeral is not known
+abbrev pub cover_by_count : List ℕ → Cover
+cover_by_count [] = Nothing
+cover_by_count (b ∷ bytes) =
+    if is_numeral (b ∷ bytes) then lines_covered (min (spelled_after 0 (b ∷ bytes)) SOURCE_LINES_LIMIT) else ToItsEnd
+
+-- PARTS OF AN OPERAND
+
+-- the bytes before the first comma
+abbrev pub before_comma : List ℕ → List ℕ
+before_comma [] = []
+before_comma (b ∷ bytes) = if b == 44 then [] else b ∷ before_comma bytes
+
+-- those after the first comma
+abbrev pub after_comma : List ℕ → List ℕ
+after_comma [] = []
+after_comma (b ∷ bytes) = if b == 44 then bytes else after_comma bytes
+
+-- those after the first such byte, if there is one
+abbrev pub after_byte : ℕ → List ℕ → Option (List ℕ)
+after_byte d [] = None
+after_byte d (b ∷ bytes) = if b == d then Some bytes else after_byte d bytes
+
+-- of what follows the strings of an IFC
+abbrev pub cover_after_strings : Option (List ℕ) → Cover
+cover_after_strings None = ToItsEnd
+cover_after_strings (Some []) = Nothing
+cover_after_strings (Some (b ∷ count)) = if b == 44 then cover_by_count count else ToItsEnd
+
+-- of what follows the first string, whose ends this byte marks
+abbrev pub cover_after_string : ℕ → Option (List ℕ) → Cover
+cover_after_string d None = ToItsEnd
+cover_after_string d (Some rest) = cover_after_strings (after_byte d rest)
+
+-- OPERATOR,/STRING/STRING/,COUNT, in which another byte may be in the place of the three that are alike
+abbrev pub cover_by_strings : List ℕ → Cover
+cover_by_strings [] = ToItsEnd
+cover_by_strings (d ∷ rest) = cover_after_string d (after_byte d rest)
+
+-- an operand that begins before column 30, in which a remark may begin
+abbrev pub counting_operand : List ℕ → List ℕ
+counting_operand line = if nat_lt (length line - length (from_operand line)) 29 then word (from_operand line) else []
+
+-- WHAT AN OPERATION COVERS, by its name in upper case and its operand
+
+abbrev pub cover_of : List ℕ → List ℕ → Cover
+cover_of name operand =
+    if is_one_of counted_alone name then cover_by_count operand
+    else (if is_one_of counted_after_one name then cover_by_count (after_comma operand)
+    else (if is_one_of counted_after_two name then cover_by_count (after_comma (after_comma operand))
+    else (if bytes_eq name (codes "ECHO") then cover_by_count (before_comma operand)
+    else (if bytes_eq name (codes "IFC") then cover_by_strings (after_comma operand)
+    else Nothing))))
+
+-- WHAT IS STILL COVERED after one line more
+
+abbrev pub is_covering : Cover → Bool
+is_covering Nothing = false
+is_covering cover = true
+
+-- after a line, by whether its operation ends a part
+abbrev pub count_down : Cover → Bool → Cover
+count_down Nothing ends = Nothing
+count_down (Lines n) ends = lines_covered (n - 1)
+count_down ToItsEnd ends = if ends then Nothing else ToItsEnd
+
+-- what covers more
+abbrev pub longer : Cover → Cover → Cover
+longer ToItsEnd other = ToItsEnd
+longer cover ToItsEnd = ToItsEnd
+longer Nothing other = other
+longer cover Nothing = cover
+longer (Lines m) (Lines n) = Lines (max m n)

@@ -1,0 +1,171 @@
+ghost use Rattle.std.specs.Prelude.{ℕ, List, ◌≡◌, ◌≤◌, map, min, true, Some, None, option_map, length};
+ghost use Rattle.std.specs.Borrow.{Bor};
+ghost use Rattle.s66_isa.specs.Lists.{every};
+ghost use Rattle.s66_source.specs.Counts.{after_byte, after_comma, before_comma, counting_operand, cover_after_string, cover_after_strings, cover_by_count, cover_by_strings, cover_of, is_decimal, is_numeral, is_one_of, spelled_after};
+ghost use Rattle.s66_source.specs.declared.limits.TheConstants.{SOURCE_LINES_LIMIT};
+
+use crate::cover::Cover;
+use crate::limits::SOURCE_LINES_LIMIT;
+use memchr::memchr;
+use s66_line::{from_operand, split_word};
+
+/// The operations that end a part which an `IF`, a `SKIP`, an `ELSE`, a `DUP` or an `ECHO` covers.
+pub const RANGE_ENDS: [&[u8]; 4] = [b"ENDD", b"ENDIF", b"END", b"IDENT"];
+
+/// The operations whose operand is a count.
+const COUNTED_ALONE: [&[u8]; 8] = [
+    b"SKIP", b"ELSE", b"IFCP", b"IFCP6", b"IFCP7", b"IFPP", b"IFPP6", b"IFPP7",
+];
+
+/// Those of which the count comes after one comma.
+const COUNTED_AFTER_ONE: [&[u8]; 3] = [b"DUP", b"IFPL", b"IFMI"];
+
+/// Those of which it comes after two.
+const COUNTED_AFTER_TWO: [&[u8]; 7] = [b"IF", b"IFEQ", b"IFNE", b"IFGT", b"IFGE", b"IFLT", b"IFLE"];
+
+/// Column 30, from 0: a remark may begin there if there is no operand.
+const REMARK_COLUMN: usize = 29;
+
+/// Whether a word is one of these.
+pub fn is_one_of(names: &[&[u8]], word: &[u8]) -> bool
+    ensures { result ≡ is_one_of (map (λ (name : Bor (List ℕ)). name.now) names.now) word.now }
+{
+    for name in names {
+        if word == *name {
+            return true;
+        }
+    }
+    false
+}
+
+pub fn is_decimal_digit(byte: u8) -> bool
+    ensures { result ≡ is_decimal byte }
+{
+    byte >= b'0' && byte <= b'9'
+}
+
+/// Whether all bytes are digits.
+pub fn are_digits(bytes: &[u8]) -> bool
+    ensures { result ≡ every is_decimal bytes.now }
+{
+    for byte in bytes {
+        if !is_decimal_digit(*byte) {
+            return false;
+        }
+    }
+    true
+}
+
+fn is_numeral(bytes: &[u8]) -> bool
+    ensures { result ≡ is_numeral bytes.now }
+{
+    !bytes.is_empty() && are_digits(bytes)
+}
+
+/// The number that these digits spell, or `SOURCE_LINES_LIMIT` if that is less.
+fn capped_number(digits: &[u8]) -> u32
+    requires { every is_decimal digits.now ≡ true }
+    ensures { result ≡ min (spelled_after 0 digits.now) SOURCE_LINES_LIMIT }
+{
+    let mut number: u32 = 0;
+    for digit in digits {
+        number = (10 * number + (*digit - b'0') as u32).min(SOURCE_LINES_LIMIT);
+    }
+    number
+}
+
+fn cover_by_count(count: &[u8]) -> Cover
+    ensures { result ≡ cover_by_count count.now }
+{
+    if count.is_empty() {
+        Cover::Nothing
+    } else if is_numeral(count) {
+        Cover::of_lines(capped_number(count))
+    } else {
+        Cover::ToItsEnd
+    }
+}
+
+/// The bytes after the first such byte, if there is one.
+fn after_byte(delimiter: u8, bytes: &[u8]) -> Option<&[u8]>
+    ensures { option_map (λ rest. rest.now) result ≡ after_byte delimiter bytes.now }
+{
+    let at = memchr(delimiter, bytes)?;
+    Some(&bytes[at + 1..])
+}
+
+/// The bytes after the first comma; none if there is no comma.
+fn after_comma(bytes: &[u8]) -> &[u8]
+    ensures { result.now ≡ after_comma bytes.now }
+{
+    match after_byte(b',', bytes) {
+        Some(rest) => rest,
+        None => &[],
+    }
+}
+
+/// The bytes before the first comma, or all.
+fn before_comma(bytes: &[u8]) -> &[u8]
+    ensures { result.now ≡ before_comma bytes.now }
+{
+    match memchr(b',', bytes) {
+        Some(comma) => &bytes[..comma],
+        None => bytes,
+    }
+}
+
+/// What an `IFC` covers, by what comes after its second string.
+fn cover_after_strings(rest: Option<&[u8]>) -> Cover
+    ensures { result ≡ cover_after_strings (option_map (λ rest. rest.now) rest.entry) }
+{
+    match rest {
+        None => Cover::ToItsEnd,
+        Some([]) => Cover::Nothing,
+        Some([b',', count @ ..]) => cover_by_count(count),
+        Some(_) => Cover::ToItsEnd,
+    }
+}
+
+/// What an `IFC` covers, by its two strings, which begin and end in one byte, and its count.
+fn cover_by_strings(strings: &[u8]) -> Cover
+    ensures { result ≡ cover_by_strings strings.now }
+{
+    let [delimiter, rest @ ..] = strings else {
+        return Cover::ToItsEnd;
+    };
+    match after_byte(*delimiter, rest) {
+        None => Cover::ToItsEnd,
+        Some(second) => cover_after_strings(after_byte(*delimiter, second)),
+    }
+}
+
+/// The operand of a line that is no comment, if it begins before column 30.
+pub fn counting_operand(line: &[u8]) -> &[u8]
+    ensures { result.now ≡ counting_operand line.now }
+{
+    let rest = from_operand(line);
+    if line.len() - rest.len() >= REMARK_COLUMN {
+        return &[];
+    }
+    let (operand, _) = split_word(rest);
+    operand
+}
+
+/// What an operation covers, by its name in upper case and its operand.
+pub fn cover_of(name: &[u8], operand: &[u8]) -> Cover
+    ensures { result ≡ cover_of name.now operand.now }
+{
+    if is_one_of(&COUNTED_ALONE, name) {
+        cover_by_count(operand)
+    } else if is_one_of(&COUNTED_AFTER_ONE, name) {
+        cover_by_count(after_comma(operand))
+    } else if is_one_of(&COUNTED_AFTER_TWO, name) {
+        cover_by_count(after_comma(after_comma(operand)))
+    } else if name == b"ECHO".as_slice() {
+        cover_by_count(before_comma(operand))
+    } else if name == b"IFC".as_slice() {
+        cover_by_strings(after_comma(operand))
+    } else {
+        Cover::Nothing
+    }
+}

@@ -1,0 +1,206 @@
+ghost use Rattle.std.specs.Prelude.{◌≡◌, ◌≤◌, ◌<◌, suc, true, bytes_eq, length};
+ghost use Rattle.s66_line.specs.Class.{IsSpelled, is_code};
+ghost use Rattle.s66_line.specs.Fields.{body, from_operation, label_bytes, upper};
+ghost use Rattle.s66_source.specs.LeftAlone.{after_line, after_operation, at_first, bodies_after, class_at, is_alone, is_directive, is_held, is_switch};
+ghost use Rattle.s66_line.specs.declared.limits.TheConstants.{LINE_BYTES_LIMIT, TEXT_LIMIT};
+ghost use Rattle.s66_source.specs.declared.limits.TheConstants.{SOURCE_LINES_LIMIT};
+
+use crate::counts::{RANGE_ENDS, counting_operand, cover_of, is_one_of};
+use crate::cover::Cover;
+use s66_line::{
+    Class, Classified, body_of, classify, fields_of, is_comment_line, is_continuation,
+    operation_and_operand, split_word, upper_case,
+};
+
+/// The operations that begin a definition.
+pub const DEFINITIONS: [&[u8]; 3] = [b"MACRO", b"MACROE", b"OPDEF"];
+
+/// What stands from one line of a source to the next.
+#[derive(Clone, Copy, Debug, PartialEq, Eq)]
+pub struct Standing {
+    /// Whether a switch `*S66 OFF` came before, and no switch `*S66 ON` after it.
+    pub off: bool,
+    /// How many definitions are open.
+    pub bodies: u32,
+    /// What is still covered by a count.
+    pub cover: Cover,
+}
+
+/// Whether a word is this name, which is in upper case and short, but for the case of its letters.
+fn is_name(word: &[u8], name: &[u8]) -> bool
+    requires { length name.now ≤ TEXT_LIMIT }
+    ensures { result ≡ bytes_eq (upper word.now) name.now }
+{
+    word.len() == name.len() && upper_case(word).as_slice() == name
+}
+
+/// Whether a body is a switch: a comment from column 1 that begins with `*S66` and this second word.
+pub fn is_switch(body: &[u8], second: &[u8]) -> bool
+    requires { length second.now ≤ TEXT_LIMIT }
+    ensures { result ≡ is_switch second.now body.now }
+{
+    let (first, next) = operation_and_operand(body);
+    is_name(first, b"*S66") && is_name(next, second)
+}
+
+/// Whether a body is a directive: a comment whose star is directly followed by a letter.
+pub fn is_directive(body: &[u8]) -> bool
+    ensures { result ≡ is_directive body.now }
+{
+    match body {
+        [b'*', byte, ..] => byte.is_ascii_alphabetic(),
+        _ => false,
+    }
+}
+
+/// How many definitions are open after an operation, whose name is in upper case, if `bodies` were before it.
+fn bodies_after(bodies: u32, name: &[u8]) -> u32
+    requires { bodies < SOURCE_LINES_LIMIT }
+    ensures { result ≡ bodies_after bodies name.now }
+{
+    if is_one_of(&DEFINITIONS, name) {
+        bodies + 1
+    } else if name == b"ENDM".as_slice() {
+        bodies.saturating_sub(1)
+    } else {
+        bodies
+    }
+}
+
+const LEFT_ALONE: Classified<'static> = Classified {
+    class: Class::Other,
+    label: &[],
+    bytes: &[],
+};
+
+impl Standing {
+    /// Before the first line.
+    pub fn at_first() -> Standing
+        ensures { result ≡ at_first }
+    {
+        Standing {
+            off: false,
+            bodies: 0,
+            cover: Cover::Nothing,
+        }
+    }
+
+    /// Whether the next line is left alone for what comes before and after it, and for being a switch or a directive.
+    fn holds(&self, cut: bool, line: &[u8], continued: bool) -> bool
+        ensures { result ≡ is_held cut self.now line.now continued }
+    {
+        let body = body_of(line);
+        self.off
+            || is_switch(body, b"OFF")
+            || cut
+                && (self.bodies > 0 || self.cover.is_covering() || continued || is_directive(body))
+    }
+
+    /// The next line with its class, by whether the line directly before it is code, and whether the line after it continues it.
+    pub fn classify<'a>(
+        &self,
+        cut: bool,
+        after_code: bool,
+        line: &'a [u8],
+        continued: bool,
+    ) -> Classified<'a>
+        requires { length line.now ≤ LINE_BYTES_LIMIT }
+        ensures class { result.class ≡ class_at after_code (record { alone = is_alone cut self.now line.now continued; bytes = line.now }) }
+        ensures label { is_code result.class ≡ true → result.label.now ≡ label_bytes (body line.now) }
+        ensures bytes { is_code result.class ≡ true → result.bytes.now ≡ from_operation (body line.now) }
+        ensures spelled { IsSpelled result.class result.bytes.now }
+        ensures few { length result.bytes.now ≤ TEXT_LIMIT }
+    {
+        if self.holds(cut, line, continued) {
+            return LEFT_ALONE;
+        }
+        let classified = classify(after_code, line);
+        if cut && matches!(classified.class, Class::Refused) {
+            return LEFT_ALONE;
+        }
+        classified
+    }
+
+    /// After an operation, whose name and operand are in upper case.
+    fn pass_operation(&mut self, name: &[u8], operand: &[u8])
+        requires { self.old.bodies < SOURCE_LINES_LIMIT }
+        ensures { self.new ≡ after_operation self.old name.now operand.now }
+    {
+        let left = self.cover.count_down(is_one_of(&RANGE_ENDS, name));
+        self.cover = if self.bodies == 0 {
+            left.longer(&cover_of(name, operand))
+        } else {
+            left
+        };
+        self.bodies = bodies_after(self.bodies, name);
+    }
+
+    /// Passes a line.
+    pub fn pass(&mut self, cut: bool, line: &[u8])
+        requires few { length line.now ≤ LINE_BYTES_LIMIT }
+        requires bodies { self.old.bodies < SOURCE_LINES_LIMIT }
+        ensures { self.new ≡ after_line cut self.old line.now }
+    {
+        let body = body_of(line);
+        let off = !is_switch(body, b"ON") && (self.off || is_switch(body, b"OFF"));
+        if cut && !is_comment_line(body) && !is_continuation(body) {
+            let (operation, _) = split_word(fields_of(body).from_operation);
+            let operand = counting_operand(body);
+            self.pass_operation(
+                upper_case(operation).as_slice(),
+                upper_case(operand).as_slice(),
+            );
+        }
+        self.off = off;
+    }
+
+    /// Passes a line, and returns it with its class, as `classify` does. Code that isn't left alone changes nothing.
+    fn take_standing<'a>(
+        &mut self,
+        cut: bool,
+        after_code: bool,
+        line: &'a [u8],
+        continued: bool,
+    ) -> Classified<'a>
+        requires few { length line.now ≤ LINE_BYTES_LIMIT }
+        requires bodies { self.old.bodies < SOURCE_LINES_LIMIT }
+        ensures class { result.class ≡ class_at after_code (record { alone = is_alone cut self.old line.now continued; bytes = line.now }) }
+        ensures label { is_code result.class ≡ true → result.label.now ≡ label_bytes (body line.now) }
+        ensures bytes { is_code result.class ≡ true → result.bytes.now ≡ from_operation (body line.now) }
+        ensures spelled { IsSpelled result.class result.bytes.now }
+        ensures few { length result.bytes.now ≤ TEXT_LIMIT }
+        ensures after { self.new ≡ after_line cut self.old line.now }
+        ensures bodies { self.new.bodies ≤ suc self.old.bodies }
+    {
+        let classified = self.classify(cut, after_code, line, continued);
+        if !classified.class.is_code() {
+            self.pass(cut, line);
+        }
+        classified
+    }
+
+    /// Passes a line, and returns it with its class, as `classify` does. Most lines are read without `--cut` and after no switch
+    /// `OFF`: then a switch alone is left alone, or changes what stands.
+    pub(crate) fn take<'a>(
+        &mut self,
+        cut: bool,
+        after_code: bool,
+        line: &'a [u8],
+        continued: bool,
+    ) -> Classified<'a>
+        requires few { length line.now ≤ LINE_BYTES_LIMIT }
+        requires bodies { self.old.bodies < SOURCE_LINES_LIMIT }
+        ensures class { result.class ≡ class_at after_code (record { alone = is_alone cut self.old line.now continued; bytes = line.now }) }
+        ensures label { is_code result.class ≡ true → result.label.now ≡ label_bytes (body line.now) }
+        ensures bytes { is_code result.class ≡ true → result.bytes.now ≡ from_operation (body line.now) }
+        ensures spelled { IsSpelled result.class result.bytes.now }
+        ensures few { length result.bytes.now ≤ TEXT_LIMIT }
+        ensures after { self.new ≡ after_line cut self.old line.now }
+        ensures bodies { self.new.bodies ≤ suc self.old.bodies }
+    {
+        if cut || self.off || is_directive(line) {
+            return self.take_standing(cut, after_code, line, continued);
+        }
+        classify(after_code, line)
+    }
+}
