@@ -1,69 +1,99 @@
 -- The first refusal of what is stated of a source is the source's.
-use Rattle.std.proofs.Common.{◌≡◌, ℕ, suc, Bool, true, false, if◌then◌else◌, List, [], ◌∷◌, ◌++◌, Option, None, Some, refl, ap, ◌∙◌, subst}
-use Rattle.std.specs.Prelude.{Ok}
-use Rattle.s66_line.specs.Fields.{body, continues, lines_of, operand, operation, upper}
-use Rattle.s66_lint.specs.Findings.{Stated, TooLong, TooManyLines, Found, counts_lines, finding_of, findings_text, first_refusal, is_slip, is_too_long, stated, stated_from, stated_line, stated_lines, stated_of}
-use Rattle.s66_source.specs.Source.{blocks_of, classed_lines, classes_from, label_after, operand_refusal, or_else, place_after, refusal, run_after, source_of, unless_refused}
+use Rattle.std.proofs.Common.{◌≡◌, ◌+◌, ℕ, zero, suc, Bool, true, false, if◌then◌else◌, List, [], ◌∷◌, ◌++◌, take, drop, Option, None, Some, refl, sym, ap, ◌∙◌, arith, append_assoc}
+use Rattle.std.specs.Prelude.{Ok, nat_lt}
+use Rattle.std.proofs.lemmas.Bool.{lt-ltb, le-ltb}
 use Rattle.s66_line.specs.Class.{class_of, is_code}
+use Rattle.s66_line.specs.Fields.{body}
 use Rattle.s66_line.specs.declared.class.Class.{Class}
 use Rattle.s66_line.specs.declared.class.Class.TheVariants.{Comment, Other, Refused, Pad, Instruction}
+use Rattle.s66_source.specs.LeftAlone.{Flagged, class_at, flagged_lines, plain}
+use Rattle.s66_source.specs.Source.{blocks_of, classed_lines, classes_from, label_after, operand_refusal, or_else, place_after, refusal, run_after, source_of, unless_refused}
 use Rattle.s66_source.specs.declared.error.SourceError.{SourceError}
-use Rattle.s66_source.specs.declared.error.SourceError.TheVariants.{LineTooLong, TooLarge}
-use Rattle.s66_lint.specs.declared.findings.Finding.TheVariants.{NotAnInstruction, CountsLines}
+use Rattle.s66_source.specs.declared.error.SourceError.TheVariants as error
 use Rattle.s66_source.specs.declared.limits.TheConstants.{SOURCE_LINES_LIMIT}
-use Rattle.std.specs.Prelude.{nat_lt}
+use Rattle.s66_lint.specs.Findings.{Seen, ahead_of, is_too_long, labels_in, lines_within, may_continue, seen_from}
+use Rattle.s66_lint.specs.Stated.{Stated, TooLong, TooManyLines, Found, findings_text, first_refusal, refusal_stated, stated, stated_from, stated_line, stated_lines, stated_of, stated_past}
+use Rattle.s66_lint.specs.Parts.{is_sight_refused}
+use Rattle.s66_lint.specs.declared.sight.Sight.{Sight}
+use Rattle.s66_lint.specs.declared.sight.Sight.TheVariants as sight
+use Rattle.s66_lint.proofs.StatedLines.{no-refusal}
 
--- a slip, or what counts lines, is no refusal
-no-refusal : (t u v : Bool) (number : ℕ) (line : List ℕ) (rest : List Stated) →
-    first_refusal rest ≡ first_refusal (stated_of number (if t then None else (if u then Some NotAnInstruction else (if v then Some CountsLines else None))) line ++ rest)
-no-refusal true u v number line rest = refl
-no-refusal false true v number line rest = refl
-no-refusal false false true number line rest = refl
-no-refusal false false false number line rest = refl
+-- A LINE WITHIN THE LIMIT
 
-by-class : (c : Class) (number : ℕ) (line : List ℕ) (r : Option SourceError) (rest : List Stated) → r ≡ first_refusal rest →
-    or_else (operand_refusal number c) r ≡ first_refusal (stated_of number (finding_of c line) line ++ rest)
-by-class Comment number line r rest h = h
-by-class Other number line r rest h =
-    h ∙ no-refusal (continues line) (is_slip (upper (operation line))) (counts_lines (upper (operation line)) (operand line)) number line rest
-by-class Refused number line r rest h = refl
-by-class (Pad located) number line r rest h = h
-by-class (Instruction located n) number line r rest h = h
+first-past-by : (e f g h : Option SourceError) → or_else e f ≡ None → (f ≡ None → g ≡ h) → or_else e g ≡ h
+first-past-by None f g h none more = more none
+first-past-by (Some e) f g h none more = cc
 
--- whether the line is too long, and whether it is past the limit
-by-length : (long many : Bool) (c : Class) (number : ℕ) (line : List ℕ) (r : Option SourceError) (rest : Bool → List Stated) → r ≡ first_refusal (rest (is_code c)) →
-    or_else (if long then Some (LineTooLong number) else (if many then Some TooLarge else operand_refusal number c)) r
-    ≡ first_refusal (if many then (if long then TooLong number ∷ TooManyLines ∷ [] else TooManyLines ∷ [])
-    else (if long then TooLong number ∷ [] else stated_of number (finding_of c line) line) ++ rest (if long then false else is_code c))
-by-length true true c number line r rest h = refl
-by-length true false c number line r rest h = refl
-by-length false true c number line r rest h = refl
-by-length false false c number line r rest h = by-class c number line r (rest (is_code c)) h
+-- what has no refusal is passed over
+first-past : (a b : List Stated) → first_refusal a ≡ None → first_refusal (a ++ b) ≡ first_refusal b
+first-past [] b h = refl
+first-past (t ∷ a) b h = first-past-by (refusal_stated t) (first_refusal a) (first_refusal (a ++ b)) (first_refusal b) h (first-past a b)
 
-refusal-stated : (lines : List (List ℕ)) (number run index : ℕ) (label : List ℕ) (after : Bool) →
-    refusal (classes_from number run index label after lines) ≡ first_refusal (stated_from number after lines)
-refusal-stated [] number run index label after = refl
-refusal-stated (line ∷ lines) number run index label after =
-    let c = class_of after line in
-    by-length (is_too_long line) (nat_lt SOURCE_LINES_LIMIT number) c number (body line) _ (λ next. stated_from (suc number) next lines)
-    (refusal-stated lines (suc number) (run_after run c) (place_after index c) (label_after label c line) (is_code c))
+abbrev sight_by : Bool → Bool → Class → Sight
+sight_by long alone class = if long then sight.TooLong else (if alone then sight.LeftAlone else sight.Read class)
 
-pub source-stated : (text : List ℕ) → source_of text ≡ unless_refused (first_refusal (stated text)) (blocks_of (classed_lines text))
-source-stated text = ap (λ r. unless_refused r (blocks_of (classed_lines text))) (refusal-stated (lines_of text) 1 0 0 [] false)
+abbrev seen_by : Sight → List ℕ → Seen
+seen_by s bytes = record { sight = s; body = body bytes }
 
--- NOTHING TOLD
+passed : (labels : List (List ℕ)) (class : Class) (number place : ℕ) (bytes : List ℕ) (lines : List Seen) (r : Option SourceError) (past : List Stated) → is_sight_refused (sight.Read class) ≡ false →
+    r ≡ first_refusal (stated_from labels (suc number) (place_after place class) lines ++ past) →
+    r ≡ first_refusal (stated_from labels number place (seen_by (sight.Read class) bytes ∷ lines) ++ past)
+passed labels class number place bytes lines r past none h =
+    let found = stated_of labels number place (seen_by (sight.Read class) bytes) (ahead_of lines) in
+    let more = stated_from labels (suc number) (place_after place class) lines in
+    h ∙ sym (ap first_refusal (append_assoc found more past) ∙ first-past found (more ++ past) (no-refusal labels number place class (body bytes) (ahead_of lines) none))
+
+within-limit : (labels : List (List ℕ)) (long alone : Bool) (class : Class) (number place : ℕ) (bytes : List ℕ) (more : Bool → List Seen) (r : Option SourceError) (past : List Stated) →
+    ((place : ℕ) → r ≡ first_refusal (stated_from labels (suc number) place (more (is_code (if alone then Other else class))) ++ past)) →
+    or_else (if long then Some (error.LineTooLong number) else operand_refusal number (if alone then Other else class)) r
+    ≡ first_refusal (stated_from labels number place (seen_by (sight_by long alone class) bytes ∷ more (may_continue (sight_by long alone class))) ++ past)
+within-limit labels true alone class number place bytes more r past h = refl
+within-limit labels false true class number place bytes more r past h = h (place_after place Other)
+within-limit labels false false Comment number place bytes more r past h = passed labels Comment number place bytes (more false) r past refl (h (place_after place Comment))
+within-limit labels false false Other number place bytes more r past h = passed labels Other number place bytes (more false) r past refl (h (place_after place Other))
+within-limit labels false false Refused number place bytes more r past h = refl
+within-limit labels false false (Pad located) number place bytes more r past h = passed labels (Pad located) number place bytes (more true) r past refl (h (place_after place (Pad located)))
+within-limit labels false false (Instruction located n) number place bytes more r past h =
+    passed labels (Instruction located n) number place bytes (more true) r past refl (h (place_after place (Instruction located n)))
+
+-- ALL LINES
+
+past-limit : (long : Bool) (number : ℕ) (class : Class) (r : Option SourceError) → number ≡ suc SOURCE_LINES_LIMIT →
+    or_else (if long then Some (error.LineTooLong number) else (if nat_lt SOURCE_LINES_LIMIT number then Some error.TooLarge else operand_refusal number class)) r
+    ≡ first_refusal (if long then TooLong (suc SOURCE_LINES_LIMIT) ∷ TooManyLines ∷ [] else TooManyLines ∷ [])
+past-limit true number class r h = ap (λ n. Some (error.LineTooLong n)) h
+past-limit false number class r h = rw (lt-ltb SOURCE_LINES_LIMIT number (omega (arith, h))) refl
+
+refusal-stated : (labels : List (List ℕ)) (lines : List Flagged) (left number run index place : ℕ) (label : List ℕ) (after : Bool) → number + left ≡ suc SOURCE_LINES_LIMIT →
+    refusal (classes_from number run index label after lines) ≡ first_refusal (stated_from labels number place (seen_from after (take left lines)) ++ stated_past (drop left lines))
+refusal-stated labels [] zero number run index place label after h = refl
+refusal-stated labels [] (suc left) number run index place label after h = refl
+refusal-stated labels (line ∷ lines) zero number run index place label after h =
+    past-limit (is_too_long line.bytes) number (class_at after line) _ (omega (arith, h))
+refusal-stated labels (line ∷ lines) (suc left) number run index place label after h =
+    let class = class_at after line in
+    rw (le-ltb SOURCE_LINES_LIMIT number (omega (arith, h)))
+    (within-limit labels (is_too_long line.bytes) line.alone (class_of after line.bytes) number place line.bytes (λ next. seen_from next (take left lines)) _ (stated_past (drop left lines))
+    (λ next. refusal-stated labels lines left (suc number) (run_after run class) (place_after index class) next (label_after label class line.bytes) (is_code class) (omega (arith, h))))
+
+pub source-stated : (text : List ℕ) → source_of (plain text) ≡ unless_refused (first_refusal (stated text)) (blocks_of (classed_lines (plain text)))
+source-stated text =
+    ap (λ r. unless_refused r (blocks_of (classed_lines (plain text))))
+    (refusal-stated (labels_in (lines_within text)) (flagged_lines (plain text)) SOURCE_LINES_LIMIT 1 0 0 0 [] false refl)
+
+-- NOTHING STATED
 
 filled : (b : ℕ) (bytes : List ℕ) → b ∷ bytes ≡ [] → ⊥
-filled b bytes e = subst (λ (l : List ℕ). elim l as (λ _. Type 0) [ [] ↦ ⊥ | x ∷ xs ↦ Unit {0} ]) e tt
+filled b bytes e = cc
 
 begins : (t : Stated) (more : List ℕ) → stated_line t ++ more ≡ [] → ⊥
 begins (TooLong number) more e = filled _ _ e
 begins TooManyLines more e = filled _ _ e
-begins (Found number finding operation operand) more e = filled _ _ e
+begins (Found number finding line) more e = filled _ _ e
 
 none-stated : (ts : List Stated) → stated_lines ts ≡ [] → first_refusal ts ≡ None
 none-stated [] e = refl
 none-stated (t ∷ ts) e = absurd (begins t (stated_lines ts) e)
 
-pub nothing-stated : (text : List ℕ) → findings_text text ≡ [] → source_of text ≡ Ok (blocks_of (classed_lines text))
-nothing-stated text e = source-stated text ∙ ap (λ r. unless_refused r (blocks_of (classed_lines text))) (none-stated (stated text) e)
+pub nothing-stated : (text : List ℕ) → findings_text text ≡ [] → source_of (plain text) ≡ Ok (blocks_of (classed_lines (plain text)))
+nothing-stated text e = source-stated text ∙ ap (λ r. unless_refused r (blocks_of (classed_lines (plain text)))) (none-stated (stated text) e)

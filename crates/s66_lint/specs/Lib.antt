@@ -1,1 +1,4 @@
 pub mod Findings
+pub mod Stated
+pub mod Parts
+pub mod LabelSet

@@ -1,0 +1,186 @@
+-- What is stated of lines, one after the other, and whether it has a refusal.
+use Rattle.std.proofs.Common.{◌≡◌, ◌||◌, ◌&&◌, ◌≤◌, ℕ, zero, suc, length, take, drop, ◌-◌, Bool, true, false, Option, None, Some, List, [], ◌∷◌, ◌++◌, map, ◌+◌, refl, sym, ap, subst, ◌∙◌, arith, append_assoc}
+use Rattle.std.specs.Prelude.{is_some}
+use Rattle.s66_line.specs.Fields.{operand, operation, upper}
+use Rattle.s66_line.specs.declared.class.Class.{Class}
+use Rattle.s66_line.specs.declared.class.Class.TheVariants.{Comment, Other, Refused, Pad, Instruction}
+use Rattle.s66_source.specs.Counts.{counting_operand, cover_of, is_covering, is_one_of}
+use Rattle.s66_source.specs.LeftAlone.{Flagged, definitions, flagged_lines, plain}
+use Rattle.s66_source.specs.Source.{or_else, place_after}
+use Rattle.s66_source.specs.declared.error.SourceError.{SourceError}
+use Rattle.s66_source.specs.declared.limits.TheConstants.{SOURCE_LINES_LIMIT}
+use Rattle.s66_lint.specs.Findings.{Seen, ahead_of, class_seen, counts_words, findings_of_class, has_operand, is_between, is_own, is_slip, is_store, labels_in, lines_past, lines_within, may_continue, names_from, only, seen_from, sight_of, some_known}
+use Rattle.s66_lint.specs.Stated.{Stated, Found, findings_text, first_refusal, refusal_stated, stated, stated_from, stated_line, stated_lines, stated_of, stated_past}
+use Rattle.s66_lint.specs.Parts.{first_line, found_lines, flagged_by, is_sight_refused, past_stated}
+use Rattle.s66_lint.specs.declared.ahead.Ahead.{Ahead}
+use Rattle.s66_lint.specs.declared.finding.Finding.{Finding}
+use Rattle.s66_lint.specs.declared.finding.Finding.TheVariants.{BadOperand, NotAnInstruction, Directive, HasABody, StoresIntoCode, CountsWords, CountsLines}
+use Rattle.s66_lint.specs.declared.sight.Sight.{Sight}
+use Rattle.s66_lint.specs.declared.sight.Sight.TheVariants as sight
+
+-- THE TEXT
+
+pub stated-append : (a b : List Stated) → stated_lines (a ++ b) ≡ stated_lines a ++ stated_lines b
+stated-append [] b = refl
+stated-append (t ∷ a) b = ap (λ more. stated_line t ++ more) (stated-append a b) ∙ sym (append_assoc (stated_line t) (stated_lines a) (stated_lines b))
+
+-- what was stated, and then more
+pub stated-more : (out : List ℕ) (a b : List Stated) → (out ++ stated_lines a) ++ stated_lines b ≡ out ++ stated_lines (a ++ b)
+stated-more out a b = append_assoc out (stated_lines a) (stated_lines b) ∙ ap (λ more. out ++ more) (sym (stated-append a b))
+
+-- WHETHER THERE IS A REFUSAL
+
+or-else-some : (e f : Option SourceError) → is_some (or_else e f) ≡ (is_some e || is_some f)
+or-else-some (Some e) f = refl
+or-else-some None f = refl
+
+or-joined : (a b c : Bool) → ((a || b) || c) ≡ (a || (b || c))
+or-joined true b c = refl
+or-joined false b c = refl
+
+pub refused-append : (a b : List Stated) → is_some (first_refusal (a ++ b)) ≡ (is_some (first_refusal a) || is_some (first_refusal b))
+refused-append [] b = refl
+refused-append (t ∷ a) b =
+    or-else-some (refusal_stated t) (first_refusal (a ++ b)) ∙ ap (λ r. is_some (refusal_stated t) || r) (refused-append a b)
+    ∙ sym (or-joined (is_some (refusal_stated t)) (is_some (first_refusal a)) (is_some (first_refusal b)))
+    ∙ ap (λ r. r || is_some (first_refusal b)) (sym (or-else-some (refusal_stated t) (first_refusal a)))
+
+pub refused-more : (was : Bool) (a b : List Stated) → ((was || is_some (first_refusal a)) || is_some (first_refusal b)) ≡ (was || is_some (first_refusal (a ++ b)))
+refused-more was a b = or-joined was (is_some (first_refusal a)) (is_some (first_refusal b)) ∙ ap (λ r. was || r) (sym (refused-append a b))
+
+abbrev pub found_all : ℕ → List ℕ → List Finding → List Stated
+found_all number line findings = map (λ finding. Found number finding line) findings
+
+-- other findings are no refusals
+abbrev is_warning : Finding → Bool
+is_warning BadOperand = false
+is_warning finding = true
+
+skip : (number : ℕ) (line : List ℕ) (there : Bool) (finding : Finding) (more : List Finding) → is_warning finding ≡ true →
+    first_refusal (found_all number line (only there finding ++ more)) ≡ first_refusal (found_all number line more)
+skip number line false finding more h = refl
+skip number line true BadOperand more h = cc
+skip number line true NotAnInstruction more h = refl
+skip number line true Directive more h = refl
+skip number line true HasABody more h = refl
+skip number line true StoresIntoCode more h = refl
+skip number line true CountsWords more h = refl
+skip number line true CountsLines more h = refl
+
+last : (number : ℕ) (line : List ℕ) (there : Bool) → first_refusal (found_all number line (only there CountsLines)) ≡ None
+last number line true = refl
+last number line false = refl
+
+skip-all : (number : ℕ) (line : List ℕ) (a b c d e f : Bool) →
+    first_refusal (found_all number line (only a NotAnInstruction ++ (only b Directive ++ (only c HasABody ++ (only d StoresIntoCode ++ (only e CountsWords ++ only f CountsLines)))))) ≡ None
+skip-all number line a b c d e f =
+    skip number line a NotAnInstruction _ refl ∙ skip number line b Directive _ refl ∙ skip number line c HasABody _ refl ∙ skip number line d StoresIntoCode _ refl
+    ∙ skip number line e CountsWords _ refl ∙ last number line f
+
+pub no-refusal : (labels : List (List ℕ)) (number index : ℕ) (class : Class) (line : List ℕ) (ahead : Ahead) → is_sight_refused (sight.Read class) ≡ false →
+    first_refusal (found_all number line (findings_of_class labels index class line ahead)) ≡ None
+no-refusal labels number index Comment line ahead h = skip-all number line false (is_between Comment index line ahead) false false false false
+no-refusal labels number index Other line ahead h =
+    let own = is_own Other line in let name = upper (operation line) in
+    skip-all number line (own && is_slip name) false (own && (is_one_of definitions name && ahead.has_body)) false (has_operand Other line && counts_words labels name (upper (operand line)))
+    (own && is_covering (cover_of name (upper (counting_operand line))))
+no-refusal labels number index Refused line ahead h = cc
+no-refusal labels number index (Pad located) line ahead h = refl
+no-refusal labels number index (Instruction located n) line ahead h =
+    skip-all number line false false false (is_store (Instruction located n) && some_known labels (names_from [] (upper (operand line)))) (counts_words labels (upper (operation line)) (upper (operand line))) false
+
+is-refused : (labels : List (List ℕ)) (number index : ℕ) (class : Class) (line : List ℕ) (ahead : Ahead) (refused : Bool) → is_sight_refused (sight.Read class) ≡ refused →
+    is_some (first_refusal (found_all number line (findings_of_class labels index class line ahead))) ≡ refused
+is-refused labels number index Refused line ahead refused h = h
+is-refused labels number index Comment line ahead refused h = ap is_some (no-refusal labels number index Comment line ahead refl) ∙ h
+is-refused labels number index Other line ahead refused h = ap is_some (no-refusal labels number index Other line ahead refl) ∙ h
+is-refused labels number index (Pad located) line ahead refused h = ap is_some (no-refusal labels number index (Pad located) line ahead refl) ∙ h
+is-refused labels number index (Instruction located n) line ahead refused h = ap is_some (no-refusal labels number index (Instruction located n) line ahead refl) ∙ h
+
+refused-by : (labels : List (List ℕ)) (number index : ℕ) (s : Sight) (body : List ℕ) (ahead : Ahead) →
+    is_some (first_refusal (stated_of labels number index (record { sight = s; body = body }) ahead)) ≡ is_sight_refused s
+refused-by labels number index sight.TooLong body ahead = refl
+refused-by labels number index sight.LeftAlone body ahead = refl
+refused-by labels number index (sight.Read class) body ahead = is-refused labels number index class body ahead (is_sight_refused (sight.Read class)) refl
+
+pub refused_line : (labels : List (List ℕ)) (number index : ℕ) (line : Seen) (ahead : Ahead) →
+    is_some (first_refusal (stated_of labels number index line ahead)) ≡ is_sight_refused line.sight
+refused_line labels number index line ahead = refused-by labels number index line.sight line.body ahead
+
+-- PAST THE LIMIT
+
+pub past-first : (lines : List Flagged) → past_stated (first_line lines) ≡ stated_past lines
+past-first [] = refl
+past-first (line ∷ lines) = refl
+
+-- A LINE THAT IS READ
+
+read-by : (labels : List (List ℕ)) (number index : ℕ) (class : Class) (s : Sight) (line : List ℕ) (ahead : Ahead) → sight.Read class ≡ s →
+    found_lines number line (findings_of_class labels index class line ahead) ≡ stated_lines (stated_of labels number index (record { sight = s; body = line }) ahead)
+read-by labels number index class s line ahead e =
+    subst (λ t. found_lines number line (findings_of_class labels index class line ahead) ≡ stated_lines (stated_of labels number index (record { sight = t; body = line }) ahead)) e refl
+
+pub read-line : (labels : List (List ℕ)) (number index : ℕ) (class : Class) (body : List ℕ) (line : Seen) (ahead : Ahead) → sight.Read class ≡ line.sight → body ≡ line.body →
+    found_lines number body (findings_of_class labels index class body ahead) ≡ stated_lines (stated_of labels number index line ahead)
+read-line labels number index class body line ahead e f =
+    ap (λ b. found_lines number b (findings_of_class labels index class b ahead)) f ∙ read-by labels number index class line.sight line.body ahead e
+
+-- A LINE, and those after it
+
+pub stated-line : (labels : List (List ℕ)) (out : List ℕ) (n number index place : ℕ) (line : Seen) (rest : List Seen) (ahead : Ahead) → number ≡ n + 1 → ahead ≡ ahead_of rest →
+    place ≡ place_after index (class_seen line.sight) →
+    (out ++ stated_lines (stated_of labels number index line ahead)) ++ stated_lines (stated_from labels (suc number) place rest) ≡ out ++ stated_lines (stated_from labels (suc n) index (line ∷ rest))
+stated-line labels out n number index place line rest ahead e a p =
+    let next : number ≡ suc n = omega (arith, e) in
+    rw (next, a, p) (stated-more out (stated_of labels (suc n) index line (ahead_of rest)) (stated_from labels (suc (suc n)) (place_after index (class_seen line.sight)) rest))
+
+pub refused-lines : (labels : List (List ℕ)) (was : Bool) (n number index place : ℕ) (line : Seen) (rest : List Seen) (ahead : Ahead) → number ≡ n + 1 → ahead ≡ ahead_of rest →
+    place ≡ place_after index (class_seen line.sight) →
+    ((was || is_some (first_refusal (stated_of labels number index line ahead))) || is_some (first_refusal (stated_from labels (suc number) place rest)))
+    ≡ (was || is_some (first_refusal (stated_from labels (suc n) index (line ∷ rest))))
+refused-lines labels was n number index place line rest ahead e a p =
+    let next : number ≡ suc n = omega (arith, e) in
+    rw (next, a, p) (refused-more was (stated_of labels (suc n) index line (ahead_of rest)) (stated_from labels (suc (suc n)) (place_after index (class_seen line.sight)) rest))
+
+-- ALL LINES
+
+all-text : (labels : List (List ℕ)) (lines : List Seen) (past : List Flagged) →
+    stated_lines (stated_from labels 1 0 lines) ++ stated_lines (past_stated (first_line past)) ≡ stated_lines (stated_from labels 1 0 lines ++ stated_past past)
+all-text labels lines past =
+    sym (stated-append (stated_from labels 1 0 lines) (past_stated (first_line past))) ∙ ap (λ p. stated_lines (stated_from labels 1 0 lines ++ p)) (past-first past)
+
+pub findings-text : (text : List ℕ) (lines : List Seen) (past : Option (List ℕ)) → lines ≡ lines_within text → past ≡ first_line (lines_past text) →
+    stated_lines (stated_from (labels_in lines) 1 0 lines) ++ stated_lines (past_stated past) ≡ findings_text text
+findings-text text lines past e f =
+    ap (λ p. stated_lines (stated_from (labels_in lines) 1 0 lines) ++ stated_lines (past_stated p)) f
+    ∙ ap (λ (ls : List Seen). stated_lines (stated_from (labels_in ls) 1 0 ls) ++ stated_lines (past_stated (first_line (lines_past text)))) e
+    ∙ all-text (labels_in (lines_within text)) (lines_within text) (lines_past text)
+
+pub findings-refused : (text : List ℕ) (lines : List Seen) (past : Option (List ℕ)) → lines ≡ lines_within text → past ≡ first_line (lines_past text) →
+    (is_some (first_refusal (stated_from (labels_in lines) 1 0 lines)) || is_some (first_refusal (past_stated past))) ≡ is_some (first_refusal (stated text))
+findings-refused text lines past e f =
+    ap (λ p. is_some (first_refusal (stated_from (labels_in lines) 1 0 lines)) || is_some (first_refusal (past_stated p))) f
+    ∙ ap (λ (ls : List Seen). is_some (first_refusal (stated_from (labels_in ls) 1 0 ls)) || is_some (first_refusal (past_stated (first_line (lines_past text))))) e
+    ∙ sym (refused-append (stated_from (labels_in (lines_within text)) 1 0 (lines_within text)) (past_stated (first_line (lines_past text))))
+    ∙ ap (λ p. is_some (first_refusal (stated_from (labels_in (lines_within text)) 1 0 (lines_within text) ++ p))) (past-first (lines_past text))
+
+few-seen : (n : ℕ) (after : Bool) (lines : List Flagged) → length (seen_from after (take n lines)) ≤ n
+few-seen zero after lines = omega arith
+few-seen (suc n) after [] = omega arith
+few-seen (suc n) after (line ∷ lines) = let h = few-seen n (may_continue (sight_of after line)) lines in omega (arith, h)
+
+pub few-within : (text : List ℕ) → length (lines_within text) ≤ SOURCE_LINES_LIMIT
+few-within text = few-seen SOURCE_LINES_LIMIT false (flagged_lines (plain text))
+
+-- THE FIRST LINE
+
+pub first-seen : (limit : ℕ) (items : List Seen) (after off : Bool) (lines : List (List ℕ)) → items ≡ [] → after ≡ false → off ≡ false →
+    items ++ seen_from after (take (limit - length items) (flagged_by off lines)) ≡ seen_from false (take (limit - 0) (flagged_by false lines))
+first-seen limit items after off lines e f g =
+    ap (λ (is : List Seen). is ++ seen_from after (take (limit - length is) (flagged_by off lines))) e
+    ∙ ap (λ a. seen_from a (take (limit - 0) (flagged_by off lines))) f ∙ ap (λ o. seen_from false (take (limit - 0) (flagged_by o lines))) g
+
+pub first-past : (limit : ℕ) (items : List Seen) (off : Bool) (lines : List (List ℕ)) → items ≡ [] → off ≡ false →
+    first_line (drop (limit - length items) (flagged_by off lines)) ≡ first_line (drop (limit - 0) (flagged_by false lines))
+first-past limit items off lines e g =
+    ap (λ (is : List Seen). first_line (drop (limit - length is) (flagged_by off lines))) e ∙ ap (λ o. first_line (drop (limit - 0) (flagged_by o lines))) g

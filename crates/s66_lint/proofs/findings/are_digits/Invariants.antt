@@ -1,7 +1,0 @@
-use Rattle.std.proofs.Common.{◌≡◌, drop}
-use Rattle.s66_isa.specs.Lists.{every}
-use Rattle.s66_lint.specs.Findings.{is_decimal}
-use Rattle.s66_lint.proofs.findings.are_digits.Given as goal
-
-abbrev pub invariant-loop-byte : goal.invariant-loop-byte
-invariant-loop-byte l = every is_decimal (drop l.byte-index l.bytes) ≡ every is_decimal l.bytes

@@ -1,7 +1,0 @@
-use Rattle.std.proofs.Common.{ℕ, List, ◌≡◌, drop, map}
-use Rattle.std.specs.Borrow.{Bor}
-use Rattle.s66_lint.specs.Findings.{is_one_of}
-use Rattle.s66_lint.proofs.findings.is_one_of.Given as goal
-
-abbrev pub invariant-loop-name : goal.invariant-loop-name
-invariant-loop-name l = is_one_of (map (λ (name : Bor (List ℕ)). name.now) (drop l.name-index l.names)) l.word ≡ is_one_of (map (λ (name : Bor (List ℕ)). name.now) l.names) l.word
