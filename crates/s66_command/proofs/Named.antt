@@ -311,26 +311,26 @@ rules_at name = option_map_or (λ (s : Shape). s.rules) (subcommand_at name) []
 
 pub order-options : HasSearchOptions (rules_at (codes "order"))
 order-options = (
-  (inl refl, (inr refl, (inr refl, (inr refl, (inr refl, (inr refl, (inr refl, tt))))))),
-  (inr refl, (inl refl, (inr refl, (inr refl, (inr refl, (inr refl, (inr refl, tt))))))),
-  ((inr refl, (inr refl, (inr refl, (inl refl, (inr refl, (inr refl, (inr refl, tt))))))), refl),
-  ((inr refl, (inr refl, (inr refl, (inr refl, (inl refl, (inr refl, (inr refl, tt))))))), refl),
+  (inr refl, (inl refl, (inr refl, (inr refl, (inr refl, (inr refl, (inr refl, (inr refl, tt)))))))),
+  (inr refl, (inr refl, (inl refl, (inr refl, (inr refl, (inr refl, (inr refl, (inr refl, tt)))))))),
+  ((inr refl, (inr refl, (inr refl, (inr refl, (inl refl, (inr refl, (inr refl, (inr refl, tt)))))))), refl),
+  ((inr refl, (inr refl, (inr refl, (inr refl, (inr refl, (inl refl, (inr refl, (inr refl, tt)))))))), refl),
 )
 
 pub prove-options : HasSearchOptions (rules_at (codes "prove"))
 prove-options = (
-  (inl refl, (inr refl, (inr refl, (inr refl, (inr refl, (inr refl, tt)))))),
-  (inr refl, (inl refl, (inr refl, (inr refl, (inr refl, (inr refl, tt)))))),
-  ((inr refl, (inr refl, (inr refl, (inl refl, (inr refl, (inr refl, tt)))))), refl),
-  ((inr refl, (inr refl, (inr refl, (inr refl, (inl refl, (inr refl, tt)))))), refl),
+  (inr refl, (inl refl, (inr refl, (inr refl, (inr refl, (inr refl, (inr refl, tt))))))),
+  (inr refl, (inr refl, (inl refl, (inr refl, (inr refl, (inr refl, (inr refl, tt))))))),
+  ((inr refl, (inr refl, (inr refl, (inr refl, (inl refl, (inr refl, (inr refl, tt))))))), refl),
+  ((inr refl, (inr refl, (inr refl, (inr refl, (inr refl, (inl refl, (inr refl, tt))))))), refl),
 )
 
 pub sum-options : HasSearchOptions (rules_at (codes "sum"))
 sum-options = (
-  (inl refl, (inr refl, (inr refl, (inr refl, (inr refl, (inr refl, (inr refl, tt))))))),
-  (inr refl, (inl refl, (inr refl, (inr refl, (inr refl, (inr refl, (inr refl, tt))))))),
-  ((inr refl, (inr refl, (inr refl, (inl refl, (inr refl, (inr refl, (inr refl, tt))))))), refl),
-  ((inr refl, (inr refl, (inr refl, (inr refl, (inl refl, (inr refl, (inr refl, tt))))))), refl),
+  (inr refl, (inl refl, (inr refl, (inr refl, (inr refl, (inr refl, (inr refl, (inr refl, tt)))))))),
+  (inr refl, (inr refl, (inl refl, (inr refl, (inr refl, (inr refl, (inr refl, (inr refl, tt)))))))),
+  ((inr refl, (inr refl, (inr refl, (inr refl, (inl refl, (inr refl, (inr refl, (inr refl, tt)))))))), refl),
+  ((inr refl, (inr refl, (inr refl, (inr refl, (inr refl, (inl refl, (inr refl, (inr refl, tt)))))))), refl),
 )
 
 -- the rule is what the words give

@@ -5,11 +5,11 @@ use Rattle.s66_command.specs.declared.command.Command.TheVariants.{Time, Deps, C
 
 -- the text of a profile that a command has, if any
 abbrev pub profile_text : Command → Option (List ℕ)
-profile_text (Time trace profile) = option_map (λ text. text.now) profile
-profile_text Deps = None
-profile_text (Chart profile) = option_map (λ text. text.now) profile
-profile_text (Order options trace profile) = option_map (λ text. text.now) profile
-profile_text (Prove options profile) = option_map (λ text. text.now) profile
+profile_text (Time cut trace profile) = option_map (λ text. text.now) profile
+profile_text (Deps cut) = None
+profile_text (Chart cut profile) = option_map (λ text. text.now) profile
+profile_text (Order cut options trace profile) = option_map (λ text. text.now) profile
+profile_text (Prove cut options profile) = option_map (λ text. text.now) profile
 profile_text Check = None
 profile_text Lint = None
-profile_text (Sum options trace profile) = option_map (λ text. text.now) profile
+profile_text (Sum cut options trace profile) = option_map (λ text. text.now) profile

@@ -1,7 +1,7 @@
 -- To be believed: the command line, by clap's rules: the subcommands `time`, `deps`, `chart`, `order`, `prove`, `check`, `lint`
--- and `sum`, and a version. `time`, `chart`, `order`, `prove` and `sum` have the option `--profile`, the last three also
--- `--workers` and `--nodes`, and one at most of the flags `--dominate` and `--dominate-tree`. `time`, `order` and `sum` have the
--- flag `--trace`.
+-- and `sum`, and a version. All but `check` and `lint` have the flag `--cut`. `time`, `chart`, `order`, `prove` and `sum` have the
+-- option `--profile`, the last three also `--workers` and `--nodes`, and one at most of the flags `--dominate` and
+-- `--dominate-tree`. `time`, `order` and `sum` have the flag `--trace`.
 use Rattle.std.specs.Prelude.{◌≡◌, ◌≢◌, ◌⊎◌, ◌≤◌, ◌&&◌, if◌then◌else◌, ℕ, Bool, List, [], false, true, Option, None, Some, codes, option_and_then, pos}
 use Rattle.std.specs.Borrow.{Bor}
 use Rattle.std.specs.Option.{option_map, option_map_or}
@@ -30,6 +30,9 @@ use Rattle.s66_command.specs.declared.usage.Usage.TheVariants.{Help, Bad, OutOfM
 abbrev pub flag_rule : Text → Rule
 flag_rule name = record (new_rule name) { long = Some name; action = Some SetTrue }
 
+abbrev pub cut_rule : Rule
+cut_rule = flag_rule (codes "cut")
+
 abbrev pub trace_rule : Rule
 trace_rule = flag_rule (codes "trace")
 
@@ -53,19 +56,23 @@ nodes_rule = number_rule (codes "nodes") 0 BUDGET_LIMIT
 abbrev pub profile_rule : Rule
 profile_rule = record (new_rule (codes "profile")) { long = Some (codes "profile"); value_names = 1 }
 
+-- a subcommand that reads a source and may refuse it
+abbrev pub source_app : Text → App
+source_app name = with_rule (new_app name) cut_rule
+
 abbrev pub time_app : App
-time_app = with_rule (with_rule (new_app (codes "time")) profile_rule) trace_rule
+time_app = with_rule (with_rule (source_app (codes "time")) profile_rule) trace_rule
 
 abbrev pub deps_app : App
-deps_app = new_app (codes "deps")
+deps_app = source_app (codes "deps")
 
 abbrev pub chart_app : App
-chart_app = with_rule (new_app (codes "chart")) profile_rule
+chart_app = with_rule (source_app (codes "chart")) profile_rule
 
 -- a subcommand that searches, and may leave out what is dominated
 abbrev pub search_app : Text → App
 search_app name =
-    let counted = with_rule (with_rule (new_app name) workers_rule) nodes_rule in
+    let counted = with_rule (with_rule (source_app name) workers_rule) nodes_rule in
     with_rule (with_rule (with_rule counted profile_rule) dominate_rule) dominate_tree_rule
 
 abbrev pub order_app : App
@@ -149,17 +156,26 @@ GivesSearch words options =
 abbrev pub GivesProfile : List Text → Option (Bor Text) → Type 0
 GivesProfile words profile = option_map (λ text. text.now) profile ≡ plain_text (codes "profile") words
 
+-- they give it the flag of this name, or don't
+abbrev pub GivesFlag : (name : Text) → List Text → Bool → Type 0
+GivesFlag name words flag = flag ≡ has_option name words
+
 -- they ask for the command
 abbrev pub Asks : List Text → Command → Type 0
-Asks words (Time trace profile) = AsksFor words (codes "time") × (trace ≡ has_option (codes "trace") words) × GivesProfile words profile
-Asks words Deps = AsksFor words (codes "deps")
-Asks words (Chart profile) = AsksFor words (codes "chart") × GivesProfile words profile
-Asks words (Order options trace profile) =
-    AsksFor words (codes "order") × GivesSearch words options × (trace ≡ has_option (codes "trace") words) × GivesProfile words profile
-Asks words (Prove options profile) = AsksFor words (codes "prove") × GivesSearch words options × GivesProfile words profile
+Asks words (Time cut trace profile) =
+    AsksFor words (codes "time") × GivesFlag (codes "cut") words cut × GivesFlag (codes "trace") words trace × GivesProfile words profile
+Asks words (Deps cut) = AsksFor words (codes "deps") × GivesFlag (codes "cut") words cut
+Asks words (Chart cut profile) = AsksFor words (codes "chart") × GivesFlag (codes "cut") words cut × GivesProfile words profile
+Asks words (Order cut options trace profile) =
+    AsksFor words (codes "order") × GivesFlag (codes "cut") words cut × GivesSearch words options × GivesFlag (codes "trace") words trace
+    × GivesProfile words profile
+Asks words (Prove cut options profile) =
+    AsksFor words (codes "prove") × GivesFlag (codes "cut") words cut × GivesSearch words options × GivesProfile words profile
 Asks words Check = AsksFor words (codes "check")
 Asks words Lint = AsksFor words (codes "lint")
-Asks words (Sum options trace profile) = AsksFor words (codes "sum") × GivesSearch words options × (trace ≡ has_option (codes "trace") words) × GivesProfile words profile
+Asks words (Sum cut options trace profile) =
+    AsksFor words (codes "sum") × GivesFlag (codes "cut") words cut × GivesSearch words options × GivesFlag (codes "trace") words trace
+    × GivesProfile words profile
 
 -- a kind of error that is no mistake
 abbrev pub IsHelp : ErrorKind → Type 0

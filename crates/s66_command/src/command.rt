@@ -5,20 +5,29 @@ use s66_model::Options;
 pub enum Command<'a> {
     /// The times of each block of a source, as it was written.
     Time {
+        /// Whether lines that can't be read, and what a macro, a directive or a count covers, are left alone.
+        cut: bool,
         /// Whether the times of each instruction are printed.
         trace: bool,
         /// The text of the profile, if it isn't the standard one.
         profile: Option<&'a str>,
     },
     /// On which instructions each instruction of a block depends.
-    Deps,
+    Deps {
+        /// Whether lines that can't be read, and what a macro, a directive or a count covers, are left alone.
+        cut: bool,
+    },
     /// A chart of each block of a source, as it was written.
     Chart {
+        /// Whether lines that can't be read, and what a macro, a directive or a count covers, are left alone.
+        cut: bool,
         /// The text of the profile, if it isn't the standard one.
         profile: Option<&'a str>,
     },
     /// Each block of a source in the best order that was found.
     Order {
+        /// Whether lines that can't be read, and what a macro, a directive or a count covers, are left alone.
+        cut: bool,
         /// How the orders of each block are searched.
         options: Options,
         /// Whether the number of splits is printed.
@@ -28,6 +37,8 @@ pub enum Command<'a> {
     },
     /// A document for each block of a source: an order, its time, a bound, and a tree that shows the bound.
     Prove {
+        /// Whether lines that can't be read, and what a macro, a directive or a count covers, are left alone.
+        cut: bool,
         /// How the orders of each block are searched.
         options: Options,
         /// The text of the profile, if it isn't the standard one.
@@ -37,6 +48,8 @@ pub enum Command<'a> {
     Check,
     /// How long each block of a source takes in the best order that was found, and all of them.
     Sum {
+        /// Whether lines that can't be read, and what a macro, a directive or a count covers, are left alone.
+        cut: bool,
         /// How the orders of each block are searched.
         options: Options,
         /// Whether the numbers of splits are printed.
@@ -58,11 +71,11 @@ impl<'a> Command<'a> {
     {
         match self {
             Command::Time { profile, .. }
-            | Command::Chart { profile }
+            | Command::Chart { profile, .. }
             | Command::Order { profile, .. }
             | Command::Prove { profile, .. }
             | Command::Sum { profile, .. } => profile,
-            Command::Deps | Command::Check | Command::Lint => None,
+            Command::Deps { .. } | Command::Check | Command::Lint => None,
         }
     }
 }

@@ -2,7 +2,7 @@ ghost use Rattle.std.specs.Prelude.{◌≡◌, IfOk, IfErr, List, map};
 ghost use Rattle.clap.specs.Words.{Text, app_of, found_of, kind_of, new_app};
 ghost use Rattle.clap.specs.declared.error.kind.ErrorKind.TheVariants.{ArgumentConflict};
 ghost use Rattle.s66_command.specs.FoundOptions.{AreNodesFound, AreOptionsFound, AreWorkersFound};
-ghost use Rattle.s66_command.specs.Usage.{Asks, IsArgumentOf, IsCommandOf, IsUsageOf, Refuses, chart_app, check_app, deps_app, flag_rule, lint_app, nodes_rule, order_app, profile_rule, prove_app, rule_unless_both, s66_app, search_app, sum_app, time_app, workers_rule};
+ghost use Rattle.s66_command.specs.Usage.{Asks, IsArgumentOf, IsCommandOf, IsUsageOf, Refuses, chart_app, check_app, deps_app, flag_rule, lint_app, nodes_rule, order_app, profile_rule, prove_app, rule_unless_both, s66_app, search_app, source_app, sum_app, time_app, workers_rule};
 ghost use Rattle.s66_command.specs.declared.usage.Usage.TheVariants.{OutOfMemory};
 
 use crate::command::Command as Asked;
@@ -115,7 +115,7 @@ const CHECK_ENDING: &str = help_ending!(
 const LINT_ENDING: &str = "\
 Example: s66 lint < SOURCE
 
-Status: 0 done, 2 usage, 4 out of memory, 5 some line is listed, 6 a read or write failed";
+Status: 0 done, 2 usage, 4 out of memory, 5 some line is refused, 6 a read or write failed, 8 other lines alone are listed";
 
 const PROFILE_HELP: &str = "\
 The timing profile, a JSON object; what it does not name is standard, and {} is the standard profile.
@@ -130,6 +130,9 @@ const NODES_HELP: &str = "\
 The most splits of a block's search, 0 to 1000000 [default: 100000]
 
 A split divides all orders with one beginning by the instruction that comes next.";
+
+const CUT_HELP: &str =
+    "Leaves alone, rather than refuses, lines that can't be read, and code that directives, macros or counts cover";
 
 const DOMINATE_HELP: &str = "Leaves out beginnings of orders that an earlier one dominates";
 
@@ -207,30 +210,43 @@ fn described<'a>(
         .after_help(ending)
 }
 
+/// A subcommand that reads a source and may refuse it.
+fn source_command<'a>(
+    alloc: Global,
+    name: &'a str,
+    about: &'a str,
+    usage: &'a str,
+    ending: &'a str,
+) -> Result<Command<'a>, AllocError>
+    ensures { IfOk result (IsCommandOf (source_app name.entry.now)) }
+{
+    described(alloc, name, about, usage, ending).arg(flag(alloc, "cut", CUT_HELP))
+}
+
 /// The subcommand `time`.
 fn time_command<'a>(alloc: Global) -> Result<Command<'a>, AllocError>
     ensures { IfOk result (IsCommandOf time_app) }
 {
-    described(
+    source_command(
         alloc,
         "time",
         "Times each block of a source as it was written",
         "s66 time [OPTIONS] < SOURCE",
         TIME_ENDING,
-    )
+    )?
     .arg(profile_option(alloc))?
     .arg(flag(alloc, "trace", "Prints the times of each instruction"))
 }
 
 /// The subcommand `deps`.
-fn deps_command<'a>(alloc: Global) -> Command<'a>
-    ensures { IsCommandOf deps_app result }
+fn deps_command<'a>(alloc: Global) -> Result<Command<'a>, AllocError>
+    ensures { IfOk result (IsCommandOf deps_app) }
 {
-    described(
+    source_command(
         alloc,
         "deps",
         "Prints on what each instruction of a block depends",
-        "s66 deps < SOURCE",
+        "s66 deps [OPTIONS] < SOURCE",
         DEPS_ENDING,
     )
 }
@@ -239,13 +255,13 @@ fn deps_command<'a>(alloc: Global) -> Command<'a>
 fn chart_command<'a>(alloc: Global) -> Result<Command<'a>, AllocError>
     ensures { IfOk result (IsCommandOf chart_app) }
 {
-    described(
+    source_command(
         alloc,
         "chart",
         "Draws each block of a source as it was written",
         "s66 chart [OPTIONS] < SOURCE",
         CHART_ENDING,
-    )
+    )?
     .arg(profile_option(alloc))
 }
 
@@ -259,7 +275,7 @@ fn search_command<'a>(
 ) -> Result<Command<'a>, AllocError>
     ensures { IfOk result (IsCommandOf (search_app name.entry.now)) }
 {
-    described(alloc, name, about, usage, ending)
+    source_command(alloc, name, about, usage, ending)?
         .arg(workers_option(alloc))?
         .arg(nodes_option(alloc))?
         .arg(profile_option(alloc))?
@@ -350,7 +366,7 @@ fn program<'a>(alloc: Global) -> Result<Command<'a>, AllocError>
         )
         .subcommand_required(true)
         .subcommand(time_command(alloc)?)?
-        .subcommand(deps_command(alloc))?
+        .subcommand(deps_command(alloc)?)?
         .subcommand(chart_command(alloc)?)?
         .subcommand(order_command(alloc)?)?
         .subcommand(prove_command(alloc)?)?
@@ -420,11 +436,15 @@ pub fn command_of<'a, S: AsStr>(alloc: Global, words: &'a [S]) -> Result<Asked<'
     };
     match matches.subcommand() {
         Some(("time", time)) => Ok(Asked::Time {
+            cut: time.get_flag("cut"),
             trace: time.get_flag("trace"),
             profile: time.get_str("profile"),
         }),
-        Some(("deps", _)) => Ok(Asked::Deps),
+        Some(("deps", deps)) => Ok(Asked::Deps {
+            cut: deps.get_flag("cut"),
+        }),
         Some(("chart", chart)) => Ok(Asked::Chart {
+            cut: chart.get_flag("cut"),
             profile: chart.get_str("profile"),
         }),
         Some(("order", order)) => {
@@ -432,6 +452,7 @@ pub fn command_of<'a, S: AsStr>(alloc: Global, words: &'a [S]) -> Result<Asked<'
                 return Err(both_given(alloc, order_command(alloc)?));
             };
             Ok(Asked::Order {
+                cut: order.get_flag("cut"),
                 options,
                 trace: order.get_flag("trace"),
                 profile: order.get_str("profile"),
@@ -442,6 +463,7 @@ pub fn command_of<'a, S: AsStr>(alloc: Global, words: &'a [S]) -> Result<Asked<'
                 return Err(both_given(alloc, prove_command(alloc)?));
             };
             Ok(Asked::Prove {
+                cut: prove.get_flag("cut"),
                 options,
                 profile: prove.get_str("profile"),
             })
@@ -453,6 +475,7 @@ pub fn command_of<'a, S: AsStr>(alloc: Global, words: &'a [S]) -> Result<Asked<'
                 return Err(both_given(alloc, sum_command(alloc)?));
             };
             Ok(Asked::Sum {
+                cut: sum.get_flag("cut"),
                 options,
                 trace: sum.get_flag("trace"),
                 profile: sum.get_str("profile"),

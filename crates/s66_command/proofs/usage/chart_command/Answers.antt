@@ -5,5 +5,4 @@ use Rattle.s66_command.proofs.usage.chart_command.Goals as goal
 
 pub returns : goal.returns
 returns c =
-    let ended = c.described.ensures in
-    IfOk-weaker c.arg.result _ (IsCommandOf chart_app) (λ r adds. with-arg _ profile_rule c.described.result r c.profile_option.result ended c.profile_option.ensures.0 c.profile_option.ensures.1 adds) c.arg.ensures
+    IfOk-weaker c.arg.result _ (IsCommandOf chart_app) (λ r adds. with-arg _ profile_rule c.in_ok-source_command.field-0 r c.profile_option.result c.in_ok-source_command.ensures c.profile_option.ensures.0 c.profile_option.ensures.1 adds) c.arg.ensures

@@ -40,7 +40,8 @@ returns-in-Some-time-default-clause-ok g c =
     let found = found_of c.in-Some-time-default.time.now in
     let here = matched m words found _ is asks.1 refl c.in-Some-time-default.ensures.rows in (
       asks,
-      flag-of words found c.get_flag.result _ (codes "trace") here ((inr refl, (inl refl, (inr refl, tt))), refl) (c.get_flag.ensures.value, c.get_flag.ensures.other),
+      flag-of words found c.get_flag.result _ (codes "cut") here ((inl refl, (inr refl, (inr refl, (inr refl, tt)))), refl) (c.get_flag.ensures.value, c.get_flag.ensures.other),
+      flag-of words found c.get_flag-in-Some-time-default.result _ (codes "trace") here ((inr refl, (inr refl, (inl refl, (inr refl, tt)))), refl) (c.get_flag-in-Some-time-default.ensures.value, c.get_flag-in-Some-time-default.ensures.other),
       profile-of words found _ c.get_str.result here c.get_str.ensures,
     )
 
@@ -49,7 +50,12 @@ returns-in-Some-deps-default-clause-ok g c =
     let words = map g.S.AsStr.text c.args.words.now in
     let m = c.in-Ok.matches in
     let is = taken m (app_of c.in_ok-program.field-0) words c.in_ok-program.ensures c.in-Ok.ensures.kinds c.in-Ok.ensures.matches in
-    asks-for m words c.in-Some-deps-default.field-0-0.now (codes "deps") is c.in-Some-deps-default.ensures.name c.in-Some-deps-default.is-deps
+    let asks = asks-for m words c.in-Some-deps-default.field-0-0.now (codes "deps") is c.in-Some-deps-default.ensures.name c.in-Some-deps-default.is-deps in
+    let found = found_of c.in-Some-deps-default.deps.now in
+    let here = matched m words found _ is asks.1 refl c.in-Some-deps-default.ensures.rows in (
+      asks,
+      flag-of words found c.get_flag-in-Some-deps-default.result _ (codes "cut") here ((inl refl, (inr refl, tt)), refl) (c.get_flag-in-Some-deps-default.ensures.value, c.get_flag-in-Some-deps-default.ensures.other),
+    )
 
 pub returns-in-Some-chart-default-clause-ok : goal.returns-in-Some-chart-default-clause-ok
 returns-in-Some-chart-default-clause-ok g c =
@@ -58,8 +64,11 @@ returns-in-Some-chart-default-clause-ok g c =
     let is = taken m (app_of c.in_ok-program.field-0) words c.in_ok-program.ensures c.in-Ok.ensures.kinds c.in-Ok.ensures.matches in
     let asks = asks-for m words c.in-Some-chart-default.field-0-0.now (codes "chart") is c.in-Some-chart-default.ensures.name c.in-Some-chart-default.is-chart in
     let found = found_of c.in-Some-chart-default.chart.now in
-    let here = matched m words found _ is asks.1 refl c.in-Some-chart-default.ensures.rows in
-    (asks, profile-of words found _ c.get_str-in-Some-chart-default.result here c.get_str-in-Some-chart-default.ensures)
+    let here = matched m words found _ is asks.1 refl c.in-Some-chart-default.ensures.rows in (
+      asks,
+      flag-of words found c.get_flag-in-Some-chart-default.result _ (codes "cut") here ((inl refl, (inr refl, (inr refl, tt))), refl) (c.get_flag-in-Some-chart-default.ensures.value, c.get_flag-in-Some-chart-default.ensures.other),
+      profile-of words found _ c.get_str-in-Some-chart-default.result here c.get_str-in-Some-chart-default.ensures,
+    )
 
 pub returns-in-Some-order-default-clause-ok : goal.returns-in-Some-order-default-clause-ok
 returns-in-Some-order-default-clause-ok g c =
@@ -70,8 +79,9 @@ returns-in-Some-order-default-clause-ok g c =
     let found = found_of c.in-Some-order-default.order.now in
     let here = matched m words found _ is asks.1 refl c.in-Some-order-default.ensures.rows in (
       asks,
+      flag-of words found c.get_flag-in-Some-order-default.result _ (codes "cut") here ((inl refl, (inr refl, (inr refl, (inr refl, (inr refl, (inr refl, (inr refl, (inr refl, tt)))))))), refl) (c.get_flag-in-Some-order-default.ensures.value, c.get_flag-in-Some-order-default.ensures.other),
       search-of words found c.in-Some.options _ here order-options c.in-Some.ensures,
-      flag-of words found c.get_flag-in-Some-order-default.result _ (codes "trace") here ((inr refl, (inr refl, (inr refl, (inr refl, (inr refl, (inl refl, (inr refl, tt))))))), refl) (c.get_flag-in-Some-order-default.ensures.value, c.get_flag-in-Some-order-default.ensures.other),
+      flag-of words found c.get_flag-in-Some-order-default-2.result _ (codes "trace") here ((inr refl, (inr refl, (inr refl, (inr refl, (inr refl, (inr refl, (inl refl, (inr refl, tt)))))))), refl) (c.get_flag-in-Some-order-default-2.ensures.value, c.get_flag-in-Some-order-default-2.ensures.other),
       profile-of words found _ c.get_str-in-Some-order-default.result here c.get_str-in-Some-order-default.ensures,
     )
 
@@ -94,6 +104,7 @@ returns-in-Some-prove-default-clause-ok g c =
     let found = found_of c.in-Some-prove-default.prove.now in
     let here = matched m words found _ is asks.1 refl c.in-Some-prove-default.ensures.rows in (
       asks,
+      flag-of words found c.get_flag-in-Some-prove-default.result _ (codes "cut") here ((inl refl, (inr refl, (inr refl, (inr refl, (inr refl, (inr refl, (inr refl, tt))))))), refl) (c.get_flag-in-Some-prove-default.ensures.value, c.get_flag-in-Some-prove-default.ensures.other),
       search-of words found c.in-Some-options_in.options _ here prove-options c.in-Some-options_in.ensures,
       profile-of words found _ c.get_str-in-Some-prove-default.result here c.get_str-in-Some-prove-default.ensures,
     )
@@ -131,8 +142,9 @@ returns-in-Some-sum-default-clause-ok g c =
     let found = found_of c.in-Some-sum-default.sum.now in
     let here = matched m words found _ is asks.1 refl c.in-Some-sum-default.ensures.rows in (
       asks,
+      flag-of words found c.get_flag-in-Some-sum-default.result _ (codes "cut") here ((inl refl, (inr refl, (inr refl, (inr refl, (inr refl, (inr refl, (inr refl, (inr refl, tt)))))))), refl) (c.get_flag-in-Some-sum-default.ensures.value, c.get_flag-in-Some-sum-default.ensures.other),
       search-of words found c.in-Some-options_in-2.options _ here sum-options c.in-Some-options_in-2.ensures,
-      flag-of words found c.get_flag-in-Some-sum-default.result _ (codes "trace") here ((inr refl, (inr refl, (inr refl, (inr refl, (inr refl, (inl refl, (inr refl, tt))))))), refl) (c.get_flag-in-Some-sum-default.ensures.value, c.get_flag-in-Some-sum-default.ensures.other),
+      flag-of words found c.get_flag-in-Some-sum-default-2.result _ (codes "trace") here ((inr refl, (inr refl, (inr refl, (inr refl, (inr refl, (inr refl, (inl refl, (inr refl, tt)))))))), refl) (c.get_flag-in-Some-sum-default-2.ensures.value, c.get_flag-in-Some-sum-default-2.ensures.other),
       profile-of words found _ c.get_str-in-Some-sum-default.result here c.get_str-in-Some-sum-default.ensures,
     )
 

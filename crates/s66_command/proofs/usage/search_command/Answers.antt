@@ -5,8 +5,7 @@ use Rattle.s66_command.proofs.usage.search_command.Goals as goal
 
 pub returns : goal.returns
 returns c =
-    let ended = c.described.ensures in
-    let with-workers = with-arg _ workers_rule c.described.result c.in_ok-arg.field-0 c.workers_option.result ended c.workers_option.ensures.0 c.workers_option.ensures.1 c.in_ok-arg.ensures in
+    let with-workers = with-arg _ workers_rule c.in_ok-source_command.field-0 c.in_ok-arg.field-0 c.workers_option.result c.in_ok-source_command.ensures c.workers_option.ensures.0 c.workers_option.ensures.1 c.in_ok-arg.ensures in
     let with-nodes = with-arg _ nodes_rule c.in_ok-arg.field-0 c.in_ok-arg-2.field-0 c.nodes_option.result with-workers c.nodes_option.ensures.0 c.nodes_option.ensures.1 c.in_ok-arg-2.ensures in
     let with-profile = with-arg _ profile_rule c.in_ok-arg-2.field-0 c.in_ok-arg-3.field-0 c.profile_option.result with-nodes c.profile_option.ensures.0 c.profile_option.ensures.1 c.in_ok-arg-3.ensures in
     let with-dominate = with-arg _ dominate_rule c.in_ok-arg-3.field-0 c.in_ok-arg-4.field-0 c.flag.result with-profile c.flag.ensures.0 c.flag.ensures.1 c.in_ok-arg-4.ensures in

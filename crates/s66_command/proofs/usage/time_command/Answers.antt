@@ -5,6 +5,5 @@ use Rattle.s66_command.proofs.usage.time_command.Goals as goal
 
 pub returns : goal.returns
 returns c =
-    let ended = c.described.ensures in
-    let with-profile = with-arg _ profile_rule c.described.result c.in_ok-arg.field-0 c.profile_option.result ended c.profile_option.ensures.0 c.profile_option.ensures.1 c.in_ok-arg.ensures in
+    let with-profile = with-arg _ profile_rule c.in_ok-source_command.field-0 c.in_ok-arg.field-0 c.profile_option.result c.in_ok-source_command.ensures c.profile_option.ensures.0 c.profile_option.ensures.1 c.in_ok-arg.ensures in
     IfOk-weaker c.arg-2.result _ (IsCommandOf time_app) (λ r adds. with-arg _ trace_rule c.in_ok-arg.field-0 r c.flag.result with-profile c.flag.ensures.0 c.flag.ensures.1 adds) c.arg-2.ensures
