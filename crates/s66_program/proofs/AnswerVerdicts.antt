@@ -8,6 +8,7 @@ use Rattle.s66_isa.proofs.Profiles.{profile_of-entries}
 use Rattle.s66_isa.specs.declared.limits.TheConstants.{BLOCK_LIMIT}
 use Rattle.s66_line.specs.Block.{instrs_of, text_of, Block}
 use Rattle.s66_line.specs.InstructionText.{Spells, instr_in_text}
+use Rattle.s66_source.specs.LeftAlone.{Reading}
 use Rattle.s66_source.specs.Source.{source_of}
 use Rattle.s66_source.proofs.SpelledLaw.{some, few, spelled}
 use Rattle.s66_model.specs.Answer.{Answer, IsAnswer}
@@ -31,7 +32,7 @@ instr-in : (text : List ℕ) (n : Instr) → Spells text n → instr_in_text tex
 instr-in text n spells = rw spells refl
 
 -- each block of an accepted source is spelled
-pub spelled-block : (text : List ℕ) (blocks : List Block) → source_of text ≡ Ok blocks → (block : Block) → Among block blocks → IsSpelledBlock block
+pub spelled-block : (source : Reading) (blocks : List Block) → source_of source ≡ Ok blocks → (block : Block) → Among block blocks → IsSpelledBlock block
 spelled-block text blocks accepted block among =
     (some text blocks block accepted among, few text blocks block accepted among, spelled text blocks block accepted among)
 

@@ -10,11 +10,11 @@ search-within : (words : List Text) (options : Options) → GivesSearch words op
 search-within words options h = (h.1, h.2, h.4)
 
 pub asked-within : (words : List Text) (command : Command) → Asks words command → IsWithin command
-asked-within words (Time trace profile) h = tt
-asked-within words Deps h = tt
-asked-within words (Chart profile) h = tt
-asked-within words (Order options trace profile) h = search-within words options h.1
-asked-within words (Prove options profile) h = search-within words options h.1
+asked-within words (Time cut trace profile) h = tt
+asked-within words (Deps cut) h = tt
+asked-within words (Chart cut profile) h = tt
+asked-within words (Order cut options trace profile) h = search-within words options h.2
+asked-within words (Prove cut options profile) h = search-within words options h.2
 asked-within words Check h = tt
 asked-within words Lint h = tt
-asked-within words (Sum options trace profile) h = search-within words options h.1
+asked-within words (Sum cut options trace profile) h = search-within words options h.2

@@ -4,6 +4,7 @@ use Rattle.s66_isa.specs.declared.profile.Profile.{Profile}
 use Rattle.s66_isa.specs.Lists.{Among, every}
 use Rattle.s66_isa.specs.declared.limits.TheConstants.{BLOCK_LIMIT}
 use Rattle.s66_line.specs.Block.{Block}
+use Rattle.s66_source.specs.LeftAlone.{Reading}
 use Rattle.s66_model.specs.declared.rule.Rule.{Rule}
 use Rattle.s66_model.specs.Answer.{Answer}
 use Rattle.s66_cert.specs.declared.limits.TheConstants.{SPLIT_LIMIT}
@@ -47,10 +48,10 @@ module _ (rule : Rule) (p : Profile) (nodes : ℕ) (within : nodes ≤ SPLIT_LIM
   all-yes (block ∷ blocks) (a ∷ answers) spelled are =
       ap₂ (λ v rest. is_yes v && rest) (verdict-of_answer rule p block nodes a (spelled block (inl refl)) within are.0) (all-yes blocks answers (λ b among. spelled b (inr among)) are.1)
 
-  module _ (input text : List ℕ) (status : Status) where
-    pub checked-yes : IsProveOutput rule p nodes input text status → (lines : List ℕ) × AreYesLines rule p nodes input text lines × IsCheckOutput text lines Done
+  module _ (source : Reading) (text : List ℕ) (status : Status) where
+    pub checked-yes : IsProveOutput rule p nodes source text status → (lines : List ℕ) × AreYesLines rule p nodes source text lines × IsCheckOutput text lines Done
     checked-yes (blocks, accepted, (answers, are, is, ends)) =
-        let spelled : AreSpelled blocks = spelled-block input blocks accepted in (
+        let spelled : AreSpelled blocks = spelled-block source blocks accepted in (
           yes_lines 0 answers,
           (blocks, accepted, (answers, are, is, refl)),
           (
@@ -61,9 +62,9 @@ module _ (rule : Rule) (p : Profile) (nodes : ℕ) (within : nodes ≤ SPLIT_LIM
           ),
         )
 
-    pub checked-alone : (lines : List ℕ) (checked : Status) → IsProveOutput rule p nodes input text status → IsCheckOutput text lines checked → AreYesLines rule p nodes input text lines × (checked ≡ Done)
+    pub checked-alone : (lines : List ℕ) (checked : Status) → IsProveOutput rule p nodes source text status → IsCheckOutput text lines checked → AreYesLines rule p nodes source text lines × (checked ≡ Done)
     checked-alone lines checked (blocks, accepted, (answers, are, is, ends)) (ds, read, are-verdicts, so) =
-        let spelled : AreSpelled blocks = spelled-block input blocks accepted in
+        let spelled : AreSpelled blocks = spelled-block source blocks accepted in
         let text-is : IsText BLOCK_LIMIT text (all_documents rule p blocks answers) = (documents-are blocks answers spelled are, is) in
         let same : ds ≡ all_documents rule p blocks answers = one-list BLOCK_LIMIT BLOCK_LIMIT SPLIT_LIMIT SPLIT_LIMIT text ds (all_documents rule p blocks answers) (omega arith) (omega arith) read text-is in (
           (blocks, accepted, (answers, are, is, are-verdicts ∙ ap (verdict_lines 0) same ∙ lines-are 0 blocks answers spelled are)),

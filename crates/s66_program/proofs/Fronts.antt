@@ -1,11 +1,13 @@
 -- A text that is too long is refused as a source for what is in its front, whatever follows.
-use Rattle.std.proofs.Common.{◌≡◌, ◌≤◌, ◌<◌, ◌+◌, ◌*◌, ℕ, suc, Bool, true, false, if◌then◌else◌, List, [], ◌∷◌, ◌++◌, Option, Some, Err, inl, inr, length, refl, ap, arith}
-use Rattle.std.specs.Prelude.{◌==◌}
+use Rattle.std.proofs.Common.{◌≡◌, ◌≤◌, ◌<◌, ◌+◌, ◌*◌, ℕ, suc, Bool, true, false, if◌then◌else◌, List, [], ◌∷◌, ◌++◌, Option, None, Some, Err, inl, inr, length, refl, sym, ap, ap₂, ◌∙◌, subst, arith}
+use Rattle.std.specs.Prelude.{◌==◌, ◌||◌}
 use Rattle.std.proofs.lemmas.List.{length-append}
 use Rattle.std.proofs.lemmas.Bool.{cases_lt, le-ltb, lt-ltb}
-use Rattle.s66_line.specs.Fields.{lines_from}
+use Rattle.s66_line.specs.Fields.{body, continues, is_comment, lines_from, operand, operation, upper}
+use Rattle.s66_source.specs.LeftAlone.{Flagged, after_line, at_first, class_at, is_alone, is_continued, is_held, is_refused, flagged_from}
+use Rattle.s66_source.specs.declared.standing.Standing.{Standing}
 use Rattle.s66_source.specs.Source.{blocks_of, classed_lines, classes_from, label_after, operand_refusal, or_else, place_after, refusal, run_after, source_of, unless_refused}
-use Rattle.s66_line.specs.Class.{class_of, is_code}
+use Rattle.s66_line.specs.Class.{by_operation, class_of, is_code, is_located}
 use Rattle.s66_line.specs.declared.class.Class.{Class}
 use Rattle.s66_line.specs.declared.class.Class.TheVariants.{Comment, Other, Refused, Pad, Instruction}
 use Rattle.s66_source.specs.declared.error.SourceError.{SourceError}
@@ -18,9 +20,17 @@ use Rattle.s66_program.specs.declared.limits.TheConstants.{SOURCE_FRONT}
 abbrev AreRefused : Option SourceError → Option SourceError → Type 0
 AreRefused r r' = (e : SourceError) × (r ≡ Some e) × (r' ≡ Some e)
 
+-- what is carried from line to line
+record Carried : Type 0 where
+  run : ℕ
+  index : ℕ
+  label : List ℕ
+  after : Bool
+  standing : Standing
+
 -- the refusal of lines with these numbers and so on
-abbrev refusal-from : (number run index : ℕ) (label : List ℕ) (after : Bool) → List (List ℕ) → Option SourceError
-refusal-from number run index label after lines = refusal (classes_from number run index label after lines)
+abbrev refusal-from : Bool → ℕ → Carried → List (List ℕ) → Option SourceError
+refusal-from cut number c lines = refusal (classes_from number c.run c.index c.label c.after (flagged_from cut c.standing lines))
 
 one-of : (P : List (List ℕ) → Type 0) (t : Bool) (a b : List (List ℕ)) → P a → P b → P (if t then a else b)
 one-of P true a b x y = x
@@ -33,66 +43,127 @@ both-of P false a a' b b' x y = y
 longer : (line : List ℕ) (b : ℕ) → length (line ++ b ∷ []) ≡ length line + 1
 longer line b = length-append line (b ∷ [])
 
+-- WHAT IS REFUSED FOR ITS OPERAND, of a line that is continued or not
+
+abbrev flagged-at : Bool → Standing → List ℕ → Bool → Flagged
+flagged-at cut s line continued = record { alone = is_alone cut s line continued; bytes = line }
+
+-- with `--cut` nothing is: what would be is left alone
+by-refused : (number : ℕ) (c : Class) → operand_refusal number (if is_refused c then Other else c) ≡ None
+by-refused number Comment = refl
+by-refused number Other = refl
+by-refused number Refused = refl
+by-refused number (Pad located) = refl
+by-refused number (Instruction located n) = refl
+
+by-fields : (number : ℕ) (comment comma after : Bool) (c : Class) →
+    operand_refusal number (if is_refused (if comment then Comment else (if comma then Refused else c)) then Other
+    else (if comment then Comment else (if comma then (if after then Refused else Other) else c))) ≡ None
+by-fields number true comma after c = refl
+by-fields number false true after c = refl
+by-fields number false false after c = by-refused number c
+
+none-held : (number : ℕ) (held after : Bool) (line : List ℕ) → operand_refusal number (if held || is_refused (class_of true line) then Other else class_of after line) ≡ None
+none-held number true after line = refl
+none-held number false after line =
+    by-fields number (is_comment (body line)) (continues (body line)) after (by_operation (is_located (body line)) (upper (operation (body line))) (upper (operand (body line))))
+
+none-refused : (number : ℕ) (after continued : Bool) (s : Standing) (line : List ℕ) → operand_refusal number (class_at after (flagged-at true s line continued)) ≡ None
+none-refused number after continued s line = none-held number (is_held true s line continued) after line
+
+-- with `--cut` nothing of what is carried matters, and without it the same is carried
+abbrev Same : Bool → Carried → Carried → Type 0
+Same true c c' = Unit {0}
+Same false c c' = c ≡ c'
+
+same-operands : (cut : Bool) (c c' : Carried) (continued continued' : Bool) (line : List ℕ) (number : ℕ) → Same cut c c' →
+    operand_refusal number (class_at c.after (flagged-at cut c.standing line continued)) ≡ operand_refusal number (class_at c'.after (flagged-at cut c'.standing line continued'))
+same-operands true c c' continued continued' line number same = none-refused number c.after continued c.standing line ∙ sym (none-refused number c'.after continued' c'.standing line)
+same-operands false c c' continued continued' line number same = ap (λ (d : Carried). operand_refusal number (class_at d.after (flagged-at false d.standing line continued))) same
+
+-- what is carried after a line
+abbrev carried-after : Bool → Carried → List ℕ → Bool → Carried
+carried-after cut c line continued =
+    record {
+      run = run_after c.run (class_at c.after (flagged-at cut c.standing line continued));
+      index = place_after c.index (class_at c.after (flagged-at cut c.standing line continued));
+      label = label_after c.label (class_at c.after (flagged-at cut c.standing line continued)) line;
+      after = is_code (class_at c.after (flagged-at cut c.standing line continued));
+      standing = after_line cut c.standing line;
+    }
+
+same-after : (cut : Bool) (c c' : Carried) (continued continued' : Bool) (line : List ℕ) → Same cut c c' → Same cut (carried-after cut c line continued) (carried-after cut c' line continued')
+same-after true c c' continued continued' line same = tt
+same-after false c c' continued continued' line same = ap (λ (d : Carried). carried-after false d line continued) same
+
 -- A LINE
 
-too-long : (number run index : ℕ) (label : List ℕ) (after : Bool) (line : List ℕ) (lines : List (List ℕ)) → LINE_BYTES_LIMIT < length line →
-    refusal-from number run index label after (line ∷ lines) ≡ Some (LineTooLong number)
-too-long number run index label after line lines long = rw (lt-ltb LINE_BYTES_LIMIT (length line) long) refl
+too-long : (cut : Bool) (number : ℕ) (c : Carried) (line : List ℕ) (lines : List (List ℕ)) → LINE_BYTES_LIMIT < length line →
+    refusal-from cut number c (line ∷ lines) ≡ Some (LineTooLong number)
+too-long cut number c line lines long = rw (lt-ltb LINE_BYTES_LIMIT (length line) long) refl
 
-too-many : (number run index : ℕ) (label : List ℕ) (after : Bool) (line : List ℕ) (lines : List (List ℕ)) → length line ≤ LINE_BYTES_LIMIT → SOURCE_LINES_LIMIT < number →
-    refusal-from number run index label after (line ∷ lines) ≡ Some TooLarge
-too-many number run index label after line lines short many =
+too-many : (cut : Bool) (number : ℕ) (c : Carried) (line : List ℕ) (lines : List (List ℕ)) → length line ≤ LINE_BYTES_LIMIT → SOURCE_LINES_LIMIT < number →
+    refusal-from cut number c (line ∷ lines) ≡ Some TooLarge
+too-many cut number c line lines short many =
     rw (le-ltb LINE_BYTES_LIMIT (length line) short) (rw (lt-ltb SOURCE_LINES_LIMIT number many) refl)
 
-by-class : (c : Class) (number : ℕ) (r r' : Option SourceError) → AreRefused r r' → AreRefused (or_else (operand_refusal number c) r) (or_else (operand_refusal number c) r')
-by-class Comment number r r' h = h
-by-class Other number r r' h = h
-by-class Refused number r r' h = (BadOperand number, refl, refl)
-by-class (Pad located) number r r' h = h
-by-class (Instruction located n) number r r' h = h
+by-operand : (o o' r r' : Option SourceError) → o ≡ o' → AreRefused r r' → AreRefused (or_else o r) (or_else o' r')
+by-operand None None r r' same h = h
+by-operand None (Some e) r r' same h = cc
+by-operand (Some e) None r r' same h = cc
+by-operand (Some e) (Some e') r r' same h = (e, refl, sym same)
 
 -- a line that begins so is too long however it goes on
-long-line : (rest line : List ℕ) (number run index : ℕ) (label : List ℕ) (after : Bool) → LINE_BYTES_LIMIT < length line →
-    refusal-from number run index label after (lines_from line rest) ≡ Some (LineTooLong number)
-long-line [] [] number run index label after long = absurd (omega (arith, long))
-long-line [] (b ∷ line) number run index label after long = too-long number run index label after (b ∷ line) [] long
-long-line (b ∷ rest) line number run index label after long =
-    one-of (λ lines. refusal-from number run index label after lines ≡ Some (LineTooLong number)) (b == 10) (line ∷ lines_from [] rest) (lines_from (line ++ b ∷ []) rest)
-    (too-long number run index label after line (lines_from [] rest) long)
-    (long-line rest (line ++ b ∷ []) number run index label after (omega (arith, long, longer line b)))
+long-line : (cut : Bool) (rest line : List ℕ) (number : ℕ) (c : Carried) → LINE_BYTES_LIMIT < length line →
+    refusal-from cut number c (lines_from line rest) ≡ Some (LineTooLong number)
+long-line cut [] [] number c long = absurd (omega (arith, long))
+long-line cut [] (b ∷ line) number c long = too-long cut number c (b ∷ line) [] long
+long-line cut (b ∷ rest) line number c long =
+    one-of (λ lines. refusal-from cut number c lines ≡ Some (LineTooLong number)) (b == 10) (line ∷ lines_from [] rest) (lines_from (line ++ b ∷ []) rest)
+    (too-long cut number c line (lines_from [] rest) long)
+    (long-line cut rest (line ++ b ∷ []) number c (omega (arith, long, longer line b)))
 
 -- LINES of a front, of which line begins the first
 
-abbrev Front : (bytes rest line : List ℕ) (number run index : ℕ) (label : List ℕ) (after : Bool) → Type 0
-Front bytes rest line number run index label after =
-    AreRefused (refusal-from number run index label after (lines_from line (bytes ++ rest))) (refusal-from number run index label after (lines_from line bytes))
+abbrev Front : (cut : Bool) (bytes rest line : List ℕ) (number : ℕ) (c c' : Carried) → Type 0
+Front cut bytes rest line number c c' = AreRefused (refusal-from cut number c (lines_from line (bytes ++ rest))) (refusal-from cut number c' (lines_from line bytes))
 
 -- the first line is whole
-whole-line : (line : List ℕ) (lines lines' : List (List ℕ)) (number run index : ℕ) (label : List ℕ) (after : Bool) →
-    (length line ≤ LINE_BYTES_LIMIT → number ≤ SOURCE_LINES_LIMIT → AreRefused (refusal-from (suc number) (run_after run (class_of after line)) (place_after index (class_of after line)) (label_after label (class_of after line) line) (is_code (class_of after line)) lines) (refusal-from (suc number) (run_after run (class_of after line)) (place_after index (class_of after line)) (label_after label (class_of after line) line) (is_code (class_of after line)) lines')) →
-    AreRefused (refusal-from number run index label after (line ∷ lines)) (refusal-from number run index label after (line ∷ lines'))
-whole-line line lines lines' number run index label after later =
+whole-line : (cut : Bool) (line : List ℕ) (lines lines' : List (List ℕ)) (number : ℕ) (c c' : Carried) → Same cut c c' →
+    (length line ≤ LINE_BYTES_LIMIT → number ≤ SOURCE_LINES_LIMIT →
+    AreRefused (refusal-from cut (suc number) (carried-after cut c line (is_continued lines)) lines) (refusal-from cut (suc number) (carried-after cut c' line (is_continued lines')) lines')) →
+    AreRefused (refusal-from cut number c (line ∷ lines)) (refusal-from cut number c' (line ∷ lines'))
+whole-line cut line lines lines' number c c' same later =
     elim (cases_lt LINE_BYTES_LIMIT (length line)) [
-      | inl long ↦ (LineTooLong number, too-long number run index label after line lines long, too-long number run index label after line lines' long)
+      | inl long ↦ (LineTooLong number, too-long cut number c line lines long, too-long cut number c' line lines' long)
       | inr short ↦ elim (cases_lt SOURCE_LINES_LIMIT number) [
-        | inl many ↦ (TooLarge, too-many number run index label after line lines short many, too-many number run index label after line lines' short many)
-        | inr few ↦ rw (le-ltb LINE_BYTES_LIMIT (length line) short) (rw (le-ltb SOURCE_LINES_LIMIT number few) (by-class (class_of after line) number _ _ (later short few)))
+        | inl many ↦ (TooLarge, too-many cut number c line lines short many, too-many cut number c' line lines' short many)
+        | inr few ↦ rw (le-ltb LINE_BYTES_LIMIT (length line) short) (rw (le-ltb SOURCE_LINES_LIMIT number few)
+            (by-operand _ _ _ _ (same-operands cut c c' (is_continued lines) (is_continued lines') line number same) (later short few)))
       ]
     ]
 
-front-lines : (bytes rest line : List ℕ) (number run index : ℕ) (label : List ℕ) (after : Bool) → number ≤ SOURCE_LINES_LIMIT + 1 → SOURCE_FRONT + (LINE_BYTES_LIMIT + 1) ≤ length line + length bytes + (LINE_BYTES_LIMIT + 1) * number →
-    Front bytes rest line number run index label after
-front-lines [] rest line number run index label after few enough =
+front-lines : (cut : Bool) (bytes rest line : List ℕ) (number : ℕ) (c c' : Carried) → Same cut c c' → number ≤ SOURCE_LINES_LIMIT + 1 → SOURCE_FRONT + (LINE_BYTES_LIMIT + 1) ≤ length line + length bytes + (LINE_BYTES_LIMIT + 1) * number →
+    Front cut bytes rest line number c c'
+front-lines cut [] rest line number c c' same few enough =
     let long : LINE_BYTES_LIMIT < length line = omega (arith, few, enough) in
-    (LineTooLong number, long-line rest line number run index label after long, long-line [] line number run index label after long)
-front-lines (b ∷ bytes) rest line number run index label after few enough =
-    both-of (λ lines lines'. AreRefused (refusal-from number run index label after lines) (refusal-from number run index label after lines')) (b == 10)
+    (LineTooLong number, long-line cut rest line number c long, long-line cut [] line number c' long)
+front-lines cut (b ∷ bytes) rest line number c c' same few enough =
+    both-of (λ lines lines'. AreRefused (refusal-from cut number c lines) (refusal-from cut number c' lines')) (b == 10)
     (line ∷ lines_from [] (bytes ++ rest)) (line ∷ lines_from [] bytes) (lines_from (line ++ b ∷ []) (bytes ++ rest)) (lines_from (line ++ b ∷ []) bytes)
-    (whole-line line (lines_from [] (bytes ++ rest)) (lines_from [] bytes) number run index label after
-    (λ short below. front-lines bytes rest [] (suc number) _ _ _ _ (omega (arith, below)) (omega (arith, short, enough))))
-    (front-lines bytes rest (line ++ b ∷ []) number run index label after few (omega (arith, enough, longer line b)))
+    (whole-line cut line (lines_from [] (bytes ++ rest)) (lines_from [] bytes) number c c' same
+    (λ short below. front-lines cut bytes rest [] (suc number) _ _ (same-after cut c c' _ _ line same) (omega (arith, below)) (omega (arith, short, enough))))
+    (front-lines cut bytes rest (line ++ b ∷ []) number c c' same few (omega (arith, enough, longer line b)))
 
-pub front-refused : (front rest : List ℕ) → SOURCE_FRONT ≤ length front → (e : SourceError) × (source_of (front ++ rest) ≡ Err e) × (source_of front ≡ Err e)
-front-refused front rest long =
-    let stated = front-lines front rest [] 1 0 0 [] false (omega arith) (omega (arith, long)) in
-    (stated.0, ap (λ r. unless_refused r (blocks_of (classed_lines (front ++ rest)))) stated.1, ap (λ r. unless_refused r (blocks_of (classed_lines front))) stated.2)
+abbrev begun : Carried
+begun = record { run = 0; index = 0; label = []; after = false; standing = at_first }
+
+same-begun : (cut : Bool) → Same cut begun begun
+same-begun true = tt
+same-begun false = refl
+
+pub front-refused : (cut : Bool) (front rest : List ℕ) → SOURCE_FRONT ≤ length front →
+    (e : SourceError) × (source_of (record { cut = cut; text = front ++ rest }) ≡ Err e) × (source_of (record { cut = cut; text = front }) ≡ Err e)
+front-refused cut front rest long =
+    let stated = front-lines cut front rest [] 1 begun begun (same-begun cut) (omega arith) (omega (arith, long)) in
+    (stated.0, ap (λ r. unless_refused r (blocks_of (classed_lines (record { cut = cut; text = front ++ rest })))) stated.1, ap (λ r. unless_refused r (blocks_of (classed_lines (record { cut = cut; text = front })))) stated.2)

@@ -12,7 +12,7 @@ use Rattle.s66_program.specs.declared.outcome.Fault.{Fault}
 use Rattle.s66_program.specs.declared.outcome.Fault.TheVariants as fault
 use Rattle.s66_program.specs.declared.outcome.Status.{Status}
 use Rattle.s66_program.specs.Kept.{IsFull, IsKept, Puts}
-use Rattle.s66_program.specs.Output.{IsOutput, reads_documents, reads_source}
+use Rattle.s66_program.specs.Output.{IsOutput, is_cut, reads_documents, reads_source, source_in}
 use Rattle.s66_program.specs.Run.{IsRefusal}
 use Rattle.s66_program.proofs.Fronts.{front-refused}
 
@@ -31,21 +31,21 @@ kept-more most input bytes old new (rest, is, which) (inr (full, same)) =
 abbrev pub IsMost : Command → Option ℕ → Type 0
 IsMost command most = IfSome most (λ n. (n ≡ SOURCE_FRONT) × (reads_source command ≡ true))
 
-accepted : (p : Profile) (command : Command) (input text : List ℕ) (status : Status) → reads_source command ≡ true → IsOutput p command input text status → (blocks : List Block) × (source_of input ≡ Ok blocks)
-accepted p (Time trace profile) input text status reads ((blocks, ok, is), done) = (blocks, ok)
-accepted p Deps input text status reads ((blocks, ok, is), done) = (blocks, ok)
-accepted p (Chart profile) input text status reads ((blocks, ok, is), done) = (blocks, ok)
-accepted p (Order options trace profile) input text status reads (blocks, ok, is) = (blocks, ok)
-accepted p (Prove options profile) input text status reads (blocks, ok, is) = (blocks, ok)
+accepted : (p : Profile) (command : Command) (input text : List ℕ) (status : Status) → reads_source command ≡ true → IsOutput p command input text status → (blocks : List Block) × (source_of (source_in command input) ≡ Ok blocks)
+accepted p (Time cut trace profile) input text status reads ((blocks, ok, is), done) = (blocks, ok)
+accepted p (Deps cut) input text status reads ((blocks, ok, is), done) = (blocks, ok)
+accepted p (Chart cut profile) input text status reads ((blocks, ok, is), done) = (blocks, ok)
+accepted p (Order cut options trace profile) input text status reads (blocks, ok, is) = (blocks, ok)
+accepted p (Prove cut options profile) input text status reads (blocks, ok, is) = (blocks, ok)
 accepted p Check input text status reads is = absurd (cc)
 accepted p Lint input text status reads is = absurd (cc)
-accepted p (Sum options trace profile) input text status reads (blocks, ok, is) = (blocks, ok)
+accepted p (Sum cut options trace profile) input text status reads (blocks, ok, is) = (blocks, ok)
 
 -- a full front is refused, and so is the input, for the same
 full-refused : (command : Command) (most : Option ℕ) (held rest : List ℕ) → IsMost command most → IsFull most held →
-    (reads_source command ≡ true) × ((e : SourceError) × (source_of (held ++ rest) ≡ Err e) × (source_of held ≡ Err e))
+    (reads_source command ≡ true) × ((e : SourceError) × (source_of (source_in command (held ++ rest)) ≡ Err e) × (source_of (source_in command held) ≡ Err e))
 full-refused command None held rest is full = absurd full
-full-refused command (Some n) held rest (limit, reads) full = (reads, front-refused held rest (subst (λ k. k ≤ length held) limit full))
+full-refused command (Some n) held rest (limit, reads) full = (reads, front-refused (is_cut command) held rest (subst (λ k. k ≤ length held) limit full))
 
 pub whole-output : (p : Profile) (command : Command) (most : Option ℕ) (input held text : List ℕ) (status : Status) → IsMost command most → IsKept most input held → IsOutput p command held text status → IsOutput p command input text status
 whole-output p command most input held text status most-is (rest, is, inl none) output =
@@ -56,16 +56,16 @@ whole-output p command most input held text status most-is (rest, is, inr full) 
     absurd (cc)
 
 no-documents : (command : Command) → reads_source command ≡ true → reads_documents command ≡ true → ⊥
-no-documents (Time trace profile) source documents = cc
-no-documents Deps source documents = cc
-no-documents (Chart profile) source documents = cc
-no-documents (Order options trace profile) source documents = cc
-no-documents (Prove options profile) source documents = cc
+no-documents (Time cut trace profile) source documents = cc
+no-documents (Deps cut) source documents = cc
+no-documents (Chart cut profile) source documents = cc
+no-documents (Order cut options trace profile) source documents = cc
+no-documents (Prove cut options profile) source documents = cc
 no-documents Check source documents = cc
 no-documents Lint source documents = cc
-no-documents (Sum options trace profile) source documents = cc
+no-documents (Sum cut options trace profile) source documents = cc
 
-refused-for : (command : Command) (input held : List ℕ) (f : Fault) → reads_source command ≡ true → source_of input ≡ source_of held → IsRefusal command held f → IsRefusal command input f
+refused-for : (command : Command) (input held : List ℕ) (f : Fault) → reads_source command ≡ true → source_of (source_in command input) ≡ source_of (source_in command held) → IsRefusal command held f → IsRefusal command input f
 refused-for command input held (fault.Source e) reads same (is, other, refused) = (is, other, same ∙ refused)
 refused-for command input held (fault.Document e) reads same (is, refused) = absurd (no-documents command reads is)
 refused-for command input held fault.Profile reads same h = h

@@ -13,3 +13,4 @@ pub mod PlacedAnswers
 pub mod ProvedAnswers
 pub mod RefusedInput
 pub mod SumRows
+pub mod Told

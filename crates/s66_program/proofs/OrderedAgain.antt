@@ -5,6 +5,7 @@ use Rattle.s66_isa.specs.declared.instr.Instr.{Instr}
 use Rattle.s66_isa.specs.declared.profile.Profile.{Profile}
 use Rattle.s66_source.specs.ReadAgain.{AreComplete, ArePlacedAgain, IsPlacedAgain}
 use Rattle.s66_line.specs.Block.{Entry, Block}
+use Rattle.s66_source.specs.LeftAlone.{Reading}
 use Rattle.s66_source.specs.Source.{source_of}
 use Rattle.s66_source.proofs.ReadAgain.{read-again}
 use Rattle.s66_model.specs.declared.rule.Rule.{Rule}
@@ -37,11 +38,11 @@ times-again rule profile nodes trace (block ∷ blocks) (a ∷ answers) [] are p
 times-again rule profile nodes trace (block ∷ blocks) (a ∷ answers) (next ∷ again) are placed =
     ap₂ (λ t ts. t ∷ ts) (time-again rule profile nodes block next a are.0 placed.0) (times-again rule profile nodes trace blocks answers again are.1 placed.1)
 
-pub ordered-again : (rule : Rule) (profile : Profile) (nodes : ℕ) (trace : Bool) (input text : List ℕ) (status : Status) (again : List Block) → IsOrderOutput rule profile nodes trace input text status → source_of text ≡ Ok again →
-    TakePrintedTimes rule profile nodes trace input text again
-ordered-again rule profile nodes trace input text status again (blocks, accepted, (answers, are, is, ends)) read =
+pub ordered-again : (rule : Rule) (profile : Profile) (nodes : ℕ) (trace : Bool) (source : Reading) (text : List ℕ) (status : Status) (again : List Block) → IsOrderOutput rule profile nodes trace source text status → source_of (record { cut = source.cut; text = text }) ≡ Ok again →
+    TakePrintedTimes rule profile nodes trace source text again
+ordered-again rule profile nodes trace source text status again (blocks, accepted, (answers, are, is, ends)) read =
     let ps = all_placed profile trace blocks answers in
     let placed : ArePlacedAgain blocks ps again =
-    read-again input blocks again ps accepted (all-within rule profile nodes trace blocks answers are) (all-complete rule profile nodes trace blocks answers are) (subst (λ t. source_of t ≡ Ok again) is read)
+    read-again source blocks again ps accepted (all-within rule profile nodes trace blocks answers are) (all-complete rule profile nodes trace blocks answers are) (subst (λ t. source_of (record { cut = source.cut; text = t }) ≡ Ok again) is read)
     in
     (blocks, accepted, (answers, are, is, times-again rule profile nodes trace blocks answers again are placed))

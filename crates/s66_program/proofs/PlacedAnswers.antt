@@ -7,6 +7,7 @@ use Rattle.s66_isa.specs.Lists.{Among}
 use Rattle.s66_source.specs.declared.error.SourceError.{SourceError}
 use Rattle.s66_line.specs.Block.{instrs_of, Entry, Block}
 use Rattle.s66_source.specs.Printed.{Placed, ArePlaced, printed}
+use Rattle.s66_source.specs.LeftAlone.{Reading}
 use Rattle.s66_source.specs.Source.{blocks_of, classed_lines, refusal, source_of, unless_refused}
 use Rattle.s66_model.specs.declared.rule.Rule.{Rule}
 use Rattle.s66_model.specs.Answer.{Answer}
@@ -65,11 +66,11 @@ pub read-blocks : (e : Option SourceError) (made blocks : List Block) → unless
 read-blocks None made blocks h = cc
 read-blocks (Some e) made blocks h = cc
 
-pub placed-within : (rule : Rule) (profile : Profile) (nodes : ℕ) (trace : Bool) (input : List ℕ) (blocks : List Block) (ps : List Placed) → source_of input ≡ Ok blocks → AreAllPlaced rule profile nodes trace blocks ps →
-    ArePlaced (blocks_of (classed_lines input)) ps
-placed-within rule profile nodes trace input blocks ps read (answers, are, same) =
+pub placed-within : (rule : Rule) (profile : Profile) (nodes : ℕ) (trace : Bool) (source : Reading) (blocks : List Block) (ps : List Placed) → source_of source ≡ Ok blocks → AreAllPlaced rule profile nodes trace blocks ps →
+    ArePlaced (blocks_of (classed_lines source)) ps
+placed-within rule profile nodes trace source blocks ps read (answers, are, same) =
     let all = subst (ArePlaced blocks) (sym same) (all-within rule profile nodes trace blocks answers are) in
-    subst (λ bs. ArePlaced bs ps) (read-blocks (refusal (classed_lines input)) (blocks_of (classed_lines input)) blocks read) all
+    subst (λ bs. ArePlaced bs ps) (read-blocks (refusal (classed_lines source)) (blocks_of (classed_lines source)) blocks read) all
 
 -- WHETHER ALL ARE BEST
 
@@ -79,8 +80,8 @@ best-stated rule profile nodes trace [] (a ∷ answers) are = absurd are
 best-stated rule profile nodes trace (block ∷ blocks) [] are = absurd are
 best-stated rule profile nodes trace (block ∷ blocks) (a ∷ answers) are = ap (λ r. (a.bound == a.time) && r) (best-stated rule profile nodes trace blocks answers are.1)
 
-pub order-output : (rule : Rule) (profile : Profile) (nodes : ℕ) (trace : Bool) (input text : List ℕ) (status : Status) (blocks : List Block) (ps : List Placed) → source_of input ≡ Ok blocks → AreAllPlaced rule profile nodes trace blocks ps →
-    text ≡ printed input ps → status ≡ (if tell_best ps then Done else Bounded) → IsOrderOutput rule profile nodes trace input text status
-order-output rule profile nodes trace input text status blocks ps read (answers, are, same) is ends =
+pub order-output : (rule : Rule) (profile : Profile) (nodes : ℕ) (trace : Bool) (source : Reading) (text : List ℕ) (status : Status) (blocks : List Block) (ps : List Placed) → source_of source ≡ Ok blocks → AreAllPlaced rule profile nodes trace blocks ps →
+    text ≡ printed source ps → status ≡ (if tell_best ps then Done else Bounded) → IsOrderOutput rule profile nodes trace source text status
+order-output rule profile nodes trace source text status blocks ps read (answers, are, same) is ends =
     let best : tell_best ps ≡ all_best answers = ap tell_best same ∙ best-stated rule profile nodes trace blocks answers are in
-    (blocks, read, (answers, are, is ∙ ap (printed input) same, ends ∙ ap (λ b. if b then Done else Bounded) best))
+    (blocks, read, (answers, are, is ∙ ap (printed source) same, ends ∙ ap (λ b. if b then Done else Bounded) best))

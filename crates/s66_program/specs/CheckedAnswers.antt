@@ -2,6 +2,7 @@
 use Rattle.std.specs.Prelude.{ℕ, ◌+◌, ◌≡◌, List, [], ◌∷◌, ◌++◌, Ok}
 use Rattle.s66_isa.specs.declared.profile.Profile.{Profile}
 use Rattle.s66_line.specs.Block.{Block}
+use Rattle.s66_source.specs.LeftAlone.{Reading}
 use Rattle.s66_source.specs.Source.{source_of}
 use Rattle.s66_model.specs.declared.rule.Rule.{Rule}
 use Rattle.s66_model.specs.Answer.{Answer}
@@ -17,7 +18,7 @@ yes_lines n [] = []
 yes_lines n (a ∷ answers) = verdict_line (n + 1) (Yes a.time a.bound) ++ yes_lines (n + 1) answers
 
 -- for some answers, of whose documents it is the text, these lines are YES for each
-abbrev pub AreYesLines : Rule → Profile → (nodes : ℕ) (input text lines : List ℕ) → Type 0
-AreYesLines rule p nodes input text lines =
-    (blocks : List Block) × (source_of input ≡ Ok blocks)
+abbrev pub AreYesLines : Rule → Profile → (nodes : ℕ) (source : Reading) (text lines : List ℕ) → Type 0
+AreYesLines rule p nodes source text lines =
+    (blocks : List Block) × (source_of source ≡ Ok blocks)
     × ((answers : List Answer) × AreAnswers rule p nodes blocks answers × (text ≡ documents_text (all_documents rule p blocks answers)) × (lines ≡ yes_lines 0 answers))

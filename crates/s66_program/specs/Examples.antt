@@ -3,6 +3,7 @@
 unfoldable pub use Rattle.std.specs.Fmt.{digits}
 use Rattle.std.specs.Prelude.{ℕ, List, [], ◌∷◌, ◌++◌, codes}
 use Rattle.s66_line.specs.Block.{Block}
+use Rattle.s66_source.specs.LeftAlone.{plain}
 use Rattle.s66_source.specs.Source.{blocks_of, classed_lines}
 use Rattle.s66_model.specs.Answer.{Answer}
 use Rattle.s66_model.specs.Leaves.{Chain}
@@ -13,7 +14,7 @@ abbrev pub one_load_source : List ℕ
 one_load_source = codes "  SA1 A1+B1\n" ++ codes "  BX6 X1\n" ++ codes "  BX7 X2\n"
 
 abbrev pub blocks_in : List ℕ → List Block
-blocks_in text = blocks_of (classed_lines text)
+blocks_in text = blocks_of (classed_lines (plain text))
 
 -- best: the load and what reads it take 12 in every order
 abbrev pub one_load_answer : Answer

@@ -4,6 +4,7 @@ use Rattle.s66_isa.specs.Lists.{every}
 use Rattle.s66_isa.specs.declared.profile.Profile.{Profile}
 use Rattle.s66_line.specs.Block.{instrs_of, Block}
 use Rattle.s66_source.specs.Printed.{Placed, printed}
+use Rattle.s66_source.specs.LeftAlone.{Reading}
 use Rattle.s66_source.specs.Source.{source_of}
 use Rattle.s66_model.specs.declared.rule.Rule.{Rule}
 use Rattle.s66_model.specs.Answer.{Answer, IsAnswer, source_time}
@@ -43,7 +44,7 @@ all_placed p trace (block ∷ blocks) (a ∷ answers) = placed_by p trace block 
 all_placed p trace blocks answers = []
 
 -- for some answers, the source printed in their orders, and their status
-abbrev pub IsOrderOutput : Rule → Profile → (nodes : ℕ) (trace : Bool) (input text : List ℕ) → Status → Type 0
-IsOrderOutput rule p nodes trace input text status =
-    (blocks : List Block) × (source_of input ≡ Ok blocks)
-    × ((answers : List Answer) × AreAnswers rule p nodes blocks answers × (text ≡ printed input (all_placed p trace blocks answers)) × (status ≡ status_of answers))
+abbrev pub IsOrderOutput : Rule → Profile → (nodes : ℕ) (trace : Bool) (source : Reading) (text : List ℕ) → Status → Type 0
+IsOrderOutput rule p nodes trace source text status =
+    (blocks : List Block) × (source_of source ≡ Ok blocks)
+    × ((answers : List Answer) × AreAnswers rule p nodes blocks answers × (text ≡ printed source (all_placed p trace blocks answers)) × (status ≡ status_of answers))

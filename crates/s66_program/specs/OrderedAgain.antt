@@ -3,6 +3,7 @@ use Rattle.std.specs.Prelude.{ℕ, ◌≡◌, Bool, List, Ok, map}
 use Rattle.s66_isa.specs.declared.profile.Profile.{Profile}
 use Rattle.s66_line.specs.Block.{instrs_of, Block}
 use Rattle.s66_source.specs.Printed.{printed}
+use Rattle.s66_source.specs.LeftAlone.{Reading}
 use Rattle.s66_source.specs.Source.{source_of}
 use Rattle.s66_model.specs.declared.rule.Rule.{Rule}
 use Rattle.s66_model.specs.Answer.{Answer}
@@ -14,8 +15,8 @@ abbrev pub written_time : Profile → Block → ℕ
 written_time p block = total_time (as_written p (instrs_of block))
 
 -- for some answers, in whose orders it is the source printed, these blocks take their times, which are printed
-abbrev pub TakePrintedTimes : Rule → Profile → (nodes : ℕ) (trace : Bool) (input text : List ℕ) → List Block → Type 0
-TakePrintedTimes rule p nodes trace input text again =
-    (blocks : List Block) × (source_of input ≡ Ok blocks)
-    × ((answers : List Answer) × AreAnswers rule p nodes blocks answers × (text ≡ printed input (all_placed p trace blocks answers))
+abbrev pub TakePrintedTimes : Rule → Profile → (nodes : ℕ) (trace : Bool) (source : Reading) (text : List ℕ) → List Block → Type 0
+TakePrintedTimes rule p nodes trace source text again =
+    (blocks : List Block) × (source_of source ≡ Ok blocks)
+    × ((answers : List Answer) × AreAnswers rule p nodes blocks answers × (text ≡ printed source (all_placed p trace blocks answers))
     × (map (written_time p) again ≡ map (λ (a : Answer). a.time) answers))

@@ -11,7 +11,7 @@ use Rattle.s66_profile.specs.declared.error.ProfileError.TheVariants as profile
 use Rattle.s66_program.specs.declared.outcome.Fault.{Fault}
 use Rattle.s66_program.specs.declared.outcome.Fault.TheVariants.{Source, Document, Profile, Memory, Read, Write}
 use Rattle.s66_program.specs.declared.outcome.Status.{Status}
-use Rattle.s66_program.specs.declared.outcome.Status.TheVariants.{Done, Denied, Bounded}
+use Rattle.s66_program.specs.declared.outcome.Status.TheVariants.{Done, Denied, Bounded, Listed}
 
 -- the fault of a refused source
 abbrev pub source_fault : SourceError → Fault
@@ -36,6 +36,7 @@ abbrev pub status_code : Status → ℕ
 status_code Done = 0
 status_code Denied = 5
 status_code Bounded = 7
+status_code Listed = 8
 
 abbrev pub fault_code : Fault → ℕ
 fault_code (Source e) = 3

@@ -4,6 +4,7 @@ use Rattle.s66_isa.specs.declared.profile.Profile.{Profile}
 use Rattle.s66_isa.specs.Table.{standard}
 use Rattle.s66_model.specs.declared.limits.TheConstants.{BUDGET_LIMIT}
 use Rattle.s66_line.specs.Block.{Block}
+use Rattle.s66_source.specs.LeftAlone.{Reading}
 use Rattle.s66_source.specs.Source.{source_of}
 use Rattle.s66_model.specs.declared.limits.TheConstants.{WORKERS_LIMIT}
 use Rattle.s66_profile.specs.ProfileText.{profile_in_text}
@@ -29,14 +30,14 @@ IsSearchWithin workers nodes = (1 ≤ workers) × (workers ≤ WORKERS_LIMIT) ×
 
 -- the numbers of a command are within their limits
 abbrev pub IsWithin : Command → Type 0
-IsWithin (Time trace profile) = Unit {0}
-IsWithin Deps = Unit {0}
-IsWithin (Chart profile) = Unit {0}
-IsWithin (Order options trace profile) = IsSearchWithin options.workers options.nodes
-IsWithin (Prove options profile) = IsSearchWithin options.workers options.nodes
+IsWithin (Time cut trace profile) = Unit {0}
+IsWithin (Deps cut) = Unit {0}
+IsWithin (Chart cut profile) = Unit {0}
+IsWithin (Order cut options trace profile) = IsSearchWithin options.workers options.nodes
+IsWithin (Prove cut options profile) = IsSearchWithin options.workers options.nodes
 IsWithin Check = Unit {0}
 IsWithin Lint = Unit {0}
-IsWithin (Sum options trace profile) = IsSearchWithin options.workers options.nodes
+IsWithin (Sum cut options trace profile) = IsSearchWithin options.workers options.nodes
 
 -- PROFILES
 
@@ -63,32 +64,46 @@ lines_of_blocks p l n [] = []
 lines_of_blocks p l n (block ∷ blocks) = block_lines p l (n + 1) block ++ lines_of_blocks p l (n + 1) blocks
 
 -- the listing of the source's blocks
-abbrev pub IsListing : Profile → Listing → (input text : List ℕ) → Type 0
-IsListing p l input text = (blocks : List Block) × (source_of input ≡ Ok blocks) × (text ≡ lines_of_blocks p l 0 blocks)
+abbrev pub IsListing : Profile → Listing → Reading → (text : List ℕ) → Type 0
+IsListing p l source text = (blocks : List Block) × (source_of source ≡ Ok blocks) × (text ≡ lines_of_blocks p l 0 blocks)
 
 -- COMMANDS
 
+-- whether a command reads with `--cut`
+abbrev pub is_cut : Command → Bool
+is_cut (Time cut trace profile) = cut
+is_cut (Deps cut) = cut
+is_cut (Chart cut profile) = cut
+is_cut (Order cut options trace profile) = cut
+is_cut (Prove cut options profile) = cut
+is_cut (Sum cut options trace profile) = cut
+is_cut command = false
+
+-- an input, as a command reads it
+abbrev pub source_in : Command → List ℕ → Reading
+source_in command input = record { cut = is_cut command; text = input }
+
 -- for this input, under a profile, a command writes the text and ends so
 abbrev pub IsOutput : Profile → Command → (input text : List ℕ) → Status → Type 0
-IsOutput p (Time trace profile) input text status = IsListing p (listing.Times trace) input text × (status ≡ Done)
-IsOutput p Deps input text status = IsListing p listing.Dependences input text × (status ≡ Done)
-IsOutput p (Chart profile) input text status = IsListing p listing.Chart input text × (status ≡ Done)
-IsOutput p (Order options trace profile) input text status = IsOrderOutput options.rule p options.nodes trace input text status
-IsOutput p (Prove options profile) input text status = IsProveOutput options.rule p options.nodes input text status
+IsOutput p (Time cut trace profile) input text status = IsListing p (listing.Times trace) (record { cut = cut; text = input }) text × (status ≡ Done)
+IsOutput p (Deps cut) input text status = IsListing p listing.Dependences (record { cut = cut; text = input }) text × (status ≡ Done)
+IsOutput p (Chart cut profile) input text status = IsListing p listing.Chart (record { cut = cut; text = input }) text × (status ≡ Done)
+IsOutput p (Order cut options trace profile) input text status = IsOrderOutput options.rule p options.nodes trace (record { cut = cut; text = input }) text status
+IsOutput p (Prove cut options profile) input text status = IsProveOutput options.rule p options.nodes (record { cut = cut; text = input }) text status
 IsOutput p Check input text status = IsCheckOutput input text status
 IsOutput p Lint input text status = IsLintOutput input text status
-IsOutput p (Sum options trace profile) input text status = IsSumOutput options.rule p options.nodes trace input text status
+IsOutput p (Sum cut options trace profile) input text status = IsSumOutput options.rule p options.nodes trace (record { cut = cut; text = input }) text status
 
 -- the command reads a source, and refuses some
 abbrev pub reads_source : Command → Bool
-reads_source (Time trace profile) = true
-reads_source Deps = true
-reads_source (Chart profile) = true
-reads_source (Order options trace profile) = true
-reads_source (Prove options profile) = true
+reads_source (Time cut trace profile) = true
+reads_source (Deps cut) = true
+reads_source (Chart cut profile) = true
+reads_source (Order cut options trace profile) = true
+reads_source (Prove cut options profile) = true
 reads_source Check = false
 reads_source Lint = false
-reads_source (Sum options trace profile) = true
+reads_source (Sum cut options trace profile) = true
 
 -- the command reads documents, and refuses some
 abbrev pub reads_documents : Command → Bool

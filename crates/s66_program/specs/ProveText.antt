@@ -3,6 +3,7 @@ use Rattle.std.specs.Prelude.{ℕ, ◌≡◌, if◌then◌else◌, List, [], ◌
 use Rattle.s66_isa.specs.declared.profile.Profile.{Profile}
 use Rattle.s66_isa.specs.Table.{entries, numbers}
 use Rattle.s66_line.specs.Block.{instrs_of, text_of, Block}
+use Rattle.s66_source.specs.LeftAlone.{Reading}
 use Rattle.s66_source.specs.Source.{source_of}
 use Rattle.s66_model.specs.declared.rule.Rule.{Rule}
 use Rattle.s66_model.specs.declared.rule.Rule.TheVariants.{NoneNamed}
@@ -31,7 +32,7 @@ all_documents rule p (block ∷ blocks) (a ∷ answers) = document_under rule p 
 all_documents rule p blocks answers = []
 
 -- for some answers, their documents, and their status
-abbrev pub IsProveOutput : Rule → Profile → (nodes : ℕ) (input text : List ℕ) → Status → Type 0
-IsProveOutput rule p nodes input text status =
-    (blocks : List Block) × (source_of input ≡ Ok blocks)
+abbrev pub IsProveOutput : Rule → Profile → (nodes : ℕ) (source : Reading) (text : List ℕ) → Status → Type 0
+IsProveOutput rule p nodes source text status =
+    (blocks : List Block) × (source_of source ≡ Ok blocks)
     × ((answers : List Answer) × AreAnswers rule p nodes blocks answers × (text ≡ documents_text (all_documents rule p blocks answers)) × (status ≡ status_of answers))

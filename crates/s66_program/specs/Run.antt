@@ -11,11 +11,11 @@ use Rattle.s66_program.specs.declared.outcome.Fault.{Fault}
 use Rattle.s66_program.specs.declared.outcome.Fault.TheVariants as fault
 use Rattle.s66_program.specs.declared.outcome.Status.{Status}
 use Rattle.s66_program.specs.Device.{ReadFails, ReadsAll, ReadsSome}
-use Rattle.s66_program.specs.Output.{IsOutput, IsUnder, profile_asked, reads_documents, reads_source}
+use Rattle.s66_program.specs.Output.{IsOutput, IsUnder, profile_asked, reads_documents, reads_source, source_in}
 
 -- why a command writes nothing for an input
 abbrev pub IsRefusal : Command → List ℕ → Fault → Type 0
-IsRefusal command input (fault.Source e) = (reads_source command ≡ true) × (e ≢ OutOfMemory) × (source_of input ≡ Err e)
+IsRefusal command input (fault.Source e) = (reads_source command ≡ true) × (e ≢ OutOfMemory) × (source_of (source_in command input) ≡ Err e)
 IsRefusal command input (fault.Document e) = (reads_documents command ≡ true) × IsFault input e
 IsRefusal command input fault.Profile = ⊥
 IsRefusal command input fault.Memory = Unit {0}

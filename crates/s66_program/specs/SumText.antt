@@ -5,6 +5,7 @@ use Rattle.s66_isa.specs.Lists.{tally, weigh}
 use Rattle.s66_isa.specs.declared.profile.Profile.{Profile}
 use Rattle.s66_line.specs.Block.{instrs_of, line_of, Block}
 use Rattle.s66_source.specs.Printed.{Placed}
+use Rattle.s66_source.specs.LeftAlone.{Reading}
 use Rattle.s66_source.specs.Source.{source_of}
 use Rattle.s66_model.specs.declared.rule.Rule.{Rule}
 use Rattle.s66_model.specs.Answer.{Answer}
@@ -89,8 +90,8 @@ IsSumText trace rows text =
     (ordered : List Row) × IsPermutation rows ordered × AreInOrder ordered × (text ≡ row_lines ordered ++ total_line trace rows)
 
 -- for some answers, the rows of what `order` would print, and their status
-abbrev pub IsSumOutput : Rule → Profile → (nodes : ℕ) (trace : Bool) (input text : List ℕ) → Status → Type 0
-IsSumOutput rule p nodes trace input text status =
-    (blocks : List Block) × (source_of input ≡ Ok blocks)
+abbrev pub IsSumOutput : Rule → Profile → (nodes : ℕ) (trace : Bool) (source : Reading) (text : List ℕ) → Status → Type 0
+IsSumOutput rule p nodes trace source text status =
+    (blocks : List Block) × (source_of source ≡ Ok blocks)
     × ((answers : List Answer) × AreAnswers rule p nodes blocks answers × IsSumText trace (rows_of 0 blocks (all_placed p trace blocks answers)) text
     × (status ≡ status_of answers))

@@ -4,6 +4,7 @@ ghost use Rattle.std.specs.Prelude.{ℕ, Bool, false, List, [], ◌∷◌, ◌++
 ghost use Rattle.s66_isa.specs.declared.profile.Profile.{Profile};
 ghost use Rattle.s66_isa.specs.Lists.{Among};
 ghost use Rattle.s66_isa.specs.Table.{standard};
+ghost use Rattle.s66_source.specs.LeftAlone.{Reading, plain};
 ghost use Rattle.s66_source.specs.Printed.{printed};
 ghost use Rattle.s66_line.specs.Block.{Block};
 ghost use Rattle.s66_source.specs.Source.{source_of};
@@ -32,7 +33,7 @@ ghost use Rattle.s66_program.specs.ProveText.{IsProveOutput, all_documents, docu
 
 /// A text of at least `SOURCE_FRONT` bytes is refused as a source, for the same whatever follows.
 pub fn front_law()
-    ensures { (front rest : List ℕ) → SOURCE_FRONT ≤ length front → (e : SourceError) × (source_of (front ++ rest) ≡ Err e) × (source_of front ≡ Err e) }
+    ensures { (cut : Bool) (front rest : List ℕ) → SOURCE_FRONT ≤ length front → (e : SourceError) × (source_of (record { cut = cut; text = front ++ rest }) ≡ Err e) × (source_of (record { cut = cut; text = front }) ≡ Err e) }
 {}
 
 /// No order of a block takes more minor cycles than a certificate may claim, whatever the profile.
@@ -43,28 +44,28 @@ pub fn total_limit_law()
 /// If what `order` wrote for a source is accepted again, each of its blocks takes as written, under the same profile, the time
 /// that was printed of it.
 pub fn ordered_again_law()
-    ensures { (rule : Rule) (p : Profile) (nodes : ℕ) (trace : Bool) (input text : List ℕ) (status : Status) (again : List Block) → IsOrderOutput rule p nodes trace input text status → source_of text ≡ Ok again → TakePrintedTimes rule p nodes trace input text again }
+    ensures { (rule : Rule) (p : Profile) (nodes : ℕ) (trace : Bool) (source : Reading) (text : List ℕ) (status : Status) (again : List Block) → IsOrderOutput rule p nodes trace source text status → source_of (record { cut = source.cut; text = text }) ≡ Ok again → TakePrintedTimes rule p nodes trace source text again }
 {}
 
 /// What a search answers of a block of an accepted source, under any profile, makes a document of the block's own problem. The
 /// verdict on it is yes, with the answer's time and bound.
 pub fn proved_law()
-    ensures same { (rule : Rule) (p : Profile) (text : List ℕ) (blocks : List Block) (block : Block) (a : Answer) → source_of text ≡ Ok blocks → Among block blocks → checker.problem_of (document_under rule p block a) ≡ problem_of p block }
-    ensures document { (rule : Rule) (p : Profile) (text : List ℕ) (blocks : List Block) (block : Block) (budget : ℕ) (a : Answer) → source_of text ≡ Ok blocks → Among block blocks → budget ≤ BUDGET_LIMIT → IsAnswer rule (problem_of p block) budget a → IsDocument BLOCK_LIMIT (document_under rule p block a) }
-    ensures yes { (rule : Rule) (p : Profile) (text : List ℕ) (blocks : List Block) (block : Block) (budget : ℕ) (a : Answer) → source_of text ≡ Ok blocks → Among block blocks → budget ≤ BUDGET_LIMIT → IsAnswer rule (problem_of p block) budget a → verdict (document_under rule p block a) ≡ Yes a.time a.bound }
+    ensures same { (rule : Rule) (p : Profile) (source : Reading) (blocks : List Block) (block : Block) (a : Answer) → source_of source ≡ Ok blocks → Among block blocks → checker.problem_of (document_under rule p block a) ≡ problem_of p block }
+    ensures document { (rule : Rule) (p : Profile) (source : Reading) (blocks : List Block) (block : Block) (budget : ℕ) (a : Answer) → source_of source ≡ Ok blocks → Among block blocks → budget ≤ BUDGET_LIMIT → IsAnswer rule (problem_of p block) budget a → IsDocument BLOCK_LIMIT (document_under rule p block a) }
+    ensures yes { (rule : Rule) (p : Profile) (source : Reading) (blocks : List Block) (block : Block) (budget : ℕ) (a : Answer) → source_of source ≡ Ok blocks → Among block blocks → budget ≤ BUDGET_LIMIT → IsAnswer rule (problem_of p block) budget a → verdict (document_under rule p block a) ≡ Yes a.time a.bound }
 {}
 
 /// What `prove` wrote for a source, under any profile, is a text of documents. For each of them `check` writes YES, with the
 /// answer's time and bound; it writes nothing else, and is done.
 pub fn checked_law()
-    ensures yes { (rule : Rule) (p : Profile) (nodes : ℕ) (input text : List ℕ) (status : Status) → nodes ≤ BUDGET_LIMIT → IsProveOutput rule p nodes input text status → (lines : List ℕ) × AreYesLines rule p nodes input text lines × IsCheckOutput text lines Done }
-    ensures alone { (rule : Rule) (p : Profile) (nodes : ℕ) (input text lines : List ℕ) (status checked : Status) → nodes ≤ BUDGET_LIMIT → IsProveOutput rule p nodes input text status → IsCheckOutput text lines checked → AreYesLines rule p nodes input text lines × (checked ≡ Done) }
+    ensures yes { (rule : Rule) (p : Profile) (nodes : ℕ) (source : Reading) (text : List ℕ) (status : Status) → nodes ≤ BUDGET_LIMIT → IsProveOutput rule p nodes source text status → (lines : List ℕ) × AreYesLines rule p nodes source text lines × IsCheckOutput text lines Done }
+    ensures alone { (rule : Rule) (p : Profile) (nodes : ℕ) (source : Reading) (text lines : List ℕ) (status checked : Status) → nodes ≤ BUDGET_LIMIT → IsProveOutput rule p nodes source text status → IsCheckOutput text lines checked → AreYesLines rule p nodes source text lines × (checked ≡ Done) }
 {}
 
 /// The worked block of one load, as `order` and `prove` write it, and what `time` and `check` then write; and other documents of it.
 #[tactic(auto, unfolding(s66_isa::specs::Profiles::profile_of, s66_isa::specs::Table::row, s66_model::specs::Dependence::conflict, s66_model::specs::Timing::issue_of, s66_model::specs::Timing::start_of, s66_model::specs::Timing::point, crate::specs::Examples::digits))]
 pub fn again_examples()
-    ensures ordered { printed one_load_source (all_placed standard false (blocks_in one_load_source) (one_load_answer ∷ [])) ≡ one_load_ordered }
+    ensures ordered { printed (plain one_load_source) (all_placed standard false (blocks_in one_load_source) (one_load_answer ∷ [])) ≡ one_load_ordered }
     ensures time_again { map (written_time standard) (blocks_in one_load_ordered) ≡ 12 ∷ [] }
     ensures proved { all_documents NoneNamed standard (blocks_in one_load_source) (one_load_answer ∷ []) ≡ one_load ∷ [] }
     ensures yes { yes_lines 0 (one_load_answer ∷ []) ≡ codes "DOCUMENT 1 YES TIME 12 BOUND 12\n" }

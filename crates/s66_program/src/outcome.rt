@@ -18,6 +18,8 @@ pub enum Status {
     Denied,
     /// A bound on the work was met before the end.
     Bounded,
+    /// Something may be wrong with the input, and nothing is refused.
+    Listed,
 }
 
 /// What a command writes, and how it ends.
@@ -39,6 +41,7 @@ impl Status {
             Status::Done => 0,
             Status::Denied => 5,
             Status::Bounded => 7,
+            Status::Listed => 8,
         }
     }
 }

@@ -16,7 +16,7 @@ use crate::time_text::push_time_lines;
 use s66_command::Command;
 use s66_isa::Profile;
 use s66_line::Block;
-use s66_source::{Source, read_source};
+use s66_source::{Source, read_source_with};
 use s66_time::Timer;
 use std::alloc::{AllocError, Global};
 use std::sync::Wait;
@@ -99,34 +99,65 @@ pub fn output_for<R: AllocGlobal + Threads + Wait + Sync, O: Observer>(
 {
     let alloc = rt.alloc();
     let output = match command {
-        Command::Time { trace, .. } => {
+        Command::Time { cut, trace, .. } => {
             let listing = Listing::Times { trace };
-            listing_output(alloc, profile, &listing, &read_source(alloc, input)?)?
+            listing_output(
+                alloc,
+                profile,
+                &listing,
+                &read_source_with(alloc, cut, input)?,
+            )?
         }
-        Command::Deps => {
+        Command::Deps { cut } => {
             let listing = Listing::Dependences;
-            listing_output(alloc, profile, &listing, &read_source(alloc, input)?)?
+            listing_output(
+                alloc,
+                profile,
+                &listing,
+                &read_source_with(alloc, cut, input)?,
+            )?
         }
-        Command::Chart { .. } => {
+        Command::Chart { cut, .. } => {
             let listing = Listing::Chart;
-            listing_output(alloc, profile, &listing, &read_source(alloc, input)?)?
+            listing_output(
+                alloc,
+                profile,
+                &listing,
+                &read_source_with(alloc, cut, input)?,
+            )?
         }
-        Command::Order { options, trace, .. } => order_output(
+        Command::Order {
+            cut,
+            options,
+            trace,
+            ..
+        } => order_output(
             rt,
-            &read_source(alloc, input)?,
+            &read_source_with(alloc, cut, input)?,
             profile,
             options,
             trace,
             observer,
         )?,
-        Command::Prove { options, .. } => {
-            prove_output(rt, &read_source(alloc, input)?, profile, options, observer)?
+        Command::Prove { cut, options, .. } => {
+            prove_output(
+                rt,
+                &read_source_with(alloc, cut, input)?,
+                profile,
+                options,
+                observer,
+            )?
         }
         Command::Check => check_output(alloc, input, observer)?,
         Command::Lint => lint_output(alloc, input)?,
-        Command::Sum { options, trace, .. } => sum_output(
+        Command::Sum {
+            cut,
+            options,
+            trace,
+            ..
+        } => sum_output(
             rt,
-            &read_source(alloc, input)?,
+            &read_source_with(alloc, cut, input)?,
             profile,
             options,
             trace,

@@ -43,7 +43,7 @@ fn most_kept(command: Command) -> Option<usize>
     match command {
         Command::Check | Command::Lint => None,
         Command::Time { .. }
-        | Command::Deps
+        | Command::Deps { .. }
         | Command::Chart { .. }
         | Command::Order { .. }
         | Command::Prove { .. }
