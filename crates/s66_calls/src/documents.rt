@@ -83,6 +83,7 @@ impl Sink for Counts {
 /// How many bytes `sum` writes of three multiplies; a refusal has written none.
 pub fn summed<R: AllocGlobal + Threads + Wait + Sync>(rt: &R) -> Result<Answered, AllocError> {
     let command = Command::Sum {
+        cut: false,
         options: OPTIONS,
         trace: false,
         profile: None,

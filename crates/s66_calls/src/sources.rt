@@ -61,6 +61,6 @@ pub fn printed(alloc: Global) -> Result<Answered, AllocError> {
 
 /// How many bytes the findings of a source are.
 pub fn found(alloc: Global) -> Result<Answered, AllocError> {
-    let text = findings_in(alloc, SLIPS.as_bytes())?;
-    Ok([text.len(), 0, 0, 0])
+    let found = findings_in(alloc, SLIPS.as_bytes())?;
+    Ok([found.text.len(), 0, 0, 0])
 }

@@ -107,6 +107,7 @@ fn check_left_out<R: AllocGlobal + Abort + Threads + Wait + Sync>(
     requires { (1 ≤ workers) × (workers ≤ WORKERS_LIMIT) }
 {
     let order = Command::Order {
+        cut: false,
         options: Options {
             workers,
             nodes: 100,
@@ -117,6 +118,7 @@ fn check_left_out<R: AllocGlobal + Abort + Threads + Wait + Sync>(
     };
     check_output(rt, order, THREE_ALIKE, Status::Done, SEVEN_SPLITS);
     let prove = Command::Prove {
+        cut: false,
         options: Options {
             workers,
             nodes: 100,

@@ -30,6 +30,7 @@ const PROOFS: &[(&str, &str)] = &[
 #[test]
 fn proves_worked_rows(rt: HostRuntime) {
     let prove = Command::Prove {
+        cut: false,
         options: Options {
             workers: 1,
             nodes: 100_000,
@@ -57,6 +58,7 @@ fn lines(text: &[u8]) -> u32 {
 #[test]
 fn proves_and_checks_large_trees(rt: HostRuntime) -> Result<(), Fail> {
     let prove = Command::Prove {
+        cut: false,
         options: Options {
             workers: 16,
             nodes: 100_000,
@@ -84,6 +86,7 @@ fn proves_and_checks_large_trees(rt: HostRuntime) -> Result<(), Fail> {
 #[test]
 fn proves_and_checks_a_block_of_128(rt: HostRuntime) -> Result<(), Fail> {
     let prove = Command::Prove {
+        cut: false,
         options: Options {
             workers: 1,
             nodes: 0,

@@ -23,6 +23,7 @@ fn check_order<R: AllocGlobal + Abort + Threads + Wait + Sync>(rt: &R, workers: 
     requires { (1 ≤ workers) × (workers ≤ WORKERS_LIMIT) }
 {
     let order = Command::Order {
+        cut: false,
         options: Options {
             workers,
             nodes: 10,
@@ -33,6 +34,7 @@ fn check_order<R: AllocGlobal + Abort + Threads + Wait + Sync>(rt: &R, workers: 
     };
     check_output(rt, order, MULTIPLIES, Status::Done, BEST_ORDER);
     let order = Command::Order {
+        cut: false,
         options: Options {
             workers,
             nodes: 9,
@@ -50,6 +52,7 @@ fn check_proof<R: AllocGlobal + Abort + Threads + Wait + Sync>(rt: &R, workers: 
     requires { (1 ≤ workers) × (workers ≤ WORKERS_LIMIT) }
 {
     let prove = Command::Prove {
+        cut: false,
         options: Options {
             workers,
             nodes: 10,
@@ -59,6 +62,7 @@ fn check_proof<R: AllocGlobal + Abort + Threads + Wait + Sync>(rt: &R, workers: 
     };
     check_output(rt, prove, MULTIPLIES, Status::Done, THREE_MULTIPLIES);
     let prove = Command::Prove {
+        cut: false,
         options: Options {
             workers,
             nodes: 9,

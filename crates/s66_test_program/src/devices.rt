@@ -129,7 +129,14 @@ fn tells_read_faults(rt: HostRuntime) {
 /// It may end at the last of these calls.
 #[test]
 fn reads_an_end_at_the_last_call(rt: HostRuntime) {
-    check_newlines(&rt, FEED_CALLS - 1, true, 0, 3, b"TOO MANY LINES\n");
+    check_newlines(
+        &rt,
+        FEED_CALLS - 1,
+        true,
+        0,
+        3,
+        b"TOO MANY LINES\ns66 lint lists all such lines\n",
+    );
 }
 
 /// If the profile is none, the reader isn't called, though it would fail.
@@ -139,7 +146,7 @@ fn reads_nothing_for_a_bad_profile(rt: HostRuntime) {
     let words = &["s66", "time", "--profile", "[]"];
     let ran = run_observed(&rt, words, &mut reader, &mut Silent);
     assert!(rt; ran.status == 3 && ran.written.is_empty());
-    assert!(rt; ran.stated.as_slice() == b"BAD PROFILE\n".as_slice());
+    assert!(rt; ran.stated.as_slice() == b"BAD PROFILE\nno JSON object\n".as_slice());
     assert!(rt; reader.reads == 0 && reader.failed == 0);
 }
 

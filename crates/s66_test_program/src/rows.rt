@@ -6,6 +6,7 @@ use std::thread::Threads;
 
 mod chart;
 mod deps;
+mod left_alone;
 mod lint;
 mod order;
 mod profile;
@@ -13,7 +14,7 @@ mod sum;
 mod time;
 mod words;
 
-/// A run: name, words, input, status, and the text that is written if the status is 0, 5 or 7, and else goes to standard error.
+/// A run: name, words, input, status, and the text that is written if the status is 0, 5, 7 or 8, and else goes to standard error.
 pub(crate) type Row = (
     &'static str,
     &'static [&'static str],
@@ -91,10 +92,24 @@ const REPEATED: &[(&str, &[&str], &str, usize, u8, &str)] = &[
         0,
         "BLOCK 1 LINE 1 COUNT 128 PARCELS 128 NO 0 TIME 512\nBLOCK 2 LINE 129 COUNT 1 PARCELS 1 NO 0 TIME 4\n",
     ),
-    ("201 bytes", TIME, "*", 201, 3, "LINE 1 TOO LONG\n"),
+    (
+        "201 bytes",
+        TIME,
+        "*",
+        201,
+        3,
+        "LINE 1 TOO LONG\ns66 lint lists all such lines\n",
+    ),
     ("201 bytes, listed", LINT, "*", 201, 5, "LINE 1 TOO LONG\n"),
     ("20,000 lines", TIME, "*\n", 20_000, 0, ""),
-    ("20,001 lines", TIME, "*\n", 20_001, 3, "TOO MANY LINES\n"),
+    (
+        "20,001 lines",
+        TIME,
+        "*\n",
+        20_001,
+        3,
+        "TOO MANY LINES\ns66 lint lists all such lines\n",
+    ),
     ("20,000 lines, listed", LINT, "*\n", 20_000, 0, ""),
     (
         "20,001 lines, listed",
@@ -110,7 +125,7 @@ const REPEATED: &[(&str, &[&str], &str, usize, u8, &str)] = &[
         "\n",
         17_039_360,
         3,
-        "TOO MANY LINES\n",
+        "TOO MANY LINES\ns66 lint lists all such lines\n",
     ),
 ];
 
@@ -129,6 +144,7 @@ fn runs_rows(rt: HostRuntime) {
     check_rows(&rt, deps::ROWS);
     check_rows(&rt, chart::ROWS);
     check_rows(&rt, order::ROWS);
+    check_rows(&rt, left_alone::ROWS);
     check_rows(&rt, lint::ROWS);
     check_rows(&rt, sum::ROWS);
     check_rows(&rt, profile::ROWS);
@@ -138,11 +154,11 @@ fn runs_rows(rt: HostRuntime) {
 /// The profile is refused before anything is read, so also if the input is refused.
 #[test]
 fn refuses_bad_profiles(rt: HostRuntime) {
-    for text in profile::BAD {
+    for &(text, stated) in profile::BAD {
         for command in ["time", "chart", "order", "prove", "sum"] {
-            let words = ["s66", command, "--profile", *text];
+            let words = ["s66", command, "--profile", text];
             for input in [ONE_LOAD, "  SA1 *+2\n"] {
-                check(&rt, text, &words, input.as_bytes(), 3, "BAD PROFILE\n");
+                check(&rt, text, &words, input.as_bytes(), 3, stated);
             }
         }
     }

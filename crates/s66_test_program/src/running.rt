@@ -61,7 +61,7 @@ pub(crate) fn run<R: AllocGlobal + Threads + Wait + Sync>(
     run_observed(rt, words, &mut OverRead::new(input), &mut Silent)
 }
 
-/// Checks the status, and the text that is written if it is 0, 5 or 7, and else goes to standard error.
+/// Checks the status, and the text that is written if it is 0, 5, 7 or 8, and else goes to standard error.
 pub(crate) fn check<R: AllocGlobal + Abort + Threads + Wait + Sync>(
     rt: &R,
     name: &str,
@@ -72,7 +72,7 @@ pub(crate) fn check<R: AllocGlobal + Abort + Threads + Wait + Sync>(
 ) {
     let ran = run(rt, words, input);
     let (wanted, empty) = match status {
-        0 | 5 | 7 => (&ran.written, &ran.stated),
+        0 | 5 | 7 | 8 => (&ran.written, &ran.stated),
         _ => (&ran.stated, &ran.written),
     };
     assert!(rt; ran.status == status, "{name}: {}", ran.status);

@@ -19,6 +19,9 @@ const NO_COMMANDS: &[(&[&str], u8)] = &[
     (&["s66", "check", "--profile", "{}"], 2),
     (&["s66", "deps", "--trace"], 2),
     (&["s66", "deps", "extra"], 2),
+    (&["s66", "deps", "--cut", "--cut"], 2),
+    (&["s66", "check", "--cut"], 2),
+    (&["s66", "lint", "--cut"], 2),
     (&["s66", "deps", "chart"], 2),
     (&["s66", "chart", "--trace"], 2),
     (&["s66", "order", "--workers", "0"], 2),
@@ -57,6 +60,7 @@ const COMMANDS: &[(&[&str], Command)] = &[
     (
         &["s66", "time"],
         Command::Time {
+            cut: false,
             trace: false,
             profile: None,
         },
@@ -64,6 +68,7 @@ const COMMANDS: &[(&[&str], Command)] = &[
     (
         &["s66", "time", "--trace"],
         Command::Time {
+            cut: false,
             trace: true,
             profile: None,
         },
@@ -71,20 +76,85 @@ const COMMANDS: &[(&[&str], Command)] = &[
     (
         &["s66", "time", "--profile", "{\"boolean\":5}"],
         Command::Time {
+            cut: false,
             trace: false,
             profile: Some("{\"boolean\":5}"),
         },
     ),
-    (&["s66", "deps"], Command::Deps),
+    (&["s66", "deps"], Command::Deps { cut: false }),
+    (&["s66", "deps", "--cut"], Command::Deps { cut: true }),
+    (
+        &["s66", "time", "--cut"],
+        Command::Time {
+            cut: true,
+            trace: false,
+            profile: None,
+        },
+    ),
+    (
+        &["s66", "chart", "--profile={}", "--cut"],
+        Command::Chart {
+            cut: true,
+            profile: Some("{}"),
+        },
+    ),
+    (
+        &["s66", "order", "--trace", "--cut"],
+        Command::Order {
+            cut: true,
+            options: Options {
+                workers: 4,
+                nodes: 100_000,
+                rule: Rule::NoneNamed,
+            },
+            trace: true,
+            profile: None,
+        },
+    ),
+    (
+        &["s66", "prove", "--cut", "--profile=--cut"],
+        Command::Prove {
+            cut: true,
+            options: Options {
+                workers: 4,
+                nodes: 100_000,
+                rule: Rule::NoneNamed,
+            },
+            profile: Some("--cut"),
+        },
+    ),
+    (
+        &["s66", "sum", "--cut", "--workers=2"],
+        Command::Sum {
+            cut: true,
+            options: Options {
+                workers: 2,
+                nodes: 100_000,
+                rule: Rule::NoneNamed,
+            },
+            trace: false,
+            profile: None,
+        },
+    ),
     (&["s66", "lint"], Command::Lint),
-    (&["s66", "chart"], Command::Chart { profile: None }),
+    (
+        &["s66", "chart"],
+        Command::Chart {
+            cut: false,
+            profile: None,
+        },
+    ),
     (
         &["s66", "chart", "--profile="],
-        Command::Chart { profile: Some("") },
+        Command::Chart {
+            cut: false,
+            profile: Some(""),
+        },
     ),
     (
         &["s66", "prove", "--profile", "no profile", "--nodes", "7"],
         Command::Prove {
+            cut: false,
             options: Options {
                 workers: 4,
                 nodes: 7,
@@ -96,6 +166,7 @@ const COMMANDS: &[(&[&str], Command)] = &[
     (
         &["s66", "sum", "--workers", "16", "--profile", "{}"],
         Command::Sum {
+            cut: false,
             options: Options {
                 workers: 16,
                 nodes: 100_000,
@@ -108,6 +179,7 @@ const COMMANDS: &[(&[&str], Command)] = &[
     (
         &["s66", "sum", "--dominate-tree", "--trace", "--nodes=0"],
         Command::Sum {
+            cut: false,
             options: Options {
                 workers: 4,
                 nodes: 0,
@@ -120,6 +192,7 @@ const COMMANDS: &[(&[&str], Command)] = &[
     (
         &["s66", "sum", "--dominate"],
         Command::Sum {
+            cut: false,
             options: Options {
                 workers: 4,
                 nodes: 100_000,
@@ -132,6 +205,7 @@ const COMMANDS: &[(&[&str], Command)] = &[
     (
         &["s66", "order", "--trace", "--profile=--trace"],
         Command::Order {
+            cut: false,
             options: Options {
                 workers: 4,
                 nodes: 100_000,
@@ -144,6 +218,7 @@ const COMMANDS: &[(&[&str], Command)] = &[
     (
         &["s66", "order"],
         Command::Order {
+            cut: false,
             options: Options {
                 workers: 4,
                 nodes: 100_000,
@@ -156,6 +231,7 @@ const COMMANDS: &[(&[&str], Command)] = &[
     (
         &["s66", "order", "--trace"],
         Command::Order {
+            cut: false,
             options: Options {
                 workers: 4,
                 nodes: 100_000,
@@ -168,6 +244,7 @@ const COMMANDS: &[(&[&str], Command)] = &[
     (
         &["s66", "order", "--workers", "1", "--nodes", "0"],
         Command::Order {
+            cut: false,
             options: Options {
                 workers: 1,
                 nodes: 0,
@@ -180,6 +257,7 @@ const COMMANDS: &[(&[&str], Command)] = &[
     (
         &["s66", "order", "--nodes=1000000", "--workers=16", "--trace"],
         Command::Order {
+            cut: false,
             options: Options {
                 workers: 16,
                 nodes: 1_000_000,
@@ -192,6 +270,7 @@ const COMMANDS: &[(&[&str], Command)] = &[
     (
         &["s66", "order", "--dominate"],
         Command::Order {
+            cut: false,
             options: Options {
                 workers: 4,
                 nodes: 100_000,
@@ -204,6 +283,7 @@ const COMMANDS: &[(&[&str], Command)] = &[
     (
         &["s66", "order", "--trace", "--dominate-tree", "--nodes", "8"],
         Command::Order {
+            cut: false,
             options: Options {
                 workers: 4,
                 nodes: 8,
@@ -216,6 +296,7 @@ const COMMANDS: &[(&[&str], Command)] = &[
     (
         &["s66", "prove", "--dominate", "--profile=--dominate-tree"],
         Command::Prove {
+            cut: false,
             options: Options {
                 workers: 4,
                 nodes: 100_000,
@@ -227,6 +308,7 @@ const COMMANDS: &[(&[&str], Command)] = &[
     (
         &["s66", "prove", "--dominate-tree"],
         Command::Prove {
+            cut: false,
             options: Options {
                 workers: 4,
                 nodes: 100_000,
@@ -259,7 +341,7 @@ fn reads_words(rt: HostRuntime) -> Result<(), Fail> {
 fn runs_a_command(rt: HostRuntime) {
     let mut reader = OverRead::new(b"  BX1 X2+X3\n".as_slice());
     let mut writer = OverWrite::new(Vec::new(rt.alloc()));
-    let result = run_command(&rt, Command::Deps, &mut reader, &mut writer);
+    let result = run_command(&rt, Command::Deps { cut: false }, &mut reader, &mut writer);
     assert!(rt; result == Ok(Status::Done));
     let written = writer.into_inner();
     assert!(rt; written.as_slice() == b"BLOCK 1 LINE 1 COUNT 1 DEPENDENCES 0\n".as_slice());

@@ -75,7 +75,7 @@ pub(crate) const ROWS: &[Row] = &[
         &["s66", "deps", "--profile", "{}"],
         ONE_LOAD,
         2,
-        "error: unexpected argument '--profile' found\n\nUsage: s66 deps < SOURCE\n\nFor more information, try '--help'.\n",
+        "error: unexpected argument '--profile' found\n\nUsage: s66 deps [OPTIONS] < SOURCE\n\nFor more information, try '--help'.\n",
     ),
     (
         "documents, whose profiles are their own",
@@ -87,13 +87,28 @@ pub(crate) const ROWS: &[Row] = &[
 ];
 
 /// Texts that give no profile.
-pub(crate) const BAD: &[&str] = &[
-    "{\"boolean\":0}",
-    "{\"boolean\":101}",
-    "{\"boolean\":\"3\"}",
-    "{\"boolean\":3.0}",
-    "{\"branch\":3}",
-    "[]",
-    "{",
-    "",
+pub(crate) const BAD: &[(&str, &str)] = &[
+    (
+        "{\"boolean\":0}",
+        "BAD PROFILE\n\"boolean\" is no whole number 1 to 100\n",
+    ),
+    (
+        "{\"boolean\":101}",
+        "BAD PROFILE\n\"boolean\" is no whole number 1 to 100\n",
+    ),
+    (
+        "{\"boolean\":\"3\"}",
+        "BAD PROFILE\n\"boolean\" is no whole number 1 to 100\n",
+    ),
+    (
+        "{\"boolean\":3.0}",
+        "BAD PROFILE\n\"boolean\" is no whole number 1 to 100\n",
+    ),
+    (
+        "{\"branch\":3}",
+        "BAD PROFILE\nno number of a profile is called \"branch\"\n",
+    ),
+    ("[]", "BAD PROFILE\nno JSON object\n"),
+    ("{", "BAD PROFILE\nno JSON object\n"),
+    ("", "BAD PROFILE\nno JSON object\n"),
 ];
