@@ -4,7 +4,7 @@ use crate::ledger::{claim_node, new_ledger, split_root};
 use s66_ledger::Ledger;
 use s66_line::Block;
 use s66_source::read_source;
-use s66_steal::{PASS_LIMIT, Lane, Pass, Thief, lane};
+use s66_steal::{Lane, PASS_LIMIT, Pass, Thief, lane};
 use s66_test_blocks::{MULTIPLIES, only_block};
 use std::process::Abort;
 use std::test::Fail;

@@ -5,7 +5,7 @@ use s66_dep::{Order, is_beginning};
 use s66_isa::Profile;
 use s66_ledger::{Entry, Event, Ledger, Offered, Reply, Ticket};
 use s66_line::Block;
-use s66_node::{FRONTIER, SPLIT, Piece, expand};
+use s66_node::{FRONTIER, Piece, SPLIT, expand};
 use s66_source::read_source;
 use s66_test_blocks::{MULTIPLIES, only_block};
 use s66_time::{Timed, time_of};
