@@ -183,14 +183,17 @@ switch-directive second line h =
         by_blank false e = short (upper_byte s ∷ []) (omega arith) e
     by_word (s ∷ b ∷ rest) e = by_blanks s b rest (is_blank s) (is_blank b) e
 
-no-switch : (second line : List ℕ) → is_directive line ≡ false → is_switch second (body line) ≡ false
-no-switch second line h = false_from_ne_true (is_switch second (body line)) (λ is. absurd (true≢false (sym (switch-directive second (body line) is) ∙ directive-body line h)))
+pub no-switch : (second line : List ℕ) → is_directive line ≡ false → is_switch second line ≡ false
+no-switch second line h = false_from_ne_true (is_switch second line) (λ is. absurd (true≢false (sym (switch-directive second line is) ∙ h)))
+
+no-body-switch : (second line : List ℕ) → is_directive line ≡ false → is_switch second (body line) ≡ false
+no-body-switch second line h = no-switch second (body line) (directive-body line h)
 
 -- a line that is no directive isn't left alone
 pub outside-alone : (s : Standing) (line : List ℕ) (continued : Bool) → s.off ≡ false → is_directive line ≡ false → is_alone false s line continued ≡ false
-outside-alone s line continued on plain = rw (on, no-switch (codes "OFF") line plain) refl
+outside-alone s line continued on plain = rw (on, no-body-switch (codes "OFF") line plain) refl
 
 -- and changes nothing
 pub outside-after : (s : Standing) (line : List ℕ) → s.off ≡ false → is_directive line ≡ false → after_line false s line ≡ s
 outside-after s line on plain =
-    ap (λ off. record s { off = off }) (same-off (is_on_switch (body line)) s.off (is_off_switch (body line)) on (no-switch (codes "OFF") line plain))
+    ap (λ off. record s { off = off }) (same-off (is_on_switch (body line)) s.off (is_off_switch (body line)) on (no-body-switch (codes "OFF") line plain))

@@ -34,15 +34,6 @@ fn is_name(word: &[u8], name: &[u8]) -> bool
     word.len() == name.len() && upper_case(word).as_slice() == name
 }
 
-/// Whether a body is a switch: a comment from column 1 that begins with `*S66` and this second word.
-pub fn is_switch(body: &[u8], second: &[u8]) -> bool
-    requires { length second.now ≤ TEXT_LIMIT }
-    ensures { result ≡ is_switch second.now body.now }
-{
-    let (first, next) = operation_and_operand(body);
-    is_name(first, b"*S66") && is_name(next, second)
-}
-
 /// Whether a body is a directive: a comment whose star is directly followed by a letter.
 pub fn is_directive(body: &[u8]) -> bool
     ensures { result ≡ is_directive body.now }
@@ -51,6 +42,18 @@ pub fn is_directive(body: &[u8]) -> bool
         [b'*', byte, ..] => byte.is_ascii_alphabetic(),
         _ => false,
     }
+}
+
+/// Whether a body is a switch: a comment from column 1 that begins with `*S66` and this second word.
+pub fn is_switch(body: &[u8], second: &[u8]) -> bool
+    requires { length second.now ≤ TEXT_LIMIT }
+    ensures { result ≡ is_switch second.now body.now }
+{
+    if !is_directive(body) {
+        return false;
+    }
+    let (first, next) = operation_and_operand(body);
+    is_name(first, b"*S66") && is_name(next, second)
 }
 
 /// How many definitions are open after an operation, whose name is in upper case, if `bodies` were before it.
@@ -181,6 +184,7 @@ impl Standing {
 
     /// Passes a line, and returns it with its class, as `classify` does. Most lines are read without `--cut` and after no switch
     /// `OFF`: then a switch alone is left alone, or changes what stands.
+    #[inline]
     pub(crate) fn take<'a>(
         &mut self,
         cut: bool,
