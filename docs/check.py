@@ -5,7 +5,7 @@
 
 PROGRAM is the built program. Without a DOCUMENT all are checked: README.md, CONTRIBUTING.md, the README.md of bench/ and of examples/,
 and docs/*.md; the manual page docs/s66.1: that its literal displays are what a terminal shows, and that it has each sentence of the
-program's help; and the files of examples/: that each NAME.time, NAME.chart and NAME.order is to the byte what the program writes
+program's help; docs/help: that each file is what the program shows; and the files of examples/: that each NAME.time, NAME.chart and NAME.order is to the byte what the program writes
 of NAME.compass, and that check says yes to each document that prove writes of it, at the times of NAME.order; and that
 tools/certificate.py, which is written from docs/FORMATS.md, says what check says of 200 texts of documents of all versions. The
 status is 1 where something is wrong, and each wrong place is told, wrong output as a diff.
@@ -229,6 +229,20 @@ def wrong_manual(name, program):
                 yield f"{name}: doesn't say: {sentence}"
 
 
+def wrong_help(program):
+    """What ./s66 shows of docs/help before the program is built is to the byte what the program shows."""
+    asked = {"none": [], "version": ["--version"]}
+    wrong = []
+    for path in sorted(glob.glob(os.path.join(ROOT, "docs/help/*"))):
+        name = os.path.basename(path)
+        words = name.removesuffix("-h").split("s66")[-1:] + ["-h" if name.endswith("-h") else "--help"]
+        ran = subprocess.run([program, *asked.get(name, [word for word in words if word])], capture_output=True)
+        with open(path, "rb") as opened:
+            if opened.read() != ran.stdout + ran.stderr:
+                wrong.append(f"docs/help/{name}: isn't what the program shows")
+    return wrong
+
+
 def wrong_verdicts(program):
     """What check and tools/certificate.py say differently of random texts of documents."""
     compare = [sys.executable, os.path.join(ROOT, "tools/compare_certificates.py"), program, "--texts", "200"]
@@ -246,6 +260,7 @@ def main(arguments):
     wrong, commands = [], 0
     if not arguments[1:]:
         wrong += wrong_manual("docs/s66.1", program)
+        wrong += wrong_help(program)
         wrong += wrong_examples(program)
         wrong += wrong_verdicts(program)
     repository = Repository()
