@@ -52,8 +52,12 @@ pub fn is_switch(body: &[u8], second: &[u8]) -> bool
     if !is_directive(body) {
         return false;
     }
-    let (first, next) = operation_and_operand(body);
-    is_name(first, b"*S66") && is_name(next, second)
+    let (first, _) = split_word(body);
+    if !is_name(first, b"*S66") {
+        return false;
+    }
+    let (_, next) = operation_and_operand(body);
+    is_name(next, second)
 }
 
 /// How many definitions are open after an operation, whose name is in upper case, if `bodies` were before it.
@@ -184,7 +188,7 @@ impl Standing {
 
     /// Passes a line, and returns it with its class, as `classify` does. Most lines are read without `--cut` and after no switch
     /// `OFF`: then a switch alone is left alone, or changes what stands.
-    #[inline]
+    #[inline(always)]
     pub(crate) fn take<'a>(
         &mut self,
         cut: bool,
