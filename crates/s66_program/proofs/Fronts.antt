@@ -6,6 +6,7 @@ use Rattle.std.proofs.lemmas.Bool.{cases_lt, le-ltb, lt-ltb}
 use Rattle.s66_line.specs.Fields.{body, continues, is_comment, lines_from, operand, operation, upper}
 use Rattle.s66_source.specs.LeftAlone.{Flagged, after_line, at_first, class_at, is_alone, is_continued, is_held, is_refused, flagged_from}
 use Rattle.s66_source.specs.declared.standing.Standing.{Standing}
+use Rattle.s66_source.proofs.CutLaw.{none-refused}
 use Rattle.s66_source.specs.Source.{blocks_of, classed_lines, classes_from, label_after, operand_refusal, or_else, place_after, refusal, run_after, source_of, unless_refused}
 use Rattle.s66_line.specs.Class.{by_operation, class_of, is_code, is_located}
 use Rattle.s66_line.specs.declared.class.Class.{Class}
@@ -43,33 +44,10 @@ both-of P false a a' b b' x y = y
 longer : (line : List ℕ) (b : ℕ) → length (line ++ b ∷ []) ≡ length line + 1
 longer line b = length-append line (b ∷ [])
 
--- WHAT IS REFUSED FOR ITS OPERAND, of a line that is continued or not
+-- WHAT IS REFUSED FOR ITS OPERAND, of a line that is continued or not; with `--cut` nothing is
 
 abbrev flagged-at : Bool → Standing → List ℕ → Bool → Flagged
 flagged-at cut s line continued = record { alone = is_alone cut s line continued; bytes = line }
-
--- with `--cut` nothing is: what would be is left alone
-by-refused : (number : ℕ) (c : Class) → operand_refusal number (if is_refused c then Other else c) ≡ None
-by-refused number Comment = refl
-by-refused number Other = refl
-by-refused number Refused = refl
-by-refused number (Pad located) = refl
-by-refused number (Instruction located n) = refl
-
-by-fields : (number : ℕ) (comment comma after : Bool) (c : Class) →
-    operand_refusal number (if is_refused (if comment then Comment else (if comma then Refused else c)) then Other
-    else (if comment then Comment else (if comma then (if after then Refused else Other) else c))) ≡ None
-by-fields number true comma after c = refl
-by-fields number false true after c = refl
-by-fields number false false after c = by-refused number c
-
-none-held : (number : ℕ) (held after : Bool) (line : List ℕ) → operand_refusal number (if held || is_refused (class_of true line) then Other else class_of after line) ≡ None
-none-held number true after line = refl
-none-held number false after line =
-    by-fields number (is_comment (body line)) (continues (body line)) after (by_operation (is_located (body line)) (upper (operation (body line))) (upper (operand (body line))))
-
-none-refused : (number : ℕ) (after continued : Bool) (s : Standing) (line : List ℕ) → operand_refusal number (class_at after (flagged-at true s line continued)) ≡ None
-none-refused number after continued s line = none-held number (is_held true s line continued) after line
 
 -- with `--cut` nothing of what is carried matters, and without it the same is carried
 abbrev Same : Bool → Carried → Carried → Type 0

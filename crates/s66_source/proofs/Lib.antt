@@ -16,4 +16,5 @@ pub mod ReadBlock
 pub mod ReadAgain
 pub mod SpelledLaw
 pub mod Standings
+pub mod CutLaw
 pub mod Counted

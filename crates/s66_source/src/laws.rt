@@ -1,11 +1,12 @@
-ghost use Rattle.std.specs.Prelude.{◌≡◌, ◌≤◌, ℕ, List, ◌∷◌, ◌++◌, Some, None, Ok, Bool, true, false, map, length, codes, [], not};
+ghost use Rattle.std.specs.Prelude.{◌≡◌, ◌≤◌, ℕ, List, ◌∷◌, ◌++◌, Some, None, Ok, Err, ◌≢◌, Bool, true, false, map, length, codes, [], not};
 ghost use Rattle.s66_isa.specs.Table.{instr, instr_at};
 ghost use Rattle.s66_isa.specs.Lists.{Among, tally, every};
 ghost use Rattle.s66_line.specs.Fields.{is_newline, upper, body, lines_of};
 ghost use Rattle.s66_line.specs.InstructionText.{IsTextOf};
 ghost use Rattle.s66_source.specs.UpperRead.{upper_read};
 ghost use Rattle.s66_source.specs.Counts.{cover_of};
-ghost use Rattle.s66_source.specs.LeftAlone.{Flagged, Reading, flagged_lines, plain};
+ghost use Rattle.s66_source.specs.LeftAlone.{Flagged, Reading, flagged_lines, is_off_switch, plain};
+ghost use Rattle.s66_source.specs.declared.error.SourceError.TheVariants.{BadOperand};
 ghost use Rattle.s66_source.specs.declared.cover.Cover.TheVariants.{Nothing, Lines, ToItsEnd};
 ghost use Rattle.s66_source.specs.Source.{Line, classed_lines, instructions, parts_of, blocks_of, source_of};
 ghost use Rattle.s66_line.specs.Block.{Block, instrs_of, text_of, constants_in};
@@ -51,6 +52,16 @@ pub fn copied_law()
 /// refused if a line or the source has grown too long.
 pub fn read_again_law()
     ensures { (source : Reading) (blocks again : List Block) (ps : List Placed) → source_of source ≡ Ok blocks → ArePlaced blocks ps → AreComplete blocks ps → source_of (record { cut = source.cut; text = printed source ps }) ≡ Ok again → ArePlacedAgain blocks ps again }
+{}
+
+/// With `--cut` no operand is refused.
+pub fn cut_law()
+    ensures { (text : List ℕ) (line : ℕ) → source_of (record { cut = true; text = text }) ≢ Err (BadOperand line) }
+{}
+
+/// Without `--cut`, no line of a source that has no switch `OFF` is left alone.
+pub fn plain_law()
+    ensures { (text : List ℕ) → every (λ line. not (is_off_switch (body line))) (lines_of text) ≡ true → every (λ (line : Flagged). not line.alone) (flagged_lines (plain text)) ≡ true }
 {}
 
 /// What becomes of the lines of a small source, and of comments and a `NO` outside of blocks.

@@ -18,8 +18,9 @@ pub use counts::{are_digits, counting_operand, cover_of, is_decimal_digit, is_on
 pub use cover::Cover;
 pub use error::SourceError;
 pub use laws::{
-    block_examples, case_law, copied_law, count_examples, left_alone_examples, line_examples,
-    line_law, parts_law, printed_examples, read_again_examples, read_again_law, spelled_law,
+    block_examples, case_law, copied_law, count_examples, cut_law, left_alone_examples,
+    line_examples, line_law, parts_law, plain_law, printed_examples, read_again_examples,
+    read_again_law, spelled_law,
 };
 pub use limits::SOURCE_LINES_LIMIT;
 pub use placed::Placed;

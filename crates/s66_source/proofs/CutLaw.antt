@@ -1,0 +1,88 @@
+-- With `--cut` nothing is refused for its operand; without it, and without a switch, nothing is left alone.
+use Rattle.std.proofs.Common.{◌≡◌, ◌&&◌, ◌||◌, ℕ, suc, Bool, true, false, not, if◌then◌else◌, List, [], ◌∷◌, Option, None, Some, nat_lt, refl, sym, ap, ap₂, ◌∙◌}
+use Rattle.std.specs.Prelude.{Err, Ok, Result}
+use Rattle.std.proofs.lemmas.Bool.{and_parts, and_from, not-true}
+use Rattle.s66_isa.specs.Lists.{every}
+use Rattle.s66_line.specs.Block.{Block}
+use Rattle.s66_line.specs.Class.{by_operation, class_of, is_code, is_located}
+use Rattle.s66_line.specs.Fields.{body, continues, is_comment, lines_of, operand, operation, upper}
+use Rattle.s66_line.specs.declared.class.Class.{Class}
+use Rattle.s66_line.specs.declared.class.Class.TheVariants.{Comment, Other, Refused, Pad, Instruction}
+use Rattle.s66_line.specs.declared.limits.TheConstants.{LINE_BYTES_LIMIT}
+use Rattle.s66_source.specs.LeftAlone.{Flagged, after_line, at_first, class_at, flagged_from, flagged_lines, is_alone, is_continued, is_held, is_off_switch, is_on_switch, is_refused, off_after, plain}
+use Rattle.s66_source.specs.Source.{blocks_of, classed_lines, classes_from, label_after, operand_refusal, or_else, place_after, refusal, run_after, source_of, unless_refused}
+use Rattle.s66_source.specs.declared.error.SourceError.{SourceError}
+use Rattle.s66_source.specs.declared.error.SourceError.TheVariants.{BadOperand, LineTooLong, TooLarge}
+use Rattle.s66_source.specs.declared.limits.TheConstants.{SOURCE_LINES_LIMIT}
+use Rattle.s66_source.specs.declared.standing.Standing.{Standing}
+
+-- WITH `--cut` what would be refused is left alone
+
+by-refused : (number : ℕ) (c : Class) → operand_refusal number (if is_refused c then Other else c) ≡ None
+by-refused number Comment = refl
+by-refused number Other = refl
+by-refused number Refused = refl
+by-refused number (Pad located) = refl
+by-refused number (Instruction located n) = refl
+
+by-fields : (number : ℕ) (comment comma after : Bool) (c : Class) →
+    operand_refusal number (if is_refused (if comment then Comment else (if comma then Refused else c)) then Other
+    else (if comment then Comment else (if comma then (if after then Refused else Other) else c))) ≡ None
+by-fields number true comma after c = refl
+by-fields number false true after c = refl
+by-fields number false false after c = by-refused number c
+
+none-held : (number : ℕ) (held after : Bool) (line : List ℕ) → operand_refusal number (if held || is_refused (class_of true line) then Other else class_of after line) ≡ None
+none-held number true after line = refl
+none-held number false after line =
+    by-fields number (is_comment (body line)) (continues (body line)) after (by_operation (is_located (body line)) (upper (operation (body line))) (upper (operand (body line))))
+
+pub none-refused : (number : ℕ) (after continued : Bool) (s : Standing) (line : List ℕ) → operand_refusal number (class_at after (record { alone = is_alone true s line continued; bytes = line })) ≡ None
+none-refused number after continued s line = none-held number (is_held true s line continued) after line
+
+-- it is refused, if at all, for another reason
+abbrev IsOther : Option SourceError → Type 0
+IsOther None = Unit {0}
+IsOther (Some (BadOperand line)) = ⊥
+IsOther (Some e) = Unit {0}
+
+other-line : (long many : Bool) (number : ℕ) (o r : Option SourceError) → o ≡ None → IsOther r → IsOther (or_else (if long then Some (LineTooLong number) else (if many then Some TooLarge else o)) r)
+other-line true many number o r none h = tt
+other-line false true number o r none h = tt
+other-line false false number None r none h = h
+other-line false false number (Some e) r none h = cc
+
+other-refusal : (lines : List (List ℕ)) (number run index : ℕ) (label : List ℕ) (after : Bool) (s : Standing) → IsOther (refusal (classes_from number run index label after (flagged_from true s lines)))
+other-refusal [] number run index label after s = tt
+other-refusal (line ∷ lines) number run index label after s =
+    let c = class_at after (record { alone = is_alone true s line (is_continued lines); bytes = line }) in
+    other-line _ _ number (operand_refusal number c) _ (none-refused number after (is_continued lines) s line)
+    (other-refusal lines (suc number) (run_after run c) (place_after index c) (label_after label c line) (is_code c) (after_line true s line))
+
+not-operand : (r : Option SourceError) (blocks : List Block) (line : ℕ) → IsOther r → unless_refused r blocks ≡ Err (BadOperand line) → ⊥
+not-operand None blocks line h e = cc
+not-operand (Some (BadOperand n)) blocks line h e = h
+not-operand (Some (LineTooLong n)) blocks line h e = cc
+not-operand (Some TooLarge) blocks line h e = cc
+not-operand (Some e') blocks line h e = cc
+
+pub no-operand : (text : List ℕ) (line : ℕ) → source_of (record { cut = true; text = text }) ≡ Err (BadOperand line) → ⊥
+no-operand text line e =
+    not-operand (refusal (classed_lines (record { cut = true; text = text }))) (blocks_of (classed_lines (record { cut = true; text = text }))) line (other-refusal (lines_of text) 1 0 0 [] false at_first) e
+
+-- WITHOUT IT, and without a switch
+
+abbrev is_on : Flagged → Bool
+is_on line = not line.alone
+
+stays-on : (on : Bool) (off off_line : Bool) → off ≡ false → off_line ≡ false → (if on then false else (off || off_line)) ≡ false
+stays-on true off off_line h k = refl
+stays-on false off off_line h k = rw (h, k) refl
+
+pub none-alone : (lines : List (List ℕ)) (s : Standing) → s.off ≡ false → every (λ line. not (is_off_switch (body line))) lines ≡ true → every is_on (flagged_from false s lines) ≡ true
+none-alone [] s on none = refl
+none-alone (line ∷ lines) s on none =
+    let both = and_parts (not (is_off_switch (body line))) (every (λ line. not (is_off_switch (body line))) lines) none in
+    let here : is_off_switch (body line) ≡ false = not-true (is_off_switch (body line)) both.0 in
+    and_from (not (is_alone false s line (is_continued lines))) _ (rw (on, here) refl)
+    (none-alone lines (after_line false s line) (stays-on (is_on_switch (body line)) s.off (is_off_switch (body line)) on here) both.1)
