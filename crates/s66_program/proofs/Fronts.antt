@@ -1,18 +1,16 @@
 -- A text that is too long is refused as a source for what is in its front, whatever follows.
-use Rattle.std.proofs.Common.{◌≡◌, ◌≤◌, ◌<◌, ◌+◌, ◌*◌, ℕ, suc, Bool, true, false, if◌then◌else◌, List, [], ◌∷◌, ◌++◌, Option, None, Some, Err, inl, inr, length, refl, sym, ap, ap₂, ◌∙◌, subst, arith}
-use Rattle.std.specs.Prelude.{◌==◌, ◌||◌}
+use Rattle.std.proofs.Common.{◌≡◌, ◌≤◌, ◌<◌, ◌+◌, ◌*◌, ℕ, suc, Bool, true, false, if◌then◌else◌, List, [], ◌∷◌, ◌++◌, Option, None, Some, Err, inl, inr, length, refl, sym, ap, ◌∙◌, arith}
+use Rattle.std.specs.Prelude.{◌==◌}
 use Rattle.std.proofs.lemmas.List.{length-append}
 use Rattle.std.proofs.lemmas.Bool.{cases_lt, le-ltb, lt-ltb}
-use Rattle.s66_line.specs.Fields.{body, continues, is_comment, lines_from, operand, operation, upper}
-use Rattle.s66_source.specs.LeftAlone.{Flagged, after_line, at_first, class_at, is_alone, is_continued, is_held, is_refused, flagged_from}
+use Rattle.s66_line.specs.Fields.{lines_from}
+use Rattle.s66_source.specs.LeftAlone.{Flagged, after_line, at_first, class_at, is_alone, is_continued, flagged_from}
 use Rattle.s66_source.specs.declared.standing.Standing.{Standing}
 use Rattle.s66_source.proofs.CutLaw.{none-refused}
 use Rattle.s66_source.specs.Source.{blocks_of, classed_lines, classes_from, label_after, operand_refusal, or_else, place_after, refusal, run_after, source_of, unless_refused}
-use Rattle.s66_line.specs.Class.{by_operation, class_of, is_code, is_located}
-use Rattle.s66_line.specs.declared.class.Class.{Class}
-use Rattle.s66_line.specs.declared.class.Class.TheVariants.{Comment, Other, Refused, Pad, Instruction}
+use Rattle.s66_line.specs.Class.{is_code}
 use Rattle.s66_source.specs.declared.error.SourceError.{SourceError}
-use Rattle.s66_source.specs.declared.error.SourceError.TheVariants.{BadOperand, LineTooLong, TooLarge}
+use Rattle.s66_source.specs.declared.error.SourceError.TheVariants.{LineTooLong, TooLarge}
 use Rattle.s66_line.specs.declared.limits.TheConstants.{LINE_BYTES_LIMIT}
 use Rattle.s66_source.specs.declared.limits.TheConstants.{SOURCE_LINES_LIMIT}
 use Rattle.s66_program.specs.declared.limits.TheConstants.{SOURCE_FRONT}

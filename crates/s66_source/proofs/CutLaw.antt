@@ -1,6 +1,6 @@
 -- With `--cut` nothing is refused for its operand; without it, and without a switch, nothing is left alone.
-use Rattle.std.proofs.Common.{◌≡◌, ◌&&◌, ◌||◌, ℕ, suc, Bool, true, false, not, if◌then◌else◌, List, [], ◌∷◌, Option, None, Some, nat_lt, refl, sym, ap, ap₂, ◌∙◌}
-use Rattle.std.specs.Prelude.{Err, Ok, Result}
+use Rattle.std.proofs.Common.{◌≡◌, ◌||◌, ℕ, suc, Bool, true, false, not, if◌then◌else◌, List, [], ◌∷◌, Option, None, Some, refl}
+use Rattle.std.specs.Prelude.{Err}
 use Rattle.std.proofs.lemmas.Bool.{and_parts, and_from, not-true}
 use Rattle.s66_isa.specs.Lists.{every}
 use Rattle.s66_line.specs.Block.{Block}
@@ -8,12 +8,10 @@ use Rattle.s66_line.specs.Class.{by_operation, class_of, is_code, is_located}
 use Rattle.s66_line.specs.Fields.{body, continues, is_comment, lines_of, operand, operation, upper}
 use Rattle.s66_line.specs.declared.class.Class.{Class}
 use Rattle.s66_line.specs.declared.class.Class.TheVariants.{Comment, Other, Refused, Pad, Instruction}
-use Rattle.s66_line.specs.declared.limits.TheConstants.{LINE_BYTES_LIMIT}
-use Rattle.s66_source.specs.LeftAlone.{Flagged, after_line, at_first, class_at, flagged_from, flagged_lines, is_alone, is_continued, is_held, is_off_switch, is_on_switch, is_refused, off_after, plain}
+use Rattle.s66_source.specs.LeftAlone.{Flagged, after_line, at_first, class_at, flagged_from, is_alone, is_continued, is_held, is_off_switch, is_on_switch, is_refused}
 use Rattle.s66_source.specs.Source.{blocks_of, classed_lines, classes_from, label_after, operand_refusal, or_else, place_after, refusal, run_after, source_of, unless_refused}
 use Rattle.s66_source.specs.declared.error.SourceError.{SourceError}
 use Rattle.s66_source.specs.declared.error.SourceError.TheVariants.{BadOperand, LineTooLong, TooLarge}
-use Rattle.s66_source.specs.declared.limits.TheConstants.{SOURCE_LINES_LIMIT}
 use Rattle.s66_source.specs.declared.standing.Standing.{Standing}
 
 -- WITH `--cut` what would be refused is left alone

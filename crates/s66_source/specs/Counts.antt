@@ -1,5 +1,5 @@
 -- To be believed: which lines an operation of the assembler covers that counts the lines after it.
-use Rattle.std.specs.Prelude.{ℕ, zero, suc, Bool, true, false, ◌&&◌, ◌||◌, ◌==◌, ◌+◌, ◌*◌, ◌-◌, if◌then◌else◌, min, max, List, [], ◌∷◌, Option, None, Some, codes, length, nat_le, nat_lt, bytes_eq}
+use Rattle.std.specs.Prelude.{ℕ, zero, suc, Bool, true, false, ◌&&◌, ◌==◌, ◌+◌, ◌*◌, ◌-◌, if◌then◌else◌, min, max, List, [], ◌∷◌, Option, None, Some, codes, length, nat_le, nat_lt, bytes_eq}
 use Rattle.s66_isa.specs.Lists.{every, some_of}
 use Rattle.s66_line.specs.Fields.{from_operand, word}
 use Rattle.s66_source.specs.declared.cover.Cover.{Cover}

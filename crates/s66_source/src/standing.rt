@@ -188,7 +188,6 @@ impl Standing {
 
     /// Passes a line, and returns it with its class, as `classify` does. Most lines are read without `--cut` and after no switch
     /// `OFF`: then a switch alone is left alone, or changes what stands.
-    #[inline(always)]
     pub(crate) fn take<'a>(
         &mut self,
         cut: bool,

@@ -1,6 +1,5 @@
-use Rattle.std.proofs.Common.{◌≡◌, ◌∙◌, ℕ, Bool, true, false, List, if◌then◌else◌, refl, sym, ap}
+use Rattle.std.proofs.Common.{◌≡◌, ◌∙◌, ℕ, Bool, true, false, List, if◌then◌else◌, sym, ap}
 use Rattle.s66_line.specs.Class.{class_of}
-use Rattle.s66_line.specs.declared.class.Class.{Class}
 use Rattle.s66_line.specs.declared.class.Class.TheVariants.{Other}
 use Rattle.s66_source.specs.LeftAlone.{after_line, class_at, is_alone, is_directive}
 use Rattle.s66_source.specs.declared.standing.Standing.{Standing}
