@@ -5,39 +5,39 @@ use Rattle.s66_line.specs.Fields.{body, lines_from}
 use Rattle.s66_line.proofs.LineCuts.{IsFirstNewline, last-none}
 use Rattle.s66_source.specs.LeftAlone.{Flagged, is_off_switch, off_after}
 use Rattle.s66_lint.specs.Findings.{Seen, may_continue, seen_from, sight_of}
-use Rattle.s66_lint.specs.Parts.{first_line, switch_of, flagged_by, seen_line}
+use Rattle.s66_lint.specs.Parts.{first_line, flagged_line, flagged_by, seen_line}
 
 alone-by : (off switch : Bool) → ((off || (switch || false)) || false) ≡ (off || switch)
 alone-by true switch = refl
 alone-by false true = refl
 alone-by false false = refl
 
-pub flagged-line : (off : Bool) (line : List ℕ) (lines : List (List ℕ)) → flagged_by off (line ∷ lines) ≡ switch_of off line ∷ flagged_by (off_after off (body line)) lines
-flagged-line off line lines =
+pub flagged-first : (off : Bool) (line : List ℕ) (lines : List (List ℕ)) → flagged_by off (line ∷ lines) ≡ flagged_line off line ∷ flagged_by (off_after off (body line)) lines
+flagged-first off line lines =
     ap (λ (alone : Bool). let flagged : Flagged = record { alone = alone; bytes = line } in flagged ∷ flagged_by (off_after off (body line)) lines) (alone-by off (is_off_switch (body line)))
 
 -- within a limit
 seen-in : (n m : ℕ) (items : List Seen) (after off : Bool) (line : List ℕ) (lines : List (List ℕ)) → n ≡ suc m →
-    (items ++ seen_line after (switch_of off line) ∷ []) ++ seen_from (may_continue (sight_of after (switch_of off line))) (take m (flagged_by (off_after off (body line)) lines))
+    (items ++ seen_line after (flagged_line off line) ∷ []) ++ seen_from (may_continue (sight_of after (flagged_line off line))) (take m (flagged_by (off_after off (body line)) lines))
     ≡ items ++ seen_from after (take n (flagged_by off (line ∷ lines)))
 seen-in n m items after off line lines e =
-    append_assoc items (seen_line after (switch_of off line) ∷ []) (seen_from (may_continue (sight_of after (switch_of off line))) (take m (flagged_by (off_after off (body line)) lines)))
+    append_assoc items (seen_line after (flagged_line off line) ∷ []) (seen_from (may_continue (sight_of after (flagged_line off line))) (take m (flagged_by (off_after off (body line)) lines)))
     ∙ sym (ap (λ k. items ++ seen_from after (take k (flagged_by off (line ∷ lines)))) e
-    ∙ ap (λ (flagged : List Flagged). items ++ seen_from after (take (suc m) flagged)) (flagged-line off line lines))
+    ∙ ap (λ (flagged : List Flagged). items ++ seen_from after (take (suc m) flagged)) (flagged-first off line lines))
 
 left-after : (limit : ℕ) (items : List Seen) (x : Seen) → length items < limit → limit - length items ≡ suc (limit - length (items ++ x ∷ []))
 left-after limit items x h = let l = length-append items (x ∷ []) in omega (arith, l)
 
 pub seen-more : (limit : ℕ) (items : List Seen) (after off : Bool) (line : List ℕ) (lines : List (List ℕ)) → length items < limit →
-    (items ++ seen_line after (switch_of off line) ∷ [])
-    ++ seen_from (may_continue (sight_of after (switch_of off line))) (take (limit - length (items ++ seen_line after (switch_of off line) ∷ [])) (flagged_by (off_after off (body line)) lines))
+    (items ++ seen_line after (flagged_line off line) ∷ [])
+    ++ seen_from (may_continue (sight_of after (flagged_line off line))) (take (limit - length (items ++ seen_line after (flagged_line off line) ∷ [])) (flagged_by (off_after off (body line)) lines))
     ≡ items ++ seen_from after (take (limit - length items) (flagged_by off (line ∷ lines)))
-seen-more limit items after off line lines h = seen-in (limit - length items) _ items after off line lines (left-after limit items (seen_line after (switch_of off line)) h)
+seen-more limit items after off line lines h = seen-in (limit - length items) _ items after off line lines (left-after limit items (seen_line after (flagged_line off line)) h)
 
 past-in : (n m : ℕ) (off : Bool) (line : List ℕ) (lines : List (List ℕ)) → n ≡ suc m →
     first_line (drop m (flagged_by (off_after off (body line)) lines)) ≡ first_line (drop n (flagged_by off (line ∷ lines)))
 past-in n m off line lines e =
-    sym (ap (λ k. first_line (drop k (flagged_by off (line ∷ lines)))) e ∙ ap (λ (flagged : List Flagged). first_line (drop (suc m) flagged)) (flagged-line off line lines))
+    sym (ap (λ k. first_line (drop k (flagged_by off (line ∷ lines)))) e ∙ ap (λ (flagged : List Flagged). first_line (drop (suc m) flagged)) (flagged-first off line lines))
 
 pub past-more : (limit : ℕ) (items : List Seen) (x : Seen) (off : Bool) (line : List ℕ) (lines : List (List ℕ)) → length items < limit →
     first_line (drop (limit - length (items ++ x ∷ [])) (flagged_by (off_after off (body line)) lines)) ≡ first_line (drop (limit - length items) (flagged_by off (line ∷ lines)))

@@ -20,9 +20,9 @@ use Rattle.s66_lint.specs.declared.sight.Sight.TheVariants.{TooLong, LeftAlone, 
 
 -- LINES
 
--- by whether a switch `*S66 OFF` came before
-abbrev pub switch_of : Bool → List ℕ → Flagged
-switch_of off line = record { alone = off || is_off_switch (body line); bytes = line }
+-- a line without `--cut`, if the lines before it are switched off or on
+abbrev pub flagged_line : Bool → List ℕ → Flagged
+flagged_line off line = record { alone = off || is_off_switch (body line); bytes = line }
 
 -- the lines from one on, without `--cut`
 abbrev pub flagged_by : Bool → List (List ℕ) → List Flagged

@@ -1,10 +1,9 @@
 ghost use Rattle.std.specs.Prelude.{◌≡◌, ◌≤◌, ◌++◌, ◌-◌, [], ◌∷◌, false, length, take, drop, option_map, IfOk, OnOk};
 ghost use Rattle.s66_line.specs.Fields.{body, lines_from};
-ghost use Rattle.s66_source.specs.LeftAlone.{is_switch, off_after};
+ghost use Rattle.s66_source.specs.LeftAlone.{off_after};
 ghost use Rattle.s66_source.specs.declared.limits.TheConstants.{SOURCE_LINES_LIMIT};
-ghost use Rattle.s66_line.specs.declared.limits.TheConstants.{TEXT_LIMIT};
 ghost use Rattle.s66_lint.specs.Findings.{may_continue, seen_from, sight_of};
-ghost use Rattle.s66_lint.specs.Parts.{first_line, switch_of, flagged_by, seen_line};
+ghost use Rattle.s66_lint.specs.Parts.{first_line, flagged_line, flagged_by, seen_line};
 
 use crate::seen::Seen;
 use crate::sight::sight_of;
@@ -12,14 +11,6 @@ use memchr::memchr;
 use s66_line::body_of;
 use s66_source::{SOURCE_LINES_LIMIT, is_switch};
 use std::alloc::{AllocError, Global};
-
-/// Whether a body is the switch with this second word; of most bodies the first byte alone is read.
-fn is_switch_of(body: &[u8], second: &[u8]) -> bool
-    requires { length second.now ≤ TEXT_LIMIT }
-    ensures { result ≡ is_switch second.now body.now }
-{
-    matches!(body, [b'*', ..]) && is_switch(body, second)
-}
 
 /// What is seen of the lines of a source so far.
 #[derive(Debug, Drop)]
@@ -47,15 +38,15 @@ impl<'a> Lines<'a> {
 
     /// Reads the next line.
     fn take_line(&mut self, line: &'a [u8]) -> Result<(), AllocError>
-        ensures seen { OnOk result (self.new.seen.items ≡ self.old.seen.items ++ seen_line self.old.after (switch_of self.old.off line.now) ∷ []) }
-        ensures after { OnOk result (self.new.after ≡ may_continue (sight_of self.old.after (switch_of self.old.off line.now))) }
+        ensures seen { OnOk result (self.new.seen.items ≡ self.old.seen.items ++ seen_line self.old.after (flagged_line self.old.off line.now) ∷ []) }
+        ensures after { OnOk result (self.new.after ≡ may_continue (sight_of self.old.after (flagged_line self.old.off line.now))) }
         ensures off { OnOk result (self.new.off ≡ off_after self.old.off (body line.now)) }
     {
         let body = body_of(line);
-        let alone = self.off || is_switch_of(body, b"OFF");
+        let alone = self.off || is_switch(body, b"OFF");
         let sight = sight_of(self.after, alone, line);
         self.after = sight.may_continue();
-        self.off = alone && !is_switch_of(body, b"ON");
+        self.off = alone && !is_switch(body, b"ON");
         self.seen.push(Seen::new(sight, body))?;
         Ok(())
     }

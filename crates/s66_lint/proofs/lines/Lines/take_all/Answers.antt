@@ -5,7 +5,7 @@ use Rattle.s66_line.specs.Fields.{body}
 use Rattle.s66_source.specs.LeftAlone.{off_after}
 use Rattle.s66_source.specs.declared.limits.TheConstants.{SOURCE_LINES_LIMIT}
 use Rattle.s66_lint.specs.Findings.{may_continue, seen_from, sight_of}
-use Rattle.s66_lint.specs.Parts.{first_line, switch_of, flagged_by, seen_line}
+use Rattle.s66_lint.specs.Parts.{first_line, flagged_line, flagged_by, seen_line}
 use Rattle.s66_lint.proofs.SeenLines.{last-alone, past-full, past-more, past-none, seen-more, seen-none}
 use Rattle.s66_lint.proofs.lines.Lines.take_all.Goals as goal
 
@@ -42,14 +42,14 @@ loop-end-preserved c =
     let count = c.len.ensures in
     let less : length l.self.seen.items < SOURCE_LINES_LIMIT = omega (arith, few, count) in
     let next = c.in_ok-take_line.ensures in
-    let longer = length-append l.self.seen.items (seen_line l.self.after (switch_of l.self.off line) ∷ []) in
+    let longer = length-append l.self.seen.items (seen_line l.self.after (flagged_line l.self.off line) ∷ []) in
     let shorter = length-drop (c.in-Some.end + 1) rest in
     record {
       seen = rw (take_rest rest (c.in-Some.end + 1), next.seen, next.after, next.off)
           (seen-more SOURCE_LINES_LIMIT l.self.seen.items l.self.after l.self.off line _ less
           ∙ sym (ap (λ lines. l.self.seen.items ++ seen_from l.self.after (take (SOURCE_LINES_LIMIT - length l.self.seen.items) (flagged_by l.self.off lines))) cut) ∙ l.invariant.seen);
       past = rw (take_rest rest (c.in-Some.end + 1), next.seen, next.off)
-          (past-more SOURCE_LINES_LIMIT l.self.seen.items (seen_line l.self.after (switch_of l.self.off line)) l.self.off line _ less
+          (past-more SOURCE_LINES_LIMIT l.self.seen.items (seen_line l.self.after (flagged_line l.self.off line)) l.self.off line _ less
           ∙ sym (ap (λ lines. first_line (drop (SOURCE_LINES_LIMIT - length l.self.seen.items) (flagged_by l.self.off lines))) cut) ∙ l.invariant.past);
       within = rw (take_rest rest (c.in-Some.end + 1)) (let was = l.invariant.within in omega (arith, shorter, was));
       few = rw next.seen (omega (arith, longer, less));
@@ -59,12 +59,12 @@ pub returns-clause-seen : goal.returns-clause-seen
 returns-clause-seen c =
     let l = c.loop-end in
     let rest = l.rest.now in
-    let x = seen_line l.self.after (switch_of l.self.off rest) in
+    let x = seen_line l.self.after (flagged_line l.self.off rest) in
     let none = subst (IsFirstNewline rest) c.in_default.is c.memchr.ensures in
     let few = l.invariant.few in
     let count = c.len-2.ensures in
     let less : length l.self.seen.items < SOURCE_LINES_LIMIT = omega (arith, few, count) in
-    c.in_ok-take_line-2.ensures.seen ∙ sym (seen-none SOURCE_LINES_LIMIT (l.self.seen.items ++ x ∷ []) (may_continue (sight_of l.self.after (switch_of l.self.off rest))) (off_after l.self.off (body rest)))
+    c.in_ok-take_line-2.ensures.seen ∙ sym (seen-none SOURCE_LINES_LIMIT (l.self.seen.items ++ x ∷ []) (may_continue (sight_of l.self.after (flagged_line l.self.off rest))) (off_after l.self.off (body rest)))
     ∙ seen-more SOURCE_LINES_LIMIT l.self.seen.items l.self.after l.self.off rest [] less
     ∙ sym (ap (λ lines. l.self.seen.items ++ seen_from l.self.after (take (SOURCE_LINES_LIMIT - length l.self.seen.items) (flagged_by l.self.off lines))) (last-alone rest none (sym c.is_empty.ensures ∙ c.if-is_empty.false)))
     ∙ l.invariant.seen
@@ -73,7 +73,7 @@ pub returns-clause-past : goal.returns-clause-past
 returns-clause-past c =
     let l = c.loop-end in
     let rest = l.rest.now in
-    let x = seen_line l.self.after (switch_of l.self.off rest) in
+    let x = seen_line l.self.after (flagged_line l.self.off rest) in
     let none = subst (IsFirstNewline rest) c.in_default.is c.memchr.ensures in
     let few = l.invariant.few in
     let count = c.len-2.ensures in
