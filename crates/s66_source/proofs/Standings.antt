@@ -1,22 +1,128 @@
 -- What stands from one line to the next, and what leaves it as it is.
-use Rattle.std.proofs.Common.{◌≡◌, ◌==◌, ◌&&◌, ◌||◌, not, ℕ, Bool, true, false, if◌then◌else◌, List, [], ◌∷◌, ◌≤◌, Option, None, nat_lt, nat_le, lit<, length, get_or, codes, refl, sym, ap, ap₂, subst, ◌∙◌, arith}
-use Rattle.std.specs.Prelude.{bytes_eq, is_some}
+use Rattle.std.proofs.Common.{◌≡◌, ◌==◌, ◌&&◌, ◌||◌, inl, inr, not, ℕ, zero, suc, min, Bool, true, false, if◌then◌else◌, List, [], ◌∷◌, ◌≤◌, Option, None, Some, nat_lt, length, get_or, take, codes, refl, sym, ap, ap₂, subst, ◌∙◌, arith}
+use Rattle.std.specs.Prelude.{◌⊎◌, bytes_eq, is_some}
+use Rattle.std.specs.Char.{to_ascii_uppercase}
+use Rattle.std.specs.List.{prefix_len}
 use Rattle.std.proofs.lemmas.Slice.Eq.{bytes_eq-Decides}
-use Rattle.std.proofs.lemmas.Bool.{and_from, and_parts, or_parts, or_from, false_from_ne_true, true≢false, not-true, ltb-false}
+use Rattle.std.proofs.lemmas.Bool.{and_parts, eqb-true, or_cases, or_left, or_parts, or_from, false_from_ne_true, not_from_true, true≢false}
+use Rattle.std.proofs.lemmas.List.{length-take, take-take, take_all}
 use Rattle.s66_isa.specs.declared.instr.Instr.{Instr}
-use Rattle.s66_isa.specs.Lists.{every}
+use Rattle.s66_isa.specs.Lists.{every, some_of}
 use Rattle.s66_line.specs.Class.{class_of, class_of_operand, by_operation, is_code, is_located, is_pad}
 use Rattle.s66_line.specs.Fields.{after_word, body, continues, is_blank, is_comment, is_return, operand, operation, skip_blanks, trim, upper, upper_byte, word}
-use Rattle.s66_line.proofs.UpperCase.{kept}
+use Rattle.s66_line.proofs.LineFields.{word-length, word-take}
+use Rattle.s66_line.proofs.UpperCase.{length-upper}
 use Rattle.s66_line.specs.Operand.{is_octal, operation_of, instr_of}
+use Rattle.s66_line.specs.declared.class.Class.{Class}
 use Rattle.s66_line.specs.declared.class.Class.TheVariants.{Comment, Other, Refused, Pad}
-use Rattle.s66_source.specs.Counts.{counted_after_one, counted_after_two, counted_alone, counting_operand, cover_of, is_covering, is_one_of}
-use Rattle.s66_source.specs.LeftAlone.{after_line, after_operation, class_at, definitions, has_operation, is_alone, is_directive, is_held, is_letter, is_switch, is_off_switch, is_on_switch, is_refused, with_operation}
+use Rattle.s66_source.specs.Counts.{count_down, counted_after_one, counted_after_two, counted_alone, counting_operand, cover_of, is_covering, is_one_of, longer, range_ends}
+use Rattle.s66_source.specs.LeftAlone.{after_line, after_operation, bodies_after, class_at, definitions, has_operation, is_alone, is_directive, is_held, is_switch, is_off_switch, is_on_switch, is_refused, with_operation}
+use Rattle.s66_source.specs.Roles.{is_comment_class}
 use Rattle.s66_source.specs.declared.cover.Cover.{Cover}
 use Rattle.s66_source.specs.declared.cover.Cover.TheVariants.{Nothing, Lines, ToItsEnd}
 use Rattle.s66_source.specs.declared.standing.Standing.{Standing}
 
--- NAMES OF INSTRUCTIONS
+-- THE NAMES of operations that cover lines, or begin or end something
+
+abbrev all_names : List (List (List ℕ))
+all_names =
+    definitions ∷ (codes "ENDM" ∷ []) ∷ range_ends ∷ counted_alone ∷ counted_after_one ∷ counted_after_two ∷ (codes "ECHO" ∷ codes "IFC" ∷ []) ∷ []
+
+abbrev is_named : List ℕ → Bool
+is_named name = some_of (λ names. is_one_of names name) all_names
+
+-- a word that fails a test which all of them pass is none of them
+none-of : (test : List ℕ → Bool) (names : List (List ℕ)) (word : List ℕ) → test word ≡ false → every test names ≡ true → is_one_of names word ≡ false
+none-of test [] word fails all = refl
+none-of test (name ∷ names) word fails all =
+    let (here, more) = and_parts (test name) (every test names) all in
+    or_from (bytes_eq word name) (is_one_of names word)
+    (false_from_ne_true (bytes_eq word name) (λ same. absurd (true≢false (sym here ∙ ap test (sym ((bytes_eq-Decides word name).0 same)) ∙ fails))))
+    (none-of test names word fails more)
+
+none-in : (test : List ℕ → Bool) (lists : List (List (List ℕ))) (word : List ℕ) → test word ≡ false → every (every test) lists ≡ true → some_of (λ names. is_one_of names word) lists ≡ false
+none-in test [] word fails all = refl
+none-in test (names ∷ lists) word fails all =
+    let (here, more) = and_parts (every test names) (every (every test) lists) all in
+    or_from (is_one_of names word) (some_of (λ names. is_one_of names word) lists) (none-of test names word fails here) (none-in test lists word fails more)
+
+bodies-stay : (n : ℕ) (name : List ℕ) → is_one_of definitions name ≡ false → bytes_eq name (codes "ENDM") ≡ false → bodies_after n name ≡ n
+bodies-stay zero name begins ends = rw begins refl
+bodies-stay (suc n) name begins ends = rw (begins, ends) refl
+
+longer-nothing : (cover : Cover) → longer cover Nothing ≡ cover
+longer-nothing Nothing = refl
+longer-nothing (Lines n) = refl
+longer-nothing ToItsEnd = refl
+
+-- what is none of them counts a line down that is covered, and does no more
+only-counts : (s : Standing) (name operand : List ℕ) → is_named name ≡ false → after_operation s name operand ≡ record s { cover = count_down s.cover false }
+only-counts s name operand none =
+    let (begins, from_endm) = or_parts (is_one_of definitions name) _ none in
+    let (endm, from_ends) = or_parts (is_one_of (codes "ENDM" ∷ []) name) _ from_endm in
+    let (ends, from_alone) = or_parts (is_one_of range_ends name) _ from_ends in
+    let (alone, from_one) = or_parts (is_one_of counted_alone name) _ from_alone in
+    let (one, from_two) = or_parts (is_one_of counted_after_one name) _ from_one in
+    let (two, from_echo) = or_parts (is_one_of counted_after_two name) _ from_two in
+    let (last, _) = or_parts (is_one_of (codes "ECHO" ∷ codes "IFC" ∷ []) name) _ from_echo in
+    let (echo, from_ifc) = or_parts (bytes_eq name (codes "ECHO")) _ last in
+    let (ifc, _) = or_parts (bytes_eq name (codes "IFC")) false from_ifc in
+    let ends_body : bytes_eq name (codes "ENDM") ≡ false = (or_parts (bytes_eq name (codes "ENDM")) false endm).0 in
+    let nothing : cover_of name operand ≡ Nothing = rw (alone, one, two, echo, ifc) refl in
+    let bodies : bodies_after s.bodies name ≡ s.bodies = bodies-stay s.bodies name begins ends_body in
+    let same : (if s.bodies == 0 then longer (count_down s.cover false) Nothing else count_down s.cover false) ≡ count_down s.cover false =
+    elim (s.bodies == 0) as (λ t. (if t then longer (count_down s.cover false) Nothing else count_down s.cover false) ≡ count_down s.cover false)
+    [ true ↦ longer-nothing (count_down s.cover false) | false ↦ refl ] in
+    rw (bodies, ends, nothing) (ap (λ cover. record s { cover = cover }) same)
+
+-- how they begin, but for those of IF and its kin
+abbrev beginnings : List (List ℕ)
+beginnings = codes "IDE" ∷ codes "END" ∷ codes "ELS" ∷ codes "ECH" ∷ codes "MAC" ∷ codes "OPD" ∷ codes "SKI" ∷ codes "DUP" ∷ []
+
+abbrev begins_as : ℕ → ℕ → ℕ → Bool
+begins_as first second third = bytes_eq (first ∷ second ∷ []) (codes "IF") || is_one_of beginnings (first ∷ second ∷ third ∷ [])
+
+-- a word that begins as one of them
+abbrev may_be_named : List ℕ → Bool
+may_be_named (first ∷ second ∷ []) = bytes_eq (first ∷ second ∷ []) (codes "IF")
+may_be_named (first ∷ second ∷ third ∷ more) = begins_as first second third
+may_be_named word = false
+
+-- the first word of these bytes, which begin otherwise
+not-named : (first second third : ℕ) (bytes : List ℕ) → begins_as (upper_byte first) (upper_byte second) (upper_byte third) ≡ false →
+    may_be_named (upper (word (first ∷ second ∷ third ∷ bytes))) ≡ false
+not-named first second third bytes other =
+    elim (is_blank first) as (λ t. may_be_named (upper (if t then [] else first ∷ (if is_blank second then [] else second ∷ (if is_blank third then [] else third ∷ word bytes)))) ≡ false) [
+      | true ↦ refl
+      | false ↦
+          elim (is_blank second) as (λ t. may_be_named (upper (first ∷ (if t then [] else second ∷ (if is_blank third then [] else third ∷ word bytes)))) ≡ false) [
+            | true ↦ refl
+            | false ↦
+                elim (is_blank third) as (λ t. may_be_named (upper (first ∷ second ∷ (if t then [] else third ∷ word bytes))) ≡ false)
+                [ true ↦ (or_parts (bytes_eq (upper_byte first ∷ upper_byte second ∷ []) (codes "IF")) _ other).0 | false ↦ other ]
+          ]
+    ]
+
+-- std's word for a letter in upper case
+upper-ascii : (b : ℕ) → to_ascii_uppercase b ≡ upper_byte b
+upper-ascii b = grind arith
+
+-- the first word of bytes that begin otherwise counts a line down, and does no more
+pub ordinary : (s : Standing) (bytes operand : List ℕ) → 3 ≤ length bytes → begins_as (to_ascii_uppercase (get_or bytes 0 0)) (upper_byte (get_or bytes 1 0)) (upper_byte (get_or bytes 2 0)) ≡ false →
+    after_operation s (upper (word bytes)) operand ≡ record s { cover = count_down s.cover false }
+ordinary s (first ∷ second ∷ third ∷ bytes) operand long other =
+    let name : List ℕ = upper (word (first ∷ second ∷ third ∷ bytes)) in
+    only-counts s name operand (none-in may_be_named all_names name (not-named first second third bytes (rw (upper-ascii first) at other)) refl)
+ordinary s few operand long other = absurd (omega (arith, long))
+
+-- what has no letter in lower case is in upper case
+pub upper-same : (bytes : List ℕ) → every (λ b. upper_byte b == b) bytes ≡ true → upper bytes ≡ bytes
+upper-same [] all = refl
+upper-same (b ∷ bytes) all =
+    let (here, more) = and_parts (upper_byte b == b) (every (λ b. upper_byte b == b) bytes) all in
+    ap₂ (λ c rest. c ∷ rest) (eqb-true (upper_byte b) b here) (upper-same bytes more)
+
+-- NAMES OF INSTRUCTIONS are none of them
 
 -- two letters and an octal digit, or NO
 abbrev may_be_code : List ℕ → Bool
@@ -41,13 +147,20 @@ code-pad (p ∷ []) h = cc
 code-pad (p ∷ q ∷ []) h = h
 code-pad (p ∷ q ∷ d ∷ word) h = cc
 
--- such a word is none of these names, since none of them is such a word
-none-of : (names : List (List ℕ)) (word : List ℕ) → may_be_code word ≡ true → every (λ name. not (may_be_code name)) names ≡ true → is_one_of names word ≡ false
-none-of [] word code none = refl
-none-of (name ∷ names) word code none =
-    let (here, more) = and_parts (not (may_be_code name)) (every (λ name. not (may_be_code name)) names) none in
-    let other : bytes_eq word name ≡ false = false_from_ne_true (bytes_eq word name) (λ same. absurd (true≢false (sym code ∙ ap may_be_code ((bytes_eq-Decides word name).0 same) ∙ not-true (may_be_code name) here))) in
-    or_from (bytes_eq word name) (is_one_of names word) other (none-of names word code more)
+-- HOW MANY DEFINITIONS are open grows by one at most
+
+one-more : (n : ℕ) (name : List ℕ) → bodies_after n name ≤ suc n
+one-more zero name = elim (is_one_of definitions name) as (λ t. (if t then 1 else 0) ≤ 1) [ true ↦ omega arith | false ↦ omega arith ]
+one-more (suc n) name =
+    elim (is_one_of definitions name) as (λ t. (if t then suc (suc n) else (if bytes_eq name (codes "ENDM") then n else suc n)) ≤ suc (suc n))
+    [ true ↦ omega arith | false ↦ elim (bytes_eq name (codes "ENDM")) as (λ t. (if t then n else suc n) ≤ suc (suc n)) [ true ↦ omega arith | false ↦ omega arith ] ]
+
+pub bodies-grow : (cut : Bool) (s : Standing) (line : List ℕ) → (after_line cut s line).bodies ≤ suc s.bodies
+bodies-grow cut s line =
+    let name : List ℕ = upper (operation (body line)) in
+    let operand : List ℕ = upper (counting_operand (body line)) in
+    elim (cut && has_operation (body line)) as (λ t. (if t then after_operation s name operand else s).bodies ≤ suc s.bodies)
+    [ true ↦ one-more s.bodies name | false ↦ omega arith ]
 
 -- A LINE OF CODE
 
@@ -70,30 +183,16 @@ pub code-line : (after : Bool) (line : List ℕ) → is_code (class_of after lin
 code-line after line h =
     code-line-by after (is_located (body line)) (is_comment (body line)) (continues (body line)) (body line) (upper (operation (body line))) (upper (operand (body line))) refl refl h
 
--- it covers nothing, and neither begins nor ends a definition
-covers-nothing : (name operand : List ℕ) → may_be_code name ≡ true → cover_of name operand ≡ Nothing
-covers-nothing name operand code =
-    let (echo, more) = or_parts (bytes_eq name (codes "ECHO")) (is_one_of (codes "IFC" ∷ []) name) (none-of (codes "ECHO" ∷ codes "IFC" ∷ []) name code refl) in
-    let (ifc, end) = or_parts (bytes_eq name (codes "IFC")) false more in
-    rw (none-of counted_alone name code refl, none-of counted_after_one name code refl, none-of counted_after_two name code refl, echo, ifc) refl
-
 no-cover : (cover : Cover) → is_covering cover ≡ false → cover ≡ Nothing
 no-cover Nothing h = refl
 no-cover (Lines n) h = cc
 no-cover ToItsEnd h = cc
 
-no-bodies : (n : ℕ) → nat_lt 0 n ≡ false → n ≡ 0
-no-bodies n h = let none = ltb-false 0 n h in omega arith
-
-after-code-operation : (off : Bool) (name operand : List ℕ) → may_be_code name ≡ true →
-    after_operation (record { off = off; bodies = 0; cover = Nothing }) name operand ≡ record { off = off; bodies = 0; cover = Nothing }
-after-code-operation off name operand code = rw (none-of definitions name code refl, covers-nothing name operand code) refl
-
 -- a line that is not left alone comes under no definition and no count
 record IsPlain (cut : Bool) (s : Standing) (line : List ℕ) : Type 0 where
   on : s.off ≡ false
   no_switch : is_off_switch (body line) ≡ false
-  none_open : cut ≡ true → (s.bodies ≡ 0) × (s.cover ≡ Nothing)
+  uncovered : cut ≡ true → s.cover ≡ Nothing
 
 plain-line : (cut continued : Bool) (s : Standing) (line : List ℕ) → is_alone cut s line continued ≡ false → IsPlain cut s line
 plain-line cut continued s line h =
@@ -105,95 +204,115 @@ plain-line cut continued s line h =
     record {
       on = on;
       no_switch = no_switch;
-      none_open = λ cuts.
+      uncovered = λ cuts.
           let none_held : held ≡ false = subst (λ t. (t && held) ≡ false) cuts none in
-          let (bodies, rest) = or_parts (nat_lt 0 s.bodies) cover_on none_held in
-          (no-bodies s.bodies bodies, no-cover s.cover (or_parts (is_covering s.cover) (continued || is_directive (body line)) rest).0);
+          let (_, rest) = or_parts (nat_lt 0 s.bodies) cover_on none_held in
+          no-cover s.cover (or_parts (is_covering s.cover) (continued || is_directive (body line)) rest).0;
     }
 
 pub same-off : (on_switch off off_switch : Bool) → off ≡ false → off_switch ≡ false → (if on_switch then false else (off || off_switch)) ≡ off
 same-off true off off_switch none no_switch = sym none
 same-off false off off_switch none no_switch = rw (none, no_switch) refl
 
-same-open : (s : Standing) (name operand : List ℕ) → may_be_code name ≡ true → s.bodies ≡ 0 → s.cover ≡ Nothing → after_operation s name operand ≡ s
-same-open s name operand code none nothing =
-    let same : record { off = s.off; bodies = 0; cover = Nothing } ≡ s = ap₂ (λ bodies cover. record { off = s.off; bodies = bodies; cover = cover }) (sym none) (sym nothing) in
-    subst (λ t. after_operation t name operand ≡ t) same (after-code-operation s.off name operand code)
+same-open : (s : Standing) (name operand : List ℕ) → may_be_code name ≡ true → s.cover ≡ Nothing → after_operation s name operand ≡ s
+same-open s name operand code nothing =
+    only-counts s name operand (none-in (λ word. not (may_be_code word)) all_names name (not_from_true (may_be_code name) code) refl)
+    ∙ ap (λ cover. record s { cover = cover }) (ap (λ cover. count_down cover false) nothing ∙ sym nothing)
 
-same-operation : (cut has : Bool) (s : Standing) (name operand : List ℕ) → may_be_code name ≡ true → (cut ≡ true → (s.bodies ≡ 0) × (s.cover ≡ Nothing)) →
+same-operation : (cut has : Bool) (s : Standing) (name operand : List ℕ) → (has ≡ true → may_be_code name ≡ true) → (cut ≡ true → s.cover ≡ Nothing) →
     (if cut && has then after_operation s name operand else s) ≡ s
 same-operation false has s name operand code none = refl
 same-operation true false s name operand code none = refl
-same-operation true true s name operand code none = same-open s name operand code (none refl).0 (none refl).1
+same-operation true true s name operand code none = same-open s name operand (code refl) (none refl)
 
-code-stays-plain : (cut after : Bool) (s : Standing) (line : List ℕ) → IsPlain cut s line → is_code (class_of after line) ≡ true → after_line cut s line ≡ s
-code-stays-plain cut after s line h code =
-    let (_, _, in_table) = code-line after line code in
-    let name = upper (operation (body line)) in
-    let operand = upper (counting_operand (body line)) in
-    let same : with_operation cut s (body line) ≡ s = same-operation cut (has_operation (body line)) s name operand in_table h.none_open in
+-- a line that has no operation but an instruction
+stays-plain : (cut : Bool) (s : Standing) (line : List ℕ) → IsPlain cut s line → (has_operation (body line) ≡ true → may_be_code (upper (operation (body line))) ≡ true) → after_line cut s line ≡ s
+stays-plain cut s line h code =
+    let same : with_operation cut s (body line) ≡ s =
+    same-operation cut (has_operation (body line)) s (upper (operation (body line))) (upper (counting_operand (body line))) code h.uncovered in
     ap₂ (λ (t : Standing) (off : Bool). record t { off = off }) same (same-off (is_on_switch (body line)) s.off (is_off_switch (body line)) h.on h.no_switch)
 
-code-stays-if : (cut continued after alone : Bool) (s : Standing) (line : List ℕ) → is_alone cut s line continued ≡ alone →
-    is_code (if alone then Other else class_of after line) ≡ true → after_line cut s line ≡ s
-code-stays-if cut continued after true s line is h = cc
-code-stays-if cut continued after false s line is h = code-stays-plain cut after s line (plain-line cut continued s line is) h
+-- a comment has no operation
+not-comment : (located pad in_table : Bool) (n : Option Instr) → is_comment_class (if pad then Pad located else (if in_table then class_of_operand located n else Other)) ≡ false
+not-comment located true in_table n = refl
+not-comment located false true None = refl
+not-comment located false true (Some n) = refl
+not-comment located false false n = refl
 
--- a line of code that is not left alone has no switch, and nothing begins or ends at it
+comment-line-by : (after comment continued : Bool) (c : Class) → is_comment_class c ≡ false → is_comment_class (if comment then Comment else (if continued then (if after then Refused else Other) else c)) ≡ true → comment ≡ true
+comment-line-by after true continued c other h = refl
+comment-line-by true false true c other h = cc
+comment-line-by false false true c other h = cc
+comment-line-by after false false c other h = absurd (true≢false (sym h ∙ other))
+
+comment-line : (after : Bool) (line : List ℕ) → is_comment_class (class_of after line) ≡ true → is_comment (body line) ≡ true
+comment-line after line h =
+    let operation : List ℕ = upper (operation (body line)) in
+    comment-line-by after (is_comment (body line)) (continues (body line)) _
+    (not-comment (is_located (body line)) (is_pad operation) (is_some (operation_of operation)) (instr_of operation (upper (operand (body line))))) h
+
+has-no-operation : (line : List ℕ) → is_comment line ≡ true → has_operation line ≡ false
+has-no-operation line comment = ap (λ is. not (is || continues line)) comment
+
+stays-if : (cut continued after alone : Bool) (s : Standing) (line : List ℕ) → is_alone cut s line continued ≡ alone →
+    (is_code (if alone then Other else class_of after line) || is_comment_class (if alone then Other else class_of after line)) ≡ true → after_line cut s line ≡ s
+stays-if cut continued after true s line is h = cc
+stays-if cut continued after false s line is h =
+    stays-plain cut s line (plain-line cut continued s line is) (by_class (or_cases (is_code (class_of after line)) (is_comment_class (class_of after line)) h))
+  where
+    by_class : (is_code (class_of after line) ≡ true) ⊎ (is_comment_class (class_of after line) ≡ true) → has_operation (body line) ≡ true → may_be_code (upper (operation (body line))) ≡ true
+    by_class (inl code) has = let (_, _, in_table) = code-line after line code in in_table
+    by_class (inr comment) has = absurd (true≢false (sym has ∙ has-no-operation (body line) (comment-line after line comment)))
+
+-- a line of code or a comment that is not left alone has no switch, and nothing begins or ends at it
+pub settled-stays : (cut continued after : Bool) (s : Standing) (line : List ℕ) →
+    (is_code (class_at after (record { alone = is_alone cut s line continued; bytes = line })) || is_comment_class (class_at after (record { alone = is_alone cut s line continued; bytes = line }))) ≡ true →
+    after_line cut s line ≡ s
+settled-stays cut continued after s line h = stays-if cut continued after (is_alone cut s line continued) s line refl h
+
 pub code-stays : (cut continued after : Bool) (s : Standing) (line : List ℕ) →
     is_code (class_at after (record { alone = is_alone cut s line continued; bytes = line })) ≡ true → after_line cut s line ≡ s
-code-stays cut continued after s line h = code-stays-if cut continued after (is_alone cut s line continued) s line refl h
+code-stays cut continued after s line h = settled-stays cut continued after s line (or_left _ _ h)
+
+-- SWITCHES begin with four bytes
+
+-- the first four bytes of a line that begins with a word of four or more
+word-front : (n : ℕ) (line : List ℕ) → n ≤ length (word line) → take n (word line) ≡ take n line
+word-front n line long =
+    let p : ℕ = prefix_len (λ b. not (is_blank b)) line in
+    let is : word line ≡ take p line = word-take line in
+    let few : length (word line) ≡ min p (length line) = ap length is ∙ length-take p line in
+    ap (take n) is ∙ take-take n p line (omega (arith, long, few))
+
+trim-front : (n : ℕ) (line : List ℕ) → n ≤ length (body line) → take n (body line) ≡ take n line
+trim-front zero line long = refl
+trim-front (suc n) [] long = refl
+trim-front (suc n) (b ∷ line) long =
+    (elim (every is_return (b ∷ line)) as (λ t. suc n ≤ length (if t then [] else b ∷ trim is_return line) → take (suc n) (if t then [] else b ∷ trim is_return line) ≡ b ∷ take n line)
+    [ true ↦ (λ none. absurd (omega (arith, none))) | false ↦ (λ more. ap (λ l. b ∷ l) (trim-front n line (omega (arith, more)))) ]) long
+
+switch-front : (second line : List ℕ) → is_switch second line ≡ true → (4 ≤ length (word line)) × (bytes_eq (upper (take 4 line)) (codes "*S66") ≡ true)
+switch-front second line h =
+    let first = (and_parts (bytes_eq (upper (word line)) (codes "*S66")) (bytes_eq (upper (word (skip_blanks (after_word line)))) second) h).0 in
+    let is : upper (word line) ≡ codes "*S66" = (bytes_eq-Decides (upper (word line)) (codes "*S66")).0 first in
+    let four : length (word line) ≡ 4 = sym (length-upper (word line)) ∙ ap length is in
+    let same : word line ≡ take 4 line = sym (take_all 4 (word line) (omega (arith, four))) ∙ word-front 4 line (omega (arith, four)) in
+    (omega (arith, four), subst (λ w. bytes_eq (upper w) (codes "*S66") ≡ true) same first)
+
+no-body-switch : (second line : List ℕ) → bytes_eq (upper (take 4 line)) (codes "*S66") ≡ false → is_switch second (body line) ≡ false
+no-body-switch second line h =
+    false_from_ne_true (is_switch second (body line)) (λ is.
+    let (long, front) = switch-front second (body line) is in
+    let whole = word-length (body line) in
+    absurd (true≢false (sym front ∙ ap (λ l. bytes_eq (upper l) (codes "*S66")) (trim-front 4 line (omega (arith, long, whole))) ∙ h)))
 
 -- WITHOUT `--cut` and outside of switches
 
--- without the carriage returns at its end a line is a directive only if it was one
-directive-body : (line : List ℕ) → is_directive line ≡ false → is_directive (body line) ≡ false
-directive-body [] h = refl
-directive-body (s ∷ []) h = elim (every is_return (s ∷ [])) as (λ t. is_directive (if t then [] else s ∷ []) ≡ false) [ true ↦ refl | false ↦ refl ]
-directive-body (s ∷ b ∷ line) h =
-    elim (every is_return (s ∷ b ∷ line)) as (λ t. is_directive (if t then [] else s ∷ (if every is_return (b ∷ line) then [] else b ∷ trim is_return line)) ≡ false)
-    [ true ↦ refl | false ↦ elim (every is_return (b ∷ line)) as (λ u. is_directive (s ∷ (if u then [] else b ∷ trim is_return line)) ≡ false) [ true ↦ refl | false ↦ h ] ]
-
--- the first byte of a word, and of what is left of it, in upper case
-star-first : (s : ℕ) (rest : List ℕ) → upper_byte s ∷ rest ≡ codes "*S66" → (s == 42) ≡ true
-star-first s rest e = sym (kept s 42 (lit< tt)) ∙ ap (λ l. get_or l 0 0 == 42) e
-
-letter-second : (s b : ℕ) (rest : List ℕ) → upper_byte s ∷ upper_byte b ∷ rest ≡ codes "*S66" → is_letter b ≡ true
-letter-second s b rest e = ap (λ l. nat_le 65 (get_or l 1 0) && nat_le (get_or l 1 0) 90) e
-
-short : {X : Type 0} (word : List ℕ) → length word ≤ 1 → word ≡ codes "*S66" → X
-short word few e = absurd (let long = ap length e in omega (arith, few, long))
-
--- a switch is a directive
-switch-directive : (second line : List ℕ) → is_switch second line ≡ true → is_directive line ≡ true
-switch-directive second line h =
-    by_word line ((bytes_eq-Decides (upper (word line)) (codes "*S66")).0 (and_parts (bytes_eq (upper (word line)) (codes "*S66")) (bytes_eq (upper (word (skip_blanks (after_word line)))) second) h).0)
-  where
-    by_blanks : (s b : ℕ) (rest : List ℕ) (t u : Bool) → upper (if t then [] else s ∷ (if u then [] else b ∷ word rest)) ≡ codes "*S66" → is_directive (s ∷ b ∷ rest) ≡ true
-    by_blanks s b rest true u e = short [] (omega arith) e
-    by_blanks s b rest false true e = short (upper_byte s ∷ []) (omega arith) e
-    by_blanks s b rest false false e = and_from (s == 42) (is_letter b) (star-first s (upper_byte b ∷ upper (word rest)) e) (letter-second s b (upper (word rest)) e)
-
-    by_word : (line : List ℕ) → upper (word line) ≡ codes "*S66" → is_directive line ≡ true
-    by_word [] e = short [] (omega arith) e
-    by_word (s ∷ []) e = by_blank (is_blank s) e
-      where
-        by_blank : (t : Bool) → upper (if t then [] else s ∷ []) ≡ codes "*S66" → is_directive (s ∷ []) ≡ true
-        by_blank true e = short [] (omega arith) e
-        by_blank false e = short (upper_byte s ∷ []) (omega arith) e
-    by_word (s ∷ b ∷ rest) e = by_blanks s b rest (is_blank s) (is_blank b) e
-
-pub no-switch : (second line : List ℕ) → is_directive line ≡ false → is_switch second line ≡ false
-no-switch second line h = false_from_ne_true (is_switch second line) (λ is. absurd (true≢false (sym (switch-directive second line is) ∙ h)))
-
-no-body-switch : (second line : List ℕ) → is_directive line ≡ false → is_switch second (body line) ≡ false
-no-body-switch second line h = no-switch second (body line) (directive-body line h)
-
--- a line that is no directive isn't left alone
-pub outside-alone : (s : Standing) (line : List ℕ) (continued : Bool) → s.off ≡ false → is_directive line ≡ false → is_alone false s line continued ≡ false
+-- a line that begins as no switch does isn't left alone
+pub outside-alone : (s : Standing) (line : List ℕ) (continued : Bool) → s.off ≡ false → bytes_eq (upper (take 4 line)) (codes "*S66") ≡ false → is_alone false s line continued ≡ false
 outside-alone s line continued on plain = rw (on, no-body-switch (codes "OFF") line plain) refl
 
 -- and changes nothing
-pub outside-after : (s : Standing) (line : List ℕ) → s.off ≡ false → is_directive line ≡ false → after_line false s line ≡ s
+pub outside-after : (s : Standing) (line : List ℕ) → s.off ≡ false → bytes_eq (upper (take 4 line)) (codes "*S66") ≡ false → after_line false s line ≡ s
 outside-after s line on plain =
     ap (λ off. record s { off = off }) (same-off (is_on_switch (body line)) s.off (is_off_switch (body line)) on (no-body-switch (codes "OFF") line plain))

@@ -27,6 +27,7 @@ const COUNTED_AFTER_TWO: [&[u8]; 7] = [b"IF", b"IFEQ", b"IFNE", b"IFGT", b"IFGE"
 const REMARK_COLUMN: usize = 29;
 
 /// Whether a word is one of these.
+#[inline(always)]
 pub fn is_one_of(names: &[&[u8]], word: &[u8]) -> bool
     ensures { result ≡ is_one_of (map (λ (name : Bor (List ℕ)). name.now) names.now) word.now }
 {

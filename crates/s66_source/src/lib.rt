@@ -7,6 +7,7 @@ mod cover;
 mod error;
 mod laws;
 mod limits;
+mod operation;
 mod pads;
 mod placed;
 mod printer;

@@ -1,15 +1,17 @@
-ghost use Rattle.std.specs.Prelude.{◌≡◌, ◌≤◌, ◌<◌, suc, true, bytes_eq, length};
-ghost use Rattle.s66_line.specs.Class.{IsSpelled, is_code};
-ghost use Rattle.s66_line.specs.Fields.{body, from_operation, label_bytes, upper};
-ghost use Rattle.s66_source.specs.LeftAlone.{after_line, after_operation, at_first, bodies_after, class_at, is_alone, is_directive, is_held, is_switch};
+ghost use Rattle.std.specs.Prelude.{◌≡◌, ◌≤◌, ◌<◌, ◌||◌, suc, true, bytes_eq, codes, length, take};
+ghost use Rattle.s66_line.specs.Class.{IsSpelled, class_of, is_code};
+ghost use Rattle.s66_line.specs.Fields.{body, from_operation, is_comment, label_bytes, operation, upper};
+ghost use Rattle.s66_source.specs.Counts.{counting_operand};
+ghost use Rattle.s66_source.specs.Roles.{is_comment_class};
+ghost use Rattle.s66_source.specs.LeftAlone.{after_line, after_operation, at_first, bodies_after, class_at, is_alone, is_directive, is_held, is_switch, with_operation};
 ghost use Rattle.s66_line.specs.declared.limits.TheConstants.{LINE_BYTES_LIMIT, TEXT_LIMIT};
 ghost use Rattle.s66_source.specs.declared.limits.TheConstants.{SOURCE_LINES_LIMIT};
 
 use crate::counts::{RANGE_ENDS, counting_operand, cover_of, is_one_of};
 use crate::cover::Cover;
+use crate::operation::{has_operation, is_ordinary, is_upper_case};
 use s66_line::{
-    Class, Classified, body_of, classify, fields_of, is_comment_line, is_continuation,
-    operation_and_operand, split_word, upper_case,
+    Class, Classified, body_of, classify, fields_of, operation_and_operand, split_word, upper_case,
 };
 
 /// The operations that begin a definition.
@@ -44,12 +46,24 @@ pub fn is_directive(body: &[u8]) -> bool
     }
 }
 
+/// Whether a line begins as a switch does. Other comments are told from one without a copy of their first word.
+fn begins_switch(line: &[u8]) -> bool
+    ensures { result ≡ bytes_eq (upper (take 4 line.now)) (codes "*S66") }
+{
+    match line {
+        [star, letter, tens, ones, ..] => {
+            *star == b'*' && (*letter == b'S' || *letter == b's') && *tens == b'6' && *ones == b'6'
+        }
+        _ => false,
+    }
+}
+
 /// Whether a body is a switch: a comment from column 1 that begins with `*S66` and this second word.
 pub fn is_switch(body: &[u8], second: &[u8]) -> bool
     requires { length second.now ≤ TEXT_LIMIT }
     ensures { result ≡ is_switch second.now body.now }
 {
-    if !is_directive(body) {
+    if !begins_switch(body) {
         return false;
     }
     let (first, _) = split_word(body);
@@ -58,6 +72,22 @@ pub fn is_switch(body: &[u8], second: &[u8]) -> bool
     }
     let (_, next) = operation_and_operand(body);
     is_name(next, second)
+}
+
+/// Whether a line is a switch with this second word.
+#[inline(always)]
+fn is_switch_line(line: &[u8], second: &[u8]) -> bool
+    requires { length second.now ≤ TEXT_LIMIT }
+    ensures { result ≡ is_switch second.now (body line.now) }
+{
+    begins_switch(line) && is_switch(body_of(line), second)
+}
+
+/// Whether a line is a directive, as carriage returns at its end don't change.
+fn is_directive_line(line: &[u8]) -> bool
+    ensures { result ≡ is_directive (body line.now) }
+{
+    is_directive(line)
 }
 
 /// How many definitions are open after an operation, whose name is in upper case, if `bodies` were before it.
@@ -80,6 +110,44 @@ const LEFT_ALONE: Classified<'static> = Classified {
     bytes: &[],
 };
 
+const COMMENT: Classified<'static> = Classified {
+    class: Class::Comment,
+    label: &[],
+    bytes: &[],
+};
+
+/// Whether a line is empty or begins with a star, and so is a comment.
+#[inline(always)]
+fn is_plain_comment(line: &[u8]) -> bool
+    ensures { result ≡ true → is_comment (body line.now) ≡ true }
+{
+    matches!(line, [] | [b'*', ..])
+}
+
+/// A line with its class, as `classify` gives it. Most comments are told by their first byte.
+#[inline(always)]
+fn classify_line(after_code: bool, line: &[u8]) -> Classified<'_>
+    requires { length line.now ≤ LINE_BYTES_LIMIT }
+    ensures class { result.class ≡ class_of after_code line.now }
+    ensures label { is_code result.class ≡ true → result.label.now ≡ label_bytes (body line.now) }
+    ensures bytes { is_code result.class ≡ true → result.bytes.now ≡ from_operation (body line.now) }
+    ensures spelled { IsSpelled result.class result.bytes.now }
+    ensures few { length result.bytes.now ≤ TEXT_LIMIT }
+{
+    if is_plain_comment(line) {
+        COMMENT
+    } else {
+        classify(after_code, line)
+    }
+}
+
+/// Whether a line of this class, if it isn't left alone, changes nothing of what stands.
+fn is_settled(class: &Class) -> bool
+    ensures { result ≡ (is_code class.now || is_comment_class class.now) }
+{
+    class.is_code() || matches!(class, Class::Comment)
+}
+
 impl Standing {
     /// Before the first line.
     pub fn at_first() -> Standing
@@ -96,11 +164,13 @@ impl Standing {
     fn holds(&self, cut: bool, line: &[u8], continued: bool) -> bool
         ensures { result ≡ is_held cut self.now line.now continued }
     {
-        let body = body_of(line);
         self.off
-            || is_switch(body, b"OFF")
+            || is_switch_line(line, b"OFF")
             || cut
-                && (self.bodies > 0 || self.cover.is_covering() || continued || is_directive(body))
+                && (self.bodies > 0
+                    || self.cover.is_covering()
+                    || continued
+                    || is_directive_line(line))
     }
 
     /// The next line with its class, by whether the line directly before it is code, and whether the line after it continues it.
@@ -121,7 +191,7 @@ impl Standing {
         if self.holds(cut, line, continued) {
             return LEFT_ALONE;
         }
-        let classified = classify(after_code, line);
+        let classified = classify_line(after_code, line);
         if cut && matches!(classified.class, Class::Refused) {
             return LEFT_ALONE;
         }
@@ -129,7 +199,7 @@ impl Standing {
     }
 
     /// After an operation, whose name and operand are in upper case.
-    fn pass_operation(&mut self, name: &[u8], operand: &[u8])
+    fn pass_named(&mut self, name: &[u8], operand: &[u8])
         requires { self.old.bodies < SOURCE_LINES_LIMIT }
         ensures { self.new ≡ after_operation self.old name.now operand.now }
     {
@@ -142,48 +212,60 @@ impl Standing {
         self.bodies = bodies_after(self.bodies, name);
     }
 
+    /// After the operation of a body that is neither a comment nor a continuation, of which these are the bytes from the operation
+    /// on. What is in upper case isn't copied.
+    #[inline(never)]
+    fn pass_operation(&mut self, body: &[u8], bytes: &[u8])
+        requires few { length body.now ≤ LINE_BYTES_LIMIT }
+        requires bytes { bytes.now ≡ from_operation body.now }
+        requires bodies { self.old.bodies < SOURCE_LINES_LIMIT }
+        ensures { self.new ≡ after_operation self.old (upper (operation body.now)) (upper (counting_operand body.now)) }
+    {
+        let (operation, _) = split_word(bytes);
+        let operand = counting_operand(body);
+        if is_upper_case(operation) && is_upper_case(operand) {
+            self.pass_named(operation, operand);
+        } else {
+            self.pass_named(
+                upper_case(operation).as_slice(),
+                upper_case(operand).as_slice(),
+            );
+        }
+    }
+
+    /// After a body. Most have an operation that covers, begins and ends nothing, and come under no count.
+    fn pass_body(&mut self, body: &[u8])
+        requires few { length body.now ≤ LINE_BYTES_LIMIT }
+        requires bodies { self.old.bodies < SOURCE_LINES_LIMIT }
+        ensures { self.new ≡ with_operation true self.old body.now }
+    {
+        let bytes = fields_of(body).from_operation;
+        if !is_ordinary(bytes) {
+            if has_operation(body) {
+                self.pass_operation(body, bytes);
+            }
+        } else if self.cover.is_covering() && has_operation(body) {
+            self.cover = self.cover.count_down(false);
+        }
+    }
+
     /// Passes a line.
     pub fn pass(&mut self, cut: bool, line: &[u8])
         requires few { length line.now ≤ LINE_BYTES_LIMIT }
         requires bodies { self.old.bodies < SOURCE_LINES_LIMIT }
         ensures { self.new ≡ after_line cut self.old line.now }
     {
-        let body = body_of(line);
-        let off = !is_switch(body, b"ON") && (self.off || is_switch(body, b"OFF"));
-        if cut && !is_comment_line(body) && !is_continuation(body) {
-            let (operation, _) = split_word(fields_of(body).from_operation);
-            let operand = counting_operand(body);
-            self.pass_operation(
-                upper_case(operation).as_slice(),
-                upper_case(operand).as_slice(),
-            );
+        if cut && !is_plain_comment(line) {
+            self.pass_body(body_of(line));
         }
-        self.off = off;
+        self.off = !is_switch_line(line, b"ON") && (self.off || is_switch_line(line, b"OFF"));
     }
 
-    /// Passes a line, and returns it with its class, as `classify` does. Code that isn't left alone changes nothing.
-    fn take_standing<'a>(
-        &mut self,
-        cut: bool,
-        after_code: bool,
-        line: &'a [u8],
-        continued: bool,
-    ) -> Classified<'a>
-        requires few { length line.now ≤ LINE_BYTES_LIMIT }
-        requires bodies { self.old.bodies < SOURCE_LINES_LIMIT }
-        ensures class { result.class ≡ class_at after_code (record { alone = is_alone cut self.old line.now continued; bytes = line.now }) }
-        ensures label { is_code result.class ≡ true → result.label.now ≡ label_bytes (body line.now) }
-        ensures bytes { is_code result.class ≡ true → result.bytes.now ≡ from_operation (body line.now) }
-        ensures spelled { IsSpelled result.class result.bytes.now }
-        ensures few { length result.bytes.now ≤ TEXT_LIMIT }
-        ensures after { self.new ≡ after_line cut self.old line.now }
-        ensures bodies { self.new.bodies ≤ suc self.old.bodies }
+    /// Whether a line may be left alone, or change what stands.
+    fn is_open(&self, cut: bool, line: &[u8]) -> bool
+        ensures { result ≡ (cut || (self.now.off || bytes_eq (upper (take 4 line.now)) (codes "*S66"))) }
     {
-        let classified = self.classify(cut, after_code, line, continued);
-        if !classified.class.is_code() {
-            self.pass(cut, line);
-        }
-        classified
+        cut || self.off || begins_switch(line)
     }
 
     /// Passes a line, and returns it with its class, as `classify` does. Most lines are read without `--cut` and after no switch
@@ -205,9 +287,13 @@ impl Standing {
         ensures after { self.new ≡ after_line cut self.old line.now }
         ensures bodies { self.new.bodies ≤ suc self.old.bodies }
     {
-        if cut || self.off || is_directive(line) {
-            return self.take_standing(cut, after_code, line, continued);
+        if !self.is_open(cut, line) {
+            return classify_line(after_code, line);
         }
-        classify(after_code, line)
+        let classified = self.classify(cut, after_code, line, continued);
+        if !is_settled(&classified.class) {
+            self.pass(cut, line);
+        }
+        classified
     }
 }

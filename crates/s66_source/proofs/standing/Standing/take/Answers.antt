@@ -1,24 +1,36 @@
-use Rattle.std.proofs.Common.{◌≡◌, ◌∙◌, ℕ, Bool, true, false, List, if◌then◌else◌, sym, ap}
-use Rattle.s66_line.specs.Class.{class_of}
+use Rattle.std.proofs.Common.{◌≡◌, ◌∙◌, ◌||◌, ℕ, Bool, true, false, List, if◌then◌else◌, codes, take, sym, ap}
+use Rattle.std.specs.Prelude.{bytes_eq}
+use Rattle.std.proofs.lemmas.Bool.{or_parts}
+use Rattle.s66_line.specs.Class.{class_of, is_code}
+use Rattle.s66_line.specs.Fields.{upper}
 use Rattle.s66_line.specs.declared.class.Class.TheVariants.{Other}
-use Rattle.s66_source.specs.LeftAlone.{after_line, class_at, is_alone, is_directive}
+use Rattle.s66_source.specs.LeftAlone.{after_line, class_at, is_alone}
+use Rattle.s66_source.specs.Roles.{is_comment_class}
 use Rattle.s66_source.specs.declared.standing.Standing.{Standing}
-use Rattle.s66_source.proofs.Standings.{outside-alone, outside-after}
+use Rattle.s66_source.proofs.Standings.{outside-alone, outside-after, settled-stays}
 use Rattle.s66_source.proofs.standing.Standing.take.Goals as goal
 
-class-outside : (cut after continued : Bool) (s : Standing) (line : List ℕ) → cut ≡ false → s.off ≡ false → is_directive line ≡ false →
-    class_of after line ≡ class_at after (record { alone = is_alone cut s line continued; bytes = line })
-class-outside true after continued s line none on plain = cc
-class-outside false after continued s line none on plain = ap (λ alone. if alone then Other else class_of after line) (sym (outside-alone s line continued on plain))
+abbrev is_open : Bool → Standing → List ℕ → Bool
+is_open cut s line = cut || (s.off || bytes_eq (upper (take 4 line)) (codes "*S66"))
 
-stays-outside : (cut : Bool) (s : Standing) (line : List ℕ) → cut ≡ false → s.off ≡ false → is_directive line ≡ false → s ≡ after_line cut s line
-stays-outside true s line none on plain = cc
-stays-outside false s line none on plain = sym (outside-after s line on plain)
+class-closed : (cut after continued : Bool) (s : Standing) (line : List ℕ) → is_open cut s line ≡ false → class_of after line ≡ class_at after (record { alone = is_alone cut s line continued; bytes = line })
+class-closed true after continued s line closed = cc
+class-closed false after continued s line closed =
+    let (on, other) = or_parts s.off (bytes_eq (upper (take 4 line)) (codes "*S66")) closed in
+    ap (λ alone. if alone then Other else class_of after line) (sym (outside-alone s line continued on other))
 
-pub returns-clause-class : goal.returns-clause-class
-returns-clause-class c =
-    c.classify.ensures.class
-    ∙ class-outside c.args.cut c.args.after_code c.args.continued c.args.self.now c.args.line.now c.if-cut.false c.if-self.false (sym c.is_directive.ensures ∙ c.if-is_directive.false)
+stays-closed : (cut : Bool) (s : Standing) (line : List ℕ) → is_open cut s line ≡ false → s ≡ after_line cut s line
+stays-closed true s line closed = cc
+stays-closed false s line closed = let (on, other) = or_parts s.off (bytes_eq (upper (take 4 line)) (codes "*S66")) closed in sym (outside-after s line on other)
 
-pub returns-clause-after : goal.returns-clause-after
-returns-clause-after c = stays-outside c.args.cut c.args.self.now c.args.line.now c.if-cut.false c.if-self.false (sym c.is_directive.ensures ∙ c.if-is_directive.false)
+pub returns-then-not-is_open-clause-class : goal.returns-then-not-is_open-clause-class
+returns-then-not-is_open-clause-class c =
+    c.classify_line.ensures.class ∙ class-closed c.args.cut c.args.after_code c.args.continued c.args.self.now c.args.line.now (sym c.is_open.ensures ∙ c.if-not-is_open.true)
+
+pub returns-then-not-is_open-clause-after : goal.returns-then-not-is_open-clause-after
+returns-then-not-is_open-clause-after c = stays-closed c.args.cut c.args.self.now c.args.line.now (sym c.is_open.ensures ∙ c.if-not-is_open.true)
+
+pub returns-else-not-is_settled-clause-after : goal.returns-else-not-is_settled-clause-after
+returns-else-not-is_settled-clause-after c =
+    sym (settled-stays c.args.cut c.args.continued c.args.after_code c.args.self.now c.args.line.now
+    (ap (λ class. is_code class || is_comment_class class) (sym c.classify-classified.ensures.class) ∙ sym c.is_settled.ensures ∙ c.if-not-is_settled.false))
