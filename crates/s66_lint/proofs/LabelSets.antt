@@ -1,6 +1,7 @@
 -- A set of labels after one label more.
-use Rattle.std.proofs.Common.{◌≡◌, ◌||◌, ◌<◌, ◌+◌, ℕ, Bool, true, false, List, [], ◌∷◌, length, get_or, drop, refl, sym, ap, ◌∙◌}
+use Rattle.std.proofs.Common.{◌≡◌, ◌||◌, ◌<◌, ◌+◌, ℕ, suc, Bool, true, false, List, [], ◌∷◌, length, get_or, drop, refl, sym, ap, ◌∙◌, arith}
 use Rattle.std.specs.Prelude.{bytes_eq}
+use Rattle.std.specs.Borrow.{Bor}
 use Rattle.std.specs.BTreeSet.{insert_key}
 use Rattle.std.specs.BTreeMap.{is_at}
 use Rattle.std.specs.Cmp.Lexicographic.{slice_cmp}
@@ -12,10 +13,10 @@ use Rattle.std.specs.declared.vec.Vec.{Vec}
 use Rattle.std.specs.declared.alloc.Global.{Global}
 use Rattle.std.proofs.lemmas.Map.Text.{is_eq-slice_cmp}
 use Rattle.std.proofs.lemmas.Slice.Eq.{bytes_eq-Decides}
-use Rattle.s66_line.specs.Fields.{location, upper}
+use Rattle.std.proofs.Math.Seq.{drop-cons}
+use Rattle.s66_line.specs.Fields.{upper}
 use Rattle.s66_source.specs.Counts.{is_one_of}
-use Rattle.s66_lint.specs.Findings.{Seen, class_seen, is_located, labels_in}
-use Rattle.s66_lint.proofs.LinesAhead.{line-here}
+use Rattle.s66_lint.specs.Kept.{upper_names}
 
 abbrev pub Label : Type 0
 Label = Vec ℕ Global
@@ -63,17 +64,12 @@ or-moved true false c = refl
 or-moved false true c = refl
 or-moved false false c = refl
 
--- a line of code with a label
-pub labelled-line : (known : Bool) (lines : List Seen) (at : ℕ) (line : Seen) (name : List ℕ) → at < length lines → line ≡ get_or lines at line → is_located (class_seen line.sight) ≡ true →
-    ((bytes_eq name (upper (location line.body)) || known) || is_one_of (labels_in (drop (at + 1) lines)) name) ≡ (known || is_one_of (labels_in (drop at lines)) name)
-labelled-line known lines at line name h e located =
-    let here : labels_in (line ∷ drop (at + 1) lines) ≡ upper (location line.body) ∷ labels_in (drop (at + 1) lines) = rw located refl in
-    or-moved (bytes_eq name (upper (location line.body))) known (is_one_of (labels_in (drop (at + 1) lines)) name)
-    ∙ ap (λ labels. known || is_one_of labels name) (sym (ap labels_in (line-here lines at line h e) ∙ here))
-
--- any other
-pub other-line : (lines : List Seen) (at : ℕ) (line : Seen) → at < length lines → line ≡ get_or lines at line → is_located (class_seen line.sight) ≡ false →
-    labels_in (drop (at + 1) lines) ≡ labels_in (drop at lines)
-other-line lines at line h e other =
-    let here : labels_in (line ∷ drop (at + 1) lines) ≡ labels_in (drop (at + 1) lines) = rw other refl in
-    sym (ap labels_in (line-here lines at line h e) ∙ here)
+-- a label comes to those so far
+pub label-step : (known : Bool) (labels : List (Bor (List ℕ))) (at : ℕ) (none : Bor (List ℕ)) (name letters : List ℕ) → at < length labels → letters ≡ upper (get_or labels at none).now →
+    ((bytes_eq name letters || known) || is_one_of (upper_names (drop (at + 1) labels)) name) ≡ (known || is_one_of (upper_names (drop at labels)) name)
+label-step known labels at none name letters h e =
+    let next : at + 1 ≡ suc at = omega arith in
+    or-moved (bytes_eq name letters) known (is_one_of (upper_names (drop (at + 1) labels)) name)
+    ∙ ap (λ bytes. known || (bytes_eq name bytes || is_one_of (upper_names (drop (at + 1) labels)) name)) e
+    ∙ ap (λ n. known || (bytes_eq name (upper (get_or labels at none).now) || is_one_of (upper_names (drop n labels)) name)) next
+    ∙ sym (ap (λ (more : List (Bor (List ℕ))). known || is_one_of (upper_names more) name) (drop-cons labels at none h))

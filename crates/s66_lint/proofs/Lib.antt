@@ -1,6 +1,8 @@
+pub mod Operations
 pub mod OperandNames
 pub mod LinesAhead
 pub mod LabelSets
+pub mod KeptLines
 pub mod SeenLines
 pub mod FoundLines
 pub mod StatedLines

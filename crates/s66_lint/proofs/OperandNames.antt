@@ -1,12 +1,16 @@
 -- The names of an operand, one after the other, and those that a sign and a number follow.
-use Rattle.std.proofs.Common.{◌≡◌, ◌<◌, ◌≤◌, ◌+◌, ◌&&◌, ◌||◌, not, ℕ, suc, Bool, true, false, cond, if◌then◌else◌, List, [], ◌∷◌, ◌++◌, length, take, drop, get_or, refl, sym, ap, subst, ◌∙◌, arith, append_assoc}
+use Rattle.std.proofs.Common.{◌≡◌, ◌<◌, ◌≤◌, ◌+◌, ◌==◌, ◌&&◌, ◌||◌, not, ℕ, suc, Bool, true, false, cond, if◌then◌else◌, List, [], ◌∷◌, ◌++◌, length, take, drop, get_or, lit<, refl, sym, ap, ap₂, subst, ◌∙◌, arith, append_assoc}
 use Rattle.std.proofs.lemmas.List.{append-nil, drop_all}
-use Rattle.std.proofs.lemmas.Bool.{or_left}
+use Rattle.std.proofs.lemmas.Bool.{or_from, or_left, or_parts}
 use Rattle.std.proofs.Math.Seq.{drop-cons}
+use Rattle.s66_line.specs.Fields.{upper, upper_byte}
 use Rattle.s66_line.specs.Operand.{is_sign}
+use Rattle.s66_line.proofs.UpperCase.{kept}
 use Rattle.s66_source.specs.Counts.{is_one_of}
-use Rattle.s66_lint.specs.Findings.{begins_number, displaced_from, ends_name, has_star_from, names_from, some_known, term_ends}
+use Rattle.s66_lint.specs.Findings.{begins_number, counts_words, displaced_from, ends_name, ends_term, has_star_from, names_from, some_known, term_ends}
+use Rattle.s66_lint.specs.Kept.{may_count_at, may_count_from}
 use Rattle.s66_lint.specs.Parts.{name_length}
+use Rattle.s66_lint.proofs.Operations.{decimal-kept}
 
 -- NAMES
 
@@ -83,6 +87,57 @@ displaced-by labels name bytes b false number known s n k = rw s refl
 pub star-here : (here : Bool) (operand : List ℕ) (at : ℕ) → at < length operand → here ≡ true → get_or operand at 0 ≡ 42 → term_ends (drop (at + 1) operand) ≡ true →
     has_star_from here (drop at operand) ≡ true
 star-here here operand at h is star ends = rw (ended operand at h, is, star, ends) refl
+
+-- OPERANDS THAT MAY COUNT WORDS
+
+sign-kept : (b : ℕ) → is_sign (upper_byte b) ≡ is_sign b
+sign-kept b = ap₂ (λ s t. s || t) (kept b 43 (lit< tt)) (kept b 45 (lit< tt))
+
+number-kept : (bytes : List ℕ) → begins_number (upper bytes) ≡ begins_number bytes
+number-kept [] = refl
+number-kept (b ∷ bytes) = decimal-kept b
+
+-- in upper case too
+may-upper : (here : Bool) (operand : List ℕ) → may_count_from here (upper operand) ≡ may_count_from here operand
+may-upper here [] = refl
+may-upper here (b ∷ bytes) = rw (kept b 42 (lit< tt), sign-kept b, number-kept bytes, kept b 44 (lit< tt), may-upper (ends_term b) bytes) refl
+
+and-gone : (a b c : Bool) → (a && b) ≡ false → (a && (b && c)) ≡ false
+and-gone true true c h = cc
+and-gone true false c h = refl
+and-gone false b c h = refl
+
+no-star : (here : Bool) (operand : List ℕ) → may_count_from here operand ≡ false → has_star_from here operand ≡ false
+no-star here [] h = refl
+no-star here (b ∷ bytes) h =
+    let (none, more) = or_parts (may_count_at here (b ∷ bytes)) (may_count_from (ends_term b) bytes) h in
+    let (star, number) = or_parts (here && b == 42) (is_sign b && begins_number bytes) none in
+    or_from (here && (b == 42 && term_ends bytes)) (has_star_from (ends_term b) bytes) (and-gone here (b == 42) (term_ends bytes) star) (no-star (ends_term b) bytes more)
+
+none-displaced : (here : Bool) (name operand : List ℕ) → may_count_from here operand ≡ false → displaced_from name operand ≡ []
+none-displaced here name [] h = refl
+none-displaced here name (b ∷ bytes) h =
+    let (none, more) = or_parts (may_count_at here (b ∷ bytes)) (may_count_from (ends_term b) bytes) h in
+    let (star, number) = or_parts (here && b == 42) (is_sign b && begins_number bytes) none in
+    rw number (elim (ends_name b) as (λ t. (if t then displaced_from [] bytes else displaced_from (name ++ b ∷ []) bytes) ≡ [])
+    [ true ↦ none-displaced (ends_term b) [] bytes more | false ↦ none-displaced (ends_term b) (name ++ b ∷ []) bytes more ])
+
+-- without such a place it counts none
+pub counts_none : (labels : List (List ℕ)) (name operand : List ℕ) → may_count_from true operand ≡ false → counts_words labels name (upper operand) ≡ false
+counts_none labels name operand h =
+    let none : may_count_from true (upper operand) ≡ false = may-upper true operand ∙ h in
+    rw (no-star true (upper operand) none, none-displaced true [] (upper operand) none) refl
+
+pub may-here : (here : Bool) (operand : List ℕ) (at : ℕ) → at < length operand → may_count_at here (drop at operand) ≡ true → may_count_from here (drop at operand) ≡ true
+may-here here operand at h is =
+    subst (λ bytes. may_count_at here bytes ≡ true → may_count_from here bytes ≡ true) (sym (ended operand at h))
+    (or_left (may_count_at here (get_or operand at 0 ∷ drop (at + 1) operand)) (may_count_from (ends_term (get_or operand at 0)) (drop (at + 1) operand))) is
+
+pub may-more : (here : Bool) (operand : List ℕ) (at : ℕ) → at < length operand → may_count_at here (drop at operand) ≡ false →
+    may_count_from here (drop at operand) ≡ may_count_from (ends_term (get_or operand at 0)) (drop (at + 1) operand)
+may-more here operand at h none =
+    let gone : may_count_at here (get_or operand at 0 ∷ drop (at + 1) operand) ≡ false = subst (λ bytes. may_count_at here bytes ≡ false) (ended operand at h) none in
+    ap (may_count_from here) (ended operand at h) ∙ ap (λ t. t || may_count_from (ends_term (get_or operand at 0)) (drop (at + 1) operand)) gone
 
 -- BY THE NUMBER OF BYTES BEFORE THE END OF THE NAME
 

@@ -1,7 +1,7 @@
 -- What is stated of lines, one after the other, and whether it has a refusal.
-use Rattle.std.proofs.Common.{◌≡◌, ◌||◌, ◌&&◌, ◌≤◌, ℕ, zero, suc, length, take, drop, ◌-◌, Bool, true, false, Option, None, Some, List, [], ◌∷◌, ◌++◌, map, ◌+◌, refl, sym, ap, subst, ◌∙◌, arith, append_assoc}
+use Rattle.std.proofs.Common.{◌≡◌, ◌||◌, ◌&&◌, ◌≤◌, ℕ, zero, suc, length, take, drop, Bool, true, false, Option, None, Some, List, [], ◌∷◌, ◌++◌, map, refl, sym, ap, ap₂, subst, ◌∙◌, arith, append_assoc, length-append}
 use Rattle.std.specs.Prelude.{is_some}
-use Rattle.s66_line.specs.Fields.{operand, operation, upper}
+use Rattle.s66_line.specs.Fields.{lines_of, operand, operation, upper}
 use Rattle.s66_line.specs.declared.class.Class.{Class}
 use Rattle.s66_line.specs.declared.class.Class.TheVariants.{Comment, Other, Refused, Pad, Instruction}
 use Rattle.s66_source.specs.Counts.{counting_operand, cover_of, is_covering, is_one_of}
@@ -9,9 +9,14 @@ use Rattle.s66_source.specs.LeftAlone.{Flagged, definitions, flagged_lines, plai
 use Rattle.s66_source.specs.Source.{or_else, place_after}
 use Rattle.s66_source.specs.declared.error.SourceError.{SourceError}
 use Rattle.s66_source.specs.declared.limits.TheConstants.{SOURCE_LINES_LIMIT}
-use Rattle.s66_lint.specs.Findings.{Seen, ahead_of, class_seen, counts_words, findings_of_class, has_operand, is_between, is_own, is_slip, is_store, labels_in, lines_past, lines_within, may_continue, names_from, only, seen_from, sight_of, some_known}
-use Rattle.s66_lint.specs.Stated.{Stated, Found, findings_text, first_refusal, refusal_stated, stated, stated_from, stated_line, stated_lines, stated_of, stated_past}
-use Rattle.s66_lint.specs.Parts.{first_line, found_lines, flagged_by, is_sight_refused, past_stated}
+use Rattle.s66_lint.specs.Findings.{Seen, class_seen, counts_words, findings_of_class, has_operand, is_between, is_own, is_slip, is_store, labels_in, lines_within, may_continue, names_from, only, seen_from, sight_of, some_known}
+use Rattle.s66_lint.specs.Kept.{Kept, ahead_kept, gap_past, is_kept, kept_from, kept_one, no_gap, stated_kept}
+use Rattle.s66_lint.specs.Stated.{Stated, Found, findings_text, first_refusal, refusal_stated, stated, stated_from, stated_line, stated_lines, stated_of}
+use Rattle.s66_lint.specs.Parts.{found_lines, is_sight_refused, past_stated}
+use Rattle.s66_lint.specs.Pass.{Pass, first_of_lines, first_pass, pass_lines}
+use Rattle.s66_lint.specs.declared.gap.Gap.{Gap}
+use Rattle.s66_lint.proofs.KeptLines.{same-stated}
+use Rattle.s66_lint.proofs.SeenLines.{passed-gap, passed-kept, passed-labels, passed-past}
 use Rattle.s66_lint.specs.declared.ahead.Ahead.{Ahead}
 use Rattle.s66_lint.specs.declared.finding.Finding.{Finding}
 use Rattle.s66_lint.specs.declared.finding.Finding.TheVariants.{BadOperand, NotAnInstruction, Directive, HasABody, StoresIntoCode, CountsWords, CountsLines}
@@ -107,12 +112,6 @@ pub refused_line : (labels : List (List ℕ)) (number index : ℕ) (line : Seen)
     is_some (first_refusal (stated_of labels number index line ahead)) ≡ is_sight_refused line.sight
 refused_line labels number index line ahead = refused-by labels number index line.sight line.body ahead
 
--- PAST THE LIMIT
-
-pub past-first : (lines : List Flagged) → past_stated (first_line lines) ≡ stated_past lines
-past-first [] = refl
-past-first (line ∷ lines) = refl
-
 -- A LINE THAT IS READ
 
 read-by : (labels : List (List ℕ)) (number index : ℕ) (class : Class) (s : Sight) (line : List ℕ) (ahead : Ahead) → sight.Read class ≡ s →
@@ -125,62 +124,65 @@ pub read-line : (labels : List (List ℕ)) (number index : ℕ) (class : Class) 
 read-line labels number index class body line ahead e f =
     ap (λ b. found_lines number b (findings_of_class labels index class b ahead)) f ∙ read-by labels number index class line.sight line.body ahead e
 
--- A LINE, and those after it
+-- A LINE THAT IS KEPT, and those after it
 
-pub stated-line : (labels : List (List ℕ)) (out : List ℕ) (n number index place : ℕ) (line : Seen) (rest : List Seen) (ahead : Ahead) → number ≡ n + 1 → ahead ≡ ahead_of rest →
-    place ≡ place_after index (class_seen line.sight) →
-    (out ++ stated_lines (stated_of labels number index line ahead)) ++ stated_lines (stated_from labels (suc number) place rest) ≡ out ++ stated_lines (stated_from labels (suc n) index (line ∷ rest))
-stated-line labels out n number index place line rest ahead e a p =
-    let next : number ≡ suc n = omega (arith, e) in
-    rw (next, a, p) (stated-more out (stated_of labels (suc n) index line (ahead_of rest)) (stated_from labels (suc (suc n)) (place_after index (class_seen line.sight)) rest))
+pub stated-line : (labels : List (List ℕ)) (out : List ℕ) (line : Kept) (rest : List Kept) (last : Gap) (ahead : Ahead) → ahead ≡ ahead_kept rest last →
+    (out ++ stated_lines (stated_of labels line.number line.index line.line ahead)) ++ stated_lines (stated_kept labels rest last) ≡ out ++ stated_lines (stated_kept labels (line ∷ rest) last)
+stated-line labels out line rest last ahead a =
+    rw a (stated-more out (stated_of labels line.number line.index line.line (ahead_kept rest last)) (stated_kept labels rest last))
 
-pub refused-lines : (labels : List (List ℕ)) (was : Bool) (n number index place : ℕ) (line : Seen) (rest : List Seen) (ahead : Ahead) → number ≡ n + 1 → ahead ≡ ahead_of rest →
-    place ≡ place_after index (class_seen line.sight) →
-    ((was || is_some (first_refusal (stated_of labels number index line ahead))) || is_some (first_refusal (stated_from labels (suc number) place rest)))
-    ≡ (was || is_some (first_refusal (stated_from labels (suc n) index (line ∷ rest))))
-refused-lines labels was n number index place line rest ahead e a p =
-    let next : number ≡ suc n = omega (arith, e) in
-    rw (next, a, p) (refused-more was (stated_of labels (suc n) index line (ahead_of rest)) (stated_from labels (suc (suc n)) (place_after index (class_seen line.sight)) rest))
+pub refused-lines : (labels : List (List ℕ)) (was : Bool) (line : Kept) (rest : List Kept) (last : Gap) (ahead : Ahead) → ahead ≡ ahead_kept rest last →
+    ((was || is_some (first_refusal (stated_of labels line.number line.index line.line ahead))) || is_some (first_refusal (stated_kept labels rest last))) ≡ (was || is_some (first_refusal (stated_kept labels (line ∷ rest) last)))
+refused-lines labels was line rest last ahead a =
+    rw a (refused-more was (stated_of labels line.number line.index line.line (ahead_kept rest last)) (stated_kept labels rest last))
 
 -- ALL LINES
 
-all-text : (labels : List (List ℕ)) (lines : List Seen) (past : List Flagged) →
-    stated_lines (stated_from labels 1 0 lines) ++ stated_lines (past_stated (first_line past)) ≡ stated_lines (stated_from labels 1 0 lines ++ stated_past past)
-all-text labels lines past =
-    sym (stated-append (stated_from labels 1 0 lines) (past_stated (first_line past))) ∙ ap (λ p. stated_lines (stated_from labels 1 0 lines ++ p)) (past-first past)
+few-one : (gap : Gap) (count index : ℕ) (line : Seen) (kept : Bool) → is_kept index line ≡ kept → length (kept_one gap count index line) ≤ 1
+few-one gap count index line true h = rw h (omega arith)
+few-one gap count index line false h = rw h (omega arith)
 
-pub findings-text : (text : List ℕ) (lines : List Seen) (past : Option (List ℕ)) → lines ≡ lines_within text → past ≡ first_line (lines_past text) →
-    stated_lines (stated_from (labels_in lines) 1 0 lines) ++ stated_lines (past_stated past) ≡ findings_text text
-findings-text text lines past e f =
-    ap (λ p. stated_lines (stated_from (labels_in lines) 1 0 lines) ++ stated_lines (past_stated p)) f
-    ∙ ap (λ (ls : List Seen). stated_lines (stated_from (labels_in ls) 1 0 ls) ++ stated_lines (past_stated (first_line (lines_past text)))) e
-    ∙ all-text (labels_in (lines_within text)) (lines_within text) (lines_past text)
-
-pub findings-refused : (text : List ℕ) (lines : List Seen) (past : Option (List ℕ)) → lines ≡ lines_within text → past ≡ first_line (lines_past text) →
-    (is_some (first_refusal (stated_from (labels_in lines) 1 0 lines)) || is_some (first_refusal (past_stated past))) ≡ is_some (first_refusal (stated text))
-findings-refused text lines past e f =
-    ap (λ p. is_some (first_refusal (stated_from (labels_in lines) 1 0 lines)) || is_some (first_refusal (past_stated p))) f
-    ∙ ap (λ (ls : List Seen). is_some (first_refusal (stated_from (labels_in ls) 1 0 ls)) || is_some (first_refusal (past_stated (first_line (lines_past text))))) e
-    ∙ sym (refused-append (stated_from (labels_in (lines_within text)) 1 0 (lines_within text)) (past_stated (first_line (lines_past text))))
-    ∙ ap (λ p. is_some (first_refusal (stated_from (labels_in (lines_within text)) 1 0 (lines_within text) ++ p))) (past-first (lines_past text))
+few-kept : (gap : Gap) (count index : ℕ) (lines : List Seen) → length (kept_from gap count index lines) ≤ length lines
+few-kept gap count index [] = omega arith
+few-kept gap count index (line ∷ lines) =
+    let one = few-one gap count index line (is_kept index line) refl in
+    let more = few-kept (gap_past gap index line) (suc count) (place_after index (class_seen line.sight)) lines in
+    let both = length-append (kept_one gap count index line) (kept_from (gap_past gap index line) (suc count) (place_after index (class_seen line.sight)) lines) in
+    omega (arith, one, more, both)
 
 few-seen : (n : ℕ) (after : Bool) (lines : List Flagged) → length (seen_from after (take n lines)) ≤ n
 few-seen zero after lines = omega arith
 few-seen (suc n) after [] = omega arith
 few-seen (suc n) after (line ∷ lines) = let h = few-seen n (may_continue (sight_of after line)) lines in omega (arith, h)
 
-pub few-within : (text : List ℕ) → length (lines_within text) ≤ SOURCE_LINES_LIMIT
-few-within text = few-seen SOURCE_LINES_LIMIT false (flagged_lines (plain text))
+-- what a pass over the lines of a text gathers
+abbrev pub passed : List ℕ → Pass
+passed text = pass_lines first_pass (take SOURCE_LINES_LIMIT (lines_of text))
 
--- THE FIRST LINE
+pub few-passed : (text : List ℕ) → length (passed text).kept ≤ SOURCE_LINES_LIMIT
+few-passed text =
+    let kept = ap length (passed-kept SOURCE_LINES_LIMIT first_pass (lines_of text)) in
+    let few = few-kept no_gap 0 0 (lines_within text) in
+    let seen = few-seen SOURCE_LINES_LIMIT false (flagged_lines (plain text)) in
+    omega (arith, kept, few, seen)
 
-pub first-seen : (limit : ℕ) (items : List Seen) (after off : Bool) (lines : List (List ℕ)) → items ≡ [] → after ≡ false → off ≡ false →
-    items ++ seen_from after (take (limit - length items) (flagged_by off lines)) ≡ seen_from false (take (limit - 0) (flagged_by false lines))
-first-seen limit items after off lines e f g =
-    ap (λ (is : List Seen). is ++ seen_from after (take (limit - length is) (flagged_by off lines))) e
-    ∙ ap (λ a. seen_from a (take (limit - 0) (flagged_by off lines))) f ∙ ap (λ o. seen_from false (take (limit - 0) (flagged_by o lines))) g
+stated-passed : (text : List ℕ) → stated_kept (map upper (passed text).labels) (passed text).kept (passed text).gap ≡ stated_from (labels_in (lines_within text)) 1 0 (lines_within text)
+stated-passed text =
+    rw (passed-kept SOURCE_LINES_LIMIT first_pass (lines_of text), passed-gap SOURCE_LINES_LIMIT first_pass (lines_of text), passed-labels SOURCE_LINES_LIMIT first_pass (lines_of text))
+    (same-stated (labels_in (lines_within text)) no_gap 0 0 false (take SOURCE_LINES_LIMIT (flagged_lines (plain text))))
 
-pub first-past : (limit : ℕ) (items : List Seen) (off : Bool) (lines : List (List ℕ)) → items ≡ [] → off ≡ false →
-    first_line (drop (limit - length items) (flagged_by off lines)) ≡ first_line (drop (limit - 0) (flagged_by false lines))
-first-past limit items off lines e g =
-    ap (λ (is : List Seen). first_line (drop (limit - length is) (flagged_by off lines))) e ∙ ap (λ o. first_line (drop (limit - 0) (flagged_by o lines))) g
+-- and the first past the limit
+abbrev pub past : List ℕ → Option (List ℕ)
+past text = first_of_lines (drop SOURCE_LINES_LIMIT (lines_of text))
+
+all-stated : (text : List ℕ) → stated_kept (map upper (passed text).labels) (passed text).kept (passed text).gap ++ past_stated (past text) ≡ stated text
+all-stated text = ap₂ (λ a b. a ++ b) (stated-passed text) (passed-past SOURCE_LINES_LIMIT false (lines_of text))
+
+pub findings-text : (text : List ℕ) → stated_lines (stated_kept (map upper (passed text).labels) (passed text).kept (passed text).gap) ++ stated_lines (past_stated (past text)) ≡ findings_text text
+findings-text text =
+    sym (stated-append (stated_kept (map upper (passed text).labels) (passed text).kept (passed text).gap) (past_stated (past text))) ∙ ap stated_lines (all-stated text)
+
+pub findings-refused : (text : List ℕ) →
+    (is_some (first_refusal (stated_kept (map upper (passed text).labels) (passed text).kept (passed text).gap)) || is_some (first_refusal (past_stated (past text)))) ≡ is_some (first_refusal (stated text))
+findings-refused text =
+    sym (refused-append (stated_kept (map upper (passed text).labels) (passed text).kept (passed text).gap) (past_stated (past text))) ∙ ap (λ ts. is_some (first_refusal ts)) (all-stated text)

@@ -2,3 +2,6 @@ pub mod Findings
 pub mod Stated
 pub mod Parts
 pub mod LabelSet
+pub mod Kept
+pub mod Pass
+pub mod Rest

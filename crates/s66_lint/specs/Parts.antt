@@ -1,5 +1,5 @@
 -- Used by contracts within the crate alone: what is known of the lines at some line of a source.
-use Rattle.std.specs.Prelude.{◌≡◌, ◌++◌, ◌&&◌, ◌-◌, codes, bytes_eq, ℕ, suc, Bool, true, false, ◌||◌, if◌then◌else◌, List, [], ◌∷◌, Option, None, Some, map, nat_lt, not}
+use Rattle.std.specs.Prelude.{◌&&◌, ◌-◌, codes, bytes_eq, ℕ, suc, Bool, true, false, ◌||◌, if◌then◌else◌, List, [], ◌∷◌, Option, None, Some, map, not}
 use Rattle.std.specs.List.{prefix_len}
 use Rattle.s66_line.specs.Fields.{body, operand, operation, word}
 use Rattle.s66_line.specs.Class.{begins_run, ends_run, is_instruction}
@@ -7,14 +7,12 @@ use Rattle.s66_line.specs.declared.class.Class.{Class}
 use Rattle.s66_source.specs.Counts.{is_one_of}
 use Rattle.s66_source.specs.LeftAlone.{Flagged, definitions, is_off_switch, is_refused, flagged_from}
 use Rattle.s66_source.specs.declared.cover.Cover.TheVariants.{Nothing}
-use Rattle.s66_lint.specs.Findings.{Seen, ahead_of, body_has_code, goes_on, ends_name, is_too_long, sight_of}
+use Rattle.s66_lint.specs.Findings.{Seen, ends_name, is_too_long, sight_of}
 use Rattle.s66_lint.specs.Stated.{Found, Stated, TooManyLines, stated_lines}
 use Rattle.s66_lint.specs.Stated as stated
 use Rattle.s66_source.specs.declared.limits.TheConstants.{SOURCE_LINES_LIMIT}
-use Rattle.s66_lint.specs.declared.ahead.Ahead.{Ahead}
 use Rattle.s66_lint.specs.declared.finding.Finding.{Finding}
 use Rattle.s66_lint.specs.declared.finding.Finding.TheVariants.{BadOperand, NotAnInstruction, Directive, HasABody, StoresIntoCode, CountsWords, CountsLines}
-use Rattle.s66_lint.specs.declared.rest.Rest.{Rest}
 use Rattle.s66_lint.specs.declared.sight.Sight.{Sight}
 use Rattle.s66_lint.specs.declared.sight.Sight.TheVariants.{TooLong, LeftAlone, Read}
 
@@ -31,30 +29,15 @@ flagged_by off lines = flagged_from false (record { off = off; bodies = 0; cover
 abbrev pub seen_line : Bool → Flagged → Seen
 seen_line after line = record { sight = sight_of after line; body = body line.bytes }
 
--- the first of some lines, if there is one
-abbrev pub first_line : List Flagged → Option (List ℕ)
-first_line [] = None
-first_line (line ∷ lines) = Some line.bytes
-
 -- WHAT COMES AFTER
 
--- what is known of the lines from one on
-pub record Knows (rest : Rest) (lines : List Seen) : Type 0 where
-  pub goes_on : rest.run_goes_on ≡ goes_on lines
-  pub code : (n : ℕ) → body_has_code (suc n) lines ≡ (if nat_lt n rest.ends then false else rest.has_code)
-
--- the same, from the line directly before on
+-- whether the run of a line's instructions goes on after it, by what the line after it is and whether its run goes on
 abbrev pub goes_on_before : Class → Bool → Bool
 goes_on_before class goes_on =
     if is_instruction class then not (begins_run class) else (not (begins_run class) && (not (ends_run class) && goes_on))
 
 abbrev pub ends_before : ℕ → List ℕ → ℕ
 ends_before ends name = if is_one_of definitions name then ends - 1 else (if bytes_eq name (codes "ENDM") then suc ends else ends)
-
--- what comes after each of these lines, after the last one first
-abbrev pub aheads : List Seen → List Ahead
-aheads [] = []
-aheads (line ∷ lines) = aheads lines ++ ahead_of lines ∷ []
 
 -- OPERANDS
 

@@ -1,18 +1,19 @@
-ghost use Rattle.std.specs.Prelude.{◌≡◌, ◌≤◌, ◌<◌, ◌++◌, ◌||◌, [], ◌∷◌, codes, suc, false, length, vec_len, is_some, option_map, IfOk, OnOk};
+ghost use Rattle.std.specs.Prelude.{◌≡◌, ◌<◌, ◌++◌, ◌||◌, [], ◌∷◌, codes, false, vec_len, is_some, option_map, IfOk, OnOk};
 ghost use Rattle.s66_source.specs.Refusals.{refusal_line};
-ghost use Rattle.s66_source.specs.Source.{place_after};
-ghost use Rattle.s66_source.specs.declared.limits.TheConstants.{SOURCE_LINES_LIMIT};
-ghost use Rattle.s66_lint.specs.Stated.{findings_text, first_refusal, stated, stated_from, stated_lines, stated_of};
-ghost use Rattle.s66_lint.specs.Parts.{aheads, past_stated};
+ghost use Rattle.s66_lint.specs.Kept.{IsTold, aheads_kept, stated_kept};
+ghost use Rattle.s66_lint.specs.Stated.{findings_text, first_refusal, stated, stated_lines, stated_of};
+ghost use Rattle.s66_lint.specs.Parts.{past_stated};
 
 use crate::ahead::Ahead;
 use crate::found::push_findings;
+use crate::kept::KeptLines;
 use crate::labels::Labels;
 use crate::lines::Lines;
 use crate::rest::aheads;
 use crate::seen::Seen;
 use crate::sight::Sight;
-use s66_line::{Class, LINE_BYTES_LIMIT};
+use crate::tells::Tells;
+use s66_line::LINE_BYTES_LIMIT;
 use s66_source::{SOURCE_LINES_LIMIT, SourceError};
 use std::alloc::{AllocError, Global};
 
@@ -21,20 +22,6 @@ fn push_refusal(out: &mut Vec<u8>, refusal: SourceError) -> Result<(), AllocErro
 {
     out.extend_from_slice(refusal.line().as_bytes())?;
     out.extend_from_slice(b"\n")
-}
-
-/// How many instructions of the run that is open after a line of this class come before that, by how many came before the line.
-fn place_after(index: u32, class: &Class) -> u32
-    requires { index < SOURCE_LINES_LIMIT }
-    ensures value { result ≡ place_after index class.now }
-    ensures few { result ≤ suc index }
-{
-    match class {
-        Class::Other => 0,
-        Class::Instruction { located, .. } => { if *located { 1 } else { index + 1 } }
-        Class::Pad { located } => { if *located { 0 } else { index } }
-        Class::Comment | Class::Refused => index,
-    }
 }
 
 /// What comes after the next line.
@@ -77,8 +64,10 @@ impl Findings {
         number: u32,
         index: u32,
         line: &Seen,
+        tells: Tells,
         ahead: Ahead,
     ) -> Result<(), AllocError>
+        requires { IsTold line.now tells }
         ensures text { OnOk result (self.new.text.items ≡ self.old.text.items ++ stated_lines (stated_of labels.old number index line.now ahead)) }
         ensures refused { OnOk result (self.new.refused ≡ (self.old.refused || is_some (first_refusal (stated_of labels.old number index line.now ahead)))) }
         ensures labels { labels.new ≡ labels.old }
@@ -98,30 +87,34 @@ impl Findings {
                 index,
                 &class,
                 line.body(),
+                tells,
                 ahead,
             ),
         }
     }
 
-    /// States what there is to state of these lines, by what comes after each, after the last one first.
+    /// States what there is to state of the lines that are kept, by what comes after each, after the last one first.
     fn state_lines(
         &mut self,
         labels: &mut Labels,
-        lines: &[Seen],
+        kept: &KeptLines,
         mut ahead_of_each: Vec<Ahead>,
     ) -> Result<(), AllocError>
-        requires few { length lines.now ≤ SOURCE_LINES_LIMIT }
-        requires ahead_of_each { ahead_of_each.items ≡ aheads lines.now }
-        ensures text { OnOk result (self.new.text.items ≡ self.old.text.items ++ stated_lines (stated_from labels.old 1 0 lines.now)) }
-        ensures refused { OnOk result (self.new.refused ≡ (self.old.refused || is_some (first_refusal (stated_from labels.old 1 0 lines.now)))) }
+        requires { ahead_of_each.items ≡ aheads_kept kept.now.lines.items kept.now.gap }
+        ensures text { OnOk result (self.new.text.items ≡ self.old.text.items ++ stated_lines (stated_kept labels.old kept.now.lines.items kept.now.gap)) }
+        ensures refused { OnOk result (self.new.refused ≡ (self.old.refused || is_some (first_refusal (stated_kept labels.old kept.now.lines.items kept.now.gap)))) }
     {
-        let mut index = 0;
-        let mut number = 0;
-        for line in lines {
+        for kept in kept.lines.as_slice() {
             let ahead = next_ahead(&mut ahead_of_each);
-            number += 1;
-            self.state_line(labels, number, index, line, ahead)?;
-            index = place_after(index, &line.sight().class());
+            let tells = kept.tells();
+            self.state_line(
+                labels,
+                kept.number(),
+                kept.index(),
+                kept.line(),
+                tells,
+                ahead,
+            )?;
         }
         Ok(())
     }
@@ -151,11 +144,10 @@ pub fn findings_in(alloc: Global, text: &[u8]) -> Result<Findings, AllocError>
 {
     let mut lines = Lines::new(alloc);
     let past = lines.take_all(text)?;
-    let lines = lines.seen;
-    let aheads = aheads(alloc, &lines)?;
+    let aheads = aheads(alloc, &lines.kept)?;
     let mut findings = Findings::new(alloc);
-    let mut labels = Labels::of(alloc, &lines);
-    findings.state_lines(&mut labels, &lines, aheads)?;
+    let mut labels = Labels::of(alloc, &lines.labels);
+    findings.state_lines(&mut labels, &lines.kept, aheads)?;
     findings.state_past(past)?;
     Ok(findings)
 }

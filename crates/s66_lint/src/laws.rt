@@ -34,6 +34,27 @@ pub fn findings_examples()
         codes "LINE 7 COUNTS LINES IFC (CUT)\n" ++
         codes "LINE 9 COUNTS LINES ELSE (CUT)\n" ++
         codes "LINE 10 COUNTS LINES SKIP (CUT)\n" }
+    ensures each_that_counts { findings_text (codes "  SKIP 1\n  ELSE 1\n  IFCP 1\n  IFCP6 1\n  IFCP7 1\n  IFPP 1\n  IFPP6 1\n  IFPP7 1\n  DUP 2,1\n  IFPL A,1\n  IFMI A,1\n  IF DEF,A,1\n  IFEQ A,B,1\n  IFNE A,B,1\n  IFGT A,B,1\n  IFGE A,B,1\n  IFLT A,B,1\n  IFLE A,B,1\n  ECHO 1\n  IFC EQ,/A/B/,1\n") ≡
+        codes "LINE 1 COUNTS LINES SKIP (CUT)\n" ++
+        codes "LINE 2 COUNTS LINES ELSE (CUT)\n" ++
+        codes "LINE 3 COUNTS LINES IFCP (CUT)\n" ++
+        codes "LINE 4 COUNTS LINES IFCP6 (CUT)\n" ++
+        codes "LINE 5 COUNTS LINES IFCP7 (CUT)\n" ++
+        codes "LINE 6 COUNTS LINES IFPP (CUT)\n" ++
+        codes "LINE 7 COUNTS LINES IFPP6 (CUT)\n" ++
+        codes "LINE 8 COUNTS LINES IFPP7 (CUT)\n" ++
+        codes "LINE 9 COUNTS LINES DUP (CUT)\n" ++
+        codes "LINE 10 COUNTS LINES IFPL (CUT)\n" ++
+        codes "LINE 11 COUNTS LINES IFMI (CUT)\n" ++
+        codes "LINE 12 COUNTS LINES IF (CUT)\n" ++
+        codes "LINE 13 COUNTS LINES IFEQ (CUT)\n" ++
+        codes "LINE 14 COUNTS LINES IFNE (CUT)\n" ++
+        codes "LINE 15 COUNTS LINES IFGT (CUT)\n" ++
+        codes "LINE 16 COUNTS LINES IFGE (CUT)\n" ++
+        codes "LINE 17 COUNTS LINES IFLT (CUT)\n" ++
+        codes "LINE 18 COUNTS LINES IFLE (CUT)\n" ++
+        codes "LINE 19 COUNTS LINES ECHO (CUT)\n" ++
+        codes "LINE 20 COUNTS LINES IFC (CUT)\n" }
     ensures left_alone { findings_text (codes "  BX8\n*S66 OFF\n  BX8\n  BX1\n* S66 ON\n  BX8\n*s66 on\n  BX8\n") ≡
         codes "LINE 1 NOT AN INSTRUCTION BX8\n" ++ codes "LINE 8 NOT AN INSTRUCTION BX8\n" }
     ensures too_long { findings_text (codes "  BX1 X2" ++ replicate 193 32 ++ codes "\n,X3\n  BX8\n") ≡ codes "LINE 1 TOO LONG\n" ++ codes "LINE 3 NOT AN INSTRUCTION BX8\n" }

@@ -6,14 +6,18 @@ mod finding;
 mod finding_text;
 mod findings;
 mod found;
+mod gap;
+mod kept;
 mod labels;
 mod laws;
 mod lines;
 mod names;
 mod operand;
+mod operation;
 mod rest;
 mod seen;
 mod sight;
+mod tells;
 
 pub use finding::Finding;
 pub use findings::{Findings, findings_in};

@@ -1,6 +1,7 @@
 ghost use Rattle.std.specs.Prelude.{◌≡◌, true};
 ghost use Rattle.s66_line.specs.Operand.{is_sign};
 ghost use Rattle.s66_lint.specs.Findings.{begins_number, ends_name, ends_term, has_star_from, term_ends};
+ghost use Rattle.s66_lint.specs.Kept.{may_count_at, may_count_from};
 
 use s66_source::is_decimal_digit;
 
@@ -40,6 +41,30 @@ fn term_ends(bytes: &[u8]) -> bool
         [byte, ..] => ends_term(*byte),
         [] => true,
     }
+}
+
+/// Whether bytes of an operand begin with a star as a term begins, or with a sign before a number; `here` if a term begins.
+fn may_count_at(here: bool, bytes: &[u8]) -> bool
+    ensures { result ≡ may_count_at here bytes.now }
+{
+    match bytes {
+        [byte, rest @ ..] => here && *byte == b'*' || is_sign(*byte) && begins_number(rest),
+        [] => false,
+    }
+}
+
+/// Whether an operand may count words: whether it has a star or a number where one that does has them.
+pub(crate) fn may_count_words(operand: &[u8]) -> bool
+    ensures { result ≡ may_count_from true operand.now }
+{
+    let mut here = true;
+    for at in 0..operand.len() {
+        if may_count_at(here, &operand[at..]) {
+            return true;
+        }
+        here = ends_term(operand[at]);
+    }
+    false
 }
 
 /// Whether one of the terms of an operand is a star.
