@@ -5,7 +5,7 @@ use Rattle.s66_model.specs.declared.rule.Rule.{Rule}
 use Rattle.s66_model.specs.Timing.{Problem, total_of}
 use Rattle.s66_model.specs.LegalOrder.{IsComplete, IsIncomplete}
 use Rattle.s66_model.specs.Leaves.{Whole, Chain, Load, Parcels, value, floor, floor_value}
-use Rattle.s66_model.specs.Tree.{Tree, TreeHolds, splits, split_at, tree_values}
+use Rattle.s66_model.specs.Tree.{Tree, AtTerminal, TreeHolds, flat, splits, split_at, tree_values}
 use Rattle.s66_model.specs.DominatedLeaves.{DominatesByRule}
 use Rattle.s66_model.specs.Piece.{Terminal, Carries, Frontier, Passed, IsNamedIn}
 
@@ -18,6 +18,10 @@ TerminalHoldsWhile rule b high low prefix tree at (Carries leaf) = (leaf ≡ flo
 TerminalHoldsWhile rule b high low prefix tree at Frontier = IsIncomplete b.block at × (floor_value b at < high)
 TerminalHoldsWhile rule b high low prefix tree at (Passed name) = (DominatesByRule rule b name at × IsNamedIn rule prefix tree at name) × (floor_value b at < high)
 
+-- some prefix of the tree is left open
+abbrev pub HasFrontier : Tree Terminal → Type 0
+HasFrontier tree = Among (AtTerminal Frontier) (flat tree)
+
 pub record IsExpansion (rule : Rule) (b : Problem) (high low allowance : ℕ) (prefix : List ℕ) (tree : Tree Terminal) : Type 0 where
   -- a tree over the prefix whose splits have exactly the ready children
   pub piece : TreeHolds b.block (TerminalHoldsWhile rule b high low prefix tree) prefix tree
@@ -25,8 +29,8 @@ pub record IsExpansion (rule : Rule) (b : Problem) (high low allowance : ℕ) (p
   pub within : splits tree ≤ allowance
   -- a prefix whose floor is at least the best time isn't split
   pub below : (at : List ℕ) → Among at (split_at prefix tree) → floor_value b at < high
-  -- one split at least, if any is allowed, the prefix isn't complete and its floor is below the best time
-  pub due : 1 ≤ allowance → IsIncomplete b.block prefix → floor_value b prefix < low → 1 ≤ splits tree
+  -- what is left open was not allowed to be split: as many splits are spent as are allowed
+  pub spent : HasFrontier tree → splits tree ≡ allowance
 
 -- WHOLE ORDERS
 

@@ -1,6 +1,7 @@
 //! Dominance: what a beginning that is no later than another of the same numbers is worth.
 
 ghost use Rattle.std.specs.Prelude.{ℕ, List, ◌≡◌, ◌≤◌, true, [], ◌∷◌, ◌++◌};
+ghost use Rattle.s66_isa.specs.Table.{instr};
 ghost use Rattle.s66_model.specs.Timing.{Problem, total_of};
 ghost use Rattle.s66_model.specs.LegalOrder.{is_ready};
 ghost use Rattle.s66_model.specs.Dominance.{Dominates, DominatesClamped, IsNoWorse};
@@ -35,6 +36,12 @@ pub fn dominance_examples()
     ensures done_after_the_slot { ¬ DominatesClamped (standard_problem late_result) (2 ∷ 1 ∷ []) (1 ∷ 2 ∷ []) }
     ensures total_after_it { total_of (standard_problem late_result) (2 ∷ 1 ∷ 3 ∷ []) ≡ 8 }
     ensures total_of_the_other { total_of (standard_problem late_result) (1 ∷ 2 ∷ 3 ∷ []) ≡ 7 }
+    // SA1 X1+B1, SA3 B1+5, BX1 X2: the next slots are 9 and 11
+    ensures sooner_slot { Dominates (standard_problem (instr 0o53 1 1 1 ∷ instr 0o51 3 1 0 ∷ instr 0o10 1 2 0 ∷ [])) (1 ∷ 2 ∷ 3 ∷ []) (1 ∷ 3 ∷ 2 ∷ []) }
+    // SX1 B2, SA7 A7+B1, SX3 A1+5: the store starts at 1 and at 0, and the next slot is 6
+    ensures store_by_the_slot { DominatesClamped (standard_problem (instr 0o76 1 2 0 ∷ instr 0o54 7 7 1 ∷ instr 0o70 3 1 0 ∷ [])) (1 ∷ 2 ∷ 3 ∷ []) (2 ∷ 1 ∷ 3 ∷ []) }
+    // BX1 X3, BX2 X3, SB0 X2+B0, SB0 X1+B1: X2 is read at the next slot itself, 7
+    ensures read_at_the_slot { DominatesClamped (standard_problem (instr 0o10 1 3 0 ∷ instr 0o10 2 3 0 ∷ instr 0o63 0 2 0 ∷ instr 0o63 0 1 1 ∷ [])) (1 ∷ 2 ∷ 3 ∷ 4 ∷ []) (2 ∷ 1 ∷ 4 ∷ 3 ∷ []) }
     ensures half_a_word_apart { ¬ DominatesClamped (standard_problem two_gaps) (1 ∷ 2 ∷ 4 ∷ 3 ∷ 5 ∷ 6 ∷ []) (1 ∷ 2 ∷ 3 ∷ 4 ∷ 5 ∷ 6 ∷ []) }
     ensures a_parcel_apart { ¬ DominatesClamped (standard_problem later_gap) (1 ∷ 3 ∷ 2 ∷ 4 ∷ []) (1 ∷ 2 ∷ 3 ∷ 4 ∷ []) }
     ensures total_with_a_gap { total_of (standard_problem later_gap) (1 ∷ 3 ∷ 2 ∷ 4 ∷ 5 ∷ []) ≡ 13 }

@@ -1,19 +1,22 @@
 //! Expansions: pieces that are grown while a best time is in hand.
 
-ghost use Rattle.std.specs.Prelude.{ℕ, List, ◌≡◌, [], ◌∷◌, Some, None};
+ghost use Rattle.std.specs.Prelude.{ℕ, List, ◌≡◌, ◌≤◌, ◌<◌, [], ◌∷◌, Some, None};
 ghost use Rattle.s66_isa.specs.declared.instr.Kind.TheVariants.{Multiply};
 ghost use Rattle.s66_model.specs.declared.rule.Rule.{Rule};
 ghost use Rattle.s66_model.specs.declared.rule.Rule.TheVariants.{NoneNamed};
 ghost use Rattle.s66_model.specs.Timing.{Problem};
-ghost use Rattle.s66_model.specs.Leaves.{Whole, Chain, Load, Parcels};
-ghost use Rattle.s66_model.specs.Tree.{Tree, Alone, Parted, NoMore, Unsplit};
+ghost use Rattle.s66_model.specs.LegalOrder.{IsIncomplete};
+ghost use Rattle.s66_model.specs.Leaves.{Whole, Chain, Load, Parcels, floor_value};
+ghost use Rattle.s66_model.specs.Tree.{Tree, Alone, Parted, NoMore, Unsplit, splits};
 ghost use Rattle.s66_model.specs.Piece.{Terminal, Carries, Frontier, IsPiece};
 ghost use Rattle.s66_model.specs.Expansion.{IsExpansion, IsBestWhole, whole_orders};
 ghost use Rattle.s66_model.specs.Examples.{load_problem, multiply_problem, load_piece, one_split, child_omitted, every_order, load_orders};
 
-/// An expansion is a piece, whatever the best time does meanwhile.
+/// An expansion is a piece, whatever the best time does meanwhile. Its prefix is split if one split is allowed, it is incomplete and
+/// its floor is below the last best time.
 pub fn expansion_law()
-    ensures { (rule : Rule) (b : Problem) (high low allowance : ℕ) (prefix : List ℕ) (tree : Tree Terminal) → IsExpansion rule b high low allowance prefix tree → IsPiece rule b prefix tree }
+    ensures piece { (rule : Rule) (b : Problem) (high low allowance : ℕ) (prefix : List ℕ) (tree : Tree Terminal) → IsExpansion rule b high low allowance prefix tree → IsPiece rule b prefix tree }
+    ensures due { (rule : Rule) (b : Problem) (high low allowance : ℕ) (prefix : List ℕ) (tree : Tree Terminal) → IsExpansion rule b high low allowance prefix tree → 1 ≤ allowance → IsIncomplete b.block prefix → floor_value b prefix < low → 1 ≤ splits tree }
 {}
 
 /// What expansions of a prefix are: by best times before and after, and by the number of splits.
@@ -28,8 +31,10 @@ pub fn expansion_examples()
     ensures three_splits { IsExpansion NoneNamed load_problem 16 16 3 [] load_piece }
     ensures no_allowance { IsExpansion NoneNamed multiply_problem 22 22 0 [] (Alone Frontier) }
     ensures fell_to_the_floor { IsExpansion NoneNamed multiply_problem 22 17 1 [] (Alone (Carries (Load Multiply))) }
-    ensures not_seen_to_fall { IsExpansion NoneNamed multiply_problem 22 17 1 [] (Alone Frontier) }
+    ensures not_seen_to_fall { IsExpansion NoneNamed multiply_problem 22 17 1 [] (one_split Frontier) }
     ensures no_split_where_one_is_due { ¬ IsExpansion NoneNamed multiply_problem 22 22 1 [] (Alone Frontier) }
+    ensures one_split_of_64 { ¬ IsExpansion NoneNamed multiply_problem 22 22 64 [] (one_split Frontier) }
+    ensures open_without_a_split { ¬ IsExpansion NoneNamed multiply_problem 22 17 1 [] (Alone Frontier) }
     ensures one_split_too_many { ¬ IsExpansion NoneNamed load_problem 16 16 2 [] load_piece }
     ensures split_at_the_best { ¬ IsExpansion NoneNamed multiply_problem 17 17 1 [] (one_split (Carries (Load Multiply))) }
     ensures frontier_at_the_best { ¬ IsExpansion NoneNamed load_problem 13 13 3 [] load_piece }
