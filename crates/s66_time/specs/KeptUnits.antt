@@ -1,4 +1,4 @@
--- To be believed: how many free times of each kind of unit a mark keeps, and where they are among its words.
+-- Used by contracts: how many free times of each kind of unit a mark keeps, and where they are among its words.
 use Rattle.std.specs.Prelude.{ℕ, ◌+◌, min, take}
 use Rattle.s66_isa.specs.Lists.{tally, weigh}
 use Rattle.s66_isa.specs.Table.{Instr, all_kinds, kind_number, kind_of, same_kind}

@@ -1,4 +1,4 @@
--- To be believed: what a mark is, of a beginning of a problem's legal orders.
+-- Used by contracts: what a mark is, of a beginning of a problem's legal orders. What `Clock::mark` gives, `dominates` takes: what is in it need not be known.
 use Rattle.std.specs.Prelude.{ℕ, ◌+◌, ◌≡◌, ◌≤◌, ◌<◌, List, length, get_or}
 use Rattle.s66_isa.specs.Registers.{index_of}
 use Rattle.s66_isa.specs.Table.{Reg}

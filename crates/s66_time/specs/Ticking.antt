@@ -29,6 +29,8 @@ problem_of t = record { block = instrs_of t.block; profile = t.profile }
 abbrev pub points : Ticking → List Point
 points t = points_of (problem_of t) t.numbers
 
+-- USED WITHIN THE CRATE ALONE
+
 abbrev pub numbers_of : List Step → List ℕ
 numbers_of steps = map (λ (k : Step). k.number) steps
 
