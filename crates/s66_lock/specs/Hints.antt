@@ -1,4 +1,4 @@
--- To be believed: what contracts see of a seat at a hint, and the rule of a hint's word.
+-- To be believed: what contracts see of a seat at a hint.
 use Rattle.std.specs.Prelude.{ℕ, ◌≡◌, ◌≤◌, [], ◌∷◌, min}
 use mathlib.Core.Option.{some}
 use lib.ListN.{get_elem?}
@@ -10,7 +10,9 @@ pub record HintSeatOf : Type 0 where
   pub hint : TableId
   pub kept : ℕ
 
--- The word is the least of what the seats keep
+-- USED WITHIN THE CRATE ALONE
+
+-- The rule of a hint's word: it is the least of what the seats keep
 pub record IsLowest (s : State Unit ℕ) : Type 0 where
   pub word : ℕ
   pub one_word : s.words ≡ word ∷ []
