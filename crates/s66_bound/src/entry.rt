@@ -29,8 +29,17 @@ pub struct Entry {
 }
 
 impl Default for Entry {
+    /// A blank, as cheap as can be: a list makes one for each place that isn't taken.
     fn default() -> Entry {
-        entry_of(&Instr::default(), &Profile::standard())
+        Entry {
+            kind: Kind::Boolean,
+            parcels: 1,
+            writes: ArrayVec::new(),
+            used: Registers::empty(),
+            memory: Memory::None,
+            work: 1,
+            tail: 1,
+        }
     }
 }
 
