@@ -5,6 +5,7 @@ pub mod NamedSplits
 pub mod Skeletons
 pub mod Pieces
 pub mod Firsts
+pub mod Frontiers
 pub mod Schedules
 pub mod Standing
 pub mod Terminals

@@ -17,6 +17,7 @@ use Rattle.s66_node.specs.declared.grow.Grown.{Grown}
 use Rattle.s66_node.specs.SeenVertices.{seen}
 use Rattle.s66_node.specs.Pieces.{PieceOf, stated_tree, tree_of, IsBestTimed, IsKept}
 use Rattle.s66_node.specs.Walking.{Span, IsDue, IsStated, IsLeast, IsGrown, NameSplits}
+use Rattle.s66_node.proofs.Frontiers.{tree-open}
 use Rattle.s66_node.proofs.Growing.{tree-holds, tree-splits}
 use Rattle.s66_node.proofs.NamedSplits.{split-node, tree-within}
 use Rattle.s66_node.proofs.Terminals.{Named, passed-name, stated-true, stated-terminal, holds-terminal}
@@ -70,7 +71,9 @@ module _ (rule : Rule) (b : Problem) (best : Span) (allowance : ℕ) (root : Lis
             seen-holds (terminal_of b) b.block (TerminalHoldsWhile rule b best.high best.low root whole) tree root (tree-weaken b.block NamedStated (λ at stated. TerminalHoldsWhile rule b best.high best.low root whole at (terminal_of b at stated)) (stated-terminal rule b root whole best) tree root named-stated);
         within = omega (arith, grown-splits, h.within);
         below = λ at among. (tree-splits b.block (IsDue b best.high) (IsStated rule b best) root tree h.grows at (subst (Among at) (seen-split_at (terminal_of b) tree root) among)).1;
-        due = λ some part lt. omega (arith, grown-splits, h.due some (part, lt));
+        spent = λ has.
+            let (value, among) = tree-open b tree root has in
+            grown-splits ∙ h.spent value (subst (Among (AtTerminal (StatedFrontier value))) h.vertices among);
       }
 
   module _ (p : PieceOf) (by : p.rule ≡ rule) (own : p.problem ≡ b) (over : p.prefix ≡ root) (vertices : p.vertices ≡ seen grown.vertices.items) where

@@ -20,7 +20,8 @@ use Rattle.s66_node.specs.Walked.{front}
 use Rattle.s66_node.specs.Growing.{TreeGrows}
 use Rattle.s66_model.specs.Stated.{Stated, StatedPassed}
 use Rattle.s66_node.specs.SeenVertices.{seen, seen_vertex}
-use Rattle.s66_node.specs.Walking.{Span, AreOpen, IsDue, IsStated, IsLeast, IsWalk, GrowsFor, AreOfSplits, NameSplits, lefts, whole_stated}
+use Rattle.s66_node.specs.Walking.{Span, AreOpen, IsDue, IsStated, IsFrontier, IsLeast, IsWalk, GrowsFor, AreOfSplits, NameSplits, lefts, whole_stated}
+use Rattle.s66_node.proofs.Frontiers.{spent-split, spent-terminal}
 use Rattle.s66_node.proofs.Leasts.{among-either}
 use Rattle.s66_node.proofs.Growing.{front-push, grows-root, grows-up, grows-terminal, grows-split, grows-done, tree-holds, splits-count}
 
@@ -93,6 +94,7 @@ module _ (rule : Rule) (b : Problem) (best : Span) (allowance : ℕ) (root : Lis
         depth = omega arith;
         within = le;
         some = omega arith;
+        spent = λ value among. absurd (elim among [ inl is ↦ absurd cc | inr none ↦ none ]);
         grows = ([], root ∷ [], subst (λ ns. GrowsFor rule b best root root (ns ∷ []) (AtSplit (ready b.block root) ∷ []) [] (root ∷ [])) (sym is) grown, refl, refl, names-split rule [] before names root (λ by name among. absurd (subst (Among name) (empty by) among)) new, lines-split rule [] root (ready b.block root) [] (λ by value name none. absurd none));
       }
 
@@ -127,8 +129,8 @@ module _ (rule : Rule) (b : Problem) (best : Span) (allowance : ℕ) (root : Lis
         subst (λ x. GrowsFor rule b best root at x vertices found cuts) e g
 
     -- a child that isn't split
-    pub walk-terminal : (n : ℕ) (f2 : Set) (new : List Set) (more : List (Vertex Stated)) (least2 : Option WholeOrder) (names2 : List (List ℕ)) (stated : Stated) (p : Problem) (now back : List ℕ) → (rule ≡ WrittenEarlier → names2 ≡ names) → (rule ≡ WrittenEarlier → (value : ℕ) (name : List ℕ) → stated ≡ StatedPassed value name → Among name names) → numbers_in f ≡ n ∷ numbers_in f2 → new ≡ fs ++ f2 ∷ [] → p ≡ b → now ≡ at ++ n ∷ [] → back ≡ front now → IsStated rule p best now stated → more ≡ vertices ++ AtTerminal stated ∷ [] → ((found : List (List ℕ)) → IsLeast p found least → IsLeast p (found ++ whole_stated p now stated) least2) → IsWalk rule b best allowance root back new more count least2 names2
-    walk-terminal n f2 new more least2 names2 stated p now back same named is pushed own next up holds lines lower =
+    pub walk-terminal : (n : ℕ) (f2 : Set) (new : List Set) (more : List (Vertex Stated)) (least2 : Option WholeOrder) (names2 : List (List ℕ)) (stated : Stated) (p : Problem) (now back : List ℕ) → (rule ≡ WrittenEarlier → names2 ≡ names) → (rule ≡ WrittenEarlier → (value : ℕ) (name : List ℕ) → stated ≡ StatedPassed value name → Among name names) → numbers_in f ≡ n ∷ numbers_in f2 → new ≡ fs ++ f2 ∷ [] → p ≡ b → now ≡ at ++ n ∷ [] → back ≡ front now → IsStated rule p best now stated → more ≡ vertices ++ AtTerminal stated ∷ [] → ((found : List (List ℕ)) → IsLeast p found least → IsLeast p (found ++ whole_stated p now stated) least2) → (IsFrontier (AtTerminal stated) → ¬ (count < allowance)) → IsWalk rule b best allowance root back new more count least2 names2
+    walk-terminal n f2 new more least2 names2 stated p now back same named is pushed own next up holds lines lower left =
         let child = at ++ n ∷ [] in
         let back_is : back ≡ at = up ∙ (ap front next ∙ front-push at n) in
         let holds2 : IsStated rule b best child stated = subst (λ x. IsStated rule b best x stated) next (subst (λ (q : Problem). IsStated rule q best now stated) own holds) in
@@ -143,6 +145,7 @@ module _ (rule : Rule) (b : Problem) (best : Span) (allowance : ℕ) (root : Lis
           depth = omega (arith, deep, length-append fs (f2 ∷ []));
           within = walk.within;
           some = walk.some;
+          spent = spent-terminal allowance count vertices walk.spent stated walk.within left;
           grows = (found ++ whole_stated b child stated, cuts, g3, count_is, l2, (λ by name among. are by name (subst (Among name) (same by) among)), lines-terminal rule cuts names stated vertices are named have);
         })
 
@@ -164,6 +167,7 @@ module _ (rule : Rule) (b : Problem) (best : Span) (allowance : ℕ) (root : Lis
           depth = omega (arith, deep, length-append (fs ++ f2 ∷ []) (f3 ∷ []), length-append fs (f2 ∷ []), length-append at (n ∷ []));
           within = omega (arith, lt);
           some = omega arith;
+          spent = spent-split allowance count vertices walk.spent (numbers_in f3) lt;
           grows = (found, cuts ++ child ∷ [], subst (λ x. GrowsFor rule b best root child x (vertices ++ AtSplit (numbers_in f3) ∷ []) found (cuts ++ child ∷ [])) (sym frames) g2, omega (arith, count_is, length-append cuts (child ∷ [])), l, names-split rule cuts names names2 child are (λ name among. subst (λ x. (name ≡ x) ⊎ Among name names) next (fresh name among)), lines-split rule cuts child (numbers_in f3) vertices have);
         })
 
@@ -182,6 +186,7 @@ module _ (rule : Rule) (b : Problem) (best : Span) (allowance : ℕ) (root : Lis
           depth = omega (arith, deep, length-front at);
           within = walk.within;
           some = walk.some;
+          spent = walk.spent;
           grows = (found, cuts, ups is found cuts g, count_is, l, are, have);
         })
 
@@ -195,6 +200,7 @@ module _ (rule : Rule) (b : Problem) (best : Span) (allowance : ℕ) (root : Lis
           depth = omega (arith, deep);
           within = walk.within;
           some = walk.some;
+          spent = walk.spent;
           grows = (found, cuts, nowhere rule b best root at vertices found cuts g2, count_is, l, are, have);
         })
 

@@ -7,7 +7,7 @@ use Rattle.s66_model.specs.declared.rule.Rule.TheVariants.{WrittenEarlier}
 use Rattle.s66_model.specs.Timing.{Problem, total_of}
 use Rattle.s66_model.specs.LegalOrder.{IsBeginning, IsComplete, IsIncomplete, IsLegal, is_ready}
 use Rattle.s66_model.specs.Leaves.{floor_value}
-use Rattle.s66_model.specs.Tree.{Tree, Alone, Vertex, AtTerminal, flat, splits, split_at, tree_values}
+use Rattle.s66_model.specs.Tree.{Tree, Alone, Vertex, AtTerminal, AtSplit, flat, splits, split_at, tree_values}
 use Rattle.s66_model.specs.DominatedLeaves.{DominatesByRule}
 use Rattle.s66_model.specs.Stated.{Stated, StatedLeaf, StatedFrontier, StatedPassed, terminal_of}
 use Rattle.s66_model.specs.Expansion.{whole_at}
@@ -46,6 +46,17 @@ AreOfSplits rule cuts names = rule ≡ WrittenEarlier → (name : List ℕ) → 
 abbrev pub NameSplits : Rule → List (List ℕ) → List (Vertex Stated) → Type 0
 NameSplits rule cuts vertices = rule ≡ WrittenEarlier → (value : ℕ) (name : List ℕ) → Among (AtTerminal (StatedPassed value name)) vertices → Among name cuts
 
+-- the line is of a prefix in the frontier
+abbrev pub IsFrontier : Vertex Stated → Type 0
+IsFrontier (AtSplit numbers) = ⊥
+IsFrontier (AtTerminal (StatedLeaf value)) = ⊥
+IsFrontier (AtTerminal (StatedFrontier value)) = Unit {0}
+IsFrontier (AtTerminal (StatedPassed value name)) = ⊥
+
+-- what these lines leave open was not allowed to be split: this many splits are then as many as are allowed
+abbrev pub IsSpent : ℕ → ℕ → List (Vertex Stated) → Type 0
+IsSpent allowance count vertices = (value : ℕ) → Among (AtTerminal (StatedFrontier value)) vertices → count ≡ allowance
+
 -- the whole order that is stated, if one is
 abbrev pub whole_stated : Problem → List ℕ → Stated → List (List ℕ)
 whole_stated b at stated = whole_at at (terminal_of b at stated)
@@ -66,7 +77,7 @@ pub record IsGrown (rule : Rule) (b : Problem) (best : Span) (allowance : ℕ) (
   pub splits : splits tree ≡ grown.splits
   pub least : IsLeast b (tree_values (whole_stated b) root tree) grown.least
   pub within : grown.splits ≤ allowance
-  pub due : 1 ≤ allowance → IsDue b best.low root → 1 ≤ grown.splits
+  pub spent : IsSpent allowance grown.splits (seen grown.vertices.items)
   -- the root isn't dominated, and names are those of splits
   pub passed : (value : ℕ) (name : List ℕ) → ¬ (tree ≡ Alone (StatedPassed value name))
   pub names : NameSplits rule (split_at root tree) (flat tree)
@@ -92,4 +103,5 @@ pub record IsWalk (rule : Rule) (b : Problem) (best : Span) (allowance : ℕ) (r
   pub depth : length root + length frames ≤ length at + 1
   pub within : count ≤ allowance
   pub some : 1 ≤ count
+  pub spent : IsSpent allowance count vertices
   pub grows : (found cuts : List (List ℕ)) × GrowsFor rule b best root at (lefts frames) vertices found cuts × (length cuts ≡ count) × IsLeast b found least × AreOfSplits rule cuts names × NameSplits rule cuts vertices

@@ -46,8 +46,8 @@ fn timed_of(
 /// Expands a prefix of a block's legal orders: a tree over it with at most `allowance` splits, made depth first by rising number.
 ///
 /// A prefix whose floor is at least the best time isn't split, and carries its floor as leaf, as a whole order does; the others
-/// that aren't split are the frontier. There is a split if one is allowed and the prefix may be split. With the tree comes a
-/// least one of its whole orders, timed. Times are in minor cycles.
+/// that aren't split are the frontier, which is empty if there are fewer splits than `allowance`. With the tree comes a least one
+/// of its whole orders, timed. Times are in minor cycles.
 ///
 /// The tables of the block are made once, in time quadratic in its length. Each split then costs a push, a floor and an undo for
 /// each of its children, and a look for each instruction that depends directly on the last one of its prefix. It takes no lock and
@@ -74,8 +74,8 @@ pub fn expand(
 /// below it.
 ///
 /// A prefix whose floor is at least the first best time isn't split, and carries its floor as leaf. One that isn't split and whose
-/// floor is below the last best time is in the frontier, if it isn't complete. With a floor in between it may be either. There is a
-/// split if one is allowed and the prefix may be split by the last best time. On `Err` the best time may have fallen.
+/// floor is below the last best time is in the frontier, if it isn't complete. With a floor in between it may be either. The
+/// frontier is empty if there are fewer splits than `allowance`. On `Err` the best time may have fallen.
 pub fn expand_with<L: Least>(
     alloc: Global,
     block: &Block,

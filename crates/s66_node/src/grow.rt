@@ -5,7 +5,7 @@ ghost use Rattle.s66_model.specs.Leaves.{floor_value};
 ghost use Rattle.s66_model.specs.Tree.{Tree, AtTerminal};
 ghost use Rattle.s66_model.specs.Stated.{Stated, StatedPassed};
 ghost use Rattle.s66_node.specs.SeenVertices.{seen_vertex};
-ghost use Rattle.s66_node.specs.Walking.{Span, span, IsDue, IsStated, IsLeast, IsGrown, whole_stated};
+ghost use Rattle.s66_node.specs.Walking.{Span, span, IsDue, IsStated, IsFrontier, IsLeast, IsGrown, whole_stated};
 
 use crate::least::Least;
 use crate::naming::Naming;
@@ -34,7 +34,7 @@ pub(crate) struct Grown {
 fn unsplit_vertex(walk: &Walk<'_>, value: u32, best: u32, may_split: bool) -> Option<Vertex>
     requires { value ≡ floor_value walk.now.problem walk.now.numbers }
     ensures stated { IfSome result (λ k. (stated : Stated) × (seen_vertex k ≡ AtTerminal stated) × IsStated NoneNamed walk.now.problem (span best best) walk.now.numbers stated) }
-    ensures unsplit { IfSome result (λ k. IsTrue may_split → ¬ IsDue walk.now.problem best walk.now.numbers) }
+    ensures left_open { IfSome result (λ k. IsFrontier (seen_vertex k) → ¬ IsTrue may_split) }
     ensures due { IfNone result (IsDue walk.now.problem best walk.now.numbers) }
     ensures may { IfNone result (IsTrue may_split) }
 {
@@ -63,6 +63,7 @@ fn open_vertex<N: Naming>(
     ensures suits { N.suits names.new walk.now.problem }
     ensures same { N.names names.new ≡ N.names names.old }
     ensures stated { (best : Span) → IsDue walk.now.problem best.high walk.now.numbers → IfOk result (λ vertex. IfSome vertex (λ k. (stated : Stated) × (seen_vertex k ≡ AtTerminal stated) × IsStated rule walk.now.problem best walk.now.numbers stated × (rule ≡ WrittenEarlier → (value : ℕ) (name : List ℕ) → stated ≡ StatedPassed value name → Among name (N.names names.old)))) }
+    ensures left_open { IfOk result (λ vertex. IfSome vertex (λ k. IsFrontier (seen_vertex k) → ¬ IsTrue may_split)) }
     ensures may { IfOk result (λ vertex. IfNone vertex (IsTrue may_split)) }
 {
     if let Some(name) = names.find_name(alloc, walk, rule)? {
@@ -95,6 +96,7 @@ fn unsplit_child<L: Least, N: Naming>(
     ensures lowest { (L.lowest incumbent.new ≡ L.lowest incumbent.old) × (L.lowest incumbent.old ≤ best.old → L.lowest incumbent.old ≤ best.new) }
     ensures stated { IfOk result (λ vertex. IfSome vertex (λ k. (stated : Stated) × (seen_vertex k ≡ AtTerminal stated) × IsStated rule walk.now.problem (span best.old best.new) walk.now.numbers stated × (rule ≡ WrittenEarlier → (value : ℕ) (name : List ℕ) → stated ≡ StatedPassed value name → Among name (N.names names.old)))) }
     ensures due { IfOk result (λ vertex. IfNone vertex (IsDue walk.now.problem best.new walk.now.numbers)) }
+    ensures left_open { IfOk result (λ vertex. IfSome vertex (λ k. IsFrontier (seen_vertex k) → ¬ IsTrue may_split)) }
     ensures may { IfOk result (λ vertex. IfNone vertex (IsTrue may_split)) }
 {
     let value = walk.floor_value();
@@ -122,7 +124,8 @@ fn keep_whole(least: &mut Option<WholeOrder>, walk: &Walk<'_>, vertex: &Vertex)
 }
 
 /// The tree over the walk's prefix, made depth first by rising number: at most `allowance` splits, each at an incomplete prefix
-/// whose floor is below the best time. The best time is read at the walk's prefix, and before each split below it.
+/// whose floor is below the best time. A prefix is left open only after all of them. The best time is read at the walk's prefix,
+/// and before each split below it.
 ///
 /// A split below the walk's prefix costs one look for each instruction that depends directly on its last number, and each of its
 /// children a push, an undo and a floor. Nothing is allocated but room for lines.

@@ -22,7 +22,7 @@ use std::alloc::{AllocError, Global};
 use std::marker::Model;
 
 /// The most marks of one set of numbers that are kept to be compared clamped.
-const LIST_LIMIT: u32 = 16;
+const LIST_LIMIT: u32 = 64;
 
 /// The most marks that are kept.
 const TABLE_LIMIT: usize = 65_536;
@@ -38,7 +38,7 @@ pub struct Entry {
 
 /// Marks of beginnings of a block's legal orders, found by the sets of their numbers.
 ///
-/// At most 65,536 are kept in all, or the table's own limit if that is less; of those that are compared clamped, at most 16 of
+/// At most 65,536 are kept in all, or the table's own limit if that is less; of those that are compared clamped, at most 64 of
 /// one set. If memory runs out, or a limit is reached, a mark isn't kept.
 #[derive(Debug, Drop)]
 pub struct Marks<'a> {

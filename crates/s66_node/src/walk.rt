@@ -99,6 +99,20 @@ impl<'a> Walk<'a> {
         }
     }
 
+    /// The block.
+    pub fn block(&self) -> &'a Block<'a>
+        ensures { instrs_of result.now ≡ self.now.problem.block }
+    {
+        self.clock.block()
+    }
+
+    /// The profile.
+    pub fn profile(&self) -> &Profile
+        ensures { result.now ≡ self.now.problem.profile }
+    {
+        self.clock.profile()
+    }
+
     /// Goes on with a number that is ready, in the time of a clock's push.
     #[inline(always)]
     pub fn push(&mut self, n: u8)

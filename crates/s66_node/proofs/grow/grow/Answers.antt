@@ -1,4 +1,4 @@
-use Rattle.std.proofs.Common.{ℕ, ◌+◌, ◌-◌, ◌*◌, ◌≤◌, ◌≡◌, ◌⊎◌, ◌++◌, ◌∷◌, [], List, Option, IfSome, IfNone, IsTrue, nat_lt, true, arith, inl, inr, sym, ◌∙◌, ap, subst, refl, length, length-append}
+use Rattle.std.proofs.Common.{ℕ, ◌+◌, ◌-◌, ◌*◌, ◌≤◌, ◌<◌, ◌≡◌, ◌⊎◌, ◌++◌, ◌∷◌, [], List, Option, IfSome, IfNone, IsTrue, nat_lt, true, arith, inl, inr, sym, ◌∙◌, ap, subst, refl, length, length-append}
 use Rattle.std.proofs.lemmas.Bool.{lt-ltb, ltb-true, true≢false}
 use Rattle.s66_isa.specs.declared.limits.TheConstants.{BLOCK_LIMIT}
 use Rattle.s66_isa.specs.Lists.{Among}
@@ -12,7 +12,8 @@ use Rattle.s66_dep.proofs.LongestBeginning.{beginning-few}
 use Rattle.s66_node.specs.Walked.{Walked, front}
 use Rattle.s66_node.specs.declared.vertex.Vertex.{Vertex}
 use Rattle.s66_node.specs.SeenVertices.{seen, seen_vertex}
-use Rattle.s66_node.specs.Walking.{span, IsLeast, IsDue, IsStated, whole_stated}
+use Rattle.s66_node.specs.Walking.{span, IsLeast, IsDue, IsStated, IsFrontier, IsSpent, whole_stated}
+use Rattle.s66_node.proofs.Frontiers.{spent-terminal}
 use Rattle.s66_node.proofs.WalkTurns.{next-ready, seen-push, not-empty, is-empty, none-empty, walk-root, next-few, next-room, walk-terminal, walk-split, walk-up, walk-last, walk-done, work-terminal, work-split, work-up}
 use Rattle.s66_node.proofs.Terminals.{stated-any, stated-wider, alone-unnamed, line-unnamed}
 use Rattle.s66_node.proofs.grow.grow.Goals as goal
@@ -36,7 +37,7 @@ returns-in-Some-clause-grown g c =
         splits = refl;
         least = c.keep_whole.ensures NoneNamed best stated [] line holds refl;
         within = omega arith;
-        due = λ some due. absurd (c.in-Some.ensures.unsplit (lt-ltb 0 c.args.allowance some) (due.0, omega (arith, due.1, c.least-best.ensures.now)));
+        spent = subst (IsSpent c.args.allowance 0) (sym vertices) (spent-terminal c.args.allowance 0 [] (λ value none. absurd none) stated (omega arith) (λ is lt. c.in-Some.ensures.left_open (subst IsFrontier (sym line) is) (lt-ltb 0 c.args.allowance lt)));
         passed = λ value name. alone-unnamed b best root stated value name holds;
         names = λ by value name among. absurd (elim among [ inl is ↦ line-unnamed b best root stated value name holds is | inr none ↦ none ]);
       },
@@ -94,6 +95,8 @@ loop-frame-preserved-in-Some-child g c =
     let up : c.undo.new.self.numbers ≡ front now.numbers = ap (λ (w : Walked). w.numbers) c.undo.ensures in
     let (stated, line, stated_now, named) = subst (λ (o : Option Vertex). IfSome o (λ k. (stated : Stated) × (seen_vertex k ≡ AtTerminal stated) × IsStated c.args.rule now.problem (span lf.best c.unsplit_child.new.best) now.numbers stated × (c.args.rule ≡ WrittenEarlier → (value : ℕ) (name : List ℕ) → stated ≡ StatedPassed value name → Among name (g.N.Naming.names lf.names)))) c.in-Some-child.is c.in_ok-child.ensures.stated in
     let vertices = seen-push lf.vertices.items c.push-in-Some-child.new.self.items c.in-Some-child.vertex (AtTerminal stated) c.in_ok-push-in-Some-child.ensures.items line in
+    let left : IsFrontier (AtTerminal stated) → ¬ (lf.splits < c.args.allowance) =
+    λ is lt. subst (λ (o : Option Vertex). IfSome o (λ k. IsFrontier (seen_vertex k) → ¬ IsTrue (nat_lt lf.splits c.args.allowance))) c.in-Some-child.is c.in_ok-child.ensures.left_open (subst IsFrontier (sym line) is) (lt-ltb lf.splits c.args.allowance lt) in
     record {
       problem = ap (λ (w : Walked). w.problem) c.undo.ensures ∙ own;
       kept = c.unsplit_child.ensures.kept;
@@ -108,7 +111,7 @@ loop-frame-preserved-in-Some-child g c =
           λ found h. c.keep_whole-in-Some-child.ensures c.args.rule best stated found line holds h in
           walk-terminal c.args.rule b best c.args.allowance root lf.walk.numbers lf.frames.items c.pop.new.self.items c.in-Some-pop.frame (seen lf.vertices.items) lf.splits lf.least (g.N.Naming.names lf.names) (lf.invariant.walk low old) c.in-Some-pop.ensures.items
           c.in-Some-pop_first.n c.pop_first.new.self c.push-in-Some-pop_first.new.self.items (seen c.push-in-Some-child.new.self.items) c.keep_whole-in-Some-child.new.least (g.N.Naming.names c.keep_terminal-in-Some-child.new.self) stated now.problem now.numbers c.undo.new.self.numbers (λ by. c.keep_terminal-in-Some-child.ensures.known by ∙ c.unsplit_child.ensures.same) named
-          c.in-Some-pop_first.ensures.some c.push-in-Some-pop_first.ensures.items own next up holds vertices lower;
+          c.in-Some-pop_first.ensures.some c.push-in-Some-pop_first.ensures.items own next up holds vertices lower left;
     }
 
 pub push-requires-in-None-2 : goal.push-requires-in-None-2
@@ -201,4 +204,4 @@ returns-clause-grown g c =
     let walk = lf.invariant.walk low (omega (arith, lf.invariant.kept)) in
     let none : lf.frames.items ≡ [] = none-empty lf.frames.items (λ lt. true≢false (sym (c.in_default-pop.ensures.variant.1 lt))) in
     let (tree, grows, vertices, splits, least, passed, names) = walk-done c.args.rule c.args.walk.now.problem (span (g.L.Least.kept c.args.incumbent.now) low) c.args.allowance c.args.walk.now.numbers lf.walk.numbers lf.frames.items (seen lf.vertices.items) lf.splits lf.least (g.N.Naming.names lf.names) none walk in
-    (tree, record { grows = grows; vertices = vertices; splits = splits; least = least; within = walk.within; due = λ some due. walk.some; passed = passed; names = names })
+    (tree, record { grows = grows; vertices = vertices; splits = splits; least = least; within = walk.within; spent = walk.spent; passed = passed; names = names })
