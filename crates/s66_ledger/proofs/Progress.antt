@@ -2,6 +2,7 @@
 use Rattle.std.proofs.Common.{ℕ, suc, ◌+◌, ◌≤◌, ◌<◌, ◌≡◌, ◌⊎◌, true, cond, List, [], ◌∷◌, refl, sym, ap, arith, subst, ◌∙◌, inl, inr, Option, Some, None}
 use Rattle.s66_isa.specs.Lists.{tally, Among}
 use Rattle.s66_model.specs.declared.rule.Rule.{Rule}
+use Rattle.s66_model.specs.declared.rule.Rule.TheVariants.{NoneNamed, WrittenEarlier, ClampedStanding}
 use Rattle.s66_model.specs.Timing.{Problem, total_of}
 use Rattle.s66_model.specs.Leaves.{Whole, value, floor_value}
 use Rattle.s66_model.specs.Tree.{Tree, Alone, Parted, splits}
@@ -20,9 +21,22 @@ use Rattle.s66_model.proofs.LedgerSteps.{root-stands}
 use Rattle.s66_ledger.proofs.Opened.{same-splits}
 use Rattle.s66_ledger.specs.Opened.{with_lines}
 use Rattle.s66_ledger.specs.GraftMoves.{IsTakenMove}
+use Rattle.s66_ledger.specs.PieceSplits.{piece_splits}
 use Rattle.s66_ledger.specs.Finishing.{IsSearched, IsBetween, IsOffering, still_to_go}
 use Rattle.s66_ledger.proofs.Events.{at-most-all}
 use Rattle.s66_ledger.proofs.Rounds.{leads-graft, claim-within, claim-back, graft-step}
+
+-- A PIECE MAY HAVE no more splits than the worker may spend, and one if that is one or more
+
+pub piece_splits-within : (rule : Rule) (allowance : ℕ) → piece_splits rule allowance ≤ allowance
+piece_splits-within NoneNamed allowance = omega arith
+piece_splits-within WrittenEarlier allowance = omega arith
+piece_splits-within ClampedStanding allowance = omega arith
+
+pub piece_splits-some : (rule : Rule) (allowance : ℕ) → 1 ≤ allowance → 1 ≤ piece_splits rule allowance
+piece_splits-some NoneNamed allowance some = some
+piece_splits-some WrittenEarlier allowance some = some
+piece_splits-some ClampedStanding allowance some = omega (arith, some)
 
 -- A PIECE GAINS: its tree has a split, or its least whole order is below the best time
 
@@ -36,7 +50,7 @@ whole-gains b best prefix (Some t) below (own, (inr past, least)) = absurd past
 
 pub expansion-gains : (rule : Rule) (b : Problem) (best allowance : ℕ) (prefix : List ℕ) (tree : Tree Terminal) (timed : Option TimedOrder) → IsExpansion rule b best best allowance prefix tree → 1 ≤ allowance → floor_value b prefix < best → IsBestTimed b prefix tree timed → Gains b best tree timed
 expansion-gains rule b best allowance prefix (Parted numbers siblings) timed h some below is = inl (omega arith)
-expansion-gains rule b best allowance prefix (Alone Frontier) timed h some below is = absurd (omega (arith, h.due some h.piece.0 below))
+expansion-gains rule b best allowance prefix (Alone Frontier) timed h some below is = absurd (omega (arith, some, h.spent (inl refl)))
 expansion-gains rule b best allowance prefix (Alone (Passed name)) timed h some below is =
     (let stands = root-stands rule b best prefix (Alone (Passed name)) h.piece.0 in absurd cc)
 expansion-gains rule b best allowance prefix (Alone (Carries leaf)) timed h some below is =

@@ -14,6 +14,7 @@ pub mod LiveNodes
 pub mod Nodes
 pub mod OpenNodes
 pub mod Opened
+pub mod PieceSplits
 pub mod Attaching
 pub mod Replies
 pub mod Steps

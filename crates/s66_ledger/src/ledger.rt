@@ -13,7 +13,7 @@ use arrayvec::ArrayVec;
 use s66_isa::{BLOCK_LIMIT, Profile};
 use s66_line::Block;
 use s66_model::{BUDGET_LIMIT, Rule, Summed, Ticket};
-use s66_node::Piece;
+use s66_node::{Marks, Piece, Walk};
 use s66_time::Timed;
 use std::alloc::{AllocError, Global};
 use std::marker::Model;
@@ -114,8 +114,28 @@ impl<'a> Ledger<'a> {
         ensures state { IfOk result (λ l. l.state ≡ opening l.problem budget workers) }
         ensures history { IfOk result (λ l. (l.entries ≡ []) × (l.bytes ≡ [])) }
     {
+        Ledger::of_walk(alloc, &Walk::new(block, profile), rule, budget, workers)
+    }
+
+    /// A ledger as `by_rule` makes one, of a walk's block and profile; the walk is at the empty prefix.
+    pub fn of_walk(
+        alloc: Global,
+        walk: &Walk<'a>,
+        rule: Rule,
+        budget: u32,
+        workers: u8,
+    ) -> Result<Ledger<'a>, AllocError>
+        requires first { walk.now.numbers ≡ [] }
+        requires budget { budget ≤ BUDGET_LIMIT }
+        ensures rule { IfOk result (λ l. l.rule ≡ rule) }
+        ensures problem { IfOk result (λ l. l.problem ≡ walk.now.problem) }
+        ensures budget { IfOk result (λ l. l.budget ≡ budget) }
+        ensures workers { IfOk result (λ l. l.workers ≡ workers) }
+        ensures state { IfOk result (λ l. l.state ≡ opening l.problem budget workers) }
+        ensures history { IfOk result (λ l. (l.entries ≡ []) × (l.bytes ≡ [])) }
+    {
         Ok(Ledger {
-            machine: Machine::new(alloc, block, profile, rule, budget, workers)?,
+            machine: Machine::new(alloc, walk, rule, budget, workers)?,
             history: History::new(alloc),
             alloc,
         })
@@ -438,5 +458,30 @@ impl<'a> Ledger<'a> {
         } = self;
         drop(history);
         machine.finish(alloc)
+    }
+
+    /// Brings the search to its end as `finish` does, but offers no list schedule, and goes on with a walk and marks of nodes that
+    /// its caller has used.
+    pub fn finish_with(
+        self,
+        alloc: Global,
+        walk: &mut Walk<'_>,
+        marks: &mut Marks<'_>,
+    ) -> Result<Answer, AllocError>
+        requires walk { walk.old.problem ≡ self.problem }
+        requires marks { marks.old.problem ≡ self.problem }
+        requires workers { 1 ≤ self.workers }
+        ensures rule { IfOk result (λ a. a.rule ≡ self.entry.rule) }
+        ensures problem { IfOk result (λ a. a.problem ≡ self.entry.problem) }
+        ensures budget { IfOk result (λ a. a.budget ≡ self.entry.budget) }
+        ensures finished { IfOk result (λ a. IsFinished self.entry.rule self.entry.problem self.entry.budget self.entry.state (answer_of a)) }
+    {
+        let Ledger {
+            machine,
+            history,
+            ..
+        } = self;
+        drop(history);
+        machine.finish_with(alloc, walk, marks)
     }
 }

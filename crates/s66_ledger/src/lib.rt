@@ -29,5 +29,6 @@ pub use ledger::Ledger;
 pub use limits::{DOMINATED_PIECE_LIMIT, GRANT_LIMIT, SCHEDULE_ROUNDS};
 pub use reply::{BackError, GraftError, Offered};
 pub use s66_model::{Ticket, coverage_law};
+pub use search::{expand_by_rule, piece_splits};
 pub use step::{Event, Reply};
 pub use subtree::Subtree;

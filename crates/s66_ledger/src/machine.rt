@@ -4,13 +4,12 @@ use crate::node_table::NodeTable;
 use crate::reply::{BackError, GraftError, Offered};
 use crate::subtree::Subtree;
 use arrayvec::ArrayVec;
-use s66_bound::Bounds;
 use s66_dep::Order;
 use s66_isa::{BLOCK_LIMIT, Profile};
 use s66_line::Block;
 use s66_model::{BUDGET_LIMIT, Rule, Ticket};
 use s66_node::{Marks, Piece, Priority, Walk};
-use s66_time::{Clock, Timed, time_of};
+use s66_time::{Timed, time_of};
 use std::alloc::{AllocError, Global};
 use std::marker::Model;
 
@@ -40,7 +39,7 @@ impl<'a> Model for Machine<'a> {
 }
 
 impl<'a> Machine<'a> {
-    ghost use Rattle.std.specs.Prelude.{ℕ, Bool, true, false, Some, None, List, ◌+◌, ◌≡◌, ◌≢◌, ◌<◌, ◌≤◌, ◌⊎◌, ◌↔◌, length, slice_get, IfOk, IfErr, IfSome, IfNone, OnOk, OnErr, IsTrue, if◌then◌else◌};
+    ghost use Rattle.std.specs.Prelude.{ℕ, Bool, true, false, Some, None, List, [], ◌+◌, ◌≡◌, ◌≢◌, ◌<◌, ◌≤◌, ◌⊎◌, ◌↔◌, length, slice_get, IfOk, IfErr, IfSome, IfNone, OnOk, OnErr, IsTrue, if◌then◌else◌};
     ghost use Rattle.s66_line.specs.Block.{instrs_of};
     ghost use Rattle.s66_isa.specs.Lists.{tally};
     ghost use Rattle.s66_model.specs.Timing.{total_of};
@@ -55,7 +54,7 @@ impl<'a> Machine<'a> {
     ghost use Rattle.s66_ledger.specs.LedgerMachine.{IsMove};
     ghost use Rattle.s66_model.specs.Ended.{IsEnded, ended_answer};
     ghost use Rattle.s66_ledger.specs.Answers.{answer_of};
-    ghost use Rattle.s66_ledger.specs.Finishing.{IsReopening, NoneOut, WholesAreTimed};
+    ghost use Rattle.s66_ledger.specs.Finishing.{IsReopening, IsSearched, Leads, NoneOut, WholesAreTimed};
     ghost use Rattle.s66_ledger.specs.GraftMoves.{IsTakenMove, IsRefusedMove};
     ghost use Rattle.s66_ledger.specs.ClaimedNodes.{claimed_node, IsTicketOf, IsLeastOpen};
     ghost use Rattle.s66_ledger.specs.Replies.{offered_reply};
@@ -64,19 +63,19 @@ impl<'a> Machine<'a> {
     ghost use Rattle.s66_model.specs.declared.limits.TheConstants.{BUDGET_LIMIT};
     ghost use Rattle.s66_ledger.specs.declared.reply.BackError.TheVariants as refused;
 
-    /// A machine of one open node, the empty prefix, whose best order is the source order; the workers count from 1, and the rule is
-    /// that of dominated leaves.
+    /// A machine of a walk's block and profile: of one open node, the empty prefix, at which the walk is, and whose best order is the
+    /// source order; the workers count from 1, and the rule is that of dominated leaves.
     pub fn new(
         alloc: Global,
-        block: &'a Block<'a>,
-        profile: &Profile,
+        walk: &Walk<'a>,
         rule: Rule,
         budget: u32,
         workers: u8,
     ) -> Result<Machine<'a>, AllocError>
-        requires { budget ≤ BUDGET_LIMIT }
+        requires first { walk.now.numbers ≡ [] }
+        requires budget { budget ≤ BUDGET_LIMIT }
         ensures rule { IfOk result (λ l. l.rule ≡ rule) }
-        ensures problem { IfOk result (λ l. l.problem ≡ record { block = instrs_of block.now; profile = profile.now }) }
+        ensures problem { IfOk result (λ l. l.problem ≡ walk.now.problem) }
         ensures budget { IfOk result (λ l. l.budget ≡ budget) }
         ensures workers { IfOk result (λ l. l.workers ≡ workers) }
         ensures state { IfOk result (λ l. l.state ≡ opening l.problem budget workers) }
@@ -86,16 +85,17 @@ impl<'a> Machine<'a> {
         for _ in 0..workers {
             allowances.push(0)?;
         }
-        let floor = Bounds::of(block, profile).floor_value(&Clock::new(block, profile));
-        let table = NodeTable::new(alloc, floor)?;
-        let source = Order::source(block);
+        let table = NodeTable::new(alloc, walk.floor_value())?;
+        let block = walk.block();
+        let profile = *walk.profile();
+        let best = time_of(block, &profile, &Order::source(block));
         Ok(Machine {
             rule,
             block,
-            profile: *profile,
+            profile,
             budget,
             table,
-            best: time_of(block, profile, &source),
+            best,
             left: budget,
             allowances,
             spent: 0,
@@ -400,11 +400,51 @@ impl<'a> Machine<'a> {
         self.offer_schedule(&mut walk, Priority::Start);
         walk.go_to(&[]);
         self.offer_schedule(&mut walk, Priority::Issue);
+        let mut marks = Marks::new(alloc, self.block, &self.profile);
+        self.search_to_end(alloc, &mut walk, &mut marks)?;
+        Ok(self.into_answer())
+    }
+
+    /// Brings the search to its end as `finish` does, but offers no list schedule, and goes on with a walk and marks of nodes that
+    /// its caller has used.
+    pub fn finish_with(
+        mut self,
+        alloc: Global,
+        walk: &mut Walk<'_>,
+        marks: &mut Marks<'_>,
+    ) -> Result<Answer, AllocError>
+        requires walk { walk.old.problem ≡ self.problem }
+        requires marks { marks.old.problem ≡ self.problem }
+        requires workers { 1 ≤ self.workers }
+        ensures rule { IfOk result (λ a. a.rule ≡ self.entry.rule) }
+        ensures problem { IfOk result (λ a. a.problem ≡ self.entry.problem) }
+        ensures budget { IfOk result (λ a. a.budget ≡ self.entry.budget) }
+        ensures finished { IfOk result (λ a. IsFinished self.entry.rule self.entry.problem self.entry.budget self.entry.state (answer_of a)) }
+    {
+        // proof only: here its invariant is read, as it was before the search
+        prove!(self.block.count() <= BLOCK_LIMIT);
+        self.search_to_end(alloc, walk, marks)?;
+        Ok(self.into_answer())
+    }
+
+    /// Takes back every allowance and every node that is out, offers the whole orders among the nodes, and searches until no open
+    /// node's floor is below the best time, or the budget is spent and no whole order is below it.
+    fn search_to_end(
+        &mut self,
+        alloc: Global,
+        walk: &mut Walk<'_>,
+        marks: &mut Marks<'_>,
+    ) -> Result<(), AllocError>
+        requires walk { walk.old.problem ≡ self.old.problem }
+        requires marks { marks.old.problem ≡ self.old.problem }
+        requires workers { 1 ≤ self.old.workers }
+        ensures leads { OnOk result (Leads self.old self.new) }
+        ensures searched { OnOk result (IsSearched self.new.problem self.new.budget self.new.state) }
+    {
         self.take_back()?;
         self.offer_wholes();
-        let mut marks = Marks::new(alloc, self.block, &self.profile);
-        self.search(alloc, &mut walk, &mut marks)?;
-        Ok(self.into_answer())
+        self.search(alloc, walk, marks)?;
+        Ok(())
     }
 
     /// The answer that the ledger is if its steps have ended.

@@ -1,3 +1,10 @@
+ghost use Rattle.std.specs.Prelude.{◌≡◌, ◌≤◌, IfOk};
+ghost use Rattle.s66_model.specs.LegalOrder.{IsBeginning};
+ghost use Rattle.s66_model.specs.Tree.{splits};
+ghost use Rattle.s66_model.specs.Expansion.{IsExpansion};
+ghost use Rattle.s66_node.specs.Pieces.{tree_of, IsBestTimed};
+ghost use Rattle.s66_ledger.specs.PieceSplits.{piece_splits};
+
 use crate::limits::{DOMINATED_PIECE_LIMIT, SCHEDULE_ROUNDS};
 use crate::machine::Machine;
 use crate::reply::{BackError, GraftError};
@@ -5,6 +12,49 @@ use crate::subtree::Subtree;
 use s66_model::{Rule, Ticket};
 use s66_node::{Constant, Marks, Piece, Priority, Walk, schedule_below};
 use std::alloc::{AllocError, Global};
+
+/// How many splits a piece may have within an allowance, by the rule of dominated leaves. If any node of the ledger may be named,
+/// they are at most `DOMINATED_PIECE_LIMIT`, so that the nodes that it makes are soon known.
+pub fn piece_splits(rule: Rule, allowance: u32) -> u32
+    ensures value { result ≡ piece_splits rule allowance }
+    ensures within { result ≤ allowance }
+{
+    match rule {
+        Rule::NoneNamed | Rule::WrittenEarlier => allowance,
+        Rule::ClampedStanding => allowance.min(DOMINATED_PIECE_LIMIT),
+    }
+}
+
+/// Goes to a prefix and expands it by a rule of dominated leaves, with as many splits as a piece may have within an allowance. The
+/// marks grow by those of the nodes that it makes. `Err` is out of memory.
+pub fn expand_by_rule(
+    alloc: Global,
+    walk: &mut Walk<'_>,
+    marks: &mut Marks<'_>,
+    rule: Rule,
+    prefix: &[u8],
+    best: u32,
+    allowance: u32,
+) -> Result<Piece, AllocError>
+    requires marks { marks.old.problem ≡ walk.old.problem }
+    requires prefix { IsBeginning walk.old.problem.block prefix.now }
+    ensures same { walk.new.problem ≡ walk.old.problem }
+    ensures marks { marks.new.problem ≡ marks.old.problem }
+    ensures rule { IfOk result (λ p. p.rule ≡ rule) }
+    ensures problem { IfOk result (λ p. p.problem ≡ walk.old.problem) }
+    ensures prefix { IfOk result (λ p. p.prefix ≡ prefix.now) }
+    ensures expansion { IfOk result (λ p. IsExpansion rule walk.old.problem best best (piece_splits rule allowance) prefix.now (tree_of p)) }
+    ensures within { IfOk result (λ p. splits (tree_of p) ≤ allowance) }
+    ensures timed { IfOk result (λ p. IsBestTimed walk.old.problem prefix.now (tree_of p) p.timed) }
+{
+    let most = piece_splits(rule, allowance);
+    match rule {
+        Rule::NoneNamed => walk.expand(alloc, prefix, best, most),
+        Rule::WrittenEarlier | Rule::ClampedStanding => {
+            walk.expand_dominated(alloc, prefix, &mut Constant(best), most, marks, rule)
+        }
+    }
+}
 
 impl<'a> Machine<'a> {
     ghost use Rattle.std.specs.Prelude.{true, false, Some, ◌≡◌, ◌≤◌, ◌<◌, OnOk, IfOk};
@@ -16,6 +66,7 @@ impl<'a> Machine<'a> {
     ghost use Rattle.s66_model.specs.Coverage.{Covers};
     ghost use Rattle.s66_model.specs.Expansion.{IsExpansion};
     ghost use Rattle.s66_node.specs.Pieces.{tree_of, IsBestTimed};
+    ghost use Rattle.s66_ledger.specs.PieceSplits.{piece_splits};
     ghost use Rattle.s66_ledger.specs.Finishing.{Leads, IsIdle, WholesAreTimed, IsSearched, IsBetween, IsWithin, IsOffering, still_to_go};
 
     /// Goes on, as worker 1, until no open node's floor is below the best time or the budget is spent. Each round claims the open
@@ -85,8 +136,7 @@ impl<'a> Machine<'a> {
         Ok(true)
     }
 
-    /// Expands a prefix by the rule of dominated leaves, by at most what worker 1 may spend. If any node of the ledger may be
-    /// named, a piece has at most `DOMINATED_PIECE_LIMIT` splits, so that the nodes that it makes are soon known.
+    /// Expands a prefix by the rule of dominated leaves, by as many splits as a piece may have of those that worker 1 may spend.
     fn expand(
         &self,
         alloc: Global,
@@ -104,18 +154,19 @@ impl<'a> Machine<'a> {
         ensures rule { IfOk result (λ p. p.rule ≡ self.now.rule) }
         ensures problem { IfOk result (λ p. p.problem ≡ self.now.problem) }
         ensures prefix { IfOk result (λ p. p.prefix ≡ prefix.now) }
-        ensures expansion { IfOk result (λ p. IsExpansion self.now.rule self.now.problem (best_time self.now.problem self.now.state) (best_time self.now.problem self.now.state) (allowance self.now.state 1) prefix.now (tree_of p)) }
+        ensures expansion { IfOk result (λ p. IsExpansion self.now.rule self.now.problem (best_time self.now.problem self.now.state) (best_time self.now.problem self.now.state) (piece_splits self.now.rule (allowance self.now.state 1)) prefix.now (tree_of p)) }
         ensures timed { IfOk result (λ p. IsBestTimed self.now.problem prefix.now (tree_of p) p.timed) }
     {
         let best = self.best();
-        let allowance = self.allowances[0];
-        let rule = self.rule();
-        let most = match rule {
-            Rule::NoneNamed => return walk.expand(alloc, prefix, best, allowance),
-            Rule::WrittenEarlier => allowance,
-            Rule::ClampedStanding => allowance.min(DOMINATED_PIECE_LIMIT),
-        };
-        walk.expand_dominated(alloc, prefix, &mut Constant(best), most, marks, rule)
+        expand_by_rule(
+            alloc,
+            walk,
+            marks,
+            self.rule(),
+            prefix,
+            best,
+            self.allowances[0],
+        )
     }
 
     /// How many splits worker 1 may spend, after a grant if it has none; 0 only if the budget is spent.
@@ -173,7 +224,7 @@ impl<'a> Machine<'a> {
         requires rule { piece.rule ≡ self.old.rule }
         requires problem { piece.problem ≡ self.old.problem }
         requires prefix { piece.prefix ≡ ticket.prefix }
-        requires expansion { IsExpansion self.old.rule self.old.problem (best_time self.old.problem self.old.state) (best_time self.old.problem self.old.state) (allowance self.old.state 1) piece.prefix (tree_of piece) }
+        requires expansion { IsExpansion self.old.rule self.old.problem (best_time self.old.problem self.old.state) (best_time self.old.problem self.old.state) (piece_splits self.old.rule (allowance self.old.state 1)) piece.prefix (tree_of piece) }
         requires timed { IsBestTimed self.old.problem piece.prefix (tree_of piece) piece.timed }
         requires some { 1 ≤ allowance self.old.state 1 }
         requires below { floor_value self.old.problem piece.prefix < best_time self.old.problem self.old.state }

@@ -1,14 +1,16 @@
-use Rattle.std.proofs.Common.{subst, sym}
+use Rattle.std.proofs.Common.{◌≤◌, arith, subst, sym}
 use Rattle.s66_model.specs.Timing.{Problem}
+use Rattle.s66_model.specs.Tree.{splits}
 use Rattle.s66_model.specs.Ledger.{best_time, allowance}
 use Rattle.s66_node.specs.Pieces.{tree_of, IsBestTimed}
 use Rattle.s66_ledger.specs.declared.reply.GraftError.{GraftError}
 use Rattle.s66_ledger.specs.GraftMoves.{IsTakenMove, IsRefusedMove}
+use Rattle.s66_ledger.specs.PieceSplits.{piece_splits}
 use Rattle.s66_ledger.specs.Finishing.{IsWithin}
 use Rattle.s66_ledger.proofs.Leading.{leads-on}
 use Rattle.s66_ledger.proofs.Rounds.{leads-graft, offer-within, graft-between, never-over}
 use Rattle.s66_ledger.proofs.TimedWholes.{least-timed}
-use Rattle.s66_ledger.proofs.Progress.{expansion-gains, taken-less}
+use Rattle.s66_ledger.proofs.Progress.{piece_splits-within, piece_splits-some, expansion-gains, taken-less}
 use Rattle.s66_ledger.proofs.machine.Machine.take_in.Goals as goal
 
 pub returns-in-Ok-clause-leads : goal.returns-in-Ok-clause-leads
@@ -36,7 +38,9 @@ returns-in-Ok-clause-less c =
     let mid = c.offer_best.new.self in
     let new = c.graft.new.self in
     let p = c.args.piece in
-    let gains = expansion-gains _ old.problem (best_time old.problem old.state) (allowance old.state 1) p.prefix (tree_of p) p.timed c.requires.expansion c.requires.some c.requires.below c.requires.timed in
+    let most = piece_splits old.rule (allowance old.state 1) in
+    let some : 1 ≤ most = piece_splits-some old.rule (allowance old.state 1) c.requires.some in
+    let gains = expansion-gains old.rule old.problem (best_time old.problem old.state) most p.prefix (tree_of p) p.timed c.requires.expansion some c.requires.below c.requires.timed in
     taken-less old mid new c.args.ticket p c.requires.covers c.offer_best.ensures.offers c.offer_best.ensures.at_most (subst (λ i. IsTakenMove mid 1 i p new) c.node.ensures c.in-Ok.ensures.ok) gains
 
 pub unreachable-requires-in-Err-OverAllowance : goal.unreachable-requires-in-Err-OverAllowance
@@ -44,4 +48,6 @@ unreachable-requires-in-Err-OverAllowance c =
     let mid = c.offer_best.new.self in
     let new = c.graft.new.self in
     let over = subst (λ (e : GraftError). IsRefusedMove mid 1 c.node.result c.args.piece e new) c.in-Err-OverAllowance.field-0-is c.in-Err-OverAllowance.ensures.refused in
-    never-over c.args.self.now mid new c.node.result c.args.piece c.offer_best.ensures.offers c.requires.expansion.within over
+    let within : splits (tree_of c.args.piece) ≤ allowance c.args.self.now.state 1 =
+    omega (arith, c.requires.expansion.within, piece_splits-within c.args.self.now.rule (allowance c.args.self.now.state 1)) in
+    never-over c.args.self.now mid new c.node.result c.args.piece c.offer_best.ensures.offers within over
