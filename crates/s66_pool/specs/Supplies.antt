@@ -10,10 +10,6 @@ use Rattle.s66_pool.specs.declared.supply.Supply.{Supply}
 
 -- EVENTS, each with its reply, one after another
 
-abbrev pub AreEvents : LedgerOf → List (Event × Reply) → LedgerOf → Type 0
-AreEvents old [] new = new ≡ old
-AreEvents old (entry ∷ entries) new = (between : LedgerOf) × IsEvent old entry.0 entry.1 between × AreEvents between entries new
-
 -- a seat record after these events of its worker
 abbrev pub after_events : SeatRecord → List (Event × Reply) → SeatRecord
 after_events book [] = book
@@ -54,3 +50,10 @@ pub record IsSupplyFor (needs : Needs) (supply : Supply) (tickets : List TicketO
   pub no_nodes : needs.nodes ≡ false → IsUnclaimed supply tickets
   pub spent : supply.granted ≡ Some 0 → IsUnclaimed supply tickets
   pub nodes : needs.nodes ≡ true → (supply.granted ≡ Some 0) ⊎ ((supply.out_of_memory ≡ true) ⊎ IsClaimed supply tickets)
+
+-- USED WITHIN THE CRATE ALONE
+
+-- these events lead from one ledger to another
+abbrev pub AreEvents : LedgerOf → List (Event × Reply) → LedgerOf → Type 0
+AreEvents old [] new = new ≡ old
+AreEvents old (entry ∷ entries) new = (between : LedgerOf) × IsEvent old entry.0 entry.1 between × AreEvents between entries new

@@ -18,11 +18,11 @@ AreSameSeats seats others =
     (length others ≡ length seats)
     × ((i : ℕ) (d : SeatOf) → i < length seats → IsSameSeat (slice_index_or seats i d) (slice_index_or others i d))
 
+-- USED WITHIN THE CRATE ALONE
+
 -- of the same problem by the same rule, for the same budget and workers
 abbrev pub IsSameSearch : LedgerOf → LedgerOf → Type 0
 IsSameSearch old new = (new.problem ≡ old.problem) × (new.budget ≡ old.budget) × (new.workers ≡ old.workers) × (new.rule ≡ old.rule)
-
--- USED WITHIN THE CRATE ALONE
 
 -- with the same lane of its own, and the same ones from which it steals
 abbrev pub IsSameLocal : Local → Local → Type 0

@@ -1,4 +1,5 @@
 ghost use Rattle.std.specs.Prelude.{◌≡◌, ◌<◌, ◌≤◌, ℕ, [], IfOk, IfErr, All, length, slice_index_or, vec_capacity, vec_len};
+ghost use Rattle.s66_line.specs.Block.{instrs_of};
 ghost use Rattle.s66_steal.specs.Lanes.{LaneId};
 ghost use Rattle.s66_pool.specs.Workers.{AreSameSeats, ArePlaced, IsSameMember, IsSameSeat, lanes_of, locals_of, seats_of, victims_of};
 
@@ -14,6 +15,7 @@ use s66_isa::Profile;
 use s66_line::Block;
 use s66_lock::Hint;
 use s66_model::{Options, Rule, WORKERS_LIMIT};
+use s66_node::Marks;
 use std::alloc::AllocError;
 use std::sync::Wait;
 use std::sync::atomic::AtomicUsize;
@@ -28,7 +30,7 @@ use std::thread::Threads;
 pub fn work<'a, R: AllocGlobal + Threads + Wait + Sync, G: Gate + Sync>(
     rt: &R,
     hub: &Hub<'a>,
-    mut seats: Vec<Seat<'a>>,
+    seats: Vec<Seat<'a>>,
     block: &Block,
     profile: &Profile,
     options: Options,
@@ -39,14 +41,46 @@ pub fn work<'a, R: AllocGlobal + Threads + Wait + Sync, G: Gate + Sync>(
     ensures here { IfOk result (λ back. All (λ s. s.hub ≡ hub.now.id) back.items) }
     ensures err { IfErr result (λ e. AreSameSeats seats.entry.items e.1.items × All (λ s. s.hub ≡ hub.now.id) e.1.items) }
 {
+    let mut none = Marks::new(rt.alloc(), block, profile);
+    work_by_marks(
+        rt,
+        hub,
+        seats,
+        block,
+        profile,
+        options.rule,
+        gate,
+        &mut none,
+    )
+}
+
+/// Lets workers work as `work` does, who know the nodes of a table at first. If any node may be named, that is empty afterwards.
+pub(crate) fn work_by_marks<'a, R: AllocGlobal + Threads + Wait + Sync, G: Gate + Sync>(
+    rt: &R,
+    hub: &Hub<'a>,
+    mut seats: Vec<Seat<'a>>,
+    block: &Block,
+    profile: &Profile,
+    rule: Rule,
+    gate: &G,
+    grafted: &mut Marks<'_>,
+) -> Result<Vec<Seat<'a>>, (AllocError, Vec<Seat<'a>>)>
+    requires here { All (λ s. s.hub ≡ hub.now.id) seats.items }
+    requires marks { grafted.old.problem ≡ record { block = instrs_of block.now; profile = profile.now } }
+    ensures ok { IfOk result (λ back. AreSameSeats seats.entry.items back.items) }
+    ensures here { IfOk result (λ back. All (λ s. s.hub ≡ hub.now.id) back.items) }
+    ensures err { IfErr result (λ e. AreSameSeats seats.entry.items e.1.items × All (λ s. s.hub ≡ hub.now.id) e.1.items) }
+    ensures marks { grafted.new.problem ≡ grafted.old.problem }
+{
     if seats.is_empty() {
         return Ok(seats);
     }
     let alloc = rt.alloc();
     let workers = seats.len();
-    let Ok(marks) = SharedMarks::new(alloc, block, profile, options.rule) else {
+    let Ok(marks) = SharedMarks::new(alloc, block, profile, rule) else {
         return Err((AllocError, seats));
     };
+    marks.take_in(rt, grafted, rule);
     let best = best_at_first(rt, hub, &mut seats);
     let Ok((hint, hint_seats)) = Hint::new(alloc, best, workers) else {
         return Err((AllocError, seats));
@@ -62,7 +96,7 @@ pub fn work<'a, R: AllocGlobal + Threads + Wait + Sync, G: Gate + Sync>(
     };
     seat_members(&mut members, &mut seats, locals);
     let places = members.as_mut_slice();
-    work_at_each(rt, hub, places, &marks, options.rule, gate);
+    work_at_each(rt, hub, places, &marks, rule, gate);
     settle(rt, hub, places);
     take_seats(&mut seats, members);
     Ok(seats)

@@ -1,6 +1,6 @@
 use crate::known::Known;
 use crate::shared_marks::SharedMarks;
-use s66_ledger::DOMINATED_PIECE_LIMIT;
+use s66_ledger::piece_splits;
 use s66_model::Rule;
 use s66_node::{Least, Piece, Priority, Walk, schedule_below};
 use s66_time::Timed;
@@ -47,8 +47,7 @@ impl<'s, 'b, R: Wait> Expander<'s, 'b, R> {
     }
 
     /// Expands a prefix by the rule of dominated leaves, within an allowance of splits, while the best time may fall. None if it
-    /// is no beginning of the block's orders, or if out of memory; it may be called again then. A piece in which any node of the
-    /// ledger may be named has at most `DOMINATED_PIECE_LIMIT` splits, so that the nodes that it makes are soon known.
+    /// is no beginning of the block's orders, or if out of memory; it may be called again then.
     pub fn expand<L: Least>(
         &mut self,
         alloc: Global,
@@ -62,10 +61,7 @@ impl<'s, 'b, R: Wait> Expander<'s, 'b, R> {
             return None;
         }
         let rule = self.rule;
-        let most = match rule {
-            Rule::NoneNamed | Rule::WrittenEarlier => allowance,
-            Rule::ClampedStanding => allowance.min(DOMINATED_PIECE_LIMIT),
-        };
+        let most = piece_splits(rule, allowance);
         let piece = match rule {
             Rule::NoneNamed => self.walk.expand_with(alloc, prefix, incumbent, most),
             Rule::WrittenEarlier | Rule::ClampedStanding => {

@@ -1,6 +1,7 @@
 //! The workers of a search: its ledger under a lock, a hint of its best time, a seat at each for every worker, and threads.
 #![tactic(auto)]
 
+mod alone;
 mod calls;
 mod crew;
 mod expander;
@@ -22,7 +23,7 @@ mod worker;
 pub use crew::work;
 pub use gate::{Free, Gate};
 pub use hub::{Hub, SeatsMissing};
-pub use limits::CLAIMS_LIMIT;
+pub use limits::{CLAIMS_LIMIT, FIRST_SPLITS};
 pub use s66_lock::{Hint, HintSeat};
 pub use search::run;
 pub use seat::Seat;

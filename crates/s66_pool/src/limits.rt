@@ -1,3 +1,7 @@
+/// How many splits the calling thread does before workers start. Starting and ending threads costs as much as some thousand splits,
+/// and most searches have fewer than fifty.
+pub const FIRST_SPLITS: u32 = 2_048;
+
 /// How many nodes a worker claims in one turn at most.
 pub const CLAIMS_LIMIT: usize = 8;
 

@@ -1,29 +1,33 @@
-ghost use Rattle.std.specs.Prelude.{◌≡◌, ◌≤◌, IfOk, OnOk};
+ghost use Rattle.std.specs.Prelude.{◌≡◌, ◌≤◌, IfOk, OnErr, OnOk};
 ghost use Rattle.s66_line.specs.Block.{instrs_of};
 ghost use Rattle.s66_model.specs.declared.limits.TheConstants.{BUDGET_LIMIT};
 ghost use Rattle.s66_model.specs.declared.limits.TheConstants.{WORKERS_LIMIT};
 ghost use Rattle.s66_pool.specs.Workers.{IsSameSearch};
 
-use crate::crew::work;
+use crate::alone::search_alone;
+use crate::crew::work_by_marks;
 use crate::gate::Gate;
 use crate::hub::Hub;
+use crate::limits::FIRST_SPLITS;
 use s66_isa::Profile;
 use s66_ledger::{Answer, Ledger};
 use s66_line::Block;
-use s66_model::Options;
-use s66_node::{Priority, Walk, schedule_below};
+use s66_model::{Options, Rule};
+use s66_node::{Marks, Priority, Walk, schedule_below};
 use std::alloc::AllocError;
 use std::sync::Wait;
 use std::thread::Threads;
 
 /// Offers a list schedule from the walk's prefix on, if its time is below the best, as worker 1.
-fn offer_schedule(
+pub(crate) fn offer_schedule(
     ledger: &mut Ledger<'_>,
     walk: &mut Walk<'_>,
     priority: Priority,
 ) -> Result<(), AllocError>
     requires { 1 ≤ ledger.old.workers }
-    ensures { OnOk result (IsSameSearch ledger.old ledger.new) }
+    ensures walk { walk.new.problem ≡ walk.old.problem }
+    ensures same { OnOk result (IsSameSearch ledger.old ledger.new) }
+    ensures err { OnErr result (IsSameSearch ledger.old ledger.new) }
 {
     if let Some(timed) = schedule_below(walk, priority, ledger.best()) {
         ledger.offer(1, timed)?;
@@ -31,31 +35,43 @@ fn offer_schedule(
     Ok(())
 }
 
-/// Offers two list schedules of the whole block, so that every worker begins with a good order.
-fn offer_schedules(ledger: &mut Ledger<'_>) -> Result<(), AllocError>
+/// Offers two list schedules of the whole block, so that the search begins with a good order. The walk is at the empty prefix.
+fn offer_schedules(ledger: &mut Ledger<'_>, walk: &mut Walk<'_>) -> Result<(), AllocError>
     requires { 1 ≤ ledger.old.workers }
-    ensures { OnOk result (IsSameSearch ledger.old ledger.new) }
+    ensures walk { walk.new.problem ≡ walk.old.problem }
+    ensures same { OnOk result (IsSameSearch ledger.old ledger.new) }
 {
-    let mut walk = Walk::new(ledger.block(), ledger.profile());
-    offer_schedule(ledger, &mut walk, Priority::Start)?;
+    offer_schedule(ledger, walk, Priority::Start)?;
     walk.go_to(&[]);
-    offer_schedule(ledger, &mut walk, Priority::Issue)
+    offer_schedule(ledger, walk, Priority::Issue)
 }
 
-/// Lets workers search, until there is nothing more for them to do.
+/// Whether a search has something left for workers: an open node whose floor is below the best time, and splits.
+fn is_unfinished(ledger: &Ledger<'_>) -> bool {
+    ledger.splits() < ledger.budget() && ledger.bound() < ledger.best()
+}
+
+/// Lets workers search what is left, until there is nothing more for them to do; none starts if nothing is, or if there is a
+/// single one. They know the nodes of the table at first.
 fn search_by_workers<'a, R: AllocGlobal + Threads + Wait + Sync, G: Gate + Sync>(
     rt: &R,
     ledger: Ledger<'a>,
     block: &Block,
     profile: &Profile,
-    options: Options,
+    rule: Rule,
     gate: &G,
+    marks: &mut Marks<'_>,
 ) -> Result<Ledger<'a>, AllocError>
-    requires { 1 ≤ ledger.workers }
-    ensures { IfOk result (λ searched. IsSameSearch ledger.entry searched) }
+    requires workers { 1 ≤ ledger.workers }
+    requires marks { marks.old.problem ≡ record { block = instrs_of block.now; profile = profile.now } }
+    ensures same { IfOk result (λ searched. IsSameSearch ledger.entry searched) }
+    ensures marks { marks.new.problem ≡ marks.old.problem }
 {
+    if ledger.workers() == 1 || !is_unfinished(&ledger) {
+        return Ok(ledger);
+    }
     let (hub, seats) = Hub::new(rt.alloc(), ledger)?;
-    let seats = match work(rt, &hub, seats, block, profile, options, gate) {
+    let seats = match work_by_marks(rt, &hub, seats, block, profile, rule, gate, marks) {
         Ok(seats) => seats,
         Err((refusal, _)) => return Err(refusal),
     };
@@ -66,9 +82,10 @@ fn search_by_workers<'a, R: AllocGlobal + Threads + Wait + Sync, G: Gate + Sync>
     Ok(ledger)
 }
 
-/// Searches the orders of a block by several workers, each in a thread of its own if one can be made, and else one after the
-/// other. However their steps fall, it returns an answer for `options.nodes` splits. If a list schedule takes no more than the
-/// bound, nothing is left to search, and no worker starts.
+/// Searches the orders of a block. The first `FIRST_SPLITS` splits are the calling thread's, so that a short search starts no
+/// thread, and has one result whatever the number of workers. What is left then several workers search, each in a thread of its own
+/// if one can be made, and else one after the other; a single worker is the calling thread. However their steps fall, it returns
+/// an answer for `options.nodes` splits.
 ///
 /// `Err` is out of memory in the caller's own part.
 pub fn run<R: AllocGlobal + Threads + Wait + Sync, G: Gate + Sync>(
@@ -85,17 +102,12 @@ pub fn run<R: AllocGlobal + Threads + Wait + Sync, G: Gate + Sync>(
     ensures budget { IfOk result (λ a. a.budget ≡ options.nodes) }
 {
     let alloc = rt.alloc();
-    let mut ledger = Ledger::by_rule(
-        alloc,
-        block,
-        profile,
-        options.rule,
-        options.nodes,
-        options.workers,
-    )?;
-    offer_schedules(&mut ledger)?;
-    if ledger.bound() < ledger.best() {
-        ledger = search_by_workers(rt, ledger, block, profile, options, gate)?;
-    }
-    ledger.finish(alloc)
+    let mut walk = Walk::new(block, profile);
+    let mut ledger = Ledger::of_walk(alloc, &walk, options.rule, options.nodes, options.workers)?;
+    offer_schedules(&mut ledger, &mut walk)?;
+    let mut marks = Marks::new(alloc, block, profile);
+    search_alone(alloc, &mut ledger, &mut walk, &mut marks, FIRST_SPLITS);
+    let rule = options.rule;
+    let ledger = search_by_workers(rt, ledger, block, profile, rule, gate, &mut marks)?;
+    ledger.finish_with(alloc, &mut walk, &mut marks)
 }

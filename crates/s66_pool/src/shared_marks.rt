@@ -124,7 +124,9 @@ impl<'b> SharedMarks<'b> {
         block: &'b Block<'b>,
         profile: &Profile,
         rule: Rule,
-    ) -> Result<SharedMarks<'b>, AllocError> {
+    ) -> Result<SharedMarks<'b>, AllocError>
+        ensures { IfOk result (λ marks. marks.table.shared.key.problem ≡ record { block = instrs_of block.now; profile = profile.now }) }
+    {
         let count = match rule {
             Rule::ClampedStanding => PARTS,
             Rule::NoneNamed | Rule::WrittenEarlier => 1,
@@ -263,5 +265,19 @@ impl<'b> SharedMarks<'b> {
         let held = token.slot_mut(&self.table.shared, part);
         held.put(entry, place, rule);
         self.give(token, part);
+    }
+
+    /// Takes over what a table knows, which is empty afterwards; by a rule that names lines of the same piece alone, nothing.
+    pub(crate) fn take_in<R: Wait>(&self, rt: &R, grafted: &mut Marks<'_>, rule: Rule)
+        requires { grafted.old.problem ≡ self.now.table.shared.key.problem }
+        ensures { grafted.new.problem ≡ grafted.old.problem }
+    {
+        if rule != Rule::ClampedStanding {
+            return;
+        }
+        let mut token = self.token();
+        while let Some((entry, place)) = grafted.pop() {
+            self.put(rt, &mut token, entry, place, rule);
+        }
     }
 }
