@@ -1,4 +1,4 @@
--- To be believed: whether one beginning dominates another by a rule, as a test that can be computed: the same of numbers, registers and units one by one.
+-- To be believed: beginnings of one set, as tests that can be computed.
 use Rattle.std.specs.Prelude.{ℕ, ◌==◌, ◌&&◌, Bool, true, false, max, List, [], ◌∷◌, ◌++◌, get_or, nat_le}
 use Rattle.s66_isa.specs.declared.instr.Instr.{Instr}
 use Rattle.s66_isa.specs.declared.profile.Profile.{Profile}
@@ -11,6 +11,20 @@ use Rattle.s66_model.specs.declared.rule.Rule.TheVariants.{NoneNamed, WrittenEar
 use Rattle.s66_model.specs.Timing.{Problem, Point, points_of, next, done_of, readers_wait, total_of}
 use Rattle.s66_model.specs.LegalOrder.{is_ready}
 use Rattle.s66_model.specs.Dominance.{place_in_word, references_wait, stores_wait, free_times, Clamp, no_clamp, clamp_at}
+
+-- each of these numbers is ready when it comes after the prefix
+abbrev pub goes_on : List Instr → List ℕ → List ℕ → Bool
+goes_on block prefix [] = true
+goes_on block prefix (n ∷ ns) = is_ready block prefix n && goes_on block (prefix ++ n ∷ []) ns
+
+abbrev pub is_same_set : List ℕ → List ℕ → Bool
+is_same_set other prefix = every (λ n. has n prefix) other && every (λ n. has n other) prefix
+
+abbrev pub is_beginning : List Instr → List ℕ → Bool
+is_beginning block prefix = goes_on block [] prefix
+
+-- USED BY CONTRACTS: whether one beginning dominates another by a rule, as such a test: the same of numbers, registers and units one by
+-- one. `dominating_law` says that it is dominance.
 
 -- NO LATER: the points q than the points p, or than the clamps
 
@@ -36,19 +50,6 @@ is_no_later profile c q p =
     && are_units_no_later profile c.others q p
     && nat_le (references_wait q) (max (references_wait p) c.others)
     && nat_le (stores_wait q) (max (stores_wait p) c.others)
-
--- BEGINNINGS OF ONE SET
-
--- each of these numbers is ready when it comes after the prefix
-abbrev pub goes_on : List Instr → List ℕ → List ℕ → Bool
-goes_on block prefix [] = true
-goes_on block prefix (n ∷ ns) = is_ready block prefix n && goes_on block (prefix ++ n ∷ []) ns
-
-abbrev pub is_same_set : List ℕ → List ℕ → Bool
-is_same_set other prefix = every (λ n. has n prefix) other && every (λ n. has n other) prefix
-
-abbrev pub is_beginning : List Instr → List ℕ → Bool
-is_beginning block prefix = goes_on block [] prefix
 
 -- both are beginnings of legal orders, of one set, and the named one is no later
 abbrev pub is_ahead : Clamp → Problem → List ℕ → List ℕ → Bool

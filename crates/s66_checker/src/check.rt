@@ -1,10 +1,13 @@
-ghost use Rattle.std.specs.Prelude.{◌≡◌, ◌≤◌, [], Some, None, if◌then◌else◌, length, map};
+ghost use Rattle.std.specs.Prelude.{ℕ, ◌≡◌, ◌≤◌, [], Some, None, if◌then◌else◌, length, map};
 ghost use Rattle.s66_isa.specs.Profiles.{profile_of};
 ghost use Rattle.s66_isa.specs.declared.limits.TheConstants.{BLOCK_LIMIT};
 ghost use Rattle.s66_model.specs.Timing.{total_of};
+ghost use Rattle.s66_model.specs.BestAndBound.{IsBound};
 ghost use Rattle.s66_cert.specs.DocumentParts.{document_of};
 ghost use Rattle.s66_line.specs.InstructionText.{instr_in_text};
-ghost use Rattle.s66_checker.specs.Verdict.{is_legal_order, verdict};
+ghost use Rattle.s66_checker.specs.Verdict.{is_legal_order, problem_of, verdict};
+ghost use Rattle.s66_checker.specs.TrueClaims.{IsTrueClaim};
+ghost use Rattle.s66_checker.specs.declared.verdict.Verdict.TheVariants.{Yes};
 
 use crate::prefix::Prefix;
 use crate::verdict::{Reason, Verdict};
@@ -54,14 +57,17 @@ fn legal_total(prefix: &mut Prefix, order: &[u8]) -> Option<u32>
 }
 
 /// The verdict on a document, timed by its own profile. It is yes, with the document's time and bound, exactly when what the
-/// document claims is true. Else it is the first fault: that of the order, of the time, of the bound, or of a line of the tree.
-/// It allocates nothing, and rests on no other timing and no other test of dependence than its own.
+/// document claims is true; no legal order then takes less than the bound. Else it is the first fault: that of the order, of the
+/// time, of the bound, or of a line of the tree. It allocates nothing, and rests on no other timing and no other test of dependence
+/// than its own.
 ///
 /// Each pair of the block's instructions is looked at once. Beside that a line of the tree takes a time linear in the
 /// block's length, on the average over all lines. For a dominated leaf its node is found by a jump for each earlier sibling
 /// on the way.
 pub fn verify(document: &Document) -> Verdict
-    ensures { result ≡ verdict (document_of document.now) }
+    ensures verdict { result ≡ verdict (document_of document.now) }
+    ensures claim { (time bound : ℕ) → result ≡ Yes time bound → IsTrueClaim (document_of document.now) }
+    ensures bound { (time bound : ℕ) → result ≡ Yes time bound → IsBound (problem_of (document_of document.now)) bound }
 {
     let block = instructions_of(document.block());
     let count = block.len() as u32;
