@@ -54,6 +54,8 @@ IsOutcome command reader reader' writer writer' result =
     ((p : Profile) × IsUnder command p × IsOutcomeUnder p command reader reader' writer writer' result)
     ⊎ ((f : Fault) × (result ≡ Err f) × IsProfileFault command f × (reader' ≡ reader) × IsUntouched writer writer')
 
+-- USED WITHIN THE CRATE ALONE
+
 -- why reading to the end fails
 abbrev pub IsReadFault : Reader → Reader → Fault → Type 0
 IsReadFault old new fault.Read = ReadFails old new

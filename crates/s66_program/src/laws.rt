@@ -13,12 +13,14 @@ ghost use Rattle.s66_isa.specs.declared.limits.TheConstants.{BLOCK_LIMIT};
 ghost use Rattle.s66_model.specs.declared.rule.Rule.{Rule};
 ghost use Rattle.s66_model.specs.declared.rule.Rule.TheVariants.{NoneNamed};
 ghost use Rattle.s66_model.specs.Answer.{Answer, IsAnswer};
+ghost use Rattle.s66_model.specs.BestAndBound.{IsBound};
 ghost use Rattle.s66_model.specs.Timing.{Problem, total_of};
 ghost use Rattle.s66_model.specs.declared.limits.TheConstants.{BUDGET_LIMIT};
-ghost use Rattle.s66_cert.specs.Document.{IsDocument};
+ghost use Rattle.s66_cert.specs.Document.{Document, IsDocument, IsText};
 ghost use Rattle.s66_cert.specs.declared.limits.TheConstants.{TIME_LIMIT};
 ghost use Rattle.s66_cert.specs.Examples.{one_load, with_times};
 ghost use Rattle.s66_checker.specs.declared.verdict.Verdict.TheVariants.{Yes};
+ghost use Rattle.s66_checker.specs.TrueClaims.{IsTrueClaim};
 ghost use Rattle.s66_checker.specs.Verdict as checker;
 ghost use Rattle.s66_checker.specs.Verdict.{verdict};
 ghost use Rattle.s66_program.specs.declared.limits.TheConstants.{SOURCE_FRONT};
@@ -60,6 +62,12 @@ pub fn proved_law()
 pub fn checked_law()
     ensures yes { (rule : Rule) (p : Profile) (nodes : ℕ) (source : Reading) (text : List ℕ) (status : Status) → nodes ≤ BUDGET_LIMIT → IsProveOutput rule p nodes source text status → (lines : List ℕ) × AreYesLines rule p nodes source text lines × IsCheckOutput text lines Done }
     ensures alone { (rule : Rule) (p : Profile) (nodes : ℕ) (source : Reading) (text lines : List ℕ) (status checked : Status) → nodes ≤ BUDGET_LIMIT → IsProveOutput rule p nodes source text status → IsCheckOutput text lines checked → AreYesLines rule p nodes source text lines × (checked ≡ Done) }
+{}
+
+/// If `check` is done, each document of its input claims what is true: under its own profile its order is legal and takes its
+/// time, and no legal order takes less than its bound.
+pub fn done_law()
+    ensures { (input text : List ℕ) → IsCheckOutput input text Done → (ds : List Document) × IsText BLOCK_LIMIT input ds × ((d : Document) → Among d ds → IsTrueClaim d × IsBound (checker.problem_of d) d.bound) }
 {}
 
 /// The worked block of one load, as `order` and `prove` write it, and what `time` and `check` then write; and other documents of it.

@@ -22,7 +22,8 @@ mod time_text;
 
 pub use documents::document_of;
 pub use laws::{
-    again_examples, checked_law, front_law, ordered_again_law, proved_law, total_limit_law,
+    again_examples, checked_law, done_law, front_law, ordered_again_law, proved_law,
+    total_limit_law,
 };
 pub use limits::{FEED_CALLS, FEED_ROOM, SOURCE_FRONT};
 pub use observer::{Observer, Silent};
