@@ -7,16 +7,34 @@ use std::io::{IsTerminal, Write};
 use std::process::ExitCode;
 use std::{env, io};
 
-/// As many bytes of the stack as the deepest call takes, and half as many more.
-const STACK_ROOM: usize = 2_400_000;
+/// As many bytes of the stack as the deepest call of a search or a check takes, and half as many more.
+const DEEP_ROOM: usize = 2_400_000;
 
-/// Touches this much of the stack, so that it doesn't have to grow later. By then the stacks of the workers may have taken all
-/// the memory that the process is allowed, and a stack that can't grow ends the process. A write of no bytes keeps the compiler
-/// from leaving the array out.
+/// The same of all else.
+const ROOM: usize = 240_000;
+
+/// Touches `ROOM` bytes of the stack, so that it doesn't have to grow later. By then the stacks of the workers, or what was read, may
+/// have taken all the memory that the process is allowed, and a stack that can't grow ends the process. A write of no bytes keeps
+/// the compiler from leaving the array out.
 #[inline(never)]
 fn touch_stack(rt: &HostRuntime) {
-    let room = [0u8; STACK_ROOM];
+    let room = [0u8; ROOM];
     let _ = rt.stderr().write(&room[..0]);
+}
+
+/// Touches `DEEP_ROOM` bytes of the stack, as `touch_stack` does.
+#[inline(never)]
+fn touch_deep_stack(rt: &HostRuntime) {
+    let room = [0u8; DEEP_ROOM];
+    let _ = rt.stderr().write(&room[..0]);
+}
+
+/// Whether the words ask for a search or a check, whose calls go deepest.
+fn goes_deep(words: &[String]) -> bool {
+    match words {
+        [_, subcommand, ..] => matches!(subcommand.as_str(), "order" | "sum" | "prove" | "check"),
+        _ => false,
+    }
 }
 
 /// The words of the command line, of which the first is the program's name.
@@ -25,14 +43,18 @@ fn words_of(rt: &HostRuntime) -> io::Result<Vec<String>> {
 }
 
 fn main(rt: HostRuntime) -> ExitCode {
-    touch_stack(&rt);
+    let words = words_of(&rt);
+    match &words {
+        Ok(words) if goes_deep(words.as_slice()) => touch_deep_stack(&rt),
+        _ => touch_stack(&rt),
+    }
     let mut reader = OverRead::new(rt.stdin());
     let mut writer = OverWrite::new(rt.stdout());
     let mut errors = OverWrite::new(rt.stderr());
     let mut terminal = rt.stderr();
     let is_terminal = terminal.is_terminal();
     let mut progress = Progress::new(&rt, is_terminal.then_some(&mut terminal));
-    let status = match words_of(&rt) {
+    let status = match words {
         Ok(words) => run_program(
             &rt,
             words.as_slice(),
