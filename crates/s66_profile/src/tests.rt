@@ -7,6 +7,13 @@ use std::alloc::AllocError;
 use std::process::Abort;
 use std::test::Fail;
 
+/// Each key, with a number that no other has, in an order that isn't that of a profile's numbers.
+const EACH_KEY: &str = "{\
+    \"units_increment\":27,\"units_divide\":26,\"units_multiply\":25,\"units_longadd\":24,\
+    \"units_add\":23,\"units_shift\":22,\"units_boolean\":21,\
+    \"load\":20,\"increment\":19,\"population\":18,\"divide\":17,\"multiply\":16,\
+    \"longadd\":15,\"add\":14,\"normalise\":13,\"shift\":12,\"boolean\":11}";
+
 /// Texts that give a profile, and its numbers.
 const PROFILES: &[(&str, &str)] = &[
     (
@@ -20,6 +27,10 @@ const PROFILES: &[(&str, &str)] = &[
     (
         " { \"units_multiply\" : 3 , \"\\u006coad\" : 100 }\n",
         "[3, 3, 4, 4, 3, 10, 29, 8, 3, 100, 1, 1, 1, 1, 3, 1, 2]",
+    ),
+    (
+        EACH_KEY,
+        "[11, 12, 13, 14, 15, 16, 17, 18, 19, 20, 21, 22, 23, 24, 25, 26, 27]",
     ),
 ];
 
