@@ -1,8 +1,9 @@
-use crate::walk::Walk;
+use crate::walk::{Walk, push_ready, undo_last};
 use s66_isa::Profile;
 use s66_line::Block;
 use s66_source::read_source;
 use s66_test_blocks::{MULTIPLIES, ONE_LOAD, only_block};
+use s66_time::Clock;
 use std::process::Abort;
 use std::test::Fail;
 
@@ -113,4 +114,45 @@ fn clocks_an_uneven_profile(rt: HostRuntime) -> Result<(), Fail> {
         units_increment: 3,
     };
     check_rows(&rt, &profile, UNEVEN_TOTALS)
+}
+
+/// An instruction, and how many words its push and its undo read or write. That these are at most `LOOK_LIMIT`, and for a push one
+/// more for each unit of the kind, is proved. That they are counted right is only tested, here.
+///
+/// A push looks at the word of each unit of the kind and at that of the kind's work, reads and writes a word for each register that
+/// the instruction reads or writes, writes the six words of the progress, and keeps a record. An undo writes the unit's word, the
+/// kind's, one for each such register and the six, and reads the record.
+const LOOKS: &[(&str, u32, u32)] = &[
+    // one of two units, and no register
+    ("  SB0 B0+B0\n", 2 + 1 + 6 + 1, 1 + 1 + 6 + 1),
+    // one of two units; X2, X3 and X1
+    ("  FX1 X2*X3\n", 2 + 1 + 2 * 3 + 6 + 1, 1 + 1 + 3 + 6 + 1),
+    // the only unit; X3, X1 and B2
+    ("  NX1 B2,X3\n", 1 + 1 + 2 * 3 + 6 + 1, 1 + 1 + 3 + 6 + 1),
+    // one of two units; A6, B1 and X6, and A6 again
+    ("  SA6 A6+B1\n", 2 + 1 + 2 * 4 + 6 + 1, 1 + 1 + 4 + 6 + 1),
+];
+
+/// Checks the words that are counted of the push of a block's first instruction and of its undo.
+fn check_looks<R: Abort>(rt: &R, block: &Block, pushed: u32, undone: u32) {
+    let mut clock = Clock::new(block, &Profile::standard());
+    assert_eq!(rt; clock.looks(), 0);
+    assert!(rt; push_ready(&mut clock, 1));
+    assert_eq!(rt; clock.looks(), pushed);
+    assert!(rt; undo_last(&mut clock));
+    assert_eq!(rt; clock.looks(), undone);
+}
+
+#[test]
+fn counts_looks(rt: HostRuntime) -> Result<(), Fail> {
+    for &(code, pushed, undone) in LOOKS {
+        let source = read_source(rt.alloc(), code.as_bytes())?;
+        check_looks(
+            &rt,
+            only_block(&source).expect(&rt, "one block"),
+            pushed,
+            undone,
+        );
+    }
+    Ok(())
 }
