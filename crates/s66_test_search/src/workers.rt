@@ -7,9 +7,9 @@ use crate::hub::open_hub;
 use s66_isa::Profile;
 use s66_line::Block;
 use s66_model::{BUDGET_LIMIT, Options, Rule};
-use s66_pool::{Free, Gate, Seat, run, work};
+use s66_pool::{FIRST_SPLITS, Free, Gate, Seat, run, work};
 use s66_source::read_source;
-use s66_test_blocks::{MULTIPLIES, only_block};
+use s66_test_blocks::{MULTIPLIES, SEVEN_MULTIPLIES, only_block};
 use std::process::Abort;
 use std::sync::Wait;
 use std::test::Fail;
@@ -22,25 +22,47 @@ const FIVE_MULTIPLIES: &str = "  FX0 X7*X7\n  FX1 X7*X7\n  FX2 X7*X7\n  FX3 X7*X
 /// How many splits its whole tree has.
 const ALL_SPLITS: u32 = 206;
 
-/// Lets workers search three multiplies, each order of which takes 22, and whose whole tree has 10 splits.
-fn check_run<R: AllocGlobal + Abort + Threads + Wait + Sync, G: Gate + Sync>(
+/// Lets workers search a block, and finishes what they leave. Returns the time, the bound and how many splits are spent.
+fn search_and_finish<R: AllocGlobal + Abort + Threads + Wait + Sync, G: Gate + Sync>(
     rt: &R,
+    block: &Block,
     workers: u8,
     nodes: u32,
     gate: &G,
-) -> Result<(), Fail>
-    requires workers { (1 ≤ workers) × (workers ≤ WORKERS_LIMIT) }
+) -> (u32, u32, u32)
+    requires workers { 1 ≤ workers }
     requires nodes { nodes ≤ BUDGET_LIMIT }
 {
-    let source = read_source(rt.alloc(), MULTIPLIES.as_bytes())?;
-    let block = only_block(&source).expect(rt, "one block");
+    let profile = Profile::standard();
     let options = Options {
         workers,
         nodes,
         rule: Rule::NoneNamed,
     };
-    let answer = run(rt, block, &Profile::standard(), options, gate)?;
-    let stated = (answer.time(), answer.bound(), answer.splits());
+    let (hub, seats) = open_hub(rt, block, nodes, workers);
+    let Ok(seats) = work(rt, &hub, seats, block, &profile, options, gate) else {
+        panic!(rt; "no memory")
+    };
+    let Ok(ledger) = hub.close(seats) else {
+        panic!(rt; "all seats are there")
+    };
+    let answer = ledger.finish(rt.alloc()).expect(rt, "memory");
+    (answer.time(), answer.bound(), answer.splits())
+}
+
+/// Lets workers search three multiplies, each order of which takes 22, and whose whole tree has 10 splits.
+fn check_search<R: AllocGlobal + Abort + Threads + Wait + Sync, G: Gate + Sync>(
+    rt: &R,
+    workers: u8,
+    nodes: u32,
+    gate: &G,
+) -> Result<(), Fail>
+    requires workers { 1 ≤ workers }
+    requires nodes { nodes ≤ BUDGET_LIMIT }
+{
+    let source = read_source(rt.alloc(), MULTIPLIES.as_bytes())?;
+    let block = only_block(&source).expect(rt, "one block");
+    let stated = search_and_finish(rt, block, workers, nodes, gate);
     assert_eq!(rt; stated, (22, 22, 10));
     Ok(())
 }
@@ -51,7 +73,7 @@ fn check_meeting<R: AllocGlobal + Abort + Clock + Threads + Wait + Sync>(
     meeting: Meeting,
 ) -> Result<(), Fail> {
     let gate = Held::new(rt, meeting);
-    check_run(rt, 2, BUDGET_LIMIT, &gate)?;
+    check_search(rt, 2, BUDGET_LIMIT, &gate)?;
     gate.check(rt);
     Ok(())
 }
@@ -71,10 +93,10 @@ fn two_claims_meet(rt: HostRuntime) -> Result<(), Fail> {
 #[test]
 fn each_worker_claims(rt: HostRuntime) -> Result<(), Fail> {
     let two = Claimants::none();
-    check_run(&rt, 2, 10, &two)?;
+    check_search(&rt, 2, 10, &two)?;
     assert_eq!(rt; two.workers(), 0b110);
     let three = Claimants::none();
-    check_run(&rt, 3, 10, &three)?;
+    check_search(&rt, 3, 10, &three)?;
     assert_eq!(rt; three.workers(), 0b1110);
     Ok(())
 }
@@ -175,5 +197,53 @@ fn lane_fills(rt: HostRuntime) -> Result<(), Fail> {
     let gate = Filling::nothing();
     search_all(&rt, block, 1, &gate);
     assert!(rt; 4 <= gate.nodes_between());
+    Ok(())
+}
+
+/// Searches seven multiplies, each order of which takes 44, and whose whole tree has 8,660 splits. Returns the bound and how many
+/// splits are spent.
+fn run_seven<R: AllocGlobal + Abort + Threads + Wait + Sync, G: Gate + Sync>(
+    rt: &R,
+    workers: u8,
+    nodes: u32,
+    gate: &G,
+) -> Result<(u32, u32), Fail>
+    requires workers { (1 ≤ workers) × (workers ≤ WORKERS_LIMIT) }
+    requires nodes { nodes ≤ BUDGET_LIMIT }
+{
+    let source = read_source(rt.alloc(), SEVEN_MULTIPLIES.as_bytes())?;
+    let block = only_block(&source).expect(rt, "one block");
+    let options = Options {
+        workers,
+        nodes,
+        rule: Rule::NoneNamed,
+    };
+    let answer = run(rt, block, &Profile::standard(), options, gate)?;
+    assert_eq!(rt; answer.time(), 44);
+    Ok((answer.bound(), answer.splits()))
+}
+
+/// A search that the first splits don't end is shared by workers.
+#[test]
+fn long_search_is_shared(rt: HostRuntime) -> Result<(), Fail> {
+    let gate = Held::new(&rt, Meeting::Claims);
+    assert_eq!(rt; run_seven(&rt, 2, BUDGET_LIMIT, &gate)?, (44, 8660));
+    gate.check(&rt);
+    Ok(())
+}
+
+/// No worker starts for the first splits, whatever the number of workers; for one more all do. A single worker never does.
+#[test]
+fn first_splits_start_no_worker(rt: HostRuntime) -> Result<(), Fail> {
+    let none = Claimants::none();
+    assert_eq!(rt; run_seven(&rt, 3, FIRST_SPLITS, &none)?, (39, FIRST_SPLITS));
+    assert_eq!(rt; run_seven(&rt, 1, BUDGET_LIMIT, &none)?, (44, 8660));
+    assert_eq!(rt; none.workers(), 0);
+    let three = Claimants::none();
+    assert_eq!(rt;
+        run_seven(&rt, 3, FIRST_SPLITS + 1, &three)?,
+        (39, FIRST_SPLITS + 1)
+    );
+    assert_eq!(rt; three.workers(), 0b1110);
     Ok(())
 }
