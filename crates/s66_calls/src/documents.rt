@@ -7,17 +7,17 @@ use s66_cert::{CertError, read};
 use s66_device::{Failed, OverRead, Sink};
 use s66_isa::Profile;
 use s66_model::{Options, Rule};
-use s66_pool::{Free, run};
+use s66_pool::{FIRST_SPLITS, Free, run};
 use s66_program::{Command, Fault, document_of, run_command};
-use s66_test_blocks::MULTIPLIES;
+use s66_test_blocks::{MULTIPLIES, SEVEN_MULTIPLIES};
 use std::alloc::{AllocError, Global};
 use std::sync::Wait;
 use std::thread::Threads;
 
-/// Two workers, and more splits than the tree has.
+/// Two workers, and a few more splits than those that the calling thread does before they start.
 const OPTIONS: Options = Options {
     workers: 2,
-    nodes: 100,
+    nodes: FIRST_SPLITS + 52,
     rule: Rule::NoneNamed,
 };
 
@@ -27,7 +27,7 @@ const DOCUMENTS: &str =
 
 /// The time, the bound and the splits of the answer of two workers.
 pub fn searched<R: AllocGlobal + Threads + Wait + Sync>(rt: &R) -> Result<Answered, AllocError> {
-    let source = source_of(rt.alloc(), MULTIPLIES)?;
+    let source = source_of(rt.alloc(), SEVEN_MULTIPLIES)?;
     let block = block_of(&source)?;
     let answer = run(rt, block, &Profile::standard(), OPTIONS, &Free)?;
     Ok([
@@ -41,7 +41,7 @@ pub fn searched<R: AllocGlobal + Threads + Wait + Sync>(rt: &R) -> Result<Answer
 /// The time and the bound of their answer's document, and how many numbers its order and its block have.
 pub fn documented<R: AllocGlobal + Threads + Wait + Sync>(rt: &R) -> Result<Answered, AllocError> {
     let alloc = rt.alloc();
-    let source = source_of(alloc, MULTIPLIES)?;
+    let source = source_of(alloc, SEVEN_MULTIPLIES)?;
     let block = block_of(&source)?;
     let profile = Profile::standard();
     let answer = run(rt, block, &profile, OPTIONS, &Free)?;
