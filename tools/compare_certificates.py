@@ -282,7 +282,7 @@ def main():
         print(difference)
         wrong += 1
     told = ", ".join(f"{what} {count}" for what, count in sorted(counts.items()))
-    print(f"{asked.texts} texts ({told}): {wrong} different")
+    print(f"{asked.texts - wrong} passed, {wrong} failed (texts: {told})")
     return 1 if wrong else 0
 
 

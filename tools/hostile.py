@@ -189,7 +189,7 @@ def main(arguments):
         if seen != answer or seconds > SECONDS:
             wrong += 1
             print(f"wrong: {label}: {seen[0], seen[1][:80], seen[2][:80]} after {seconds:.1f} seconds; wanted {answer}")
-    print(f"{count} inputs: {wrong} wrong; at most {most[0]:.1f} seconds ({most[1]})")
+    print(f"{count - wrong} passed, {wrong} failed (inputs; the longest took {most[0]:.1f} seconds: {most[1]})")
     return 1 if wrong else 0
 
 

@@ -26,6 +26,7 @@ DEFINITIONS, ENDS = ("MACRO", "MACROE", "OPDEF"), ("ENDD", "ENDIF", "END", "IDEN
 BRANCHES = "RJ JP ZR NZ PL NG MI IR OR DF ID EQ NE GE GT LT LE XJ".split()
 COMMAS = {0: "IFCP IFCP6 IFCP7 IFPP IFPP6 IFPP7 SKIP ELSE ECHO", 1: "DUP IFPL IFMI IFC", 2: "IF IFEQ IFNE IFGT IFGE IFLT IFLE"}
 COMMAS = {word: commas for commas, words in COMMAS.items() for word in words.split()}  # how many come before the count
+COMMANDS = [["lint"], ["deps"], ["deps", "--cut"], ["order", "--nodes", "0"], ["order", "--nodes", "0", "--cut"]]
 
 # Sources, with | in the place of newlines, and for each line c if it is left alone with --cut, o if in any case.
 EXAMPLES = [
@@ -264,7 +265,7 @@ def smaller(lines, is_wrong):
 
 def mismatches(program, source):
     """What each command does otherwise than wanted, with a small source that shows it."""
-    for words in ["lint"], ["deps"], ["deps", "--cut"], ["order", "--nodes", "0"], ["order", "--nodes", "0", "--cut"]:
+    for words in COMMANDS:
         def fault(lines):
             return fault_of(words, b"".join(lines), run(program, words, b"".join(lines)))
         if fault([source]):
@@ -292,7 +293,9 @@ def main():
             with open(name, "wb") as file:
                 file.write(small)
             print(f"{' '.join(words)} < {name}: {small}: {run(asked.program, words, small)}; {fault}")
-    print(f"{asked.count} sources (lint: {', '.join(f'{what} {n}' for what, n in sorted(counts.items()))}): {wrong} wrong")
+    runs = len(EXAMPLES) + asked.count * len(COMMANDS)
+    told = ", ".join(f"{what} {n}" for what, n in sorted(counts.items()))
+    print(f"{runs - wrong} passed, {wrong} failed ({asked.count} sources; lint: {told})")
     return 1 if wrong else 0
 
 

@@ -1,7 +1,7 @@
 #!/usr/bin/env python3
 """Refuses a program what it asks of the C library, one request at a time, and checks its answers.
 
-    tools/refused.py PROGRAM [CALLS]
+    tools/refused.py PROGRAM [CALLS] [--quick]
 
 PROGRAM is the built program, CALLS that of s66_calls, which makes the calls of the libraries. A row is a call: a subcommand
 on an input, or one of CALLS. It is run with ample memory first, and that has to give the row's status. Then it is run
@@ -16,26 +16,32 @@ on an input, or one of CALLS. It is run with ample memory first, and that has to
   and WRITE FAILED; and with writes of one byte each: as with ample memory;
 - with standard error failing: its status and its output.
 
+--quick tries of many requests the first ones and then every tenth.
+
 For each row it prints how many requests there are, and how often each answer came. The status is 1 if an answer is another.
-tools/refused.c stands between the program and the C library; `cc` compiles it.
+tools/refused.c stands between the program and the C library; a C compiler has to be on the PATH.
 """
 import collections
 import concurrent.futures
 import os
+import shutil
 import struct
 import subprocess
 import sys
 import tempfile
 
 ROOT = os.path.dirname(os.path.dirname(os.path.abspath(__file__)))
+COMPILERS = ("cc", "gcc", "clang")
 KINDS = ("memory", "thread", "read", "write", "tell")
 REFUSED = (4, b"", b"OUT OF MEMORY\n")
 NO_PROFILE = (3, b"", b"BAD PROFILE\n")
 UNREAD = (6, b"", b"READ FAILED\n")
 EVER = 1 << 60
+FIRST = 20  # of these requests --quick passes over none
 
 MULTIPLIES = "  FX1 X2*X3\n  FX4 X5*X6\n  FX0 X7*X7\n"
 FIVE = "".join(f"  FX{i} X7*X7\n" for i in range(5))  # 206 splits, all of which any search takes, and one best time
+SEVEN = "".join(f"  FX{i} X7*X7\n" for i in range(7))  # 8,660 splits without dominance, of which the first 2,048 are no worker's
 SOURCE = f"* NOTE\nLOOP   SA1 A1+B1\n  BX6 X1\n  NO\n  VFD 60/0\n{FIVE}  ZR X1,LOOP\n{MULTIPLIES}"
 REFUSED_SOURCE = SOURCE + ",MORE\n"
 ALIKE = "  SB0 B1\n" * 5
@@ -48,8 +54,8 @@ def searches():
         yield [*words, "--workers", "1"], SOURCE, {0}
         yield [*words, "--workers", "2"], FIVE, {0}
     yield ["order", "--workers", "2", "--nodes", "0"], FIVE, {7}
-    yield ["order", "--workers", "4"], MULTIPLIES, {0}
-    yield ["prove", "--workers", "16"], MULTIPLIES, {0}
+    for words in (["order", "--trace", "--workers", "2"], ["order", "--workers", "4"], ["sum", "--workers", "16"]):
+        yield [*words, "--nodes", "2100"], SEVEN, {7}
 
 
 def rows():
@@ -99,8 +105,8 @@ class Runner:
 class Row:
     """A call under refusals, and how often each answer came."""
 
-    def __init__(self, runner, command, given, statuses):
-        self.runner, self.command, self.given = runner, command, given
+    def __init__(self, runner, command, given, statuses, step):
+        self.runner, self.command, self.given, self.step = runner, command, given, step
         self.answers, self.wrong = collections.Counter(), []
         seen, self.counts = runner.run(command, given)
         self.status, self.output, self.told = seen
@@ -135,7 +141,7 @@ class Row:
         for is_lasting in (False, True):
             number = 1
             while self.look(allowed, ("memory", number, EVER if is_lasting else number, "fail"))["memory"] >= number:
-                number += 1
+                number += 1 if number < FIRST else self.step
 
     def refuse_threads(self):
         for number in range(1, self.counts["thread"] + 1):
@@ -149,7 +155,7 @@ class Row:
             self.look(unread, ("read", number, number, "fail"))
         if self.counts["read"] and self.given:
             self.look(self.ample, ("read", 1, EVER, "one"))
-            for number in range(1, len(self.given) + 2):
+            for number in (*range(1, FIRST), *range(FIRST, len(self.given) + 2, self.step)):
                 self.look(unread, ("read", 1, EVER, "one"), ("read", number, number, "fail"))
 
     def fail_writes(self):
@@ -192,17 +198,28 @@ def table_of(program, calls, runner):
         yield [calls, name], b"", {0}
 
 
+def library_in(folder):
+    """Compiles tools/refused.c to a library in a folder."""
+    compiler = next(filter(shutil.which, COMPILERS), None)
+    if compiler is None:
+        sys.exit(f"no C compiler: one of {', '.join(COMPILERS)} has to be on the PATH")
+    library = os.path.join(folder, "refused.so")
+    subprocess.run([compiler, "-O1", "-shared", "-fPIC", "-o", library, os.path.join(ROOT, "tools/refused.c"), "-ldl"], check=True)
+    return library
+
+
 def main(arguments):
-    if not 1 <= len(arguments) <= 2 or arguments[0].startswith("-"):
+    names = [word for word in arguments if word != "--quick"]
+    if not 1 <= len(names) <= 2 or names[0].startswith("-"):
         print(__doc__.strip())
         return 2
-    program, calls = [os.path.abspath(name) for name in arguments] + [None] * (2 - len(arguments))
+    program, calls = [os.path.abspath(name) for name in names] + [None] * (2 - len(names))
+    step = 10 if len(names) < len(arguments) else 1
     with tempfile.TemporaryDirectory() as folder:
-        library = os.path.join(folder, "refused.so")
-        subprocess.run(["cc", "-O1", "-shared", "-fPIC", "-o", library, os.path.join(ROOT, "tools/refused.c"), "-ldl"], check=True)
+        library = library_in(folder)
 
         def check(place, command, given, statuses):
-            row = Row(Runner(library, os.path.join(folder, f"counts{place}")), command, given, statuses)
+            row = Row(Runner(library, os.path.join(folder, f"counts{place}")), command, given, statuses, step)
             row.refuse_memory()
             row.refuse_threads()
             if command[0] == program:
@@ -214,7 +231,7 @@ def main(arguments):
             table = table_of(program, calls, Runner(library, os.path.join(folder, "counts")))
             checks = [pool.submit(check, place, *row) for place, row in enumerate(table)]
             right, wrong = map(sum, zip(*[it.result() for it in checks]))
-    print(f"{len(checks)} calls, {right + wrong} runs: {wrong} wrong")
+    print(f"{right} passed, {wrong} failed (runs of {len(checks)} calls)")
     return 1 if wrong else 0
 
 

@@ -1,0 +1,97 @@
+#!/usr/bin/env python3
+"""Runs the built program on the rows of its tests, in a few seconds and without a proof.
+
+    tools/test_rows.py PROGRAM
+
+The rows are the tables of s66_test_program: ROWS of each file of src/rows/, BAD of src/rows/profile.rt, REPEATED and ORDERED of
+src/rows.rt. Each row that ends otherwise than it says is printed. The status is 1 if there is one.
+"""
+import glob
+import os
+import re
+import subprocess
+import sys
+
+SOURCES = os.path.join(os.path.dirname(os.path.dirname(os.path.abspath(__file__))), "crates/s66_test_program/src")
+TOKEN = re.compile(r'//[^\n]*|"(?:[^"\\]|\\.)*"|&\[|[^/"&]+|.', re.DOTALL)
+CONSTANT = re.compile(r"\bconst (\w+):[^=]*=([^;]*);")
+PLACE = re.compile(r"'(\d+)'")
+WRITTEN = 0, 5, 7, 8  # the statuses after which the text of a row is in its output, and else in what is told of errors
+
+
+def constants_of(path, known):
+    """The constants of a file by their names. The tables are those of Python too, but for comments and for & before a list."""
+    strings = []
+
+    def put(token):
+        """What stands for a token: a string is put by, since it may have any letters, and its place stands for it."""
+        if token.startswith('"'):
+            strings.append(token)
+            return f"'{len(strings) - 1}'"
+        return "" if token.startswith("//") else "[" if token == "&[" else token
+
+    with open(path, encoding="utf-8") as file:
+        text = "".join(map(put, TOKEN.findall(file.read())))
+    found = {}
+    for name, value in CONSTANT.findall(text):
+        value = PLACE.sub(lambda place: strings[int(place[1])], value)
+        found[name] = eval(value.strip(), {**known, **found})
+    return found
+
+
+def bad_profiles(table, shared):
+    """The rows of a table BAD: what is refused by each subcommand, whatever the source is."""
+    for text, told in table:
+        for word in "time", "chart", "order", "prove", "sum":
+            for given in shared["ONE_LOAD"], "  SA1 *+2\n":
+                yield text, ["s66", word, "--profile", text], given, 3, told
+
+
+def rows_of(shared):
+    """All rows: name, words, input, status and text."""
+    for path in sorted(glob.glob(os.path.join(SOURCES, "rows/*.rt"))):
+        tables = constants_of(path, shared)
+        yield from tables["ROWS"]
+        yield from bad_profiles(tables.get("BAD", []), shared)
+    for name, words, piece, times, status, text in shared["REPEATED"]:
+        yield name, words, piece * times, status, text
+
+
+def run(program, words, given):
+    """The status, the output and what is told of errors. The first word is the name that the program is called by."""
+    done = subprocess.run(words, executable=program, input=given, stdout=subprocess.PIPE, stderr=subprocess.PIPE)
+    return done.returncode, done.stdout, done.stderr
+
+
+def row_fault(program, name, words, given, status, text):
+    """What a row prints otherwise than it says, or nothing."""
+    right = (status, text.encode(), b"") if status in WRITTEN else (status, b"", text.encode())
+    seen = run(program, words, given.encode())
+    return "" if seen == right else f"{name}: {' '.join(words)}: {seen}, and not {right}"
+
+
+def order_fault(program, shared, name, given, begin, end, timed):
+    """What `order` prints of a block with several best orders otherwise than its row says, or what `time` then prints of that."""
+    status, output, told = run(program, shared["ORDER"], given.encode())
+    if (status, told) != (0, b"") or not (output.startswith(begin.encode()) and output.endswith(end.encode())):
+        return f"{name}: order: {status, output, told}"
+    return row_fault(program, name, shared["TIME"], output.decode(), 0, timed)
+
+
+def main(arguments):
+    if len(arguments) != 1 or arguments[0].startswith("-"):
+        print(__doc__.strip())
+        return 2
+    program = os.path.abspath(arguments[0])
+    shared = constants_of(os.path.join(SOURCES, "running.rt"), {})
+    shared.update(constants_of(os.path.join(SOURCES, "rows.rt"), shared))
+    faults = [row_fault(program, *row) for row in rows_of(shared)]
+    faults += [order_fault(program, shared, *row) for row in shared["ORDERED"]]
+    wrong = list(filter(None, faults))
+    print("".join(f"wrong: {fault}\n" for fault in wrong), end="")
+    print(f"{len(faults) - len(wrong)} passed, {len(wrong)} failed")
+    return 1 if wrong else 0
+
+
+if __name__ == "__main__":
+    sys.exit(main(sys.argv[1:]))
