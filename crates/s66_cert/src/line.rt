@@ -1,7 +1,8 @@
 use crate::instruction::ReadText;
 use arrayvec::ArrayVec;
-use s66_isa::{BLOCK_LIMIT, Kind, PROFILE_LENGTH};
+use s66_isa::PROFILE_LENGTH;
 use s66_model::Rule;
+use s66_tree::TreeLine;
 
 /// What a line of a document says.
 #[derive(Debug, Drop)]
@@ -15,12 +16,7 @@ pub(crate) enum LineOf<'a> {
     Instruction(ReadText<'a>),
     Time(u32),
     Bound(u32),
-    Order(ArrayVec<u8, BLOCK_LIMIT>),
-    Split(ArrayVec<u8, BLOCK_LIMIT>),
-    Whole,
-    Chain(ArrayVec<u8, BLOCK_LIMIT>),
-    Dominated(ArrayVec<u8, BLOCK_LIMIT>),
-    Load(Kind),
-    Parcels,
+    Order(&'a [u8]),
+    OfTree(TreeLine<'a>),
     End,
 }

@@ -18,6 +18,7 @@ use arrayvec::ArrayVec;
 use s66_isa::{BLOCK_LIMIT, Kind, PROFILE_LENGTH, PROFILE_LIMIT};
 use s66_line::instruction_of_text;
 use s66_model::Rule;
+use s66_tree::TreeLine;
 
 fn is_name(bytes: &[u8], name: &[u8]) -> bool
     ensures { result ≡ bytes_eq bytes.now name.now }
@@ -33,15 +34,18 @@ fn number(rest: Option<&[u8]>, low: u32, high: u32) -> Option<u32>
     number_in(rest?, low, high)
 }
 
-/// Numbers of instructions of a block, one at least.
-fn block_numbers(rest: Option<&[u8]>) -> Option<ArrayVec<u8, BLOCK_LIMIT>>
-    ensures { option_map (λ v. v.items) result ≡ block_numbers BLOCK_LIMIT (option_map (λ r. r.now) rest.entry) }
+/// Numbers of instructions of a block, one at least, which are put into this room.
+fn block_numbers<'a>(
+    rest: Option<&[u8]>,
+    room: &'a mut ArrayVec<u8, BLOCK_LIMIT>,
+) -> Option<&'a [u8]>
+    ensures { option_map (λ ns. ns.now) result ≡ block_numbers BLOCK_LIMIT (option_map (λ r. r.now) rest.entry) }
 {
-    let numbers = numbers_in::<BLOCK_LIMIT>(rest, 1, BLOCK_LIMIT as u32)?;
-    if numbers.is_empty() {
+    *room = numbers_in::<BLOCK_LIMIT>(rest, 1, BLOCK_LIMIT as u32)?;
+    if room.is_empty() {
         return None;
     }
-    Some(numbers)
+    Some(room.as_slice())
 }
 
 /// The numbers of a profile.
@@ -116,28 +120,40 @@ fn alone_line<'a>(line: LineOf<'a>, rest: Option<&'a [u8]>) -> Option<LineOf<'a>
     }
 }
 
-fn split_line(rest: Option<&[u8]>) -> Option<LineOf<'_>>
+fn split_line<'a>(
+    rest: Option<&[u8]>,
+    room: &'a mut ArrayVec<u8, BLOCK_LIMIT>,
+) -> Option<LineOf<'a>>
     ensures { option_map said result ≡ option_map (λ ns. OfTree (AtSplit ns)) (block_numbers BLOCK_LIMIT (option_map (λ r. r.now) rest.entry)) }
 {
-    Some(LineOf::Split(block_numbers(rest)?))
+    Some(LineOf::OfTree(TreeLine::Split(block_numbers(rest, room)?)))
 }
 
-fn chain_line(rest: Option<&[u8]>) -> Option<LineOf<'_>>
+fn chain_line<'a>(
+    rest: Option<&[u8]>,
+    room: &'a mut ArrayVec<u8, BLOCK_LIMIT>,
+) -> Option<LineOf<'a>>
     ensures { option_map said result ≡ option_map (λ ns. OfTree (AtTerminal (Bounding (Chain ns)))) (block_numbers BLOCK_LIMIT (option_map (λ r. r.now) rest.entry)) }
 {
-    Some(LineOf::Chain(block_numbers(rest)?))
+    Some(LineOf::OfTree(TreeLine::Chain(block_numbers(rest, room)?)))
 }
 
-fn dominated_line(rest: Option<&[u8]>) -> Option<LineOf<'_>>
+fn dominated_line<'a>(
+    rest: Option<&[u8]>,
+    room: &'a mut ArrayVec<u8, BLOCK_LIMIT>,
+) -> Option<LineOf<'a>>
     ensures { option_map said result ≡ option_map (λ ns. OfTree (AtTerminal (Dominated ns))) (block_numbers BLOCK_LIMIT (option_map (λ r. r.now) rest.entry)) }
 {
-    Some(LineOf::Dominated(block_numbers(rest)?))
+    Some(LineOf::OfTree(TreeLine::Dominated(block_numbers(rest, room)?)))
 }
 
-fn order_line(rest: Option<&[u8]>) -> Option<LineOf<'_>>
+fn order_line<'a>(
+    rest: Option<&[u8]>,
+    room: &'a mut ArrayVec<u8, BLOCK_LIMIT>,
+) -> Option<LineOf<'a>>
     ensures { option_map said result ≡ option_map line.Order (block_numbers BLOCK_LIMIT (option_map (λ r. r.now) rest.entry)) }
 {
-    Some(LineOf::Order(block_numbers(rest)?))
+    Some(LineOf::Order(block_numbers(rest, room)?))
 }
 
 fn profile_line(rest: Option<&[u8]>) -> Option<LineOf<'_>>
@@ -149,7 +165,7 @@ fn profile_line(rest: Option<&[u8]>) -> Option<LineOf<'_>>
 fn load_line(rest: Option<&[u8]>) -> Option<LineOf<'_>>
     ensures { option_map said result ≡ option_map (λ kind. OfTree (AtTerminal (Bounding (Load kind)))) (kind_in (option_map (λ r. r.now) rest.entry)) }
 {
-    Some(LineOf::Load(kind_in(rest)?))
+    Some(LineOf::OfTree(TreeLine::Load(kind_in(rest)?)))
 }
 
 fn block_line(rest: Option<&[u8]>) -> Option<LineOf<'_>>
@@ -170,28 +186,31 @@ fn bound_line(rest: Option<&[u8]>) -> Option<LineOf<'_>>
     Some(LineOf::Bound(number(rest, 0, TIME_LIMIT)?))
 }
 
-/// What a line says, or that it is no line of a document.
-pub(crate) fn line_of(bytes: &[u8]) -> Option<LineOf<'_>>
+/// What a line says, or that it is no line of a document. The numbers of a line that has some are put into this room.
+pub(crate) fn line_of<'a>(
+    bytes: &'a [u8],
+    room: &'a mut ArrayVec<u8, BLOCK_LIMIT>,
+) -> Option<LineOf<'a>>
     ensures { option_map said result ≡ line_of BLOCK_LIMIT bytes.now }
 {
     let (name, rest) = split_word(bytes);
     if is_name(name, b"T") {
-        return alone_line(LineOf::Whole, rest);
+        return alone_line(LineOf::OfTree(TreeLine::Whole), rest);
     }
     if is_name(name, b"S") {
-        return split_line(rest);
+        return split_line(rest, room);
     }
     if is_name(name, b"C") {
-        return chain_line(rest);
+        return chain_line(rest, room);
     }
     if is_name(name, b"D") {
-        return dominated_line(rest);
+        return dominated_line(rest, room);
     }
     if is_name(name, b"U") {
         return load_line(rest);
     }
     if is_name(name, b"P") {
-        return alone_line(LineOf::Parcels, rest);
+        return alone_line(LineOf::OfTree(TreeLine::Parcels), rest);
     }
     if is_name(name, b"I") {
         return instruction_line(rest);
@@ -212,7 +231,7 @@ pub(crate) fn line_of(bytes: &[u8]) -> Option<LineOf<'_>>
         return bound_line(rest);
     }
     if is_name(name, b"ORDER") {
-        return order_line(rest);
+        return order_line(rest, room);
     }
     if is_name(name, b"END") {
         return alone_line(LineOf::End, rest);

@@ -1,4 +1,4 @@
-ghost use Rattle.std.specs.Prelude.{suc, false, ◌≡◌, ◌≤◌, ◌<◌, ◌+◌, ◌-◌, ◌^◌, [], OnOk};
+ghost use Rattle.std.specs.Prelude.{suc, false, ◌≡◌, ◌≤◌, ◌<◌, ◌+◌, ◌-◌, ◌^◌, [], length, OnOk};
 ghost use Rattle.s66_isa.specs.declared.limits.TheConstants.{BLOCK_LIMIT};
 ghost use Rattle.s66_cert.specs.Document.{names_nodes};
 ghost use Rattle.s66_cert.specs.Fine.{IsFine};
@@ -20,7 +20,7 @@ use crate::line::LineOf;
 use crate::parse::line_of;
 use crate::place::Place;
 use arrayvec::ArrayVec;
-use s66_isa::{BLOCK_LIMIT, PROFILE_LENGTH};
+use s66_isa::PROFILE_LENGTH;
 use s66_model::Rule;
 use s66_tree::{Tree, TreeLine};
 use std::alloc::Global;
@@ -272,13 +272,17 @@ impl Reader {
     }
 
     #[tactic(auto, using(crate::proofs::Places::other_order))]
-    fn order(&mut self, alloc: Global, numbers: ArrayVec<u8, BLOCK_LIMIT>) -> Result<(), CertError>
+    fn order(&mut self, alloc: Global, numbers: &[u8]) -> Result<(), CertError>
         requires lines { self.old.lines < 2 ^ 64 - 1 }
-        ensures { Steps (state self.new) result (step_at SPLIT_LIMIT (state self.old) self.old.place (Order numbers.items)) }
+        requires few { length numbers.now ≤ BLOCK_LIMIT }
+        ensures { Steps (state self.new) result (step_at SPLIT_LIMIT (state self.old) self.old.place (Order numbers.now)) }
     {
         match self.place {
             Place::AtOrder => {
-                self.claim.order = numbers;
+                self.claim.order.clear();
+                let Ok(()) = self.claim.order.try_extend_from_slice(numbers) else {
+                    unreachable!()
+                };
                 self.claim.tree = Tree::new(alloc);
                 self.go_on(Place::AtTree, 1, 0);
                 Ok(())
@@ -332,12 +336,7 @@ impl Reader {
             LineOf::Time(time) => self.time(time),
             LineOf::Bound(bound) => self.bound(bound),
             LineOf::Order(numbers) => self.order(alloc, numbers),
-            LineOf::Split(numbers) => self.vertex(TreeLine::Split(numbers.as_slice())),
-            LineOf::Whole => self.vertex(TreeLine::Whole),
-            LineOf::Chain(numbers) => self.vertex(TreeLine::Chain(numbers.as_slice())),
-            LineOf::Dominated(numbers) => self.vertex(TreeLine::Dominated(numbers.as_slice())),
-            LineOf::Load(kind) => self.vertex(TreeLine::Load(kind)),
-            LineOf::Parcels => self.vertex(TreeLine::Parcels),
+            LineOf::OfTree(vertex) => self.vertex(vertex),
             LineOf::End => self.end(alloc),
         }
     }
@@ -350,7 +349,8 @@ impl Reader {
         ensures lines { OnOk result (self.new.lines ≡ self.old.lines + 1) }
         ensures fine { OnOk result (IsFine SPLIT_LIMIT (state self.new)) }
     {
-        match line_of(bytes) {
+        let mut room = ArrayVec::new();
+        match line_of(bytes, &mut room) {
             None => Err(self.bad_line()),
             Some(line) => self.take(alloc, line),
         }
