@@ -9,10 +9,11 @@ PROGRAM is the built program. Without a DOCUMENT all are checked:
 - the manual page docs/s66.1: that its literal displays are what a terminal shows, and that it has each sentence of the program's
   help;
 - docs/help: that each file is what the program shows;
+- ARCHITECTURE.md's table of crates: that each file of a crate's code is in a row of that crate;
 - the files of examples/: that each NAME.time, NAME.chart and NAME.order is to the byte what the program writes of NAME.compass, and
   that check says yes to each document that prove writes of it, at the times of NAME.order.
 
-Each wrong place is told, wrong output as a diff. The last line counts in how many documents, and of the last three, nothing is wrong
+Each wrong place is told, wrong output as a diff. The last line counts in how many documents, and of the last four, nothing is wrong
 and something is. The status is 1 where something is.
 
 Two kinds of fences hold commands. In
@@ -56,6 +57,8 @@ HELP = re.compile(r"^ +(?:--)?(?!help)\w+(?: <N>)?  +(\S.*)$", re.MULTILINE)
 STATUSES = re.compile(r"^Status: (.*)$", re.MULTILINE)
 COMMENT = re.compile(r"^\s*(//|--).*$", re.MULTILINE)
 BEST = re.compile(r"^\* BLOCK (\d+) COUNT \d+ SOURCE \d+ TIME (\d+) BEST$", re.MULTILINE)
+ROW = re.compile(r"^\| (?:`(s66_\w+)` )?\| ([^|]*?) ?\| ([^|]*) \|$", re.MULTILINE)
+NAMED_BY_THEMSELVES = {"lib.rt", "main.rt", "limits.rt", "error.rt", "laws.rt", "examples.rt", "tests.rt"}
 DOCUMENTS = ["README.md", "CONTRIBUTING.md", "CHANGELOG.md", "bench/README.md", "examples/README.md"]
 EXAMPLES = {"time": ["time"], "chart": ["chart"], "order": ["order", "--workers", "1", "--trace"]}
 STATUS_END = "\x1e"  # behind the output of a command: its status, and this
@@ -249,6 +252,22 @@ def wrong_help(program):
     return wrong
 
 
+def unplaced_files():
+    """Yields a line for each file of code that its crate's rows of ARCHITECTURE.md don't name."""
+    with open(os.path.join(ROOT, "docs/ARCHITECTURE.md"), encoding="utf-8") as file:
+        rows = ROW.findall(file.read())
+    crate, named = "", {}
+    for first, files, _ in rows:
+        crate = first or crate
+        named.setdefault(crate, set()).update(SPAN.findall(files))
+    for crate in sorted(named):
+        top = os.path.join(ROOT, "crates", crate, "src")
+        for name in sorted(os.listdir(top)):
+            name += "/" * os.path.isdir(os.path.join(top, name))
+            if name not in named[crate] and name not in NAMED_BY_THEMSELVES:
+                yield f"docs/ARCHITECTURE.md: no row of {crate} has {name}"
+
+
 def wrong_in(document, program, repository):
     """What is wrong in a document."""
     name = os.path.relpath(document, ROOT)
@@ -265,7 +284,7 @@ def main(arguments):
     if not documents:
         documents = [os.path.join(ROOT, name) for name in DOCUMENTS]
         documents += sorted(glob.glob(os.path.join(ROOT, "docs/*.md")))
-        checks = [wrong_manual("docs/s66.1", program), wrong_help(program), wrong_examples(program)]
+        checks = [wrong_manual("docs/s66.1", program), wrong_help(program), unplaced_files(), wrong_examples(program)]
     repository = Repository()
     checks += [wrong_in(document, program, repository) for document in documents]
     failed = 0
