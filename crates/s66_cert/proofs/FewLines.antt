@@ -4,7 +4,7 @@ use Rattle.s66_isa.specs.declared.limits.TheConstants.{BLOCK_LIMIT}
 use Rattle.s66_model.specs.Tree.{Tree, Alone, Parted, Siblings, NoMore, Unsplit, Split, flat_siblings, flat, sibling_splits, splits}
 use Rattle.s66_model.specs.DominatedLeaves.{Ending}
 use Rattle.s66_cert.specs.Document.{SiblingsFit, TreeFits}
-use Rattle.s66_cert.specs.DocumentParts.{Parts, AreWhole, tree_of}
+use Rattle.s66_cert.specs.DocumentParts.{Parts, AreWhole, tree_of_lines}
 
 -- each split has at most BLOCK_LIMIT children
 few-siblings : (ns : List ℕ) (siblings : Siblings Ending) → SiblingsFit BLOCK_LIMIT ns siblings → length (flat_siblings siblings) ≤ length ns + BLOCK_LIMIT * sibling_splits siblings
@@ -21,7 +21,7 @@ few-flat (Alone ending) fits = (omega arith, omega arith)
 few-flat (Parted numbers siblings) fits = (omega arith, omega (arith, few-siblings numbers siblings fits.1, fits.0.1))
 
 pub few_lines : (p : Parts) → AreWhole p → length p.vertices < 2 ^ 32
-few_lines p whole = omega (arith, ap length whole.preorder, (few-flat (tree_of p.vertices) whole.document.tree).1, whole.document.splits)
+few_lines p whole = omega (arith, ap length whole.preorder, (few-flat (tree_of_lines p.vertices) whole.document.tree).1, whole.document.splits)
 
 pub some_lines : (p : Parts) → AreWhole p → 1 ≤ length p.vertices
-some_lines p whole = omega (arith, ap length whole.preorder, (few-flat (tree_of p.vertices) whole.document.tree).0)
+some_lines p whole = omega (arith, ap length whole.preorder, (few-flat (tree_of_lines p.vertices) whole.document.tree).0)

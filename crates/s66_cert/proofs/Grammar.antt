@@ -12,9 +12,9 @@ use Rattle.s66_model.proofs.Forests.{read-flat}
 use Rattle.s66_tree.specs.Lines.{has_dominated_line}
 use Rattle.s66_cert.specs.Document.{Document, IsDocumentWithin, AreDocumentsWithin, AreInstructions, SiblingsFit, TreeFits, has_dominated, names_nodes}
 use Rattle.s66_cert.proofs.DocumentLines.{open_lines, document_lines, documents_lines, instructions_of, vertices_of}
-use Rattle.s66_cert.specs.Lines.{Line, Header, Profile, Block, Instruction, Time, Bound, Order, OfTree, End, bytes_of, IsInRange}
-use Rattle.s66_cert.specs.DocumentParts.{Parts, tree_of}
-use Rattle.s66_cert.specs.Reading.{nothing, State, place_of_instruction, place_of_tree, is_allowed, wants_dominated, step_at, step_if, and_then, steps}
+use Rattle.s66_cert.specs.Lines.{DocumentLine, Header, Profile, Block, Instruction, Time, Bound, Order, OfTree, End, line_bytes, IsLineInRange}
+use Rattle.s66_cert.specs.DocumentParts.{Parts, tree_of_lines}
+use Rattle.s66_cert.specs.Reading.{nothing, DocumentState, place_of_instruction, place_of_tree, is_allowed, wants_dominated, step_at, step_if, and_then, steps}
 use Rattle.s66_cert.specs.declared.error.CertError.{CertError}
 use Rattle.s66_cert.specs.declared.place.Place.TheVariants.{AtHeader, AtProfile, AtBlock, AtInstruction, AtTime, AtBound, AtOrder}
 use Rattle.s66_cert.proofs.LineTexts.{line-again}
@@ -35,24 +35,24 @@ tree-match : (limit : ℕ) (tree : Tree Ending) → TreeFits limit tree → Tree
 tree-match limit (Alone leaf) fits = tt
 tree-match limit (Parted numbers siblings) fits = siblings-match limit numbers siblings fits.1
 
-pub tree-again : (limit : ℕ) (tree : Tree Ending) → TreeFits limit tree → tree_of (flat tree) ≡ tree
+pub tree-again : (limit : ℕ) (tree : Tree Ending) → TreeFits limit tree → tree_of_lines (flat tree) ≡ tree
 tree-again limit tree fits = read-flat (Bounding Whole) tree (tree-match limit tree fits)
 
 module _ (limit most : ℕ) (narrow : limit < 2 ^ 64) where
   -- ONE LINE AFTER THE OTHER
 
-  pub step-line : (s t : State) (l : Line) (lines : List (List ℕ)) → IsInRange limit l → step_at most s s.place l ≡ Ok t → steps limit most s (bytes_of l ∷ lines) ≡ steps limit most t lines
+  pub step-line : (s t : DocumentState) (l : DocumentLine) (lines : List (List ℕ)) → IsLineInRange limit l → step_at most s s.place l ≡ Ok t → steps limit most s (line_bytes l ∷ lines) ≡ steps limit most t lines
   step-line s t l lines is made =
-      ap (λ (o : Option Line). and_then (step_if most s o) (λ t. steps limit most t lines)) (line-again limit l narrow is) ∙ ap (λ (r : Result State CertError). and_then r (λ t. steps limit most t lines)) made
+      ap (λ (o : Option DocumentLine). and_then (step_if most s o) (λ t. steps limit most t lines)) (line-again limit l narrow is) ∙ ap (λ (r : Result DocumentState CertError). and_then r (λ t. steps limit most t lines)) made
 
-  vertices-cut : (xs ys : List (Vertex Ending)) (lines : List (List ℕ)) → map bytes_of (vertices_of (xs ++ ys)) ++ lines ≡ map bytes_of (vertices_of xs) ++ (map bytes_of (vertices_of ys) ++ lines)
+  vertices-cut : (xs ys : List (Vertex Ending)) (lines : List (List ℕ)) → map line_bytes (vertices_of (xs ++ ys)) ++ lines ≡ map line_bytes (vertices_of xs) ++ (map line_bytes (vertices_of ys) ++ lines)
   vertices-cut [] ys lines = refl
-  vertices-cut (x ∷ xs) ys lines = ap (λ z. bytes_of (OfTree x) ∷ z) (vertices-cut xs ys lines)
+  vertices-cut (x ∷ xs) ys lines = ap (λ z. line_bytes (OfTree x) ∷ z) (vertices-cut xs ys lines)
 
   -- INSTRUCTIONS
 
   -- with this many instructions to come
-  abbrev in_block : ℕ → List Document → Parts → ℕ → State
+  abbrev in_block : ℕ → List Document → Parts → ℕ → DocumentState
   in_block count documents part left = at count documents (place_of_instruction left) part left 0
 
   abbrev with_texts : Parts → List (List ℕ) → Parts
@@ -65,7 +65,7 @@ module _ (limit most : ℕ) (narrow : limit < 2 ^ 64) where
       rw (place-instruction left) (rw less refl)
 
   instructions-run : (count to : ℕ) (documents : List Document) (part : Parts) (texts : List (List ℕ)) (lines : List (List ℕ)) → AreInstructions texts → to ≡ count + length texts →
-      steps limit most (in_block count documents part (length texts)) (map bytes_of (instructions_of texts) ++ lines)
+      steps limit most (in_block count documents part (length texts)) (map line_bytes (instructions_of texts) ++ lines)
       ≡ steps limit most (in_block to documents (with_texts part texts) 0) lines
   instructions-run count to documents part [] lines are e =
       let same : to ≡ count = omega arith in
@@ -73,14 +73,14 @@ module _ (limit most : ℕ) (narrow : limit < 2 ^ 64) where
   instructions-run count to documents part (text ∷ texts) lines are e =
       let block : List (List ℕ) = part.block in
       let joined : (block ++ text ∷ []) ++ texts ≡ block ++ text ∷ texts = append_assoc block (text ∷ []) texts in
-      step-line (in_block count documents part (suc (length texts))) (in_block (suc count) documents (with_texts part (text ∷ [])) (length texts)) (Instruction text) (map bytes_of (instructions_of texts) ++ lines) are.0 (instruction-step count (length texts) documents part text)
+      step-line (in_block count documents part (suc (length texts))) (in_block (suc count) documents (with_texts part (text ∷ [])) (length texts)) (Instruction text) (map line_bytes (instructions_of texts) ++ lines) are.0 (instruction-step count (length texts) documents part text)
       ∙ instructions-run (suc count) to documents (with_texts part (text ∷ [])) texts lines are.1 (omega arith)
       ∙ ap (λ (b : List (List ℕ)). steps limit most (in_block to documents (record part { block = b }) 0) lines) joined
 
   -- THE TREE
 
   -- with this many trees to come
-  abbrev in_tree : ℕ → List Document → Parts → List (Vertex Ending) → ℕ → ℕ → State
+  abbrev in_tree : ℕ → List Document → Parts → List (Vertex Ending) → ℕ → ℕ → DocumentState
   in_tree count documents part vertices left splits = at count documents (place_of_tree left) (record part { vertices = vertices }) left splits
 
   terminal-step : (count left splits : ℕ) (documents : List Document) (part : Parts) (vertices : List (Vertex Ending)) (ending : Ending) → is_allowed part.rule (AtTerminal ending) ≡ true →
@@ -98,7 +98,7 @@ module _ (limit most : ℕ) (narrow : limit < 2 ^ 64) where
   siblings-run : (count to left here splits after : ℕ) (documents : List Document) (part : Parts) (vertices : List (Vertex Ending)) (ns : List ℕ) (siblings : Siblings Ending) (lines : List (List ℕ)) →
       SiblingsFit limit ns siblings → to ≡ count + length (flat_siblings siblings) → here ≡ length ns + left → after ≡ splits + sibling_splits siblings → after ≤ most →
       (has_dominated_line (flat_siblings siblings) ≡ true → names_nodes part.rule ≡ true) →
-      steps limit most (in_tree count documents part vertices here splits) (map bytes_of (vertices_of (flat_siblings siblings)) ++ lines)
+      steps limit most (in_tree count documents part vertices here splits) (map line_bytes (vertices_of (flat_siblings siblings)) ++ lines)
       ≡ steps limit most (in_tree to documents part (vertices ++ flat_siblings siblings) left after) lines
   siblings-run count to left here splits after documents part vertices [] NoMore lines fits e f g few named =
       let same : to ≡ count = omega arith in
@@ -112,7 +112,7 @@ module _ (limit most : ℕ) (narrow : limit < 2 ^ 64) where
       let more : here ≡ suc (length ns + left) = omega arith in
       let joined : (vertices ++ AtTerminal ending ∷ []) ++ flat_siblings siblings ≡ vertices ++ AtTerminal ending ∷ flat_siblings siblings = append_assoc vertices (AtTerminal ending ∷ []) (flat_siblings siblings) in
       rw more (
-      step-line (in_tree count documents part vertices (suc (length ns + left)) splits) (in_tree (suc count) documents part (vertices ++ AtTerminal ending ∷ []) (length ns + left) splits) (OfTree (AtTerminal ending)) (map bytes_of (vertices_of (flat_siblings siblings)) ++ lines) fits.0 (terminal-step count (length ns + left) splits documents part vertices ending (first-allowed part.rule ending (flat_siblings siblings) named))
+      step-line (in_tree count documents part vertices (suc (length ns + left)) splits) (in_tree (suc count) documents part (vertices ++ AtTerminal ending ∷ []) (length ns + left) splits) (OfTree (AtTerminal ending)) (map line_bytes (vertices_of (flat_siblings siblings)) ++ lines) fits.0 (terminal-step count (length ns + left) splits documents part vertices ending (first-allowed part.rule ending (flat_siblings siblings) named))
       ∙ siblings-run (suc count) to left (length ns + left) splits after documents part (vertices ++ AtTerminal ending ∷ []) ns siblings lines fits.1 (omega arith) refl g few (later-allowed part.rule ending (flat_siblings siblings) named)
       ∙ ap (λ (k : List (Vertex Ending)). steps limit most (in_tree to documents part k left after) lines) joined
       )
@@ -124,63 +124,63 @@ module _ (limit most : ℕ) (narrow : limit < 2 ^ 64) where
       let before : List (Vertex Ending) = vertices ++ AtSplit numbers ∷ [] in
       let joined : (before ++ flat_siblings sub) ++ flat_siblings siblings ≡ vertices ++ AtSplit numbers ∷ (flat_siblings sub ++ flat_siblings siblings) =
       append_assoc before (flat_siblings sub) (flat_siblings siblings) ∙ append_assoc vertices (AtSplit numbers ∷ []) (flat_siblings sub ++ flat_siblings siblings) in
-      let cut : map bytes_of (vertices_of (flat_siblings sub ++ flat_siblings siblings)) ++ lines ≡ map bytes_of (vertices_of (flat_siblings sub)) ++ (map bytes_of (vertices_of (flat_siblings siblings)) ++ lines) = vertices-cut (flat_siblings sub) (flat_siblings siblings) lines in
+      let cut : map line_bytes (vertices_of (flat_siblings sub ++ flat_siblings siblings)) ++ lines ≡ map line_bytes (vertices_of (flat_siblings sub)) ++ (map line_bytes (vertices_of (flat_siblings siblings)) ++ lines) = vertices-cut (flat_siblings sub) (flat_siblings siblings) lines in
       rw more (
-      step-line (in_tree count documents part vertices (suc (length ns + left)) splits) (in_tree (suc count) documents part before trees (suc splits)) (OfTree (AtSplit numbers)) (map bytes_of (vertices_of (flat_siblings sub ++ flat_siblings siblings)) ++ lines) fits.0 (split-step count (length ns + left) trees splits documents part vertices numbers (omega arith) refl)
+      step-line (in_tree count documents part vertices (suc (length ns + left)) splits) (in_tree (suc count) documents part before trees (suc splits)) (OfTree (AtSplit numbers)) (map line_bytes (vertices_of (flat_siblings sub ++ flat_siblings siblings)) ++ lines) fits.0 (split-step count (length ns + left) trees splits documents part vertices numbers (omega arith) refl)
       ∙ ap (λ (l : List (List ℕ)). steps limit most (in_tree (suc count) documents part before trees (suc splits)) l) cut
-      ∙ siblings-run (suc count) count2 (length ns + left) trees (suc splits) splits2 documents part before numbers sub (map bytes_of (vertices_of (flat_siblings siblings)) ++ lines) fits.1 refl refl refl (omega arith) (λ has. named (front-dominated (flat_siblings sub) (flat_siblings siblings) has))
+      ∙ siblings-run (suc count) count2 (length ns + left) trees (suc splits) splits2 documents part before numbers sub (map line_bytes (vertices_of (flat_siblings siblings)) ++ lines) fits.1 refl refl refl (omega arith) (λ has. named (front-dominated (flat_siblings sub) (flat_siblings siblings) has))
       ∙ siblings-run count2 to left (length ns + left) splits2 after documents part (before ++ flat_siblings sub) ns siblings lines fits.2 (omega (arith, length-append {A = Vertex Ending})) refl (omega arith) few (λ has. named (rest-dominated (flat_siblings sub) (flat_siblings siblings) has))
       ∙ ap (λ (k : List (Vertex Ending)). steps limit most (in_tree to documents part k left after) lines) joined
       )
 
   tree-run : (count : ℕ) (documents : List Document) (part : Parts) (tree : Tree Ending) (lines : List (List ℕ)) → TreeFits limit tree → splits tree ≤ most → (has_dominated tree ≡ true → names_nodes part.rule ≡ true) →
-      (to : ℕ) × (steps limit most (in_tree count documents part [] 1 0) (map bytes_of (vertices_of (flat tree)) ++ lines) ≡ steps limit most (in_tree to documents part (flat tree) 0 (splits tree)) lines)
+      (to : ℕ) × (steps limit most (in_tree count documents part [] 1 0) (map line_bytes (vertices_of (flat tree)) ++ lines) ≡ steps limit most (in_tree to documents part (flat tree) 0 (splits tree)) lines)
   tree-run count documents part (Alone ending) lines fits few named =
       (suc count, step-line (in_tree count documents part [] 1 0) (in_tree (suc count) documents part (AtTerminal ending ∷ []) 0 0) (OfTree (AtTerminal ending)) lines fits (terminal-step count 0 0 documents part [] ending (first-allowed part.rule ending [] named)))
   tree-run count documents part (Parted numbers siblings) lines fits few named =
       let trees : ℕ = length numbers + 0 in (
         suc count + length (flat_siblings siblings),
-        step-line (in_tree count documents part [] 1 0) (in_tree (suc count) documents part (AtSplit numbers ∷ []) trees 1) (OfTree (AtSplit numbers)) (map bytes_of (vertices_of (flat_siblings siblings)) ++ lines) fits.0 (split-step count 0 trees 0 documents part [] numbers (omega arith) refl)
+        step-line (in_tree count documents part [] 1 0) (in_tree (suc count) documents part (AtSplit numbers ∷ []) trees 1) (OfTree (AtSplit numbers)) (map line_bytes (vertices_of (flat_siblings siblings)) ++ lines) fits.0 (split-step count 0 trees 0 documents part [] numbers (omega arith) refl)
             ∙ siblings-run (suc count) (suc count + length (flat_siblings siblings)) 0 trees 1 (1 + sibling_splits siblings) documents part (AtSplit numbers ∷ []) numbers siblings lines fits.1 refl refl refl few named,
       )
 
   -- DOCUMENTS
 
   -- between two documents
-  abbrev between : ℕ → List Document → State
+  abbrev between : ℕ → List Document → DocumentState
   between count documents = at count documents AtHeader nothing 0 0
 
   abbrev heading : Document → Parts
   heading d = record { rule = d.rule; profile = d.profile; block = d.block; time = d.time; bound = d.bound; numbers = d.numbers; vertices = [] }
 
-  lines-cut : (xs ys : List Line) (lines : List (List ℕ)) → map bytes_of (xs ++ ys) ++ lines ≡ map bytes_of xs ++ (map bytes_of ys ++ lines)
-  lines-cut xs ys lines = ap (λ (front : List (List ℕ)). front ++ lines) (map-append bytes_of xs ys) ∙ append_assoc (map bytes_of xs) (map bytes_of ys) lines
+  lines-cut : (xs ys : List DocumentLine) (lines : List (List ℕ)) → map line_bytes (xs ++ ys) ++ lines ≡ map line_bytes xs ++ (map line_bytes ys ++ lines)
+  lines-cut xs ys lines = ap (λ (front : List (List ℕ)). front ++ lines) (map-append line_bytes xs ys) ∙ append_assoc (map line_bytes xs) (map line_bytes ys) lines
 
   -- PROFILE, BLOCK and the header, the instructions, and TIME, BOUND and ORDER
   heading-run : (count : ℕ) (documents : List Document) (d : Document) (other : Rule) (lines : List (List ℕ)) → IsDocumentWithin limit most (record d { rule = other }) →
-      (to : ℕ) × (steps limit most (between count documents) (map bytes_of (Header d.rule ∷ Profile d.profile ∷ Block (length d.block) ∷ (instructions_of d.block ++ Time d.time ∷ Bound d.bound ∷ Order d.numbers ∷ [])) ++ lines) ≡ steps limit most (in_tree to documents (heading d) [] 1 0) lines)
+      (to : ℕ) × (steps limit most (between count documents) (map line_bytes (Header d.rule ∷ Profile d.profile ∷ Block (length d.block) ∷ (instructions_of d.block ++ Time d.time ∷ Bound d.bound ∷ Order d.numbers ∷ [])) ++ lines) ≡ steps limit most (in_tree to documents (heading d) [] 1 0) lines)
   heading-run count documents d other lines is =
-      let rest : List Line = Time d.time ∷ Bound d.bound ∷ Order d.numbers ∷ [] in
+      let rest : List DocumentLine = Time d.time ∷ Bound d.bound ∷ Order d.numbers ∷ [] in
       let part0 : Parts = record nothing { rule = d.rule } in
       let part1 : Parts = record part0 { profile = d.profile } in
       let part2 : Parts = record part1 { block = d.block } in
       let part3 : Parts = record part2 { time = d.time } in
       let part4 : Parts = record part3 { bound = d.bound } in
       let to : ℕ = suc (suc (suc count)) + length d.block in
-      let after : List (List ℕ) = map bytes_of rest ++ lines in
-      let body : List (List ℕ) = map bytes_of (instructions_of d.block ++ rest) ++ lines in
-      let in_order : State = in_block (suc (suc (suc count))) documents part1 (length d.block) in
-      let begin : steps limit most in_order (map bytes_of (instructions_of d.block ++ rest) ++ lines) ≡ steps limit most (in_block to documents part2 0) after =
+      let after : List (List ℕ) = map line_bytes rest ++ lines in
+      let body : List (List ℕ) = map line_bytes (instructions_of d.block ++ rest) ++ lines in
+      let in_order : DocumentState = in_block (suc (suc (suc count))) documents part1 (length d.block) in
+      let begin : steps limit most in_order (map line_bytes (instructions_of d.block ++ rest) ++ lines) ≡ steps limit most (in_block to documents part2 0) after =
       ap (λ (l : List (List ℕ)). steps limit most in_order l) (lines-cut (instructions_of d.block) rest lines)
       ∙ instructions-run (suc (suc (suc count))) to documents part1 d.block after is.block.2 refl in
       let placed : AtInstruction ≡ place_of_instruction (length d.block) = sym (some-place d.block is.block.0) in (
         suc (suc (suc to)),
-        step-line (between count documents) (at (suc count) documents AtProfile part0 0 0) (Header d.rule) (bytes_of (Profile d.profile) ∷ bytes_of (Block (length d.block)) ∷ body) tt refl
-            ∙ step-line (at (suc count) documents AtProfile part0 0 0) (at (suc (suc count)) documents AtBlock part1 0 0) (Profile d.profile) (bytes_of (Block (length d.block)) ∷ body) is.profile refl
+        step-line (between count documents) (at (suc count) documents AtProfile part0 0 0) (Header d.rule) (line_bytes (Profile d.profile) ∷ line_bytes (Block (length d.block)) ∷ body) tt refl
+            ∙ step-line (at (suc count) documents AtProfile part0 0 0) (at (suc (suc count)) documents AtBlock part1 0 0) (Profile d.profile) (line_bytes (Block (length d.block)) ∷ body) is.profile refl
             ∙ step-line (at (suc (suc count)) documents AtBlock part1 0 0) in_order (Block (length d.block)) body (is.block.0, is.block.1) (rw (← placed) refl)
             ∙ begin
-            ∙ step-line (at to documents AtTime part2 0 0) (at (suc to) documents AtBound part3 0 0) (Time d.time) (bytes_of (Bound d.bound) ∷ bytes_of (Order d.numbers) ∷ lines) is.time refl
-            ∙ step-line (at (suc to) documents AtBound part3 0 0) (at (suc (suc to)) documents AtOrder part4 0 0) (Bound d.bound) (bytes_of (Order d.numbers) ∷ lines) is.bound refl
+            ∙ step-line (at to documents AtTime part2 0 0) (at (suc to) documents AtBound part3 0 0) (Time d.time) (line_bytes (Bound d.bound) ∷ line_bytes (Order d.numbers) ∷ lines) is.time refl
+            ∙ step-line (at (suc to) documents AtBound part3 0 0) (at (suc (suc to)) documents AtOrder part4 0 0) (Bound d.bound) (line_bytes (Order d.numbers) ∷ lines) is.bound refl
             ∙ step-line (at (suc (suc to)) documents AtOrder part4 0 0) (in_tree (suc (suc (suc to))) documents (heading d) [] 1 0) (Order d.numbers) lines is.numbers refl,
       )
     where
@@ -191,24 +191,24 @@ module _ (limit most : ℕ) (narrow : limit < 2 ^ 64) where
   -- all but the last line of a document, by any rule that names nodes if a leaf is dominated
   pub open-run : (count : ℕ) (documents : List Document) (d : Document) (other : Rule) (lines : List (List ℕ)) → IsDocumentWithin limit most (record d { rule = other }) →
       (has_dominated d.tree ≡ true → names_nodes d.rule ≡ true) →
-      (to : ℕ) × (steps limit most (between count documents) (map bytes_of (open_lines d) ++ lines) ≡ steps limit most (in_tree to documents (heading d) (flat d.tree) 0 (splits d.tree)) lines)
+      (to : ℕ) × (steps limit most (between count documents) (map line_bytes (open_lines d) ++ lines) ≡ steps limit most (in_tree to documents (heading d) (flat d.tree) 0 (splits d.tree)) lines)
   open-run count documents d other lines is named =
-      let front : List Line = Header d.rule ∷ Profile d.profile ∷ Block (length d.block) ∷ (instructions_of d.block ++ Time d.time ∷ Bound d.bound ∷ Order d.numbers ∷ []) in
+      let front : List DocumentLine = Header d.rule ∷ Profile d.profile ∷ Block (length d.block) ∷ (instructions_of d.block ++ Time d.time ∷ Bound d.bound ∷ Order d.numbers ∷ []) in
       let whole : open_lines d ≡ front ++ vertices_of (flat d.tree) =
-      ap (λ (l : List Line). Header d.rule ∷ Profile d.profile ∷ Block (length d.block) ∷ l) (sym (append_assoc (instructions_of d.block) (Time d.time ∷ Bound d.bound ∷ Order d.numbers ∷ []) (vertices_of (flat d.tree)))) in
-      let one = heading-run count documents d other (map bytes_of (vertices_of (flat d.tree)) ++ lines) is in
+      ap (λ (l : List DocumentLine). Header d.rule ∷ Profile d.profile ∷ Block (length d.block) ∷ l) (sym (append_assoc (instructions_of d.block) (Time d.time ∷ Bound d.bound ∷ Order d.numbers ∷ []) (vertices_of (flat d.tree)))) in
+      let one = heading-run count documents d other (map line_bytes (vertices_of (flat d.tree)) ++ lines) is in
       let two = tree-run one.0 documents (heading d) d.tree lines is.tree is.splits named in (
         two.0,
-        ap (λ (l : List Line). steps limit most (between count documents) (map bytes_of l ++ lines)) whole
+        ap (λ (l : List DocumentLine). steps limit most (between count documents) (map line_bytes l ++ lines)) whole
             ∙ ap (λ (l : List (List ℕ)). steps limit most (between count documents) l) (lines-cut front (vertices_of (flat d.tree)) lines)
             ∙ one.1 ∙ two.1,
       )
 
   document-run : (count : ℕ) (documents : List Document) (d : Document) (lines : List (List ℕ)) → IsDocumentWithin limit most d →
-      (to : ℕ) × (steps limit most (between count documents) (map bytes_of (document_lines d) ++ lines) ≡ steps limit most (between to (documents ++ d ∷ [])) lines)
+      (to : ℕ) × (steps limit most (between count documents) (map line_bytes (document_lines d) ++ lines) ≡ steps limit most (between to (documents ++ d ∷ [])) lines)
   document-run count documents d lines is =
-      let run = open-run count documents d d.rule (bytes_of End ∷ lines) is (λ has. is.rule ∙ has) in
-      let same : tree_of (flat d.tree) ≡ d.tree = tree-again limit d.tree is.tree in
+      let run = open-run count documents d d.rule (line_bytes End ∷ lines) is (λ has. is.rule ∙ has) in
+      let same : tree_of_lines (flat d.tree) ≡ d.tree = tree-again limit d.tree is.tree in
       let none : wants_dominated (record (heading d) { vertices = flat d.tree }) ≡ false = not-wanting (names_nodes d.rule) (has_dominated d.tree) is.rule in (
         suc run.0,
         ap (λ (l : List (List ℕ)). steps limit most (between count documents) l) (lines-cut (open_lines d) (End ∷ []) lines)
@@ -217,10 +217,10 @@ module _ (limit most : ℕ) (narrow : limit < 2 ^ 64) where
       )
 
   pub documents-run : (count : ℕ) (documents ds : List Document) (lines : List (List ℕ)) → AreDocumentsWithin limit most ds →
-      (to : ℕ) × (steps limit most (between count documents) (map bytes_of (documents_lines ds) ++ lines) ≡ steps limit most (between to (documents ++ ds)) lines)
+      (to : ℕ) × (steps limit most (between count documents) (map line_bytes (documents_lines ds) ++ lines) ≡ steps limit most (between to (documents ++ ds)) lines)
   documents-run count documents [] lines are = (count, ap (λ (l : List Document). steps limit most (between count l) lines) (sym (append-nil documents)))
   documents-run count documents (d ∷ ds) lines are =
-      let one = document-run count documents d (map bytes_of (documents_lines ds) ++ lines) are.0 in
+      let one = document-run count documents d (map line_bytes (documents_lines ds) ++ lines) are.0 in
       let two = documents-run one.0 (documents ++ d ∷ []) ds lines are.1 in (
         two.0,
         ap (λ (l : List (List ℕ)). steps limit most (between count documents) l) (lines-cut (document_lines d) (documents_lines ds) lines)

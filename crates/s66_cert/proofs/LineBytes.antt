@@ -12,8 +12,8 @@ use Rattle.s66_model.specs.Leaves.{Whole, Chain, Load, Parcels}
 use Rattle.s66_model.specs.Tree.{Tree, Alone, Parted, Siblings, NoMore, Unsplit, Split, Vertex, AtTerminal, AtSplit, flat, flat_siblings}
 use Rattle.s66_model.specs.DominatedLeaves.{Ending, Bounding, Dominated}
 use Rattle.s66_cert.specs.Document.{Document, IsDocumentWithin, AreDocumentsWithin, AreIn, AreInstructions, SiblingsFit, TreeFits, kind_name, version}
-use Rattle.s66_cert.specs.Faults.{IsLine, AreLines}
-use Rattle.s66_cert.specs.Lines.{Line, Header, Profile, Block, Instruction, Time, Bound, Order, OfTree, End, bytes_of, IsInRange}
+use Rattle.s66_cert.specs.Faults.{IsLine, HaveNoNewline}
+use Rattle.s66_cert.specs.Lines.{DocumentLine, Header, Profile, Block, Instruction, Time, Bound, Order, OfTree, End, line_bytes, IsLineInRange}
 use Rattle.s66_cert.proofs.DocumentLines.{documents_lines, document_lines, open_lines, instructions_of, vertices_of}
 use Rattle.s66_cert.proofs.NumberTexts.{decimal-clear}
 
@@ -38,7 +38,7 @@ version-narrow NoneNamed = omega arith
 version-narrow WrittenEarlier = omega arith
 version-narrow ClampedStanding = omega arith
 
-pub is-line : (limit : ℕ) (l : Line) → limit < 2 ^ 64 → IsInRange limit l → IsLine (bytes_of l)
+pub is-line : (limit : ℕ) (l : DocumentLine) → limit < 2 ^ 64 → IsLineInRange limit l → IsLine (line_bytes l)
 is-line limit (Header rule) narrow is = decimal-line (version rule) (version-narrow rule)
 is-line limit (Profile numbers) narrow is = after_blanks-line 1 100 numbers (omega arith) is.1
 is-line limit (Block count) narrow is = decimal-line count (omega (arith, narrow, is.1))
@@ -56,11 +56,11 @@ is-line limit End narrow is = refl
 
 -- ALL LINES OF A DOCUMENT
 
-abbrev AreInRange : ℕ → List Line → Type 0
+abbrev AreInRange : ℕ → List DocumentLine → Type 0
 AreInRange limit [] = Unit {0}
-AreInRange limit (l ∷ ls) = IsInRange limit l × AreInRange limit ls
+AreInRange limit (l ∷ ls) = IsLineInRange limit l × AreInRange limit ls
 
-range-append : (limit : ℕ) (xs ys : List Line) → AreInRange limit xs → AreInRange limit ys → AreInRange limit (xs ++ ys)
+range-append : (limit : ℕ) (xs ys : List DocumentLine) → AreInRange limit xs → AreInRange limit ys → AreInRange limit (xs ++ ys)
 range-append limit [] ys h k = k
 range-append limit (x ∷ xs) ys h k = (h.0, range-append limit xs ys h.1 k)
 
@@ -96,12 +96,12 @@ documents-range : (limit most : ℕ) (ds : List Document) → AreDocumentsWithin
 documents-range limit most [] are = tt
 documents-range limit most (d ∷ ds) are = range-append limit (document_lines d) (documents_lines ds) (document-range limit most d are.0) (documents-range limit most ds are.1)
 
-range-lines : (limit : ℕ) (ls : List Line) → limit < 2 ^ 64 → AreInRange limit ls → AreLines (map bytes_of ls)
+range-lines : (limit : ℕ) (ls : List DocumentLine) → limit < 2 ^ 64 → AreInRange limit ls → HaveNoNewline (map line_bytes ls)
 range-lines limit [] narrow are = tt
 range-lines limit (l ∷ ls) narrow are = (is-line limit l narrow are.0, range-lines limit ls narrow are.1)
 
-pub lines-of-open : (limit most : ℕ) (d : Document) (other : Rule) → limit < 2 ^ 64 → IsDocumentWithin limit most (record d { rule = other }) → AreLines (map bytes_of (open_lines d))
+pub lines-of-open : (limit most : ℕ) (d : Document) (other : Rule) → limit < 2 ^ 64 → IsDocumentWithin limit most (record d { rule = other }) → HaveNoNewline (map line_bytes (open_lines d))
 lines-of-open limit most d other narrow is = range-lines limit (open_lines d) narrow (open-range limit most d other is)
 
-pub lines-of-documents : (limit most : ℕ) (ds : List Document) → limit < 2 ^ 64 → AreDocumentsWithin limit most ds → AreLines (map bytes_of (documents_lines ds))
+pub lines-of-documents : (limit most : ℕ) (ds : List Document) → limit < 2 ^ 64 → AreDocumentsWithin limit most ds → HaveNoNewline (map line_bytes (documents_lines ds))
 lines-of-documents limit most ds narrow are = range-lines limit (documents_lines ds) narrow (documents-range limit most ds are)

@@ -19,7 +19,7 @@ use Rattle.s66_model.specs.DominatedLeaves.{Bounding, Dominated}
 use Rattle.s66_cert.specs.Document.{AreIn, AreNumbers, kind_name, version}
 use Rattle.s66_isa.specs.declared.limits.TheConstants.{PROFILE_LENGTH, PROFILE_LIMIT}
 use Rattle.s66_cert.specs.declared.limits.TheConstants.{TIME_LIMIT}
-use Rattle.s66_cert.specs.Lines.{Line, Header, Profile, Block, Instruction, Time, Bound, Order, OfTree, End, bytes_of, IsInRange, first_word, after_word, words_in, numbers_in, number_in, if_count, block_numbers, one_number, is_instruction, instruction_in, kind_in, alone, header_in, line_with, line_of}
+use Rattle.s66_cert.specs.Lines.{DocumentLine, Header, Profile, Block, Instruction, Time, Bound, Order, OfTree, End, line_bytes, IsLineInRange, first_word, after_first_word, words_in, numbers_in, number_in, if_count, block_numbers, one_number, is_instruction_text, instruction_in, kind_in, alone, header_in, line_with, line_read}
 use Rattle.s66_cert.proofs.NumberTexts.{number-again, number-is}
 use Rattle.s66_cert.proofs.Spelled.{instruction-again, instruction-is}
 use Rattle.s66_cert.proofs.Words.{tail_of, joined, words-after_blanks, numbers-again, numbers-are}
@@ -62,12 +62,12 @@ header-again NoneNamed = refl
 header-again WrittenEarlier = refl
 header-again ClampedStanding = refl
 
-pub line-again : (limit : ℕ) (l : Line) → limit < 2 ^ 64 → IsInRange limit l → line_of limit (bytes_of l) ≡ Some l
-line-again limit (Header rule) narrow is = ap (λ (digit : List ℕ). line_of limit (codes "S66 CERTIFICATE " ++ digit)) (version-digit rule) ∙ header-again rule
+pub line-again : (limit : ℕ) (l : DocumentLine) → limit < 2 ^ 64 → IsLineInRange limit l → line_read limit (line_bytes l) ≡ Some l
+line-again limit (Header rule) narrow is = ap (λ (digit : List ℕ). line_read limit (codes "S66 CERTIFICATE " ++ digit)) (version-digit rule) ∙ header-again rule
 line-again limit (Profile []) narrow is = absurd (omega (arith, is.0))
 line-again limit (Profile (n ∷ ns)) narrow is = ap (option_map Profile) (list-again 1 PROFILE_LIMIT PROFILE_LENGTH PROFILE_LENGTH n ns (omega arith) is.1 (omega (arith, is.0)) (omega (arith, is.0)))
 line-again limit (Block count) narrow is = ap (option_map Block) (number-again 1 limit count (omega (arith, narrow, is.1)) is.0 is.1)
-line-again limit (Instruction text) narrow is = cond-true (is_instruction text) (Some (Instruction text)) None (instruction-again text is)
+line-again limit (Instruction text) narrow is = cond-true (is_instruction_text text) (Some (Instruction text)) None (instruction-again text is)
 line-again limit (Time time) narrow is = ap (option_map Time) (number-again 0 TIME_LIMIT time (omega (arith, is)) (omega arith) is)
 line-again limit (Bound bound) narrow is = ap (option_map Bound) (number-again 0 TIME_LIMIT bound (omega (arith, is)) (omega arith) is)
 line-again limit (Order []) narrow is = absurd (omega (arith, is.0))
@@ -86,8 +86,8 @@ line-again limit End narrow is = refl
 -- AND NOTHING ELSE
 
 -- it stands for a line that is in range and written so
-abbrev Spells : ℕ → List ℕ → Line → Type 0
-Spells limit bytes l = (bytes ≡ bytes_of l) × IsInRange limit l
+abbrev Spells : ℕ → List ℕ → DocumentLine → Type 0
+Spells limit bytes l = (bytes ≡ line_bytes l) × IsLineInRange limit l
 
 if_count-is : (few many : ℕ) (read : Option (List ℕ)) (ns : List ℕ) → if_count few many read ≡ Some ns → (read ≡ Some ns) × (few ≤ length ns) × (length ns ≤ many)
 if_count-is few many None ns h = absurd (cc)
@@ -105,11 +105,11 @@ list-is low high few many rest ns fits h =
     let are = numbers-are low high rest ns fits count.0 in
     (are.0, count.1, count.2, are.1)
 
-map-is : {X : Type 0} (f : X → Line) (read : Option X) (l : Line) → option_map f read ≡ Some l → (x : X) × (read ≡ Some x) × (f x ≡ l)
+map-is : {X : Type 0} (f : X → DocumentLine) (read : Option X) (l : DocumentLine) → option_map f read ≡ Some l → (x : X) × (read ≡ Some x) × (f x ≡ l)
 map-is f None l h = absurd (cc)
 map-is f (Some x) l h = (x, refl, (cc))
 
-alone-is : (line : Line) (rest : Option (List ℕ)) (l : Line) → alone line rest ≡ Some l → (tail_of rest ≡ []) × (line ≡ l)
+alone-is : (line : DocumentLine) (rest : Option (List ℕ)) (l : DocumentLine) → alone line rest ≡ Some l → (tail_of rest ≡ []) × (line ≡ l)
 alone-is line None l h = (refl, (cc))
 alone-is line (Some r) l h = absurd (cc)
 
@@ -133,7 +133,7 @@ kind-is (Some name) kind h =
         by true stated h = let e : this ≡ kind = (cc) in hit (stated refl) ∙ ap (λ k. 32 ∷ kind_name k) e
         by false stated h = miss h
 
-named : (name key : List ℕ) (x y : Option Line) (l : Line) (P : Type 0) → (name ≡ key → x ≡ Some l → P) → (y ≡ Some l → P) → cond (bytes_eq name key) x y ≡ Some l → P
+named : (name key : List ℕ) (x y : Option DocumentLine) (l : DocumentLine) (P : Type 0) → (name ≡ key → x ≡ Some l → P) → (y ≡ Some l → P) → cond (bytes_eq name key) x y ≡ Some l → P
 named name key x y l P hit miss h = by (bytes_eq name key) (bytes_eq-Decides name key).0 h
   where
     by : (test : Bool) → (test ≡ true → name ≡ key) → cond test x y ≡ Some l → P
@@ -141,39 +141,39 @@ named name key x y l P hit miss h = by (bytes_eq name key) (bytes_eq-Decides nam
     by false stated h = miss h
 
 -- a line of one word
-word-line : (limit : ℕ) (name key : List ℕ) (rest : Option (List ℕ)) (line l : Line) → bytes_of line ≡ key → IsInRange limit line → name ≡ key → alone line rest ≡ Some l → Spells limit (name ++ tail_of rest) l
+word-line : (limit : ℕ) (name key : List ℕ) (rest : Option (List ℕ)) (line l : DocumentLine) → line_bytes line ≡ key → IsLineInRange limit line → name ≡ key → alone line rest ≡ Some l → Spells limit (name ++ tail_of rest) l
 word-line limit name key rest line l written range same h =
     let is = alone-is line rest l h in
     rw (← is.1) (ap (λ x. x ++ tail_of rest) same ∙ ap (λ x. key ++ x) is.0 ∙ append-nil key ∙ sym written, range)
 
 -- a line of a word and numbers
-list-line : (limit low high few many : ℕ) (name key : List ℕ) (rest : Option (List ℕ)) (f : List ℕ → Line) (l : Line) → high < 2 ^ 64 → ((ns : List ℕ) → bytes_of (f ns) ≡ key ++ after_blanks ns) →
-    ((ns : List ℕ) → few ≤ length ns → length ns ≤ many → AreIn low high ns → IsInRange limit (f ns)) → name ≡ key → option_map f (if_count few many (numbers_in low high (words_in rest))) ≡ Some l → Spells limit (name ++ tail_of rest) l
+list-line : (limit low high few many : ℕ) (name key : List ℕ) (rest : Option (List ℕ)) (f : List ℕ → DocumentLine) (l : DocumentLine) → high < 2 ^ 64 → ((ns : List ℕ) → line_bytes (f ns) ≡ key ++ after_blanks ns) →
+    ((ns : List ℕ) → few ≤ length ns → length ns ≤ many → AreIn low high ns → IsLineInRange limit (f ns)) → name ≡ key → option_map f (if_count few many (numbers_in low high (words_in rest))) ≡ Some l → Spells limit (name ++ tail_of rest) l
 list-line limit low high few many name key rest f l fits written range same h =
     let (ns, read, e) = map-is f (if_count few many (numbers_in low high (words_in rest))) l h in
     let is = list-is low high few many rest ns fits read in
     rw (← e) (ap (λ x. x ++ tail_of rest) same ∙ ap (λ x. key ++ x) is.0 ∙ sym (written ns), range ns is.1 is.2 is.3)
 
-number-line : (limit low high : ℕ) (name key : List ℕ) (rest : Option (List ℕ)) (f : ℕ → Line) (l : Line) → high < 2 ^ 64 → ((n : ℕ) → bytes_of (f n) ≡ key ++ 32 ∷ decimal n) →
-    ((n : ℕ) → low ≤ n → n ≤ high → IsInRange limit (f n)) → name ≡ key → option_map f (one_number low high rest) ≡ Some l → Spells limit (name ++ tail_of rest) l
+number-line : (limit low high : ℕ) (name key : List ℕ) (rest : Option (List ℕ)) (f : ℕ → DocumentLine) (l : DocumentLine) → high < 2 ^ 64 → ((n : ℕ) → line_bytes (f n) ≡ key ++ 32 ∷ decimal n) →
+    ((n : ℕ) → low ≤ n → n ≤ high → IsLineInRange limit (f n)) → name ≡ key → option_map f (one_number low high rest) ≡ Some l → Spells limit (name ++ tail_of rest) l
 number-line limit low high name key None f l fits written range same h = absurd (cc)
 number-line limit low high name key (Some r) f l fits written range same h =
     let (n, read, e) = map-is f (number_in low high r) l h in
     let is = number-is low high n r fits read in
     rw (← e) (ap (λ x. x ++ 32 ∷ r) same ∙ ap (λ x. key ++ 32 ∷ x) is.0 ∙ sym (written n), range n is.1 is.2)
 
-load-line : (limit : ℕ) (name : List ℕ) (rest : Option (List ℕ)) (l : Line) → name ≡ codes "U" → option_map (λ kind. OfTree (AtTerminal (Bounding (Load kind)))) (kind_in rest) ≡ Some l → Spells limit (name ++ tail_of rest) l
+load-line : (limit : ℕ) (name : List ℕ) (rest : Option (List ℕ)) (l : DocumentLine) → name ≡ codes "U" → option_map (λ kind. OfTree (AtTerminal (Bounding (Load kind)))) (kind_in rest) ≡ Some l → Spells limit (name ++ tail_of rest) l
 load-line limit name rest l same h =
     let (kind, read, e) = map-is (λ kind. OfTree (AtTerminal (Bounding (Load kind)))) (kind_in rest) l h in
     rw (← e) (ap (λ x. x ++ tail_of rest) same ∙ ap (λ x. codes "U" ++ x) (kind-is rest kind read), tt)
 
-instruction-line : (limit : ℕ) (name : List ℕ) (rest : Option (List ℕ)) (l : Line) → name ≡ codes "I" → instruction_in rest ≡ Some l → Spells limit (name ++ tail_of rest) l
+instruction-line : (limit : ℕ) (name : List ℕ) (rest : Option (List ℕ)) (l : DocumentLine) → name ≡ codes "I" → instruction_in rest ≡ Some l → Spells limit (name ++ tail_of rest) l
 instruction-line limit name None l same h = absurd (cc)
 instruction-line limit name (Some text) l same h =
-    let got = cond_some (is_instruction text) (Instruction text) l h in
+    let got = cond_some (is_instruction_text text) (Instruction text) l h in
     rw (← got.1) (ap (λ x. x ++ 32 ∷ text) same, instruction-is text got.0)
 
-header-line : (limit : ℕ) (name : List ℕ) (rest : Option (List ℕ)) (l : Line) → name ≡ codes "S66" → header_in rest ≡ Some l → Spells limit (name ++ tail_of rest) l
+header-line : (limit : ℕ) (name : List ℕ) (rest : Option (List ℕ)) (l : DocumentLine) → name ≡ codes "S66" → header_in rest ≡ Some l → Spells limit (name ++ tail_of rest) l
 header-line limit name None l same h = absurd (cc)
 header-line limit name (Some r) l same h =
     let P : Type 0 = Spells limit (name ++ 32 ∷ r) l in
@@ -186,7 +186,7 @@ header-line limit name (Some r) l same h =
         let e : Header rule ≡ l = (cc) in
         rw (← e) (ap (λ x. x ++ 32 ∷ r) same ∙ ap (λ x. codes "S66 " ++ x) is ∙ sym (ap (λ digit. codes "S66 CERTIFICATE " ++ digit) (version-digit rule)), tt)
 
-with-is : (limit : ℕ) (name : List ℕ) (rest : Option (List ℕ)) (l : Line) → limit < 2 ^ 64 → line_with limit name rest ≡ Some l → Spells limit (name ++ tail_of rest) l
+with-is : (limit : ℕ) (name : List ℕ) (rest : Option (List ℕ)) (l : DocumentLine) → limit < 2 ^ 64 → line_with limit name rest ≡ Some l → Spells limit (name ++ tail_of rest) l
 with-is limit name rest l narrow h =
     let P : Type 0 = Spells limit (name ++ tail_of rest) l in
     named name (codes "T") _ _ l P (word-line limit name (codes "T") rest (OfTree (AtTerminal (Bounding Whole))) l refl tt)
@@ -204,5 +204,5 @@ with-is limit name rest l narrow h =
     (named name (codes "ORDER") _ _ l P (list-line limit 1 limit 1 limit name (codes "ORDER") rest Order l narrow (λ ns. refl) (λ ns a b are. (a, b, are)))
     (named name (codes "END") _ _ l P (word-line limit name (codes "END") rest End l refl tt) (λ no. absurd (cc))))))))))))))) h
 
-pub line-is : (limit : ℕ) (bytes : List ℕ) (l : Line) → limit < 2 ^ 64 → line_of limit bytes ≡ Some l → (bytes ≡ bytes_of l) × IsInRange limit l
-line-is limit bytes l narrow h = let is = with-is limit (first_word bytes) (after_word bytes) l narrow h in (sym (joined bytes) ∙ is.0, is.1)
+pub line-is : (limit : ℕ) (bytes : List ℕ) (l : DocumentLine) → limit < 2 ^ 64 → line_read limit bytes ≡ Some l → (bytes ≡ line_bytes l) × IsLineInRange limit l
+line-is limit bytes l narrow h = let is = with-is limit (first_word bytes) (after_first_word bytes) l narrow h in (sym (joined bytes) ∙ is.0, is.1)

@@ -6,8 +6,8 @@ use Rattle.s66_model.specs.Tree.{Siblings, NoMore, Unsplit, Split, Vertex, AtTer
 use Rattle.s66_model.specs.DominatedLeaves.{Ending}
 use Rattle.s66_model.specs.NodeNames.{sibling_at, node_at}
 use Rattle.s66_model.specs.Preorder.{first_siblings, later_siblings, forest}
-use Rattle.s66_cert.specs.DocumentParts.{tree_of}
-use Rattle.s66_cert.specs.NodePlaces.{trees_from, IsEnd, AreEnds, end_behind, sibling_count, tree_at, IsChildAt}
+use Rattle.s66_cert.specs.DocumentParts.{tree_of_lines}
+use Rattle.s66_cert.specs.NodePlaces.{trees_from, IsEnd, AreTreeEnds, end_behind, sibling_count, tree_at, IsChildAt}
 
 -- TREES BEHIND OTHERS
 
@@ -20,7 +20,7 @@ later-next n ns NoMore = sym (later-none ns)
 later-next n ns (Unsplit ending siblings) = refl
 later-next n ns (Split numbers sub siblings) = refl
 
-module _ (first : ℕ) (ends : List ℕ) (vertices : List (Vertex Ending)) (are : AreEnds first ends vertices) where
+module _ (first : ℕ) (ends : List ℕ) (vertices : List (Vertex Ending)) (are : AreTreeEnds first ends vertices) where
   -- a jump from a line, and from after the last
   jump-from : (place : ℕ) → first ≤ place → place < length vertices → IsEnd vertices place (get_or ends place place)
   jump-from place le lt = subst (IsEnd vertices place) (get_or_default ends place 0 place (omega (arith, lt, are.count))) (are.each place le lt)
@@ -52,14 +52,14 @@ module _ (first : ℕ) (ends : List ℕ) (vertices : List (Vertex Ending)) (are 
       by later (inr past) = rw (no-jump place past) (later place le within)
 
 -- what is read of the ends
-pub end-read : (ends : List ℕ) (vertices : List (Vertex Ending)) (place end : ℕ) → AreEnds 0 ends vertices → place < length vertices → end ≡ get_or ends place end → IsEnd vertices place end
+pub end-read : (ends : List ℕ) (vertices : List (Vertex Ending)) (place end : ℕ) → AreTreeEnds 0 ends vertices → place < length vertices → end ≡ get_or ends place end → IsEnd vertices place end
 end-read ends vertices place end are lt read =
     subst (IsEnd vertices place) (sym (read ∙ get_or_default ends place end 0 (omega (arith, lt, are.count)))) (are.each place (omega arith) lt)
 
 -- FROM THE LAST LINE TO THE FIRST
 
 -- the end of a line's tree, by the ends of those after it
-pub end-here : (place : ℕ) (ends : List ℕ) (vertices : List (Vertex Ending)) (vertex : Vertex Ending) → AreEnds (place + 1) ends vertices → place < length vertices → drop place vertices ≡ vertex ∷ drop (place + 1) vertices →
+pub end-here : (place : ℕ) (ends : List ℕ) (vertices : List (Vertex Ending)) (vertex : Vertex Ending) → AreTreeEnds (place + 1) ends vertices → place < length vertices → drop place vertices ≡ vertex ∷ drop (place + 1) vertices →
     IsEnd vertices place (end_behind ends (sibling_count vertex) (place + 1))
 end-here place ends vertices (AtTerminal ending) are lt next = record {
   behind = omega arith;
@@ -74,7 +74,7 @@ end-here place ends vertices (AtSplit numbers) are lt next =
       others = jumped (place + 1) ends vertices are (place + 1) numbers (omega arith) ∙ rw next refl;
     }
 
-pub ends-more : (place end : ℕ) (ends : List ℕ) (vertices : List (Vertex Ending)) → AreEnds (place + 1) ends vertices → place < length vertices → IsEnd vertices place end → AreEnds place (set ends place end) vertices
+pub ends-more : (place end : ℕ) (ends : List ℕ) (vertices : List (Vertex Ending)) → AreTreeEnds (place + 1) ends vertices → place < length vertices → IsEnd vertices place end → AreTreeEnds place (set ends place end) vertices
 ends-more place end ends vertices are lt is = record {
   count = length-set ends place end ∙ are.count;
   each = λ p le within. by p le within (cases_eq p place);
@@ -84,7 +84,7 @@ ends-more place end ends vertices are lt is = record {
     by p le within (inl same) = rw (same, get_or-set_same ends place end 0 (omega (arith, lt, are.count))) is
     by p le within (inr other) = rw (get_or-set_other ends place p end 0 other) (are.each p (omega (arith, le, other)) within)
 
-pub ends-none : (ends : List ℕ) (vertices : List (Vertex Ending)) (past : ℕ) → length ends ≡ length vertices → length vertices ≤ past → AreEnds past ends vertices
+pub ends-none : (ends : List ℕ) (vertices : List (Vertex Ending)) (past : ℕ) → length ends ≡ length vertices → length vertices ≤ past → AreTreeEnds past ends vertices
 ends-none ends vertices past count le = record { count = count; each = λ place from within. absurd (omega (arith, from, within, le)) }
 
 -- FROM A LINE TO ITS CHILDREN
@@ -97,7 +97,7 @@ IsOnTheWay vertices place number numbers sibling =
 pub way-first : (vertices : List (Vertex Ending)) (place number : ℕ) (numbers : List ℕ) → drop place vertices ≡ AtSplit numbers ∷ drop (place + 1) vertices → IsOnTheWay vertices place number numbers (place + 1)
 way-first vertices place number numbers next = λ path. rw next refl
 
-sibling-found : (m number : ℕ) (ms path : List ℕ) (vertices : List (Vertex Ending)) → 0 < length vertices → m ≡ number → sibling_at (m ∷ ms) (first_siblings (m ∷ ms) (forest vertices)) (number ∷ path) ≡ node_at [] (tree_of vertices) path
+sibling-found : (m number : ℕ) (ms path : List ℕ) (vertices : List (Vertex Ending)) → 0 < length vertices → m ≡ number → sibling_at (m ∷ ms) (first_siblings (m ∷ ms) (forest vertices)) (number ∷ path) ≡ node_at [] (tree_of_lines vertices) path
 sibling-found m number ms path [] some e = absurd (omega (arith, some))
 sibling-found m number ms path (AtTerminal ending ∷ vertices) some e = rw (eq-eqb m number e) refl
 sibling-found m number ms path (AtSplit numbers ∷ vertices) some e = rw (eq-eqb m number e) refl

@@ -8,68 +8,68 @@ use Rattle.s66_model.specs.DominatedLeaves.{Ending, Bounding, Dominated}
 use Rattle.s66_cert.specs.Fine.{Leave, split_count, IsPart, IsFine}
 use Rattle.s66_cert.specs.Lines.{Header, Profile, Block, Instruction, Time, Bound, Order, OfTree, End}
 use Rattle.s66_cert.specs.DocumentParts.{AreWhole}
-use Rattle.s66_cert.specs.Reading.{State, is_allowed, wants_dominated, step_at}
+use Rattle.s66_cert.specs.Reading.{DocumentState, is_allowed, wants_dominated, step_at}
 use Rattle.s66_cert.specs.declared.limits.TheConstants.{SPLIT_LIMIT}
 use Rattle.s66_cert.specs.declared.error.CertError.TheVariants.{BadLine}
 use Rattle.s66_cert.specs.declared.place.Place.{Place}
 use Rattle.s66_cert.specs.declared.place.Place.TheVariants.{AtHeader, AtProfile, AtBlock, AtInstruction, AtTime, AtBound, AtOrder, AtTree, AtEnd}
 use Rattle.s66_cert.proofs.Sound.{whole-tree, whole-document}
 
-pub other_header : (most : ℕ) (s : State) (place : Place) (rule : Rule) → (place ≡ AtHeader → ⊥) → step_at most s place (Header rule) ≡ Err (BadLine (suc s.count))
+pub other_header : (most : ℕ) (s : DocumentState) (place : Place) (rule : Rule) → (place ≡ AtHeader → ⊥) → step_at most s place (Header rule) ≡ Err (BadLine (suc s.count))
 other_header most s AtHeader rule other = absurd (other refl)
 other_header most s place rule other = refl
 
-pub other_profile : (most : ℕ) (s : State) (place : Place) (numbers : List ℕ) → (place ≡ AtProfile → ⊥) → step_at most s place (Profile numbers) ≡ Err (BadLine (suc s.count))
+pub other_profile : (most : ℕ) (s : DocumentState) (place : Place) (numbers : List ℕ) → (place ≡ AtProfile → ⊥) → step_at most s place (Profile numbers) ≡ Err (BadLine (suc s.count))
 other_profile most s AtProfile numbers other = absurd (other refl)
 other_profile most s place numbers other = refl
 
-pub other_block : (most : ℕ) (s : State) (place : Place) (count : ℕ) → (place ≡ AtBlock → ⊥) → step_at most s place (Block count) ≡ Err (BadLine (suc s.count))
+pub other_block : (most : ℕ) (s : DocumentState) (place : Place) (count : ℕ) → (place ≡ AtBlock → ⊥) → step_at most s place (Block count) ≡ Err (BadLine (suc s.count))
 other_block most s AtBlock count other = absurd (other refl)
 other_block most s place count other = refl
 
-pub other_instruction : (most : ℕ) (s : State) (place : Place) (text : List ℕ) → (place ≡ AtInstruction → ⊥) → step_at most s place (Instruction text) ≡ Err (BadLine (suc s.count))
+pub other_instruction : (most : ℕ) (s : DocumentState) (place : Place) (text : List ℕ) → (place ≡ AtInstruction → ⊥) → step_at most s place (Instruction text) ≡ Err (BadLine (suc s.count))
 other_instruction most s AtInstruction text other = absurd (other refl)
 other_instruction most s place text other = refl
 
-pub other_time : (most : ℕ) (s : State) (place : Place) (time : ℕ) → (place ≡ AtTime → ⊥) → step_at most s place (Time time) ≡ Err (BadLine (suc s.count))
+pub other_time : (most : ℕ) (s : DocumentState) (place : Place) (time : ℕ) → (place ≡ AtTime → ⊥) → step_at most s place (Time time) ≡ Err (BadLine (suc s.count))
 other_time most s AtTime time other = absurd (other refl)
 other_time most s place time other = refl
 
-pub other_bound : (most : ℕ) (s : State) (place : Place) (bound : ℕ) → (place ≡ AtBound → ⊥) → step_at most s place (Bound bound) ≡ Err (BadLine (suc s.count))
+pub other_bound : (most : ℕ) (s : DocumentState) (place : Place) (bound : ℕ) → (place ≡ AtBound → ⊥) → step_at most s place (Bound bound) ≡ Err (BadLine (suc s.count))
 other_bound most s AtBound bound other = absurd (other refl)
 other_bound most s place bound other = refl
 
-pub other_order : (most : ℕ) (s : State) (place : Place) (numbers : List ℕ) → (place ≡ AtOrder → ⊥) → step_at most s place (Order numbers) ≡ Err (BadLine (suc s.count))
+pub other_order : (most : ℕ) (s : DocumentState) (place : Place) (numbers : List ℕ) → (place ≡ AtOrder → ⊥) → step_at most s place (Order numbers) ≡ Err (BadLine (suc s.count))
 other_order most s AtOrder numbers other = absurd (other refl)
 other_order most s place numbers other = refl
 
-pub other_vertex : (most : ℕ) (s : State) (place : Place) (vertex : Vertex Ending) → (place ≡ AtTree → ⊥) → step_at most s place (OfTree vertex) ≡ Err (BadLine (suc s.count))
+pub other_vertex : (most : ℕ) (s : DocumentState) (place : Place) (vertex : Vertex Ending) → (place ≡ AtTree → ⊥) → step_at most s place (OfTree vertex) ≡ Err (BadLine (suc s.count))
 other_vertex most s AtTree vertex other = absurd (other refl)
 other_vertex most s place vertex other = refl
 
-pub other_end : (most : ℕ) (s : State) (place : Place) → (place ≡ AtEnd → ⊥) → step_at most s place End ≡ Err (BadLine (suc s.count))
+pub other_end : (most : ℕ) (s : DocumentState) (place : Place) → (place ≡ AtEnd → ⊥) → step_at most s place End ≡ Err (BadLine (suc s.count))
 other_end most s AtEnd other = absurd (other refl)
 other_end most s place other = refl
 
 -- a dominated leaf if the rule names no nodes
-pub refused_vertex : (most : ℕ) (s : State) (vertex : Vertex Ending) → is_allowed s.part.rule vertex ≡ false → step_at most s AtTree (OfTree vertex) ≡ Err (BadLine (suc s.count))
+pub refused_vertex : (most : ℕ) (s : DocumentState) (vertex : Vertex Ending) → is_allowed s.part.rule vertex ≡ false → step_at most s AtTree (OfTree vertex) ≡ Err (BadLine (suc s.count))
 refused_vertex most s (AtTerminal (Bounding leaf)) h = absurd (cc)
 refused_vertex most s (AtTerminal (Dominated name)) h = rw h refl
 refused_vertex most s (AtSplit numbers) h = absurd (cc)
 
 -- the last line if a dominated leaf is missing
-pub wanting_end : (most : ℕ) (s : State) → wants_dominated s.part ≡ true → step_at most s AtEnd End ≡ Err (BadLine (suc s.count))
+pub wanting_end : (most : ℕ) (s : DocumentState) → wants_dominated s.part ≡ true → step_at most s AtEnd End ≡ Err (BadLine (suc s.count))
 wanting_end most s h = rw h refl
 
 -- WHERE IT COMES
 
-part-at : (most : ℕ) (s : State) (place : Place) → s.place ≡ place → IsFine most s → IsPart most place s.part s.left s.splits
+part-at : (most : ℕ) (s : DocumentState) (place : Place) → s.place ≡ place → IsFine most s → IsPart most place s.part s.left s.splits
 part-at most s place e fine = subst (λ (p : Place). IsPart most p s.part s.left s.splits) e fine.1
 
-pub some_instruction : (most : ℕ) (s : State) → s.place ≡ AtInstruction → IsFine most s → 1 ≤ s.left
+pub some_instruction : (most : ℕ) (s : DocumentState) → s.place ≡ AtInstruction → IsFine most s → 1 ≤ s.left
 some_instruction most s e fine = (part-at most s AtInstruction e fine).1
 
-pub some_tree : (most : ℕ) (s : State) → s.place ≡ AtTree → IsFine most s → 1 ≤ s.left
+pub some_tree : (most : ℕ) (s : DocumentState) → s.place ≡ AtTree → IsFine most s → 1 ≤ s.left
 some_tree most s e fine = (part-at most s AtTree e fine).0
 
 -- each split leaves at most BLOCK_LIMIT trees
@@ -80,12 +80,12 @@ leave-few zero left (AtSplit numbers ∷ vertices) h = absurd h
 leave-few (suc n) left (AtTerminal ending ∷ vertices) h = omega (arith, leave-few n left vertices h.1)
 leave-few (suc n) left (AtSplit numbers ∷ vertices) h = omega (arith, leave-few (length numbers + n) left vertices h.1, h.0.1)
 
-pub few_trees : (s : State) → s.place ≡ AtTree → IsFine SPLIT_LIMIT s → s.left ≤ 2 ^ 32
+pub few_trees : (s : DocumentState) → s.place ≡ AtTree → IsFine SPLIT_LIMIT s → s.left ≤ 2 ^ 32
 few_trees s e fine =
     let is = part-at SPLIT_LIMIT s AtTree e fine in
     omega (arith, leave-few 1 s.left s.part.vertices is.1.4, is.1.5, is.1.6)
 
-pub whole_end : (s : State) → s.place ≡ AtEnd → IsFine SPLIT_LIMIT s → wants_dominated s.part ≡ false → AreWhole s.part
+pub whole_end : (s : DocumentState) → s.place ≡ AtEnd → IsFine SPLIT_LIMIT s → wants_dominated s.part ≡ false → AreWhole s.part
 whole_end s e fine none =
     let h = part-at SPLIT_LIMIT s AtEnd e fine in
     record { document = whole-document SPLIT_LIMIT s.part s.splits h none; preorder = (whole-tree s.part.vertices h.4).0 }

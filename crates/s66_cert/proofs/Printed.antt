@@ -6,11 +6,11 @@ use Rattle.s66_isa.specs.declared.limits.TheConstants.{BLOCK_LIMIT}
 use Rattle.s66_model.specs.Leaves.{Whole, Chain, Load, Parcels}
 use Rattle.s66_model.specs.Tree.{Tree, Alone, Parted, Siblings, NoMore, Unsplit, Split, Vertex, AtTerminal, AtSplit, flat, flat_siblings}
 use Rattle.s66_model.specs.DominatedLeaves.{Ending, Bounding, Dominated}
-use Rattle.s66_cert.specs.Document.{IsLeafLine, SiblingsFit, TreeFits, version, document_text, leaf_line, instruction_lines, tree_lines}
-use Rattle.s66_cert.specs.Pages.{AreShort, IsPrinted, opening, claim_lines}
+use Rattle.s66_cert.specs.Document.{IsLeafLine, SiblingsFit, TreeFits, version, document_text, leaf_line, instructions_text, tree_lines}
+use Rattle.s66_cert.specs.Pages.{AreShort, IsPrinted, opening_lines, claim_lines}
 use Rattle.s66_cert.proofs.Pages.{IsUnderway, printed-here, underway-more}
 use Rattle.s66_tree.specs.Lines.{IsShort}
-use Rattle.s66_cert.specs.DocumentParts.{Parts, AreWhole, document_of, tree_of}
+use Rattle.s66_cert.specs.DocumentParts.{Parts, AreWhole, document_of, tree_of_lines}
 
 -- THE LINES OF A TREE HAVE FEW NUMBERS
 
@@ -39,7 +39,7 @@ tree-short (Alone leaf) fits = (leaf-short leaf fits, tt)
 tree-short (Parted numbers siblings) fits = (fits.0.1, siblings-short numbers siblings fits.1)
 
 pub lines-short : (p : Parts) → AreWhole p → AreShort p.vertices
-lines-short p whole = subst AreShort whole.preorder (tree-short (tree_of p.vertices) whole.document.tree)
+lines-short p whole = subst AreShort whole.preorder (tree-short (tree_of_lines p.vertices) whole.document.tree)
 
 -- A LINE, AND THEN THE OTHERS
 
@@ -50,8 +50,8 @@ pub first-tree-line : (vertex : Vertex Ending) (vertices : List (Vertex Ending))
 first-tree-line (AtTerminal leaf) vertices = apart (leaf_line leaf) (tree_lines vertices)
 first-tree-line (AtSplit numbers) vertices = apart (codes "S" ++ after_blanks numbers ++ codes "\n") (tree_lines vertices)
 
-pub first-instruction : (text : List ℕ) (texts : List (List ℕ)) → instruction_lines (text ∷ texts) ≡ instruction_lines (text ∷ []) ++ instruction_lines texts
-first-instruction text texts = apart (codes "I " ++ text ++ codes "\n") (instruction_lines texts)
+pub first-instruction : (text : List ℕ) (texts : List (List ℕ)) → instructions_text (text ∷ texts) ≡ instructions_text (text ∷ []) ++ instructions_text texts
+first-instruction text texts = apart (codes "I " ++ text ++ codes "\n") (instructions_text texts)
 
 -- THE PARTS
 
@@ -66,26 +66,26 @@ right-nested : (a version r profile b count c block d time e bound f numbers g t
     ≡ (a ++ version ++ r ++ profile ++ b ++ count ++ c) ++ (block ++ ((d ++ time ++ e ++ bound ++ f ++ numbers ++ g) ++ (tree ++ h)))
 right-nested a version r profile b count c block d time e bound f numbers g tree h = simp append_assoc
 
-pub document-parts : (p : Parts) → AreWhole p → document_text (document_of p) ≡ opening p ++ (instruction_lines p.block ++ after_block p)
+pub document-parts : (p : Parts) → AreWhole p → document_text (document_of p) ≡ opening_lines p ++ (instructions_text p.block ++ after_block p)
 document-parts p whole =
-    right-nested (codes "S66 CERTIFICATE ") (decimal (version p.rule)) (codes "\nPROFILE") (after_blanks p.profile) (codes "\nBLOCK ") (decimal (length p.block)) (codes "\n") (instruction_lines p.block) (codes "TIME ") (decimal p.time)
-    (codes "\nBOUND ") (decimal p.bound) (codes "\nORDER") (after_blanks p.numbers) (codes "\n") (tree_lines (flat (tree_of p.vertices))) (codes "END\n")
-    ∙ ap (λ vertices. opening p ++ (instruction_lines p.block ++ (claim_lines p ++ (tree_lines vertices ++ codes "END\n")))) whole.preorder
+    right-nested (codes "S66 CERTIFICATE ") (decimal (version p.rule)) (codes "\nPROFILE") (after_blanks p.profile) (codes "\nBLOCK ") (decimal (length p.block)) (codes "\n") (instructions_text p.block) (codes "TIME ") (decimal p.time)
+    (codes "\nBOUND ") (decimal p.bound) (codes "\nORDER") (after_blanks p.numbers) (codes "\n") (tree_lines (flat (tree_of_lines p.vertices))) (codes "END\n")
+    ∙ ap (λ vertices. opening_lines p ++ (instructions_text p.block ++ (claim_lines p ++ (tree_lines vertices ++ codes "END\n")))) whole.preorder
 
 -- all before the instructions is on the page
-pub opened : (old : Option (List ℕ)) (p : Parts) (page : List ℕ) (block : List (List ℕ)) → AreWhole p → page ≡ opening p → block ≡ p.block →
-    IsUnderway old old [] page (document_text (document_of p)) (instruction_lines block ++ after_block p)
-opened old p page block whole is same = rw (is, same) (record { done = opening p; printed = printed-here old [] (opening p) (opening p) refl; left = document-parts p whole })
+pub opened : (old : Option (List ℕ)) (p : Parts) (page : List ℕ) (block : List (List ℕ)) → AreWhole p → page ≡ opening_lines p → block ≡ p.block →
+    IsUnderway old old [] page (document_text (document_of p)) (instructions_text block ++ after_block p)
+opened old p page block whole is same = rw (is, same) (record { done = opening_lines p; printed = printed-here old [] (opening_lines p) (opening_lines p) refl; left = document-parts p whole })
 
 -- THE PARTS, ONE AFTER THE OTHER
 
 abbrev pub IsLeft : Parts → (old new : Option (List ℕ)) (page rest : List ℕ) → Type 0
 IsLeft p old new page rest = IsUnderway old new [] page (document_text (document_of p)) rest
 
-pub block-left : (p : Parts) {old new : Option (List ℕ)} {page next : List ℕ} {block : List (List ℕ)} → AreWhole p → page ≡ opening p → block ≡ p.block →
-    IsPrinted old new page next (instruction_lines block) → IsLeft p old new next (after_block p)
+pub block-left : (p : Parts) {old new : Option (List ℕ)} {page next : List ℕ} {block : List (List ℕ)} → AreWhole p → page ≡ opening_lines p → block ≡ p.block →
+    IsPrinted old new page next (instructions_text block) → IsLeft p old new next (after_block p)
 block-left p {old} {new} {page} {next} {block} whole is same printed =
-    underway-more old old new [] page next (document_text (document_of p)) (instruction_lines block) (after_block p) (opened old p page block whole is same) printed
+    underway-more old old new [] page next (document_text (document_of p)) (instructions_text block) (after_block p) (opened old p page block whole is same) printed
 
 pub claim-left : (p : Parts) {old mid new : Option (List ℕ)} {page next : List ℕ} → IsLeft p old mid page (after_block p) → IsPrinted mid new page next (claim_lines p) →
     IsLeft p old new next (after_claim p)

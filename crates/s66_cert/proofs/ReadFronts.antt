@@ -12,11 +12,11 @@ use Rattle.s66_line.specs.InstructionText.{IsInstruction}
 use Rattle.s66_line.proofs.InstructionTexts.{instruction}
 use Rattle.s66_cert.specs.Document.{Document, IsDocumentWithin, text_before_end, documents_text, has_dominated, names_nodes}
 use Rattle.s66_cert.specs.Examples.{standard_numbers}
-use Rattle.s66_cert.specs.Faults.{AreLines, with_newlines, IsOpenWithin, BeginsWithin}
+use Rattle.s66_cert.specs.Faults.{HaveNoNewline, with_newlines, IsOpenWithin, BeginsWithin}
 use Rattle.s66_cert.specs.Fine.{HasTree, IsPart}
-use Rattle.s66_cert.specs.Lines.{Line, Header, Profile, Block, Instruction, Time, Bound, Order, OfTree, bytes_of, IsInRange}
+use Rattle.s66_cert.specs.Lines.{DocumentLine, Header, Profile, Block, Instruction, Time, Bound, Order, OfTree, line_bytes, IsLineInRange}
 use Rattle.s66_cert.specs.DocumentParts.{Parts, document_of}
-use Rattle.s66_cert.specs.Reading.{nothing, State, start, place_of_instruction, place_of_tree, with_vertex, step_at, step, and_then, steps, whole_lines}
+use Rattle.s66_cert.specs.Reading.{nothing, DocumentState, first_state, place_of_instruction, place_of_tree, with_vertex, step_at, step, and_then, steps, whole_lines}
 use Rattle.s66_cert.specs.declared.error.CertError.{CertError}
 use Rattle.s66_cert.specs.declared.place.Place.{Place}
 use Rattle.s66_cert.specs.declared.place.Place.TheVariants.{AtHeader, AtProfile, AtBlock, AtInstruction, AtTime, AtBound, AtOrder, AtTree, AtEnd}
@@ -29,16 +29,16 @@ use Rattle.s66_cert.proofs.Sound.{part_lines, open-is, open-document, steps-soun
 
 -- AN END OF WHAT WAS READ: lines up to the last one of a document
 
-record Ends (most : ℕ) (s : State) : Type 0 where
+record Ends (most : ℕ) (s : DocumentState) : Type 0 where
   more : List (List ℕ)
-  lines : AreLines more
-  end : State
+  lines : HaveNoNewline more
+  end : DocumentState
   run : steps BLOCK_LIMIT most s more ≡ Ok end
   whole : end.place ≡ AtEnd
 
-put : (most : ℕ) (s t : State) (l : Line) → IsInRange BLOCK_LIMIT l → step_at most s s.place l ≡ Ok t → Ends most t → Ends most s
+put : (most : ℕ) (s t : DocumentState) (l : DocumentLine) → IsLineInRange BLOCK_LIMIT l → step_at most s s.place l ≡ Ok t → Ends most t → Ends most s
 put most s t l is made e =
-    record { more = bytes_of l ∷ e.more; lines = (is-line BLOCK_LIMIT l (omega arith) is, e.lines); end = e.end; run = step-line BLOCK_LIMIT most (omega arith) s t l e.more is made ∙ e.run; whole = e.whole }
+    record { more = line_bytes l ∷ e.more; lines = (is-line BLOCK_LIMIT l (omega arith) is, e.lines); end = e.end; run = step-line BLOCK_LIMIT most (omega arith) s t l e.more is made ∙ e.run; whole = e.whole }
 
 nx1 : IsInstruction (codes "NX1")
 nx1 = instruction (codes "NX1") refl refl (omega arith)
@@ -115,42 +115,42 @@ module _ (most : ℕ) where
   ends-at count documents AtTree part left splits = tree-ends left count documents part splits
   ends-at count documents AtEnd part left splits = end-ends count documents part left splits
 
-  ends : (s : State) → Ends most s
+  ends : (s : DocumentState) → Ends most s
   ends s = ends-at s.count s.documents s.place s.part s.left s.splits
 
 -- FRONTS
 
-then-append : (most : ℕ) (r : Result State CertError) (xs ys : List (List ℕ)) → ((s : State) → steps BLOCK_LIMIT most s (xs ++ ys) ≡ and_then (steps BLOCK_LIMIT most s xs) (λ t. steps BLOCK_LIMIT most t ys)) →
+then-append : (most : ℕ) (r : Result DocumentState CertError) (xs ys : List (List ℕ)) → ((s : DocumentState) → steps BLOCK_LIMIT most s (xs ++ ys) ≡ and_then (steps BLOCK_LIMIT most s xs) (λ t. steps BLOCK_LIMIT most t ys)) →
     and_then r (λ t. steps BLOCK_LIMIT most t (xs ++ ys)) ≡ and_then (and_then r (λ t. steps BLOCK_LIMIT most t xs)) (λ t. steps BLOCK_LIMIT most t ys)
 then-append most (Ok s) xs ys ih = ih s
 then-append most (Err e) xs ys ih = refl
 
-pub steps-append : (most : ℕ) (s : State) (xs ys : List (List ℕ)) → steps BLOCK_LIMIT most s (xs ++ ys) ≡ and_then (steps BLOCK_LIMIT most s xs) (λ t. steps BLOCK_LIMIT most t ys)
+pub steps-append : (most : ℕ) (s : DocumentState) (xs ys : List (List ℕ)) → steps BLOCK_LIMIT most s (xs ++ ys) ≡ and_then (steps BLOCK_LIMIT most s xs) (λ t. steps BLOCK_LIMIT most t ys)
 steps-append most s [] ys = refl
 steps-append most s (x ∷ xs) ys = then-append most (step BLOCK_LIMIT most s x) xs ys (λ t. steps-append most t xs ys)
 
-pub are-append : (xs ys : List (List ℕ)) → AreLines xs → AreLines ys → AreLines (xs ++ ys)
+pub are-append : (xs ys : List (List ℕ)) → HaveNoNewline xs → HaveNoNewline ys → HaveNoNewline (xs ++ ys)
 are-append [] ys h k = k
 are-append (x ∷ xs) ys h k = (h.0, are-append xs ys h.1 k)
 
 -- the text of these lines of documents, and of one that is open
-open-cut : (ds : List Document) (d : Document) → documents_text ds ++ text_before_end d ≡ with_newlines (map bytes_of (documents_lines ds) ++ map bytes_of (open_lines d))
+open-cut : (ds : List Document) (d : Document) → documents_text ds ++ text_before_end d ≡ with_newlines (map line_bytes (documents_lines ds) ++ map line_bytes (open_lines d))
 open-cut ds d =
-    ap (λ x. x ++ text_before_end d) (documents-text ds) ∙ ap (λ x. with_newlines (map bytes_of (documents_lines ds)) ++ x) (open-text d)
-    ∙ sym (newlines-append (map bytes_of (documents_lines ds)) (map bytes_of (open_lines d)))
+    ap (λ x. x ++ text_before_end d) (documents-text ds) ∙ ap (λ x. with_newlines (map line_bytes (documents_lines ds)) ++ x) (open-text d)
+    ∙ sym (newlines-append (map line_bytes (documents_lines ds)) (map line_bytes (open_lines d)))
 
-pub begins : (most : ℕ) (before : List (List ℕ)) (s : State) → AreLines before → steps BLOCK_LIMIT most start before ≡ Ok s → BeginsWithin most (with_newlines before)
+pub begins : (most : ℕ) (before : List (List ℕ)) (s : DocumentState) → HaveNoNewline before → steps BLOCK_LIMIT most first_state before ≡ Ok s → BeginsWithin most (with_newlines before)
 begins most before s are run =
     let e = ends most s in
     let lines : List (List ℕ) = before ++ e.more in
-    let all : steps BLOCK_LIMIT most start lines ≡ Ok e.end = steps-append most start before e.more ∙ ap (λ (r : Result State CertError). and_then r (λ t. steps BLOCK_LIMIT most t e.more)) run ∙ e.run in
-    let sound = steps-sound most start e.end lines (tt, tt) all in
+    let all : steps BLOCK_LIMIT most first_state lines ≡ Ok e.end = steps-append most first_state before e.more ∙ ap (λ (r : Result DocumentState CertError). and_then r (λ t. steps BLOCK_LIMIT most t e.more)) run ∙ e.run in
+    let sound = steps-sound most first_state e.end lines (tt, tt) all in
     let d : Document = document_of e.end.part in
     let has : HasTree most e.end.part 0 e.end.splits = subst (λ (p : Place). IsPart most p e.end.part e.end.left e.end.splits) e.whole sound.0.1 in
     let open_part : part_lines e.end.place e.end.part e.end.left ≡ open_lines d =
     ap (λ (p : Place). part_lines p e.end.part e.end.left) e.whole ∙ open-is e.end.part e.end.left e.end.splits most has in
-    let read : map bytes_of (documents_lines e.end.documents) ++ map bytes_of (open_lines d) ≡ lines =
-    sym (map-append bytes_of (documents_lines e.end.documents) (open_lines d)) ∙ ap (λ (l : List Line). map bytes_of (documents_lines e.end.documents ++ l)) (sym open_part) ∙ sound.1 in
+    let read : map line_bytes (documents_lines e.end.documents) ++ map line_bytes (open_lines d) ≡ lines =
+    sym (map-append line_bytes (documents_lines e.end.documents) (open_lines d)) ∙ ap (λ (l : List DocumentLine). map line_bytes (documents_lines e.end.documents ++ l)) (sym open_part) ∙ sound.1 in
     let same : with_newlines before ++ with_newlines e.more ≡ documents_text e.end.documents ++ text_before_end d =
     sym (newlines-append before e.more) ∙ ap with_newlines (sym read) ∙ sym (open-cut e.end.documents d) in
     (with_newlines e.more, e.end.documents, d, sound.0.0, open-document most e.end.part e.end.splits has, same)
@@ -161,17 +161,17 @@ open-parts : (most : ℕ) (d : Document) → IsOpenWithin BLOCK_LIMIT most d →
 open-parts most d (inl is) = (d.rule, is, λ has. is.rule ∙ has)
 open-parts most d (inr is) = (NoneNamed, is, λ has. absurd (let clash = is.rule ∙ has in (cc)))
 
-pub fronts : (most : ℕ) (before : List (List ℕ)) → AreLines before → BeginsWithin most (with_newlines before) → (s : State) × (steps BLOCK_LIMIT most start before ≡ Ok s)
+pub fronts : (most : ℕ) (before : List (List ℕ)) → HaveNoNewline before → BeginsWithin most (with_newlines before) → (s : DocumentState) × (steps BLOCK_LIMIT most first_state before ≡ Ok s)
 fronts most before are (more, ds, d, within, open_is, same) =
     let (other, is, named) = open-parts most d open_is in
-    let first : List (List ℕ) = map bytes_of (documents_lines ds) in
-    let last : List (List ℕ) = map bytes_of (open_lines d) in
-    let lines : AreLines (first ++ last) = are-append first last (lines-of-documents BLOCK_LIMIT most ds (omega arith) within) (lines-of-open BLOCK_LIMIT most d other (omega arith) is) in
+    let first : List (List ℕ) = map line_bytes (documents_lines ds) in
+    let last : List (List ℕ) = map line_bytes (open_lines d) in
+    let lines : HaveNoNewline (first ++ last) = are-append first last (lines-of-documents BLOCK_LIMIT most ds (omega arith) within) (lines-of-open BLOCK_LIMIT most d other (omega arith) is) in
     let cut : before ++ whole_lines [] more ≡ first ++ last =
     sym (whole-of before more are) ∙ ap (whole_lines []) (same ∙ open-cut ds d ∙ sym (append-nil (with_newlines (first ++ last)))) ∙ whole-all (first ++ last) [] lines refl in
     let one = documents-run BLOCK_LIMIT most (omega arith) 0 [] ds last within in
     let two = open-run BLOCK_LIMIT most (omega arith) one.0 ds d other [] is named in
-    let run : steps BLOCK_LIMIT most start (before ++ whole_lines [] more) ≡ Ok _ =
-    ap (steps BLOCK_LIMIT most start) cut ∙ one.1 ∙ ap (λ (l : List (List ℕ)). steps BLOCK_LIMIT most (at one.0 ds AtHeader nothing 0 0) l) (sym (append-nil last)) ∙ two.1 in
-    let (s, front, rest) = after-ok (steps BLOCK_LIMIT most start before) (λ u. steps BLOCK_LIMIT most u (whole_lines [] more)) _ (sym (steps-append most start before (whole_lines [] more)) ∙ run) in
+    let run : steps BLOCK_LIMIT most first_state (before ++ whole_lines [] more) ≡ Ok _ =
+    ap (steps BLOCK_LIMIT most first_state) cut ∙ one.1 ∙ ap (λ (l : List (List ℕ)). steps BLOCK_LIMIT most (at one.0 ds AtHeader nothing 0 0) l) (sym (append-nil last)) ∙ two.1 in
+    let (s, front, rest) = after-ok (steps BLOCK_LIMIT most first_state before) (λ u. steps BLOCK_LIMIT most u (whole_lines [] more)) _ (sym (steps-append most first_state before (whole_lines [] more)) ∙ run) in
     (s, front)

@@ -5,7 +5,7 @@ use Rattle.s66_isa.specs.declared.limits.TheConstants.{BLOCK_LIMIT}
 use Rattle.s66_cert.specs.declared.limits.TheConstants.{SPLIT_LIMIT}
 use Rattle.s66_cert.specs.Document.{Document, IsText}
 use Rattle.s66_cert.specs.Reading.{read_of}
-use Rattle.s66_cert.specs.Reads.{Refuses}
+use Rattle.s66_cert.specs.Reads.{RefusesText}
 use Rattle.s66_cert.specs.DocumentReader.{Gives}
 use Rattle.s66_cert.specs.declared.error.CertError.{CertError}
 use Rattle.s66_cert.specs.declared.error.CertError.TheVariants.{BadLine, Truncated, TooManyNodes, OutOfMemory}
@@ -16,7 +16,7 @@ pub gives-documents : {X : Type 0} (view : X → List Document) (text : List ℕ
 gives-documents view text (Ok x) h = read-sound SPLIT_LIMIT text (view x) h
 gives-documents view text (Err e) h = tt
 
-pub gives-fault : {X : Type 0} (view : X → List Document) (text : List ℕ) (result : Result X CertError) → Gives view result (read_of text) → Refuses text result
+pub gives-fault : {X : Type 0} (view : X → List Document) (text : List ℕ) (result : Result X CertError) → Gives view result (read_of text) → RefusesText text result
 gives-fault view text (Ok x) h = tt
 gives-fault view text (Err OutOfMemory) h = tt
 gives-fault view text (Err (BadLine line)) h = fault-is SPLIT_LIMIT text (BadLine line) refl h

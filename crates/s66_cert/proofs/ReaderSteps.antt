@@ -5,15 +5,15 @@ use Rattle.std.proofs.lemmas.List.Edits.{between_more}
 use Rattle.std.specs.Prelude.{Result, Ok, Err, OnOk}
 use Rattle.s66_isa.specs.declared.limits.TheConstants.{BLOCK_LIMIT}
 use Rattle.s66_cert.specs.Fine.{IsFine}
-use Rattle.s66_cert.specs.Lines.{Line, IsInRange}
-use Rattle.s66_cert.specs.Reading.{State, step_at, step, steps, and_then, whole_lines, last_bytes}
+use Rattle.s66_cert.specs.Lines.{DocumentLine, IsLineInRange}
+use Rattle.s66_cert.specs.Reading.{DocumentState, step_at, step, steps, and_then, whole_lines, last_bytes}
 use Rattle.s66_cert.specs.DocumentReader.{Steps}
 use Rattle.s66_cert.specs.declared.limits.TheConstants.{SPLIT_LIMIT}
 use Rattle.s66_cert.specs.declared.error.CertError.{CertError}
 use Rattle.s66_cert.specs.declared.error.CertError.TheVariants.{BadLine, Truncated, TooManyNodes, OutOfMemory}
 use Rattle.s66_cert.proofs.Sound.{step-fine}
 
-pub fine-kept : (s new : State) (result : Result (Unit {0}) CertError) (l : Line) → IsInRange BLOCK_LIMIT l → IsFine SPLIT_LIMIT s → Steps new result (step_at SPLIT_LIMIT s s.place l) → OnOk result (IsFine SPLIT_LIMIT new)
+pub fine-kept : (s new : DocumentState) (result : Result (Unit {0}) CertError) (l : DocumentLine) → IsLineInRange BLOCK_LIMIT l → IsFine SPLIT_LIMIT s → Steps new result (step_at SPLIT_LIMIT s s.place l) → OnOk result (IsFine SPLIT_LIMIT new)
 fine-kept s new (Ok u) l is fine made = step-fine SPLIT_LIMIT s new l is fine made
 fine-kept s new (Err e) l is fine made = tt
 
@@ -40,7 +40,7 @@ cut-more text begin i begun within other =
     rw (longer, next, rest, differs) (refl, refl)
 
 -- the rest after a line that was read
-pub steps-newline : (s t : State) (line text : List ℕ) (i : ℕ) (whole : Result State CertError) → i < length text → get_or text i 0 ≡ 10 → step BLOCK_LIMIT SPLIT_LIMIT s line ≡ Ok t →
+pub steps-newline : (s t : DocumentState) (line text : List ℕ) (i : ℕ) (whole : Result DocumentState CertError) → i < length text → get_or text i 0 ≡ 10 → step BLOCK_LIMIT SPLIT_LIMIT s line ≡ Ok t →
     steps BLOCK_LIMIT SPLIT_LIMIT s (whole_lines line (drop i text)) ≡ whole → steps BLOCK_LIMIT SPLIT_LIMIT t (whole_lines (take (i + 1 - (i + 1)) (drop (i + 1) text)) (drop (i + 1) text)) ≡ whole
 steps-newline s t line text i whole within newline made same =
     let none : i + 1 - (i + 1) ≡ 0 = omega arith in
@@ -53,19 +53,19 @@ last-newline line text i whole within newline same =
     rw none (sym (cut-newline line text i within newline).1 ∙ same)
 
 -- a line's fault is the text's
-Steps-rest : (e : CertError) (s new any : State) (line : List ℕ) (lines : List (List ℕ)) → Steps new (Err e) (step BLOCK_LIMIT SPLIT_LIMIT s line) → Steps any (Err e) (steps BLOCK_LIMIT SPLIT_LIMIT s (line ∷ lines))
+Steps-rest : (e : CertError) (s new any : DocumentState) (line : List ℕ) (lines : List (List ℕ)) → Steps new (Err e) (step BLOCK_LIMIT SPLIT_LIMIT s line) → Steps any (Err e) (steps BLOCK_LIMIT SPLIT_LIMIT s (line ∷ lines))
 Steps-rest OutOfMemory s new any line lines h = tt
 Steps-rest (BadLine n) s new any line lines h = ap (λ r. and_then r (λ t. steps BLOCK_LIMIT SPLIT_LIMIT t lines)) h
 Steps-rest Truncated s new any line lines h = ap (λ r. and_then r (λ t. steps BLOCK_LIMIT SPLIT_LIMIT t lines)) h
 Steps-rest TooManyNodes s new any line lines h = ap (λ r. and_then r (λ t. steps BLOCK_LIMIT SPLIT_LIMIT t lines)) h
 
-Steps-same : (e : CertError) (any : State) (x y : Result State CertError) → x ≡ y → Steps any (Err e) x → Steps any (Err e) y
+Steps-same : (e : CertError) (any : DocumentState) (x y : Result DocumentState CertError) → x ≡ y → Steps any (Err e) x → Steps any (Err e) y
 Steps-same OutOfMemory any x y same h = tt
 Steps-same (BadLine n) any x y same h = sym same ∙ h
 Steps-same Truncated any x y same h = sym same ∙ h
 Steps-same TooManyNodes any x y same h = sym same ∙ h
 
-pub Steps-newline : (e : CertError) (s new any : State) (line text : List ℕ) (i : ℕ) (whole : Result State CertError) → i < length text → get_or text i 0 ≡ 10 → Steps new (Err e) (step BLOCK_LIMIT SPLIT_LIMIT s line) →
+pub Steps-newline : (e : CertError) (s new any : DocumentState) (line text : List ℕ) (i : ℕ) (whole : Result DocumentState CertError) → i < length text → get_or text i 0 ≡ 10 → Steps new (Err e) (step BLOCK_LIMIT SPLIT_LIMIT s line) →
     steps BLOCK_LIMIT SPLIT_LIMIT s (whole_lines line (drop i text)) ≡ whole → Steps any (Err e) whole
 Steps-newline e s new any line text i whole within newline made same =
     Steps-same e any (steps BLOCK_LIMIT SPLIT_LIMIT s (line ∷ whole_lines [] (drop (i + 1) text))) whole (ap (steps BLOCK_LIMIT SPLIT_LIMIT s) (sym (cut-newline line text i within newline).0) ∙ same) (Steps-rest e s new any line (whole_lines [] (drop (i + 1) text)) made)

@@ -4,20 +4,20 @@ use Rattle.std.proofs.lemmas.List.{append-nil}
 use Rattle.std.specs.Prelude.{Ok}
 use Rattle.s66_cert.specs.Document.{Document, IsTextWithin}
 use Rattle.s66_cert.proofs.DocumentLines.{documents_lines}
-use Rattle.s66_cert.specs.Faults.{AreLines, with_newlines}
-use Rattle.s66_cert.specs.Lines.{bytes_of}
-use Rattle.s66_cert.specs.Reading.{start, steps, whole_lines, last_bytes, read_within}
+use Rattle.s66_cert.specs.Faults.{HaveNoNewline, with_newlines}
+use Rattle.s66_cert.specs.Lines.{line_bytes}
+use Rattle.s66_cert.specs.Reading.{first_state, steps, whole_lines, last_bytes, read_within}
 use Rattle.s66_cert.proofs.TextLines.{documents-text, whole-all, last-all}
 use Rattle.s66_cert.proofs.Grammar.{documents-run}
 use Rattle.s66_cert.proofs.LineBytes.{lines-of-documents}
 
 pub read-again : (limit most : ℕ) (text : List ℕ) (ds : List Document) → limit < 2 ^ 64 → IsTextWithin limit most text ds → read_within limit most text ≡ Ok ds
 read-again limit most text ds narrow is =
-    let lines : List (List ℕ) = map bytes_of (documents_lines ds) in
-    let are : AreLines lines = lines-of-documents limit most ds narrow is.0 in
+    let lines : List (List ℕ) = map line_bytes (documents_lines ds) in
+    let are : HaveNoNewline lines = lines-of-documents limit most ds narrow is.0 in
     let cut : text ≡ with_newlines lines ++ [] = is.1 ∙ documents-text ds ∙ sym (append-nil (with_newlines lines)) in
     let whole : whole_lines [] text ≡ lines = ap (whole_lines []) cut ∙ whole-all lines [] are refl in
     let rest : last_bytes [] text ≡ [] = ap (last_bytes []) cut ∙ last-all lines [] are refl in
     let run = documents-run limit most narrow 0 [] ds [] is.0 in
-    let end : steps limit most start lines ≡ Ok (record start { count = run.0; documents = ds }) = ap (steps limit most start) (sym (append-nil lines)) ∙ run.1 in
+    let end : steps limit most first_state lines ≡ Ok (record first_state { count = run.0; documents = ds }) = ap (steps limit most first_state) (sym (append-nil lines)) ∙ run.1 in
     rw (whole, rest, end) refl

@@ -3,7 +3,7 @@ use Rattle.std.proofs.Common.{◌≡◌, ◌≤◌, ◌<◌, ◌+◌, ◌^◌, �
 use Rattle.std.proofs.lemmas.Bool.{lt-leb, leb-true, leb-false}
 use Rattle.std.proofs.lemmas.Fmt.{length-decimal-le}
 use Rattle.std.specs.Prelude.{decimal}
-use Rattle.s66_cert.specs.Lines.{if_count, number_in, numbers_in, first_word, after_word, words_of, words_in, put_front, consed, consed_if}
+use Rattle.s66_cert.specs.Lines.{if_count, number_in, numbers_in, first_word, after_first_word, words_of, words_in, put_front, consed, consed_if}
 use Rattle.s66_cert.specs.declared.limits.TheConstants.{TIME_LIMIT}
 use Rattle.std.proofs.lemmas.List.{append-nil}
 use Rattle.s66_cert.proofs.NumberTexts.{number-is}
@@ -39,20 +39,20 @@ abbrev pub bytes_left : Option (List ℕ) → ℕ
 bytes_left None = 0
 bytes_left (Some bytes) = suc (length bytes)
 
-words-at : (b : ℕ) (bytes : List ℕ) (t : Bool) → eqb b 32 ≡ t → words_of bytes ≡ first_word bytes ∷ words_in (after_word bytes) → words_of (b ∷ bytes) ≡ first_word (b ∷ bytes) ∷ words_in (after_word (b ∷ bytes))
+words-at : (b : ℕ) (bytes : List ℕ) (t : Bool) → eqb b 32 ≡ t → words_of bytes ≡ first_word bytes ∷ words_in (after_first_word bytes) → words_of (b ∷ bytes) ≡ first_word (b ∷ bytes) ∷ words_in (after_first_word (b ∷ bytes))
 words-at b bytes true e ih = rw e refl
 words-at b bytes false e ih = rw e (ap (put_front b) ih)
 
-words-cut : (bytes : List ℕ) → words_of bytes ≡ first_word bytes ∷ words_in (after_word bytes)
+words-cut : (bytes : List ℕ) → words_of bytes ≡ first_word bytes ∷ words_in (after_first_word bytes)
 words-cut [] = refl
 words-cut (b ∷ bytes) = words-at b bytes (eqb b 32) refl (words-cut bytes)
 
-read-word : (low high : ℕ) (bytes word : List ℕ) (more : Option (List ℕ)) (n : Option ℕ) → word ≡ first_word bytes → more ≡ after_word bytes → n ≡ number_in low high word →
+read-word : (low high : ℕ) (bytes word : List ℕ) (more : Option (List ℕ)) (n : Option ℕ) → word ≡ first_word bytes → more ≡ after_first_word bytes → n ≡ number_in low high word →
     numbers_in low high (words_in (Some bytes)) ≡ consed_if n (numbers_in low high (words_in more))
 read-word low high bytes word more n first rest read =
     ap (numbers_in low high) (words-cut bytes)
-    ∙ ap (λ w. consed_if (number_in low high w) (numbers_in low high (words_in (after_word bytes)))) (sym first)
-    ∙ ap (λ o. consed_if o (numbers_in low high (words_in (after_word bytes)))) (sym read)
+    ∙ ap (λ w. consed_if (number_in low high w) (numbers_in low high (words_in (after_first_word bytes)))) (sym first)
+    ∙ ap (λ o. consed_if o (numbers_in low high (words_in (after_first_word bytes)))) (sym read)
     ∙ ap (λ m. consed_if n (numbers_in low high (words_in m))) (sym rest)
 
 after-consed : (front : List ℕ) (n : ℕ) (ns : Option (List ℕ)) → after_all front (consed n ns) ≡ after_all (front ++ n ∷ []) ns
@@ -60,7 +60,7 @@ after-consed front n None = refl
 after-consed front n (Some ns) = ap Some (sym (append_assoc front (n ∷ []) ns))
 
 -- a word that is no number, in a list of any length
-pub numbers-none : (low high most : ℕ) (front bytes word : List ℕ) (left more whole : Option (List ℕ)) → left ≡ Some bytes → word ≡ first_word bytes → more ≡ after_word bytes → None ≡ number_in low high word →
+pub numbers-none : (low high most : ℕ) (front bytes word : List ℕ) (left more whole : Option (List ℕ)) → left ≡ Some bytes → word ≡ first_word bytes → more ≡ after_first_word bytes → None ≡ number_in low high word →
     after_all front (numbers_in low high (words_in left)) ≡ whole → None ≡ if_count 0 most whole
 numbers-none low high most front bytes word left more whole is first rest read inv =
     let none : None ≡ whole =
@@ -68,7 +68,7 @@ numbers-none low high most front bytes word left more whole is first rest read i
     ap (if_count 0 most) none
 
 -- a word that is one
-pub numbers-some : (low high n : ℕ) (front bytes word : List ℕ) (left more whole : Option (List ℕ)) → left ≡ Some bytes → word ≡ first_word bytes → more ≡ after_word bytes → Some n ≡ number_in low high word →
+pub numbers-some : (low high n : ℕ) (front bytes word : List ℕ) (left more whole : Option (List ℕ)) → left ≡ Some bytes → word ≡ first_word bytes → more ≡ after_first_word bytes → Some n ≡ number_in low high word →
     after_all front (numbers_in low high (words_in left)) ≡ whole → after_all (front ++ n ∷ []) (numbers_in low high (words_in more)) ≡ whole
 numbers-some low high n front bytes word left more whole is first rest read inv =
     sym (after-consed front n (numbers_in low high (words_in more)))
@@ -84,7 +84,7 @@ above-all most n front (Some ns) full =
     let zero : leb 0 (length ((front ++ n ∷ []) ++ ns)) ≡ true = le-leb 0 (length ((front ++ n ∷ []) ++ ns)) (omega arith) in
     rw (above, zero) refl
 
-pub numbers-too_many : (low high most n : ℕ) (front bytes word : List ℕ) (left more whole : Option (List ℕ)) → left ≡ Some bytes → word ≡ first_word bytes → more ≡ after_word bytes → Some n ≡ number_in low high word →
+pub numbers-too_many : (low high most n : ℕ) (front bytes word : List ℕ) (left more whole : Option (List ℕ)) → left ≡ Some bytes → word ≡ first_word bytes → more ≡ after_first_word bytes → Some n ≡ number_in low high word →
     length front ≡ most → after_all front (numbers_in low high (words_in left)) ≡ whole → None ≡ if_count 0 most whole
 numbers-too_many low high most n front bytes word left more whole is first rest read full inv =
     above-all most n front (numbers_in low high (words_in more)) full ∙ ap (if_count 0 most) (numbers-some low high n front bytes word left more whole is first rest read inv)

@@ -13,10 +13,10 @@ use Rattle.s66_line.specs.InstructionText.{IsInstruction}
 use Rattle.s66_tree.specs.Lines.{has_dominated_line}
 use Rattle.s66_cert.specs.Document.{Document, IsDocumentWithin, AreDocumentsWithin, AreNumbers, AreInstructions, IsLeafLine, SiblingsFit, TreeFits, IsTextWithin, documents_text, names_nodes}
 use Rattle.s66_cert.specs.Faults.{with_newlines, IsOpenWithin}
-use Rattle.s66_cert.specs.Lines.{Line, Header, Profile, Block, Instruction, Time, Bound, Order, OfTree, End, bytes_of, IsInRange, line_of}
-use Rattle.s66_cert.specs.DocumentParts.{Parts, document_of, tree_of}
+use Rattle.s66_cert.specs.Lines.{DocumentLine, Header, Profile, Block, Instruction, Time, Bound, Order, OfTree, End, line_bytes, IsLineInRange, line_read}
+use Rattle.s66_cert.specs.DocumentParts.{Parts, document_of, tree_of_lines}
 use Rattle.s66_model.specs.Preorder.{forest, first_tree, first_siblings, later_siblings}
-use Rattle.s66_cert.specs.Reading.{nothing, State, start, place_of_instruction, place_of_tree, with_vertex, is_allowed, wants_dominated, vertex_step, step_at, step_if, step, and_then, steps, ended, is_header, read_within, whole_lines, last_bytes}
+use Rattle.s66_cert.specs.Reading.{nothing, DocumentState, first_state, place_of_instruction, place_of_tree, with_vertex, is_allowed, wants_dominated, vertex_step, step_at, step_if, step, and_then, steps, ended, is_header, read_within, whole_lines, last_bytes}
 use Rattle.s66_cert.specs.Fine.{Leave, split_count, HasTree, IsPart, IsFine}
 use Rattle.s66_cert.proofs.DocumentLines.{open_lines, document_lines, documents_lines, instructions_of, vertices_of}
 use Rattle.s66_cert.specs.declared.error.CertError.{CertError}
@@ -93,19 +93,19 @@ one-tree (Split numbers sub NoMore) m h = (ap (λ x. AtSplit numbers ∷ x) (sym
 one-tree (Split numbers sub (Unsplit other siblings)) m h = absurd h.2
 one-tree (Split numbers sub (Split others more siblings)) m h = absurd h.2
 
-pub whole-tree : (vertices : List (Vertex Ending)) → Leave 1 vertices 0 → (flat (tree_of vertices) ≡ vertices) × TreeFits BLOCK_LIMIT (tree_of vertices) × (splits (tree_of vertices) ≡ split_count vertices)
+pub whole-tree : (vertices : List (Vertex Ending)) → Leave 1 vertices 0 → (flat (tree_of_lines vertices) ≡ vertices) × TreeFits BLOCK_LIMIT (tree_of_lines vertices) × (splits (tree_of_lines vertices) ≡ split_count vertices)
 whole-tree vertices h =
     let one = one-tree (forest vertices) 0 (forest-fits 1 (0 ∷ []) vertices h refl) in
-    let flat-is : flat (tree_of vertices) ≡ vertices = one.0 ∙ flat-forest vertices in
-    (flat-is, one.1, sym (tree-count (tree_of vertices)) ∙ ap split_count flat-is)
+    let flat-is : flat (tree_of_lines vertices) ≡ vertices = one.0 ∙ flat-forest vertices in
+    (flat-is, one.1, sym (tree-count (tree_of_lines vertices)) ∙ ap split_count flat-is)
 
 -- WHAT WAS READ OF A DOCUMENT
 
-abbrev heading_lines : Parts → ℕ → List Line → List Line
+abbrev heading_lines : Parts → ℕ → List DocumentLine → List DocumentLine
 heading_lines o count more = Header o.rule ∷ Profile o.profile ∷ Block count ∷ (instructions_of o.block ++ more)
 
 -- the lines of the open document
-abbrev pub part_lines : Place → Parts → ℕ → List Line
+abbrev pub part_lines : Place → Parts → ℕ → List DocumentLine
 part_lines AtHeader o left = []
 part_lines AtProfile o left = Header o.rule ∷ []
 part_lines AtBlock o left = Header o.rule ∷ Profile o.profile ∷ []
@@ -118,12 +118,12 @@ part_lines AtEnd o left = heading_lines o (length o.block) (Time o.time ∷ Boun
 
 -- ONE LINE MORE
 
-record Sounds (most : ℕ) (s t : State) (l : Line) : Type 0 where
+record Sounds (most : ℕ) (s t : DocumentState) (l : DocumentLine) : Type 0 where
   documents : AreDocumentsWithin BLOCK_LIMIT most t.documents
   part : IsPart most t.place t.part t.left t.splits
   lines : documents_lines t.documents ++ part_lines t.place t.part t.left ≡ (documents_lines s.documents ++ part_lines s.place s.part s.left) ++ l ∷ []
 
-instructions-more : (texts : List (List ℕ)) (text : List ℕ) (more : List Line) → instructions_of (texts ++ text ∷ []) ++ more ≡ instructions_of texts ++ Instruction text ∷ more
+instructions-more : (texts : List (List ℕ)) (text : List ℕ) (more : List DocumentLine) → instructions_of (texts ++ text ∷ []) ++ more ≡ instructions_of texts ++ Instruction text ∷ more
 instructions-more [] text more = refl
 instructions-more (other ∷ texts) text more = ap (λ x. Instruction other ∷ x) (instructions-more texts text more)
 
@@ -136,18 +136,18 @@ texts-more [] text are is = (is, tt)
 texts-more (other ∷ texts) text are is = (are.0, texts-more texts text are.1 is)
 
 -- the heading with one line more after it
-heading-more : (o : Parts) (count : ℕ) (more : List Line) (l : Line) → heading_lines o count (more ++ l ∷ []) ≡ heading_lines o count more ++ l ∷ []
+heading-more : (o : Parts) (count : ℕ) (more : List DocumentLine) (l : DocumentLine) → heading_lines o count (more ++ l ∷ []) ≡ heading_lines o count more ++ l ∷ []
 heading-more o count more l = ap (λ x. Header o.rule ∷ Profile o.profile ∷ Block count ∷ x) (sym (append_assoc (instructions_of o.block) more (l ∷ [])))
 
 -- the documents are the same
-same-documents : (most : ℕ) (s t : State) (l : Line) → AreDocumentsWithin BLOCK_LIMIT most s.documents → t.documents ≡ s.documents → IsPart most t.place t.part t.left t.splits →
+same-documents : (most : ℕ) (s t : DocumentState) (l : DocumentLine) → AreDocumentsWithin BLOCK_LIMIT most s.documents → t.documents ≡ s.documents → IsPart most t.place t.part t.left t.splits →
     part_lines t.place t.part t.left ≡ part_lines s.place s.part s.left ++ l ∷ [] → Sounds most s t l
 same-documents most s t l are same is more =
     record {
       documents = subst (λ (ds : List Document). AreDocumentsWithin BLOCK_LIMIT most ds) (sym same) are;
       part = is;
       lines = ap (λ (ds : List Document). documents_lines ds ++ part_lines t.place t.part t.left) same
-          ∙ ap (λ (x : List Line). documents_lines s.documents ++ x) more ∙ sym (append_assoc (documents_lines s.documents) (part_lines s.place s.part s.left) (l ∷ []));
+          ∙ ap (λ (x : List DocumentLine). documents_lines s.documents ++ x) more ∙ sym (append_assoc (documents_lines s.documents) (part_lines s.place s.part s.left) (l ∷ []));
     }
 
 instruction-sound : (most count : ℕ) (documents : List Document) (part : Parts) (left splits : ℕ) (text : List ℕ) → IsInstruction text → AreDocumentsWithin BLOCK_LIMIT most documents →
@@ -173,7 +173,7 @@ tree-sound : (most count : ℕ) (documents : List Document) (part : Parts) (left
     Leave 1 (part.vertices ++ vertex ∷ []) to → after ≡ split_count (part.vertices ++ vertex ∷ []) → after ≤ most → is_allowed part.rule vertex ≡ true →
     Sounds most (at count documents AtTree part left splits) (at (suc count) documents (place_of_tree to) (with_vertex part vertex) to after) (OfTree vertex)
 tree-sound most count documents part left to splits after vertex are h leave counted few allowed =
-    let front : List Line = Time part.time ∷ Bound part.bound ∷ Order part.numbers ∷ vertices_of part.vertices in
+    let front : List DocumentLine = Time part.time ∷ Bound part.bound ∷ Order part.numbers ∷ vertices_of part.vertices in
     let more : heading_lines (with_vertex part vertex) (length part.block) (Time part.time ∷ Bound part.bound ∷ Order part.numbers ∷ vertices_of (part.vertices ++ vertex ∷ [])) ≡ heading_lines part (length part.block) front ++ OfTree vertex ∷ [] =
     ap (λ x. heading_lines part (length part.block) (Time part.time ∷ Bound part.bound ∷ Order part.numbers ∷ x)) (vertices-more part.vertices vertex) ∙ heading-more part (length part.block) front (OfTree vertex) in
     let has : HasTree most (with_vertex part vertex) to after = (h.1.0, h.1.1, h.1.2, h.1.3, leave, counted, few, allowed-more part.rule part.vertices vertex h.1.7 allowed) in
@@ -193,20 +193,20 @@ chosen-false : {X : Type 0} (test : Bool) (e : CertError) (x y : X) → cond tes
 chosen-false true e x y h = absurd (cc)
 chosen-false false e x y h = (refl, (cc))
 
-vertex-sound : (most count : ℕ) (documents : List Document) (part : Parts) (left splits : ℕ) (t : State) (vertex : Vertex Ending) → IsInRange BLOCK_LIMIT (OfTree vertex) → AreDocumentsWithin BLOCK_LIMIT most documents → IsPart most AtTree part left splits →
+vertex-sound : (most count : ℕ) (documents : List Document) (part : Parts) (left splits : ℕ) (t : DocumentState) (vertex : Vertex Ending) → IsLineInRange BLOCK_LIMIT (OfTree vertex) → AreDocumentsWithin BLOCK_LIMIT most documents → IsPart most AtTree part left splits →
     vertex_step most (at count documents AtTree part left splits) vertex ≡ Ok t → Sounds most (at count documents AtTree part left splits) t (OfTree vertex)
 vertex-sound most count documents part zero splits t vertex is are h made = absurd (omega (arith, h.0))
 vertex-sound most count documents part (suc left) splits t (AtTerminal leaf) is are h made =
     let less : suc left - 1 ≡ left = omega arith in
     let got = chosen-true (is_allowed part.rule (AtTerminal leaf)) (BadLine (suc count)) (at (suc count) documents (place_of_tree (suc left - 1)) (with_vertex part (AtTerminal leaf)) (suc left - 1) splits) t made in
     let leave : Leave 1 (part.vertices ++ AtTerminal leaf ∷ []) left = leave-terminal 1 left part.vertices leaf is h.1.4 in
-    subst (λ (u : State). Sounds most (at count documents AtTree part (suc left) splits) u (OfTree (AtTerminal leaf))) got.1
+    subst (λ (u : DocumentState). Sounds most (at count documents AtTree part (suc left) splits) u (OfTree (AtTerminal leaf))) got.1
     (rw less (tree-sound most count documents part (suc left) left splits splits (AtTerminal leaf) are h leave (omega (arith, count-append part.vertices (AtTerminal leaf ∷ []), h.1.5)) h.1.6 got.0))
 vertex-sound most count documents part (suc left) splits t (AtSplit numbers) is are h made =
     let got = chosen-false (leb most splits) TooManyNodes (at (suc count) documents (place_of_tree (suc left - 1 + length numbers)) (with_vertex part (AtSplit numbers)) (suc left - 1 + length numbers) (suc splits)) t made in
     let few : splits < most = leb-false most splits got.0 in
     let leave : Leave 1 (part.vertices ++ AtSplit numbers ∷ []) (suc left - 1 + length numbers) = leave-split 1 left (suc left - 1 + length numbers) part.vertices numbers is h.1.4 (omega arith) in
-    subst (λ (u : State). Sounds most (at count documents AtTree part (suc left) splits) u (OfTree (AtSplit numbers))) got.1
+    subst (λ (u : DocumentState). Sounds most (at count documents AtTree part (suc left) splits) u (OfTree (AtSplit numbers))) got.1
     (tree-sound most count documents part (suc left) (suc left - 1 + length numbers) splits (suc splits) (AtSplit numbers) are h leave (omega (arith, count-append part.vertices (AtSplit numbers ∷ []), h.1.5)) (omega arith) refl)
 
 within-more : (most : ℕ) (ds : List Document) (d : Document) → AreDocumentsWithin BLOCK_LIMIT most ds → IsDocumentWithin BLOCK_LIMIT most d → AreDocumentsWithin BLOCK_LIMIT most (ds ++ d ∷ [])
@@ -252,7 +252,7 @@ end-sound : (most count : ℕ) (documents : List Document) (part : Parts) (left 
     Sounds most (at count documents AtEnd part left splits) (at (suc count) (documents ++ document_of part ∷ []) AtHeader nothing 0 0) End
 end-sound most count documents part left splits are h none =
     let is : IsDocumentWithin BLOCK_LIMIT most (document_of part) = whole-document most part splits h none in
-    let lines : document_lines (document_of part) ≡ part_lines AtEnd part left ++ End ∷ [] = ap (λ (l : List Line). l ++ End ∷ []) (sym (open-is part left splits most h)) in
+    let lines : document_lines (document_of part) ≡ part_lines AtEnd part left ++ End ∷ [] = ap (λ (l : List DocumentLine). l ++ End ∷ []) (sym (open-is part left splits most h)) in
     record {
       documents = within-more most documents (document_of part) are is;
       part = tt;
@@ -260,71 +260,71 @@ end-sound most count documents part left splits are h none =
           ∙ ap (λ x. documents_lines documents ++ x) lines ∙ sym (append_assoc (documents_lines documents) (part_lines AtEnd part left) (End ∷ []));
     }
 
-step-sound : (most count : ℕ) (documents : List Document) (place : Place) (part : Parts) (left splits : ℕ) (t : State) (l : Line) → IsInRange BLOCK_LIMIT l → AreDocumentsWithin BLOCK_LIMIT most documents → IsPart most place part left splits →
+step-sound : (most count : ℕ) (documents : List Document) (place : Place) (part : Parts) (left splits : ℕ) (t : DocumentState) (l : DocumentLine) → IsLineInRange BLOCK_LIMIT l → AreDocumentsWithin BLOCK_LIMIT most documents → IsPart most place part left splits →
     step_at most (at count documents place part left splits) place l ≡ Ok t → Sounds most (at count documents place part left splits) t l
 step-sound most count documents AtHeader part left splits t (Header rule) is are h made =
     let begun : Parts = record nothing { rule = rule } in
     let e : at (suc count) documents AtProfile begun 0 0 ≡ t = (cc) in
-    subst (λ (u : State). Sounds most (at count documents AtHeader part left splits) u (Header rule)) e
+    subst (λ (u : DocumentState). Sounds most (at count documents AtHeader part left splits) u (Header rule)) e
     (same-documents most (at count documents AtHeader part left splits) (at (suc count) documents AtProfile begun 0 0) (Header rule) are refl tt refl)
 step-sound most count documents AtProfile part left splits t (Profile numbers) is are h made =
     let e : at (suc count) documents AtBlock (record part { profile = numbers }) 0 0 ≡ t = (cc) in
-    subst (λ (u : State). Sounds most (at count documents AtProfile part left splits) u (Profile numbers)) e
+    subst (λ (u : DocumentState). Sounds most (at count documents AtProfile part left splits) u (Profile numbers)) e
     (same-documents most (at count documents AtProfile part left splits) (at (suc count) documents AtBlock (record part { profile = numbers }) 0 0) (Profile numbers) are refl is refl)
 step-sound most count documents AtBlock part left splits t (Block number) is are h made =
     let e : at (suc count) documents AtInstruction (record part { block = [] }) number 0 ≡ t = (cc) in
     let sum : 0 + number ≡ number = omega arith in
-    subst (λ (u : State). Sounds most (at count documents AtBlock part left splits) u (Block number)) e
+    subst (λ (u : DocumentState). Sounds most (at count documents AtBlock part left splits) u (Block number)) e
     (same-documents most (at count documents AtBlock part left splits) (at (suc count) documents AtInstruction (record part { block = [] }) number 0) (Block number) are refl (h, is.0, omega (arith, is.1), tt) (ap (λ n. Header part.rule ∷ Profile part.profile ∷ Block n ∷ []) sum))
 step-sound most count documents AtInstruction part left splits t (Instruction text) is are h made =
     let e : at (suc count) documents (place_of_instruction (left - 1)) (record part { block = part.block ++ text ∷ [] }) (left - 1) 0 ≡ t = (cc) in
-    subst (λ (u : State). Sounds most (at count documents AtInstruction part left splits) u (Instruction text)) e (instruction-sound most count documents part left splits text is are h)
+    subst (λ (u : DocumentState). Sounds most (at count documents AtInstruction part left splits) u (Instruction text)) e (instruction-sound most count documents part left splits text is are h)
 step-sound most count documents AtTime part left splits t (Time time) is are h made =
     let e : at (suc count) documents AtBound (record part { time = time }) 0 0 ≡ t = (cc) in
-    subst (λ (u : State). Sounds most (at count documents AtTime part left splits) u (Time time)) e
+    subst (λ (u : DocumentState). Sounds most (at count documents AtTime part left splits) u (Time time)) e
     (same-documents most (at count documents AtTime part left splits) (at (suc count) documents AtBound (record part { time = time }) 0 0) (Time time) are refl (h, is) (heading-more part (length part.block) [] (Time time)))
 step-sound most count documents AtBound part left splits t (Bound bound) is are h made =
     let e : at (suc count) documents AtOrder (record part { bound = bound }) 0 0 ≡ t = (cc) in
-    subst (λ (u : State). Sounds most (at count documents AtBound part left splits) u (Bound bound)) e
+    subst (λ (u : DocumentState). Sounds most (at count documents AtBound part left splits) u (Bound bound)) e
     (same-documents most (at count documents AtBound part left splits) (at (suc count) documents AtOrder (record part { bound = bound }) 0 0) (Bound bound) are refl (h.0, h.1, is) (heading-more part (length part.block) (Time part.time ∷ []) (Bound bound)))
 step-sound most count documents AtOrder part left splits t (Order numbers) is are h made =
     let e : at (suc count) documents AtTree (record part { numbers = numbers; vertices = [] }) 1 0 ≡ t = (cc) in
-    subst (λ (u : State). Sounds most (at count documents AtOrder part left splits) u (Order numbers)) e
+    subst (λ (u : DocumentState). Sounds most (at count documents AtOrder part left splits) u (Order numbers)) e
     (same-documents most (at count documents AtOrder part left splits) (at (suc count) documents AtTree (record part { numbers = numbers; vertices = [] }) 1 0) (Order numbers) are refl (omega arith, (h.0, h.1, h.2, is, refl, refl, omega arith, λ has. absurd (cc))) (heading-more part (length part.block) (Time part.time ∷ Bound part.bound ∷ []) (Order numbers)))
 step-sound most count documents AtTree part left splits t (OfTree vertex) is are h made = vertex-sound most count documents part left splits t vertex is are h made
 step-sound most count documents AtEnd part left splits t End is are h made =
     let got = chosen-false (wants_dominated part) (BadLine (suc count)) (at (suc count) (documents ++ document_of part ∷ []) AtHeader nothing 0 0) t made in
-    subst (λ (u : State). Sounds most (at count documents AtEnd part left splits) u End) got.1 (end-sound most count documents part left splits are h got.0)
+    subst (λ (u : DocumentState). Sounds most (at count documents AtEnd part left splits) u End) got.1 (end-sound most count documents part left splits are h got.0)
 step-sound most count documents place part left splits t l is are h made = absurd (cc)
 
 -- ALL LINES
 
 -- the lines that were read
-abbrev pub all_lines : State → List Line
+abbrev pub all_lines : DocumentState → List DocumentLine
 all_lines s = documents_lines s.documents ++ part_lines s.place s.part s.left
 
-one-line : (most : ℕ) (s t : State) (bytes : List ℕ) (o : Option Line) → line_of BLOCK_LIMIT bytes ≡ o → IsFine most s → step_if most s o ≡ Ok t →
-    IsFine most t × (map bytes_of (all_lines t) ≡ map bytes_of (all_lines s) ++ bytes ∷ [])
+one-line : (most : ℕ) (s t : DocumentState) (bytes : List ℕ) (o : Option DocumentLine) → line_read BLOCK_LIMIT bytes ≡ o → IsFine most s → step_if most s o ≡ Ok t →
+    IsFine most t × (map line_bytes (all_lines t) ≡ map line_bytes (all_lines s) ++ bytes ∷ [])
 one-line most s t bytes None read fine made = absurd (cc)
 one-line most s t bytes (Some l) read fine made =
     let is = line-is BLOCK_LIMIT bytes l (omega arith) read in
     let sound = step-sound most s.count s.documents s.place s.part s.left s.splits t l is.1 fine.0 fine.1 made in
-    ((sound.documents, sound.part), ap (map bytes_of) sound.lines ∙ map-append bytes_of (all_lines s) (l ∷ []) ∙ ap (λ b. map bytes_of (all_lines s) ++ b ∷ []) (sym is.0))
+    ((sound.documents, sound.part), ap (map line_bytes) sound.lines ∙ map-append line_bytes (all_lines s) (l ∷ []) ∙ ap (λ b. map line_bytes (all_lines s) ++ b ∷ []) (sym is.0))
 
 pub after-ok : {A B : Type 0} (r : Result A CertError) (f : A → Result B CertError) (y : B) → and_then r f ≡ Ok y → (x : A) × (r ≡ Ok x) × (f x ≡ Ok y)
 after-ok (Ok x) f y h = (x, refl, h)
 after-ok (Err e) f y h = absurd (cc)
 
-pub steps-sound : (most : ℕ) (s t : State) (lines : List (List ℕ)) → IsFine most s → steps BLOCK_LIMIT most s lines ≡ Ok t →
-    IsFine most t × (map bytes_of (all_lines t) ≡ map bytes_of (all_lines s) ++ lines)
+pub steps-sound : (most : ℕ) (s t : DocumentState) (lines : List (List ℕ)) → IsFine most s → steps BLOCK_LIMIT most s lines ≡ Ok t →
+    IsFine most t × (map line_bytes (all_lines t) ≡ map line_bytes (all_lines s) ++ lines)
 steps-sound most s t [] fine run =
     let e : s ≡ t = (cc) in
-    subst (λ (u : State). IsFine most u × (map bytes_of (all_lines u) ≡ map bytes_of (all_lines s) ++ [])) e (fine, sym (append-nil (map bytes_of (all_lines s))))
+    subst (λ (u : DocumentState). IsFine most u × (map line_bytes (all_lines u) ≡ map line_bytes (all_lines s) ++ [])) e (fine, sym (append-nil (map line_bytes (all_lines s))))
 steps-sound most s t (line ∷ lines) fine run =
     let (u, one, more) = after-ok (step BLOCK_LIMIT most s line) (λ t. steps BLOCK_LIMIT most t lines) t run in
-    let first = one-line most s u line (line_of BLOCK_LIMIT line) refl fine one in
+    let first = one-line most s u line (line_read BLOCK_LIMIT line) refl fine one in
     let rest = steps-sound most u t lines first.0 more in
-    (rest.0, rest.1 ∙ ap (λ x. x ++ lines) first.1 ∙ append_assoc (map bytes_of (all_lines s)) (line ∷ []) lines)
+    (rest.0, rest.1 ∙ ap (λ x. x ++ lines) first.1 ∙ append_assoc (map line_bytes (all_lines s)) (line ∷ []) lines)
 
 nothing-open : (place : Place) (o : Parts) (left : ℕ) → is_header place ≡ true → part_lines place o left ≡ []
 nothing-open AtHeader o left h = refl
@@ -347,17 +347,17 @@ ended-ok false x y h = absurd (cc)
 
 pub read-sound : (most : ℕ) (text : List ℕ) (ds : List Document) → read_within BLOCK_LIMIT most text ≡ Ok ds → IsTextWithin BLOCK_LIMIT most text ds
 read-sound most text ds read =
-    let (s, run, end) = after-ok (steps BLOCK_LIMIT most start (whole_lines [] text)) (ended (last_bytes [] text)) ds read in
-    let sound = steps-sound most start s (whole_lines [] text) (tt, tt) run in
+    let (s, run, end) = after-ok (steps BLOCK_LIMIT most first_state (whole_lines [] text)) (ended (last_bytes [] text)) ds read in
+    let sound = steps-sound most first_state s (whole_lines [] text) (tt, tt) run in
     let got = ended-ok (is_header s.place && eqb (length (last_bytes [] text)) 0) s.documents ds end in
     let both = and_parts (is_header s.place) (eqb (length (last_bytes [] text)) 0) got.0 in
-    let lines : map bytes_of (documents_lines s.documents) ≡ whole_lines [] text =
-    ap (map bytes_of) (sym (append-nil (documents_lines s.documents)) ∙ ap (λ x. documents_lines s.documents ++ x) (sym (nothing-open s.place s.part s.left both.0))) ∙ sound.1 in
+    let lines : map line_bytes (documents_lines s.documents) ≡ whole_lines [] text =
+    ap (map line_bytes) (sym (append-nil (documents_lines s.documents)) ∙ ap (λ x. documents_lines s.documents ++ x) (sym (nothing-open s.place s.part s.left both.0))) ∙ sound.1 in
     let all : text ≡ documents_text s.documents =
     cut text ∙ ap (λ x. with_newlines (whole_lines [] text) ++ x) (no-bytes (last_bytes [] text) both.1) ∙ append-nil (with_newlines (whole_lines [] text)) ∙ ap with_newlines (sym lines) ∙ sym (documents-text s.documents) in
     subst (λ (d : List Document). IsTextWithin BLOCK_LIMIT most text d) got.1 (sound.0.0, all)
 
-pub step-fine : (most : ℕ) (s t : State) (l : Line) → IsInRange BLOCK_LIMIT l → IsFine most s → step_at most s s.place l ≡ Ok t → IsFine most t
+pub step-fine : (most : ℕ) (s t : DocumentState) (l : DocumentLine) → IsLineInRange BLOCK_LIMIT l → IsFine most s → step_at most s s.place l ≡ Ok t → IsFine most t
 step-fine most s t l is fine made =
     let sound = step-sound most s.count s.documents s.place s.part s.left s.splits t l is fine.0 fine.1 made in
     (sound.documents, sound.part)

@@ -7,25 +7,25 @@ use Rattle.s66_line.specs.InstructionText.{spelling, operation_in, operand_in, I
 use Rattle.s66_line.specs.Operand.{instr_of}
 use Rattle.s66_line.specs.declared.limits.TheConstants.{TEXT_LIMIT}
 use Rattle.s66_line.proofs.InstructionTexts.{instruction}
-use Rattle.s66_cert.specs.Lines.{is_instruction, instruction_in}
+use Rattle.s66_cert.specs.Lines.{is_instruction_text, instruction_in}
 
-pub instruction-again : (text : List ℕ) → IsInstruction text → is_instruction text ≡ true
+pub instruction-again : (text : List ℕ) → IsInstruction text → is_instruction_text text ≡ true
 instruction-again text is =
     let fits : nat_le (length text) TEXT_LIMIT ≡ true = le-leb (length text) TEXT_LIMIT is.is_text.fits in
     let some : is_some (instr_of (operation_in text) (operand_in text)) ≡ true = ap is_some is.is_text.spells in
     let same : bytes_eq text (spelling (operation_in text) (operand_in text)) ≡ true = (bytes_eq-Decides text (spelling (operation_in text) (operand_in text))).1 is.is_text.whole in
     rw (fits, some, same) refl
 
-pub instruction-is : (text : List ℕ) → is_instruction text ≡ true → IsInstruction text
+pub instruction-is : (text : List ℕ) → is_instruction_text text ≡ true → IsInstruction text
 instruction-is text h =
     let all = and_parts (nat_le (length text) TEXT_LIMIT && is_some (instr_of (operation_in text) (operand_in text))) (bytes_eq text (spelling (operation_in text) (operand_in text))) h in
     let two = and_parts (nat_le (length text) TEXT_LIMIT) (is_some (instr_of (operation_in text) (operand_in text))) all.0 in
     instruction text two.1 ((bytes_eq-Decides text (spelling (operation_in text) (operand_in text))).0 all.1) (leb-true (length text) TEXT_LIMIT two.0)
 
-pub instruction-not : (text : List ℕ) → ¬ IsInstruction text → is_instruction text ≡ false
-instruction-not text is_none = by_test (is_instruction text) refl
+pub instruction-not : (text : List ℕ) → ¬ IsInstruction text → is_instruction_text text ≡ false
+instruction-not text is_none = by_test (is_instruction_text text) refl
   where
-    by_test : (t : Bool) → is_instruction text ≡ t → t ≡ false
+    by_test : (t : Bool) → is_instruction_text text ≡ t → t ≡ false
     by_test true stated = absurd (is_none (instruction-is text stated))
     by_test false stated = refl
 

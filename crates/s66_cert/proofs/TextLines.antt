@@ -7,9 +7,9 @@ use Rattle.s66_isa.specs.Lists.{every, after_blanks}
 use Rattle.s66_model.specs.Leaves.{Whole, Chain, Load, Parcels}
 use Rattle.s66_model.specs.Tree.{Vertex, AtTerminal, AtSplit, flat}
 use Rattle.s66_model.specs.DominatedLeaves.{Ending, Bounding, Dominated}
-use Rattle.s66_cert.specs.Document.{Document, tree_lines, leaf_line, instruction_lines, version, text_before_end, document_text, documents_text}
-use Rattle.s66_cert.specs.Faults.{IsLine, AreLines, with_newlines}
-use Rattle.s66_cert.specs.Lines.{Line, End, bytes_of, leaf_bytes}
+use Rattle.s66_cert.specs.Document.{Document, tree_lines, leaf_line, instructions_text, version, text_before_end, document_text, documents_text}
+use Rattle.s66_cert.specs.Faults.{IsLine, HaveNoNewline, with_newlines}
+use Rattle.s66_cert.specs.Lines.{DocumentLine, End, line_bytes, leaf_bytes}
 use Rattle.s66_cert.specs.Reading.{whole_lines, last_bytes}
 use Rattle.s66_cert.proofs.DocumentLines.{open_lines, document_lines, documents_lines, instructions_of, vertices_of}
 
@@ -36,20 +36,20 @@ last-rest : (begun line : List ℕ) → IsLine line → last_bytes begun line �
 last-rest begun [] h = sym (append-nil begun)
 last-rest begun (b ∷ line) h = let parts = line-parts b line h in rw parts.0 (last-rest (begun ++ b ∷ []) line parts.1 ∙ append_assoc begun (b ∷ []) line)
 
-pub whole-of : (lines : List (List ℕ)) (text : List ℕ) → AreLines lines → whole_lines [] (with_newlines lines ++ text) ≡ lines ++ whole_lines [] text
+pub whole-of : (lines : List (List ℕ)) (text : List ℕ) → HaveNoNewline lines → whole_lines [] (with_newlines lines ++ text) ≡ lines ++ whole_lines [] text
 whole-of [] text h = refl
 whole-of (line ∷ lines) text h =
     ap (whole_lines []) (append_assoc line (10 ∷ with_newlines lines) text) ∙ whole-before [] line (with_newlines lines ++ text) h.0 ∙ ap (λ x. line ∷ x) (whole-of lines text h.1)
 
-pub last-of : (lines : List (List ℕ)) (text : List ℕ) → AreLines lines → last_bytes [] (with_newlines lines ++ text) ≡ last_bytes [] text
+pub last-of : (lines : List (List ℕ)) (text : List ℕ) → HaveNoNewline lines → last_bytes [] (with_newlines lines ++ text) ≡ last_bytes [] text
 last-of [] text h = refl
 last-of (line ∷ lines) text h =
     ap (last_bytes []) (append_assoc line (10 ∷ with_newlines lines) text) ∙ last-before [] line (with_newlines lines ++ text) h.0 ∙ last-of lines text h.1
 
-pub whole-all : (lines : List (List ℕ)) (rest : List ℕ) → AreLines lines → IsLine rest → whole_lines [] (with_newlines lines ++ rest) ≡ lines
+pub whole-all : (lines : List (List ℕ)) (rest : List ℕ) → HaveNoNewline lines → IsLine rest → whole_lines [] (with_newlines lines ++ rest) ≡ lines
 whole-all lines rest h k = whole-of lines rest h ∙ ap (λ x. lines ++ x) (whole-rest [] rest k) ∙ append-nil lines
 
-pub last-all : (lines : List (List ℕ)) (rest : List ℕ) → AreLines lines → IsLine rest → last_bytes [] (with_newlines lines ++ rest) ≡ rest
+pub last-all : (lines : List (List ℕ)) (rest : List ℕ) → HaveNoNewline lines → IsLine rest → last_bytes [] (with_newlines lines ++ rest) ≡ rest
 last-all lines rest h k = last-of lines rest h ∙ last-rest [] rest k
 
 -- the text is its whole lines and the rest
@@ -72,16 +72,16 @@ line-more (a ∷ begun) b h e =
     let both = and_parts (not (eqb a 10)) (every (λ b. not (eqb b 10)) begun) h in
     and_from (not (eqb a 10)) (every (λ b. not (eqb b 10)) (begun ++ b ∷ [])) both.0 (line-more begun b both.1 e)
 
-lines-at : (begun : List ℕ) (b : ℕ) (text : List ℕ) (t : Bool) → eqb b 10 ≡ t → IsLine begun → ((begun : List ℕ) → IsLine begun → AreLines (whole_lines begun text) × IsLine (last_bytes begun text)) →
-    AreLines (whole_lines begun (b ∷ text)) × IsLine (last_bytes begun (b ∷ text))
+lines-at : (begun : List ℕ) (b : ℕ) (text : List ℕ) (t : Bool) → eqb b 10 ≡ t → IsLine begun → ((begun : List ℕ) → IsLine begun → HaveNoNewline (whole_lines begun text) × IsLine (last_bytes begun text)) →
+    HaveNoNewline (whole_lines begun (b ∷ text)) × IsLine (last_bytes begun (b ∷ text))
 lines-at begun b text true e h ih = rw e (let rest = ih [] refl in ((h, rest.0), rest.1))
 lines-at begun b text false e h ih = rw e (ih (begun ++ b ∷ []) (line-more begun b h e))
 
-lines-from : (begun text : List ℕ) → IsLine begun → AreLines (whole_lines begun text) × IsLine (last_bytes begun text)
+lines-from : (begun text : List ℕ) → IsLine begun → HaveNoNewline (whole_lines begun text) × IsLine (last_bytes begun text)
 lines-from begun [] h = (tt, h)
 lines-from begun (b ∷ text) h = lines-at begun b text (eqb b 10) refl h (λ begun h. lines-from begun text h)
 
-pub are-lines : (text : List ℕ) → AreLines (whole_lines [] text) × IsLine (last_bytes [] text)
+pub are-lines : (text : List ℕ) → HaveNoNewline (whole_lines [] text) × IsLine (last_bytes [] text)
 are-lines text = lines-from [] text refl
 
 pub newlines-append : (front rest : List (List ℕ)) → with_newlines (front ++ rest) ≡ with_newlines front ++ with_newlines rest
@@ -90,7 +90,7 @@ newlines-append (line ∷ front) rest = ap (λ x. line ++ 10 ∷ x) (newlines-ap
 
 -- A DOCUMENT'S TEXT
 
-instructions-text : (texts : List (List ℕ)) → instruction_lines texts ≡ with_newlines (map bytes_of (instructions_of texts))
+instructions-text : (texts : List (List ℕ)) → instructions_text texts ≡ with_newlines (map line_bytes (instructions_of texts))
 instructions-text [] = refl
 instructions-text (text ∷ texts) = ap (λ x. codes "I " ++ text ++ codes "\n" ++ x) (instructions-text texts) ∙ simp append_assoc
 
@@ -101,28 +101,28 @@ leaf-text (Bounding (Load kind)) more = simp append_assoc
 leaf-text (Bounding Parcels) more = refl
 leaf-text (Dominated name) more = simp append_assoc
 
-tree-text : (vertices : List (Vertex Ending)) → tree_lines vertices ≡ with_newlines (map bytes_of (vertices_of vertices))
+tree-text : (vertices : List (Vertex Ending)) → tree_lines vertices ≡ with_newlines (map line_bytes (vertices_of vertices))
 tree-text [] = refl
-tree-text (AtTerminal ending ∷ vertices) = ap (λ x. leaf_line ending ++ x) (tree-text vertices) ∙ leaf-text ending (with_newlines (map bytes_of (vertices_of vertices)))
+tree-text (AtTerminal ending ∷ vertices) = ap (λ x. leaf_line ending ++ x) (tree-text vertices) ∙ leaf-text ending (with_newlines (map line_bytes (vertices_of vertices)))
 tree-text (AtSplit numbers ∷ vertices) = ap (λ x. codes "S" ++ after_blanks numbers ++ codes "\n" ++ x) (tree-text vertices) ∙ simp append_assoc
 
-lines-append : (xs ys : List Line) → with_newlines (map bytes_of (xs ++ ys)) ≡ with_newlines (map bytes_of xs) ++ with_newlines (map bytes_of ys)
-lines-append xs ys = ap with_newlines (map-append bytes_of xs ys) ∙ newlines-append (map bytes_of xs) (map bytes_of ys)
+lines-append : (xs ys : List DocumentLine) → with_newlines (map line_bytes (xs ++ ys)) ≡ with_newlines (map line_bytes xs) ++ with_newlines (map line_bytes ys)
+lines-append xs ys = ap with_newlines (map-append line_bytes xs ys) ∙ newlines-append (map line_bytes xs) (map line_bytes ys)
 
 right-nested : (s r q p c k l i t a u b v n w m : List ℕ) →
     s ++ r ++ q ++ p ++ c ++ k ++ l ++ i ++ t ++ a ++ u ++ b ++ v ++ n ++ w ++ m
     ≡ s ++ (r ++ (q ++ (p ++ (c ++ (k ++ (l ++ (i ++ (t ++ (a ++ (u ++ (b ++ (v ++ (n ++ (w ++ m))))))))))))))
 right-nested s r q p c k l i t a u b v n w m = simp append_assoc
 
-pub open-text : (d : Document) → text_before_end d ≡ with_newlines (map bytes_of (open_lines d))
+pub open-text : (d : Document) → text_before_end d ≡ with_newlines (map line_bytes (open_lines d))
 open-text d =
-    right-nested (codes "S66 CERTIFICATE ") (decimal (version d.rule)) (codes "\nPROFILE") (after_blanks d.profile) (codes "\nBLOCK ") (decimal (length d.block)) (codes "\n") (instruction_lines d.block) (codes "TIME ") (decimal d.time) (codes "\nBOUND ") (decimal d.bound) (codes "\nORDER") (after_blanks d.numbers) (codes "\n") (tree_lines (flat d.tree))
+    right-nested (codes "S66 CERTIFICATE ") (decimal (version d.rule)) (codes "\nPROFILE") (after_blanks d.profile) (codes "\nBLOCK ") (decimal (length d.block)) (codes "\n") (instructions_text d.block) (codes "TIME ") (decimal d.time) (codes "\nBOUND ") (decimal d.bound) (codes "\nORDER") (after_blanks d.numbers) (codes "\n") (tree_lines (flat d.tree))
     ∙ rw (instructions-text d.block, tree-text (flat d.tree), lines-append (instructions_of d.block) _) refl
 
-document-text : (d : Document) → document_text d ≡ with_newlines (map bytes_of (document_lines d))
+document-text : (d : Document) → document_text d ≡ with_newlines (map line_bytes (document_lines d))
 document-text d = ap (λ x. x ++ codes "END\n") (open-text d) ∙ sym (lines-append (open_lines d) (End ∷ []))
 
-pub documents-text : (ds : List Document) → documents_text ds ≡ with_newlines (map bytes_of (documents_lines ds))
+pub documents-text : (ds : List Document) → documents_text ds ≡ with_newlines (map line_bytes (documents_lines ds))
 documents-text [] = refl
 documents-text (d ∷ ds) =
-    ap (λ x. x ++ documents_text ds) (document-text d) ∙ ap (λ x. with_newlines (map bytes_of (document_lines d)) ++ x) (documents-text ds) ∙ sym (lines-append (document_lines d) (documents_lines ds))
+    ap (λ x. x ++ documents_text ds) (document-text d) ∙ ap (λ x. with_newlines (map line_bytes (document_lines d)) ++ x) (documents-text ds) ∙ sym (lines-append (document_lines d) (documents_lines ds))

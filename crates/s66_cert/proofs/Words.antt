@@ -6,7 +6,7 @@ use Rattle.std.specs.Int.{IsInRange}
 use Rattle.std.specs.Prelude.{decimal}
 use Rattle.s66_isa.specs.Lists.{every, after_blanks}
 use Rattle.s66_cert.specs.Document.{AreIn}
-use Rattle.s66_cert.specs.Lines.{first_word, after_word, put_front, words_of, words_in, number_in, numbers_in, consed_if}
+use Rattle.s66_cert.specs.Lines.{first_word, after_first_word, put_front, words_of, words_in, number_in, numbers_in, consed_if}
 use Rattle.s66_cert.proofs.NumberTexts.{is_other, number-again, number-is, decimal-clear}
 
 abbrev pub IsWord : List ℕ → Type 0
@@ -25,11 +25,11 @@ pub first-alone : (w : List ℕ) → IsWord w → first_word w ≡ w
 first-alone [] h = refl
 first-alone (b ∷ w) h = let parts = word-parts b w h in rw parts.0 (ap (λ x. b ∷ x) (first-alone w parts.1))
 
-pub after-before : (w r : List ℕ) → IsWord w → after_word (w ++ 32 ∷ r) ≡ Some r
+pub after-before : (w r : List ℕ) → IsWord w → after_first_word (w ++ 32 ∷ r) ≡ Some r
 after-before [] r h = refl
 after-before (b ∷ w) r h = let parts = word-parts b w h in rw parts.0 (after-before w r parts.1)
 
-pub after-alone : (w : List ℕ) → IsWord w → after_word w ≡ None
+pub after-alone : (w : List ℕ) → IsWord w → after_first_word w ≡ None
 after-alone [] h = refl
 after-alone (b ∷ w) h = let parts = word-parts b w h in rw parts.0 (after-alone w parts.1)
 
@@ -48,12 +48,12 @@ abbrev pub tail_of : Option (List ℕ) → List ℕ
 tail_of None = []
 tail_of (Some r) = 32 ∷ r
 
-joined-at : (b : ℕ) (bytes : List ℕ) (t : Bool) → eqb b 32 ≡ t → first_word bytes ++ tail_of (after_word bytes) ≡ bytes →
-    first_word (b ∷ bytes) ++ tail_of (after_word (b ∷ bytes)) ≡ b ∷ bytes
+joined-at : (b : ℕ) (bytes : List ℕ) (t : Bool) → eqb b 32 ≡ t → first_word bytes ++ tail_of (after_first_word bytes) ≡ bytes →
+    first_word (b ∷ bytes) ++ tail_of (after_first_word (b ∷ bytes)) ≡ b ∷ bytes
 joined-at b bytes true e ih = rw e (ap (λ x. x ∷ bytes) (sym (eqb-true b 32 e)))
 joined-at b bytes false e ih = rw e (ap (λ x. b ∷ x) ih)
 
-pub joined : (bytes : List ℕ) → first_word bytes ++ tail_of (after_word bytes) ≡ bytes
+pub joined : (bytes : List ℕ) → first_word bytes ++ tail_of (after_first_word bytes) ≡ bytes
 joined [] = refl
 joined (b ∷ bytes) = joined-at b bytes (eqb b 32) refl (joined bytes)
 

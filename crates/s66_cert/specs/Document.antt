@@ -110,9 +110,9 @@ tree_lines [] = []
 tree_lines (AtTerminal leaf ∷ vertices) = leaf_line leaf ++ tree_lines vertices
 tree_lines (AtSplit numbers ∷ vertices) = codes "S" ++ after_blanks numbers ++ codes "\n" ++ tree_lines vertices
 
-abbrev pub instruction_lines : List (List ℕ) → List ℕ
-instruction_lines [] = []
-instruction_lines (text ∷ texts) = codes "I " ++ text ++ codes "\n" ++ instruction_lines texts
+abbrev pub instructions_text : List (List ℕ) → List ℕ
+instructions_text [] = []
+instructions_text (text ∷ texts) = codes "I " ++ text ++ codes "\n" ++ instructions_text texts
 
 -- the version of a document is its rule
 abbrev pub version : Rule → ℕ
@@ -123,7 +123,7 @@ version ClampedStanding = 3
 -- up to its last line
 abbrev pub text_before_end : Document → List ℕ
 text_before_end d =
-    codes "S66 CERTIFICATE " ++ decimal (version d.rule) ++ codes "\nPROFILE" ++ after_blanks d.profile ++ codes "\nBLOCK " ++ decimal (length d.block) ++ codes "\n" ++ instruction_lines d.block
+    codes "S66 CERTIFICATE " ++ decimal (version d.rule) ++ codes "\nPROFILE" ++ after_blanks d.profile ++ codes "\nBLOCK " ++ decimal (length d.block) ++ codes "\n" ++ instructions_text d.block
     ++ codes "TIME " ++ decimal d.time ++ codes "\nBOUND " ++ decimal d.bound ++ codes "\nORDER" ++ after_blanks d.numbers ++ codes "\n"
     ++ tree_lines (flat d.tree)
 

@@ -18,13 +18,13 @@ pub record Parts : Type 0 where
   pub vertices : List (Vertex Ending)
 
 -- the tree of which these are the lines
-abbrev pub tree_of : List (Vertex Ending) → Tree Ending
-tree_of vertices = read_tree (Bounding Whole) vertices
+abbrev pub tree_of_lines : List (Vertex Ending) → Tree Ending
+tree_of_lines vertices = read_tree (Bounding Whole) vertices
 
 abbrev pub document_of : Parts → Document
-document_of p = record { rule = p.rule; profile = p.profile; block = p.block; time = p.time; bound = p.bound; numbers = p.numbers; tree = tree_of p.vertices }
+document_of p = record { rule = p.rule; profile = p.profile; block = p.block; time = p.time; bound = p.bound; numbers = p.numbers; tree = tree_of_lines p.vertices }
 
 -- the parts of a document: their lines are those of one whole tree
 pub record AreWhole (p : Parts) : Type 0 where
   pub document : IsDocument BLOCK_LIMIT (document_of p)
-  pub preorder : flat (tree_of p.vertices) ≡ p.vertices
+  pub preorder : flat (tree_of_lines p.vertices) ≡ p.vertices

@@ -12,9 +12,9 @@ use Rattle.s66_cert.specs.declared.error.CertError.TheVariants.{BadLine, Truncat
 abbrev pub IsLine : List ℕ → Type 0
 IsLine line = every (λ b. not (b == 10)) line ≡ true
 
-abbrev pub AreLines : List (List ℕ) → Type 0
-AreLines [] = Unit {0}
-AreLines (line ∷ lines) = IsLine line × AreLines lines
+abbrev pub HaveNoNewline : List (List ℕ) → Type 0
+HaveNoNewline [] = Unit {0}
+HaveNoNewline (line ∷ lines) = IsLine line × HaveNoNewline lines
 
 -- each line with its newline
 abbrev pub with_newlines : List (List ℕ) → List ℕ
@@ -39,7 +39,7 @@ Begins text = BeginsWithin SPLIT_LIMIT text
 pub record HasLine (text : List ℕ) (before : List (List ℕ)) (line : List ℕ) : Type 0 where
   pub after : List ℕ
   pub cut : text ≡ with_newlines before ++ line ++ 10 ∷ after
-  pub lines : AreLines before × IsLine line
+  pub lines : HaveNoNewline before × IsLine line
   pub begins : Begins (with_newlines before)
 
 -- the first line that isn't what a document has in its place, by its number from 1: with it no text of documents begins, however many splits their trees may have
@@ -64,7 +64,7 @@ pub record IsCut (text : List ℕ) : Type 0 where
   pub before : List (List ℕ)
   pub rest : List ℕ
   pub cut : text ≡ with_newlines before ++ rest
-  pub lines : AreLines before × IsLine rest
+  pub lines : HaveNoNewline before × IsLine rest
   pub begins : Begins (with_newlines before)
   pub none : (ds : List Document) → ¬ IsText BLOCK_LIMIT text ds
 

@@ -6,7 +6,7 @@ use Rattle.s66_model.specs.DominatedLeaves.{Ending}
 use Rattle.s66_tree.specs.Lines.{has_dominated_line}
 use Rattle.s66_cert.specs.Document.{AreDocumentsWithin, AreIn, AreNumbers, AreInstructions, IsLeafLine, names_nodes}
 use Rattle.s66_cert.specs.DocumentParts.{Parts}
-use Rattle.s66_cert.specs.Reading.{State}
+use Rattle.s66_cert.specs.Reading.{DocumentState}
 use Rattle.s66_isa.specs.declared.limits.TheConstants.{PROFILE_LENGTH, PROFILE_LIMIT}
 use Rattle.s66_cert.specs.declared.limits.TheConstants.{TIME_LIMIT}
 use Rattle.s66_cert.specs.declared.place.Place.{Place}
@@ -53,5 +53,5 @@ IsPart most AtTree p left splits = (1 ≤ left) × HasTree most p left splits
 IsPart most AtEnd p left splits = HasTree most p 0 splits
 
 -- what was read is in range
-abbrev pub IsFine : ℕ → State → Type 0
+abbrev pub IsFine : ℕ → DocumentState → Type 0
 IsFine most s = AreDocumentsWithin BLOCK_LIMIT most s.documents × IsPart most s.place s.part s.left s.splits

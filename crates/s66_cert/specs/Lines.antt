@@ -17,16 +17,16 @@ use Rattle.s66_cert.specs.Document.{AreIn, AreNumbers, IsLeafLine, kind_name, ve
 use Rattle.s66_isa.specs.declared.limits.TheConstants.{PROFILE_LENGTH, PROFILE_LIMIT}
 use Rattle.s66_cert.specs.declared.limits.TheConstants.{TIME_LIMIT}
 
-pub data Line : Type 0 where
-  Header : (rule : Rule) → Line
-  Profile : (numbers : List ℕ) → Line
-  Block : (count : ℕ) → Line
-  Instruction : (text : List ℕ) → Line
-  Time : (time : ℕ) → Line
-  Bound : (bound : ℕ) → Line
-  Order : (numbers : List ℕ) → Line
-  OfTree : (vertex : Vertex Ending) → Line
-  End : Line
+pub data DocumentLine : Type 0 where
+  Header : (rule : Rule) → DocumentLine
+  Profile : (numbers : List ℕ) → DocumentLine
+  Block : (count : ℕ) → DocumentLine
+  Instruction : (text : List ℕ) → DocumentLine
+  Time : (time : ℕ) → DocumentLine
+  Bound : (bound : ℕ) → DocumentLine
+  Order : (numbers : List ℕ) → DocumentLine
+  OfTree : (vertex : Vertex Ending) → DocumentLine
+  End : DocumentLine
 
 -- ITS BYTES, without the newline
 
@@ -41,16 +41,16 @@ abbrev pub vertex_bytes : Vertex Ending → List ℕ
 vertex_bytes (AtTerminal leaf) = leaf_bytes leaf
 vertex_bytes (AtSplit numbers) = codes "S" ++ after_blanks numbers
 
-abbrev pub bytes_of : Line → List ℕ
-bytes_of (Header rule) = codes "S66 CERTIFICATE " ++ decimal (version rule)
-bytes_of (Profile numbers) = codes "PROFILE" ++ after_blanks numbers
-bytes_of (Block count) = codes "BLOCK " ++ decimal count
-bytes_of (Instruction text) = codes "I " ++ text
-bytes_of (Time time) = codes "TIME " ++ decimal time
-bytes_of (Bound bound) = codes "BOUND " ++ decimal bound
-bytes_of (Order numbers) = codes "ORDER" ++ after_blanks numbers
-bytes_of (OfTree vertex) = vertex_bytes vertex
-bytes_of End = codes "END"
+abbrev pub line_bytes : DocumentLine → List ℕ
+line_bytes (Header rule) = codes "S66 CERTIFICATE " ++ decimal (version rule)
+line_bytes (Profile numbers) = codes "PROFILE" ++ after_blanks numbers
+line_bytes (Block count) = codes "BLOCK " ++ decimal count
+line_bytes (Instruction text) = codes "I " ++ text
+line_bytes (Time time) = codes "TIME " ++ decimal time
+line_bytes (Bound bound) = codes "BOUND " ++ decimal bound
+line_bytes (Order numbers) = codes "ORDER" ++ after_blanks numbers
+line_bytes (OfTree vertex) = vertex_bytes vertex
+line_bytes End = codes "END"
 
 -- ITS RANGES
 
@@ -58,16 +58,16 @@ abbrev pub IsVertex : ℕ → Vertex Ending → Type 0
 IsVertex limit (AtTerminal leaf) = IsLeafLine limit leaf
 IsVertex limit (AtSplit numbers) = AreNumbers limit numbers
 
-abbrev pub IsInRange : ℕ → Line → Type 0
-IsInRange limit (Header rule) = Unit {0}
-IsInRange limit (Profile numbers) = (length numbers ≡ PROFILE_LENGTH) × AreIn 1 PROFILE_LIMIT numbers
-IsInRange limit (Block count) = (1 ≤ count) × (count ≤ limit)
-IsInRange limit (Instruction text) = IsInstruction text
-IsInRange limit (Time time) = time ≤ TIME_LIMIT
-IsInRange limit (Bound bound) = bound ≤ TIME_LIMIT
-IsInRange limit (Order numbers) = AreNumbers limit numbers
-IsInRange limit (OfTree vertex) = IsVertex limit vertex
-IsInRange limit End = Unit {0}
+abbrev pub IsLineInRange : ℕ → DocumentLine → Type 0
+IsLineInRange limit (Header rule) = Unit {0}
+IsLineInRange limit (Profile numbers) = (length numbers ≡ PROFILE_LENGTH) × AreIn 1 PROFILE_LIMIT numbers
+IsLineInRange limit (Block count) = (1 ≤ count) × (count ≤ limit)
+IsLineInRange limit (Instruction text) = IsInstruction text
+IsLineInRange limit (Time time) = time ≤ TIME_LIMIT
+IsLineInRange limit (Bound bound) = bound ≤ TIME_LIMIT
+IsLineInRange limit (Order numbers) = AreNumbers limit numbers
+IsLineInRange limit (OfTree vertex) = IsVertex limit vertex
+IsLineInRange limit End = Unit {0}
 
 -- WORDS, with one blank between two
 
@@ -76,9 +76,9 @@ first_word [] = []
 first_word (b ∷ bytes) = if b == 32 then [] else b ∷ first_word bytes
 
 -- what comes after the first blank, if there is one
-abbrev pub after_word : List ℕ → Option (List ℕ)
-after_word [] = None
-after_word (b ∷ bytes) = if b == 32 then Some bytes else after_word bytes
+abbrev pub after_first_word : List ℕ → Option (List ℕ)
+after_first_word [] = None
+after_first_word (b ∷ bytes) = if b == 32 then Some bytes else after_first_word bytes
 
 -- a byte in front of the first word
 abbrev pub put_front : ℕ → List (List ℕ) → List (List ℕ)
@@ -145,14 +145,14 @@ one_number low high (Some bytes) = number_in low high bytes
 
 -- INSTRUCTIONS
 
-abbrev pub is_instruction : List ℕ → Bool
-is_instruction text =
+abbrev pub is_instruction_text : List ℕ → Bool
+is_instruction_text text =
     nat_le (length text) TEXT_LIMIT && is_some (instr_of (operation_in text) (operand_in text))
     && bytes_eq text (spelling (operation_in text) (operand_in text))
 
-abbrev pub instruction_in : Option (List ℕ) → Option Line
+abbrev pub instruction_in : Option (List ℕ) → Option DocumentLine
 instruction_in None = None
-instruction_in (Some text) = if is_instruction text then Some (Instruction text) else None
+instruction_in (Some text) = if is_instruction_text text then Some (Instruction text) else None
 
 -- KINDS
 
@@ -171,11 +171,11 @@ kind_in (Some name) =
 -- LINES
 
 -- nothing follows the word
-abbrev pub alone : Line → Option (List ℕ) → Option Line
+abbrev pub alone : DocumentLine → Option (List ℕ) → Option DocumentLine
 alone line None = Some line
 alone line (Some rest) = None
 
-abbrev pub header_in : Option (List ℕ) → Option Line
+abbrev pub header_in : Option (List ℕ) → Option DocumentLine
 header_in None = None
 header_in (Some rest) =
     if bytes_eq rest (codes "CERTIFICATE 1") then Some (Header NoneNamed)
@@ -184,7 +184,7 @@ header_in (Some rest) =
     else None))
 
 -- what a line says whose first word is this, and what comes after its blank
-abbrev pub line_with : ℕ → List ℕ → Option (List ℕ) → Option Line
+abbrev pub line_with : ℕ → List ℕ → Option (List ℕ) → Option DocumentLine
 line_with limit name rest =
     if bytes_eq name (codes "T") then alone (OfTree (AtTerminal (Bounding Whole))) rest
     else (if bytes_eq name (codes "S") then option_map (λ ns. OfTree (AtSplit ns)) (block_numbers limit rest)
@@ -203,5 +203,5 @@ line_with limit name rest =
     else None)))))))))))))
 
 -- what a line says, or that it's no line of a document
-abbrev pub line_of : ℕ → List ℕ → Option Line
-line_of limit bytes = line_with limit (first_word bytes) (after_word bytes)
+abbrev pub line_read : ℕ → List ℕ → Option DocumentLine
+line_read limit bytes = line_with limit (first_word bytes) (after_first_word bytes)

@@ -4,7 +4,7 @@ use Rattle.s66_model.specs.Tree.{Tree, Siblings, Vertex, AtTerminal, AtSplit}
 use Rattle.s66_model.specs.DominatedLeaves.{Ending}
 use Rattle.s66_model.specs.NodeNames.{node_at}
 use Rattle.s66_model.specs.Preorder.{forest, later_siblings}
-use Rattle.s66_cert.specs.DocumentParts.{tree_of}
+use Rattle.s66_cert.specs.DocumentParts.{tree_of_lines}
 
 -- WHERE TREES END
 
@@ -19,7 +19,7 @@ pub record IsEnd (vertices : List (Vertex Ending)) (place end : ℕ) : Type 0 wh
   pub others : trees_from vertices end ≡ later_siblings (0 ∷ []) (trees_from vertices place)
 
 -- the ends of the trees of all lines from the first on
-pub record AreEnds (first : ℕ) (ends : List ℕ) (vertices : List (Vertex Ending)) : Type 0 where
+pub record AreTreeEnds (first : ℕ) (ends : List ℕ) (vertices : List (Vertex Ending)) : Type 0 where
   pub count : length ends ≡ length vertices
   pub each : (place : ℕ) → first ≤ place → place < length vertices → IsEnd vertices place (get_or ends place 0)
 
@@ -37,7 +37,7 @@ sibling_count (AtSplit numbers) = length numbers
 
 -- the tree of the line at a place
 abbrev pub tree_at : List (Vertex Ending) → ℕ → Tree Ending
-tree_at vertices place = tree_of (drop place vertices)
+tree_at vertices place = tree_of_lines (drop place vertices)
 
 -- the first child of this number of the line at a place is there; none only if it has none
 abbrev pub IsChildAt : List (Vertex Ending) → ℕ → ℕ → Option ℕ → Type 0

@@ -23,8 +23,8 @@ Printed old new before after text result =
     (λ _. WriteFails old new (before ++ text))
 
 -- what a document has before its instructions
-abbrev pub opening : Parts → List ℕ
-opening p = codes "S66 CERTIFICATE " ++ decimal (version p.rule) ++ codes "\nPROFILE" ++ after_blanks p.profile ++ codes "\nBLOCK " ++ decimal (length p.block) ++ codes "\n"
+abbrev pub opening_lines : Parts → List ℕ
+opening_lines p = codes "S66 CERTIFICATE " ++ decimal (version p.rule) ++ codes "\nPROFILE" ++ after_blanks p.profile ++ codes "\nBLOCK " ++ decimal (length p.block) ++ codes "\n"
 
 -- and between these and its tree
 abbrev pub claim_lines : Parts → List ℕ

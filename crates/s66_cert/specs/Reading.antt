@@ -7,7 +7,7 @@ use Rattle.s66_model.specs.Tree.{Vertex, AtTerminal, AtSplit}
 use Rattle.s66_model.specs.DominatedLeaves.{Ending, Bounding, Dominated}
 use Rattle.s66_tree.specs.Lines.{has_dominated_line}
 use Rattle.s66_cert.specs.Document.{Document, names_nodes}
-use Rattle.s66_cert.specs.Lines.{Line, Header, Profile, Block, Instruction, Time, Bound, Order, OfTree, End, line_of}
+use Rattle.s66_cert.specs.Lines.{DocumentLine, Header, Profile, Block, Instruction, Time, Bound, Order, OfTree, End, line_read}
 use Rattle.s66_cert.specs.DocumentParts.{Parts, document_of}
 use Rattle.s66_cert.specs.declared.limits.TheConstants.{SPLIT_LIMIT}
 use Rattle.s66_cert.specs.declared.error.CertError.{CertError}
@@ -21,7 +21,7 @@ use Rattle.s66_cert.specs.declared.place.Place.TheVariants.{AtHeader, AtProfile,
 abbrev pub nothing : Parts
 nothing = record { rule = NoneNamed; profile = []; block = []; time = 0; bound = 0; numbers = []; vertices = [] }
 
-pub record State : Type 0 where
+pub record DocumentState : Type 0 where
   -- how many lines were read
   pub count : ℕ
   -- the whole documents
@@ -33,16 +33,16 @@ pub record State : Type 0 where
   pub left : ℕ
   pub splits : ℕ
 
-abbrev pub start : State
-start = record { count = 0; documents = []; place = AtHeader; part = nothing; left = 0; splits = 0 }
+abbrev pub first_state : DocumentState
+first_state = record { count = 0; documents = []; place = AtHeader; part = nothing; left = 0; splits = 0 }
 
 -- ONE LINE
 
-abbrev pub bad : State → Result State CertError
+abbrev pub bad : DocumentState → Result DocumentState CertError
 bad s = Err (BadLine (suc s.count))
 
-abbrev pub next : State → Place → Parts → ℕ → ℕ → Result State CertError
-next s place part left splits = Ok (record { count = suc s.count; documents = s.documents; place = place; part = part; left = left; splits = splits })
+abbrev pub advanced : DocumentState → Place → Parts → ℕ → ℕ → Result DocumentState CertError
+advanced s place part left splits = Ok (record { count = suc s.count; documents = s.documents; place = place; part = part; left = left; splits = splits })
 
 abbrev pub place_of_instruction : ℕ → Place
 place_of_instruction left = if left == 0 then AtTime else AtInstruction
@@ -59,42 +59,42 @@ is_allowed rule (AtTerminal (Bounding leaf)) = true
 is_allowed rule (AtTerminal (Dominated name)) = names_nodes rule
 is_allowed rule (AtSplit numbers) = true
 
-abbrev pub vertex_step : ℕ → State → Vertex Ending → Result State CertError
+abbrev pub vertex_step : ℕ → DocumentState → Vertex Ending → Result DocumentState CertError
 vertex_step most s (AtTerminal ending) =
-    if is_allowed s.part.rule (AtTerminal ending) then next s (place_of_tree (s.left - 1)) (with_vertex s.part (AtTerminal ending)) (s.left - 1) s.splits
+    if is_allowed s.part.rule (AtTerminal ending) then advanced s (place_of_tree (s.left - 1)) (with_vertex s.part (AtTerminal ending)) (s.left - 1) s.splits
     else bad s
 vertex_step most s (AtSplit numbers) =
     if nat_le most s.splits then Err TooManyNodes
-    else next s (place_of_tree (s.left - 1 + length numbers)) (with_vertex s.part (AtSplit numbers)) (s.left - 1 + length numbers) (suc s.splits)
+    else advanced s (place_of_tree (s.left - 1 + length numbers)) (with_vertex s.part (AtSplit numbers)) (s.left - 1 + length numbers) (suc s.splits)
 
 -- nodes are named by the rule, and no leaf is dominated
 abbrev pub wants_dominated : Parts → Bool
 wants_dominated p = names_nodes p.rule && not (has_dominated_line p.vertices)
 
-abbrev pub end_step : State → Result State CertError
+abbrev pub end_step : DocumentState → Result DocumentState CertError
 end_step s =
     if wants_dominated s.part then bad s
     else Ok (record { count = suc s.count; documents = s.documents ++ document_of s.part ∷ []; place = AtHeader; part = nothing; left = 0; splits = 0 })
 
 -- the line that comes at this place, and what it makes; any other is bad
-abbrev pub step_at : ℕ → State → Place → Line → Result State CertError
-step_at most s AtHeader (Header rule) = next s AtProfile (record nothing { rule = rule }) 0 0
-step_at most s AtProfile (Profile numbers) = next s AtBlock (record s.part { profile = numbers }) 0 0
-step_at most s AtBlock (Block count) = next s AtInstruction (record s.part { block = [] }) count 0
-step_at most s AtInstruction (Instruction text) = next s (place_of_instruction (s.left - 1)) (record s.part { block = s.part.block ++ text ∷ [] }) (s.left - 1) 0
-step_at most s AtTime (Time time) = next s AtBound (record s.part { time = time }) 0 0
-step_at most s AtBound (Bound bound) = next s AtOrder (record s.part { bound = bound }) 0 0
-step_at most s AtOrder (Order numbers) = next s AtTree (record s.part { numbers = numbers; vertices = [] }) 1 0
+abbrev pub step_at : ℕ → DocumentState → Place → DocumentLine → Result DocumentState CertError
+step_at most s AtHeader (Header rule) = advanced s AtProfile (record nothing { rule = rule }) 0 0
+step_at most s AtProfile (Profile numbers) = advanced s AtBlock (record s.part { profile = numbers }) 0 0
+step_at most s AtBlock (Block count) = advanced s AtInstruction (record s.part { block = [] }) count 0
+step_at most s AtInstruction (Instruction text) = advanced s (place_of_instruction (s.left - 1)) (record s.part { block = s.part.block ++ text ∷ [] }) (s.left - 1) 0
+step_at most s AtTime (Time time) = advanced s AtBound (record s.part { time = time }) 0 0
+step_at most s AtBound (Bound bound) = advanced s AtOrder (record s.part { bound = bound }) 0 0
+step_at most s AtOrder (Order numbers) = advanced s AtTree (record s.part { numbers = numbers; vertices = [] }) 1 0
 step_at most s AtTree (OfTree vertex) = vertex_step most s vertex
 step_at most s AtEnd End = end_step s
 step_at most s place line = bad s
 
-abbrev pub step_if : ℕ → State → Option Line → Result State CertError
+abbrev pub step_if : ℕ → DocumentState → Option DocumentLine → Result DocumentState CertError
 step_if most s None = bad s
 step_if most s (Some line) = step_at most s s.place line
 
-abbrev pub step : ℕ → ℕ → State → List ℕ → Result State CertError
-step limit most s bytes = step_if most s (line_of limit bytes)
+abbrev pub step : ℕ → ℕ → DocumentState → List ℕ → Result DocumentState CertError
+step limit most s bytes = step_if most s (line_read limit bytes)
 
 -- ALL LINES
 
@@ -102,7 +102,7 @@ abbrev pub and_then : {A B : Type 0} → Result A CertError → (A → Result B 
 and_then (Ok x) f = f x
 and_then (Err e) f = Err e
 
-abbrev pub steps : ℕ → ℕ → State → List (List ℕ) → Result State CertError
+abbrev pub steps : ℕ → ℕ → DocumentState → List (List ℕ) → Result DocumentState CertError
 steps limit most s [] = Ok s
 steps limit most s (line ∷ lines) = and_then (step limit most s line) (λ t. steps limit most t lines)
 
@@ -127,12 +127,12 @@ is_header AtOrder = false
 is_header AtTree = false
 is_header AtEnd = false
 
-abbrev pub ended : List ℕ → State → Result (List Document) CertError
+abbrev pub ended : List ℕ → DocumentState → Result (List Document) CertError
 ended rest s = if is_header s.place && (length rest == 0) then Ok s.documents else Err Truncated
 
 -- the documents of a text, or its first fault
 abbrev pub read_within : ℕ → ℕ → List ℕ → Result (List Document) CertError
-read_within limit most text = and_then (steps limit most start (whole_lines [] text)) (ended (last_bytes [] text))
+read_within limit most text = and_then (steps limit most first_state (whole_lines [] text)) (ended (last_bytes [] text))
 
 abbrev pub read_of : List ℕ → Result (List Document) CertError
 read_of text = read_within BLOCK_LIMIT SPLIT_LIMIT text

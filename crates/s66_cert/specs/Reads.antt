@@ -5,7 +5,7 @@ use Rattle.s66_cert.specs.declared.error.CertError.{CertError}
 use Rattle.s66_cert.specs.declared.error.CertError.TheVariants.{OutOfMemory}
 
 -- a refusal that isn't out of memory is the first fault of the text
-abbrev pub Refuses : {X : Type 0} → List ℕ → Result X CertError → Type 0
-Refuses text (Ok x) = Unit {0}
-Refuses text (Err OutOfMemory) = Unit {0}
-Refuses text (Err e) = IsFault text e
+abbrev pub RefusesText : {X : Type 0} → List ℕ → Result X CertError → Type 0
+RefusesText text (Ok x) = Unit {0}
+RefusesText text (Err OutOfMemory) = Unit {0}
+RefusesText text (Err e) = IsFault text e

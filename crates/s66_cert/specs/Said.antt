@@ -1,11 +1,11 @@
 -- Used by contracts: what a line says that code has read.
 use Rattle.s66_tree.specs.Lines.{vertex_of}
-use Rattle.s66_cert.specs.Lines.{Line}
+use Rattle.s66_cert.specs.Lines.{DocumentLine}
 use Rattle.s66_cert.specs.Lines as line
 use Rattle.s66_cert.specs.declared.line.LineOf.{LineOf}
 use Rattle.s66_cert.specs.declared.line.LineOf.TheVariants as code
 
-abbrev pub said : LineOf → Line
+abbrev pub said : LineOf → DocumentLine
 said (code.Header rule) = line.Header rule
 said (code.Profile numbers) = line.Profile numbers.items
 said (code.Block count) = line.Block count

@@ -50,13 +50,13 @@ impl Model for IndexedTree {
     ghost use Rattle.std.specs.Prelude.{List};
     ghost use Rattle.s66_model.specs.Tree.{Vertex};
     ghost use Rattle.s66_model.specs.DominatedLeaves.{Ending};
-    ghost use Rattle.s66_cert.specs.NodePlaces.{AreEnds};
+    ghost use Rattle.s66_cert.specs.NodePlaces.{AreTreeEnds};
 
     ghost Value = { List (Vertex Ending) };
 
     ghost view = { λ t. t.lines };
 
-    ghost invariant = { λ t. AreEnds 0 t.ends.items t.lines };
+    ghost invariant = { λ t. AreTreeEnds 0 t.ends.items t.lines };
 }
 
 impl IndexedTree {
@@ -64,7 +64,7 @@ impl IndexedTree {
     ghost use Rattle.std.specs.Option.{option_map};
     ghost use Rattle.s66_model.specs.NodeNames.{node_at};
     ghost use Rattle.s66_tree.specs.Lines.{vertex_of};
-    ghost use Rattle.s66_cert.specs.DocumentParts.{tree_of};
+    ghost use Rattle.s66_cert.specs.DocumentParts.{tree_of_lines};
     ghost use Rattle.s66_cert.specs.NodePlaces.{IsChildAt};
 
     /// The same lines, in one pass over them; nothing is allocated.
@@ -113,7 +113,7 @@ impl IndexedTree {
     /// The line of the node of this name.
     pub(crate) fn node_at(&self, name: &[u8]) -> Option<TreeLine<'_>>
         requires { 1 ≤ length self.now }
-        ensures { option_map vertex_of result ≡ node_at [] (tree_of self.now) name.now }
+        ensures { option_map vertex_of result ≡ node_at [] (tree_of_lines self.now) name.now }
     {
         let mut place = 0;
         for number in name {

@@ -3,7 +3,7 @@ ghost use Rattle.s66_isa.specs.Lists.{after_blanks};
 ghost use Rattle.s66_isa.specs.declared.limits.TheConstants.{BLOCK_LIMIT};
 ghost use Rattle.s66_line.specs.declared.limits.TheConstants.{TEXT_LIMIT};
 ghost use Rattle.s66_model.specs.Tree.{AtTerminal, Vertex};
-ghost use Rattle.s66_cert.specs.Document.{kind_name, instruction_lines, tree_lines};
+ghost use Rattle.s66_cert.specs.Document.{kind_name, instructions_text, tree_lines};
 ghost use Rattle.s66_cert.specs.Pages.{Printed};
 ghost use Rattle.s66_tree.specs.Lines.{vertex_of, IsShort};
 
@@ -111,7 +111,7 @@ impl Page {
     pub(crate) fn instruction(&mut self, text: &[u8])
         requires few { length text.now ≤ TEXT_LIMIT }
         requires room { length self.old + LINE_ROOM ≤ PAGE_SIZE }
-        ensures { self.new ≡ self.old ++ instruction_lines (text.now ∷ []) }
+        ensures { self.new ≡ self.old ++ instructions_text (text.now ∷ []) }
     {
         self.text(b"I ");
         self.text(text);

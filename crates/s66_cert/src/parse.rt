@@ -5,7 +5,7 @@ ghost use Rattle.s66_isa.specs.declared.limits.TheConstants.{BLOCK_LIMIT};
 ghost use Rattle.s66_model.specs.Leaves.{Chain, Load};
 ghost use Rattle.s66_model.specs.Tree.{AtTerminal, AtSplit};
 ghost use Rattle.s66_model.specs.DominatedLeaves.{Bounding, Dominated};
-ghost use Rattle.s66_cert.specs.Lines.{line_of, block_numbers, profile_in, one_number, instruction_in, kind_in, header_in, alone, OfTree};
+ghost use Rattle.s66_cert.specs.Lines.{line_read, block_numbers, profile_in, one_number, instruction_in, kind_in, header_in, alone, OfTree};
 ghost use Rattle.s66_cert.specs.Lines as line;
 ghost use Rattle.s66_cert.specs.Said.{said};
 ghost use Rattle.s66_cert.specs.declared.limits.TheConstants.{TIME_LIMIT};
@@ -191,7 +191,7 @@ pub(crate) fn line_of<'a>(
     bytes: &'a [u8],
     room: &'a mut ArrayVec<u8, BLOCK_LIMIT>,
 ) -> Option<LineOf<'a>>
-    ensures { option_map said result ≡ line_of BLOCK_LIMIT bytes.now }
+    ensures { option_map said result ≡ line_read BLOCK_LIMIT bytes.now }
 {
     let (name, rest) = split_word(bytes);
     if is_name(name, b"T") {

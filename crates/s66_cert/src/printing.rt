@@ -1,7 +1,7 @@
 ghost use Rattle.std.specs.Prelude.{◌≡◌, ◌-◌, ◌^◌, ◌<◌, ◌++◌, ℕ, [], codes};
 ghost use Rattle.s66_device.specs.Devices.{Written};
-ghost use Rattle.s66_cert.specs.Document.{document_text, instruction_lines, tree_lines, version};
-ghost use Rattle.s66_cert.specs.Pages.{Printed, AreShort, opening, claim_lines};
+ghost use Rattle.s66_cert.specs.Document.{document_text, instructions_text, tree_lines, version};
+ghost use Rattle.s66_cert.specs.Pages.{Printed, AreShort, opening_lines, claim_lines};
 ghost use Rattle.s66_cert.specs.DocumentParts.{document_of};
 
 use crate::document::Document;
@@ -25,7 +25,7 @@ fn version(rule: Rule) -> u32
 /// Prints what a document has before its instructions.
 fn print_opening(document: &Document, page: &mut Page)
     requires { page.old ≡ [] }
-    ensures { page.new ≡ opening document.now }
+    ensures { page.new ≡ opening_lines document.now }
 {
     page.text(b"S66 CERTIFICATE ");
     page.number(version(document.rule()));
@@ -43,7 +43,7 @@ fn print_block<S: Sink>(
     writer: &mut S,
 ) -> Result<(), WriteError>
     requires { (S.seen writer.old).failures < 2 ^ 64 - 1 }
-    ensures { Printed (S.seen writer.old) (S.seen writer.new) page.old page.new (instruction_lines block.now) result }
+    ensures { Printed (S.seen writer.old) (S.seen writer.new) page.old page.new (instructions_text block.now) result }
 {
     for text in block {
         page.make_room(writer)?;

@@ -2,11 +2,11 @@ ghost use Rattle.std.specs.Prelude.{suc, false, ◌≡◌, ◌≤◌, ◌<◌, �
 ghost use Rattle.s66_isa.specs.declared.limits.TheConstants.{BLOCK_LIMIT};
 ghost use Rattle.s66_cert.specs.Document.{names_nodes};
 ghost use Rattle.s66_cert.specs.Fine.{IsFine};
-ghost use Rattle.s66_cert.specs.Lines.{IsInRange, IsVertex, Header, Profile, Block, Instruction, Time, Bound, Order, OfTree, End};
+ghost use Rattle.s66_cert.specs.Lines.{IsLineInRange, IsVertex, Header, Profile, Block, Instruction, Time, Bound, Order, OfTree, End};
 ghost use Rattle.s66_tree.specs.Lines.{vertex_of};
 ghost use Rattle.s66_cert.specs.DocumentParts.{AreWhole};
 ghost use Rattle.s66_cert.specs.DocumentReader.{state, Steps, StepsEnd};
-ghost use Rattle.s66_cert.specs.Reading.{nothing, start, is_allowed, wants_dominated, step_at, step, steps, whole_lines, last_bytes};
+ghost use Rattle.s66_cert.specs.Reading.{nothing, first_state, is_allowed, wants_dominated, step_at, step, steps, whole_lines, last_bytes};
 ghost use Rattle.s66_cert.specs.Said.{said};
 ghost use Rattle.s66_cert.specs.declared.error.CertError.TheVariants.{BadLine};
 ghost use Rattle.s66_cert.specs.declared.limits.TheConstants.{SPLIT_LIMIT};
@@ -81,7 +81,7 @@ pub(crate) struct Reader {
 impl Reader {
     /// No line was read.
     pub(crate) fn new(alloc: Global) -> Reader
-        ensures { state result ≡ start }
+        ensures { state result ≡ first_state }
     {
         Reader {
             lines: 0,
@@ -325,7 +325,7 @@ impl Reader {
     fn take(&mut self, alloc: Global, line: LineOf<'_>) -> Result<(), CertError>
         requires lines { self.old.lines < 2 ^ 64 - 1 }
         requires fine { IsFine SPLIT_LIMIT (state self.old) }
-        requires range { IsInRange BLOCK_LIMIT (said line) }
+        requires range { IsLineInRange BLOCK_LIMIT (said line) }
         ensures { Steps (state self.new) result (step_at SPLIT_LIMIT (state self.old) self.old.place (said line.entry)) }
     {
         match line {

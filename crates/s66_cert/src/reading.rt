@@ -4,7 +4,7 @@ ghost use Rattle.s66_cert.specs.Document.{IsText};
 ghost use Rattle.s66_cert.specs.DocumentParts.{document_of};
 ghost use Rattle.s66_cert.specs.DocumentReader.{Gives};
 ghost use Rattle.s66_cert.specs.Reading.{read_of};
-ghost use Rattle.s66_cert.specs.Reads.{Refuses};
+ghost use Rattle.s66_cert.specs.Reads.{RefusesText};
 
 use crate::document::Document;
 use crate::error::CertError;
@@ -40,7 +40,7 @@ fn read_lines(alloc: Global, text: &[u8]) -> Result<Vec<Document>, CertError>
 /// fourteen bytes a line and one a number.
 pub fn read(alloc: Global, text: &[u8]) -> Result<Vec<Document>, CertError>
     ensures documents { IfOk result (λ ds. IsText BLOCK_LIMIT text.now (map document_of ds.items)) }
-    ensures fault { Refuses text.now result }
+    ensures fault { RefusesText text.now result }
 {
     read_lines(alloc, text)
 }

@@ -1,7 +1,7 @@
 ghost use Rattle.std.specs.Prelude.{◌≡◌, ◌≤◌, ◌<◌, ◌+◌, ◌-◌, ◌*◌, ◌^◌, true, if◌then◌else◌, length, IfSome};
 ghost use Rattle.std.specs.Option.{option_map};
 ghost use Rattle.s66_isa.specs.Lists.{every};
-ghost use Rattle.s66_cert.specs.Lines.{first_word, after_word, words_in, is_digit, value_after, has_no_leading_zero, number_in, numbers_in, if_count};
+ghost use Rattle.s66_cert.specs.Lines.{first_word, after_first_word, words_in, is_digit, value_after, has_no_leading_zero, number_in, numbers_in, if_count};
 ghost use Rattle.s66_cert.specs.declared.limits.TheConstants.{TIME_LIMIT};
 
 use crate::limits::TIME_LIMIT;
@@ -10,7 +10,7 @@ use arrayvec::ArrayVec;
 /// The bytes before the first blank, and those after it if there is one.
 pub(crate) fn split_word(bytes: &[u8]) -> (&[u8], Option<&[u8]>)
     ensures word { result.0.now ≡ first_word bytes.now }
-    ensures rest { option_map (λ r. r.now) result.1 ≡ after_word bytes.now }
+    ensures rest { option_map (λ r. r.now) result.1 ≡ after_first_word bytes.now }
     ensures shorter { IfSome result.1 (λ r. length r.now < length bytes.now) }
 {
     for (i, byte) in bytes.iter().enumerate() {

@@ -15,7 +15,7 @@ use Rattle.s66_model.proofs.LegalOrders.{order-legal, legal-order}
 use Rattle.s66_model.proofs.Beginnings.{beginning-front}
 use Rattle.s66_model.proofs.Remaining.{ready-among, step-begins}
 use Rattle.s66_checker.specs.declared.verdict.Reason.TheVariants as fault
-use Rattle.s66_checker.specs.Dominating.{goes_on}
+use Rattle.s66_checker.specs.Dominating.{is_beginning_after}
 use Rattle.s66_checker.specs.Verdict.{problem_of, is_legal_order, is_walk, has_links, is_complete, is_at_its_place, leaf_fault, line_fault}
 
 -- no fault if the test fails, and none after it
@@ -25,15 +25,15 @@ passed false fault later none other = ((λ h. (refl, h)), λ h. h.1)
 
 -- LEGAL ORDERS
 
-pub goes_on-Decides : (block : List Instr) (prefix ns : List ℕ) → Decides (goes_on block prefix ns) (GoesOn block prefix ns)
+pub goes_on-Decides : (block : List Instr) (prefix ns : List ℕ) → Decides (is_beginning_after block prefix ns) (GoesOn block prefix ns)
 goes_on-Decides block prefix [] = ((λ h. tt), λ h. refl)
 goes_on-Decides block prefix (n ∷ ns) =
-    Decides-and (is_ready block prefix n) (goes_on block (prefix ++ n ∷ []) ns) ((λ h. h), λ h. h) (goes_on-Decides block (prefix ++ n ∷ []) ns)
+    Decides-and (is_ready block prefix n) (is_beginning_after block (prefix ++ n ∷ []) ns) ((λ h. h), λ h. h) (goes_on-Decides block (prefix ++ n ∷ []) ns)
 
 pub is_legal_order-Decides : (block : List Instr) (order : List ℕ) → Decides (is_legal_order block order) (IsLegal block order)
 is_legal_order-Decides block order =
     Decides-like (is_legal_order block order) (order-legal block order) (legal-order block order)
-    (Decides-and (goes_on block [] order) (length order == length block) (goes_on-Decides block [] order) (eqb-true (length order) (length block), eq-eqb (length order) (length block)))
+    (Decides-and (is_beginning_after block [] order) (length order == length block) (goes_on-Decides block [] order) (eqb-true (length order) (length block), eq-eqb (length order) (length block)))
 
 -- a beginning that isn't complete is shorter than the block
 pub is_incomplete-Decides : (b : Problem) (prefix : List ℕ) → IsBeginning b.block prefix → Decides (not (is_complete b prefix)) (IsIncomplete b.block prefix)

@@ -4,15 +4,15 @@ use Rattle.std.proofs.lemmas.List.{append-nil, take-append-drop, take_all}
 use Rattle.s66_isa.specs.declared.instr.Instr.{Instr}
 use Rattle.s66_model.specs.LegalOrder.{GoesOn, IsBeginning}
 use Rattle.s66_model.proofs.LegalOrders.{GoesOn-append}
-use Rattle.s66_checker.specs.Dominating.{goes_on}
+use Rattle.s66_checker.specs.Dominating.{is_beginning_after}
 
 -- what goes on to some numbers goes on to more as it does from there
-goes-further : (block : List Instr) (prefix xs ys : List ℕ) → GoesOn block prefix xs → goes_on block (prefix ++ xs) ys ≡ goes_on block prefix (xs ++ ys)
-goes-further block prefix [] ys goes = ap (λ ns. goes_on block ns ys) (append-nil prefix)
+goes-further : (block : List Instr) (prefix xs ys : List ℕ) → GoesOn block prefix xs → is_beginning_after block (prefix ++ xs) ys ≡ is_beginning_after block prefix (xs ++ ys)
+goes-further block prefix [] ys goes = ap (λ ns. is_beginning_after block ns ys) (append-nil prefix)
 goes-further block prefix (n ∷ xs) ys goes =
-    ap (λ ns. goes_on block ns ys) (sym (append_assoc prefix (n ∷ []) xs))
+    ap (λ ns. is_beginning_after block ns ys) (sym (append_assoc prefix (n ∷ []) xs))
     ∙ goes-further block (prefix ++ n ∷ []) xs ys goes.1
-    ∙ sym (ap (λ test. test && goes_on block (prefix ++ n ∷ []) (xs ++ ys)) goes.0)
+    ∙ sym (ap (λ test. test && is_beginning_after block (prefix ++ n ∷ []) (xs ++ ys)) goes.0)
 
 -- the numbers that two have in common at the front are a beginning if one is
 pub front-begins : (block : List Instr) (ns ms : List ℕ) (k : ℕ) → IsBeginning block ns → take k ns ≡ take k ms → IsBeginning block (take k ms)
@@ -21,8 +21,8 @@ front-begins block ns ms k begins same =
     (GoesOn-append block [] (take k ns) (drop k ns) (subst (IsBeginning block) (sym (take-append-drop k ns)) begins)).0
 
 -- all that is left after the front decides
-pub front-goes : (block : List Instr) (ms : List ℕ) (k : ℕ) → IsBeginning block (take k ms) → goes_on block (take k ms) (drop k ms) ≡ goes_on block [] ms
-front-goes block ms k begins = goes-further block [] (take k ms) (drop k ms) begins ∙ ap (goes_on block []) (take-append-drop k ms)
+pub front-goes : (block : List Instr) (ms : List ℕ) (k : ℕ) → IsBeginning block (take k ms) → is_beginning_after block (take k ms) (drop k ms) ≡ is_beginning_after block [] ms
+front-goes block ms k begins = goes-further block [] (take k ms) (drop k ms) begins ∙ ap (is_beginning_after block []) (take-append-drop k ms)
 
 -- nothing but the front
 pub front-alone : (k : ℕ) (ns ms : List ℕ) → length ns ≤ k → take k ns ≡ take k ms → ns ≡ take k ms

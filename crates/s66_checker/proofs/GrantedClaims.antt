@@ -14,7 +14,7 @@ use Rattle.s66_checker.specs.declared.verdict.Verdict.TheVariants.{Yes, No}
 use Rattle.s66_checker.specs.declared.verdict.Reason.{Reason}
 use Rattle.s66_checker.specs.declared.verdict.Reason.TheVariants as fault
 use Rattle.s66_checker.specs.TrueClaims.{IsTrueClaim}
-use Rattle.s66_checker.specs.Verdict.{problem_of, is_legal_order, siblings_placed, tree_placed, line_fault, unless, lines_verdict, time_line, bound_line, order_line, tree_line, verdict}
+use Rattle.s66_checker.specs.Verdict.{problem_of, is_legal_order, siblings_placed, tree_placed, line_fault, unless, lines_verdict, time_line_number, bound_line_number, order_line_number, tree_line_number, verdict}
 use Rattle.s66_checker.proofs.Faultless.{passed, is_legal_order-Decides, split-shows, ready-short}
 use Rattle.s66_checker.proofs.DominatedLines.{ending-shows}
 
@@ -97,16 +97,16 @@ lines-yes d (at ∷ lines) line time bound =
 pub verdict-yes : (limit : ℕ) (d : Document) (time bound : ℕ) → TreeFits limit d.tree → (verdict d ≡ Yes time bound) ↔ ((time ≡ d.time) × (bound ≡ d.bound) × IsTrueClaim d)
 verdict-yes limit d time bound fit =
     let b : Problem = problem_of d in
-    let lines : Verdict = lines_verdict d (tree_line d) (tree_placed [] d.tree) in
+    let lines : Verdict = lines_verdict d (tree_line_number d) (tree_placed [] d.tree) in
     let high : Bool = nat_lt d.time d.bound in
     let times : Bool = total_of b d.numbers == d.time in
     let legal : Bool = is_legal_order b.block d.numbers in
-    let after_time : Verdict = cond high (No (bound_line d) fault.Bound) lines in
-    let after_order : Verdict = cond (not times) (No (time_line d) fault.Time) after_time in
-    let order = passed (not legal) (No (order_line d) fault.Order) after_order (Yes time bound) (λ h. (cc)) in
-    let total = passed (not times) (No (time_line d) fault.Time) after_time (Yes time bound) (λ h. (cc)) in
-    let within = passed high (No (bound_line d) fault.Bound) lines (Yes time bound) (λ h. (cc)) in
-    let stated = lines-yes d (tree_placed [] d.tree) (tree_line d) time bound in
+    let after_time : Verdict = cond high (No (bound_line_number d) fault.Bound) lines in
+    let after_order : Verdict = cond (not times) (No (time_line_number d) fault.Time) after_time in
+    let order = passed (not legal) (No (order_line_number d) fault.Order) after_order (Yes time bound) (λ h. (cc)) in
+    let total = passed (not times) (No (time_line_number d) fault.Time) after_time (Yes time bound) (λ h. (cc)) in
+    let within = passed high (No (bound_line_number d) fault.Bound) lines (Yes time bound) (λ h. (cc)) in
+    let stated = lines-yes d (tree_placed [] d.tree) (tree_line_number d) time bound in
     let shows = tree-shows d limit d.tree fit in
     let is_legal = is_legal_order-Decides b.block d.numbers in (
       (λ h. (let one = order.0 h in

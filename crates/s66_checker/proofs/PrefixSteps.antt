@@ -12,7 +12,7 @@ use Rattle.s66_model.specs.LegalOrder.{IsBeginning, is_ready}
 use Rattle.s66_model.proofs.LegalOrders.{ready-parts, has_push-same, has_push-other, GoesOn-append}
 use Rattle.s66_model.proofs.PointTimes.{points_after-append, points_after-length}
 use Rattle.s66_model.proofs.Remaining.{step-begins}
-use Rattle.s66_checker.specs.KeptPrefix.{under, AreNeeds, AreTimed, IsPrefix}
+use Rattle.s66_checker.specs.KeptPrefix.{with_profile, AreNeeds, AreTimed, IsPrefix}
 use Rattle.s66_checker.specs.Marked.{is_marked}
 use Rattle.s66_checker.specs.declared.marks.Marks.{Marks}
 use Rattle.s66_checker.proofs.Reversed.{reverse-last}
@@ -52,7 +52,7 @@ room-left block profile rows all placed ns xs n is ready =
     (omega (arith, more, prefix-length block profile rows all placed ns xs is), more)
 
 -- only the row matters, and the profile
-point-under : (block : List Instr) (profile : Profile) (s : List Point) (n : ℕ) (r : Row) → point (under profile) s n r ≡ point (record { block = block; profile = profile }) s n r
+point-under : (block : List Instr) (profile : Profile) (s : List Point) (n : ℕ) (r : Row) → point (with_profile profile) s n r ≡ point (record { block = block; profile = profile }) s n r
 unfolding point Rattle.s66_model.specs.Timing.start_of Rattle.s66_model.specs.Timing.issue_of
 point-under block profile s n r = refl
 
@@ -65,7 +65,7 @@ marked-push placed more ns n with marked m low high =
     ]
 
 pub prefix-push : (block : List Instr) (profile : Profile) (rows : List Row) (all : List Marks) (placed : Marks) (ns : List ℕ) (xs : List Point) (n : ℕ) (more : Marks) (r : Row) (p : Point) (ms : List ℕ) (ys : List Point) →
-    IsPrefix block profile rows all placed ns xs → ((m : ℕ) → 1 ≤ m → is_marked more m ≡ (m == n || is_marked placed m)) → is_ready block ns n ≡ true → r ≡ row_at (record { block = block; profile = profile }) n → p ≡ point (under profile) (reverse xs) n r →
+    IsPrefix block profile rows all placed ns xs → ((m : ℕ) → 1 ≤ m → is_marked more m ≡ (m == n || is_marked placed m)) → is_ready block ns n ≡ true → r ≡ row_at (record { block = block; profile = profile }) n → p ≡ point (with_profile profile) (reverse xs) n r →
     ms ≡ ns ++ n ∷ [] → ys ≡ xs ++ p ∷ [] → IsPrefix block profile rows all more ms ys
 prefix-push block profile rows all placed ns xs n more r p ms ys is with ready e2 e3 e4 e5 =
     let (low, high, new, met) = ready-parts block ns n ready in

@@ -18,8 +18,8 @@ use Rattle.s66_checker.specs.Checked.{Checked}
 use Rattle.s66_checker.specs.declared.verdict.Verdict.TheVariants.{Yes, No}
 use Rattle.s66_checker.specs.declared.verdict.Reason.{Reason}
 use Rattle.s66_line.specs.InstructionText.{instr_in_text}
-use Rattle.s66_checker.specs.Verdict.{problem_of, line_fault, lines_verdict, tree_line, tree_placed}
-use Rattle.s66_checker.specs.Walk.{coming, after_line, HasReady}
+use Rattle.s66_checker.specs.Verdict.{problem_of, line_fault, lines_verdict, tree_line_number, tree_placed}
+use Rattle.s66_checker.specs.Walk.{coming, coming_after, HasReady}
 use Rattle.s66_checker.proofs.Faultless.{split-shows}
 use Rattle.s66_checker.proofs.Placed.{placed, none-placed, tree-placed, few-lines}
 
@@ -52,10 +52,10 @@ module _ (block : List Instr) (prefix : List ℕ) (vertex : Vertex Ending) (numb
       ready-among block prefix n (subst (λ ns. Among n ns) (sym cut ∙ ready-numbers) (inl refl))
 
   -- and is in hand
-  pub first-taken : (n : ℕ) → Some n ≡ slice_get numbers 0 → (prefix ++ n ∷ []) ∷ later block [] (prefix ++ n ∷ []) ≡ after_line block prefix vertex
+  pub first-taken : (n : ℕ) → Some n ≡ slice_get numbers 0 → (prefix ++ n ∷ []) ∷ later block [] (prefix ++ n ∷ []) ≡ coming_after block prefix vertex
   first-taken n first =
       let (more, cut) = first-of numbers n first in
-      split-first block prefix n more (sym ready-numbers ∙ cut) ∙ ap (λ ns. children prefix ns ++ later block [] prefix) (sym cut) ∙ sym (ap (after_line block prefix) is)
+      split-first block prefix n more (sym ready-numbers ∙ cut) ∙ ap (λ ns. children prefix ns ++ later block [] prefix) (sym cut) ∙ sym (ap (coming_after block prefix) is)
 
 -- FROM LINE TO LINE
 
@@ -78,14 +78,14 @@ module _ (d : Document) (number : ℕ) (at : Checked) (same : at.problem ≡ pro
         by (AtSplit numbers) h = (split-shows d at.numbers numbers).0 h ∙ ap (λ (b : Problem). ready b.block at.numbers) (sym same)
 
     -- without a fault it goes on
-    pub line-passed : (more other : Bool) (next : List ℕ) → coming at.problem.block more next ≡ after_line at.problem.block at.numbers vertex → more ≡ other →
+    pub line-passed : (more other : Bool) (next : List ℕ) → coming at.problem.block more next ≡ coming_after at.problem.block at.numbers vertex → more ≡ other →
         lines_verdict d (number + 1) (placed vertices (coming (problem_of d).block other next)) ≡ lines_verdict d number (placed lines (coming (problem_of d).block true at.numbers))
     line-passed more other next goes is =
         by vertex (sym stated ∙ none)
-        (subst (λ (b : Problem). coming b.block other next ≡ after_line b.block at.numbers vertex) same (ap (λ m. coming at.problem.block m next) (sym is) ∙ goes))
+        (subst (λ (b : Problem). coming b.block other next ≡ coming_after b.block at.numbers vertex) same (ap (λ m. coming at.problem.block m next) (sym is) ∙ goes))
         ∙ ap (λ ks. lines_verdict d number (placed ks (coming (problem_of d).block true at.numbers))) (sym first)
       where
-        by : (k : Vertex Ending) → line_fault d at.numbers k ≡ None → coming (problem_of d).block other next ≡ after_line (problem_of d).block at.numbers k →
+        by : (k : Vertex Ending) → line_fault d at.numbers k ≡ None → coming (problem_of d).block other next ≡ coming_after (problem_of d).block at.numbers k →
             lines_verdict d (number + 1) (placed vertices (coming (problem_of d).block other next)) ≡ lines_verdict d number (placed (k ∷ vertices) (coming (problem_of d).block true at.numbers))
         by (AtTerminal ending) h e = let one : number + 1 ≡ suc number = omega arith in rw (h, e, one) refl
         by (AtSplit numbers) h e = let one : number + 1 ≡ suc number = omega arith in rw (h, e, one) refl
@@ -105,16 +105,16 @@ module _ (p : Parts) (whole : AreWhole p) (start : Checked) (at : start ≡ reco
   d : Document
   d = document_of p
 
-  at-line : count + 7 ≡ tree_line d
+  at-line : count + 7 ≡ tree_line_number d
   unfolding d
   at-line =
       omega (arith, counted, ap (λ (c : Checked). length c.problem.block) at, length-map p.block instr_in_text)
 
-  pub walk-begins : lines_verdict (document_of p) (count + 7) (placed lines (coming (problem_of (document_of p)).block true start.numbers)) ≡ lines_verdict (document_of p) (tree_line (document_of p)) (tree_placed [] (document_of p).tree)
+  pub walk-begins : lines_verdict (document_of p) (count + 7) (placed lines (coming (problem_of (document_of p)).block true start.numbers)) ≡ lines_verdict (document_of p) (tree_line_number (document_of p)) (tree_placed [] (document_of p).tree)
   unfolding d
   walk-begins =
       rw (at-line, ap (λ (c : Checked). c.numbers) at, all ∙ sym whole.preorder)
-      (ap (lines_verdict d (tree_line d)) (tree-placed BLOCK_LIMIT d.tree whole.document.tree))
+      (ap (lines_verdict d (tree_line_number d)) (tree-placed BLOCK_LIMIT d.tree whole.document.tree))
 
   pub walk-ends : count + 7 + length lines ≤ BLOCK_LIMIT + 8 + SPLIT_LIMIT * BLOCK_LIMIT
   unfolding d

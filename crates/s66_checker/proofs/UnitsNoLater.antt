@@ -10,7 +10,7 @@ use Rattle.s66_isa.specs.Lists.{every, tally}
 use Rattle.s66_isa.specs.Table.{kind_number, copies_of, all_kinds}
 use Rattle.s66_model.specs.Timing.{Point, busy_at}
 use Rattle.s66_model.specs.Dominance.{free_times}
-use Rattle.s66_checker.specs.PastWords.{AreFree, idle, AreWords}
+use Rattle.s66_checker.specs.PastWords.{AreFree, never_busy, AreWords}
 use Rattle.s66_checker.specs.declared.words.FreeTimes.{FreeTimes}
 use Rattle.s66_checker.specs.declared.words.Words.{Words}
 use Rattle.s66_checker.specs.Dominating.{are_places_no_later}
@@ -38,10 +38,10 @@ kinds-step profile clamp q p i copies stated lt known is passes =
 
 module _ (kind : Kind) (xs ys : List Point) (w v : Words) (place copies clamp : ℕ) (own : AreWords xs w) (other : AreWords ys v) (is : place ≡ kind_number kind) where
   f : FreeTimes
-  f = get_or w.free place idle
+  f = get_or w.free place never_busy
 
   g : FreeTimes
-  g = get_or v.free place idle
+  g = get_or v.free place never_busy
 
   abbrev Test : Bool
   Test = are_places_no_later copies clamp (free_times kind (reverse xs)) (free_times kind (reverse ys))
@@ -54,46 +54,46 @@ module _ (kind : Kind) (xs ys : List Point) (w v : Words) (place copies clamp : 
 
   own_free : AreFree (λ t. tally (busy_at kind t) xs) f
   unfolding f
-  own_free = subst (λ i. AreFree (λ t. tally (busy_at kind t) xs) (get_or w.free i idle)) (sym is) (own.free kind)
+  own_free = subst (λ i. AreFree (λ t. tally (busy_at kind t) xs) (get_or w.free i never_busy)) (sym is) (own.free kind)
 
   other_free : AreFree (λ t. tally (busy_at kind t) ys) g
   unfolding g
-  other_free = subst (λ i. AreFree (λ t. tally (busy_at kind t) ys) (get_or v.free i idle)) (sym is) (other.free kind)
+  other_free = subst (λ i. AreFree (λ t. tally (busy_at kind t) ys) (get_or v.free i never_busy)) (sym is) (other.free kind)
 
-  first : (get_or w.free place idle).all ≤ max (get_or v.free place idle).all clamp ↔ Within 0
+  first : (get_or w.free place never_busy).all ≤ max (get_or v.free place never_busy).all clamp ↔ Within 0
   unfolding f g
   first = (
     λ h. omega (arith, h, first-time kind xs f own_free, first-time kind ys g other_free),
     λ h. omega (arith, h, first-time kind xs f own_free, first-time kind ys g other_free),
   )
 
-  second : (get_or w.free place idle).all_but_one ≤ max (get_or v.free place idle).all_but_one clamp ↔ Within 1
+  second : (get_or w.free place never_busy).all_but_one ≤ max (get_or v.free place never_busy).all_but_one clamp ↔ Within 1
   unfolding f g
   second = (
     λ h. omega (arith, h, second-time kind xs f own_free, second-time kind ys g other_free),
     λ h. omega (arith, h, second-time kind xs f own_free, second-time kind ys g other_free),
   )
 
-  pub first-later : 1 ≤ copies → max (get_or v.free place idle).all clamp < (get_or w.free place idle).all → false ≡ Test
+  pub first-later : 1 ≤ copies → max (get_or v.free place never_busy).all clamp < (get_or w.free place never_busy).all → false ≡ Test
   first-later some later =
       same_from_decides false Test
       ((λ e. absurd (true≢false (sym e))), λ (each : (i : ℕ) → i < copies → Within i). absurd (omega (arith, later, first.1 (each 0 (omega (arith, some))))))
       decides
 
-  pub one-stated : copies ≡ 1 → (get_or w.free place idle).all ≤ max (get_or v.free place idle).all clamp → true ≡ Test
+  pub one-stated : copies ≡ 1 → (get_or w.free place never_busy).all ≤ max (get_or v.free place never_busy).all clamp → true ≡ Test
   one-stated one no_later =
       sym (decides.1 (λ i lt. subst (λ j. Within j) (omega (arith, lt, one)) (first.0 no_later)))
 
-  pub two-stated : copies ≡ 2 → (get_or w.free place idle).all ≤ max (get_or v.free place idle).all clamp → (most : ℕ) → most ≡ max (get_or v.free place idle).all_but_one clamp → leb (get_or w.free place idle).all_but_one most ≡ Test
+  pub two-stated : copies ≡ 2 → (get_or w.free place never_busy).all ≤ max (get_or v.free place never_busy).all clamp → (most : ℕ) → most ≡ max (get_or v.free place never_busy).all_but_one clamp → leb (get_or w.free place never_busy).all_but_one most ≡ Test
   two-stated two no_later most e =
-      ap (leb (get_or w.free place idle).all_but_one) e
-      ∙ same_from_decides (leb (get_or w.free place idle).all_but_one (max (get_or v.free place idle).all_but_one clamp)) Test
-      (Decides-like (leb (get_or w.free place idle).all_but_one (max (get_or v.free place idle).all_but_one clamp))
+      ap (leb (get_or w.free place never_busy).all_but_one) e
+      ∙ same_from_decides (leb (get_or w.free place never_busy).all_but_one (max (get_or v.free place never_busy).all_but_one clamp)) Test
+      (Decides-like (leb (get_or w.free place never_busy).all_but_one (max (get_or v.free place never_busy).all_but_one clamp))
       (λ h i lt.
       elim (cases_eq i 0) [
         | inl none ↦ subst (λ j. Within j) (sym none) (first.0 no_later)
         | inr some ↦ subst (λ j. Within j) (omega (arith, lt, two, some)) (second.0 h)
       ])
       (λ (each : (i : ℕ) → i < copies → Within i). second.1 (each 1 (omega (arith, two))))
-      (le-Decides (get_or w.free place idle).all_but_one (max (get_or v.free place idle).all_but_one clamp)))
+      (le-Decides (get_or w.free place never_busy).all_but_one (max (get_or v.free place never_busy).all_but_one clamp)))
       decides

@@ -16,7 +16,7 @@ use Rattle.s66_isa.proofs.Lists.{greatest-append, tally-append}
 use Rattle.s66_isa.proofs.RegisterBits.{index-few, raised-twice}
 use Rattle.s66_isa.proofs.SameRegister.{same_reg-sym}
 use Rattle.s66_model.specs.Timing.{Point, ResultAt, busy_at, done_at, end_of}
-use Rattle.s66_checker.specs.PastWords.{AreFree, idle, AreWords, ArePast}
+use Rattle.s66_checker.specs.PastWords.{AreFree, never_busy, AreWords, ArePast}
 use Rattle.s66_checker.specs.declared.words.Words.{Words}
 use Rattle.s66_checker.specs.declared.words.FreeTimes.{FreeTimes}
 
@@ -118,7 +118,7 @@ kind-few Multiply = omega arith
 kind-few Divide = omega arith
 kind-few Increment = omega arith
 
-idle-free : AreFree (λ t. 0) idle
+idle-free : AreFree (λ t. 0) never_busy
 idle-free =
     record {
       none = λ t le. refl;
@@ -128,12 +128,12 @@ idle-free =
     }
 
 -- before the first point
-pub words-start : (w : Words) → w.done.words ≡ replicate REGISTER_COUNT 0 → w.read.words ≡ replicate REGISTER_COUNT 0 → w.free ≡ replicate KIND_COUNT idle → w.load ≡ 0 → w.store ≡ 0 → w.total ≡ 0 → AreWords [] w
+pub words-start : (w : Words) → w.done.words ≡ replicate REGISTER_COUNT 0 → w.read.words ≡ replicate REGISTER_COUNT 0 → w.free ≡ replicate KIND_COUNT never_busy → w.load ≡ 0 → w.store ≡ 0 → w.total ≡ 0 → AreWords [] w
 words-start w done read free load store total =
     record {
       done = λ r low. ap (λ ws. word_of ws r) done ∙ get_or-replicate REGISTER_COUNT (index_of r) 0 0 (index-few r low);
       read = λ r low. ap (λ ws. word_of ws r) read ∙ get_or-replicate REGISTER_COUNT (index_of r) 0 0 (index-few r low);
-      free = λ kind. subst (λ f. AreFree (λ t. 0) f) (sym (ap (λ fs. get_or fs (kind_number kind) idle) free ∙ get_or-replicate KIND_COUNT (kind_number kind) idle idle (kind-few kind))) idle-free;
+      free = λ kind. subst (λ f. AreFree (λ t. 0) f) (sym (ap (λ fs. get_or fs (kind_number kind) never_busy) free ∙ get_or-replicate KIND_COUNT (kind_number kind) never_busy never_busy (kind-few kind))) idle-free;
       load = load;
       store = store;
       total = total;
@@ -143,7 +143,7 @@ words-start w done read free load store total =
 module _ (xs : List Point) (w w2 : Words) (p : Point) (are : AreWords xs w) where
   pub words-push : ((r : Reg) → r.digit ≤ 7 → word_of w2.done.words r ≡ max (word_of w.done.words r) (greatest (λ (d : ResultAt). cond (same_reg d.reg r) d.time 0) p.results)) →
       ((r : Reg) → r.digit ≤ 7 → word_of w2.read.words r ≡ max (word_of w.read.words r) (cond (has_reg r p.row.reads) (p.start + 1) 0)) →
-      (new : FreeTimes) → ((busy : ℕ → ℕ) → AreFree busy (get_or w.free (kind_number p.row.kind) idle) → AreFree (λ t. busy t + cond (ltb t p.free) 1 0) new) →
+      (new : FreeTimes) → ((busy : ℕ → ℕ) → AreFree busy (get_or w.free (kind_number p.row.kind) never_busy) → AreFree (λ t. busy t + cond (ltb t p.free) 1 0) new) →
       kind_number p.row.kind < length w.free → w2.free ≡ set w.free (kind_number p.row.kind) new →
       w2.load ≡ max w.load (cond (memory_pair p.row.memory memory.Load) (p.start + 1) 0) → w2.store ≡ max w.store (cond (memory_pair p.row.memory memory.Store) (p.start + 1) 0) →
       w2.total ≡ max w.total (end_of p) → AreWords (xs ++ p ∷ []) w2
@@ -160,13 +160,13 @@ module _ (xs : List Point) (w w2 : Words) (p : Point) (are : AreWords xs w) wher
       place : ℕ
       place = kind_number p.row.kind
 
-      units : (kind : Kind) → AreFree (λ t. tally (busy_at kind t) (xs ++ p ∷ [])) (get_or w2.free (kind_number kind) idle)
+      units : (kind : Kind) → AreFree (λ t. tally (busy_at kind t) (xs ++ p ∷ [])) (get_or w2.free (kind_number kind) never_busy)
       units kind =
           elim (cases_Bool (same_kind p.row.kind kind)) [
             | inl same ↦
                 let e : kind_number kind ≡ kind_number p.row.kind = sym (eqb-true (kind_number p.row.kind) (kind_number kind) same) in
-                let here : get_or w2.free (kind_number kind) idle ≡ new = ap (λ fs. get_or fs (kind_number kind) idle) free ∙ ap (λ i. get_or (set w.free (kind_number p.row.kind) new) i idle) e ∙ get_or-set_same w.free (kind_number p.row.kind) new idle within in
-                let old : AreFree (λ t. tally (busy_at kind t) xs) (get_or w.free (kind_number p.row.kind) idle) = subst (λ i. AreFree (λ t. tally (busy_at kind t) xs) (get_or w.free i idle)) e (are.free kind) in
+                let here : get_or w2.free (kind_number kind) never_busy ≡ new = ap (λ fs. get_or fs (kind_number kind) never_busy) free ∙ ap (λ i. get_or (set w.free (kind_number p.row.kind) new) i never_busy) e ∙ get_or-set_same w.free (kind_number p.row.kind) new never_busy within in
+                let old : AreFree (λ t. tally (busy_at kind t) xs) (get_or w.free (kind_number p.row.kind) never_busy) = subst (λ i. AreFree (λ t. tally (busy_at kind t) xs) (get_or w.free i never_busy)) e (are.free kind) in
                 let more : (t : ℕ) → tally (busy_at kind t) (xs ++ p ∷ []) ≡ tally (busy_at kind t) xs + cond (ltb t p.free) 1 0 =
                 λ t. omega (arith, tally-append (busy_at kind t) xs (p ∷ []), ap (λ b. cond {A = ℕ} (b && ltb t p.free) 1 0) same)
                 in
@@ -174,12 +174,12 @@ module _ (xs : List Point) (w w2 : Words) (p : Point) (are : AreWords xs w) wher
                 (free-same (λ t. tally (busy_at kind t) xs + cond (ltb t p.free) 1 0) (λ t. tally (busy_at kind t) (xs ++ p ∷ [])) new more (with (λ t. tally (busy_at kind t) xs) old))
             | inr other ↦
                 let apart : kind_number kind ≢ kind_number p.row.kind = λ e. true≢false (sym (eq-eqb (kind_number p.row.kind) (kind_number kind) (sym e)) ∙ other) in
-                let here : get_or w2.free (kind_number kind) idle ≡ get_or w.free (kind_number kind) idle = ap (λ fs. get_or fs (kind_number kind) idle) free ∙ get_or-set_other w.free (kind_number p.row.kind) (kind_number kind) new idle apart in
+                let here : get_or w2.free (kind_number kind) never_busy ≡ get_or w.free (kind_number kind) never_busy = ap (λ fs. get_or fs (kind_number kind) never_busy) free ∙ get_or-set_other w.free (kind_number p.row.kind) (kind_number kind) new never_busy apart in
                 let more : (t : ℕ) → tally (busy_at kind t) (xs ++ p ∷ []) ≡ tally (busy_at kind t) xs =
                 λ t. omega (arith, tally-append (busy_at kind t) xs (p ∷ []), ap (λ b. cond {A = ℕ} (b && ltb t p.free) 1 0) other)
                 in
                 subst (λ f. AreFree (λ t. tally (busy_at kind t) (xs ++ p ∷ [])) f) (sym here)
-                (free-same (λ t. tally (busy_at kind t) xs) (λ t. tally (busy_at kind t) (xs ++ p ∷ [])) (get_or w.free (kind_number kind) idle) more (are.free kind))
+                (free-same (λ t. tally (busy_at kind t) xs) (λ t. tally (busy_at kind t) (xs ++ p ∷ [])) (get_or w.free (kind_number kind) never_busy) more (are.free kind))
           ]
 
 -- PASTS

@@ -13,15 +13,15 @@ use Rattle.s66_model.specs.LegalOrder.{is_ready}
 use Rattle.s66_model.specs.Dominance.{place_in_word, references_wait, stores_wait, free_times, Clamp, no_clamp, clamp_at}
 
 -- each of these numbers is ready when it comes after the prefix
-abbrev pub goes_on : List Instr → List ℕ → List ℕ → Bool
-goes_on block prefix [] = true
-goes_on block prefix (n ∷ ns) = is_ready block prefix n && goes_on block (prefix ++ n ∷ []) ns
+abbrev pub is_beginning_after : List Instr → List ℕ → List ℕ → Bool
+is_beginning_after block prefix [] = true
+is_beginning_after block prefix (n ∷ ns) = is_ready block prefix n && is_beginning_after block (prefix ++ n ∷ []) ns
 
 abbrev pub is_same_set : List ℕ → List ℕ → Bool
 is_same_set other prefix = every (λ n. has n prefix) other && every (λ n. has n other) prefix
 
 abbrev pub is_beginning : List Instr → List ℕ → Bool
-is_beginning block prefix = goes_on block [] prefix
+is_beginning block prefix = is_beginning_after block [] prefix
 
 -- USED BY CONTRACTS: whether one beginning dominates another by a rule, as such a test: the same of numbers, registers and units one by
 -- one. `dominating_law` says that it is dominance.

@@ -16,8 +16,8 @@ abbrev pub TOTAL_LIMIT : ℕ
 TOTAL_LIMIT = 104 * BLOCK_LIMIT
 
 -- what the times of an instruction need of a problem once its row is known: the profile
-abbrev pub under : Profile → Problem
-under profile = record { block = []; profile = profile }
+abbrev pub with_profile : Profile → Problem
+with_profile profile = record { block = []; profile = profile }
 
 -- the points of some numbers, no more than a block has, under some profile
 pub record AreTimed (points : List Point) : Type 0 where

@@ -16,13 +16,13 @@ pub record AreFree (busy : ℕ → ℕ) (f : FreeTimes) : Type 0 where
   pub one : (t : ℕ) → f.all_but_one ≤ t → busy t ≤ 1
   pub two : (t : ℕ) → t < f.all_but_one → 2 ≤ busy t
 
-abbrev pub idle : FreeTimes
-idle = record { all = 0; all_but_one = 0 }
+abbrev pub never_busy : FreeTimes
+never_busy = record { all = 0; all_but_one = 0 }
 
 pub record AreWords (xs : List Point) (w : Words) : Type 0 where
   pub done : (r : Reg) → r.digit ≤ 7 → word_of w.done.words r ≡ done_of xs r
   pub read : (r : Reg) → r.digit ≤ 7 → word_of w.read.words r ≡ readers_wait xs r
-  pub free : (kind : Kind) → AreFree (λ t. tally (busy_at kind t) xs) (get_or w.free (kind_number kind) idle)
+  pub free : (kind : Kind) → AreFree (λ t. tally (busy_at kind t) xs) (get_or w.free (kind_number kind) never_busy)
   pub load : w.load ≡ greatest (λ (p : Point). if memory_pair p.row.memory memory.Load then p.start + 1 else 0) xs
   pub store : w.store ≡ greatest (λ (p : Point). if memory_pair p.row.memory memory.Store then p.start + 1 else 0) xs
   pub total : w.total ≡ total xs

@@ -123,22 +123,22 @@ lines_verdict d line [] = Yes d.time d.bound
 lines_verdict d line (at ∷ later) = unless line (line_fault d at.0 at.1) (lines_verdict d (suc line) later)
 
 -- a header, PROFILE, BLOCK, the instructions, TIME, BOUND, ORDER, and then the tree
-abbrev pub time_line : Document → ℕ
-time_line d = 4 + length d.block
+abbrev pub time_line_number : Document → ℕ
+time_line_number d = 4 + length d.block
 
-abbrev pub bound_line : Document → ℕ
-bound_line d = 5 + length d.block
+abbrev pub bound_line_number : Document → ℕ
+bound_line_number d = 5 + length d.block
 
-abbrev pub order_line : Document → ℕ
-order_line d = 6 + length d.block
+abbrev pub order_line_number : Document → ℕ
+order_line_number d = 6 + length d.block
 
-abbrev pub tree_line : Document → ℕ
-tree_line d = 7 + length d.block
+abbrev pub tree_line_number : Document → ℕ
+tree_line_number d = 7 + length d.block
 
 -- first the order, the time and the bound, and then the tree line by line
 abbrev pub verdict : Document → Verdict
 verdict d =
-    if not (is_legal_order (problem_of d).block d.numbers) then No (order_line d) fault.Order
-    else (if not (total_of (problem_of d) d.numbers == d.time) then No (time_line d) fault.Time
-    else (if nat_lt d.time d.bound then No (bound_line d) fault.Bound
-    else lines_verdict d (tree_line d) (tree_placed [] d.tree)))
+    if not (is_legal_order (problem_of d).block d.numbers) then No (order_line_number d) fault.Order
+    else (if not (total_of (problem_of d) d.numbers == d.time) then No (time_line_number d) fault.Time
+    else (if nat_lt d.time d.bound then No (bound_line_number d) fault.Bound
+    else lines_verdict d (tree_line_number d) (tree_placed [] d.tree)))

@@ -12,9 +12,9 @@ coming block true prefix = prefix ∷ later block [] prefix
 coming block false prefix = []
 
 -- what is to come after a line at this prefix
-abbrev pub after_line : List Instr → List ℕ → Vertex Ending → List (List ℕ)
-after_line block prefix (AtTerminal ending) = later block [] prefix
-after_line block prefix (AtSplit numbers) = children prefix numbers ++ later block [] prefix
+abbrev pub coming_after : List Instr → List ℕ → Vertex Ending → List (List ℕ)
+coming_after block prefix (AtTerminal ending) = later block [] prefix
+coming_after block prefix (AtSplit numbers) = children prefix numbers ++ later block [] prefix
 
 -- if it is a split, it has the ready numbers
 abbrev pub HasReady : List Instr → List ℕ → Vertex Ending → Type 0

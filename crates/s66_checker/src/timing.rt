@@ -7,7 +7,7 @@ ghost use Rattle.s66_isa.specs.Table.{Write as WriteOf};
 ghost use Rattle.s66_model.specs.Packing.{fits_at};
 ghost use Rattle.s66_model.specs.Timing.{Problem, done_of, next, next_parcel, parcel_of, slot_of, issue_of, start_of, readers_wait, result_at, point};
 ghost use Rattle.s66_model.specs.Leaves.{rest_busy};
-ghost use Rattle.s66_checker.specs.KeptPrefix.{TOTAL_LIMIT, under, AreTimed};
+ghost use Rattle.s66_checker.specs.KeptPrefix.{TOTAL_LIMIT, with_profile, AreTimed};
 
 use crate::past::Past;
 use crate::point::KeptPoint;
@@ -107,7 +107,7 @@ fn slot(points: &[KeptPoint], parcels: u32) -> u32
 /// When the next instruction issues under a profile: a unit is free for it, and no earlier result of its registers is to come.
 fn issue(past: &Past, profile: &Profile, row: &Row) -> u32
     requires { AreTimed past.now }
-    ensures { result ≡ issue_of (under profile.now) (reverse past.now) row.now }
+    ensures { result ≡ issue_of (with_profile profile.now) (reverse past.now) row.now }
 {
     let slot = slot(past.points(), row.parcels);
     let written = writes_done(past, row.writes.as_slice());
@@ -144,7 +144,7 @@ fn results(past: &Past, writes: &[Write], start: u32) -> ArrayVec<KeptResult, 2>
 /// The next instruction with its times under a profile.
 pub fn next_point(past: &Past, profile: &Profile, number: u8, row: Row) -> KeptPoint
     requires { AreTimed past.now }
-    ensures { result ≡ point (under profile.now) (reverse past.now) number row }
+    ensures { result ≡ point (with_profile profile.now) (reverse past.now) number row }
 {
     let issue = issue(past, profile, &row);
     let start = start(past, &row, issue);

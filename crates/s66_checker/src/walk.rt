@@ -2,8 +2,8 @@ ghost use Rattle.std.specs.Prelude.{◌≡◌, []};
 ghost use Rattle.s66_model.specs.Later.{IsNextReady, later};
 ghost use Rattle.s66_tree.specs.Lines.{vertex_of};
 ghost use Rattle.s66_cert.specs.DocumentParts.{document_of};
-ghost use Rattle.s66_checker.specs.Verdict.{problem_of, tree_placed, tree_line, lines_verdict};
-ghost use Rattle.s66_checker.specs.Walk.{coming, after_line, HasReady};
+ghost use Rattle.s66_checker.specs.Verdict.{problem_of, tree_placed, tree_line_number, lines_verdict};
+ghost use Rattle.s66_checker.specs.Walk.{coming, coming_after, HasReady};
 
 use crate::prefix::Prefix;
 use crate::verdict::Verdict;
@@ -42,7 +42,7 @@ fn advance(prefix: &mut Prefix) -> bool
 /// Goes on to the prefix after a line, and returns whether there is one.
 fn go_on(prefix: &mut Prefix, line: TreeLine<'_>) -> bool
     requires { HasReady prefix.old.problem.block prefix.old.numbers (vertex_of line) }
-    ensures next { coming prefix.old.problem.block result prefix.new.numbers ≡ after_line prefix.old.problem.block prefix.old.numbers (vertex_of line.entry) }
+    ensures next { coming prefix.old.problem.block result prefix.new.numbers ≡ coming_after prefix.old.problem.block prefix.old.numbers (vertex_of line.entry) }
     ensures problem { prefix.new.problem ≡ prefix.old.problem }
 {
     if let TreeLine::Split(numbers) = line {
@@ -59,7 +59,7 @@ fn go_on(prefix: &mut Prefix, line: TreeLine<'_>) -> bool
 pub(crate) fn tree_verdict(document: &Document, mut prefix: Prefix, mut named: Prefix) -> Verdict
     requires start { prefix ≡ record { problem = problem_of (document_of document.now); numbers = [] } }
     requires same { named.problem ≡ problem_of (document_of document.now) }
-    ensures { result ≡ lines_verdict (document_of document.now) (tree_line (document_of document.now)) (tree_placed [] (document_of document.now).tree) }
+    ensures { result ≡ lines_verdict (document_of document.now) (tree_line_number (document_of document.now)) (tree_placed [] (document_of document.now).tree) }
 {
     let mut lines = document.tree();
     let mut number = u32::from(prefix.count()) + 7;

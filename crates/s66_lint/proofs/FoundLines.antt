@@ -7,7 +7,7 @@ use Rattle.s66_line.specs.declared.class.Class.TheVariants.{Other, Refused, Inst
 use Rattle.s66_source.specs.Counts.{counting_operand, cover_of, is_covering, is_one_of}
 use Rattle.s66_source.specs.LeftAlone.{definitions}
 use Rattle.s66_lint.specs.Findings.{counts_words, findings_of_class, is_slip, is_store, names_from, only, some_known}
-use Rattle.s66_lint.specs.Stated.{Found, stated_line}
+use Rattle.s66_lint.specs.Listed.{Found, listed_line}
 use Rattle.s66_lint.specs.Parts.{found_lines}
 use Rattle.s66_lint.specs.declared.ahead.Ahead.{Ahead}
 use Rattle.s66_lint.specs.declared.finding.Finding.{Finding}
@@ -16,8 +16,8 @@ use Rattle.s66_lint.specs.declared.finding.Finding.TheVariants.{BadOperand, NotA
 pub found-append : (number : ℕ) (line : List ℕ) (a b : List Finding) → found_lines number line (a ++ b) ≡ found_lines number line a ++ found_lines number line b
 found-append number line [] b = refl
 found-append number line (finding ∷ a) b =
-    ap (λ more. stated_line (Found number finding line) ++ more) (found-append number line a b)
-    ∙ sym (append_assoc (stated_line (Found number finding line)) (found_lines number line a) (found_lines number line b))
+    ap (λ more. listed_line (Found number finding line) ++ more) (found-append number line a b)
+    ∙ sym (append_assoc (listed_line (Found number finding line)) (found_lines number line a) (found_lines number line b))
 
 -- what was found, and then more
 pub found-more : (out : List ℕ) (number : ℕ) (line : List ℕ) (a b : List Finding) → (out ++ found_lines number line a) ++ found_lines number line b ≡ out ++ found_lines number line (a ++ b)

@@ -13,10 +13,10 @@ use Rattle.s66_line.specs.declared.class.Class.TheVariants.{Comment, Other, Refu
 use Rattle.s66_source.specs.Counts.{counting_operand, cover_of, is_covering, is_one_of}
 use Rattle.s66_source.specs.LeftAlone.{Flagged, bodies_after, definitions, has_operation, is_directive}
 use Rattle.s66_source.specs.Source.{place_after}
-use Rattle.s66_lint.specs.Findings.{Seen, ahead_of, body_has_code, class_seen, goes_on, is_slip, is_too_long, may_continue, name_in, seen_from, sight_of, stores}
-use Rattle.s66_lint.specs.Kept.{Kept, ahead_kept, body_kept, decided, first_of, gap_after, gap_from, goes_on_kept, is_class_kept, is_defining, is_kept, is_other_kept, is_sight_kept, kept_from, may_count_from, no_gap, run_by, stated_kept}
+use Rattle.s66_lint.specs.Findings.{Seen, ahead_of, body_has_code, class_seen, goes_on, is_slip, is_too_long, may_continue, name_in, seen_from, sight_of, is_storing}
+use Rattle.s66_lint.specs.Kept.{Kept, ahead_kept, body_kept, decided, first_decided, gap_after, gap_from, goes_on_kept, is_class_kept, is_defining, is_kept, is_other_kept, is_sight_kept, kept_from, may_count_from, no_gap, run_by, listed_kept}
 use Rattle.s66_lint.specs.Parts.{goes_on_before, seen_line}
-use Rattle.s66_lint.specs.Stated.{Stated, stated_from, stated_of}
+use Rattle.s66_lint.specs.Listed.{Listed, listed_from, listed_of}
 use Rattle.s66_lint.specs.declared.ahead.Ahead.{Ahead}
 use Rattle.s66_lint.specs.declared.gap.Gap.{Gap}
 use Rattle.s66_lint.specs.declared.sight.Sight.{Sight}
@@ -25,7 +25,7 @@ use Rattle.s66_lint.proofs.OperandNames.{counts_none}
 
 -- WHETHER A RUN GOES ON
 
-run-passed : (run : Option Bool) (class : Class) (after : Bool) → decided (first_of run (run_by class)) after ≡ decided run (goes_on_before class after)
+run-passed : (run : Option Bool) (class : Class) (after : Bool) → decided (first_decided run (run_by class)) after ≡ decided run (goes_on_before class after)
 run-passed (Some goes_on) class after = refl
 run-passed None Comment after = refl
 run-passed None Other after = refl
@@ -144,7 +144,7 @@ and-gone false b c h = refl
 
 -- nothing of a line that isn't kept
 quiet-other : (labels : List (List ℕ)) (number index : ℕ) (line : List ℕ) (ahead : Ahead) (continued : Bool) → continues line ≡ continued → (not continued && is_other_kept line) ≡ false →
-    stated_of labels number index (record { sight = sight.Read Other; body = line }) ahead ≡ []
+    listed_of labels number index (record { sight = sight.Read Other; body = line }) ahead ≡ []
 quiet-other labels number index line ahead true c h = rw c refl
 quiet-other labels number index line ahead false c h =
     let (slip, more) = or_parts (is_slip (upper (operation line))) _ h in
@@ -154,7 +154,7 @@ quiet-other labels number index line ahead false c h =
     rw (c, slip, begins, counts_none labels (upper (operation line)) (operand line) words, covering) refl
 
 quiet : (labels : List (List ℕ)) (number index : ℕ) (s : Sight) (line : List ℕ) (ahead : Ahead) → is_sight_kept index s line ≡ false →
-    stated_of labels number index (record { sight = s; body = line }) ahead ≡ []
+    listed_of labels number index (record { sight = s; body = line }) ahead ≡ []
 quiet labels number index sight.TooLong line ahead h = cc
 quiet labels number index sight.LeftAlone line ahead h = refl
 quiet labels number index (sight.Read Comment) line ahead h = rw (and-gone (is_directive line) (not (index % BLOCK_LIMIT == 0)) ahead.run_goes_on h) refl
@@ -162,23 +162,23 @@ quiet labels number index (sight.Read Other) line ahead h = quiet-other labels n
 quiet labels number index (sight.Read Refused) line ahead h = cc
 quiet labels number index (sight.Read (Pad located)) line ahead h = refl
 quiet labels number index (sight.Read (Instruction located n)) line ahead h =
-    let (no_store, words) = or_parts (stores n) (may_count_from true (operand line)) h in
+    let (no_store, words) = or_parts (is_storing n) (may_count_from true (operand line)) h in
     rw (no_store, counts_none labels (upper (operation line)) (operand line) words) refl
 
 stated-by : (kept : Bool) (labels : List (List ℕ)) (gap : Gap) (count index : ℕ) (after : Bool) (line : Flagged) (lines : List Seen) → is_kept index (seen_line after line) ≡ kept →
     ((c i : ℕ) → ahead_kept (kept_from no_gap c i lines) (gap_from no_gap i lines) ≡ ahead_of lines) →
-    ((g : Gap) (c i : ℕ) → stated_kept labels (kept_from g c i lines) (gap_from g i lines) ≡ stated_from labels (suc c) i lines) →
-    stated_kept labels (kept_from gap count index (seen_line after line ∷ lines)) (gap_from gap index (seen_line after line ∷ lines)) ≡ stated_from labels (suc count) index (seen_line after line ∷ lines)
+    ((g : Gap) (c i : ℕ) → listed_kept labels (kept_from g c i lines) (gap_from g i lines) ≡ listed_from labels (suc c) i lines) →
+    listed_kept labels (kept_from gap count index (seen_line after line ∷ lines)) (gap_from gap index (seen_line after line ∷ lines)) ≡ listed_from labels (suc count) index (seen_line after line ∷ lines)
 stated-by true labels gap count index after line lines h same more =
     let place = place_after index (class_seen (sight_of after line)) in
-    rw h (ap₂ (λ (ahead : Ahead) (rest : List Stated). stated_of labels (suc count) index (seen_line after line) ahead ++ rest) (same (suc count) place) (more no_gap (suc count) place))
+    rw h (ap₂ (λ (ahead : Ahead) (rest : List Listed). listed_of labels (suc count) index (seen_line after line) ahead ++ rest) (same (suc count) place) (more no_gap (suc count) place))
 stated-by false labels gap count index after line lines h same more =
     let class = class_seen (sight_of after line) in
     rw h (more (gap_after gap class) (suc count) (place_after index class)
-    ∙ sym (ap (λ none. none ++ stated_from labels (suc (suc count)) (place_after index class) lines) (quiet labels (suc count) index (sight_of after line) (body line.bytes) (ahead_of lines) h)))
+    ∙ sym (ap (λ none. none ++ listed_from labels (suc (suc count)) (place_after index class) lines) (quiet labels (suc count) index (sight_of after line) (body line.bytes) (ahead_of lines) h)))
 
 pub same-stated : (labels : List (List ℕ)) (gap : Gap) (count index : ℕ) (after : Bool) (lines : List Flagged) →
-    stated_kept labels (kept_from gap count index (seen_from after lines)) (gap_from gap index (seen_from after lines)) ≡ stated_from labels (suc count) index (seen_from after lines)
+    listed_kept labels (kept_from gap count index (seen_from after lines)) (gap_from gap index (seen_from after lines)) ≡ listed_from labels (suc count) index (seen_from after lines)
 same-stated labels gap count index after [] = refl
 same-stated labels gap count index after (line ∷ lines) =
     stated-by (is_kept index (seen_line after line)) labels gap count index after line (seen_from (may_continue (sight_of after line)) lines) refl

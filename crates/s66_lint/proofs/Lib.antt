@@ -5,5 +5,5 @@ pub mod LabelSets
 pub mod KeptLines
 pub mod SeenLines
 pub mod FoundLines
-pub mod StatedLines
+pub mod ListedLines
 pub mod FindingsLaw

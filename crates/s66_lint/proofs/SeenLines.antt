@@ -5,11 +5,11 @@ use Rattle.s66_line.specs.Fields.{body, lines_from, location, upper}
 use Rattle.s66_line.proofs.LineCuts.{IsFirstNewline, last-none}
 use Rattle.s66_source.specs.LeftAlone.{Flagged, is_off_switch, off_after}
 use Rattle.s66_source.specs.Source.{place_after}
-use Rattle.s66_lint.specs.Findings.{Seen, class_seen, is_located, labels_in, may_continue, seen_from, sight_of}
+use Rattle.s66_lint.specs.Findings.{Seen, class_seen, has_label, labels_in, may_continue, seen_from, sight_of}
 use Rattle.s66_lint.specs.Kept.{gap_from, gap_past, kept_from, kept_one, label_of}
-use Rattle.s66_lint.specs.Parts.{flagged_line, flagged_by, past_stated, seen_line}
+use Rattle.s66_lint.specs.Parts.{flagged_line, flagged_by, past_listed, seen_line}
 use Rattle.s66_lint.specs.Pass.{Pass, first_of_lines, pass_line, pass_lines}
-use Rattle.s66_lint.specs.Stated.{stated_past}
+use Rattle.s66_lint.specs.Listed.{listed_past}
 
 alone-by : (off switch : Bool) → ((off || (switch || false)) || false) ≡ (off || switch)
 alone-by true switch = refl
@@ -38,14 +38,14 @@ passed-gap (suc n) p (line ∷ lines) =
 
 -- LABELS
 
-label-first : (located : Bool) (line : Seen) (lines : List Seen) → is_located (class_seen line.sight) ≡ located →
+label-first : (located : Bool) (line : Seen) (lines : List Seen) → has_label (class_seen line.sight) ≡ located →
     map upper (label_of (class_seen line.sight) line.body) ++ labels_in lines ≡ labels_in (line ∷ lines)
 label-first true line lines h = rw h refl
 label-first false line lines h = rw h refl
 
 label-more : (labels : List (List ℕ)) (line : Seen) (lines : List Seen) →
     map upper (labels ++ label_of (class_seen line.sight) line.body) ++ labels_in lines ≡ map upper labels ++ labels_in (line ∷ lines)
-label-more [] line lines = label-first (is_located (class_seen line.sight)) line lines refl
+label-more [] line lines = label-first (has_label (class_seen line.sight)) line lines refl
 label-more (label ∷ labels) line lines = ap (λ more. upper label ∷ more) (label-more labels line lines)
 
 pub passed-labels : (n : ℕ) (p : Pass) (lines : List (List ℕ)) → map upper (pass_lines p (take n lines)).labels ≡ map upper p.labels ++ labels_in (seen_from p.after (take n (flagged_by p.off lines)))
@@ -58,12 +58,12 @@ passed-labels (suc n) p (line ∷ lines) =
 
 -- PAST THE LIMIT
 
-pub passed-past : (n : ℕ) (off : Bool) (lines : List (List ℕ)) → past_stated (first_of_lines (drop n lines)) ≡ stated_past (drop n (flagged_by off lines))
+pub passed-past : (n : ℕ) (off : Bool) (lines : List (List ℕ)) → past_listed (first_of_lines (drop n lines)) ≡ listed_past (drop n (flagged_by off lines))
 passed-past zero off [] = refl
 passed-past zero off (line ∷ lines) = refl
 passed-past (suc n) off [] = refl
 passed-past (suc n) off (line ∷ lines) =
-    passed-past n (off_after off (body line)) lines ∙ ap (λ (flagged : List Flagged). stated_past (drop (suc n) flagged)) (sym (flagged-first off line lines))
+    passed-past n (off_after off (body line)) lines ∙ ap (λ (flagged : List Flagged). listed_past (drop (suc n) flagged)) (sym (flagged-first off line lines))
 
 -- ONE LINE MORE
 

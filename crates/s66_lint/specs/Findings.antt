@@ -80,11 +80,11 @@ branches =
     ∷ codes "EQ" ∷ codes "NE" ∷ codes "GE" ∷ codes "GT" ∷ codes "LT" ∷ codes "LE" ∷ codes "XJ" ∷ []
 
 -- an instruction that sets A6 or A7
-abbrev pub stores : Instr → Bool
-stores n = (nat_lt 0o47 n.op.code && nat_lt n.op.code 0o60) && (n.i == 6 || n.i == 7)
+abbrev pub is_storing : Instr → Bool
+is_storing n = (nat_lt 0o47 n.op.code && nat_lt n.op.code 0o60) && (n.i == 6 || n.i == 7)
 
 abbrev pub is_store : Class → Bool
-is_store (Instruction located n) = stores n
+is_store (Instruction located n) = is_storing n
 is_store class = false
 
 -- OPERANDS, in upper case
@@ -124,15 +124,15 @@ has_star_from here (b ∷ bytes) = here && (b == 42 && term_ends bytes) || has_s
 
 -- LABELS
 
-abbrev pub is_located : Class → Bool
-is_located (Instruction located n) = located
-is_located (Pad located) = located
-is_located class = false
+abbrev pub has_label : Class → Bool
+has_label (Instruction located n) = located
+has_label (Pad located) = located
+has_label class = false
 
 -- those of code, in upper case
 abbrev pub labels_in : List Seen → List (List ℕ)
 labels_in [] = []
-labels_in (line ∷ lines) = if is_located (class_seen line.sight) then upper (location line.body) ∷ labels_in lines else labels_in lines
+labels_in (line ∷ lines) = if has_label (class_seen line.sight) then upper (location line.body) ∷ labels_in lines else labels_in lines
 
 -- some name is one of these
 abbrev pub some_known : List (List ℕ) → List (List ℕ) → Bool

@@ -10,8 +10,8 @@ use Rattle.s66_line.specs.declared.class.Class.TheVariants.{Comment, Other, Refu
 use Rattle.s66_source.specs.Counts.{counting_operand, cover_of, is_covering, is_one_of}
 use Rattle.s66_source.specs.LeftAlone.{bodies_after, definitions, is_directive}
 use Rattle.s66_source.specs.Source.{place_after}
-use Rattle.s66_lint.specs.Findings.{Seen, begins_number, class_seen, ends_term, is_located, is_slip, name_in, stores}
-use Rattle.s66_lint.specs.Stated.{Stated, stated_of}
+use Rattle.s66_lint.specs.Findings.{Seen, begins_number, class_seen, ends_term, has_label, is_slip, name_in, is_storing}
+use Rattle.s66_lint.specs.Listed.{Listed, listed_of}
 use Rattle.s66_lint.specs.Parts.{goes_on_before}
 use Rattle.s66_lint.specs.declared.ahead.Ahead.{Ahead}
 use Rattle.s66_lint.specs.declared.gap.Gap.{Gap}
@@ -73,7 +73,7 @@ is_class_kept index Comment line = is_directive line && not (index % BLOCK_LIMIT
 is_class_kept index Other line = not (continues line) && is_other_kept line
 is_class_kept index Refused line = true
 is_class_kept index (Pad located) line = false
-is_class_kept index (Instruction located n) line = stores n || may_count_from true (operand line)
+is_class_kept index (Instruction located n) line = is_storing n || may_count_from true (operand line)
 
 abbrev pub is_sight_kept : ℕ → Sight → List ℕ → Bool
 is_sight_kept index TooLong line = true
@@ -95,12 +95,12 @@ run_by Other = Some false
 run_by (Pad located) = if located then Some false else None
 run_by class = None
 
-abbrev pub first_of : Option Bool → Option Bool → Option Bool
-first_of None second = second
-first_of (Some goes_on) second = Some goes_on
+abbrev pub first_decided : Option Bool → Option Bool → Option Bool
+first_decided None second = second
+first_decided (Some goes_on) second = Some goes_on
 
 abbrev pub gap_after : Gap → Class → Gap
-gap_after gap class = record { run_goes_on = first_of gap.run_goes_on (run_by class); has_code = gap.has_code || is_instruction class }
+gap_after gap class = record { run_goes_on = first_decided gap.run_goes_on (run_by class); has_code = gap.has_code || is_instruction class }
 
 abbrev pub decided : Option Bool → Bool → Bool
 decided None after = after
@@ -133,16 +133,16 @@ gap_from gap index (line ∷ lines) = gap_from (gap_past gap index line) (place_
 
 -- LABELS
 
-abbrev pub names_of : List (Bor (List ℕ)) → List (List ℕ)
-names_of labels = map (λ (label : Bor (List ℕ)). label.now) labels
+abbrev pub label_names : List (Bor (List ℕ)) → List (List ℕ)
+label_names labels = map (λ (label : Bor (List ℕ)). label.now) labels
 
 -- in upper case
 abbrev pub upper_names : List (Bor (List ℕ)) → List (List ℕ)
-upper_names labels = map upper (names_of labels)
+upper_names labels = map upper (label_names labels)
 
 -- the label of a line of code, if it has one
 abbrev pub label_of : Class → List ℕ → List (List ℕ)
-label_of class line = if is_located class then location line ∷ [] else []
+label_of class line = if has_label class then location line ∷ [] else []
 
 -- WHAT COMES AFTER, by the lines that are kept and the gap after the last
 
@@ -163,8 +163,8 @@ abbrev pub aheads_kept : List Kept → Gap → List Ahead
 aheads_kept [] last = []
 aheads_kept (k ∷ ks) last = aheads_kept ks last ++ ahead_kept ks last ∷ []
 
--- WHAT IS STATED of them
+-- WHAT IS LISTED of them
 
-abbrev pub stated_kept : List (List ℕ) → List Kept → Gap → List Stated
-stated_kept labels [] last = []
-stated_kept labels (k ∷ ks) last = stated_of labels k.number k.index k.line (ahead_kept ks last) ++ stated_kept labels ks last
+abbrev pub listed_kept : List (List ℕ) → List Kept → Gap → List Listed
+listed_kept labels [] last = []
+listed_kept labels (k ∷ ks) last = listed_of labels k.number k.index k.line (ahead_kept ks last) ++ listed_kept labels ks last

@@ -1,5 +1,5 @@
 pub mod Findings
-pub mod Stated
+pub mod Listed
 pub mod Parts
 pub mod LabelSet
 pub mod Kept

@@ -8,8 +8,8 @@ use Rattle.s66_source.specs.Counts.{is_one_of}
 use Rattle.s66_source.specs.LeftAlone.{Flagged, definitions, is_off_switch, is_refused, flagged_from}
 use Rattle.s66_source.specs.declared.cover.Cover.TheVariants.{Nothing}
 use Rattle.s66_lint.specs.Findings.{Seen, ends_name, is_too_long, sight_of}
-use Rattle.s66_lint.specs.Stated.{Found, Stated, TooManyLines, stated_lines}
-use Rattle.s66_lint.specs.Stated as stated
+use Rattle.s66_lint.specs.Listed.{Found, Listed, TooManyLines, listed_lines}
+use Rattle.s66_lint.specs.Listed as stated
 use Rattle.s66_source.specs.declared.limits.TheConstants.{SOURCE_LINES_LIMIT}
 use Rattle.s66_lint.specs.declared.finding.Finding.{Finding}
 use Rattle.s66_lint.specs.declared.finding.Finding.TheVariants.{BadOperand, NotAnInstruction, Directive, HasABody, StoresIntoCode, CountsWords, CountsLines}
@@ -45,30 +45,30 @@ ends_before ends name = if is_one_of definitions name then ends - 1 else (if byt
 abbrev pub name_length : List ℕ → ℕ
 name_length operand = prefix_len (λ b. not (ends_name b)) operand
 
--- WHAT IS STATED
+-- WHAT IS LISTED
 
-abbrev pub words_of : Finding → List ℕ
-words_of BadOperand = codes " BAD OPERAND"
-words_of NotAnInstruction = codes " NOT AN INSTRUCTION"
-words_of Directive = codes " DIRECTIVE"
-words_of HasABody = codes " HAS A BODY"
-words_of StoresIntoCode = codes " STORES INTO CODE"
-words_of CountsWords = codes " COUNTS WORDS"
-words_of CountsLines = codes " COUNTS LINES"
+abbrev pub finding_words : Finding → List ℕ
+finding_words BadOperand = codes " BAD OPERAND"
+finding_words NotAnInstruction = codes " NOT AN INSTRUCTION"
+finding_words Directive = codes " DIRECTIVE"
+finding_words HasABody = codes " HAS A BODY"
+finding_words StoresIntoCode = codes " STORES INTO CODE"
+finding_words CountsWords = codes " COUNTS WORDS"
+finding_words CountsLines = codes " COUNTS LINES"
 
 -- what is shown of a line
-abbrev pub first_word : Finding → List ℕ → List ℕ
-first_word Directive line = word line
-first_word finding line = operation line
+abbrev pub shown_word : Finding → List ℕ → List ℕ
+shown_word Directive line = word line
+shown_word finding line = operation line
 
-abbrev pub second_word : Finding → List ℕ → List ℕ
-second_word BadOperand line = operand line
-second_word StoresIntoCode line = operand line
-second_word CountsWords line = operand line
-second_word finding line = []
+abbrev pub shown_operand : Finding → List ℕ → List ℕ
+shown_operand BadOperand line = operand line
+shown_operand StoresIntoCode line = operand line
+shown_operand CountsWords line = operand line
+shown_operand finding line = []
 
 abbrev pub found_lines : ℕ → List ℕ → List Finding → List ℕ
-found_lines number line findings = stated_lines (map (λ finding. Found number finding line) findings)
+found_lines number line findings = listed_lines (map (λ finding. Found number finding line) findings)
 
 abbrev pub is_sight_refused : Sight → Bool
 is_sight_refused TooLong = true
@@ -76,6 +76,6 @@ is_sight_refused (Read class) = is_refused class
 is_sight_refused LeftAlone = false
 
 -- of the first line past the limit, if there is one
-abbrev pub past_stated : Option (List ℕ) → List Stated
-past_stated None = []
-past_stated (Some line) = if is_too_long line then stated.TooLong (suc SOURCE_LINES_LIMIT) ∷ TooManyLines ∷ [] else TooManyLines ∷ []
+abbrev pub past_listed : Option (List ℕ) → List Listed
+past_listed None = []
+past_listed (Some line) = if is_too_long line then stated.TooLong (suc SOURCE_LINES_LIMIT) ∷ TooManyLines ∷ [] else TooManyLines ∷ []

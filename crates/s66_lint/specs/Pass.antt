@@ -4,7 +4,7 @@ use Rattle.s66_line.specs.Fields.{body}
 use Rattle.s66_source.specs.LeftAlone.{off_after}
 use Rattle.s66_source.specs.Source.{place_after}
 use Rattle.s66_lint.specs.Findings.{Seen, class_seen, may_continue, sight_of}
-use Rattle.s66_lint.specs.Kept.{Kept, gap_past, kept_one, label_of, names_of, no_gap}
+use Rattle.s66_lint.specs.Kept.{Kept, gap_past, kept_one, label_of, label_names, no_gap}
 use Rattle.s66_lint.specs.Parts.{flagged_line, seen_line}
 use Rattle.s66_lint.specs.declared.gap.Gap.{Gap}
 use Rattle.s66_lint.specs.declared.lines.Lines.{Lines}
@@ -25,7 +25,7 @@ pass_of lines =
     record {
       kept = lines.kept.lines.items;
       gap = lines.kept.gap;
-      labels = names_of lines.labels.items;
+      labels = label_names lines.labels.items;
       count = lines.count;
       index = lines.index;
       after = lines.after;

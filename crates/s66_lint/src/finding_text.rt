@@ -1,7 +1,7 @@
 ghost use Rattle.std.specs.Prelude.{◌≡◌, ◌++◌, codes, if◌then◌else◌, OnOk};
-ghost use Rattle.s66_lint.specs.Parts.{first_word, found_lines, second_word, words_of};
+ghost use Rattle.s66_lint.specs.Parts.{shown_word, found_lines, shown_operand, finding_words};
 ghost use Rattle.s66_lint.specs.Findings.{only};
-ghost use Rattle.s66_lint.specs.Stated.{Found, after_blank, finding_text, is_cured, stated_line};
+ghost use Rattle.s66_lint.specs.Listed.{Found, after_blank, finding_text, is_cured, listed_line};
 
 use crate::finding::Finding;
 use s66_device::push_field;
@@ -9,7 +9,7 @@ use s66_line::{fields_of, operation_and_operand, split_word};
 use std::alloc::AllocError;
 
 fn words_of(finding: Finding) -> &'static [u8]
-    ensures { result.now ≡ words_of finding }
+    ensures { result.now ≡ finding_words finding }
 {
     match finding {
         Finding::BadOperand => b" BAD OPERAND",
@@ -34,8 +34,8 @@ fn is_cured(finding: Finding) -> bool
 
 /// What is shown of a body, up to two words.
 fn shown_words(finding: Finding, body: &[u8]) -> (&[u8], &[u8])
-    ensures first { result.0.now ≡ first_word finding body.now }
-    ensures second { result.1.now ≡ second_word finding body.now }
+    ensures first { result.0.now ≡ shown_word finding body.now }
+    ensures second { result.1.now ≡ shown_operand finding body.now }
 {
     if matches!(finding, Finding::Directive) {
         let (word, _) = split_word(body);
@@ -89,7 +89,7 @@ fn push_found(
     finding: Finding,
     body: &[u8],
 ) -> Result<(), AllocError>
-    ensures { OnOk result (out.new.items ≡ out.old.items ++ stated_line (Found number finding body.now)) }
+    ensures { OnOk result (out.new.items ≡ out.old.items ++ listed_line (Found number finding body.now)) }
 {
     push_field(out, b"LINE ", number as usize)?;
     push_finding(out, finding, body)?;

@@ -1,8 +1,8 @@
 ghost use Rattle.std.specs.Prelude.{◌≡◌, ◌<◌, ◌++◌, ◌||◌, [], ◌∷◌, codes, false, vec_len, is_some, option_map, IfOk, OnOk};
 ghost use Rattle.s66_source.specs.Refusals.{refusal_line};
-ghost use Rattle.s66_lint.specs.Kept.{IsTold, aheads_kept, stated_kept};
-ghost use Rattle.s66_lint.specs.Stated.{findings_text, first_refusal, stated, stated_lines, stated_of};
-ghost use Rattle.s66_lint.specs.Parts.{past_stated};
+ghost use Rattle.s66_lint.specs.Kept.{IsTold, aheads_kept, listed_kept};
+ghost use Rattle.s66_lint.specs.Listed.{findings_text, first_refusal, listed, listed_lines, listed_of};
+ghost use Rattle.s66_lint.specs.Parts.{past_listed};
 
 use crate::ahead::Ahead;
 use crate::found::push_findings;
@@ -56,9 +56,9 @@ impl Findings {
         }
     }
 
-    /// States what there is to state of a line, before which `index` instructions of its run come.
-    #[tactic(auto, using(crate::proofs::StatedLines::refused_line))]
-    fn state_line(
+    /// Lists what is found in a line, before which `index` instructions of its run come.
+    #[tactic(auto, using(crate::proofs::ListedLines::refused_line))]
+    fn list_line(
         &mut self,
         labels: &mut Labels,
         number: u32,
@@ -68,8 +68,8 @@ impl Findings {
         ahead: Ahead,
     ) -> Result<(), AllocError>
         requires { IsTold line.now tells }
-        ensures text { OnOk result (self.new.text.items ≡ self.old.text.items ++ stated_lines (stated_of labels.old number index line.now ahead)) }
-        ensures refused { OnOk result (self.new.refused ≡ (self.old.refused || is_some (first_refusal (stated_of labels.old number index line.now ahead)))) }
+        ensures text { OnOk result (self.new.text.items ≡ self.old.text.items ++ listed_lines (listed_of labels.old number index line.now ahead)) }
+        ensures refused { OnOk result (self.new.refused ≡ (self.old.refused || is_some (first_refusal (listed_of labels.old number index line.now ahead)))) }
         ensures labels { labels.new ≡ labels.old }
     {
         let sight = line.sight();
@@ -93,21 +93,21 @@ impl Findings {
         }
     }
 
-    /// States what there is to state of the lines that are kept, by what comes after each, after the last one first.
-    fn state_lines(
+    /// Lists what is found in the lines that are kept, by what comes after each, after the last one first.
+    fn list_lines(
         &mut self,
         labels: &mut Labels,
         kept: &KeptLines,
         mut ahead_of_each: Vec<Ahead>,
     ) -> Result<(), AllocError>
         requires { ahead_of_each.items ≡ aheads_kept kept.now.lines.items kept.now.gap }
-        ensures text { OnOk result (self.new.text.items ≡ self.old.text.items ++ stated_lines (stated_kept labels.old kept.now.lines.items kept.now.gap)) }
-        ensures refused { OnOk result (self.new.refused ≡ (self.old.refused || is_some (first_refusal (stated_kept labels.old kept.now.lines.items kept.now.gap)))) }
+        ensures text { OnOk result (self.new.text.items ≡ self.old.text.items ++ listed_lines (listed_kept labels.old kept.now.lines.items kept.now.gap)) }
+        ensures refused { OnOk result (self.new.refused ≡ (self.old.refused || is_some (first_refusal (listed_kept labels.old kept.now.lines.items kept.now.gap)))) }
     {
         for kept in kept.lines.as_slice() {
             let ahead = next_ahead(&mut ahead_of_each);
             let tells = kept.tells();
-            self.state_line(
+            self.list_line(
                 labels,
                 kept.number(),
                 kept.index(),
@@ -119,10 +119,10 @@ impl Findings {
         Ok(())
     }
 
-    /// States what there is to state of the first line past the limit, if there is one.
-    fn state_past(&mut self, past: Option<&[u8]>) -> Result<(), AllocError>
-        ensures text { OnOk result (self.new.text.items ≡ self.old.text.items ++ stated_lines (past_stated (option_map (λ line. line.now) past.entry))) }
-        ensures refused { OnOk result (self.new.refused ≡ (self.old.refused || is_some (first_refusal (past_stated (option_map (λ line. line.now) past.entry))))) }
+    /// Lists what is found in the first line past the limit, if there is one.
+    fn list_past(&mut self, past: Option<&[u8]>) -> Result<(), AllocError>
+        ensures text { OnOk result (self.new.text.items ≡ self.old.text.items ++ listed_lines (past_listed (option_map (λ line. line.now) past.entry))) }
+        ensures refused { OnOk result (self.new.refused ≡ (self.old.refused || is_some (first_refusal (past_listed (option_map (λ line. line.now) past.entry))))) }
     {
         let Some(line) = past else {
             return Ok(());
@@ -140,14 +140,14 @@ impl Findings {
 /// `Err` is out of memory.
 pub fn findings_in(alloc: Global, text: &[u8]) -> Result<Findings, AllocError>
     ensures text { IfOk result (λ findings. findings.text.items ≡ findings_text text.now) }
-    ensures refused { IfOk result (λ findings. findings.refused ≡ is_some (first_refusal (stated text.now))) }
+    ensures refused { IfOk result (λ findings. findings.refused ≡ is_some (first_refusal (listed text.now))) }
 {
     let mut lines = Lines::new(alloc);
     let past = lines.take_all(text)?;
     let aheads = aheads(alloc, &lines.kept)?;
     let mut findings = Findings::new(alloc);
     let mut labels = Labels::of(alloc, &lines.labels);
-    findings.state_lines(&mut labels, &lines.kept, aheads)?;
-    findings.state_past(past)?;
+    findings.list_lines(&mut labels, &lines.kept, aheads)?;
+    findings.list_past(past)?;
     Ok(findings)
 }

@@ -2,7 +2,7 @@ ghost use Rattle.std.specs.Prelude.{ℕ, Bool, ◌≡◌, ◌&&◌, ◌≤◌, �
 ghost use Rattle.s66_line.specs.Fields.{continues, operand, operation, upper};
 ghost use Rattle.s66_line.specs.declared.class.Class.{Class};
 ghost use Rattle.s66_line.specs.declared.limits.TheConstants.{LINE_BYTES_LIMIT, TEXT_LIMIT};
-ghost use Rattle.s66_lint.specs.Findings.{counts_words, findings_of_class, is_between, names_from, some_known, stores};
+ghost use Rattle.s66_lint.specs.Findings.{counts_words, findings_of_class, is_between, names_from, some_known, is_storing};
 ghost use Rattle.s66_lint.specs.Kept.{may_count_from, tells_of};
 ghost use Rattle.s66_lint.specs.Parts.{found_lines};
 
@@ -82,7 +82,7 @@ fn names_code(labels: &mut Labels, operand: &[u8]) -> Result<bool, AllocError>
 /// Whether an instruction stores into the word of one.
 fn stores_into_code(labels: &mut Labels, instr: &Instr, operand: &[u8]) -> Result<bool, AllocError>
     requires { length operand.now ≤ TEXT_LIMIT }
-    ensures known { IfOk result (λ stores_code. stores_code ≡ (stores instr.now && some_known labels.old (names_from [] (upper operand.now)))) }
+    ensures known { IfOk result (λ stores_code. stores_code ≡ (is_storing instr.now && some_known labels.old (names_from [] (upper operand.now)))) }
     ensures same { labels.new ≡ labels.old }
 {
     if !is_store(instr) {

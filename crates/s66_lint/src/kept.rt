@@ -1,7 +1,7 @@
 ghost use Rattle.std.specs.Prelude.{◌≡◌, ◌≤◌, ◌&&◌, ◌||◌, not, true, false, length, is_some, IfSome};
 ghost use Rattle.s66_line.specs.Fields.{continues, operand, operation, upper};
 ghost use Rattle.s66_line.specs.declared.limits.TheConstants.{LINE_BYTES_LIMIT};
-ghost use Rattle.s66_lint.specs.Findings.{stores};
+ghost use Rattle.s66_lint.specs.Findings.{is_storing};
 ghost use Rattle.s66_lint.specs.Kept.{IsTold, is_defining, is_kept, is_other_kept, may_count_from, tells_of};
 
 use crate::gap::Gap;
@@ -18,7 +18,7 @@ use std::marker::Model;
 
 /// Whether an instruction stores: it sets A6 or A7.
 pub(crate) fn is_store(instr: &Instr) -> bool
-    ensures { result ≡ stores instr.now }
+    ensures { result ≡ is_storing instr.now }
 {
     let code = instr.op().code();
     code > 0o47 && code < 0o60 && (instr.i() == 6 || instr.i() == 7)
@@ -34,7 +34,7 @@ fn is_defining(body: &[u8]) -> bool
 
 /// Whether an instruction is kept.
 fn is_instruction_kept(instr: &Instr, body: &[u8]) -> bool
-    ensures { result ≡ (stores instr.now || may_count_from true (operand body.now)) }
+    ensures { result ≡ (is_storing instr.now || may_count_from true (operand body.now)) }
 {
     let (_, operand) = operation_and_operand(fields_of(body).from_operation);
     is_store(instr) || may_count_words(operand)

@@ -1,18 +1,18 @@
 ghost use Rattle.std.specs.Prelude.{◌≡◌, ℕ, List, ◌∷◌, ◌++◌, Ok, false, codes, [], replicate};
-ghost use Rattle.s66_lint.specs.Stated.{findings_text, first_refusal, stated, stated_lines, stated_past};
+ghost use Rattle.s66_lint.specs.Listed.{findings_text, first_refusal, listed, listed_lines, listed_past};
 ghost use Rattle.s66_source.specs.LeftAlone.{plain};
 ghost use Rattle.s66_source.specs.Source.{classed_lines, blocks_of, source_of, unless_refused};
 
-/// A source is refused for the first refusal among what is stated of it, and accepted if there is none; so it is if nothing is
-/// stated.
+/// A source is refused for the first refusal among what is listed of it, and accepted if there is none; so it is if nothing is
+/// listed.
 pub fn findings_law()
-    ensures stated { (text : List ℕ) → source_of (plain text) ≡ unless_refused (first_refusal (stated text)) (blocks_of (classed_lines (plain text))) }
+    ensures listed { (text : List ℕ) → source_of (plain text) ≡ unless_refused (first_refusal (listed text)) (blocks_of (classed_lines (plain text))) }
     ensures nothing { (text : List ℕ) → findings_text text ≡ [] → source_of (plain text) ≡ Ok (blocks_of (classed_lines (plain text))) }
 {}
 
-/// What is stated of small sources: lines that are refused, slips, lines that count lines, lines that are left alone, long lines,
+/// What is listed of small sources: lines that are refused, slips, lines that count lines, lines that are left alone, long lines,
 /// and lines past the limit.
-#[tactic(auto, unfolding(crate::specs::Stated::digits))]
+#[tactic(auto, unfolding(crate::specs::Listed::digits))]
 pub fn findings_examples()
     ensures refused { findings_text (codes "L SA1 *+2 LOAD\n  bx1\r\n,X2\n  BX1 X2\n,  X3,  X4\n  FOO\n,X5\n  NO\n,\n") ≡
         codes "LINE 1 BAD OPERAND SA1 *+2 (CUT)\n" ++
@@ -59,12 +59,12 @@ pub fn findings_examples()
         codes "LINE 1 NOT AN INSTRUCTION BX8\n" ++ codes "LINE 8 NOT AN INSTRUCTION BX8\n" }
     ensures too_long { findings_text (codes "  BX1 X2" ++ replicate 193 32 ++ codes "\n,X3\n  BX8\n") ≡ codes "LINE 1 TOO LONG\n" ++ codes "LINE 3 NOT AN INSTRUCTION BX8\n" }
     ensures as_long { findings_text (codes "  BX1 X2" ++ replicate 192 32 ++ codes "\n") ≡ [] }
-    ensures past_the_limit { stated_lines (stated_past (record { alone = false; bytes = codes "  BX1" } ∷ [])) ≡ codes "TOO MANY LINES\n" }
-    ensures long_past_the_limit { stated_lines (stated_past (record { alone = false; bytes = replicate 201 42 } ∷ [])) ≡ codes "LINE 20001 TOO LONG\n" ++ codes "TOO MANY LINES\n" }
+    ensures past_the_limit { listed_lines (listed_past (record { alone = false; bytes = codes "  BX1" } ∷ [])) ≡ codes "TOO MANY LINES\n" }
+    ensures long_past_the_limit { listed_lines (listed_past (record { alone = false; bytes = replicate 201 42 } ∷ [])) ≡ codes "LINE 20001 TOO LONG\n" ++ codes "TOO MANY LINES\n" }
 {}
 
-/// What is stated of sources in which a change of the order, or of the words that instructions fill, would be felt elsewhere.
-#[tactic(auto, unfolding(crate::specs::Stated::digits))]
+/// What is listed of sources in which a change of the order, or of the words that instructions fill, would be felt elsewhere.
+#[tactic(auto, unfolding(crate::specs::Listed::digits))]
 pub fn order_examples()
     ensures directives { findings_text (codes "*DECK PROC\n  IDENT PROC\nPROC SA1 B2\n  BX6 X1\n*IF DEF,DEBUG\n  SX7 TRACE\n  SA7 B3\n*ENDIF\n  SA2 B4\n  LX6 3\n*CALL COMXAMP\n  IX6 X6+X2\n  SA6 B5\n  EQ PROC\n  END\n") ≡
         codes "LINE 5 DIRECTIVE *IF (CUT)\n" ++

@@ -2,8 +2,8 @@ ghost use Rattle.std.specs.Prelude.{◌≡◌, ◌≤◌, ◌<◌, ◌++◌, ◌
 ghost use Rattle.s66_line.specs.Fields.{lines_from};
 ghost use Rattle.s66_source.specs.Source.{place_after};
 ghost use Rattle.s66_source.specs.declared.limits.TheConstants.{SOURCE_LINES_LIMIT};
-ghost use Rattle.s66_lint.specs.Findings.{is_located};
-ghost use Rattle.s66_lint.specs.Kept.{label_of, names_of};
+ghost use Rattle.s66_lint.specs.Findings.{has_label};
+ghost use Rattle.s66_lint.specs.Kept.{label_of, label_names};
 ghost use Rattle.s66_lint.specs.Pass.{first_of_lines, first_pass, pass_line, pass_lines, pass_of};
 
 use crate::kept::KeptLines;
@@ -15,7 +15,7 @@ use s66_source::{SOURCE_LINES_LIMIT, is_switch};
 use std::alloc::{AllocError, Global};
 
 fn is_located(class: Class) -> bool
-    ensures { result ≡ is_located class }
+    ensures { result ≡ has_label class }
 {
     matches!(
         class,
@@ -43,7 +43,7 @@ fn push_label<'a>(
     class: Class,
     body: &'a [u8],
 ) -> Result<(), AllocError>
-    ensures { OnOk result (names_of labels.new.items ≡ names_of labels.old.items ++ label_of class body.now) }
+    ensures { OnOk result (label_names labels.new.items ≡ label_names labels.old.items ++ label_of class body.now) }
 {
     if is_located(class) {
         labels.push(fields_of(body).location)?;

@@ -7,7 +7,7 @@ use Rattle.serde_json.specs.Read.{read}
 use Rattle.s66_isa.specs.Profiles.{profile_of}
 use Rattle.s66_isa.specs.Table.{entries, standard}
 use Rattle.s66_profile.specs.Hint.{hint_in_members}
-use Rattle.s66_profile.specs.ProfileText.{number_in, place_of, with_members, numbers_in, profile_in_text}
+use Rattle.s66_profile.specs.ProfileText.{profile_number, place_of, with_members, profile_numbers, profile_in_text}
 
 -- one member, at what its key and its value give
 step : (place number : Option ℕ) (a b : ℕ) (cs ds rest : List ℕ) (more : ℕ → ℕ → Option (List ℕ)) → ((at n : ℕ) → (rest ≡ []) ↔ IsSome (more at n))
@@ -19,7 +19,7 @@ step (Some at) (Some n) a b cs ds rest more h = h at n
 empty_if_set : (ns : List ℕ) (ms : Members) → (hint_in_members ms ≡ []) ↔ IsSome (with_members ns ms)
 empty_if_set ns no_members = ((λ e. refl), (λ e. refl))
 empty_if_set ns (member name value more) =
-    step (place_of name) (number_in value) _ _ _ _ (hint_in_members more) (λ at n. with_members (slice_set ns at n) more) (λ at n. empty_if_set (slice_set ns at n) more)
+    step (place_of name) (profile_number value) _ _ _ _ (hint_in_members more) (λ at n. with_members (slice_set ns at n) more) (λ at n. empty_if_set (slice_set ns at n) more)
 
 some_map : {A B : Type 0} (f : A → B) (o : Option A) → is_some (option_map f o) ≡ is_some o
 some_map f None = refl
@@ -28,7 +28,7 @@ some_map f (Some x) = refl
 -- what a text gives, whose members are known
 given_by_members : (text : List ℕ) (value : Data) (ms : Members) → read text ≡ Some value → as_object value ≡ Some ms → is_some (profile_in_text text) ≡ is_some (with_members (entries standard) ms)
 given_by_members text value ms r o =
-    some_map profile_of (option_and_then numbers_in (read text)) ∙ ap (λ v. is_some (option_and_then numbers_in v)) r ∙ ap (λ m. is_some (option_and_then (with_members (entries standard)) m)) o
+    some_map profile_of (option_and_then profile_numbers (read text)) ∙ ap (λ v. is_some (option_and_then profile_numbers v)) r ∙ ap (λ m. is_some (option_and_then (with_members (entries standard)) m)) o
 
 pub empty_if_profile : (text : List ℕ) (value : Data) (ms : Members) → read text ≡ Some value → as_object value ≡ Some ms → (hint_in_members ms ≡ []) ↔ IsSome (profile_in_text text)
 empty_if_profile text value ms r o =

@@ -4,7 +4,7 @@ use Rattle.serde_json.specs.Data.{Members, no_members, member, string}
 use Rattle.serde_json.specs.Find.{as_object}
 use Rattle.serde_json.specs.Read.{read}
 use Rattle.serde_json.specs.Written.{compact_text}
-use Rattle.s66_profile.specs.ProfileText.{number_in, place_of}
+use Rattle.s66_profile.specs.ProfileText.{profile_number, place_of}
 
 -- a key as JSON writes it, in quotes and escaped
 abbrev pub shown : List ℕ → List ℕ
@@ -15,7 +15,7 @@ abbrev pub hint_in_members : Members → List ℕ
 hint_in_members no_members = []
 hint_in_members (member name value more) =
     if is_none (place_of name) then codes "no number of a profile is called " ++ shown name
-    else (if is_none (number_in value) then shown name ++ codes " is no whole number 1 to 100" else hint_in_members more)
+    else (if is_none (profile_number value) then shown name ++ codes " is no whole number 1 to 100" else hint_in_members more)
 
 -- what is wrong with a text
 abbrev pub hint_in_text : List ℕ → List ℕ

@@ -19,22 +19,22 @@ abbrev pub place_of : List ℕ → Option ℕ
 place_of name = position (λ known. bytes_eq known name) names
 
 -- a whole number 1 to 100, written in digits alone: JSON's integers with no sign
-abbrev pub number_in : Data → Option ℕ
-number_in value = option_and_then (λ n. if nat_le 1 n && nat_le n PROFILE_LIMIT then Some n else None) (option_and_then as_u64 (as_number value))
+abbrev pub profile_number : Data → Option ℕ
+profile_number value = option_and_then (λ n. if nat_le 1 n && nat_le n PROFILE_LIMIT then Some n else None) (option_and_then as_u64 (as_number value))
 
 -- the numbers after each member of an object has set the one that it names
 abbrev pub with_members : List ℕ → Members → Option (List ℕ)
 with_members ns no_members = Some ns
-with_members ns (member name value more) = option_and_then (λ place. option_and_then (λ n. with_members (slice_set ns place n) more) (number_in value)) (place_of name)
+with_members ns (member name value more) = option_and_then (λ place. option_and_then (λ n. with_members (slice_set ns place n) more) (profile_number value)) (place_of name)
 
 -- the numbers that a JSON value gives: those of the standard profile, but what an object sets
-abbrev pub numbers_in : Data → Option (List ℕ)
-numbers_in value = option_and_then (with_members (entries standard)) (as_object value)
+abbrev pub profile_numbers : Data → Option (List ℕ)
+profile_numbers value = option_and_then (with_members (entries standard)) (as_object value)
 
 -- the numbers that a text gives
-abbrev pub numbers_in_text : List ℕ → Option (List ℕ)
-numbers_in_text text = option_and_then numbers_in (read text)
+abbrev pub profile_numbers_in_text : List ℕ → Option (List ℕ)
+profile_numbers_in_text text = option_and_then profile_numbers (read text)
 
 -- the profile of these numbers
 abbrev pub profile_in_text : List ℕ → Option Profile
-profile_in_text text = option_map profile_of (numbers_in_text text)
+profile_in_text text = option_map profile_of (profile_numbers_in_text text)

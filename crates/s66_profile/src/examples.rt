@@ -4,21 +4,21 @@
 ghost use Rattle.std.specs.Prelude.{[], ◌∷◌, ◌≡◌, ◌++◌, Some, None, codes};
 ghost use Rattle.s66_profile.specs.Examples.{standard_but};
 ghost use Rattle.s66_profile.specs.Hint.{hint_in_text};
-ghost use Rattle.s66_profile.specs.ProfileText.{numbers_in_text};
+ghost use Rattle.s66_profile.specs.ProfileText.{profile_numbers_in_text};
 
 /// Texts that give a profile.
 #[tactic(auto, unfolding(serde_json::proofs::OnLiterals::serde_json_on_literals))]
 pub fn profile_examples()
-    ensures no_key { numbers_in_text (codes "{}") ≡ Some (3 ∷ 3 ∷ 4 ∷ 4 ∷ 3 ∷ 10 ∷ 29 ∷ 8 ∷ 3 ∷ 8 ∷ 1 ∷ 1 ∷ 1 ∷ 1 ∷ 2 ∷ 1 ∷ 2 ∷ []) }
-    ensures a_time { numbers_in_text (codes "{\"boolean\":5}") ≡ standard_but 0 5 }
-    ensures copies { numbers_in_text (codes "{\"units_multiply\":3}") ≡ standard_but 14 3 }
-    ensures least { numbers_in_text (codes "{\"boolean\":1}") ≡ standard_but 0 1 }
-    ensures greatest { numbers_in_text (codes "{\"boolean\":100}") ≡ standard_but 0 100 }
-    ensures blanks { numbers_in_text (codes " \t\r\n{ \"load\"\n:\t2 } \r\n") ≡ standard_but 9 2 }
-    ensures escaped_key { numbers_in_text (codes "{\"\\u0062oolean\":5}") ≡ standard_but 0 5 }
-    ensures last_of_equal_keys { numbers_in_text (codes "{\"boolean\":5,\"boolean\":7}") ≡ standard_but 0 7 }
-    ensures only_the_last_counts { numbers_in_text (codes "{\"boolean\":\"x\",\"boolean\":7}") ≡ standard_but 0 7 }
-    ensures each_key { numbers_in_text (
+    ensures no_key { profile_numbers_in_text (codes "{}") ≡ Some (3 ∷ 3 ∷ 4 ∷ 4 ∷ 3 ∷ 10 ∷ 29 ∷ 8 ∷ 3 ∷ 8 ∷ 1 ∷ 1 ∷ 1 ∷ 1 ∷ 2 ∷ 1 ∷ 2 ∷ []) }
+    ensures a_time { profile_numbers_in_text (codes "{\"boolean\":5}") ≡ standard_but 0 5 }
+    ensures copies { profile_numbers_in_text (codes "{\"units_multiply\":3}") ≡ standard_but 14 3 }
+    ensures least { profile_numbers_in_text (codes "{\"boolean\":1}") ≡ standard_but 0 1 }
+    ensures greatest { profile_numbers_in_text (codes "{\"boolean\":100}") ≡ standard_but 0 100 }
+    ensures blanks { profile_numbers_in_text (codes " \t\r\n{ \"load\"\n:\t2 } \r\n") ≡ standard_but 9 2 }
+    ensures escaped_key { profile_numbers_in_text (codes "{\"\\u0062oolean\":5}") ≡ standard_but 0 5 }
+    ensures last_of_equal_keys { profile_numbers_in_text (codes "{\"boolean\":5,\"boolean\":7}") ≡ standard_but 0 7 }
+    ensures only_the_last_counts { profile_numbers_in_text (codes "{\"boolean\":\"x\",\"boolean\":7}") ≡ standard_but 0 7 }
+    ensures each_key { profile_numbers_in_text (
         codes "{\"units_increment\":27,\"units_divide\":26,\"units_multiply\":25,\"units_longadd\":24,\"units_add\":23,\"units_shift\":22,\"units_boolean\":21," ++
         codes "\"load\":20,\"increment\":19,\"population\":18,\"divide\":17,\"multiply\":16,\"longadd\":15,\"add\":14,\"normalise\":13,\"shift\":12,\"boolean\":11}") ≡
         Some (11 ∷ 12 ∷ 13 ∷ 14 ∷ 15 ∷ 16 ∷ 17 ∷ 18 ∷ 19 ∷ 20 ∷ 21 ∷ 22 ∷ 23 ∷ 24 ∷ 25 ∷ 26 ∷ 27 ∷ []) }
@@ -27,30 +27,30 @@ pub fn profile_examples()
 /// Texts that give no profile: JSON that is no such object, and what isn't JSON.
 #[tactic(auto, unfolding(serde_json::proofs::OnLiterals::serde_json_on_literals))]
 pub fn refusal_examples()
-    ensures zero { numbers_in_text (codes "{\"boolean\":0}") ≡ None }
-    ensures above { numbers_in_text (codes "{\"boolean\":101}") ≡ None }
-    ensures far_above { numbers_in_text (codes "{\"boolean\":18446744073709551621}") ≡ None }
-    ensures text { numbers_in_text (codes "{\"boolean\":\"3\"}") ≡ None }
-    ensures point { numbers_in_text (codes "{\"boolean\":3.0}") ≡ None }
-    ensures exponent { numbers_in_text (codes "{\"boolean\":3e0}") ≡ None }
-    ensures minus_zero { numbers_in_text (codes "{\"boolean\":-0}") ≡ None }
-    ensures minus { numbers_in_text (codes "{\"boolean\":-3}") ≡ None }
-    ensures plus { numbers_in_text (codes "{\"boolean\":+3}") ≡ None }
-    ensures leading_zero { numbers_in_text (codes "{\"boolean\":03}") ≡ None }
-    ensures truth { numbers_in_text (codes "{\"boolean\":true}") ≡ None }
-    ensures null { numbers_in_text (codes "{\"boolean\":null}") ≡ None }
-    ensures array_of_number { numbers_in_text (codes "{\"boolean\":[3]}") ≡ None }
-    ensures other_key { numbers_in_text (codes "{\"branch\":3}") ≡ None }
-    ensures upper_case { numbers_in_text (codes "{\"Boolean\":3}") ≡ None }
-    ensures one_bad_key { numbers_in_text (codes "{\"boolean\":3,\"branch\":3}") ≡ None }
-    ensures array { numbers_in_text (codes "[]") ≡ None }
-    ensures number { numbers_in_text (codes "3") ≡ None }
-    ensures cut { numbers_in_text (codes "{") ≡ None }
-    ensures nothing { numbers_in_text [] ≡ None }
-    ensures only_blanks { numbers_in_text (codes " \n") ≡ None }
-    ensures more { numbers_in_text (codes "{\"boolean\":5} x") ≡ None }
-    ensures two_objects { numbers_in_text (codes "{} {}") ≡ None }
-    ensures last_comma { numbers_in_text (codes "{\"boolean\":1,}") ≡ None }
+    ensures zero { profile_numbers_in_text (codes "{\"boolean\":0}") ≡ None }
+    ensures above { profile_numbers_in_text (codes "{\"boolean\":101}") ≡ None }
+    ensures far_above { profile_numbers_in_text (codes "{\"boolean\":18446744073709551621}") ≡ None }
+    ensures text { profile_numbers_in_text (codes "{\"boolean\":\"3\"}") ≡ None }
+    ensures point { profile_numbers_in_text (codes "{\"boolean\":3.0}") ≡ None }
+    ensures exponent { profile_numbers_in_text (codes "{\"boolean\":3e0}") ≡ None }
+    ensures minus_zero { profile_numbers_in_text (codes "{\"boolean\":-0}") ≡ None }
+    ensures minus { profile_numbers_in_text (codes "{\"boolean\":-3}") ≡ None }
+    ensures plus { profile_numbers_in_text (codes "{\"boolean\":+3}") ≡ None }
+    ensures leading_zero { profile_numbers_in_text (codes "{\"boolean\":03}") ≡ None }
+    ensures truth { profile_numbers_in_text (codes "{\"boolean\":true}") ≡ None }
+    ensures null { profile_numbers_in_text (codes "{\"boolean\":null}") ≡ None }
+    ensures array_of_number { profile_numbers_in_text (codes "{\"boolean\":[3]}") ≡ None }
+    ensures other_key { profile_numbers_in_text (codes "{\"branch\":3}") ≡ None }
+    ensures upper_case { profile_numbers_in_text (codes "{\"Boolean\":3}") ≡ None }
+    ensures one_bad_key { profile_numbers_in_text (codes "{\"boolean\":3,\"branch\":3}") ≡ None }
+    ensures array { profile_numbers_in_text (codes "[]") ≡ None }
+    ensures number { profile_numbers_in_text (codes "3") ≡ None }
+    ensures cut { profile_numbers_in_text (codes "{") ≡ None }
+    ensures nothing { profile_numbers_in_text [] ≡ None }
+    ensures only_blanks { profile_numbers_in_text (codes " \n") ≡ None }
+    ensures more { profile_numbers_in_text (codes "{\"boolean\":5} x") ≡ None }
+    ensures two_objects { profile_numbers_in_text (codes "{} {}") ≡ None }
+    ensures last_comma { profile_numbers_in_text (codes "{\"boolean\":1,}") ≡ None }
 {}
 
 /// Why texts give no profile.

@@ -3,7 +3,7 @@ ghost use Rattle.serde_json.specs.View.{view};
 ghost use Rattle.s66_isa.specs.Profiles.{profile_of};
 ghost use Rattle.s66_isa.specs.Table.{entries};
 ghost use Rattle.s66_profile.specs.Gives.{Gives};
-ghost use Rattle.s66_profile.specs.ProfileText.{number_in, numbers_in, numbers_in_text, place_of, profile_in_text};
+ghost use Rattle.s66_profile.specs.ProfileText.{profile_number, profile_numbers, profile_numbers_in_text, place_of, profile_in_text};
 ghost use Rattle.s66_profile.specs.declared.error.ProfileError.TheVariants.{OutOfMemory};
 
 use crate::error::ProfileError;
@@ -42,7 +42,7 @@ pub(crate) fn place(name: &str) -> Option<usize>
 
 /// The number that a value is, if it may be in a profile.
 pub(crate) fn number(value: &Value) -> Option<u8>
-    ensures value { result ≡ number_in (view value.now) }
+    ensures value { result ≡ profile_number (view value.now) }
     ensures range { IfSome result (λ n. (1 ≤ n) × (n ≤ PROFILE_LIMIT)) }
 {
     let number = value.as_u64()?;
@@ -56,8 +56,8 @@ pub(crate) fn number(value: &Value) -> Option<u8>
 /// The profile that a JSON value gives: each member of the object sets the number that it names, and the others are the standard
 /// profile's.
 fn profile_in(value: &Value) -> Option<Profile>
-    ensures value { result ≡ option_map profile_of (numbers_in (view value.now)) }
-    ensures numbers { IfSome result (λ p. numbers_in (view value.now) ≡ Some (entries p)) }
+    ensures value { result ≡ option_map profile_of (profile_numbers (view value.now)) }
+    ensures numbers { IfSome result (λ p. profile_numbers (view value.now) ≡ Some (entries p)) }
 {
     let members = value.as_object()?;
     let mut numbers = Profile::standard().entries();
@@ -78,7 +78,7 @@ fn profile_in(value: &Value) -> Option<Profile>
 /// empty text needs no memory.
 pub fn read_profile(alloc: Global, text: &str) -> Result<Profile, ProfileError>
     ensures profile { Gives result (profile_in_text text.now) }
-    ensures numbers { IfOk result (λ p. numbers_in_text text.now ≡ Some (entries p)) }
+    ensures numbers { IfOk result (λ p. profile_numbers_in_text text.now ≡ Some (entries p)) }
     ensures memory { result ≡ Err OutOfMemory → 0 < length text.now }
 {
     let value = Value::from_str(alloc, text)?;

@@ -33,7 +33,7 @@ use Rattle.s66_model.proofs.Remaining.{among-ready, legal-parts, ready-among, re
 use Rattle.s66_cert.specs.declared.limits.TheConstants.{SPLIT_LIMIT, TIME_LIMIT}
 use Rattle.s66_tree.specs.Lines.{has_dominated_line}
 use Rattle.s66_cert.specs.Document.{AreIn, AreInstructions, AreNumbers, IsDocument, IsLeafLine, SiblingsFit, TreeFits, has_dominated, names_nodes}
-use Rattle.s66_cert.specs.DocumentParts.{Parts, AreWhole, document_of, tree_of}
+use Rattle.s66_cert.specs.DocumentParts.{Parts, AreWhole, document_of, tree_of_lines}
 use Rattle.s66_program.specs.ProvedAnswers.{IsSpelled}
 use Rattle.s66_program.specs.ProveText.{document_under, rule_of, texts_of}
 
@@ -218,7 +218,7 @@ rule-names WrittenEarlier b tree true is h = refl
 rule-names ClampedStanding b tree true is h = refl
 
 -- the tree of an answer is that of its lines
-pub answer-lines : (rule : Rule) (b : Problem) (budget : ℕ) (a : Answer) → IsAnswer rule b budget a → tree_of (flat a.tree) ≡ a.tree
+pub answer-lines : (rule : Rule) (b : Problem) (budget : ℕ) (a : Answer) → IsAnswer rule b budget a → tree_of_lines (flat a.tree) ≡ a.tree
 answer-lines rule b budget a is = read-flat (Bounding Whole) a.tree (tree-match b.block (MayEnd rule b a.tree) a.tree [] is.tree)
 
 -- by which the tree shows its bound

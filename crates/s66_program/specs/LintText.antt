@@ -1,6 +1,6 @@
 -- To be believed: what `lint` writes for a source, which may be any text, and how it ends.
 use Rattle.std.specs.Prelude.{ℕ, ◌≡◌, Bool, true, false, List, [], ◌∷◌, is_some}
-use Rattle.s66_lint.specs.Stated.{findings_text, first_refusal, stated}
+use Rattle.s66_lint.specs.Listed.{findings_text, first_refusal, listed}
 use Rattle.s66_program.specs.declared.outcome.Status.{Status}
 use Rattle.s66_program.specs.declared.outcome.Status.TheVariants.{Done, Denied, Listed}
 
@@ -12,4 +12,4 @@ lint_status false (b ∷ text) = Listed
 
 -- what is stated of the source's lines, and its status
 abbrev pub IsLintOutput : (input text : List ℕ) → Status → Type 0
-IsLintOutput input text status = (text ≡ findings_text input) × (status ≡ lint_status (is_some (first_refusal (stated input))) text)
+IsLintOutput input text status = (text ≡ findings_text input) × (status ≡ lint_status (is_some (first_refusal (listed input))) text)

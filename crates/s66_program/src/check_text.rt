@@ -1,6 +1,6 @@
 ghost use Rattle.std.specs.Prelude.{◌≡◌, ◌++◌, map, IfOk, OnOk};
 ghost use Rattle.s66_cert.specs.DocumentParts.{document_of};
-ghost use Rattle.s66_cert.specs.Reads.{Refuses};
+ghost use Rattle.s66_cert.specs.Reads.{RefusesText};
 ghost use Rattle.s66_program.specs.CheckText.{IsCheckOutput, verdict_line, verdict_lines, verdicts_status};
 
 use crate::observer::Observer;
@@ -60,7 +60,7 @@ pub fn check_output<O: Observer>(
     observer: &mut O,
 ) -> Result<Output, CertError>
     ensures ok { IfOk result (λ output. IsCheckOutput text.now output.text.items output.status) }
-    ensures err { Refuses text.now result }
+    ensures err { RefusesText text.now result }
 {
     let documents = read(alloc, text)?;
     Ok(check_all(alloc, documents.as_slice(), observer)?)

@@ -7,7 +7,7 @@ use Rattle.crossbeam_deque.proofs.Lists.{at_set}
 use Rattle.s66_isa.specs.Lists.{weigh}
 use Rattle.s66_isa.proofs.Lists.{weigh-append}
 use Rattle.s66_model.specs.Tickets.{TicketOf}
-use Rattle.s66_steal.specs.Hands.{Hand, opening_hand, new_hand, spent_hand, one_part_less, joined_hands, IsIdle, Balanced, HasPut, HasTaken, HasPartsAtMost, IsSettled}
+use Rattle.s66_steal.specs.Hands.{Hand, opening_hand, new_hand, spent_hand, one_part_less, joined_hands, HoldsNothing, Balanced, HasPut, HasTaken, HasPartsAtMost, IsSettled}
 
 weigh-at : {X : Type 0} (f : X → ℕ) (xs : List X) (i : ℕ) (v w : X) → get_elem? xs i ≡ some v → weigh f (set xs i w) + f v ≡ weigh f xs + f w
 weigh-at f [] i v w e = absurd (some-ne-none v (sym e))
@@ -21,20 +21,20 @@ abbrev taken_by : (TicketOf → ℕ) → Hand → ℕ
 taken_by h v = weigh h v.taken
 
 abbrev AllIdle : List Hand → Type 0
-AllIdle hands = (at : ℕ) (v : Hand) → get_elem? hands at ≡ some v → IsIdle v
+AllIdle hands = (at : ℕ) (v : Hand) → get_elem? hands at ≡ some v → HoldsNothing v
 
-idle-set : (hands : List Hand) (at : ℕ) (w : Hand) → IsIdle w → AllIdle hands → AllIdle (set hands at w)
+idle-set : (hands : List Hand) (at : ℕ) (w : Hand) → HoldsNothing w → AllIdle hands → AllIdle (set hands at w)
 idle-set hands at w is all j u e =
-    ⊎_elim (λ (x : (j ≡ at) × (w ≡ u)). subst IsIdle x.1 is) (λ (x : (j ≢ at) × (get_elem? hands j ≡ some u)). all j u x.1) (at_set hands at j w u e)
+    ⊎_elim (λ (x : (j ≡ at) × (w ≡ u)). subst HoldsNothing x.1 is) (λ (x : (j ≢ at) × (get_elem? hands j ≡ some u)). all j u x.1) (at_set hands at j w u e)
 
-idle-snoc : (hands : List Hand) (w : Hand) → IsIdle w → AllIdle hands → AllIdle (hands ++ w ∷ [])
-idle-snoc [] w is all zero u e = subst IsIdle (some-injective w u e) is
+idle-snoc : (hands : List Hand) (w : Hand) → HoldsNothing w → AllIdle hands → AllIdle (hands ++ w ∷ [])
+idle-snoc [] w is all zero u e = subst HoldsNothing (some-injective w u e) is
 idle-snoc [] w is all (suc j) u e = absurd (some-ne-none u (sym e))
 idle-snoc (x ∷ xs) w is all zero u e = all 0 u e
 idle-snoc (x ∷ xs) w is all (suc j) u e = idle-snoc xs w is (λ k v. all (suc k) v) j u e
 
 opening-idle : AllIdle (opening_hand ∷ [])
-opening-idle zero v e = subst IsIdle (some-injective opening_hand v e) (λ none. (refl, refl))
+opening-idle zero v e = subst HoldsNothing (some-injective opening_hand v e) (λ none. (refl, refl))
 opening-idle (suc at) v e = absurd (some-ne-none v (sym e))
 
 pub begins : Balanced [] (opening_hand ∷ [])

@@ -34,15 +34,15 @@ abbrev pub joined_hands : Hand → Hand → Hand
 joined_hands v u = record { parts = v.parts + u.parts; put = v.put ++ u.put; taken = v.taken ++ u.taken }
 
 -- if it has no part, it has put and taken nothing
-abbrev pub IsIdle : Hand → Type 0
-IsIdle v = v.parts ≡ 0 → (v.put ≡ []) × (v.taken ≡ [])
+abbrev pub HoldsNothing : Hand → Type 0
+HoldsNothing v = v.parts ≡ 0 → (v.put ≡ []) × (v.taken ≡ [])
 
 -- what all hands put is what all took and what is in the lane, however tickets are weighed
 abbrev pub Balanced : List TicketOf → List Hand → Type 0
 Balanced tickets hands =
     (weigh (λ v. v.parts) hands ≡ PARTS)
     × ((h : TicketOf → ℕ) → weigh (λ v. weigh h v.put) hands ≡ weigh (λ v. weigh h v.taken) hands + weigh h tickets)
-    × ((at : ℕ) (v : Hand) → get_elem? hands at ≡ some v → IsIdle v)
+    × ((at : ℕ) (v : Hand) → get_elem? hands at ≡ some v → HoldsNothing v)
 
 abbrev pub HasPut : Hand → List TicketOf → Hand → Type 0
 HasPut old tickets new = new ≡ record old { put = old.put ++ tickets }

@@ -4,7 +4,7 @@ use Rattle.std.proofs.lemmas.List.{take-append-le, drop-append-le, drop-drop, le
 use Rattle.s66_isa.proofs.Lists.{weigh-append}
 use Rattle.s66_isa.specs.Lists.{some_of, weigh}
 use Rattle.s66_tree.specs.Lines.{has_dominated_line}
-use Rattle.s66_tree.specs.Marks.{number_count, is_dominated, marked, vertices_of, begins_from, AreCounted, AreKept}
+use Rattle.s66_tree.specs.Marks.{number_count, is_dominated, marked, vertices_of, begins_from, HaveTheirNumbers, AreKeptLines}
 use Rattle.s66_tree.specs.declared.tree.Mark.{Mark}
 use Rattle.s66_tree.specs.declared.tree.Mark.TheVariants as mark
 
@@ -41,13 +41,13 @@ marked-taken mark.Parcels numbers = refl
 marked-taken (mark.Dominated count) numbers = rw (take-take count numbers) refl
 
 -- without the first line and its numbers
-pub counted-rest : (m : Mark) (ms : List Mark) (numbers : List ℕ) → AreCounted (m ∷ ms) numbers → AreCounted ms (drop (number_count m) numbers)
+pub counted-rest : (m : Mark) (ms : List Mark) (numbers : List ℕ) → HaveTheirNumbers (m ∷ ms) numbers → HaveTheirNumbers ms (drop (number_count m) numbers)
 counted-rest m ms numbers h = omega (arith, length-drop (number_count m) numbers, h)
 
-pub counted-append : (ms : List Mark) (numbers : List ℕ) (m : Mark) (more : List ℕ) → AreCounted ms numbers → number_count m ≡ length more → AreCounted (ms ++ m ∷ []) (numbers ++ more)
+pub counted-append : (ms : List Mark) (numbers : List ℕ) (m : Mark) (more : List ℕ) → HaveTheirNumbers ms numbers → number_count m ≡ length more → HaveTheirNumbers (ms ++ m ∷ []) (numbers ++ more)
 counted-append ms numbers m more h e = omega (arith, weigh-append number_count ms (m ∷ []), length-append numbers more, h, e)
 
-pub vertices-append : (ms : List Mark) (numbers : List ℕ) (m : Mark) (more : List ℕ) → AreCounted ms numbers → vertices_of (ms ++ m ∷ []) (numbers ++ more) ≡ vertices_of ms numbers ++ marked m more ∷ []
+pub vertices-append : (ms : List Mark) (numbers : List ℕ) (m : Mark) (more : List ℕ) → HaveTheirNumbers ms numbers → vertices_of (ms ++ m ∷ []) (numbers ++ more) ≡ vertices_of ms numbers ++ marked m more ∷ []
 vertices-append [] [] m more h = refl
 vertices-append [] (n ∷ ns) m more h = absurd (omega (arith, h))
 vertices-append (k ∷ ms) numbers m more h =
@@ -67,8 +67,8 @@ begins-append n (k ∷ ms) m =
     let sum : n + number_count k + weigh number_count ms ≡ n + weigh number_count (k ∷ ms) = omega arith in
     ap (λ ks. n ∷ ks) (begins-append (n + number_count k) ms m ∙ ap (λ b. begins_from (n + number_count k) ms ++ b ∷ []) sum)
 
-pub kept-append : (ms : List Mark) (numbers begins : List ℕ) (m : Mark) (more : List ℕ) (begin : ℕ) → AreKept ms numbers begins → number_count m ≡ length more → begin ≡ length numbers →
-    AreKept (ms ++ m ∷ []) (numbers ++ more) (begins ++ begin ∷ [])
+pub kept-append : (ms : List Mark) (numbers begins : List ℕ) (m : Mark) (more : List ℕ) (begin : ℕ) → AreKeptLines ms numbers begins → number_count m ≡ length more → begin ≡ length numbers →
+    AreKeptLines (ms ++ m ∷ []) (numbers ++ more) (begins ++ begin ∷ [])
 kept-append ms numbers begins m more begin are e here =
     let sum : 0 + weigh number_count ms ≡ begin = omega (arith, are.counted, here) in
     record {
@@ -99,11 +99,11 @@ drop-at (m ∷ ms) numbers (suc place) d lt =
     drop-at ms (drop (number_count m) numbers) place d (omega arith)
     ∙ ap (λ ns. marked (get_or ms place d) ns ∷ drop (suc place) (vertices_of ms (drop (number_count m) numbers))) (drop-drop (weigh number_count (take place ms)) (number_count m) numbers)
 
-pub kept_count : (ms : List Mark) (numbers begins : List ℕ) → AreKept ms numbers begins → length begins ≡ length ms
+pub kept_count : (ms : List Mark) (numbers begins : List ℕ) → AreKeptLines ms numbers begins → length begins ≡ length ms
 kept_count ms numbers begins are = ap length are.placed ∙ begins-count 0 ms
 
 -- the mark at a place, and where its numbers begin
-module _ (ms : List Mark) (numbers begins : List ℕ) (place : ℕ) (d : Mark) (are : AreKept ms numbers begins) (lt : place < length ms) where
+module _ (ms : List Mark) (numbers begins : List ℕ) (place : ℕ) (d : Mark) (are : AreKeptLines ms numbers begins) (lt : place < length ms) where
   begin-is : get_or begins place 0 ≡ weigh number_count (take place ms)
   begin-is = omega (arith, ap (λ bs. get_or bs place 0) are.placed, begin-at 0 ms place lt)
 

@@ -44,10 +44,10 @@ begins_from n [] = []
 begins_from n (mark ∷ marks) = n ∷ begins_from (n + number_count mark) marks
 
 -- as many numbers as the lines have
-abbrev pub AreCounted : List Mark → List ℕ → Type 0
-AreCounted marks numbers = weigh number_count marks ≡ length numbers
+abbrev pub HaveTheirNumbers : List Mark → List ℕ → Type 0
+HaveTheirNumbers marks numbers = weigh number_count marks ≡ length numbers
 
 -- marks and numbers of lines, and where the numbers of each begin
-pub record AreKept (marks : List Mark) (numbers begins : List ℕ) : Type 0 where
-  pub counted : AreCounted marks numbers
+pub record AreKeptLines (marks : List Mark) (numbers begins : List ℕ) : Type 0 where
+  pub counted : HaveTheirNumbers marks numbers
   pub placed : begins ≡ begins_from 0 marks

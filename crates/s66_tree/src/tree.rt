@@ -1,7 +1,7 @@
 ghost use Rattle.std.specs.Prelude.{◌≡◌, ◌<◌, ◌+◌, ◌∷◌, drop, length};
 ghost use Rattle.s66_isa.specs.Lists.{some_of};
 ghost use Rattle.s66_tree.specs.Lines.{vertex_of};
-ghost use Rattle.s66_tree.specs.Marks.{is_dominated, vertices_of, AreKept};
+ghost use Rattle.s66_tree.specs.Marks.{is_dominated, vertices_of, AreKeptLines};
 
 use s66_isa::Kind;
 use std::alloc::{AllocError, Global};
@@ -87,7 +87,7 @@ fn some_dominated(marks: &[Mark]) -> bool
 /// The line at a place.
 #[tactic(auto, using(crate::proofs::Marks::kept_count))]
 fn line_at<'a>(marks: &[Mark], numbers: &'a [u8], begins: &[usize], place: usize) -> TreeLine<'a>
-    requires kept { AreKept marks.now numbers.now begins.now }
+    requires kept { AreKeptLines marks.now numbers.now begins.now }
     requires within { place < length marks.now }
     ensures { drop place (vertices_of marks.now numbers.now) ≡ vertex_of result ∷ drop (place + 1) (vertices_of marks.now numbers.now) }
 {
@@ -111,13 +111,13 @@ impl Model for KeptLines {
     ghost use Rattle.std.specs.Prelude.{List};
     ghost use Rattle.s66_model.specs.Tree.{Vertex};
     ghost use Rattle.s66_model.specs.DominatedLeaves.{Ending};
-    ghost use Rattle.s66_tree.specs.Marks.{vertices_of, AreKept};
+    ghost use Rattle.s66_tree.specs.Marks.{vertices_of, AreKeptLines};
 
     ghost Value = { List (Vertex Ending) };
 
     ghost view = { λ t. vertices_of t.marks.items t.numbers.items };
 
-    ghost invariant = { λ t. AreKept t.marks.items t.numbers.items t.begins.items };
+    ghost invariant = { λ t. AreKeptLines t.marks.items t.numbers.items t.begins.items };
 }
 
 impl KeptLines {
@@ -290,13 +290,13 @@ impl<'a> Model for TreeLines<'a> {
     ghost use Rattle.std.specs.Prelude.{List};
     ghost use Rattle.s66_model.specs.Tree.{Vertex};
     ghost use Rattle.s66_model.specs.DominatedLeaves.{Ending};
-    ghost use Rattle.s66_tree.specs.Marks.{vertices_of, AreCounted};
+    ghost use Rattle.s66_tree.specs.Marks.{vertices_of, HaveTheirNumbers};
 
     ghost Value = { List (Vertex Ending) };
 
     ghost view = { λ t. vertices_of t.marks.now t.numbers.now };
 
-    ghost invariant = { λ t. AreCounted t.marks.now t.numbers.now };
+    ghost invariant = { λ t. HaveTheirNumbers t.marks.now t.numbers.now };
 }
 
 impl<'a> TreeLines<'a> {

@@ -1,6 +1,6 @@
 use Rattle.std.proofs.Common.{◌≡◌, ◌<◌, suc, get_or, length, ◌+◌, ◌++◌, ◌∷◌, [], ℕ, List, drop, rules, sym, ap, subst, ◌∙◌, add-one, drop-cons}
 use Rattle.std.proofs.lemmas.Result.{MatchResult-from_err}
-use Rattle.s66_cert.specs.Document.{instruction_lines}
+use Rattle.s66_cert.specs.Document.{instructions_text}
 use Rattle.s66_cert.proofs.Pages.{IsUnderway, underway-more, underway-begun, printed-behind}
 use Rattle.s66_cert.proofs.Printed.{first-instruction}
 use Rattle.s66_cert.proofs.printing.print_block.Goals as goal
@@ -21,10 +21,10 @@ loop-text-preserved g c =
     let texts : List (List ℕ) = c.args.block.now in
     let more = drop (i + 1) texts in
     let next : drop i texts ≡ text ∷ more = drop-here texts i text c.loop-text-test.true c.text-item.is in
-    let way : IsUnderway _ _ c.args.page.now c.loop-text.page (instruction_lines texts) (instruction_lines (text ∷ []) ++ instruction_lines more) =
-    subst (IsUnderway _ _ c.args.page.now c.loop-text.page (instruction_lines texts)) (ap instruction_lines next ∙ first-instruction text more) c.loop-text.invariant.way in
+    let way : IsUnderway _ _ c.args.page.now c.loop-text.page (instructions_text texts) (instructions_text (text ∷ []) ++ instructions_text more) =
+    subst (IsUnderway _ _ c.args.page.now c.loop-text.page (instructions_text texts)) (ap instructions_text next ∙ first-instruction text more) c.loop-text.invariant.way in
     record {
-      way = underway-more _ _ _ c.args.page.now c.loop-text.page c.instruction.new.self _ (instruction_lines (text ∷ [])) (instruction_lines more) way
-          (printed-behind _ _ c.loop-text.page c.make_room.new.self c.instruction.new.self (instruction_lines (text ∷ [])) c.in_ok-make_room.ensures.printed.0 (rw (← c.bytes.ensures.value) c.instruction.ensures));
+      way = underway-more _ _ _ c.args.page.now c.loop-text.page c.instruction.new.self _ (instructions_text (text ∷ [])) (instructions_text more) way
+          (printed-behind _ _ c.loop-text.page c.make_room.new.self c.instruction.new.self (instructions_text (text ∷ [])) c.in_ok-make_room.ensures.printed.0 (rw (← c.bytes.ensures.value) c.instruction.ensures));
       same = c.in_ok-make_room.ensures.printed.1 ∙ c.loop-text.invariant.same;
     }

@@ -4,7 +4,7 @@ use Rattle.s66_isa.specs.Table.{Row, Write}
 use Rattle.s66_isa.specs.Rows.{IsInRange}
 use Rattle.s66_model.specs.Timing.{Problem, Point, ResultAt, end_of, start_of, parcel_of, result_at, free_after}
 use Rattle.s66_model.proofs.Growth.{start-le, results-le}
-use Rattle.s66_checker.specs.KeptPrefix.{TOTAL_LIMIT, under, AreTimed}
+use Rattle.s66_checker.specs.KeptPrefix.{TOTAL_LIMIT, with_profile, AreTimed}
 use Rattle.s66_checker.proofs.Reversed.{greatest-reverse}
 use Rattle.s66_checker.proofs.KeptPoints.{timed-small, timed-total}
 use Rattle.s66_checker.proofs.LeafBounds.{latencies-le}
@@ -22,15 +22,15 @@ pub results-results-requires-clause-latencies : goal.results-results-requires-cl
 results-results-requires-clause-latencies c = latencies _ c.as_slice.result.now c.row.invariant c.as_slice.ensures.value
 
 pub results-results-requires-clause-start : goal.results-results-requires-clause-start
-results-results-requires-clause-start c = starts (under c.args.profile.now) c.args.past.now c.args.row c.start-start.result c.requires (c.start-start.ensures (under c.args.profile.now) c.issue-issue.ensures)
+results-results-requires-clause-start c = starts (with_profile c.args.profile.now) c.args.past.now c.args.row c.start-start.result c.requires (c.start-start.ensures (with_profile c.args.profile.now) c.issue-issue.ensures)
 
 pub free_after-free-requires-clause-start : goal.free_after-free-requires-clause-start
 free_after-free-requires-clause-start c =
-    omega (arith, c.row.invariant.hold, starts (under c.args.profile.now) c.args.past.now c.args.row c.start-start.result c.requires (c.start-start.ensures (under c.args.profile.now) c.issue-issue.ensures))
+    omega (arith, c.row.invariant.hold, starts (with_profile c.args.profile.now) c.args.past.now c.args.row c.start-start.result c.requires (c.start-start.ensures (with_profile c.args.profile.now) c.issue-issue.ensures))
 
 pub free_after-free-requires-clause-results : goal.free_after-free-requires-clause-results
 free_after-free-requires-clause-results c =
-    let b = under c.args.profile.now in
+    let b = with_profile c.args.profile.now in
     let xs = c.args.past.now in
     let start = c.start-start.result in
     let ws = c.as_slice.result.now in
@@ -47,7 +47,7 @@ parcel-requires c = rw c.points.ensures c.requires
 
 pub returns : goal.returns
 returns c =
-    let b = under c.args.profile.now in
+    let b = with_profile c.args.profile.now in
     let xs = c.args.past.now in
     let start = c.start-start.result in
     let results : c.results-results.result.items ≡ map (result_at xs start) c.args.row.writes =

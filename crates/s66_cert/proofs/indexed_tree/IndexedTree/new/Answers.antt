@@ -1,6 +1,6 @@
 use Rattle.std.proofs.Common.{◌≡◌, ◌<◌, ◌+◌, ◌-◌, ℕ, length, refl, ap, sym, subst, ◌∙◌, arith}
 use Rattle.s66_tree.specs.Lines.{vertex_of}
-use Rattle.s66_cert.specs.NodePlaces.{IsEnd, AreEnds, end_behind, sibling_count}
+use Rattle.s66_cert.specs.NodePlaces.{IsEnd, AreTreeEnds, end_behind, sibling_count}
 use Rattle.s66_cert.proofs.NodePlaces.{end-here, ends-more}
 use Rattle.s66_cert.proofs.indexed_tree.IndexedTree.new.Goals as goal
 
@@ -10,7 +10,7 @@ overflow_cast-end_behind c =
     let lines = c.into_parts-lines.result.0 in
     let at : ℕ = l.place - 1 in
     let back : l.place ≡ at + 1 = omega (arith, c.loop-place-test.true) in
-    let known : AreEnds (at + 1) l.ends.items lines = subst (λ p. AreEnds p l.ends.items lines) back l.invariant.known in
+    let known : AreTreeEnds (at + 1) l.ends.items lines = subst (λ p. AreTreeEnds p l.ends.items lines) back l.invariant.known in
     let here = end-here at l.ends.items lines (vertex_of c.at.result) known (omega (arith, l.invariant.within, back)) c.at.ensures in
     let same : c.end_behind.result ≡ end_behind l.ends.items (sibling_count (vertex_of c.at.result)) (at + 1) =
     c.end_behind.ensures ∙ rw (c.as_slice.ensures.value, c.sibling_count-count.ensures) refl in
@@ -23,7 +23,7 @@ loop-place-preserved c =
     let at : ℕ = l.place - 1 in
     let back : l.place ≡ at + 1 = omega (arith, c.loop-place-test.true) in
     let within : at < length lines = omega (arith, l.invariant.within, back) in
-    let known : AreEnds (at + 1) l.ends.items lines = subst (λ p. AreEnds p l.ends.items lines) back l.invariant.known in
+    let known : AreTreeEnds (at + 1) l.ends.items lines = subst (λ p. AreTreeEnds p l.ends.items lines) back l.invariant.known in
     let here = end-here at l.ends.items lines (vertex_of c.at.result) known within c.at.ensures in
     let same : c.end_behind.result ≡ end_behind l.ends.items (sibling_count (vertex_of c.at.result)) (at + 1) =
     c.end_behind.ensures ∙ rw (c.as_slice.ensures.value, c.sibling_count-count.ensures) refl in

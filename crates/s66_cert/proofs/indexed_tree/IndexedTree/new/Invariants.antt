@@ -1,11 +1,11 @@
 use Rattle.std.proofs.Common.{◌≤◌, length}
-use Rattle.s66_cert.specs.NodePlaces.{AreEnds}
+use Rattle.s66_cert.specs.NodePlaces.{AreTreeEnds}
 use Rattle.s66_cert.proofs.indexed_tree.IndexedTree.new.Given as goal
 
 -- the ends of the lines from here on are known
 abbrev pub invariant-loop-place : goal.invariant-loop-place
 invariant-loop-place l = record {
-  known : AreEnds l.place l.ends.items l.lines;
+  known : AreTreeEnds l.place l.ends.items l.lines;
   within : l.place ≤ length l.lines;
 }
 

@@ -1,7 +1,7 @@
 use Rattle.std.proofs.Common.{ℕ, ◌-◌, ◌≤◌, ◌≡◌, ◌∙◌, List, length, take, drop, arith, ap}
 use Rattle.std.proofs.lemmas.List.{take_all, length-drop}
 use Rattle.s66_checker.specs.Checked.{Checked}
-use Rattle.s66_checker.specs.Dominating.{goes_on}
+use Rattle.s66_checker.specs.Dominating.{is_beginning_after}
 use Rattle.s66_checker.proofs.GoingTo.{front-goes, front-alone}
 use Rattle.s66_checker.proofs.prefix.Prefix.go_to.Goals as goal
 
@@ -16,5 +16,5 @@ loop-n-init c =
     record {
       problem = c.loop-self.invariant.problem;
       numbers = alone ∙ ap (λ i. take i ms) (omega arith);
-      rest = ap (λ (ns : List ℕ). goes_on block ns (take (length ms - k) (drop k ms))) alone ∙ ap (goes_on block (take k ms)) rest ∙ front-goes block ms k c.shared_with-shared.ensures.begins;
+      rest = ap (λ (ns : List ℕ). is_beginning_after block ns (take (length ms - k) (drop k ms))) alone ∙ ap (is_beginning_after block (take k ms)) rest ∙ front-goes block ms k c.shared_with-shared.ensures.begins;
     }

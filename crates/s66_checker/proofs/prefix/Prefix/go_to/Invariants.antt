@@ -1,5 +1,5 @@
 use Rattle.std.proofs.Common.{◌≡◌, ◌≤◌, ◌+◌, [], length, take, drop}
-use Rattle.s66_checker.specs.Dominating.{goes_on}
+use Rattle.s66_checker.specs.Dominating.{is_beginning_after}
 use Rattle.s66_checker.proofs.prefix.Prefix.go_to.Given as goal
 
 -- the numbers that are shared are still there
@@ -18,5 +18,5 @@ abbrev pub invariant-loop-n : goal.invariant-loop-n
 invariant-loop-n l = record {
   problem : l.self.problem ≡ l.fn.self.problem;
   numbers : l.self.numbers ≡ take (l.shared + l.n-index) l.numbers;
-  rest : goes_on l.fn.self.problem.block l.self.numbers (drop l.n-index l.n-items) ≡ goes_on l.fn.self.problem.block [] l.numbers;
+  rest : is_beginning_after l.fn.self.problem.block l.self.numbers (drop l.n-index l.n-items) ≡ is_beginning_after l.fn.self.problem.block [] l.numbers;
 }

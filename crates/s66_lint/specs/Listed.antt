@@ -1,4 +1,4 @@
--- To be believed: what is stated of a source, a line of text for each finding, and what is refused of it.
+-- To be believed: what is listed of a source, a line of text for each finding, and what is refused of it.
 use Rattle.std.specs.Prelude.{ℕ, suc, Bool, true, false, if◌then◌else◌, List, [], ◌∷◌, ◌++◌, Option, None, Some, codes, decimal, map}
 -- what `decimal` computes by
 unfoldable pub use Rattle.std.specs.Fmt.{digits}
@@ -14,33 +14,33 @@ use Rattle.s66_lint.specs.declared.ahead.Ahead.{Ahead}
 use Rattle.s66_lint.specs.declared.finding.Finding.{Finding}
 use Rattle.s66_lint.specs.declared.finding.Finding.TheVariants.{BadOperand, NotAnInstruction, Directive, HasABody, StoresIntoCode, CountsWords, CountsLines}
 
--- WHAT IS STATED
+-- WHAT IS LISTED
 
-pub data Stated : Type 0 where
-  TooLong : ℕ → Stated
-  TooManyLines : Stated
+pub data Listed : Type 0 where
+  TooLong : ℕ → Listed
+  TooManyLines : Listed
   -- what was found in the line of this number
-  Found : ℕ → Finding → List ℕ → Stated
+  Found : ℕ → Finding → List ℕ → Listed
 
-abbrev pub stated_of : List (List ℕ) → ℕ → ℕ → Seen → Ahead → List Stated
-stated_of labels number index line ahead =
+abbrev pub listed_of : List (List ℕ) → ℕ → ℕ → Seen → Ahead → List Listed
+listed_of labels number index line ahead =
     if is_long_sight line.sight then TooLong number ∷ []
     else map (λ finding. Found number finding line.body) (findings_of labels index line ahead)
 
 -- the lines from this number on, before which index instructions of their run come
-abbrev pub stated_from : List (List ℕ) → ℕ → ℕ → List Seen → List Stated
-stated_from labels number index [] = []
-stated_from labels number index (line ∷ lines) =
-    stated_of labels number index line (ahead_of lines) ++ stated_from labels (suc number) (place_after index (class_seen line.sight)) lines
+abbrev pub listed_from : List (List ℕ) → ℕ → ℕ → List Seen → List Listed
+listed_from labels number index [] = []
+listed_from labels number index (line ∷ lines) =
+    listed_of labels number index line (ahead_of lines) ++ listed_from labels (suc number) (place_after index (class_seen line.sight)) lines
 
 -- of the first line past the limit, if there is one
-abbrev pub stated_past : List Flagged → List Stated
-stated_past [] = []
-stated_past (line ∷ lines) = if is_too_long line.bytes then TooLong (suc SOURCE_LINES_LIMIT) ∷ TooManyLines ∷ [] else TooManyLines ∷ []
+abbrev pub listed_past : List Flagged → List Listed
+listed_past [] = []
+listed_past (line ∷ lines) = if is_too_long line.bytes then TooLong (suc SOURCE_LINES_LIMIT) ∷ TooManyLines ∷ [] else TooManyLines ∷ []
 
--- all that is stated of a source
-abbrev pub stated : List ℕ → List Stated
-stated text = stated_from (labels_in (lines_within text)) 1 0 (lines_within text) ++ stated_past (lines_past text)
+-- all that is listed of a source
+abbrev pub listed : List ℕ → List Listed
+listed text = listed_from (labels_in (lines_within text)) 1 0 (lines_within text) ++ listed_past (lines_past text)
 
 -- THE TEXT
 
@@ -70,28 +70,28 @@ is_cured HasABody = true
 is_cured CountsLines = true
 is_cured finding = false
 
-abbrev pub stated_line : Stated → List ℕ
-stated_line (TooLong number) = refusal_line (error.LineTooLong number) ++ codes "\n"
-stated_line TooManyLines = refusal_line error.TooLarge ++ codes "\n"
-stated_line (Found number finding line) =
+abbrev pub listed_line : Listed → List ℕ
+listed_line (TooLong number) = refusal_line (error.LineTooLong number) ++ codes "\n"
+listed_line TooManyLines = refusal_line error.TooLarge ++ codes "\n"
+listed_line (Found number finding line) =
     codes "LINE " ++ decimal number ++ finding_text finding line ++ (if is_cured finding then codes " (CUT)\n" else codes "\n")
 
-abbrev pub stated_lines : List Stated → List ℕ
-stated_lines [] = []
-stated_lines (t ∷ ts) = stated_line t ++ stated_lines ts
+abbrev pub listed_lines : List Listed → List ℕ
+listed_lines [] = []
+listed_lines (t ∷ ts) = listed_line t ++ listed_lines ts
 
 -- the findings in a source
 abbrev pub findings_text : List ℕ → List ℕ
-findings_text text = stated_lines (stated text)
+findings_text text = listed_lines (listed text)
 
--- WHAT IS REFUSED of what is stated
+-- WHAT IS REFUSED of what is listed
 
-abbrev pub refusal_stated : Stated → Option SourceError
-refusal_stated (TooLong number) = Some (error.LineTooLong number)
-refusal_stated TooManyLines = Some error.TooLarge
-refusal_stated (Found number BadOperand line) = Some (error.BadOperand number)
-refusal_stated (Found number finding line) = None
+abbrev pub refusal_listed : Listed → Option SourceError
+refusal_listed (TooLong number) = Some (error.LineTooLong number)
+refusal_listed TooManyLines = Some error.TooLarge
+refusal_listed (Found number BadOperand line) = Some (error.BadOperand number)
+refusal_listed (Found number finding line) = None
 
-abbrev pub first_refusal : List Stated → Option SourceError
+abbrev pub first_refusal : List Listed → Option SourceError
 first_refusal [] = None
-first_refusal (t ∷ ts) = or_else (refusal_stated t) (first_refusal ts)
+first_refusal (t ∷ ts) = or_else (refusal_listed t) (first_refusal ts)

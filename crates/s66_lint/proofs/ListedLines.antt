@@ -1,4 +1,4 @@
--- What is stated of lines, one after the other, and whether it has a refusal.
+-- What is listed of lines, one after the other, and whether it has a refusal.
 use Rattle.std.proofs.Common.{◌≡◌, ◌||◌, ◌&&◌, ◌≤◌, ℕ, zero, suc, length, take, drop, Bool, true, false, Option, None, Some, List, [], ◌∷◌, ◌++◌, map, refl, sym, ap, ap₂, subst, ◌∙◌, arith, append_assoc, length-append}
 use Rattle.std.specs.Prelude.{is_some}
 use Rattle.s66_line.specs.Fields.{lines_of, operand, operation, upper}
@@ -10,9 +10,9 @@ use Rattle.s66_source.specs.Source.{or_else, place_after}
 use Rattle.s66_source.specs.declared.error.SourceError.{SourceError}
 use Rattle.s66_source.specs.declared.limits.TheConstants.{SOURCE_LINES_LIMIT}
 use Rattle.s66_lint.specs.Findings.{Seen, class_seen, counts_words, findings_of_class, has_operand, is_between, is_own, is_slip, is_store, labels_in, lines_within, may_continue, names_from, only, seen_from, sight_of, some_known}
-use Rattle.s66_lint.specs.Kept.{Kept, ahead_kept, gap_past, is_kept, kept_from, kept_one, no_gap, stated_kept}
-use Rattle.s66_lint.specs.Stated.{Stated, Found, findings_text, first_refusal, refusal_stated, stated, stated_from, stated_line, stated_lines, stated_of}
-use Rattle.s66_lint.specs.Parts.{found_lines, is_sight_refused, past_stated}
+use Rattle.s66_lint.specs.Kept.{Kept, ahead_kept, gap_past, is_kept, kept_from, kept_one, no_gap, listed_kept}
+use Rattle.s66_lint.specs.Listed.{Listed, Found, findings_text, first_refusal, refusal_listed, listed, listed_from, listed_line, listed_lines, listed_of}
+use Rattle.s66_lint.specs.Parts.{found_lines, is_sight_refused, past_listed}
 use Rattle.s66_lint.specs.Pass.{Pass, first_of_lines, first_pass, pass_lines}
 use Rattle.s66_lint.specs.declared.gap.Gap.{Gap}
 use Rattle.s66_lint.proofs.KeptLines.{same-stated}
@@ -25,13 +25,13 @@ use Rattle.s66_lint.specs.declared.sight.Sight.TheVariants as sight
 
 -- THE TEXT
 
-pub stated-append : (a b : List Stated) → stated_lines (a ++ b) ≡ stated_lines a ++ stated_lines b
+pub stated-append : (a b : List Listed) → listed_lines (a ++ b) ≡ listed_lines a ++ listed_lines b
 stated-append [] b = refl
-stated-append (t ∷ a) b = ap (λ more. stated_line t ++ more) (stated-append a b) ∙ sym (append_assoc (stated_line t) (stated_lines a) (stated_lines b))
+stated-append (t ∷ a) b = ap (λ more. listed_line t ++ more) (stated-append a b) ∙ sym (append_assoc (listed_line t) (listed_lines a) (listed_lines b))
 
--- what was stated, and then more
-pub stated-more : (out : List ℕ) (a b : List Stated) → (out ++ stated_lines a) ++ stated_lines b ≡ out ++ stated_lines (a ++ b)
-stated-more out a b = append_assoc out (stated_lines a) (stated_lines b) ∙ ap (λ more. out ++ more) (sym (stated-append a b))
+-- what was listed, and then more
+pub stated-more : (out : List ℕ) (a b : List Listed) → (out ++ listed_lines a) ++ listed_lines b ≡ out ++ listed_lines (a ++ b)
+stated-more out a b = append_assoc out (listed_lines a) (listed_lines b) ∙ ap (λ more. out ++ more) (sym (stated-append a b))
 
 -- WHETHER THERE IS A REFUSAL
 
@@ -43,17 +43,17 @@ or-joined : (a b c : Bool) → ((a || b) || c) ≡ (a || (b || c))
 or-joined true b c = refl
 or-joined false b c = refl
 
-pub refused-append : (a b : List Stated) → is_some (first_refusal (a ++ b)) ≡ (is_some (first_refusal a) || is_some (first_refusal b))
+pub refused-append : (a b : List Listed) → is_some (first_refusal (a ++ b)) ≡ (is_some (first_refusal a) || is_some (first_refusal b))
 refused-append [] b = refl
 refused-append (t ∷ a) b =
-    or-else-some (refusal_stated t) (first_refusal (a ++ b)) ∙ ap (λ r. is_some (refusal_stated t) || r) (refused-append a b)
-    ∙ sym (or-joined (is_some (refusal_stated t)) (is_some (first_refusal a)) (is_some (first_refusal b)))
-    ∙ ap (λ r. r || is_some (first_refusal b)) (sym (or-else-some (refusal_stated t) (first_refusal a)))
+    or-else-some (refusal_listed t) (first_refusal (a ++ b)) ∙ ap (λ r. is_some (refusal_listed t) || r) (refused-append a b)
+    ∙ sym (or-joined (is_some (refusal_listed t)) (is_some (first_refusal a)) (is_some (first_refusal b)))
+    ∙ ap (λ r. r || is_some (first_refusal b)) (sym (or-else-some (refusal_listed t) (first_refusal a)))
 
-pub refused-more : (was : Bool) (a b : List Stated) → ((was || is_some (first_refusal a)) || is_some (first_refusal b)) ≡ (was || is_some (first_refusal (a ++ b)))
+pub refused-more : (was : Bool) (a b : List Listed) → ((was || is_some (first_refusal a)) || is_some (first_refusal b)) ≡ (was || is_some (first_refusal (a ++ b)))
 refused-more was a b = or-joined was (is_some (first_refusal a)) (is_some (first_refusal b)) ∙ ap (λ r. was || r) (sym (refused-append a b))
 
-abbrev pub found_all : ℕ → List ℕ → List Finding → List Stated
+abbrev pub found_all : ℕ → List ℕ → List Finding → List Listed
 found_all number line findings = map (λ finding. Found number finding line) findings
 
 -- other findings are no refusals
@@ -103,38 +103,38 @@ is-refused labels number index (Pad located) line ahead refused h = ap is_some (
 is-refused labels number index (Instruction located n) line ahead refused h = ap is_some (no-refusal labels number index (Instruction located n) line ahead refl) ∙ h
 
 refused-by : (labels : List (List ℕ)) (number index : ℕ) (s : Sight) (body : List ℕ) (ahead : Ahead) →
-    is_some (first_refusal (stated_of labels number index (record { sight = s; body = body }) ahead)) ≡ is_sight_refused s
+    is_some (first_refusal (listed_of labels number index (record { sight = s; body = body }) ahead)) ≡ is_sight_refused s
 refused-by labels number index sight.TooLong body ahead = refl
 refused-by labels number index sight.LeftAlone body ahead = refl
 refused-by labels number index (sight.Read class) body ahead = is-refused labels number index class body ahead (is_sight_refused (sight.Read class)) refl
 
 pub refused_line : (labels : List (List ℕ)) (number index : ℕ) (line : Seen) (ahead : Ahead) →
-    is_some (first_refusal (stated_of labels number index line ahead)) ≡ is_sight_refused line.sight
+    is_some (first_refusal (listed_of labels number index line ahead)) ≡ is_sight_refused line.sight
 refused_line labels number index line ahead = refused-by labels number index line.sight line.body ahead
 
 -- A LINE THAT IS READ
 
 read-by : (labels : List (List ℕ)) (number index : ℕ) (class : Class) (s : Sight) (line : List ℕ) (ahead : Ahead) → sight.Read class ≡ s →
-    found_lines number line (findings_of_class labels index class line ahead) ≡ stated_lines (stated_of labels number index (record { sight = s; body = line }) ahead)
+    found_lines number line (findings_of_class labels index class line ahead) ≡ listed_lines (listed_of labels number index (record { sight = s; body = line }) ahead)
 read-by labels number index class s line ahead e =
-    subst (λ t. found_lines number line (findings_of_class labels index class line ahead) ≡ stated_lines (stated_of labels number index (record { sight = t; body = line }) ahead)) e refl
+    subst (λ t. found_lines number line (findings_of_class labels index class line ahead) ≡ listed_lines (listed_of labels number index (record { sight = t; body = line }) ahead)) e refl
 
 pub read-line : (labels : List (List ℕ)) (number index : ℕ) (class : Class) (body : List ℕ) (line : Seen) (ahead : Ahead) → sight.Read class ≡ line.sight → body ≡ line.body →
-    found_lines number body (findings_of_class labels index class body ahead) ≡ stated_lines (stated_of labels number index line ahead)
+    found_lines number body (findings_of_class labels index class body ahead) ≡ listed_lines (listed_of labels number index line ahead)
 read-line labels number index class body line ahead e f =
     ap (λ b. found_lines number b (findings_of_class labels index class b ahead)) f ∙ read-by labels number index class line.sight line.body ahead e
 
 -- A LINE THAT IS KEPT, and those after it
 
 pub stated-line : (labels : List (List ℕ)) (out : List ℕ) (line : Kept) (rest : List Kept) (last : Gap) (ahead : Ahead) → ahead ≡ ahead_kept rest last →
-    (out ++ stated_lines (stated_of labels line.number line.index line.line ahead)) ++ stated_lines (stated_kept labels rest last) ≡ out ++ stated_lines (stated_kept labels (line ∷ rest) last)
+    (out ++ listed_lines (listed_of labels line.number line.index line.line ahead)) ++ listed_lines (listed_kept labels rest last) ≡ out ++ listed_lines (listed_kept labels (line ∷ rest) last)
 stated-line labels out line rest last ahead a =
-    rw a (stated-more out (stated_of labels line.number line.index line.line (ahead_kept rest last)) (stated_kept labels rest last))
+    rw a (stated-more out (listed_of labels line.number line.index line.line (ahead_kept rest last)) (listed_kept labels rest last))
 
 pub refused-lines : (labels : List (List ℕ)) (was : Bool) (line : Kept) (rest : List Kept) (last : Gap) (ahead : Ahead) → ahead ≡ ahead_kept rest last →
-    ((was || is_some (first_refusal (stated_of labels line.number line.index line.line ahead))) || is_some (first_refusal (stated_kept labels rest last))) ≡ (was || is_some (first_refusal (stated_kept labels (line ∷ rest) last)))
+    ((was || is_some (first_refusal (listed_of labels line.number line.index line.line ahead))) || is_some (first_refusal (listed_kept labels rest last))) ≡ (was || is_some (first_refusal (listed_kept labels (line ∷ rest) last)))
 refused-lines labels was line rest last ahead a =
-    rw a (refused-more was (stated_of labels line.number line.index line.line (ahead_kept rest last)) (stated_kept labels rest last))
+    rw a (refused-more was (listed_of labels line.number line.index line.line (ahead_kept rest last)) (listed_kept labels rest last))
 
 -- ALL LINES
 
@@ -166,7 +166,7 @@ few-passed text =
     let seen = few-seen SOURCE_LINES_LIMIT false (flagged_lines (plain text)) in
     omega (arith, kept, few, seen)
 
-stated-passed : (text : List ℕ) → stated_kept (map upper (passed text).labels) (passed text).kept (passed text).gap ≡ stated_from (labels_in (lines_within text)) 1 0 (lines_within text)
+stated-passed : (text : List ℕ) → listed_kept (map upper (passed text).labels) (passed text).kept (passed text).gap ≡ listed_from (labels_in (lines_within text)) 1 0 (lines_within text)
 stated-passed text =
     rw (passed-kept SOURCE_LINES_LIMIT first_pass (lines_of text), passed-gap SOURCE_LINES_LIMIT first_pass (lines_of text), passed-labels SOURCE_LINES_LIMIT first_pass (lines_of text))
     (same-stated (labels_in (lines_within text)) no_gap 0 0 false (take SOURCE_LINES_LIMIT (flagged_lines (plain text))))
@@ -175,14 +175,14 @@ stated-passed text =
 abbrev pub past : List ℕ → Option (List ℕ)
 past text = first_of_lines (drop SOURCE_LINES_LIMIT (lines_of text))
 
-all-stated : (text : List ℕ) → stated_kept (map upper (passed text).labels) (passed text).kept (passed text).gap ++ past_stated (past text) ≡ stated text
+all-stated : (text : List ℕ) → listed_kept (map upper (passed text).labels) (passed text).kept (passed text).gap ++ past_listed (past text) ≡ listed text
 all-stated text = ap₂ (λ a b. a ++ b) (stated-passed text) (passed-past SOURCE_LINES_LIMIT false (lines_of text))
 
-pub findings-text : (text : List ℕ) → stated_lines (stated_kept (map upper (passed text).labels) (passed text).kept (passed text).gap) ++ stated_lines (past_stated (past text)) ≡ findings_text text
+pub findings-text : (text : List ℕ) → listed_lines (listed_kept (map upper (passed text).labels) (passed text).kept (passed text).gap) ++ listed_lines (past_listed (past text)) ≡ findings_text text
 findings-text text =
-    sym (stated-append (stated_kept (map upper (passed text).labels) (passed text).kept (passed text).gap) (past_stated (past text))) ∙ ap stated_lines (all-stated text)
+    sym (stated-append (listed_kept (map upper (passed text).labels) (passed text).kept (passed text).gap) (past_listed (past text))) ∙ ap listed_lines (all-stated text)
 
 pub findings-refused : (text : List ℕ) →
-    (is_some (first_refusal (stated_kept (map upper (passed text).labels) (passed text).kept (passed text).gap)) || is_some (first_refusal (past_stated (past text)))) ≡ is_some (first_refusal (stated text))
+    (is_some (first_refusal (listed_kept (map upper (passed text).labels) (passed text).kept (passed text).gap)) || is_some (first_refusal (past_listed (past text)))) ≡ is_some (first_refusal (listed text))
 findings-refused text =
-    sym (refused-append (stated_kept (map upper (passed text).labels) (passed text).kept (passed text).gap) (past_stated (past text))) ∙ ap (λ ts. is_some (first_refusal ts)) (all-stated text)
+    sym (refused-append (listed_kept (map upper (passed text).labels) (passed text).kept (passed text).gap) (past_listed (past text))) ∙ ap (λ ts. is_some (first_refusal ts)) (all-stated text)

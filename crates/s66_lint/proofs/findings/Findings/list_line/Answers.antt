@@ -1,7 +1,7 @@
 use Rattle.std.proofs.Common.{◌≡◌, ◌++◌, ◌∙◌, sym, subst, List, ℕ}
 use Rattle.std.specs.Prelude.{OnOk}
-use Rattle.s66_lint.proofs.StatedLines.{read-line}
-use Rattle.s66_lint.proofs.findings.Findings.state_line.Goals as goal
+use Rattle.s66_lint.proofs.ListedLines.{read-line}
+use Rattle.s66_lint.proofs.findings.Findings.list_line.Goals as goal
 
 pub returns-in-Read-clause-text : goal.returns-in-Read-clause-text
 returns-in-Read-clause-text c =
