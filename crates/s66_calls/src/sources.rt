@@ -1,6 +1,7 @@
 //! Sources, the only blocks of some, and what is printed and found of them.
 
 use crate::Answered;
+use arrayvec::ArrayVec;
 use s66_line::Block;
 use s66_lint::findings_in;
 use s66_source::{Placed, Source, SourceError, print_source, read_source};
@@ -48,8 +49,12 @@ pub fn printed(alloc: Global) -> Result<Answered, AllocError> {
     if block.count() != 3 {
         return Err(AllocError);
     }
+    let mut order = ArrayVec::new();
+    for number in [1, 3, 2] {
+        order.push(number);
+    }
     let placed = [Placed {
-        order: &[1, 3, 2],
+        order,
         source: 16,
         time: 12,
         bound: 12,

@@ -1,12 +1,11 @@
 -- What is gathered of the lines of a text, one after the other.
-use Rattle.std.proofs.Common.{◌≡◌, ◌<◌, ◌-◌, ◌||◌, ◌==◌, ℕ, zero, suc, Bool, true, false, if◌then◌else◌, None, Some, List, [], ◌∷◌, ◌++◌, length, map, take, drop, refl, sym, ap, ◌∙◌, arith, append_assoc}
+use Rattle.std.proofs.Common.{◌≡◌, ◌<◌, ◌-◌, ◌||◌, ◌==◌, ℕ, zero, suc, Bool, true, false, None, Some, List, [], ◌∷◌, ◌++◌, length, map, take, drop, refl, sym, ap, ◌∙◌, arith, append_assoc}
 use Rattle.std.proofs.lemmas.List.{append-nil}
-use Rattle.s66_line.specs.Fields.{body, lines_from, location, upper}
+use Rattle.s66_line.specs.Fields.{body, lines_from, upper}
 use Rattle.s66_line.proofs.LineCuts.{IsFirstNewline, last-none}
 use Rattle.s66_source.specs.LeftAlone.{Flagged, is_off_switch, off_after}
-use Rattle.s66_source.specs.Source.{place_after}
 use Rattle.s66_lint.specs.Findings.{Seen, class_seen, has_label, labels_in, may_continue, seen_from, sight_of}
-use Rattle.s66_lint.specs.Kept.{gap_from, gap_past, kept_from, kept_one, label_of}
+use Rattle.s66_lint.specs.Kept.{gap_from, kept_from, kept_one, label_of}
 use Rattle.s66_lint.specs.Parts.{flagged_line, flagged_by, past_listed, seen_line}
 use Rattle.s66_lint.specs.Pass.{Pass, first_of_lines, pass_line, pass_lines}
 use Rattle.s66_lint.specs.Listed.{listed_past}

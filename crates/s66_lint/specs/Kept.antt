@@ -2,7 +2,7 @@
 use Rattle.std.specs.Prelude.{◌≡◌, ℕ, zero, suc, Bool, true, false, not, ◌&&◌, ◌||◌, ◌==◌, ◌%◌, if◌then◌else◌, List, [], ◌∷◌, ◌++◌, Option, None, Some, bytes_eq, codes, map}
 use Rattle.std.specs.Borrow.{Bor}
 use Rattle.s66_isa.specs.declared.limits.TheConstants.{BLOCK_LIMIT}
-use Rattle.s66_line.specs.Class.{begins_run, ends_run, is_instruction}
+use Rattle.s66_line.specs.Class.{is_instruction}
 use Rattle.s66_line.specs.Fields.{continues, location, operand, operation, upper}
 use Rattle.s66_line.specs.Operand.{is_sign}
 use Rattle.s66_line.specs.declared.class.Class.{Class}

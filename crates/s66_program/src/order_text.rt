@@ -6,6 +6,7 @@ ghost use Rattle.s66_program.specs.PlacedAnswers.{AreAllPlaced, IsPlaced, tell_b
 
 use crate::observer::Observer;
 use crate::outcome::{Output, Status};
+use arrayvec::ArrayVec;
 use s66_dep::Order;
 use s66_isa::Profile;
 use s66_line::Block;
@@ -13,44 +14,28 @@ use s66_model::Options;
 use s66_pool::{Free, run};
 use s66_source::{Placed, Source, print_source};
 use s66_time::time_of;
-use std::alloc::{AllocError, Global};
-use std::marker::Model;
+use std::alloc::AllocError;
 use std::sync::Wait;
 use std::thread::Threads;
 
-/// What is printed of an answer, without its tree.
-#[derive(Debug, Drop)]
-pub(crate) struct Found {
-    order: Order,
-    pub source: u32,
-    pub time: u32,
-    pub bound: u32,
-    pub splits: Option<u32>,
-}
-
-impl Model for Found {
-    ghost use Rattle.s66_source.specs.Printed.{Placed};
-
-    ghost Value = { Placed };
-
-    ghost view = { λ f. record { order = f.order.numbers; source = f.source; time = f.time; bound = f.bound; splits = f.splits } };
-}
-
-/// Searches the orders of a block under a profile.
+/// Searches the orders of a block under a profile. Returns how it is to be printed.
 fn search<R: AllocGlobal + Threads + Wait + Sync>(
     rt: &R,
     block: &Block,
     profile: &Profile,
     options: Options,
     trace: bool,
-) -> Result<Found, AllocError>
+) -> Result<Placed, AllocError>
     requires { IsSearchWithin options.workers options.nodes }
     ensures { IfOk result (λ found. IsPlaced options.rule profile.now options.nodes trace block.now found) }
 {
     let source = time_of(block, profile, &Order::source(block)).total();
     let answer = run(rt, block, profile, options, &Free)?;
-    Ok(Found {
-        order: answer.order().duplicate(),
+    let Ok(order) = ArrayVec::try_from(answer.order().numbers()) else {
+        unreachable!()
+    };
+    Ok(Placed {
+        order,
         source,
         time: answer.time(),
         bound: answer.bound(),
@@ -66,7 +51,7 @@ pub(crate) fn search_all<R: AllocGlobal + Threads + Wait + Sync, O: Observer>(
     options: Options,
     trace: bool,
     observer: &mut O,
-) -> Result<Vec<Found>, AllocError>
+) -> Result<Vec<Placed>, AllocError>
     requires { IsSearchWithin options.workers options.nodes }
     ensures { IfOk result (λ found. AreAllPlaced options.rule profile.now options.nodes trace blocks.now found.items) }
 {
@@ -79,7 +64,7 @@ pub(crate) fn search_all<R: AllocGlobal + Threads + Wait + Sync, O: Observer>(
 }
 
 /// Done if each order is best.
-pub(crate) fn status_of(found: &[Found]) -> Status
+pub(crate) fn status_of(found: &[Placed]) -> Status
     ensures { result ≡ (if tell_best found.now then Done else Bounded) }
 {
     for answer in found {
@@ -88,23 +73,6 @@ pub(crate) fn status_of(found: &[Found]) -> Status
         }
     }
     Status::Done
-}
-
-/// How the blocks are to be printed.
-fn placed_of<'a>(alloc: Global, found: &'a [Found]) -> Result<Vec<Placed<'a>>, AllocError>
-    ensures { IfOk result (λ placed. placed.items ≡ found.now) }
-{
-    let mut placed = Vec::new(alloc);
-    for answer in found {
-        placed.push(Placed {
-            order: answer.order.numbers(),
-            source: answer.source,
-            time: answer.time,
-            bound: answer.bound,
-            splits: answer.splits,
-        })?;
-    }
-    Ok(placed)
 }
 
 /// A source with each block in the best order that a search finds under a profile.
@@ -121,9 +89,8 @@ pub fn order_output<R: AllocGlobal + Threads + Wait + Sync, O: Observer>(
 {
     let alloc = rt.alloc();
     let found = search_all(rt, source.blocks(), profile, options, trace, observer)?;
-    let placed = placed_of(alloc, found.as_slice())?;
     Ok(Output {
-        text: print_source(alloc, source, placed.as_slice())?,
+        text: print_source(alloc, source, found.as_slice())?,
         status: status_of(found.as_slice()),
     })
 }

@@ -3,7 +3,7 @@ use Rattle.std.proofs.Common.{ℕ, suc, Bool, true, false, if◌then◌else◌, 
 use Rattle.s66_isa.specs.Lists.{Among}
 use Rattle.s66_line.specs.Block.{Block}
 use Rattle.s66_source.specs.Printed.{Placed, ArePlaced}
-use Rattle.s66_source.specs.Printer.{Printer, is_passed, is_skipped, is_instruction_next, is_last, rest, line_text, after_line, text_of}
+use Rattle.s66_source.specs.Printer.{Printer, is_passed, is_skipped, is_instruction_next, is_last, rest, line_text, after_printed, printed_from}
 use Rattle.s66_line.specs.Fields.{lines_from}
 use Rattle.s66_line.proofs.LineCuts.{IsFirstNewline, lines_from-found}
 
@@ -17,7 +17,7 @@ placed-first line passed (b ∷ blocks) (q ∷ ps) block p placed some here ther
     (numbers.0, subst (λ (x : Block). n ≤ length x.entries) (sym here) numbers.1)
 
 -- one line more
-pub lines-after : (p : Printer) → (after_line p).lines ≡ suc p.lines
+pub lines-after : (p : Printer) → (after_printed p).lines ≡ suc p.lines
 lines-after p = by_cases (is_skipped p) (is_instruction_next p) (is_last p.passed p.blocks)
   where
     by_cases : (skipped next last : Bool) → (if skipped then record p { dropped = rest p.dropped; lines = suc p.lines }
@@ -30,7 +30,7 @@ lines-after p = by_cases (is_skipped p) (is_instruction_next p) (is_last p.passe
 
 -- the text of a line up to a newline, and then of those after it
 pub text-found : (p : Printer) (out bytes : List ℕ) (k : ℕ) → IsFirstNewline bytes (Some k) →
-    (out ++ line_text p (take k bytes)) ++ text_of (after_line p) (lines_from [] (drop (k + 1) bytes)) ≡ out ++ text_of p (lines_from [] bytes)
+    (out ++ line_text p (take k bytes)) ++ printed_from (after_printed p) (lines_from [] (drop (k + 1) bytes)) ≡ out ++ printed_from p (lines_from [] bytes)
 text-found p out bytes k first =
-    append_assoc out (line_text p (take k bytes)) (text_of (after_line p) (lines_from [] (drop (k + 1) bytes)))
-    ∙ ap (λ lines. out ++ text_of p lines) (sym (lines_from-found [] bytes k first))
+    append_assoc out (line_text p (take k bytes)) (printed_from (after_printed p) (lines_from [] (drop (k + 1) bytes)))
+    ∙ ap (λ lines. out ++ printed_from p lines) (sym (lines_from-found [] bytes k first))

@@ -15,7 +15,7 @@ use Rattle.s66_line.specs.Class.{is_instruction, is_code, ends_run}
 use Rattle.s66_source.specs.BlockParts.{all_of}
 use Rattle.s66_source.specs.Roles.{is_comment_class, is_pad_class, is_other_class, is_note_of, is_note, has_block, is_dropped, lines_that}
 use Rattle.s66_source.specs.Printed.{Placed, ArePlaced, report, instruction_lines, copied_line, copied_text, notes_text, block_text, text_of_lines, printed}
-use Rattle.s66_source.specs.Printer.{Printer, begins_with, rest, is_skipped, is_passed, is_instruction_next, text_in_place, text_at, is_last, text_of}
+use Rattle.s66_source.specs.Printer.{Printer, begins_with, rest, is_skipped, is_passed, is_instruction_next, text_in_place, text_at, is_last, printed_from}
 use Rattle.s66_line.specs.declared.class.Class.{Class}
 use Rattle.s66_line.specs.declared.class.Class.TheVariants.{Comment, Other, Refused, Pad, Instruction}
 use Rattle.s66_line.specs.declared.limits.TheConstants.{LINE_BYTES_LIMIT}
@@ -31,20 +31,20 @@ use Rattle.s66_source.proofs.LineLaw.{no_refusal, neither, operand-none, Rising,
 -- A STEP OF THE PRINTER
 
 step-skipped : (p : Printer) (line : List ℕ) (lines : List (List ℕ)) → is_skipped p ≡ true →
-    text_of p (line ∷ lines) ≡ text_of (record p { dropped = rest p.dropped; lines = suc p.lines }) lines
+    printed_from p (line ∷ lines) ≡ printed_from (record p { dropped = rest p.dropped; lines = suc p.lines }) lines
 step-skipped p line lines skipped = rw skipped refl
 
 step-copied : (p : Printer) (line : List ℕ) (lines : List (List ℕ)) → is_skipped p ≡ false → is_instruction_next p ≡ false →
-    text_of p (line ∷ lines) ≡ (body line ++ codes "\n") ++ text_of (record p { lines = suc p.lines }) lines
+    printed_from p (line ∷ lines) ≡ (body line ++ codes "\n") ++ printed_from (record p { lines = suc p.lines }) lines
 step-copied p line lines skipped next = rw (skipped, next) refl
 
 step-instruction : (p : Printer) (line : List ℕ) (lines : List (List ℕ)) → is_skipped p ≡ false → is_instruction_next p ≡ true → is_last p.passed p.blocks ≡ false →
-    text_of p (line ∷ lines) ≡ text_at p.number p.passed p.blocks p.placed ++ text_of (record p { passed = suc p.passed; lines = suc p.lines }) lines
+    printed_from p (line ∷ lines) ≡ text_at p.number p.passed p.blocks p.placed ++ printed_from (record p { passed = suc p.passed; lines = suc p.lines }) lines
 step-instruction p line lines skipped next last = rw (skipped, next, last) refl
 
 step-last : (p : Printer) (line : List ℕ) (lines : List (List ℕ)) → is_skipped p ≡ false → is_instruction_next p ≡ true → is_last p.passed p.blocks ≡ true →
-    text_of p (line ∷ lines) ≡ text_at p.number p.passed p.blocks p.placed
-    ++ text_of (record p { blocks = rest p.blocks; placed = rest p.placed; number = suc p.number; passed = 0; lines = suc p.lines }) lines
+    printed_from p (line ∷ lines) ≡ text_at p.number p.passed p.blocks p.placed
+    ++ printed_from (record p { blocks = rest p.blocks; placed = rest p.placed; number = suc p.number; passed = 0; lines = suc p.lines }) lines
 step-last p line lines skipped next last = rw (skipped, next, last) refl
 
 -- LINES IN ORDER: numbers that rise by one, runs that do not fall
@@ -346,13 +346,13 @@ bytes_in lines = map (λ (l : Line). l.bytes) lines
 abbrev Opens : List Line → List Line → Type 0
 Opens all lines = (before : List Line) (ended : List Block) (block : Block) (x : Line) (q : List Line) (parts : List (List Line)) (p : Placed) (ps : List Placed) (count run n k : ℕ) →
     At all before lines count run → Open all lines ended block x q parts ps count run k →
-    text_of (printer (block ∷ map block_of parts) (p ∷ ps) (dropped_in all lines) n k count) (bytes_in lines)
+    printed_from (printer (block ∷ map block_of parts) (p ∷ ps) (dropped_in all lines) n k count) (bytes_in lines)
     ≡ notes_text block lines ++ (instruction_lines block block.label p.order ++ text_of_lines all (suc n) (map block_of parts) ps lines)
 
 abbrev Closes : List Line → List Line → Type 0
 Closes all lines = (before : List Line) (ended : List Block) (parts : List (List Line)) (ps : List Placed) (count run n : ℕ) →
     At all before lines count run → Closed all lines ended parts ps count →
-    text_of (printer (map block_of parts) ps (dropped_in all lines) n 0 count) (bytes_in lines) ≡ text_of_lines all n (map block_of parts) ps lines
+    printed_from (printer (map block_of parts) ps (dropped_in all lines) n 0 count) (bytes_in lines) ≡ text_of_lines all n (map block_of parts) ps lines
 
 -- what comes after a line that is no instruction
 record Ahead (all lines : List Line) (x : Line) (q : List Line) (parts : List (List Line)) (count : ℕ) : Type 0 where
@@ -408,7 +408,7 @@ open-comment all lines l stated opens before ended block x q parts p ps count ru
     let last = line_of-end block k x q begun.entries in
     let here : is_note_of l block ≡ true = inside (is_comment_class l.class) (line_of block 1) l.number (line_of block (length block.entries)) (rw stated refl) (omega (arith, begun.first, number)) (omega (arith, number, ahead.next, ahead.last, last)) in
     let noted : is_note all l ≡ true = ap (λ blocks. some_of (is_note_of l) blocks) begun.blocks ∙ some-note l ended block (map block_of parts) here in
-    ap (λ dropped. text_of (printer (block ∷ map block_of parts) (p ∷ ps) dropped n k count) (bytes_in (l ∷ lines))) (dropped-no all lines l kept)
+    ap (λ dropped. printed_from (printer (block ∷ map block_of parts) (p ∷ ps) dropped n k count) (bytes_in (l ∷ lines))) (dropped-no all lines l kept)
     ∙ step-copied (printer (block ∷ map block_of parts) (p ∷ ps) (dropped_in all lines) n k count) l.bytes (bytes_in lines)
     (later-dropped all (suc count) (suc (suc count)) (run_behind l) lines (omega arith) at.ordered.2)
     (not-next block x q k (suc count) begun.entries (omega (arith, ahead.next)))
@@ -445,7 +445,7 @@ open-pad all lines l located stated opens before ended block x q parts p ps coun
     let runs = same-run all before lines l ended block x q parts ps count run k at ahead begun in
     let among = of-instructions lines x (subst (Among x) (sym ahead.left) (inl refl)) in
     let here : has_block all l ≡ true = has-instruction l.run x all (subst (Among x) (sym at.whole) (among-rest x before (l ∷ lines) (inr among.0))) among.1 (omega (arith, runs.0, runs.1, run_behind-le l)) in
-    ap (λ dropped. text_of (printer (block ∷ map block_of parts) (p ∷ ps) dropped n k count) (bytes_in (l ∷ lines))) (dropped-yes all lines l (pad-dropped all l located stated here))
+    ap (λ dropped. printed_from (printer (block ∷ map block_of parts) (p ∷ ps) dropped n k count) (bytes_in (l ∷ lines))) (dropped-yes all lines l (pad-dropped all l located stated here))
     ∙ step-skipped (printer (block ∷ map block_of parts) (p ∷ ps) (l.number ∷ dropped_in all lines) n k count) l.bytes (bytes_in lines) (eq-eqb l.number (suc count) number)
     ∙ opens (before ++ l ∷ []) ended block x q parts p ps (suc count) (run_behind l) n k (At-next all before lines l count run at) (Open-next all before lines l ended block x q parts ps count run k at ahead begun)
     ∙ without-note (is_note_of l block) (copied_line l) (notes_text block lines) (instruction_lines block block.label p.order) (text_of_lines all (suc n) (map block_of parts) ps lines) (text_of_lines all (suc n) (map block_of parts) ps (l ∷ lines))
@@ -474,7 +474,7 @@ between-lines t place copied notes lines text other at stated same = rw (at, sta
 open-last : (all lines : List Line) (l : Line) (located : Bool) (i : Instr) → l.class ≡ Instruction located i → Closes all lines →
     (before : List Line) (ended : List Block) (block : Block) (x : Line) (parts : List (List Line)) (p : Placed) (ps : List Placed) (count run n k : ℕ) →
     At all before (l ∷ lines) count run → Open all (l ∷ lines) ended block x [] parts ps count run k →
-    text_of (printer (block ∷ map block_of parts) (p ∷ ps) (dropped_in all lines) n k count) (bytes_in (l ∷ lines))
+    printed_from (printer (block ∷ map block_of parts) (p ∷ ps) (dropped_in all lines) n k count) (bytes_in (l ∷ lines))
     ≡ notes_text block (l ∷ lines) ++ (instruction_lines block block.label p.order ++ text_of_lines all (suc n) (map block_of parts) ps (l ∷ lines))
 open-last all lines l located i stated closes before ended block x parts p ps count run n k at begun =
     let number : l.number ≡ suc count = at.ordered.0 in
@@ -505,7 +505,7 @@ open-last all lines l located i stated closes before ended block x parts p ps co
 open-between : (all lines : List Line) (l : Line) (located : Bool) (i : Instr) → l.class ≡ Instruction located i → Opens all lines →
     (before : List Line) (ended : List Block) (block : Block) (x y : Line) (q : List Line) (parts : List (List Line)) (p : Placed) (ps : List Placed) (count run n k : ℕ) →
     At all before (l ∷ lines) count run → Open all (l ∷ lines) ended block x (y ∷ q) parts ps count run k →
-    text_of (printer (block ∷ map block_of parts) (p ∷ ps) (dropped_in all lines) n k count) (bytes_in (l ∷ lines))
+    printed_from (printer (block ∷ map block_of parts) (p ∷ ps) (dropped_in all lines) n k count) (bytes_in (l ∷ lines))
     ≡ notes_text block (l ∷ lines) ++ (instruction_lines block block.label p.order ++ text_of_lines all (suc n) (map block_of parts) ps (l ∷ lines))
 open-between all lines l located i stated opens before ended block x y q parts p ps count run n k at begun =
     let number : l.number ≡ suc count = at.ordered.0 in
@@ -538,10 +538,10 @@ open-between all lines l located i stated opens before ended block x y q parts p
 
 open-instruction : (all lines : List Line) (l : Line) (located : Bool) (i : Instr) → l.class ≡ Instruction located i → Opens all lines → Closes all lines → Opens all (l ∷ lines)
 open-instruction all lines l located i stated opens closes before ended block x [] parts p ps count run n k at begun =
-    ap (λ dropped. text_of (printer (block ∷ map block_of parts) (p ∷ ps) dropped n k count) (bytes_in (l ∷ lines))) (dropped-no all lines l (instruction-kept all l located i stated))
+    ap (λ dropped. printed_from (printer (block ∷ map block_of parts) (p ∷ ps) dropped n k count) (bytes_in (l ∷ lines))) (dropped-no all lines l (instruction-kept all l located i stated))
     ∙ open-last all lines l located i stated closes before ended block x parts p ps count run n k at begun
 open-instruction all lines l located i stated opens closes before ended block x (y ∷ q) parts p ps count run n k at begun =
-    ap (λ dropped. text_of (printer (block ∷ map block_of parts) (p ∷ ps) dropped n k count) (bytes_in (l ∷ lines))) (dropped-no all lines l (instruction-kept all l located i stated))
+    ap (λ dropped. printed_from (printer (block ∷ map block_of parts) (p ∷ ps) dropped n k count) (bytes_in (l ∷ lines))) (dropped-no all lines l (instruction-kept all l located i stated))
     ∙ open-between all lines l located i stated opens before ended block x y q parts p ps count run n k at begun
 
 open-line : (c : Class) (all lines : List Line) (l : Line) → l.class ≡ c → Opens all lines → Closes all lines → Opens all (l ∷ lines)
@@ -577,10 +577,10 @@ rising-closed lines l parts count stated ordered left =
 closed-copied : (all lines : List Line) (l : Line) → is_instruction l.class ≡ false → is_dropped all l ≡ false → Closes all lines →
     (before : List Line) (ended : List Block) (parts : List (List Line)) (ps : List Placed) (count run n : ℕ) → At all before (l ∷ lines) count run → Closed all (l ∷ lines) ended parts ps count →
     copied_text all l ≡ copied_line l →
-    text_of (printer (map block_of parts) ps (dropped_in all (l ∷ lines)) n 0 count) (bytes_in (l ∷ lines)) ≡ text_of_lines all n (map block_of parts) ps (l ∷ lines)
+    printed_from (printer (map block_of parts) ps (dropped_in all (l ∷ lines)) n 0 count) (bytes_in (l ∷ lines)) ≡ text_of_lines all n (map block_of parts) ps (l ∷ lines)
 closed-copied all lines l stated kept closes before ended parts ps count run n at closed copied =
     let rising = rising-closed lines l parts count stated at.ordered.2 closed.left in
-    ap (λ dropped. text_of (printer (map block_of parts) ps dropped n 0 count) (bytes_in (l ∷ lines))) (dropped-no all lines l kept)
+    ap (λ dropped. printed_from (printer (map block_of parts) ps dropped n 0 count) (bytes_in (l ∷ lines))) (dropped-no all lines l kept)
     ∙ step-copied (printer (map block_of parts) ps (dropped_in all lines) n 0 count) l.bytes (bytes_in lines)
     (later-dropped all (suc count) (suc (suc count)) (run_behind l) lines (omega arith) at.ordered.2)
     (not-first parts (suc count) (suc (suc count)) closed.one rising (omega arith))
@@ -605,7 +605,7 @@ closed-other all lines l stated closes before ended parts ps count run n at clos
 closed-pad : (all lines : List Line) (l : Line) (located here : Bool) → l.class ≡ Pad located → has_block all l ≡ here → Closes all lines → Closes all (l ∷ lines)
 closed-pad all lines l located true stated here closes before ended parts ps count run n at closed =
     let rising = rising-closed lines l parts count (rw stated refl) at.ordered.2 closed.left in
-    ap (λ dropped. text_of (printer (map block_of parts) ps dropped n 0 count) (bytes_in (l ∷ lines))) (dropped-yes all lines l (pad-dropped all l located stated here))
+    ap (λ dropped. printed_from (printer (map block_of parts) ps dropped n 0 count) (bytes_in (l ∷ lines))) (dropped-yes all lines l (pad-dropped all l located stated here))
     ∙ step-skipped (printer (map block_of parts) ps (l.number ∷ dropped_in all lines) n 0 count) l.bytes (bytes_in lines) (eq-eqb l.number (suc count) at.ordered.0)
     ∙ closes (before ++ l ∷ []) ended parts ps (suc count) (run_behind l) n (At-next all before lines l count run at) (Closed-next all lines l ended parts ps count (rw stated refl) closed)
     ∙ sym (nothing-first (copied_text all l) _ (pad-not_copied all l located stated here))
@@ -636,7 +636,7 @@ first-place place head notes other lines text at same =
 closed-alone : (all lines : List Line) (l : Line) (located : Bool) (i : Instr) → l.class ≡ Instruction located i → Closes all lines →
     (before : List Line) (ended : List Block) (m : Line) (parts : List (List Line)) (p : Placed) (ps : List Placed) (count run n : ℕ) →
     At all before (l ∷ lines) count run → Closed all (l ∷ lines) ended ((m ∷ []) ∷ parts) (p ∷ ps) count →
-    text_of (printer (map block_of ((m ∷ []) ∷ parts)) (p ∷ ps) (dropped_in all lines) n 0 count) (bytes_in (l ∷ lines)) ≡ text_of_lines all n (map block_of ((m ∷ []) ∷ parts)) (p ∷ ps) (l ∷ lines)
+    printed_from (printer (map block_of ((m ∷ []) ∷ parts)) (p ∷ ps) (dropped_in all lines) n 0 count) (bytes_in (l ∷ lines)) ≡ text_of_lines all n (map block_of ((m ∷ []) ∷ parts)) (p ∷ ps) (l ∷ lines)
 closed-alone all lines l located i stated closes before ended m parts p ps count run n at closed =
     let block : Block = block_of (m ∷ []) in
     let rests = rest-left l m lines (all_of parts) (rw stated refl) closed.left in
@@ -659,7 +659,7 @@ closed-alone all lines l located i stated closes before ended m parts p ps count
 closed-first : (all lines : List Line) (l : Line) (located : Bool) (i : Instr) → l.class ≡ Instruction located i → Opens all lines →
     (before : List Line) (ended : List Block) (m y : Line) (q : List Line) (parts : List (List Line)) (p : Placed) (ps : List Placed) (count run n : ℕ) →
     At all before (l ∷ lines) count run → Closed all (l ∷ lines) ended ((m ∷ y ∷ q) ∷ parts) (p ∷ ps) count →
-    text_of (printer (map block_of ((m ∷ y ∷ q) ∷ parts)) (p ∷ ps) (dropped_in all lines) n 0 count) (bytes_in (l ∷ lines)) ≡ text_of_lines all n (map block_of ((m ∷ y ∷ q) ∷ parts)) (p ∷ ps) (l ∷ lines)
+    printed_from (printer (map block_of ((m ∷ y ∷ q) ∷ parts)) (p ∷ ps) (dropped_in all lines) n 0 count) (bytes_in (l ∷ lines)) ≡ text_of_lines all n (map block_of ((m ∷ y ∷ q) ∷ parts)) (p ∷ ps) (l ∷ lines)
 closed-first all lines l located i stated opens before ended m y q parts p ps count run n at closed =
     let block : Block = block_of (m ∷ y ∷ q) in
     let rests = rest-left l m lines (y ∷ q ++ all_of parts) (rw stated refl) closed.left in
@@ -690,7 +690,7 @@ no_line l lines h = cc
 
 closed-part : (all lines : List Line) (l : Line) (located : Bool) (i : Instr) → l.class ≡ Instruction located i → Opens all lines → Closes all lines →
     (before : List Line) (ended : List Block) (parts : List (List Line)) (ps : List Placed) (count run n : ℕ) → At all before (l ∷ lines) count run → Closed all (l ∷ lines) ended parts ps count →
-    text_of (printer (map block_of parts) ps (dropped_in all lines) n 0 count) (bytes_in (l ∷ lines)) ≡ text_of_lines all n (map block_of parts) ps (l ∷ lines)
+    printed_from (printer (map block_of parts) ps (dropped_in all lines) n 0 count) (bytes_in (l ∷ lines)) ≡ text_of_lines all n (map block_of parts) ps (l ∷ lines)
 closed-part all lines l located i stated opens closes before ended [] ps count run n at closed = absurd (no_line l (instructions lines) (sym (instructions-yes l lines (rw stated refl)) ∙ closed.left))
 closed-part all lines l located i stated opens closes before ended ([] ∷ parts) ps count run n at closed = absurd closed.one
 closed-part all lines l located i stated opens closes before ended ((m ∷ more) ∷ parts) [] count run n at closed = absurd closed.placed
@@ -699,7 +699,7 @@ closed-part all lines l located i stated opens closes before ended ((m ∷ y ∷
 
 closed-instruction : (all lines : List Line) (l : Line) (located : Bool) (i : Instr) → l.class ≡ Instruction located i → Opens all lines → Closes all lines → Closes all (l ∷ lines)
 closed-instruction all lines l located i stated opens closes before ended parts ps count run n at closed =
-    ap (λ dropped. text_of (printer (map block_of parts) ps dropped n 0 count) (bytes_in (l ∷ lines))) (dropped-no all lines l (instruction-kept all l located i stated))
+    ap (λ dropped. printed_from (printer (map block_of parts) ps dropped n 0 count) (bytes_in (l ∷ lines))) (dropped-no all lines l (instruction-kept all l located i stated))
     ∙ closed-part all lines l located i stated opens closes before ended parts ps count run n at closed
 
 closed-line : (c : Class) (all lines : List Line) (l : Line) → l.class ≡ c → Opens all lines → Closes all lines → Closes all (l ∷ lines)
@@ -736,13 +736,13 @@ pub accepted-is : (source : Reading) (blocks : List Block) → source_of source 
 accepted-is source blocks accepted = same-blocks (blocks_of (classed_lines source)) blocks (source_of source) (Gives-accepted source blocks accepted) accepted
 
 pub print-source : (source : Reading) (blocks : List Block) (ps : List Placed) → source_of source ≡ Ok blocks → ArePlaced (blocks_of (classed_lines source)) ps →
-    text_of (printer blocks ps (lines_that is_dropped source) 1 0 0) (lines_of source.text) ≡ printed source ps
+    printed_from (printer blocks ps (lines_that is_dropped source) 1 0 0) (lines_of source.text) ≡ printed source ps
 print-source source blocks ps accepted placed =
     let all : List Line = classed_lines source in
     let cut = parts source in
     let found : List (List Line) = parts_of (instructions all) in
-    ap (λ blocks. text_of (printer blocks ps (dropped_in all all) 1 0 0) (lines_of source.text)) (sym (accepted-is source blocks accepted))
-    ∙ ap (λ lines. text_of (printer (blocks_of all) ps (dropped_in all all) 1 0 0) lines) (sym (bytes-classed (flagged_lines source) 1 0 0 [] false ∙ bytes-flagged source.cut at_first (lines_of source.text)))
+    ap (λ blocks. printed_from (printer blocks ps (dropped_in all all) 1 0 0) (lines_of source.text)) (sym (accepted-is source blocks accepted))
+    ∙ ap (λ lines. printed_from (printer (blocks_of all) ps (dropped_in all all) 1 0 0) lines) (sym (bytes-classed (flagged_lines source) 1 0 0 [] false ∙ bytes-flagged source.cut at_first (lines_of source.text)))
     ∙ (print-lines all all).1 [] [] found ps 0 0 1
     (record { whole = refl; below = tt; ordered = ordered-classed (flagged_lines source) 1 0 0 [] false; taken = no_refusal (refusal all) (blocks_of all) blocks accepted })
     (record { blocks = refl; behind = tt; one = one-run found (λ part among. (cut.sizes part among).0) cut.runs; left = sym cut.whole; placed = placed })

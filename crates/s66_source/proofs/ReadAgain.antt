@@ -16,7 +16,7 @@ use Rattle.s66_source.specs.LeftAlone.{Reading, Flagged, after_line, at_first, c
 use Rattle.s66_source.specs.Roles.{is_copied, is_comment_class}
 use Rattle.s66_source.specs.Printed.{Placed, ArePlaced, copied_line, copied_text, text_of_lines, printed}
 use Rattle.s66_source.specs.ReadAgain.{AreComplete, ArePlacedAgain}
-use Rattle.s66_source.specs.Reader.{State, start, with_open, end_block, begin_run, count_line, by_class, and_then}
+use Rattle.s66_source.specs.Reader.{SourceState, start, with_open, end_block, begin_run, count_line, by_class, and_then}
 use Rattle.s66_line.specs.declared.class.Class.{Class}
 use Rattle.s66_line.specs.declared.class.Class.TheVariants.{Comment, Other, Refused, Pad, Instruction}
 use Rattle.s66_isa.specs.declared.limits.TheConstants.{BLOCK_LIMIT}
@@ -247,7 +247,7 @@ next-same true s (line ∷ lines) all n ps number run index label after = by_com
 
 -- what has to be known of the state before lines to come, of which this many are left of the begun part: an unlabelled block that
 -- begins next stands for itself
-abbrev Ready : ℕ → List ℕ → ℕ → State → Type 0
+abbrev Ready : ℕ → List ℕ → ℕ → SourceState → Type 0
 Ready index label count t = (index % BLOCK_LIMIT ≡ 0 → (if index == 0 then label else []) ≡ [] → Ended t) × (index % BLOCK_LIMIT + count ≡ BLOCK_LIMIT → Ended t)
 
 -- these blocks, and then those of the parts in their placed orders
@@ -256,16 +256,16 @@ record Follows (parts : List (List Line)) (ps : List Placed) (blocks again : Lis
   whole : again ≡ blocks ++ new
   placed : ArePlacedAgain (map block_of parts) ps new
 
-abbrev open_blocks : State → List Block
+abbrev open_blocks : SourceState → List Block
 open_blocks t = with_open t.blocks t.label t.entries
 
 -- the text of these lines, with the blocks of these parts
-abbrev read_text : Bool → Standing → State → List Line → ℕ → List (List Line) → List Placed → List Line → Result (List Block) SourceError
+abbrev read_text : Bool → Standing → SourceState → List Line → ℕ → List (List Line) → List Placed → List Line → Result (List Block) SourceError
 read_text cut s t all n parts ps lines = read_at cut s t (text_of_lines all n (map block_of parts) ps lines)
 
 -- the text is read after what stands before these lines
 abbrev Reads : Bool → List (List ℕ) → Type 0
-Reads cut lines = (s : Standing) (all : List Line) (n number run index : ℕ) (label : List ℕ) (after : Bool) (ps : List Placed) (t : State) (again : List Block) →
+Reads cut lines = (s : Standing) (all : List Line) (n number run index : ℕ) (label : List ℕ) (after : Bool) (ps : List Placed) (t : SourceState) (again : List Block) →
     let flagged : List Flagged = flagged_from cut s lines in
     AreLinesOfSource cut all → every (every is_inside) lines ≡ true → refusal (classes_from number run index label after flagged) ≡ None → IsLabel label →
     ArePlaced (map block_of (behind (parts_from number run index label after flagged))) ps → AreComplete (map block_of (behind (parts_from number run index label after flagged))) ps →
@@ -274,7 +274,7 @@ Reads cut lines = (s : Standing) (all : List Line) (n number run index : ℕ) (l
     Follows (behind (parts_from number run index label after flagged)) ps (open_blocks t) again
 
 abbrev ReadsClass : Bool → Class → List ℕ → List (List ℕ) → Type 0
-ReadsClass cut c line lines = (s : Standing) (all : List Line) (n number run index : ℕ) (label : List ℕ) (after : Bool) (ps : List Placed) (t : State) (again : List Block) →
+ReadsClass cut c line lines = (s : Standing) (all : List Line) (n number run index : ℕ) (label : List ℕ) (after : Bool) (ps : List Placed) (t : SourceState) (again : List Block) →
     let flagged : List Flagged = flagged_from cut (after_line cut s line) lines in
     class_at after (flagged_at cut s line (is_continued lines)) ≡ c → every is_inside line ≡ true →
     AreLinesOfSource cut all → every (every is_inside) lines ≡ true → refusal (from_class number run index label c line flagged) ≡ None → IsLabel label →
@@ -289,7 +289,7 @@ rest-taken : (l : Line) (lines : List Line) → refusal (l ∷ lines) ≡ None �
 rest-taken l lines h = (neither (refusal_at l) (refusal lines) h).1
 
 -- the lines after it are read after it, or as if it weren't there
-copied-line : (cut : Bool) (s : Standing) (all : List Line) (n : ℕ) (parts : List (List Line)) (ps : List Placed) (l : Line) (lines : List Line) (after continued : Bool) (t : State) (again : List Block) →
+copied-line : (cut : Bool) (s : Standing) (all : List Line) (n : ℕ) (parts : List (List Line)) (ps : List Placed) (l : Line) (lines : List Line) (after continued : Bool) (t : SourceState) (again : List Block) →
     class_at after (flagged_at cut s l.bytes continued) ≡ l.class → every is_inside l.bytes ≡ true → operand_refusal l.number l.class ≡ None → FirstFrom (suc l.number) parts →
     (cut && continues (text_of_lines all n (map block_of parts) ps lines)) ≡ (cut && continued) → after_line cut s l.bytes ≡ s → read_text cut s t all n parts ps (l ∷ lines) ≡ Ok again →
     (read_text cut (after_line cut s l.bytes) t all n parts ps lines ≡ Ok again)
@@ -339,7 +339,7 @@ reads-pad cut line lines reads s all n number run index label after ps t again s
     ]
 
 -- if a run begins with a label, nothing has to be known of the state
-ready-labelled : (lines : List Flagged) (number run : ℕ) (label : List ℕ) (after : Bool) (t : State) → is_filled label ≡ true → Ready 0 label (length (left (parts_from number run 0 label after lines))) t
+ready-labelled : (lines : List Flagged) (number run : ℕ) (label : List ℕ) (after : Bool) (t : SourceState) → is_filled label ≡ true → Ready 0 label (length (left (parts_from number run 0 label after lines))) t
 ready-labelled lines number run label after t some =
     let none = ap (λ (ls : List Line). length ls) (none-left lines number run 0 label after refl) in
     (λ here empty. absurd (true≢false (sym some ∙ ap is_filled empty)), λ all. absurd (omega (arith, none, all)))
@@ -410,7 +410,7 @@ record IsLeft (cut : Bool) (s stands : Standing) (lines : List (List ℕ)) : Typ
   ended : (cut && is_continued lines) ≡ false
 
 -- the first of a block
-reads-first : (cut : Bool) (lines : List (List ℕ)) → Reads cut lines → (s stands : Standing) (all : List Line) (n run : ℕ) (l : Line) (ps : List Placed) (t : State) (again : List Block) →
+reads-first : (cut : Bool) (lines : List (List ℕ)) → Reads cut lines → (s stands : Standing) (all : List Line) (n run : ℕ) (l : Line) (ps : List Placed) (t : SourceState) (again : List Block) →
     let flagged : List Flagged = flagged_from cut stands lines in
     IsLeft cut s stands lines → AreLinesOfSource cut all → every (every is_inside) lines ≡ true → refusal (lines_after run l flagged) ≡ None → IsLabel l.label → l.index % BLOCK_LIMIT ≡ 0 → AreSoundLines (l ∷ []) →
     ((if l.index == 0 then l.label else []) ≡ [] → Ended t) →
@@ -443,7 +443,7 @@ reads-first cut lines reads s stands all n run l (p ∷ ps) t again left_by sour
     }
 
 -- one more of a block, which is printed before it
-ready-more : (lines : List Flagged) (number run index count : ℕ) (label : List ℕ) (t : State) → (index % BLOCK_LIMIT ≡ 0 → ⊥) → count ≡ suc (length (left (parts_from number run (suc index) label true lines))) → Ready index label count t →
+ready-more : (lines : List Flagged) (number run index count : ℕ) (label : List ℕ) (t : SourceState) → (index % BLOCK_LIMIT ≡ 0 → ⊥) → count ≡ suc (length (left (parts_from number run (suc index) label true lines))) → Ready index label count t →
     Ready (suc index) label (length (left (parts_from number run (suc index) label true lines))) t
 ready-more lines number run index count label t inside one ready = by_full (eqb (suc (index % BLOCK_LIMIT)) BLOCK_LIMIT) refl
   where
@@ -463,7 +463,7 @@ sound-line after l located i is stated inside =
     ((spelled, every-from_operation is_inside (body l.bytes) (every-trimmed is_inside is_return l.bytes inside)), tt)
 
 -- one instruction, whether its block begins with it or before
-reads-put : (cut : Bool) (lines : List (List ℕ)) → Reads cut lines → (s stands : Standing) (all : List Line) (n run : ℕ) (l : Line) (located : Bool) (i : Instr) (ps : List Placed) (t : State) (again : List Block) →
+reads-put : (cut : Bool) (lines : List (List ℕ)) → Reads cut lines → (s stands : Standing) (all : List Line) (n run : ℕ) (l : Line) (located : Bool) (i : Instr) (ps : List Placed) (t : SourceState) (again : List Block) →
     let flagged : List Flagged = flagged_from cut stands lines in
     l.class ≡ Instruction located i → IsLeft cut s stands lines →
     AreLinesOfSource cut all → every (every is_inside) lines ≡ true → refusal (lines_after run l flagged) ≡ None → IsLabel l.label → AreSoundLines (l ∷ []) →

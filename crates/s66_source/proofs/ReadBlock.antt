@@ -13,7 +13,7 @@ use Rattle.s66_source.specs.Source.{Line}
 use Rattle.s66_line.specs.Block.{Entry, Block, instrs_of, entry_at, bytes_of}
 use Rattle.s66_source.specs.Printed.{Placed, is_trailing, label_field, instruction_line, instruction_lines, report, notes_text, block_text}
 use Rattle.s66_source.specs.ReadAgain.{IsPlacedAgain}
-use Rattle.s66_source.specs.Reader.{State, with_open, end_block, begin_run_if, with_entry, count_line}
+use Rattle.s66_source.specs.Reader.{SourceState, with_open, end_block, begin_run_if, with_entry, count_line}
 use Rattle.s66_line.specs.declared.class.Class.{Class}
 use Rattle.s66_line.specs.declared.class.Class.TheVariants.{Instruction}
 use Rattle.s66_isa.specs.declared.limits.TheConstants.{BLOCK_LIMIT}
@@ -66,10 +66,10 @@ sound-at block (suc n) h some few =
 -- AN INSTRUCTION LINE
 
 -- the run begins with a label if there is one
-abbrev begun : List ℕ → State → State
+abbrev begun : List ℕ → SourceState → SourceState
 begun label t = begin_run_if (is_filled label) label t
 
-same-run : (t : Bool) (label other : List ℕ) (s : State) → (t ≡ true → label ≡ other) → begin_run_if t label s ≡ begin_run_if t other s
+same-run : (t : Bool) (label other : List ℕ) (s : SourceState) → (t ≡ true → label ≡ other) → begin_run_if t label s ≡ begin_run_if t other s
 same-run true label other s h = ap (λ l. begin_run_if true l s) (h refl)
 same-run false label other s h = refl
 
@@ -81,7 +81,7 @@ quiet-instruction cut label bytes n text is spells =
     and_right cut (continues (instruction_line label bytes ++ text))
     (ap continues (append_assoc line (codes "\n") text) ∙ continues-line line text ∙ sym (continues-body line) ∙ parts.1)
 
-read-instruction : (cut : Bool) (s : Standing) (label bytes : List ℕ) (n : Instr) (t : State) (text : List ℕ) (again : List Block) → is_holding cut s ≡ false → IsQuiet cut text → IsLabel label → Spells bytes n → every is_inside bytes ≡ true →
+read-instruction : (cut : Bool) (s : Standing) (label bytes : List ℕ) (n : Instr) (t : SourceState) (text : List ℕ) (again : List Block) → is_holding cut s ≡ false → IsQuiet cut text → IsLabel label → Spells bytes n → every is_inside bytes ≡ true →
     read_at cut s t (instruction_line label bytes ++ text) ≡ Ok again → read_at cut s (count_line true (with_entry n (trim is_trailing bytes) (begun label t))) text ≡ Ok again
 read-instruction cut s label bytes n t text again free quiet is spells inside h =
     let line : List ℕ = label_field label ++ trim is_trailing bytes in
@@ -98,12 +98,12 @@ read-instruction cut s label bytes n t text again free quiet is spells inside h 
 
 -- ALL INSTRUCTIONS of a block
 
-abbrev pub Ended : State → Type 0
+abbrev pub Ended : SourceState → Type 0
 Ended t = (t.entries ≡ []) × (t.label ≡ [])
 
 -- read after state, with nothing but these instructions more in the open block
-record Fed (cut : Bool) (s : Standing) (block : Block) (ns : List ℕ) (t : State) (text : List ℕ) (again : List Block) : Type 0 where
-  state : State
+record Fed (cut : Bool) (s : Standing) (block : Block) (ns : List ℕ) (t : SourceState) (text : List ℕ) (again : List Block) : Type 0 where
+  state : SourceState
   read : read_at cut s state text ≡ Ok again
   made : List Entry
   whole : with_open state.blocks state.label state.entries ≡ t.blocks ++ labelled t.label (t.entries ++ made) ∷ []
@@ -115,13 +115,13 @@ with_open-push : (blocks : List Block) (label : List ℕ) (entries : List Entry)
 with_open-push blocks label [] e = refl
 with_open-push blocks label (a ∷ entries) e = refl
 
-abbrev with_one : Entry → State → State
+abbrev with_one : Entry → SourceState → SourceState
 with_one e t = record t { entries = t.entries ++ e ∷ [] }
 
-abbrev entry_now : Block → ℕ → State → Entry
+abbrev entry_now : Block → ℕ → SourceState → Entry
 entry_now block n t = record { instr = instr_at (instrs_of block) n; line = suc t.count; bytes = trim is_trailing (bytes_of block n) }
 
-fed-last : (full cut : Bool) (s : Standing) (block : Block) (n : ℕ) (t : State) (text : List ℕ) (again : List Block) → eqb (length (t.entries ++ entry_now block n t ∷ [])) BLOCK_LIMIT ≡ full →
+fed-last : (full cut : Bool) (s : Standing) (block : Block) (n : ℕ) (t : SourceState) (text : List ℕ) (again : List Block) → eqb (length (t.entries ++ entry_now block n t ∷ [])) BLOCK_LIMIT ≡ full →
     read_at cut s (count_line true (if full then end_block (with_one (entry_now block n t) t) else with_one (entry_now block n t) t)) text ≡ Ok again → Fed cut s block (n ∷ []) t text again
 fed-last true cut s block n t text again stated h = record {
   state = count_line true (end_block (with_one (entry_now block n t) t));
@@ -143,7 +143,7 @@ fed-last false cut s block n t text again stated h = record {
 }
 
 -- one instruction, and then the others
-fed-more : (cut : Bool) (s : Standing) (block : Block) (n : ℕ) (ns : List ℕ) (t : State) (text : List ℕ) (again : List Block) → Fed cut s block ns (count_line true (with_one (entry_now block n t) t)) text again → Fed cut s block (n ∷ ns) t text again
+fed-more : (cut : Bool) (s : Standing) (block : Block) (n : ℕ) (ns : List ℕ) (t : SourceState) (text : List ℕ) (again : List Block) → Fed cut s block ns (count_line true (with_one (entry_now block n t) t)) text again → Fed cut s block (n ∷ ns) t text again
 fed-more cut s block n ns t text again rest = record {
   state = rest.state;
   read = rest.read;
@@ -154,17 +154,17 @@ fed-more cut s block n ns t text again rest = record {
   full = λ all. rest.full (omega (arith, all, length-push t.entries (entry_now block n t)));
 }
 
-feed : (cut : Bool) (s : Standing) (block : Block) (n : ℕ) (ns : List ℕ) (label : List ℕ) (t : State) (text : List ℕ) (again : List Block) → is_holding cut s ≡ false → IsQuiet cut text → IsLabel label →
+feed : (cut : Bool) (s : Standing) (block : Block) (n : ℕ) (ns : List ℕ) (label : List ℕ) (t : SourceState) (text : List ℕ) (again : List Block) → is_holding cut s ≡ false → IsQuiet cut text → IsLabel label →
     ((k : ℕ) → Among k (n ∷ ns) → IsSoundAt block k) → length (begun label t).entries + length (n ∷ ns) ≤ BLOCK_LIMIT →
     read_at cut s t (instruction_lines block label (n ∷ ns) ++ text) ≡ Ok again → Fed cut s block (n ∷ ns) (begun label t) text again
 feed cut s block n [] label t text again free quiet is sound few h =
-    let u : State = begun label t in
+    let u : SourceState = begun label t in
     let here = sound n (inl refl) in
     let next = read-instruction cut s label (bytes_of block n) (instr_at (instrs_of block) n) t text again free quiet is here.0 here.1
     (read-as cut s t _ _ again (append_assoc (instruction_line label (bytes_of block n)) [] text) h) in
     fed-last (eqb (length (u.entries ++ entry_now block n u ∷ [])) BLOCK_LIMIT) cut s block n u text again refl next
 feed cut s block n (m ∷ ns) label t text again free quiet is sound few h =
-    let u : State = begun label t in
+    let u : SourceState = begun label t in
     let e : Entry = entry_now block n u in
     let here = sound n (inl refl) in
     let later : List ℕ = instruction_lines block [] (m ∷ ns) ++ text in
@@ -178,8 +178,8 @@ feed cut s block n (m ∷ ns) label t text again free quiet is sound few h =
 -- A WHOLE BLOCK
 
 -- read after state, with this block more
-pub record Again (cut : Bool) (s : Standing) (block : Block) (order : List ℕ) (t : State) (text : List ℕ) (again : List Block) : Type 0 where
-  pub state : State
+pub record Again (cut : Bool) (s : Standing) (block : Block) (order : List ℕ) (t : SourceState) (text : List ℕ) (again : List Block) : Type 0 where
+  pub state : SourceState
   pub read : read_at cut s state text ≡ Ok again
   pub made : Block
   pub whole : with_open state.blocks state.label state.entries ≡ with_open t.blocks t.label t.entries ++ made ∷ []
@@ -187,16 +187,16 @@ pub record Again (cut : Bool) (s : Standing) (block : Block) (order : List ℕ) 
   pub full : length order ≡ BLOCK_LIMIT → Ended state
 
 -- a run that begins here, or goes on if a block has ended
-begun-new : (label : List ℕ) (t : State) → (label ≡ [] → Ended t) → ((begun label t).entries ≡ []) × ((begun label t).label ≡ label) × ((begun label t).blocks ≡ with_open t.blocks t.label t.entries)
+begun-new : (label : List ℕ) (t : SourceState) → (label ≡ [] → Ended t) → ((begun label t).entries ≡ []) × ((begun label t).label ≡ label) × ((begun label t).blocks ≡ with_open t.blocks t.label t.entries)
 begun-new [] t h =
     let ended = h refl in
     (ended.0, ended.1, sym (ap (λ es. with_open t.blocks t.label es) ended.0))
 begun-new (b ∷ label) t h = (refl, refl, refl)
 
-block-fed : (cut : Bool) (stands : Standing) (block : Block) (order : List ℕ) (label : List ℕ) (t s : State) (text : List ℕ) (again : List Block) → block.label ≡ label → Fed cut stands block order (begun label s) text again →
+block-fed : (cut : Bool) (stands : Standing) (block : Block) (order : List ℕ) (label : List ℕ) (t s : SourceState) (text : List ℕ) (again : List Block) → block.label ≡ label → Fed cut stands block order (begun label s) text again →
     ((begun label s).entries ≡ []) × ((begun label s).label ≡ label) × ((begun label s).blocks ≡ with_open t.blocks t.label t.entries) → Again cut stands block order t text again
 block-fed cut stands block order label t s text again is fed new =
-    let u : State = begun label s in
+    let u : SourceState = begun label s in
     let made : Block = labelled u.label (u.entries ++ fed.made) in
     let all : u.entries ++ fed.made ≡ fed.made = ap (λ es. es ++ fed.made) new.0 in
     record {
@@ -212,7 +212,7 @@ block-fed cut stands block order label t s text again is fed new =
       full = λ many. fed.full (omega (arith, many, ap (λ (es : List Entry). length es) new.0));
     }
 
-pub read-block : (cut : Bool) (stands : Standing) (all : List Line) (n : ℕ) (block : Block) (p : Placed) (t : State) (text : List ℕ) (again : List Block) → is_holding cut stands ≡ false → IsQuiet cut text → AreLinesOfSource cut all →
+pub read-block : (cut : Bool) (stands : Standing) (all : List Line) (n : ℕ) (block : Block) (p : Placed) (t : SourceState) (text : List ℕ) (again : List Block) → is_holding cut stands ≡ false → IsQuiet cut text → AreLinesOfSource cut all →
     IsLabel block.label → (block.label ≡ [] → Ended t) → AreSound block.entries →
     ((k : ℕ) → Among k p.order → (1 ≤ k) × (k ≤ length block.entries)) → 1 ≤ length p.order → length p.order ≤ BLOCK_LIMIT →
     read_at cut stands t (block_text all n block p ++ text) ≡ Ok again → Again cut stands block p.order t text again
@@ -236,7 +236,7 @@ read-block cut stands all n block p t text again free quiet source is new sound 
         subst (IsQuiet cut) (sym (append_assoc (instruction_line block.label (bytes_of block k)) (instruction_lines block [] ks) text))
         (quiet-instruction cut block.label (bytes_of block k) (instr_at (instrs_of block) k) rest is first.0) in
         let passed = passes.passes t (instruction_lines block block.label (k ∷ ks) ++ text) again quiet_lines h in
-        let s : State = record t { count = passed.count; after = passed.after } in
+        let s : SourceState = record t { count = passed.count; after = passed.after } in
         let begins = begun-new block.label s new in
         block-fed cut stands block (k ∷ ks) block.label t s text again refl
         (feed cut stands block k ks block.label s text again free quiet is sound_at (omega (arith, few, ap (λ (es : List Entry). length es) begins.0)) passed.read)

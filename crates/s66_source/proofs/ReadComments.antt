@@ -13,7 +13,7 @@ use Rattle.s66_line.specs.Class.{class_of, class_of_operand, is_pad, is_located,
 use Rattle.s66_source.specs.LeftAlone.{Flagged, after_line, class_at, is_alone, is_continued, is_refused, flagged_from}
 use Rattle.s66_source.specs.Roles.{is_comment_class, is_note_of}
 use Rattle.s66_source.specs.Printed.{Placed, splits_line, bound_text, times_text, report, copied_line, notes_text}
-use Rattle.s66_source.specs.Reader.{State, with_open, count_line, by_class, line_step, lines_step, and_then, read_from}
+use Rattle.s66_source.specs.Reader.{SourceState, with_open, count_line, by_class, line_step, lines_step, and_then, read_from}
 use Rattle.s66_line.specs.declared.class.Class.{Class}
 use Rattle.s66_line.specs.declared.class.Class.TheVariants.{Comment, Other, Refused, Pad}
 use Rattle.s66_line.specs.declared.limits.TheConstants.{LINE_BYTES_LIMIT}
@@ -29,22 +29,22 @@ use Rattle.s66_source.proofs.ReaderBlocks.{then-then}
 use Rattle.s66_line.proofs.Wholes.{is_inside, every-append}
 
 -- a text read after what stands
-abbrev pub read_at : Bool → Standing → State → List ℕ → Result (List Block) SourceError
+abbrev pub read_at : Bool → Standing → SourceState → List ℕ → Result (List Block) SourceError
 read_at cut s t text = read_from t (flagged_from cut s (lines_of text))
 
 -- the same text is read alike
-pub read-as : (cut : Bool) (s : Standing) (t : State) (first second : List ℕ) (again : List Block) → first ≡ second → read_at cut s t first ≡ Ok again → read_at cut s t second ≡ Ok again
+pub read-as : (cut : Bool) (s : Standing) (t : SourceState) (first second : List ℕ) (again : List Block) → first ≡ second → read_at cut s t first ≡ Ok again → read_at cut s t second ≡ Ok again
 read-as cut s t first second again same h = subst (λ bytes. read_at cut s t bytes ≡ Ok again) same h
 
 -- ONE LINE
 
-accepted-step : (long many : Bool) (e f : SourceError) (made : Result State SourceError) (next : State → Result (List Block) SourceError) (again : List Block) →
+accepted-step : (long many : Bool) (e f : SourceError) (made : Result SourceState SourceError) (next : SourceState → Result (List Block) SourceError) (again : List Block) →
     and_then (if long then Err e else (if many then Err f else made)) next ≡ Ok again → and_then made next ≡ Ok again
 accepted-step true many e f made next again h = cc
 accepted-step false true e f made next again h = cc
 accepted-step false false e f made next again h = h
 
-read-step : (t : State) (line : Flagged) (lines : List Flagged) (again : List Block) → read_from t (line ∷ lines) ≡ Ok again →
+read-step : (t : SourceState) (line : Flagged) (lines : List Flagged) (again : List Block) → read_from t (line ∷ lines) ≡ Ok again →
     and_then (by_class t (class_at t.after line) (label_bytes (body line.bytes)) (from_operation (body line.bytes))) (λ u. read_from u lines) ≡ Ok again
 read-step t line lines again h =
     accepted-step (nat_lt LINE_BYTES_LIMIT (length line.bytes)) (nat_le SOURCE_LINES_LIMIT t.count) (LineTooLong (suc t.count)) TooLarge
@@ -52,7 +52,7 @@ read-step t line lines again h =
     (sym (then-then (line_step t line) (λ u. lines_step u lines) (λ u. Ok (with_open u.blocks u.label u.entries))) ∙ h)
 
 -- a line of this class, and then the rest
-pub read-class : (cut : Bool) (s : Standing) (t : State) (line text : List ℕ) (c : Class) (again : List Block) → every is_inside line ≡ true → class_at t.after (flagged_at cut s line (continues text)) ≡ c →
+pub read-class : (cut : Bool) (s : Standing) (t : SourceState) (line text : List ℕ) (c : Class) (again : List Block) → every is_inside line ≡ true → class_at t.after (flagged_at cut s line (continues text)) ≡ c →
     read_at cut s t ((line ++ codes "\n") ++ text) ≡ Ok again →
     and_then (by_class t c (label_bytes (body line)) (from_operation (body line))) (λ u. read_at cut (after_line cut s line) u text) ≡ Ok again
 read-class cut s t line text c again inside stated h =
@@ -75,17 +75,17 @@ same-class false false true true other c number h other_none = cc
 same-class false false true false true c number h other_none = absurd (other_none refl)
 same-class false false true false false c number h other_none = refl
 
-refused : (t : State) (label bytes : List ℕ) (next : State → Result (List Block) SourceError) (again : List Block) → and_then (by_class t Refused label bytes) next ≡ Ok again → ⊥
+refused : (t : SourceState) (label bytes : List ℕ) (next : SourceState → Result (List Block) SourceError) (again : List Block) → and_then (by_class t Refused label bytes) next ≡ Ok again → ⊥
 refused t label bytes next again h = cc
 
 -- if it is left alone as it was
-pub read-copied : (cut : Bool) (s : Standing) (t : State) (after continued : Bool) (line text : List ℕ) (number : ℕ) (again : List Block) → every is_inside line ≡ true → (cut && continues text) ≡ (cut && continued) →
+pub read-copied : (cut : Bool) (s : Standing) (t : SourceState) (after continued : Bool) (line text : List ℕ) (number : ℕ) (again : List Block) → every is_inside line ≡ true → (cut && continues text) ≡ (cut && continued) →
     operand_refusal number (class_at after (flagged_at cut s line continued)) ≡ None → read_at cut s t ((body line ++ codes "\n") ++ text) ≡ Ok again →
     and_then (by_class t (class_at after (flagged_at cut s line continued)) (label_bytes (body line)) (from_operation (body line))) (λ u. read_at cut (after_line cut s line) u text) ≡ Ok again
 read-copied cut s t after continued line text number again inside next accepted h =
     let there : List ℕ = body line in
     let alone : Bool = is_alone cut s line continued in
-    let rest : State → Result (List Block) SourceError = λ u. read_at cut (after_line cut s line) u text in
+    let rest : SourceState → Result (List Block) SourceError = λ u. read_at cut (after_line cut s line) u text in
     let switch : is_alone cut s there (continues text) ≡ alone = alone-body cut s line (continues text) ∙ same-alone cut s line (continues text) continued next in
     let stated : class_at t.after (flagged_at cut s there (continues text)) ≡ class_at t.after (flagged_at cut s line continued) =
     ap (λ is. class_at t.after (record { alone = is; bytes = there })) switch ∙ class_at-body t.after alone line in
@@ -100,14 +100,14 @@ read-copied cut s t after continued line text number again inside next accepted 
 
 -- TEXTS THAT CHANGE NOTHING but how many lines were read, and what the last was
 
-pub record Passed (cut : Bool) (s : Standing) (t : State) (text : List ℕ) (again : List Block) : Type 0 where
+pub record Passed (cut : Bool) (s : Standing) (t : SourceState) (text : List ℕ) (again : List Block) : Type 0 where
   pub count : ℕ
   pub after : Bool
   pub read : read_at cut s (record t { count = count; after = after }) text ≡ Ok again
 
 pub record Passes (cut : Bool) (s : Standing) (bytes : List ℕ) : Type 0 where
   pub quiet : continues bytes ≡ false
-  pub passes : (t : State) (text : List ℕ) (again : List Block) → IsQuiet cut text → read_at cut s t (bytes ++ text) ≡ Ok again → Passed cut s t text again
+  pub passes : (t : SourceState) (text : List ℕ) (again : List Block) → IsQuiet cut text → read_at cut s t (bytes ++ text) ≡ Ok again → Passed cut s t text again
 
 pub passes-nothing : (cut : Bool) (s : Standing) → Passes cut s []
 passes-nothing cut s = record { quiet = refl; passes = λ t text again quiet h. record { count = t.count; after = t.after; read = h } }

@@ -16,7 +16,7 @@ use Rattle.s66_line.specs.Block.{Entry, Block}
 use Rattle.s66_line.specs.Class.{is_code}
 use Rattle.s66_source.specs.LeftAlone.{Reading, Flagged, class_at, flagged_lines}
 use Rattle.s66_source.specs.Gives.{Gives}
-use Rattle.s66_source.specs.Reader.{State, Steps, start, end_block, with_open, count_line, by_class, line_step, lines_step, and_then, read_from}
+use Rattle.s66_source.specs.Reader.{SourceState, Steps, start, end_block, with_open, count_line, by_class, line_step, lines_step, and_then, read_from}
 use Rattle.s66_line.specs.declared.class.Class.{Class}
 use Rattle.s66_line.specs.declared.class.Class.TheVariants.{Comment, Other, Refused, Pad, Instruction}
 use Rattle.s66_source.specs.declared.error.SourceError.{SourceError}
@@ -132,7 +132,7 @@ Read lines = (blocks : List Block) (label : List ℕ) (entries : List Entry) (co
     ≡ unless_refused (refusal (classes_from (suc count) run index run_label after lines)) (blocks ++ resumed label entries (parts_of (instructions (classes_from (suc count) run index run_label after lines))))
 
 -- reading a line of this class, and then the rest
-abbrev read_class : State → Class → List ℕ → List Flagged → Result (List Block) SourceError
+abbrev read_class : SourceState → Class → List ℕ → List Flagged → Result (List Block) SourceError
 read_class s c line lines = and_then (by_class s c (label_bytes (body line)) (from_operation (body line))) (λ t. read_from t lines)
 
 -- the definition's answer for it
@@ -269,7 +269,7 @@ pub read_from-start : (source : Reading) → read_from start (flagged_lines sour
 read_from-start source = read-all (flagged_lines source) [] [] [] 0 0 0 [] false refl refl
 
 -- the blocks at the end
-pub source-blocks : (source : Reading) (s r t : State) → s ≡ start → lines_step s (flagged_lines source) ≡ Ok r → t ≡ end_block r → source_of source ≡ Ok t.blocks
+pub source-blocks : (source : Reading) (s r t : SourceState) → s ≡ start → lines_step s (flagged_lines source) ≡ Ok r → t ≡ end_block r → source_of source ≡ Ok t.blocks
 source-blocks source s r t begin_run read closed =
     sym (read_from-start source) ∙ ap (λ u. read_from u (flagged_lines source)) (sym begin_run) ∙ ap (λ made. and_then made (λ u. Ok (with_open u.blocks u.label u.entries))) read ∙ ap (λ u. Ok u.blocks) (sym closed)
 
@@ -286,7 +286,7 @@ pub Gives-accepted : (source : Reading) (blocks : List Block) → source_of sour
 Gives-accepted source blocks h = accepted-blocks (refusal (classed_lines source)) (blocks_of (classed_lines source)) blocks h
 
 -- the refusal
-pub Gives-refusal : {X : Type 0} (view : X → List Block) (e : SourceError) (source : Reading) (s new : State) → s ≡ start → Steps new (Err e) (lines_step s (flagged_lines source)) → Gives view (Err e) (source_of source)
+pub Gives-refusal : {X : Type 0} (view : X → List Block) (e : SourceError) (source : Reading) (s new : SourceState) → s ≡ start → Steps new (Err e) (lines_step s (flagged_lines source)) → Gives view (Err e) (source_of source)
 Gives-refusal view OutOfMemory source s new begin_run read = tt
 Gives-refusal view e source s new begin_run read =
     sym (read_from-start source) ∙ ap (λ u. read_from u (flagged_lines source)) (sym begin_run) ∙ ap (λ made. and_then made (λ u. Ok (with_open u.blocks u.label u.entries))) read

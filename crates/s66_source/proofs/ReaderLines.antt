@@ -4,7 +4,7 @@ use Rattle.std.specs.Prelude.{Result, Ok, Err}
 use Rattle.s66_line.specs.Fields.{continues, lines_from}
 use Rattle.s66_line.proofs.LineCuts.{IsFirstNewline}
 use Rattle.s66_source.specs.LeftAlone.{Flagged, after_line, is_alone, flagged_from}
-use Rattle.s66_source.specs.Reader.{State, Steps, line_step, lines_step, and_then}
+use Rattle.s66_source.specs.Reader.{SourceState, Steps, line_step, lines_step, and_then}
 use Rattle.s66_source.specs.declared.error.SourceError.{SourceError}
 use Rattle.s66_source.specs.declared.error.SourceError.TheVariants.{OutOfMemory}
 use Rattle.s66_source.specs.declared.standing.Standing.{Standing}
@@ -15,7 +15,7 @@ abbrev pub first_flagged : Bool → Standing → List ℕ → ℕ → Flagged
 first_flagged cut standing bytes k = record { alone = is_alone cut standing (take k bytes) (continues (drop (k + 1) bytes)); bytes = take k bytes }
 
 -- a line up to a newline, and then those after it
-pub lines_step-found : (cut : Bool) (standing : Standing) (s t : State) (bytes : List ℕ) (k : ℕ) (whole : Result State SourceError) → IsFirstNewline bytes (Some k) →
+pub lines_step-found : (cut : Bool) (standing : Standing) (s t : SourceState) (bytes : List ℕ) (k : ℕ) (whole : Result SourceState SourceError) → IsFirstNewline bytes (Some k) →
     line_step s (first_flagged cut standing bytes k) ≡ Ok t → lines_step s (flagged_from cut standing (lines_from [] bytes)) ≡ whole →
     lines_step t (flagged_from cut (after_line cut standing (take k bytes)) (lines_from [] (drop (k + 1) bytes))) ≡ whole
 lines_step-found cut standing s t bytes k whole first made same =
@@ -23,11 +23,11 @@ lines_step-found cut standing s t bytes k whole first made same =
     ∙ sym (ap (lines_step s) (flagged-found cut standing bytes k first)) ∙ same
 
 -- a line's refusal is that of all
-Steps-line : (e : SourceError) (s new any : State) (line : Flagged) (lines : List Flagged) (whole : Result State SourceError) → Steps new (Err e) (line_step s line) → lines_step s (line ∷ lines) ≡ whole → Steps any (Err e) whole
+Steps-line : (e : SourceError) (s new any : SourceState) (line : Flagged) (lines : List Flagged) (whole : Result SourceState SourceError) → Steps new (Err e) (line_step s line) → lines_step s (line ∷ lines) ≡ whole → Steps any (Err e) whole
 Steps-line OutOfMemory s new any line lines whole h same = tt
 Steps-line e s new any line lines whole h same = sym same ∙ ap (λ r. and_then r (λ t. lines_step t lines)) h
 
-pub Steps-found : (cut : Bool) (standing : Standing) (e : SourceError) (s new any : State) (bytes : List ℕ) (k : ℕ) (whole : Result State SourceError) → IsFirstNewline bytes (Some k) →
+pub Steps-found : (cut : Bool) (standing : Standing) (e : SourceError) (s new any : SourceState) (bytes : List ℕ) (k : ℕ) (whole : Result SourceState SourceError) → IsFirstNewline bytes (Some k) →
     Steps new (Err e) (line_step s (first_flagged cut standing bytes k)) → lines_step s (flagged_from cut standing (lines_from [] bytes)) ≡ whole → Steps any (Err e) whole
 Steps-found cut standing e s new any bytes k whole first made same =
     Steps-line e s new any (first_flagged cut standing bytes k) (flagged_from cut (after_line cut standing (take k bytes)) (lines_from [] (drop (k + 1) bytes))) whole made (sym (ap (lines_step s) (flagged-found cut standing bytes k first)) ∙ same)

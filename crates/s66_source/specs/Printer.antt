@@ -77,13 +77,13 @@ line_text p line =
     if is_skipped p then [] else (if is_instruction_next p then text_at p.number p.passed p.blocks p.placed else (body line ++ codes "\n"))
 
 -- what is left after it
-abbrev pub after_line : Printer → Printer
-after_line p =
+abbrev pub after_printed : Printer → Printer
+after_printed p =
     if is_skipped p then record p { dropped = rest p.dropped; lines = suc p.lines }
     else (if is_instruction_next p then pass_instruction p else (record p { lines = suc p.lines }))
 
 -- ALL LINES
 
-abbrev pub text_of : Printer → List (List ℕ) → List ℕ
-text_of p [] = []
-text_of p (line ∷ lines) = line_text p line ++ text_of (after_line p) lines
+abbrev pub printed_from : Printer → List (List ℕ) → List ℕ
+printed_from p [] = []
+printed_from p (line ∷ lines) = line_text p line ++ printed_from (after_printed p) lines

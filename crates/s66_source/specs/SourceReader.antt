@@ -2,9 +2,9 @@
 use Rattle.std.specs.Prelude.{ℕ, Bool, List}
 use Rattle.s66_source.specs.LeftAlone.{Flagged, is_alone}
 use Rattle.s66_source.specs.declared.reader.Reader.{Reader}
-use Rattle.s66_source.specs.Reader.{State}
+use Rattle.s66_source.specs.Reader.{SourceState}
 
-abbrev pub state : Reader → State
+abbrev pub state : Reader → SourceState
 state r = record { blocks = r.blocks.items; label = r.label.now; entries = r.entries.items; count = r.lines; after = r.after_code }
 
 -- a line, if it comes next

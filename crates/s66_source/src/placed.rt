@@ -1,10 +1,12 @@
+use arrayvec::ArrayVec;
+use s66_isa::BLOCK_LIMIT;
 use std::marker::Model;
 
 /// How a block is to be printed, and what is reported of it; times are in minor cycles of 100 ns.
 #[derive(Debug, Drop)]
-pub struct Placed<'a> {
+pub struct Placed {
     /// The numbers of its instructions, from 1, in the order in which they are printed.
-    pub order: &'a [u8],
+    pub order: ArrayVec<u8, BLOCK_LIMIT>,
     /// The time of the source order.
     pub source: u32,
     /// The time of this order.
@@ -15,10 +17,10 @@ pub struct Placed<'a> {
     pub splits: Option<u32>,
 }
 
-impl<'a> Model for Placed<'a> {
+impl Model for Placed {
     ghost use Rattle.s66_source.specs.Printed.{Placed};
 
     ghost Value = { Placed };
 
-    ghost view = { λ p. record { order = p.order.now; source = p.source; time = p.time; bound = p.bound; splits = p.splits } };
+    ghost view = { λ p. record { order = p.order.items; source = p.source; time = p.time; bound = p.bound; splits = p.splits } };
 }

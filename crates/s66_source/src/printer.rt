@@ -30,7 +30,7 @@ fn push_in_place(
         push_report(out, number, count, placed)?;
     }
     if passed + 1 == count {
-        push_instructions(out, block, placed.order)?;
+        push_instructions(out, block, placed.order.as_slice())?;
     }
     Ok(())
 }
@@ -42,7 +42,7 @@ struct Printer<'s, 'a> {
     /// The blocks whose last instruction is among the lines to come.
     blocks: &'s [Block<'a>],
     /// How they are to be printed.
-    placed: &'s [Placed<'s>],
+    placed: &'s [Placed],
     /// Those of the lines to come that are left out.
     dropped: &'s [u32],
     /// The number of the first of the blocks, from 1.
@@ -64,7 +64,7 @@ impl<'s, 'a> Model for Printer<'s, 'a> {
 impl<'s, 'a> Printer<'s, 'a> {
     ghost use Rattle.std.specs.Prelude.{◌≡◌, ◌≤◌, ◌<◌, ◌+◌, ◌++◌, true, suc, [], length, OnOk};
     ghost use Rattle.s66_line.specs.Fields.{lines_from};
-    ghost use Rattle.s66_source.specs.Printer.{IsPrinter, is_skipped, is_instruction_next, text_at, pass_instruction, line_text, after_line, text_of};
+    ghost use Rattle.s66_source.specs.Printer.{IsPrinter, is_skipped, is_instruction_next, text_at, pass_instruction, line_text, after_printed, printed_from};
     ghost use Rattle.s66_source.specs.declared.limits.TheConstants.{SOURCE_LINES_LIMIT};
 
     /// Whether the next line is left out.
@@ -122,7 +122,7 @@ impl<'s, 'a> Printer<'s, 'a> {
         requires lines { self.old.lines < SOURCE_LINES_LIMIT }
         requires printer { IsPrinter self.old }
         ensures text { OnOk result (out.new.items ≡ out.old.items ++ line_text self.old line.now) }
-        ensures rest { OnOk result (self.new ≡ after_line self.old) }
+        ensures rest { OnOk result (self.new ≡ after_printed self.old) }
         ensures printer { OnOk result (IsPrinter self.new) }
     {
         if self.skips() {
@@ -141,7 +141,7 @@ impl<'s, 'a> Printer<'s, 'a> {
     fn print_last(&mut self, out: &mut Vec<u8>, line: &[u8]) -> Result<(), AllocError>
         requires lines { self.old.lines + length (lines_from line.now []) ≤ SOURCE_LINES_LIMIT }
         requires printer { IsPrinter self.old }
-        ensures text { OnOk result (out.new.items ≡ out.old.items ++ text_of self.old (lines_from line.now [])) }
+        ensures text { OnOk result (out.new.items ≡ out.old.items ++ printed_from self.old (lines_from line.now [])) }
     {
         if line.is_empty() {
             return Ok(());
@@ -153,7 +153,7 @@ impl<'s, 'a> Printer<'s, 'a> {
     fn print_all(&mut self, out: &mut Vec<u8>, text: &[u8]) -> Result<(), AllocError>
         requires lines { self.old.lines + length (lines_from [] text.now) ≤ SOURCE_LINES_LIMIT }
         requires printer { IsPrinter self.old }
-        ensures text { OnOk result (out.new.items ≡ out.old.items ++ text_of self.old (lines_from [] text.now)) }
+        ensures text { OnOk result (out.new.items ≡ out.old.items ++ printed_from self.old (lines_from [] text.now)) }
     {
         let mut rest = text;
         while let Some(end) = memchr(b'\n', rest) {

@@ -1,4 +1,4 @@
-use Rattle.std.proofs.Common.{◌≡◌, ◌<◌, ◌+◌, ◌∙◌, [], ◌-◌, suc, length, take, drop, length-drop, sym, ap, subst, arith}
+use Rattle.std.proofs.Common.{◌≡◌, ◌<◌, ◌+◌, ◌∙◌, [], ◌-◌, suc, take, drop, length-drop, sym, ap, subst, arith}
 use Rattle.std.proofs.lemmas.List.{take_rest}
 use Rattle.s66_line.proofs.LineCuts.{IsFirstNewline, lines_from-found}
 use Rattle.s66_line.specs.Fields.{lines_from}

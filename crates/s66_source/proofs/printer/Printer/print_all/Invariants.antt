@@ -1,13 +1,13 @@
 use Rattle.std.proofs.Common.{◌≡◌, ◌≤◌, ◌+◌, ◌++◌, [], length}
 use Rattle.s66_source.specs.declared.limits.TheConstants.{SOURCE_LINES_LIMIT}
 use Rattle.s66_line.specs.Fields.{lines_from}
-use Rattle.s66_source.specs.Printer.{IsPrinter, text_of}
+use Rattle.s66_source.specs.Printer.{IsPrinter, printed_from}
 use Rattle.s66_source.proofs.printer.Printer.print_all.Given as goal
 
 -- the text so far, and then that of the rest, is that of all
 abbrev pub invariant-loop-end : goal.invariant-loop-end
 invariant-loop-end l = record {
-  text : l.out.items ++ text_of l.self (lines_from [] l.rest) ≡ l.fn.out.items ++ text_of l.fn.self (lines_from [] l.text);
+  text : l.out.items ++ printed_from l.self (lines_from [] l.rest) ≡ l.fn.out.items ++ printed_from l.fn.self (lines_from [] l.text);
   lines : l.self.lines + length (lines_from [] l.rest) ≤ SOURCE_LINES_LIMIT;
   printer : IsPrinter l.self;
   within : length l.rest ≤ length l.text;
