@@ -20,7 +20,7 @@ use Rattle.s66_model.proofs.PointTimes.{points_after-append, greatest-stays, nex
 -- THE LATEST WRITER IS DONE LAST
 
 -- it issues when all registers that it writes are done
-written-le-issue : (b : Problem) (s : List Point) (n : ℕ) → greatest (λ (w : Write). done_of s w.reg) (row_at b n).writes ≤ (point_of b s n).issue
+pub written-le-issue : (b : Problem) (s : List Point) (n : ℕ) → greatest (λ (w : Write). done_of s w.reg) (row_at b n).writes ≤ (point_of b s n).issue
 unfolding point
 written-le-issue b s n =
     let r : Row = row_at b n in
@@ -134,11 +134,11 @@ writes-le f r (w ∷ ws) h =
       | inr past ↦ omega (arith, writes-le f r ws past)
     ]
 
-reads-le-start : (b : Problem) (s : List Point) (n : ℕ) → greatest (λ x. last_done x s) (row_at b n).reads ≤ (point_of b s n).start
+pub reads-le-start : (b : Problem) (s : List Point) (n : ℕ) → greatest (λ x. last_done x s) (row_at b n).reads ≤ (point_of b s n).start
 unfolding point start_of
 reads-le-start b s n = omega arith
 
-memory-le-start : (b : Problem) (s : List Point) (n : ℕ) → memory_wait s (row_at b n) ≤ (point_of b s n).start
+pub memory-le-start : (b : Problem) (s : List Point) (n : ℕ) → memory_wait s (row_at b n) ≤ (point_of b s n).start
 unfolding point start_of
 memory-le-start b s n = omega arith
 
@@ -153,7 +153,7 @@ waits-le-start : (b : Problem) (s : List Point) (n : ℕ) → ((x : Reg) → las
 waits-le-start b s n last =
     waits-bound (done_of s) (row_at b n) (point_of b s n).start (used-le-start b s n last) s (λ x. omega arith) (memory-le-start b s n)
 
-head-le-start : (b : Problem) (s : List Point) (n : ℕ) → ((x : Reg) → last_done x s ≡ done_of s x) → head s (row_at b n) ≤ (point_of b s n).start
+pub head-le-start : (b : Problem) (s : List Point) (n : ℕ) → ((x : Reg) → last_done x s ≡ done_of s x) → head s (row_at b n) ≤ (point_of b s n).start
 head-le-start b s n last =
     omega (arith, next-le-issue b s n, issue-le-start b s n, written-le-issue b s n, reads-le-start b s n, greatest-le-greatest (λ x. done_of s x) (λ x. last_done x s) (λ x. omega (arith, last x)) (row_at b n).reads)
 

@@ -113,7 +113,7 @@ module _ (b : Problem) (kind : Kind) where
   issue_gap : (s : List Point) (n : ℕ) → (a : ℕ) × ((point_of b s n).issue ≡ next s + a)
   issue_gap s n = ((point_of b s n).issue - next s, omega (arith, next-le-issue b s n))
 
-  at_issue-lt : (s : List Point) (n : ℕ) → same_kind (row_at b n).kind kind ≡ true → tally (busy_at kind (point_of b s n).issue) s < copies b kind
+  pub at_issue-lt : (s : List Point) (n : ℕ) → same_kind (row_at b n).kind kind ≡ true → tally (busy_at kind (point_of b s n).issue) s < copies b kind
   unfolding point
   at_issue-lt s n is =
       subst (λ (k : Kind). tally (busy_at k (point_of b s n).issue) s < copies b k) (same_kind-true (row_at b n).kind kind is) (issue-unit b s (row_at b n))
@@ -188,7 +188,7 @@ next-le-total b s (n ∷ rest) h =
 over-arith : (x c d : ℕ) → 1 ≤ c → x ≤ c * d → x + (c - 1) < (d + 1) * c
 over-arith x c d some h = omega arith
 
-over-le : (x c d : ℕ) → 1 ≤ c → x ≤ c * d → over x c ≤ d
+pub over-le : (x c d : ℕ) → 1 ≤ c → x ≤ c * d → over x c ≤ d
 over-le x c d some h =
     let q : (x + (c - 1)) / c < d + 1 = (div-lt_iff_lt-mul {k = c} {x = x + (c - 1)} {y = d + 1} some).1 (over-arith x c d some h) in
     omega arith

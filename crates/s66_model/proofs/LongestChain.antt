@@ -24,7 +24,7 @@ greatest-over f low (x ∷ xs) h =
     ]
 
 -- or if there is any
-greatest-reached : {X : Type 0} (f : X → ℕ) (x : X) (xs : List X) → Among x xs → (y : X) × Among y xs × (f y ≡ greatest f xs)
+pub greatest-reached : {X : Type 0} (f : X → ℕ) (x : X) (xs : List X) → Among x xs → (y : X) × Among y xs × (f y ≡ greatest f xs)
 greatest-reached f x xs h =
     elim (cases_lt 0 (greatest f xs)) [
       | inl lt ↦ greatest-over f 0 xs lt

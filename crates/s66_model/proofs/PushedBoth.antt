@@ -32,7 +32,7 @@ pub record IsLate (b : Problem) (c : Clamp) (s : List Point) (n : ℕ) : Type 0 
 
 -- WHAT COMES NEXT
 
-abbrev pad : ℕ → ℕ → ℕ
+abbrev pub pad : ℕ → ℕ → ℕ
 pad len phase = cond (eqb len 2 && eqb phase 3) 1 0
 
 fits-is : (q len : ℕ) → fits_at q len ≡ q + pad len (q % 4)
@@ -49,7 +49,7 @@ and_false false = refl
 pad_zero : (len : ℕ) → pad len 0 ≡ 0
 pad_zero len = rw (and_false (eqb len 2)) refl
 
-slot-is : (s : List Point) (len : ℕ) → slot_of s len ≡ next s + pad len (place_in_word s)
+pub slot-is : (s : List Point) (len : ℕ) → slot_of s len ≡ next s + pad len (place_in_word s)
 slot-is [] len = omega (arith, pad_zero len)
 slot-is (p ∷ s) len = omega (arith, fits-is (p.parcel + p.row.parcels) len)
 
@@ -107,7 +107,7 @@ memory_by memory.Store q s c start refs stored h late =
     omega (arith, wait-same (λ k. memory_pair k memory.Store) touches pair-store s, wait-same (λ k. memory_pair k memory.Store) touches pair-store q)
 
 -- results that come no later, each register waiting for its readers
-results-le : (k : Reg → Bool → Bool) (c : ℕ) (q s : List Point) (start early : ℕ) → ((r : Reg) → readers_wait q r ≤ max (readers_wait s r) c) → early ≤ start → (ws : List Write) → ((w : Write) → Among w ws → c ≤ start + w.latency) → greatest (λ (d : ResultAt). cond (k d.reg d.held) d.time 0) (map (result_at q early) ws) ≤ greatest (λ (d : ResultAt). cond (k d.reg d.held) d.time 0) (map (result_at s start) ws)
+pub results-le : (k : Reg → Bool → Bool) (c : ℕ) (q s : List Point) (start early : ℕ) → ((r : Reg) → readers_wait q r ≤ max (readers_wait s r) c) → early ≤ start → (ws : List Write) → ((w : Write) → Among w ws → c ≤ start + w.latency) → greatest (λ (d : ResultAt). cond (k d.reg d.held) d.time 0) (map (result_at q early) ws) ≤ greatest (λ (d : ResultAt). cond (k d.reg d.held) d.time 0) (map (result_at s start) ws)
 results-le k c q s start early read le [] h = omega arith
 results-le k c q s start early read le (w ∷ ws) h =
     let ih = results-le k c q s start early read le ws (λ v among. h v (inr among)) in
@@ -117,7 +117,7 @@ results-le k c q s start early read le (w ∷ ws) h =
       | inr is ↦ rw is (omega arith)
     ]
 
-free-le : (c : ℕ) (q s : List Point) (start early hold : ℕ) → ((r : Reg) → readers_wait q r ≤ max (readers_wait s r) c) → early ≤ start → (ws : List Write) → ((w : Write) → Among w ws → c ≤ start + w.latency) → free_after early hold (map (result_at q early) ws) ≤ free_after start hold (map (result_at s start) ws)
+pub free-le : (c : ℕ) (q s : List Point) (start early hold : ℕ) → ((r : Reg) → readers_wait q r ≤ max (readers_wait s r) c) → early ≤ start → (ws : List Write) → ((w : Write) → Among w ws → c ≤ start + w.latency) → free_after early hold (map (result_at q early) ws) ≤ free_after start hold (map (result_at s start) ws)
 free-le c q s start early hold read le [] h = omega arith
 free-le c q s start early hold read le (w ∷ ws) h =
     omega (arith, results-le (λ _ held. held) c q s start early read le (w ∷ ws) h)
