@@ -1,13 +1,11 @@
--- A node that a name leads to: it is over the tree's prefix, and one that stands has a leaf or is split.
-use Rattle.std.proofs.Common.{ℕ, ◌≡◌, ◌⊎◌, true, false, List, [], ◌∷◌, ◌++◌, refl, sym, ap, inl, inr, eqb, subst, append_assoc, ◌∙◌}
+-- A node that a name leads to: it is over the tree's prefix, and one that stands is closed or split. What closes a prefix may be a leaf or anything else.
+use Rattle.std.proofs.Common.{ℕ, ◌≡◌, ◌⊎◌, Bool, true, false, List, [], ◌∷◌, ◌++◌, refl, sym, ap, inl, inr, eqb, subst, append_assoc, ◌∙◌, Option, Some, None}
 use Rattle.std.proofs.lemmas.Bool.{cases_Bool, eqb-true}
 use Rattle.std.proofs.lemmas.List.{append-nil}
 use Rattle.s66_isa.specs.declared.instr.Instr.{Instr}
 use Rattle.s66_model.specs.LegalOrder.{ready, IsIncomplete}
-use Rattle.s66_model.specs.Leaves.{Leaf}
-use Rattle.s66_model.specs.Tree.{Siblings, NoMore, Unsplit, Split, Tree, Alone, Parted, SiblingsHold, TreeHolds}
+use Rattle.s66_model.specs.Tree.{Siblings, NoMore, Unsplit, Split, Tree, Alone, Parted, Vertex, AtTerminal, AtSplit, SiblingsHold, TreeHolds}
 use Rattle.s66_model.specs.NodeNames.{terminal_at, sibling_at, node_at, is_node}
-use Rattle.s66_model.specs.DominatedLeaves.{Ending, Bounding, Dominated, is_standing}
 
 -- a node's name goes on from the prefix
 pub node-begins : {M : Type 0} (prefix : List ℕ) (tree : Tree M) (name : List ℕ) → is_node (node_at prefix tree name) ≡ true → (path : List ℕ) × (name ≡ prefix ++ path)
@@ -22,22 +20,26 @@ node-begins (n ∷ prefix) tree (m ∷ name) h =
       | inr is ↦ (let no : false ≡ true = rw is at h in absurd cc)
     ]
 
--- what a node that is no dominated leaf has: a leaf that bounds, or children
-abbrev pub Standing : (List ℕ → Ending → Type 0) → List Instr → List ℕ → Type 0
-Standing Q block at =
-    ((leaf : Leaf) × Q at (Bounding leaf)) ⊎ ((numbers : List ℕ) × (siblings : Siblings Ending) × IsIncomplete block at × (numbers ≡ ready block at) × SiblingsHold block Q at numbers siblings)
+-- it is a node, and no dominated leaf
+abbrev pub stands : {M : Type 0} → (M → Bool) → Option (Vertex M) → Bool
+stands closes None = false
+stands closes (Some (AtSplit numbers)) = true
+stands closes (Some (AtTerminal terminal)) = closes terminal
 
-module _ (block : List Instr) (Q : List ℕ → Ending → Type 0) where
-  terminal-stands : (terminal : Ending) (at path : List ℕ) → Q at terminal → is_standing (terminal_at terminal path) ≡ true → Standing Q block (at ++ path)
-  terminal-stands (Bounding leaf) at [] holds h = inl (leaf, subst (λ x. Q x (Bounding leaf)) (sym (append-nil at)) holds)
-  terminal-stands (Bounding leaf) at (n ∷ path) holds h = absurd cc
-  terminal-stands (Dominated name) at [] holds h = absurd cc
-  terminal-stands (Dominated name) at (n ∷ path) holds h = absurd cc
+-- what a node that is no dominated leaf has: what closes it, or children
+abbrev pub Standing : {M : Type 0} → (M → Bool) → (List ℕ → M → Type 0) → List Instr → List ℕ → Type 0
+Standing {M} closes Q block at =
+    ((terminal : M) × (closes terminal ≡ true) × Q at terminal) ⊎ ((numbers : List ℕ) × (siblings : Siblings M) × IsIncomplete block at × (numbers ≡ ready block at) × SiblingsHold block Q at numbers siblings)
 
-  longer : (at path : List ℕ) (n : ℕ) → Standing Q block ((at ++ n ∷ []) ++ path) → Standing Q block (at ++ n ∷ path)
-  longer at path n h = subst (λ x. Standing Q block x) (append_assoc at (n ∷ []) path) h
+module _ {M : Type 0} (closes : M → Bool) (block : List Instr) (Q : List ℕ → M → Type 0) where
+  terminal-stands : (terminal : M) (at path : List ℕ) → Q at terminal → stands closes (terminal_at terminal path) ≡ true → Standing closes Q block (at ++ path)
+  terminal-stands terminal at [] holds h = inl (terminal, h, subst (λ x. Q x terminal) (sym (append-nil at)) holds)
+  terminal-stands terminal at (n ∷ path) holds h = absurd cc
 
-  sibling-stands : (siblings : Siblings Ending) (at ns : List ℕ) (n : ℕ) (path : List ℕ) → SiblingsHold block Q at ns siblings → is_standing (sibling_at ns siblings (n ∷ path)) ≡ true → Standing Q block (at ++ n ∷ path)
+  longer : (at path : List ℕ) (n : ℕ) → Standing closes Q block ((at ++ n ∷ []) ++ path) → Standing closes Q block (at ++ n ∷ path)
+  longer at path n h = subst (λ x. Standing closes Q block x) (append_assoc at (n ∷ []) path) h
+
+  sibling-stands : (siblings : Siblings M) (at ns : List ℕ) (n : ℕ) (path : List ℕ) → SiblingsHold block Q at ns siblings → stands closes (sibling_at ns siblings (n ∷ path)) ≡ true → Standing closes Q block (at ++ n ∷ path)
   sibling-stands NoMore at [] n path holds h = absurd cc
   sibling-stands NoMore at (m ∷ ns) n path holds h = absurd holds
   sibling-stands (Unsplit terminal siblings) at [] n path holds h = absurd holds
@@ -64,7 +66,7 @@ module _ (block : List Instr) (Q : List ℕ → Ending → Type 0) where
         | inr is ↦ sibling-stands siblings at ns n (k ∷ path) holds.3 (rw is at h)
       ]
 
-  stands-after : (prefix front : List ℕ) (tree : Tree Ending) (name : List ℕ) → TreeHolds block Q (front ++ prefix) tree → is_standing (node_at prefix tree name) ≡ true → Standing Q block (front ++ name)
+  stands-after : (prefix front : List ℕ) (tree : Tree M) (name : List ℕ) → TreeHolds block Q (front ++ prefix) tree → stands closes (node_at prefix tree name) ≡ true → Standing closes Q block (front ++ name)
   stands-after [] front (Alone terminal) name holds h = terminal-stands terminal front name (rw (append-nil front) at holds) h
   stands-after [] front (Parted numbers siblings) [] holds h = inr (numbers, siblings, holds.0, holds.1, holds.2)
   stands-after [] front (Parted numbers siblings) (n ∷ path) holds h =
@@ -75,9 +77,9 @@ module _ (block : List Instr) (Q : List ℕ → Ending → Type 0) where
         | inl is ↦
             (let holds2 : TreeHolds block Q ((front ++ n ∷ []) ++ prefix) tree = subst (λ x. TreeHolds block Q x tree) (sym (append_assoc front (n ∷ []) prefix)) holds in
             let below = longer front name n (stands-after prefix (front ++ n ∷ []) tree name holds2 (rw is at h)) in
-            subst (λ x. Standing Q block (front ++ x ∷ name)) (eqb-true n m is) below)
+            subst (λ x. Standing closes Q block (front ++ x ∷ name)) (eqb-true n m is) below)
         | inr is ↦ (let no : false ≡ true = rw is at h in absurd cc)
       ]
 
-  pub node-stands : (prefix : List ℕ) (tree : Tree Ending) (name : List ℕ) → TreeHolds block Q prefix tree → is_standing (node_at prefix tree name) ≡ true → Standing Q block name
+  pub node-stands : (prefix : List ℕ) (tree : Tree M) (name : List ℕ) → TreeHolds block Q prefix tree → stands closes (node_at prefix tree name) ≡ true → Standing closes Q block name
   node-stands prefix tree name holds h = stands-after prefix [] tree name holds h
