@@ -1,0 +1,70 @@
+-- Work of one kind between two moments takes its sum over the copies, rounded up.
+use Rattle.std.proofs.Common.{ℕ, ◌+◌, ◌-◌, ◌*◌, ◌≤◌, ◌<◌, ◌≡◌, true, cond, List, [], ◌∷◌, length, map, refl, arith, inl, inr, eqb, subst}
+use Rattle.s66_isa.specs.declared.instr.Kind.{Kind}
+use Rattle.s66_isa.specs.Lists.{weigh, tally, has, Among}
+use Rattle.s66_isa.specs.Table.{same_kind}
+use Rattle.s66_model.specs.Timing.{Problem, Point, copies, point_of, points_of, total_of}
+use Rattle.s66_model.specs.LegalOrder.{IsLegal}
+use Rattle.s66_model.specs.Leaves.{over}
+use Rattle.s66_moments.specs.declared.moment.Stage.TheVariants.{Issue, Free}
+use Rattle.s66_moments.specs.declared.moment.Moment.{Moment}
+use Rattle.s66_moments.specs.declared.moment.Moment.TheVariants.{At}
+use Rattle.s66_moments.specs.Moments.{time_of}
+use Rattle.s66_moments.specs.Facts.{Fact, Arc, AreSo, Follows, Work, AreOnce, IsWithin}
+use Rattle.s66_model.proofs.Issue.{some_copies}
+use Rattle.s66_model.proofs.LoadBound.{over-le}
+use Rattle.s66_model.proofs.PointTimes.{point_of-row, point_of-number}
+use Rattle.s66_moments.proofs.Placed.{placed, point-among, time_at-placed}
+use Rattle.s66_moments.proofs.UnitWindows.{works_at, works-run, work_between, between-le, either, has-one, some-le}
+
+-- in one order, between the times a and z
+module _ (b : Problem) (kind : Kind) (order : List ℕ) (legal : IsLegal b.block order) (a z : ℕ) where
+  abbrev done_by : Point → ℕ
+  done_by p = work_between kind a z p
+
+  -- the unit of the number does this much there
+  abbrev DoesThere : Work → Type 0
+  DoesThere x = (p : Point) × Among p (points_of b order) × (p.number ≡ x.number) × (x.amount ≤ done_by p)
+
+  works-le : (works : List Work) → AreOnce (map (λ (x : Work). x.number) works) → ((x : Work) → Among x works → DoesThere x) → weigh (λ (x : Work). x.amount) works ≤ weigh (λ (p : Point). cond (has p.number (map (λ (x : Work). x.number) works)) (done_by p) 0) (points_of b order)
+  works-le [] once there = omega arith
+  works-le (x ∷ works) once there =
+      let (p, among, is, much) = there x (inl refl) in
+      let here : done_by p ≤ weigh (λ (q : Point). cond (eqb q.number x.number) (done_by q) 0) (points_of b order) = subst (λ n. done_by p ≤ weigh (λ (q : Point). cond (eqb q.number n) (done_by q) 0) (points_of b order)) is (has-one done_by p (points_of b order) among) in
+      omega (arith, much, here, works-le works once.1 (λ y in_works. there y (inr in_works)), either done_by x.number (map (λ (y : Work). y.number) works) (points_of b order) once.0)
+
+  never-more : (t : ℕ) → tally (works_at kind t) (points_of b order) ≤ copies b kind
+  never-more t = works-run b kind [] order t (omega arith)
+
+  pub works-fit : (works : List Work) → AreOnce (map (λ (x : Work). x.number) works) → ((x : Work) → Among x works → DoesThere x) → a ≤ z → over (weigh (λ (x : Work). x.amount) works) (copies b kind) + a ≤ z
+  works-fit works once there le =
+      let e : a + (z - a) ≡ z = omega arith in
+      let most : weigh done_by (points_of b order) ≤ copies b kind * (z - a) = subst (λ y. weigh (work_between kind a y) (points_of b order) ≤ copies b kind * (z - a)) e (between-le kind (points_of b order) (copies b kind) never-more a (z - a)) in
+      omega (arith, over-le (weigh (λ (x : Work). x.amount) works) (copies b kind) (z - a) (some_copies b.profile kind) (omega (arith, works-le works once there, some-le done_by (map (λ (x : Work). x.number) works) (points_of b order), most)))
+
+-- what is between in its own words is between by the times of its point
+does-there : (b : Problem) (low : ℕ) (facts : List Fact) (kind : Kind) (e : Moment) (h : ℕ) (f : Moment) (q v : ℕ) (x : Work) → IsWithin b low facts kind e h f q v x →
+    (order : List ℕ) (legal : IsLegal b.block order) → total_of b order < low → AreSo b order facts →
+    (DoesThere b kind order legal (time_of b order e + h) (time_of b order f + v - q) x) × (time_of b order e + h ≤ time_of b order f + v - q) × (q ≤ time_of b order f + v)
+does-there b low facts kind e h f q v x within order legal less so =
+    let (front, rest, is) = placed b order legal x.number within.is_number.0 within.is_number.1 in
+    let p : Point = point_of b (points_of b front) x.number in
+    let issue : time_of b order (At x.number Issue) ≡ p.issue = time_at-placed b order legal front rest x.number (λ (r : Point). r.issue) is in
+    let free : time_of b order (At x.number Free) ≡ p.free = time_at-placed b order legal front rest x.number (λ (r : Point). r.free) is in
+    let i1 = within.issued order legal less so in
+    let i2 = within.begun order legal less so in
+    let i3 = within.held order legal less so in
+    let i4 = within.ended order legal less so in
+    let same : same_kind p.row.kind kind ≡ true = rw (point_of-row b (points_of b front) x.number) within.is_kind in
+    let much : x.amount ≤ work_between kind (time_of b order e + h) (time_of b order f + v - q) p = rw same (omega (arith, i1, i2, i3, i4, issue, free)) in
+    ((p, point-among b order legal front rest x.number is, point_of-number b (points_of b front) x.number, much), omega (arith, i2, i4), omega (arith, i4))
+
+pub load-arc : (b : Problem) (low : ℕ) (facts : List Fact) (kind : Kind) (e f : Moment) (h q v : ℕ) (works : List Work) → 0 < length works → AreOnce (map (λ (x : Work). x.number) works) → ((x : Work) → Among x works → IsWithin b low facts kind e h f q v x) →
+    Follows b low facts (Arc e (h + over (weigh (λ (x : Work). x.amount) works) (copies b kind) + q) f v)
+load-arc b low facts kind e f h q v [] some once within order legal less so = absurd (omega (arith, some))
+load-arc b low facts kind e f h q v (y ∷ works) some once within order legal less so =
+    let a : ℕ = time_of b order e + h in
+    let z : ℕ = time_of b order f + v - q in
+    let (there, le, late) = does-there b low facts kind e h f q v y (within y (inl refl)) order legal less so in
+    let fit = works-fit b kind order legal a z (y ∷ works) once (λ x among. (does-there b low facts kind e h f q v x (within x among) order legal less so).0) le in
+    omega (arith, fit, late)

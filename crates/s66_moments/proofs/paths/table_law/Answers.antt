@@ -1,0 +1,7 @@
+use Rattle.std.proofs.Common.{arith}
+use Rattle.s66_moments.specs.Paths.{IsStep}
+use Rattle.s66_moments.proofs.Steps.{table-along}
+use Rattle.s66_moments.proofs.paths.table_law.Goals as goal
+
+pub returns : goal.returns
+returns c = λ b known reached times kept e f w here (hops, path, le). (let both = table-along (IsStep b known) reached times kept e f hops here path in (both.0, omega (arith, both.1, le)))

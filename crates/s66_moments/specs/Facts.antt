@@ -1,0 +1,72 @@
+-- To be believed: facts of an order, and which facts all legal orders have that take less than a time and have some facts already.
+use Rattle.std.specs.Prelude.{ℕ, ◌+◌, ◌≡◌, ◌≤◌, ◌<◌, true, false, List, [], ◌∷◌, ◌++◌, length}
+use Rattle.s66_isa.specs.declared.instr.Kind.{Kind}
+use Rattle.s66_isa.specs.Lists.{weigh, has}
+use Rattle.s66_isa.specs.Table.{same_kind}
+use Rattle.s66_model.specs.Timing.{Problem, row_at, copies, total_of}
+use Rattle.s66_model.specs.LegalOrder.{IsLegal}
+use Rattle.s66_model.specs.Leaves.{over}
+use Rattle.s66_moments.specs.declared.moment.Stage.TheVariants.{Issue, Free}
+use Rattle.s66_moments.specs.declared.moment.Moment.{Moment}
+use Rattle.s66_moments.specs.declared.moment.Moment.TheVariants.{At}
+use Rattle.s66_moments.specs.Moments.{time_of}
+
+pub data Fact : Type 0 where
+  -- the second moment comes so much later than the first at least, less the last number
+  Arc : Moment → ℕ → Moment → ℕ → Fact
+  -- the first number stands before the second
+  Before : ℕ → ℕ → Fact
+  -- the order begins with this prefix
+  Begins : List ℕ → Fact
+
+abbrev pub IsSo : Problem → List ℕ → Fact → Type 0
+IsSo b order (Arc e w f v) = time_of b order e + w ≤ time_of b order f + v
+IsSo b order (Before m n) = (front rest : List ℕ) × (order ≡ front ++ n ∷ rest) × (has m front ≡ true)
+IsSo b order (Begins prefix) = (rest : List ℕ) × (order ≡ prefix ++ rest)
+
+abbrev pub AreSo : Problem → List ℕ → List Fact → Type 0
+AreSo b order [] = Unit {0}
+AreSo b order (fact ∷ facts) = IsSo b order fact × AreSo b order facts
+
+-- every legal order that takes less than low and has the known facts has this one
+abbrev pub Follows : Problem → ℕ → List Fact → Fact → Type 0
+Follows b low known fact = (order : List ℕ) → IsLegal b.block order → total_of b order < low → AreSo b order known → IsSo b order fact
+
+-- no legal order that takes less than low has the known facts
+abbrev pub NoOrder : Problem → ℕ → List Fact → Type 0
+NoOrder b low known = (order : List ℕ) → IsLegal b.block order → total_of b order < low → AreSo b order known → ⊥
+
+abbrev pub IsNumber : Problem → ℕ → Type 0
+IsNumber b n = (1 ≤ n) × (n ≤ length b.block)
+
+-- both need the only unit of their kind
+abbrev pub IsOnlyUnit : Problem → ℕ → ℕ → Type 0
+IsOnlyUnit b x y = (same_kind (row_at b x).kind (row_at b y).kind ≡ true) × (copies b (row_at b y).kind ≡ 1)
+
+-- THE LOAD OF UNITS BETWEEN TWO MOMENTS
+
+-- the unit of an instruction works for so long, from a moment and so much more on
+pub record Work : Type 0 where
+  pub number : ℕ
+  pub amount : ℕ
+  pub from : Moment
+  pub more : ℕ
+
+-- all works, over the copies of the kind, rounded up
+abbrev pub load_time : Problem → Kind → List Work → ℕ
+load_time b kind works = over (weigh (λ (x : Work). x.amount) works) (copies b kind)
+
+-- none of the numbers is there twice
+abbrev pub AreOnce : List ℕ → Type 0
+AreOnce [] = Unit {0}
+AreOnce (n ∷ ns) = (has n ns ≡ false) × AreOnce ns
+
+-- A unit of the kind does the work between h after e and q before f, if v is added to f: no sooner than its instruction issues, and
+-- until it is free at the latest.
+pub record IsWithin (b : Problem) (low : ℕ) (known : List Fact) (kind : Kind) (e : Moment) (h : ℕ) (f : Moment) (q v : ℕ) (x : Work) : Type 0 where
+  pub is_number : IsNumber b x.number
+  pub is_kind : same_kind (row_at b x.number).kind kind ≡ true
+  pub issued : Follows b low known (Arc (At x.number Issue) 0 x.from x.more)
+  pub begun : Follows b low known (Arc e h x.from x.more)
+  pub held : Follows b low known (Arc x.from (x.more + x.amount) (At x.number Free) 0)
+  pub ended : Follows b low known (Arc x.from (x.more + x.amount + q) f v)

@@ -1,0 +1,71 @@
+//! Facts that all legal orders have that take less than a time, and how one follows from others.
+
+ghost use Rattle.std.specs.Prelude.{ℕ, List, ◌∷◌, ◌+◌, ◌≡◌, ◌≢◌, ◌≤◌, ◌<◌, true, false, map, length};
+ghost use Rattle.s66_isa.specs.declared.instr.Kind.{Kind};
+ghost use Rattle.s66_isa.specs.Lists.{Among, has};
+ghost use Rattle.s66_model.specs.Timing.{Problem, row_at, copies, total_of};
+ghost use Rattle.s66_model.specs.LegalOrder.{is_remaining};
+ghost use Rattle.s66_moments.specs.declared.moment.Stage.{Stage};
+ghost use Rattle.s66_moments.specs.declared.moment.Stage.TheVariants.{Issue, Free};
+ghost use Rattle.s66_moments.specs.declared.moment.Moment.{Moment};
+ghost use Rattle.s66_moments.specs.declared.moment.Moment.TheVariants.{Origin, At, End};
+ghost use Rattle.s66_moments.specs.Moments.{time_of, soonest};
+ghost use Rattle.s66_moments.specs.Facts.{Fact, Arc, Before, Begins, Follows, NoOrder, IsNumber, IsOnlyUnit, Work, AreOnce, IsWithin, load_time};
+ghost use Rattle.s66_moments.specs.Paths.{Precedes, IsPlacedFirst};
+
+/// What is known follows, and so does all that follows from it. Arcs compose, and may be shortened; what follows of a time follows of
+/// each that is less, and if the end comes at the time or later, no order takes less.
+pub fn fact_law()
+    ensures known { (b : Problem) (low : ℕ) (known : List Fact) (fact : Fact) → Among fact known → Follows b low known fact }
+    ensures cut { (b : Problem) (low : ℕ) (known : List Fact) (fact other : Fact) →
+        Follows b low known fact → Follows b low (fact ∷ known) other → Follows b low known other }
+    ensures composed { (b : Problem) (low : ℕ) (known : List Fact) (e f g : Moment) (w v x y : ℕ) →
+        Follows b low known (Arc e w f v) → Follows b low known (Arc f x g y) → Follows b low known (Arc e (w + x) g (v + y)) }
+    ensures shortened { (b : Problem) (low : ℕ) (known : List Fact) (e f : Moment) (w v x y : ℕ) →
+        Follows b low known (Arc e w f v) → x + v ≤ w + y → Follows b low known (Arc e x f y) }
+    ensures lower { (b : Problem) (low other : ℕ) (known : List Fact) (fact : Fact) →
+        other ≤ low → Follows b low known fact → Follows b other known fact }
+    ensures too_late { (b : Problem) (low : ℕ) (known : List Fact) → Follows b low known (Arc Origin low End 0) → NoOrder b low known }
+{}
+
+/// Which of two numbers stands first: by dependence, by a known pair or prefix, by others between, and because no order takes less
+/// than low in which the other does. A number stands before itself in no order.
+pub fn pair_law()
+    ensures precedes { (b : Problem) (low : ℕ) (known : List Fact) (m n : ℕ) → Precedes b known m n → Follows b low known (Before m n) }
+    ensures transitive { (b : Problem) (low : ℕ) (known : List Fact) (m k n : ℕ) →
+        Follows b low known (Before m k) → Follows b low known (Before k n) → Follows b low known (Before m n) }
+    ensures ring { (b : Problem) (low : ℕ) (known : List Fact) (n : ℕ) → Follows b low known (Before n n) → NoOrder b low known }
+    ensures forced { (b : Problem) (low : ℕ) (known : List Fact) (x y : ℕ) → x ≢ y → IsNumber b x → IsNumber b y →
+        NoOrder b low (Before x y ∷ known) → Follows b low known (Before y x) }
+    ensures forced_by_parcels { (b : Problem) (low : ℕ) (known : List Fact) (x y h t : ℕ) → x ≢ y → IsNumber b x → IsNumber b y →
+        Follows b low known (Arc Origin h (At x Issue) 0) → Follows b low known (Arc (At y Issue) t End 0) →
+        low ≤ h + (row_at b x).parcels + t → Follows b low known (Before y x) }
+    ensures forced_by_unit { (b : Problem) (low : ℕ) (known : List Fact) (x y h t : ℕ) → x ≢ y → IsNumber b x → IsNumber b y →
+        IsOnlyUnit b x y → Follows b low known (Arc Origin h (At x Free) 0) → Follows b low known (Arc (At y Issue) t End 0) →
+        low ≤ h + t → Follows b low known (Before y x) }
+{}
+
+/// What a prefix decides: when each moment of what is placed is, that all else comes no sooner than if it came next and stands
+/// later, and that the total is no less.
+pub fn prefix_law()
+    ensures placed { (b : Problem) (low : ℕ) (known : List Fact) (prefix : List ℕ) (n : ℕ) (stage : Stage) →
+        Follows b low known (Begins prefix) → has n prefix ≡ true →
+        Follows b low known (Arc Origin (time_of b prefix (At n stage)) (At n stage) 0)
+        × Follows b low known (Arc (At n stage) 0 Origin (time_of b prefix (At n stage))) }
+    ensures soonest { (b : Problem) (low : ℕ) (known : List Fact) (prefix : List ℕ) (n : ℕ) (stage : Stage) →
+        Follows b low known (Begins prefix) → is_remaining b.block prefix n ≡ true →
+        Follows b low known (Arc Origin (soonest b prefix n stage) (At n stage) 0) }
+    ensures later { (b : Problem) (low : ℕ) (known : List Fact) (prefix : List ℕ) (m n : ℕ) →
+        Follows b low known (Begins prefix) → IsPlacedFirst prefix m n → IsNumber b n → Follows b low known (Before m n) }
+    ensures total { (b : Problem) (low : ℕ) (known : List Fact) (prefix : List ℕ) →
+        Follows b low known (Begins prefix) → Follows b low known (Arc Origin (total_of b prefix) End 0) }
+{}
+
+/// If units of one kind do some works between two moments, the second comes later by the sum of the works over the copies of the
+/// kind, rounded up, for any number of copies. Each instruction counts once, and there is one at least.
+pub fn load_arc_law()
+    ensures { (b : Problem) (low : ℕ) (known : List Fact) (kind : Kind) (e f : Moment) (h q v : ℕ) (works : List Work) →
+        0 < length works → AreOnce (map (λ (x : Work). x.number) works) →
+        ((x : Work) → Among x works → IsWithin b low known kind e h f q v x) →
+        Follows b low known (Arc e (h + load_time b kind works + q) f v) }
+{}
