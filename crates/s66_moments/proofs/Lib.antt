@@ -6,3 +6,7 @@ pub mod BaseArcs
 pub mod Soonest
 pub mod TableArcs
 pub mod Steps
+pub mod Tails
+pub mod PathWords
+pub mod Preceders
+pub mod CoveredChains

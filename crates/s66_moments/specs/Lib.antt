@@ -1,3 +1,4 @@
 pub mod Moments
 pub mod Facts
 pub mod Paths
+pub mod Networks

@@ -1,0 +1,130 @@
+-- What precedes a number by dependence: what it depends on, and what precedes one of these.
+use Rattle.std.proofs.Common.{ℕ, zero, suc, ◌+◌, ◌-◌, ◌≤◌, ◌<◌, ◌≡◌, Bool, true, ◌&&◌, List, [], ◌∷◌, ◌++◌, length, refl, arith, inl, inr, ap, sym, ◌∙◌, ◌⊎◌}
+use Rattle.std.proofs.lemmas.Bool.{or_cases, or_left, or_right, and_parts, and_from}
+use Rattle.s66_isa.specs.declared.instr.Instr.{Instr}
+use Rattle.s66_isa.specs.Lists.{some_of, Among}
+use Rattle.s66_isa.specs.Table.{numbers}
+use Rattle.s66_isa.proofs.Lists.{rising-among}
+use Rattle.s66_model.specs.Timing.{Problem}
+use Rattle.s66_model.specs.Dependence.{depends}
+use Rattle.s66_moments.specs.Facts.{Fact, IsNumber}
+use Rattle.s66_moments.specs.Paths.{PrecedesBy, Precedes}
+use Rattle.s66_moments.specs.Networks.{IsPlaced, precedes_over, precedes}
+use Rattle.s66_model.proofs.LegalOrders.{depends-lt, depends-from}
+
+some-among : (test : ℕ → Bool) (ns : List ℕ) → some_of test ns ≡ true → (k : ℕ) × Among k ns × (test k ≡ true)
+some-among test [] h = absurd cc
+some-among test (k ∷ ns) h =
+    elim (or_cases (test k) (some_of test ns) h) [
+      | inl here ↦ (k, inl refl, here)
+      | inr past ↦ (let (j, among, is) = some-among test ns past in (j, inr among, is))
+    ]
+
+among-some : (test : ℕ → Bool) (k : ℕ) (ns : List ℕ) → Among k ns → test k ≡ true → some_of test ns ≡ true
+among-some test k [] h is = absurd h
+among-some test k (n ∷ ns) h is =
+    elim h [
+      | inl here ↦ or_left (test n) (some_of test ns) (ap test (sym here) ∙ is)
+      | inr past ↦ or_right (test n) (some_of test ns) (among-some test k ns past is)
+    ]
+
+module _ (block : List Instr) where
+  abbrev through : ℕ → ℕ → ℕ → ℕ → Bool
+  through more m n k = precedes_over block more m k && depends block k n
+
+  near : (more m n : ℕ) → depends block m n ≡ true → precedes_over block more m n ≡ true
+  near zero m n h = h
+  near (suc more) m n h = or_left (depends block m n) (some_of (through more m n) (numbers block)) h
+
+  far : (more m k n : ℕ) → Among k (numbers block) → precedes_over block more m k ≡ true → depends block k n ≡ true → precedes_over block (suc more) m n ≡ true
+  far more m k n among first then =
+      or_right (depends block m n) (some_of (through more m n) (numbers block)) (among-some (through more m n) k (numbers block) among (and_from (precedes_over block more m k) (depends block k n) first then))
+
+  -- the last of the numbers between
+  last-between : (more m n : ℕ) → precedes_over block (suc more) m n ≡ true → (depends block m n ≡ true) ⊎ ((k : ℕ) × Among k (numbers block) × (precedes_over block more m k ≡ true) × (depends block k n ≡ true))
+  last-between more m n h =
+      elim (or_cases (depends block m n) (some_of (through more m n) (numbers block)) h) [
+        | inl here ↦ inl here
+        | inr past ↦
+            let (k, among, both) = some-among (through more m n) (numbers block) past in
+            let (first, then) = and_parts (precedes_over block more m k) (depends block k n) both in
+            inr (k, among, first, then)
+      ]
+
+  one-more : (more m n : ℕ) → precedes_over block more m n ≡ true → precedes_over block (suc more) m n ≡ true
+  one-more zero m n h = near 1 m n h
+  one-more (suc more) m n h =
+      elim (last-between more m n h) [
+        | inl here ↦ near (suc (suc more)) m n here
+        | inr past ↦ (let (k, among, first, then) = past in far (suc more) m k n among (one-more more m k first) then)
+      ]
+
+  more-between : (d more m n : ℕ) → precedes_over block more m n ≡ true → precedes_over block (d + more) m n ≡ true
+  more-between zero more m n h = let e : zero + more ≡ more = omega arith in rw e h
+  more-between (suc d) more m n h = let e : suc d + more ≡ suc (d + more) = omega arith in rw e (one-more (d + more) m n (more-between d more m n h))
+
+  up : (more most m n : ℕ) → more ≤ most → precedes_over block more m n ≡ true → precedes_over block most m n ≡ true
+  up more most m n le h = let e : most ≡ (most - more) + more = omega (arith, le) in rw e (more-between (most - more) more m n h)
+
+  -- no more are between than there are numbers below n
+  few-between : (more m n : ℕ) → precedes_over block more m n ≡ true → precedes_over block n m n ≡ true
+  few-between zero m n h = near n m n h
+  few-between (suc more) m n h =
+      elim (last-between more m n h) [
+        | inl here ↦ near n m n here
+        | inr past ↦ (let (k, among, first, then) = past in below k n among (few-between more m k first) then)
+      ]
+    where
+      below : (k n : ℕ) → Among k (numbers block) → precedes_over block k m k ≡ true → depends block k n ≡ true → precedes_over block n m n ≡ true
+      below k zero among first then = absurd (omega (arith, depends-lt block k zero then))
+      below k (suc n) among first then = far n m k (suc n) among (up k n m k (omega (arith, depends-lt block k (suc n) then)) first) then
+
+  of-block : (k n : ℕ) → n ≤ length block → depends block k n ≡ true → Among k (numbers block)
+  of-block k n high then = rising-among (length block) 1 k (depends-from block k n then) (omega (arith, high, depends-lt block k n then))
+
+  pub precedes-near : (m n : ℕ) → depends block m n ≡ true → precedes block m n ≡ true
+  precedes-near m n h = near (length block) m n h
+
+  pub precedes-far : (m k n : ℕ) → n ≤ length block → precedes block m k ≡ true → depends block k n ≡ true → precedes block m n ≡ true
+  precedes-far m k n high first then =
+      up n (length block) m n high (few-between (suc (length block)) m n (far (length block) m k n (of-block k n high then) first then))
+
+  pub precedes-cases : (m n : ℕ) → 1 ≤ n → n ≤ length block → precedes block m n ≡ true → (depends block m n ≡ true) ⊎ ((k : ℕ) × (1 ≤ k) × (k < n) × (precedes block m k ≡ true) × (depends block k n ≡ true))
+  precedes-cases m n low high h =
+      elim (last-between (length block) m n (one-more (length block) m n h)) [
+        | inl here ↦ inl here
+        | inr past ↦ (let (k, among, first, then) = past in inr (k, depends-from block k n then, depends-lt block k n then, first, then))
+      ]
+
+  rises : (more m n : ℕ) → precedes_over block more m n ≡ true → m < n
+  rises zero m n h = depends-lt block m n h
+  rises (suc more) m n h =
+      elim (last-between more m n h) [
+        | inl here ↦ depends-lt block m n here
+        | inr past ↦ (let (k, among, first, then) = past in omega (arith, rises more m k first, depends-lt block k n then))
+      ]
+
+-- the numbers are places by which it rises
+pub precedes-placed : (b : Problem) → IsPlaced b (precedes b.block) (λ n. n)
+precedes-placed b = (λ n is. is, λ m n is_m is_n h. rises b.block (length b.block) m n h)
+
+-- what precedes by dependence precedes by whatever is known
+module _ (b : Problem) (known : List Fact) where
+  by-joined : (m : ℕ) (between : List ℕ) (k n : ℕ) → PrecedesBy b known m between k → depends b.block k n ≡ true → IsNumber b n → PrecedesBy b known m (between ++ k ∷ []) n
+  by-joined m [] k n by then is = (by.0, by.1, (inl then, is))
+  by-joined m (j ∷ js) k n by then is = (by.0, by.1, by-joined j js k n by.2 then is)
+
+  over-known : (more m n : ℕ) → IsNumber b n → precedes_over b.block more m n ≡ true → Precedes b known m n
+  over-known zero m n is h = ([], (inl h, is))
+  over-known (suc more) m n is h =
+      elim (last-between b.block more m n h) [
+        | inl here ↦ ([], (inl here, is))
+        | inr past ↦
+            let (k, among, first, then) = past in
+            let is_k : IsNumber b k = (depends-from b.block k n then, omega (arith, is.1, depends-lt b.block k n then)) in
+            let (between, by) = over-known more m k is_k first in
+            (between ++ k ∷ [], by-joined m between k n by then is)
+      ]
+
+  pub precedes-known : (m n : ℕ) → IsNumber b m → IsNumber b n → precedes b.block m n ≡ true → Precedes b known m n
+  precedes-known m n is_m is_n h = over-known (length b.block) m n is_n h

@@ -1,0 +1,129 @@
+-- Used by contracts of what computes floors and checks paths: networks of arcs, and the greatest path through one, by what follows each moment, which is known before anything is placed.
+use Rattle.std.specs.Prelude.{ℕ, zero, suc, ◌+◌, ◌*◌, ◌≡◌, ◌≤◌, ◌<◌, Bool, true, if◌then◌else◌, ◌||◌, ◌&&◌, ◌==◌, max, List, [], ◌∷◌, ◌++◌, map, length, nat_lt, Option, Some, None, unwrap_or, is_some}
+use Rattle.s66_isa.specs.declared.instr.Instr.{Instr}
+use Rattle.s66_isa.specs.declared.instr.Kind.{Kind}
+use Rattle.s66_isa.specs.Lists.{greatest, some_of, tally, least_from, Among}
+use Rattle.s66_isa.specs.Table.{Row, Write, numbers}
+use Rattle.s66_model.specs.Timing.{Problem, Point, row_at, copies, points_of, total, slot_of, busy_at, done_of, memory_wait, readers_wait}
+use Rattle.s66_model.specs.Dependence.{depends}
+use Rattle.s66_model.specs.LegalOrder.{is_remaining, remaining}
+use Rattle.s66_moments.specs.declared.moment.Stage.{Stage}
+use Rattle.s66_moments.specs.declared.moment.Stage.TheVariants.{Issue, Start, Done, Free}
+use Rattle.s66_moments.specs.declared.moment.Moment.{Moment}
+use Rattle.s66_moments.specs.declared.moment.Moment.TheVariants.{At, End}
+use Rattle.s66_moments.specs.Moments.{is_moment, has_stage, soonest, own_arc, arc}
+use Rattle.s66_moments.specs.Facts.{Fact, Arc, Follows, IsNumber}
+use Rattle.s66_moments.specs.Paths.{Precedes, Hop, IsPath}
+
+-- NETWORKS: how much later each moment comes at least than each other, None where nothing is said
+
+abbrev pub Network : Type 0
+Network = Moment → Moment → Option ℕ
+
+-- the arcs of the table, where a test tells which number stands before which
+abbrev pub is_in_order : (ℕ → ℕ → Bool) → Moment → Moment → Bool
+is_in_order before (At m e) (At n f) = m == n || before m n
+is_in_order before e f = true
+
+abbrev pub network : Problem → (ℕ → ℕ → Bool) → Network
+network b before e f = if is_moment b e && is_moment b f && is_in_order before e f then arc b e f else None
+
+-- n depends on m, or on what m precedes, over at most this many between the two
+abbrev pub precedes_over : List Instr → ℕ → ℕ → ℕ → Bool
+precedes_over block zero m n = depends block m n
+precedes_over block (suc more) m n = depends block m n || some_of (λ k. precedes_over block more m k && depends block k n) (numbers block)
+
+-- by dependence alone
+abbrev pub precedes : List Instr → ℕ → ℕ → Bool
+precedes block m n = precedes_over block (length block) m n
+
+-- so it is known
+abbrev pub IsKnown : Problem → List Fact → (ℕ → ℕ → Bool) → Type 0
+IsKnown b known before = (m n : ℕ) → IsNumber b m → IsNumber b n → before m n ≡ true → Precedes b known m n
+
+-- each arc follows from what is known
+abbrev pub AreArcs : Problem → ℕ → List Fact → Network → Type 0
+AreArcs b low known arcs = (e f : Moment) (w : ℕ) → arcs e f ≡ Some w → Follows b low known (Arc e w f 0)
+
+abbrev pub moments_of : Problem → ℕ → List Moment
+moments_of b n = At n Issue ∷ At n Start ∷ At n Free ∷ map (λ (w : Write). At n (Done w.reg)) (row_at b n).writes
+
+abbrev pub moments_among : Problem → List ℕ → List Moment
+moments_among b [] = []
+moments_among b (n ∷ ns) = moments_of b n ++ moments_among b ns
+
+-- where an arc may lead
+abbrev pub targets : Problem → List Moment
+targets b = End ∷ moments_among b (numbers b.block)
+
+-- no path has more arcs than this: four stages of each instruction, and the end
+abbrev pub most_arcs : Problem → ℕ
+most_arcs b = 4 * length b.block + 1
+
+-- each arc leads up: so no path is a ring
+abbrev pub IsRising : Problem → Network → Type 0
+IsRising b arcs =
+    (rank : Moment → ℕ) × ((e f : Moment) → is_some (arcs e f) ≡ true → Among f (targets b) × (rank e < rank f) × (rank f ≤ most_arcs b))
+
+-- places of the numbers by which what stands before stands lower: so no number stands before itself
+abbrev pub IsPlaced : Problem → (ℕ → ℕ → Bool) → (ℕ → ℕ) → Type 0
+IsPlaced b before place =
+    ((n : ℕ) → IsNumber b n → IsNumber b (place n)) × ((m n : ℕ) → IsNumber b m → IsNumber b n → before m n ≡ true → place m < place n)
+
+-- no arc of an instruction is missing, or shorter than in the table
+abbrev pub HasOwnArcs : Problem → Network → Type 0
+HasOwnArcs b arcs =
+    (n : ℕ) (e f : Stage) (w : ℕ) → is_moment b (At n e) ≡ true → is_moment b (At n f) ≡ true → own_arc (row_at b n) e f ≡ Some w →
+    (v : ℕ) × (arcs (At n e) (At n f) ≡ Some v) × (w ≤ v)
+
+-- WHAT FOLLOWS A MOMENT
+
+-- an arc from e to f, and what follows f; 0 if there is none
+abbrev pub through : Network → (Moment → ℕ) → Moment → Moment → ℕ
+through arcs after e f = if is_some (arcs e f) then unwrap_or (arcs e f) 0 + after f else 0
+
+-- how much later the end comes at least than e, over at most this many arcs
+abbrev pub tail_over : Problem → Network → ℕ → Moment → ℕ
+tail_over b arcs zero e = 0
+tail_over b arcs (suc more) e = greatest (through arcs (tail_over b arcs more) e) (targets b)
+
+abbrev pub tail : Problem → Network → Moment → ℕ
+tail b arcs e = tail_over b arcs (most_arcs b) e
+
+-- THE GREATEST PATH of what remains after a prefix
+
+-- a moment of an instruction that isn't placed
+abbrev pub IsRemaining : Problem → List ℕ → ℕ → Stage → Type 0
+IsRemaining b prefix n stage = (is_remaining b.block prefix n ≡ true) × (has_stage (row_at b n) stage ≡ true)
+
+-- by arcs of the network alone
+abbrev pub IsNetworkPath : Network → Moment → List Hop → Moment → Type 0
+IsNetworkPath arcs e hops f = IsPath (λ m w n. arcs m n ≡ Some w) e hops f
+
+abbrev pub soonest_path : Problem → Network → List ℕ → Moment → ℕ
+soonest_path b arcs prefix (At n stage) = soonest b prefix n stage + tail b arcs (At n stage)
+soonest_path b arcs prefix e = 0
+
+abbrev pub greatest_path : Problem → Network → List ℕ → ℕ
+greatest_path b arcs prefix = greatest (soonest_path b arcs prefix) (moments_among b (remaining b.block prefix))
+
+-- THE SAME BY WORDS that a prefix leaves
+
+-- from when on a unit of the kind is free
+abbrev pub free_from : Problem → List Point → Kind → ℕ
+free_from b s kind = least_from (λ t. nat_lt (tally (busy_at kind t) s) (copies b kind)) (total s) 0
+
+-- what its issue waits for: its slot, the registers that it writes, a unit
+abbrev pub issue_words : Problem → List Point → Row → ℕ
+issue_words b s r = max (slot_of s r.parcels) (max (greatest (λ (w : Write). done_of s w.reg) r.writes) (free_from b s r.kind))
+
+-- and its start: the registers that it reads, and memory
+abbrev pub start_words : List Point → Row → ℕ
+start_words s r = max (greatest (λ x. done_of s x) r.reads) (memory_wait s r)
+
+-- the greatest of these and of what its results wait for, the readers of their registers, each with what follows
+abbrev pub by_words : Problem → Network → List ℕ → ℕ → ℕ
+by_words b arcs prefix n =
+    max (issue_words b (points_of b prefix) (row_at b n) + tail b arcs (At n Issue))
+    (max (start_words (points_of b prefix) (row_at b n) + tail b arcs (At n Start))
+    (greatest (λ (w : Write). readers_wait (points_of b prefix) w.reg + tail b arcs (At n (Done w.reg))) (row_at b n).writes))

@@ -1,0 +1,92 @@
+//! Networks of arcs, what follows each moment in them, and the greatest path of what remains after a prefix.
+
+ghost use Rattle.std.specs.Prelude.{ℕ, List, Bool, ◌∷◌, ◌+◌, ◌≡◌, ◌≤◌, ◌<◌, ◌⊎◌, true, length};
+ghost use Rattle.s66_isa.specs.declared.instr.Instr.{Instr};
+ghost use Rattle.s66_isa.specs.Lists.{greatest};
+ghost use Rattle.s66_model.specs.Timing.{Problem};
+ghost use Rattle.s66_model.specs.Dependence.{depends};
+ghost use Rattle.s66_model.specs.LegalOrder.{is_remaining, remaining};
+ghost use Rattle.s66_model.specs.Leaves.{IsChain, chain_value};
+ghost use Rattle.s66_moments.specs.declared.moment.Stage.{Stage};
+ghost use Rattle.s66_moments.specs.declared.moment.Moment.{Moment};
+ghost use Rattle.s66_moments.specs.declared.moment.Moment.TheVariants.{Origin, At, End};
+ghost use Rattle.s66_moments.specs.Moments.{is_moment, soonest};
+ghost use Rattle.s66_moments.specs.Facts.{Fact, Arc, Begins, Follows};
+ghost use Rattle.s66_moments.specs.Paths.{Hop, waits};
+ghost use Rattle.s66_moments.specs.Networks.{
+  Network,
+  network,
+  precedes,
+  IsKnown,
+  AreArcs,
+  IsRising,
+  IsPlaced,
+  HasOwnArcs,
+  targets,
+  tail,
+  through,
+  IsRemaining,
+  IsNetworkPath,
+  greatest_path,
+  by_words,
+};
+
+/// What a number precedes by dependence: what depends on it, and what depends on what it precedes.
+pub fn precedes_law()
+    ensures near { (block : List Instr) (m n : ℕ) → depends block m n ≡ true → precedes block m n ≡ true }
+    ensures far { (block : List Instr) (m k n : ℕ) →
+        n ≤ length block → precedes block m k ≡ true → depends block k n ≡ true → precedes block m n ≡ true }
+    ensures cases { (block : List Instr) (m n : ℕ) → 1 ≤ n → n ≤ length block → precedes block m n ≡ true →
+        (depends block m n ≡ true)
+        ⊎ ((k : ℕ) × (1 ≤ k) × (k < n) × (precedes block m k ≡ true) × (depends block k n ≡ true)) }
+    ensures known { (b : Problem) (known : List Fact) → IsKnown b known (precedes b.block) }
+    ensures rising { (b : Problem) → IsPlaced b (precedes b.block) (λ n. n) }
+{}
+
+/// The arcs of the table, by a test which number stands first, follow from what is known if the test does. They have no ring if the
+/// numbers have places by which the test rises, and lack no arc of an instruction.
+pub fn network_law()
+    ensures arcs { (b : Problem) (low : ℕ) (known : List Fact) (before : ℕ → ℕ → Bool) →
+        IsKnown b known before → AreArcs b low known (network b before) }
+    ensures rising { (b : Problem) (before : ℕ → ℕ → Bool) (place : ℕ → ℕ) →
+        IsPlaced b before place → IsRising b (network b before) }
+    ensures own { (b : Problem) (before : ℕ → ℕ → Bool) → HasOwnArcs b (network b before) }
+{}
+
+/// If the arcs follow, so does that the end comes a tail later than a moment, and with a prefix that the moment comes no sooner than
+/// if its instruction came next. If no arcs form a ring, a tail is the greatest of the arcs from there, each with what follows it.
+pub fn tail_path_law()
+    ensures tail { (b : Problem) (low : ℕ) (known : List Fact) (arcs : Network) (e : Moment) →
+        AreArcs b low known arcs → is_moment b e ≡ true → Follows b low known (Arc e (tail b arcs e) End 0) }
+    ensures below { (b : Problem) (low : ℕ) (known : List Fact) (arcs : Network) (prefix : List ℕ) (n : ℕ) (stage : Stage) →
+        AreArcs b low known arcs → IsRemaining b prefix n stage →
+        Follows b low (Begins prefix ∷ known) (Arc Origin (soonest b prefix n stage + tail b arcs (At n stage)) End 0) }
+    ensures again { (b : Problem) (arcs : Network) (e : Moment) → IsRising b arcs →
+        tail b arcs e ≡ greatest (through arcs (tail b arcs) e) (targets b) }
+{}
+
+/// The greatest path of what remains is a lower bound of all orders that begin so, if its arcs follow. While a number remains some
+/// path takes it, and if no arcs form a ring none is greater.
+pub fn greatest_path_law()
+    ensures below { (b : Problem) (low : ℕ) (known : List Fact) (arcs : Network) (prefix : List ℕ) →
+        AreArcs b low known arcs → Follows b low (Begins prefix ∷ known) (Arc Origin (greatest_path b arcs prefix) End 0) }
+    ensures greatest { (b : Problem) (arcs : Network) (prefix : List ℕ) (n : ℕ) (stage : Stage) (hops : List Hop) (f : Moment) →
+        IsRising b arcs → IsRemaining b prefix n stage → IsNetworkPath arcs (At n stage) hops f →
+        soonest b prefix n stage + waits hops ≤ greatest_path b arcs prefix }
+    ensures reached { (b : Problem) (arcs : Network) (prefix : List ℕ) (m : ℕ) → is_remaining b.block prefix m ≡ true →
+        (n : ℕ) × (stage : Stage) × (hops : List Hop) × (f : Moment) × IsRemaining b prefix n stage
+        × IsNetworkPath arcs (At n stage) hops f × (soonest b prefix n stage + waits hops ≡ greatest_path b arcs prefix) }
+{}
+
+/// The greatest path of what remains is the greatest word that the prefix leaves, with what follows at an instruction that waits for
+/// it. So a floor needs no moment of its own for each instruction.
+pub fn path_words_law()
+    ensures { (b : Problem) (arcs : Network) (prefix : List ℕ) → IsRising b arcs → HasOwnArcs b arcs →
+        greatest_path b arcs prefix ≡ greatest (by_words b arcs prefix) (remaining b.block prefix) }
+{}
+
+/// No chain is worth more than the greatest path by dependence, so no bound is lost if paths stand in place of chains.
+pub fn covered_law()
+    ensures { (b : Problem) (prefix numbers : List ℕ) →
+        IsChain b prefix numbers → chain_value b prefix numbers ≤ greatest_path b (network b (precedes b.block)) prefix }
+{}
