@@ -6,6 +6,8 @@ pub mod BaseArcs
 pub mod Soonest
 pub mod TableArcs
 pub mod Steps
+pub mod FoundedLines
+pub mod ClosedTrees
 pub mod Tails
 pub mod PathWords
 pub mod Preceders

@@ -1,4 +1,6 @@
 pub mod Moments
 pub mod Facts
 pub mod Paths
+pub mod FactLines
+pub mod LineTrees
 pub mod Networks

@@ -1,0 +1,87 @@
+-- What a tree with closings by lines and with dominated leaves shows is a lower bound, by any rule, and so is each time that is less.
+use Rattle.std.proofs.Common.{ℕ, ◌≤◌, ◌<◌, ◌≡◌, ◌⊎◌, Bool, true, false, List, [], ◌∷◌, ◌++◌, refl, sym, arith, inl, inr, ◌∙◌, Option, Some, None}
+use Rattle.s66_isa.proofs.Lists.{cases_le}
+use Rattle.s66_model.specs.declared.rule.Rule.{Rule}
+use Rattle.s66_model.specs.declared.rule.Rule.TheVariants.{NoneNamed, WrittenEarlier, ClampedStanding}
+use Rattle.s66_model.specs.Timing.{Problem, total_of}
+use Rattle.s66_model.specs.LegalOrder.{IsLegal}
+use Rattle.s66_model.specs.Leaves.{Leaf}
+use Rattle.s66_model.specs.Tree.{Tree, Vertex, AtTerminal, AtSplit, LeafShows}
+use Rattle.s66_model.specs.NodeNames.{node_at}
+use Rattle.s66_moments.specs.declared.moment.Moment.TheVariants.{Origin, End}
+use Rattle.s66_moments.specs.Facts.{Fact, Begins, AreSo, NoOrder}
+use Rattle.s66_moments.specs.FactLines.{Line, facts_after}
+use Rattle.s66_moments.specs.LineTrees.{LineEnding, AtLeaf, AtLines, DominatedBy, IsTooLate, IsClosedByLines, may_be_named, LineEndingShows, ShowsByLines}
+use Rattle.s66_model.proofs.LegalOrders.{order-legal, GoesOn-join}
+use Rattle.s66_model.proofs.Trees.{leaf-sound}
+use Rattle.s66_model.proofs.TreesHold.{tree-weaken}
+use Rattle.s66_model.proofs.DominatedTrees.{IsShut, IsNamed, may_name, shown-by}
+use Rattle.s66_moments.proofs.FactLaws.{before-itself}
+use Rattle.s66_moments.proofs.Steps.{precedes-so, leads-so}
+use Rattle.s66_moments.proofs.FoundedLines.{lines-so, lines-lower}
+
+too_late-none : (b : Problem) (low : ℕ) (known : List Fact) → IsTooLate b low known → NoOrder b low known
+too_late-none b low known (inl leads) = λ order legal less so. absurd (omega (arith, leads-so b known order legal so Origin low End leads, less))
+too_late-none b low known (inr (n, is, ring)) = λ order legal less so. before-itself b order legal n (precedes-so b known order legal so n n ring)
+
+abbrev closes : LineEnding → Bool
+closes (AtLeaf leaf) = true
+closes (AtLines lines) = true
+closes (DominatedBy name) = false
+
+may-name : (rule : Rule) (vertex : Option (Vertex LineEnding)) → may_be_named rule vertex ≡ may_name closes rule vertex
+may-name NoneNamed vertex = refl
+may-name WrittenEarlier vertex = refl
+may-name ClampedStanding None = refl
+may-name ClampedStanding (Some (AtSplit numbers)) = refl
+may-name ClampedStanding (Some (AtTerminal (AtLeaf leaf))) = refl
+may-name ClampedStanding (Some (AtTerminal (AtLines lines))) = refl
+may-name ClampedStanding (Some (AtTerminal (DominatedBy name))) = refl
+
+-- by facts that are so in each order below low
+module _ (rule : Rule) (b : Problem) (low : ℕ) (known : List Fact) (so : (order : List ℕ) → IsLegal b.block order → total_of b order < low → AreSo b order known) (prefix : List ℕ) (tree : Tree LineEnding) where
+  leaf-shuts : (at : List ℕ) (leaf : Leaf) → LeafShows b low at leaf → IsShut b low at
+  leaf-shuts at leaf h rest begins whole = omega (arith, leaf-sound b at rest leaf begins whole h.0, h.1)
+
+  lines-shut : (at : List ℕ) (lines : List Line) → IsClosedByLines b low known at lines → IsShut b low at
+  lines-shut at lines closed rest begins whole =
+      elim (cases_le low (total_of b (at ++ rest))) [
+        | inl le ↦ le
+        | inr less ↦
+            let legal : IsLegal b.block (at ++ rest) = order-legal b.block (at ++ rest) (GoesOn-join b.block [] at rest begins whole.0, whole.1) in
+            let all : AreSo b (at ++ rest) (facts_after (Begins at ∷ known) lines) = lines-so b low (Begins at ∷ known) lines closed.0 (at ++ rest) legal less ((rest, refl), so (at ++ rest) legal less) in
+            absurd (too_late-none b low (facts_after (Begins at ∷ known) lines) closed.1 (at ++ rest) legal less all)
+      ]
+
+  ending-says : (at : List ℕ) (ending : LineEnding) → LineEndingShows rule b low known prefix tree at ending → IsShut b low at ⊎ IsNamed closes rule b prefix tree at
+  ending-says at (AtLeaf leaf) h = inl (leaf-shuts at leaf h)
+  ending-says at (AtLines lines) h = inl (lines-shut at lines h)
+  ending-says at (DominatedBy name) h = inr (name, h.0, sym (may-name rule (node_at prefix tree name)) ∙ h.1)
+
+  ending-shuts : (at : List ℕ) (ending : LineEnding) → closes ending ≡ true → LineEndingShows rule b low known prefix tree at ending → IsShut b low at
+  ending-shuts at (AtLeaf leaf) closed h = leaf-shuts at leaf h
+  ending-shuts at (AtLines lines) closed h = lines-shut at lines h
+  ending-shuts at (DominatedBy name) closed h = absurd cc
+
+pub lines-below : (rule : Rule) (b : Problem) (low : ℕ) (lines : List Line) (prefix rest : List ℕ) (tree : Tree LineEnding) → ShowsByLines rule b low lines prefix tree → IsLegal b.block (prefix ++ rest) → low ≤ total_of b (prefix ++ rest)
+lines-below rule b low lines prefix rest tree shows legal =
+    let known : List Fact = facts_after [] lines in
+    let so : (order : List ℕ) → IsLegal b.block order → total_of b order < low → AreSo b order known = λ order legal2 less. lines-so b low [] lines shows.0 order legal2 less tt in
+    shown-by closes b low (LineEndingShows rule b low known prefix tree) prefix tree shows.1 rule (ending-says rule b low known so prefix tree) (ending-shuts rule b low known so prefix tree) rest legal
+
+-- A LOWER TIME
+
+module _ (rule : Rule) (b : Problem) (low other : ℕ) (less : other ≤ low) (prefix : List ℕ) (tree : Tree LineEnding) where
+  too_late-lower : (known : List Fact) → IsTooLate b low known → IsTooLate b other known
+  too_late-lower known (inl (hops, path, le)) = inl (hops, path, omega (arith, le, less))
+  too_late-lower known (inr ring) = inr ring
+
+  ending-lower : (known : List Fact) (at : List ℕ) (ending : LineEnding) → LineEndingShows rule b low known prefix tree at ending → LineEndingShows rule b other known prefix tree at ending
+  ending-lower known at (AtLeaf leaf) h = (h.0, omega (arith, h.1, less))
+  ending-lower known at (AtLines lines) h =
+      (lines-lower b low other less (Begins at ∷ known) lines h.0, too_late-lower (facts_after (Begins at ∷ known) lines) h.1)
+  ending-lower known at (DominatedBy name) h = h
+
+  pub tree-lower : (lines : List Line) → ShowsByLines rule b low lines prefix tree → ShowsByLines rule b other lines prefix tree
+  tree-lower lines shows =
+      (lines-lower b low other less [] lines shows.0, tree-weaken b.block (LineEndingShows rule b low (facts_after [] lines) prefix tree) (LineEndingShows rule b other (facts_after [] lines) prefix tree) (ending-lower (facts_after [] lines)) tree prefix shows.1)

@@ -1,0 +1,152 @@
+-- What lines are founded on gives their facts, and so for each time that is less.
+use Rattle.std.proofs.Common.{ℕ, ◌+◌, ◌-◌, ◌/◌, ◌≤◌, ◌<◌, ◌≡◌, true, List, [], ◌∷◌, length, map, refl, sym, ap, arith, inl, inr, subst, ◌∙◌}
+use Rattle.s66_isa.specs.declared.instr.Kind.{Kind}
+use Rattle.s66_isa.specs.Lists.{weigh, Among}
+use Rattle.s66_isa.specs.Table.{same_kind}
+use Rattle.s66_model.specs.Timing.{Problem, Point, row_at, copies, total_of}
+use Rattle.s66_model.specs.LegalOrder.{IsLegal}
+use Rattle.s66_moments.specs.declared.moment.Stage.TheVariants.{Issue, Start, Free}
+use Rattle.s66_moments.specs.declared.moment.Moment.{Moment}
+use Rattle.s66_moments.specs.declared.moment.Moment.TheVariants.{Origin, At, End}
+use Rattle.s66_moments.specs.Moments.{time_of}
+use Rattle.s66_moments.specs.Facts.{Fact, Arc, Before, Begins, AreSo, Follows, IsNumber, Work, AreOnce, IsWithin}
+use Rattle.s66_moments.specs.Paths.{Leads}
+use Rattle.s66_moments.specs.FactLines.{Use, Line, ForcedPair, LoadArc, fact_of, IsForced, use_time, IsBetween, AreBetween, IsFounded, AreFounded, facts_after}
+use Rattle.s66_moments.proofs.LoadArcs.{load-arc}
+use Rattle.s66_moments.proofs.FactLaws.{among-so, issue-start, start-free, forced-parcels, forced-unit, prefix-time_at}
+use Rattle.s66_moments.proofs.Steps.{leads-so}
+
+-- LINES
+
+module _ (b : Problem) (low : ℕ) (known : List Fact) where
+  leads-follows : (e : Moment) (wait : ℕ) (f : Moment) → Leads b known e wait f → Follows b low known (Arc e wait f 0)
+  leads-follows e wait f leads order legal less so = omega (arith, leads-so b known order legal so e wait f leads)
+
+  pair-follows : (y x : ℕ) → IsForced b low known y x → Follows b low known (Before y x)
+  pair-follows y x (differ, is_x, is_y, inl (h, t, head, tail, late)) =
+      forced-parcels b low known x y differ is_x is_y h t (leads-follows Origin h (At x Issue) head) (leads-follows (At y Issue) t End tail) late
+  pair-follows y x (differ, is_x, is_y, inr (h, t, one, head, tail, late)) =
+      forced-unit b low known x y differ is_x is_y h t one.0 one.1 (leads-follows Origin h (At x Free) head) (leads-follows (At y Issue) t End tail) late
+
+  module _ (kind : Kind) (e f : Moment) (h wait time : ℕ) where
+    abbrev q : ℕ
+    q = wait - (h + time)
+
+    abbrev v : ℕ
+    v = h + time - wait
+
+    -- a use that is between
+    one-within : (u : Use) → IsNumber b u.number → same_kind (row_at b u.number).kind kind ≡ true → IsBetween b known e f h wait time u → (x : Work) × (x.number ≡ u.number) × (x.amount ≡ u.amount) × IsWithin b low known kind e h f q v x
+    one-within u is same (inl (t, full, head, tail, enough)) = (
+      record { number = u.number; amount = u.amount; from = At u.number Issue; more = 0 },
+      refl,
+      refl,
+      record {
+        is_number = is;
+        is_kind = same;
+        issued = λ order legal less so. omega arith;
+        begun = λ order legal less so. omega (arith, leads-so b known order legal so e h (At u.number Issue) head);
+        held = λ order legal less so. omega (arith, full, issue-start b order legal u.number is.0 is.1, start-free b order legal u.number is.0 is.1);
+        ended = λ order legal less so. omega (arith, leads-so b known order legal so (At u.number Issue) t f tail, enough);
+      },
+    )
+    one-within u is same (inr (inl (t, full, head, tail, enough))) = (
+      record { number = u.number; amount = u.amount; from = At u.number Start; more = 0 },
+      refl,
+      refl,
+      record {
+        is_number = is;
+        is_kind = same;
+        issued = λ order legal less so. omega (arith, issue-start b order legal u.number is.0 is.1);
+        begun = λ order legal less so. omega (arith, leads-so b known order legal so e h (At u.number Start) head);
+        held = λ order legal less so. omega (arith, full, start-free b order legal u.number is.0 is.1);
+        ended = λ order legal less so. omega (arith, leads-so b known order legal so (At u.number Start) t f tail, enough);
+      },
+    )
+    one-within u is same (inr (inr (inl (t, full, head, tail, enough)))) = (
+      record { number = u.number; amount = u.amount; from = At u.number Start; more = 0 },
+      refl,
+      refl,
+      record {
+        is_number = is;
+        is_kind = same;
+        issued = λ order legal less so. omega (arith, issue-start b order legal u.number is.0 is.1);
+        begun = λ order legal less so. omega (arith, leads-so b known order legal so e h (At u.number Start) head);
+        held = λ order legal less so. omega (arith, full, start-free b order legal u.number is.0 is.1);
+        ended = λ order legal less so. omega (arith, full, leads-so b known order legal so (At u.number Free) t f tail, start-free b order legal u.number is.0 is.1, enough);
+      },
+    )
+    one-within u is same (inr (inr (inr (prefix, t, origin, among, there, before, busy, tail, enough)))) = (
+      record { number = u.number; amount = u.amount; from = Origin; more = h },
+      refl,
+      refl,
+      record {
+        is_number = is;
+        is_kind = same;
+        issued = λ order legal less so. omega (arith, before, placed-issue order legal so);
+        begun = λ order legal less so. omega (arith, ap (time_of b order) origin);
+        held = λ order legal less so. omega (arith, busy, placed-free order legal so);
+        ended = λ order legal less so. omega (arith, busy, placed-free order legal so, leads-so b known order legal so (At u.number Free) t f tail, enough);
+      },
+    )
+      where
+        placed-issue : (order : List ℕ) → IsLegal b.block order → AreSo b order known → time_of b order (At u.number Issue) ≡ time_of b prefix (At u.number Issue)
+        placed-issue order legal so =
+            (let (rest, e) = among-so b order (Begins prefix) known among so in prefix-time_at b order legal prefix rest e u.number (λ (p : Point). p.issue) there)
+
+        placed-free : (order : List ℕ) → IsLegal b.block order → AreSo b order known → time_of b order (At u.number Free) ≡ time_of b prefix (At u.number Free)
+        placed-free order legal so =
+            (let (rest, e) = among-so b order (Begins prefix) known among so in prefix-time_at b order legal prefix rest e u.number (λ (p : Point). p.free) there)
+
+    all-within : (uses : List Use) → AreBetween b known kind e f h wait time uses → (works : List Work) × (map (λ (x : Work). x.number) works ≡ map (λ (u : Use). u.number) uses) × (weigh (λ (x : Work). x.amount) works ≡ weigh (λ (u : Use). u.amount) uses) × ((x : Work) → Among x works → IsWithin b low known kind e h f q v x)
+    all-within [] between = ([], refl, refl, λ x among. absurd among)
+    all-within (u ∷ us) between =
+        let (x, number, amount, within) = one-within u between.0 between.1 between.2 in
+        let (works, numbers, amounts, all) = all-within us between.3 in (
+          x ∷ works,
+          ap (λ k. k ∷ map (λ (y : Work). y.number) works) number ∙ ap (λ ks. u.number ∷ ks) numbers,
+          omega (arith, amount, amounts),
+          λ y among. elim among [
+            | inl here ↦ subst (λ z. IsWithin b low known kind e h f q v z) (sym here) within
+            | inr past ↦ all y past
+          ],
+        )
+
+  some-works : (n : ℕ) (ns : List ℕ) (works : List Work) → map (λ (x : Work). x.number) works ≡ n ∷ ns → 0 < length works
+  some-works n ns [] e = absurd cc
+  some-works n ns (x ∷ works) e = omega arith
+
+  span-follows : (kind : Kind) (e f : Moment) (h wait : ℕ) (u : Use) (us : List Use) → AreOnce (map (λ (v : Use). v.number) (u ∷ us)) → AreBetween b known kind e f h wait (use_time b kind (u ∷ us)) (u ∷ us) → Follows b low known (Arc e wait f 0)
+  span-follows kind e f h wait u us once between order legal less so =
+      let time : ℕ = use_time b kind (u ∷ us) in
+      let (works, numbers, amounts, all) = all-within kind e f h wait time (u ∷ us) between in
+      let once2 : AreOnce (map (λ (x : Work). x.number) works) = subst AreOnce (sym numbers) once in
+      let arc = load-arc b low known kind e f h (wait - (h + time)) (h + time - wait) works (some-works u.number (map (λ (w : Use). w.number) us) works numbers) once2 all order legal less so in
+      omega (arith, arc, ap (λ k. (k + (copies b kind - 1)) / copies b kind) amounts)
+
+  pub line-follows : (line : Line) → IsFounded b low known line → Follows b low known (fact_of line)
+  line-follows (ForcedPair y x) founded = pair-follows y x founded
+  line-follows (LoadArc kind e f h wait []) founded = absurd founded
+  line-follows (LoadArc kind e f h wait (u ∷ us)) founded = span-follows kind e f h wait u us founded.0 founded.1
+
+-- ALL LINES
+
+pub lines-so : (b : Problem) (low : ℕ) (known : List Fact) (lines : List Line) → AreFounded b low known lines → (order : List ℕ) → IsLegal b.block order → total_of b order < low → AreSo b order known → AreSo b order (facts_after known lines)
+lines-so b low known [] founded order legal less so = so
+lines-so b low known (line ∷ lines) founded order legal less so =
+    lines-so b low (fact_of line ∷ known) lines founded.1 order legal less (line-follows b low known line founded.0 order legal less so, so)
+
+-- A LOWER TIME: what is shown of one is shown of each that is less
+
+module _ (b : Problem) (low other : ℕ) (less : other ≤ low) where
+  founded-lower : (known : List Fact) (line : Line) → IsFounded b low known line → IsFounded b other known line
+  founded-lower known (ForcedPair y x) (differ, is_x, is_y, inl (h, t, head, tail, late)) =
+      (differ, is_x, is_y, inl (h, t, head, tail, omega (arith, late, less)))
+  founded-lower known (ForcedPair y x) (differ, is_x, is_y, inr (h, t, one, head, tail, late)) =
+      (differ, is_x, is_y, inr (h, t, one, head, tail, omega (arith, late, less)))
+  founded-lower known (LoadArc kind e f h wait []) founded = founded
+  founded-lower known (LoadArc kind e f h wait (u ∷ us)) founded = founded
+
+  pub lines-lower : (known : List Fact) (lines : List Line) → AreFounded b low known lines → AreFounded b other known lines
+  lines-lower known [] founded = tt
+  lines-lower known (line ∷ lines) founded = (founded-lower known line founded.0, lines-lower (fact_of line ∷ known) lines founded.1)

@@ -1,0 +1,106 @@
+-- To be believed: lines that each give a fact of all legal orders that take less than a time, and on what they are founded: on what is known before them, and on that time.
+use Rattle.std.specs.Prelude.{ℕ, ◌+◌, ◌≡◌, ◌≢◌, ◌≤◌, ◌⊎◌, true, List, [], ◌∷◌, map}
+use Rattle.s66_isa.specs.declared.instr.Kind.{Kind}
+use Rattle.s66_isa.specs.Lists.{weigh, has, Among}
+use Rattle.s66_isa.specs.Table.{same_kind}
+use Rattle.s66_model.specs.Timing.{Problem, row_at, copies}
+use Rattle.s66_model.specs.Leaves.{over}
+use Rattle.s66_moments.specs.declared.moment.Stage.TheVariants.{Issue, Start, Free}
+use Rattle.s66_moments.specs.declared.moment.Moment.{Moment}
+use Rattle.s66_moments.specs.declared.moment.Moment.TheVariants.{Origin, At, End}
+use Rattle.s66_moments.specs.Moments.{time_of}
+use Rattle.s66_moments.specs.Facts.{Fact, Arc, Before, Begins, IsNumber, IsOnlyUnit, AreOnce}
+use Rattle.s66_moments.specs.Paths.{Leads}
+
+-- for how long the unit of a number is in use between two moments
+pub record Use : Type 0 where
+  pub number : ℕ
+  pub amount : ℕ
+
+pub data Line : Type 0 where
+  -- the first number stands before the second, since the other way round the order takes low or more
+  ForcedPair : ℕ → ℕ → Line
+  -- f comes a wait later than e, since units of the kind are so used between, each at least h after e
+  LoadArc : (kind : Kind) → (e f : Moment) → (h wait : ℕ) → List Use → Line
+
+abbrev pub fact_of : Line → Fact
+fact_of (ForcedPair y x) = Before y x
+fact_of (LoadArc kind e f h wait uses) = Arc e wait f 0
+
+-- FORCED PAIRS: if x stood before y
+
+-- y would issue after the parcels of x, too late
+abbrev pub IsLateByParcels : Problem → ℕ → List Fact → ℕ → ℕ → Type 0
+IsLateByParcels b low known x y =
+    (h t : ℕ) × Leads b known Origin h (At x Issue) × Leads b known (At y Issue) t End × (low ≤ h + (row_at b x).parcels + t)
+
+-- y would issue when x leaves the only unit, too late
+abbrev pub IsLateByUnit : Problem → ℕ → List Fact → ℕ → ℕ → Type 0
+IsLateByUnit b low known x y =
+    (h t : ℕ) × IsOnlyUnit b x y × Leads b known Origin h (At x Free) × Leads b known (At y Issue) t End × (low ≤ h + t)
+
+abbrev pub IsForced : Problem → ℕ → List Fact → ℕ → ℕ → Type 0
+IsForced b low known y x = (x ≢ y) × IsNumber b x × IsNumber b y × (IsLateByParcels b low known x y ⊎ IsLateByUnit b low known x y)
+
+-- LOAD ARCS
+
+-- what is used, over the copies of the kind, rounded up
+abbrev pub use_time : Problem → Kind → List Use → ℕ
+use_time b kind uses = over (weigh (λ (u : Use). u.amount) uses) (copies b kind)
+
+-- no longer than the instruction has the unit
+abbrev pub IsHeld : Problem → Use → Type 0
+IsHeld b u = u.amount ≤ (row_at b u.number).hold + 1
+
+-- Each use begins h after e at the soonest, and ends so long before f that the wait is no more than h, the time, and what is left.
+
+-- from its issue on
+abbrev pub IsUsedFromIssue : Problem → List Fact → Moment → Moment → (h wait time : ℕ) → Use → Type 0
+IsUsedFromIssue b known e f h wait time u =
+    (t : ℕ) × IsHeld b u × Leads b known e h (At u.number Issue) × Leads b known (At u.number Issue) t f × (u.amount + wait ≤ h + time + t)
+
+-- from its start on
+abbrev pub IsUsedFromStart : Problem → List Fact → Moment → Moment → (h wait time : ℕ) → Use → Type 0
+IsUsedFromStart b known e f h wait time u =
+    (t : ℕ) × IsHeld b u × Leads b known e h (At u.number Start) × Leads b known (At u.number Start) t f × (u.amount + wait ≤ h + time + t)
+
+-- from its start until its unit is free
+abbrev pub IsUsedUntilFree : Problem → List Fact → Moment → Moment → (h wait time : ℕ) → Use → Type 0
+IsUsedUntilFree b known e f h wait time u =
+    (t : ℕ) × IsHeld b u × Leads b known e h (At u.number Start) × Leads b known (At u.number Free) t f × (wait ≤ h + time + t)
+
+-- the number is placed, and this is what is left of its use from h on
+abbrev pub IsUsedStill : Problem → List Fact → Moment → Moment → (h wait time : ℕ) → Use → Type 0
+IsUsedStill b known e f h wait time u =
+    (prefix : List ℕ) × (t : ℕ) × (e ≡ Origin) × Among (Begins prefix) known × (has u.number prefix ≡ true)
+    × (time_of b prefix (At u.number Issue) ≤ h) × (h + u.amount ≤ time_of b prefix (At u.number Free))
+    × Leads b known (At u.number Free) t f × (wait ≤ h + time + t)
+
+abbrev pub IsBetween : Problem → List Fact → Moment → Moment → (h wait time : ℕ) → Use → Type 0
+IsBetween b known e f h wait time u =
+    IsUsedFromIssue b known e f h wait time u ⊎ (IsUsedFromStart b known e f h wait time u
+    ⊎ (IsUsedUntilFree b known e f h wait time u ⊎ IsUsedStill b known e f h wait time u))
+
+abbrev pub AreBetween : Problem → List Fact → Kind → Moment → Moment → (h wait time : ℕ) → List Use → Type 0
+AreBetween b known kind e f h wait time [] = Unit {0}
+AreBetween b known kind e f h wait time (u ∷ us) =
+    IsNumber b u.number × (same_kind (row_at b u.number).kind kind ≡ true) × IsBetween b known e f h wait time u
+    × AreBetween b known kind e f h wait time us
+
+-- LINES, one after the other
+
+abbrev pub IsFounded : Problem → ℕ → List Fact → Line → Type 0
+IsFounded b low known (ForcedPair y x) = IsForced b low known y x
+IsFounded b low known (LoadArc kind e f h wait []) = ⊥
+IsFounded b low known (LoadArc kind e f h wait (u ∷ us)) =
+    AreOnce (map (λ (v : Use). v.number) (u ∷ us)) × AreBetween b known kind e f h wait (use_time b kind (u ∷ us)) (u ∷ us)
+
+-- each on what is known before it
+abbrev pub AreFounded : Problem → ℕ → List Fact → List Line → Type 0
+AreFounded b low known [] = Unit {0}
+AreFounded b low known (line ∷ lines) = IsFounded b low known line × AreFounded b low (fact_of line ∷ known) lines
+
+-- what is known after them, the newest first
+abbrev pub facts_after : List Fact → List Line → List Fact
+facts_after known [] = known
+facts_after known (line ∷ lines) = facts_after (fact_of line ∷ known) lines

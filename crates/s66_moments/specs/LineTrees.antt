@@ -1,0 +1,57 @@
+-- To be believed: trees whose unsplit prefixes are closed by leaves or by lines, or name a node that dominates them, and what they show.
+use Rattle.std.specs.Prelude.{ℕ, ◌≡◌, ◌⊎◌, Bool, true, false, List, [], ◌∷◌, Option, Some, None}
+use Rattle.s66_model.specs.declared.rule.Rule.{Rule}
+use Rattle.s66_model.specs.declared.rule.Rule.TheVariants.{NoneNamed, WrittenEarlier, ClampedStanding}
+use Rattle.s66_model.specs.Timing.{Problem}
+use Rattle.s66_model.specs.Leaves.{Leaf}
+use Rattle.s66_model.specs.Tree.{Tree, Vertex, AtTerminal, AtSplit, TreeHolds, LeafShows}
+use Rattle.s66_model.specs.NodeNames.{node_at, is_node}
+use Rattle.s66_model.specs.DominatedLeaves.{DominatesByRule}
+use Rattle.s66_moments.specs.declared.moment.Moment.TheVariants.{Origin, End}
+use Rattle.s66_moments.specs.Facts.{Fact, Begins, IsNumber}
+use Rattle.s66_moments.specs.Paths.{Precedes, Leads}
+use Rattle.s66_moments.specs.FactLines.{Line, AreFounded, facts_after}
+
+-- what an unsplit prefix has: a leaf that bounds; lines of its own, by which no order through it takes less than low; or the name of
+-- a node that dominates it
+pub data LineEnding : Type 0 where
+  AtLeaf : Leaf → LineEnding
+  AtLines : List Line → LineEnding
+  DominatedBy : (name : List ℕ) → LineEnding
+
+-- a path takes low, or a number stands before itself
+abbrev pub IsTooLate : Problem → ℕ → List Fact → Type 0
+IsTooLate b low known = Leads b known Origin low End ⊎ ((n : ℕ) × IsNumber b n × Precedes b known n n)
+
+-- with the prefix known too
+abbrev pub IsClosedByLines : Problem → ℕ → List Fact → List ℕ → List Line → Type 0
+IsClosedByLines b low known prefix lines =
+    AreFounded b low (Begins prefix ∷ known) lines × IsTooLate b low (facts_after (Begins prefix ∷ known) lines)
+
+-- WHICH NODES MAY BE NAMED
+
+-- it is a node, and no dominated leaf
+abbrev pub is_closed : Option (Vertex LineEnding) → Bool
+is_closed None = false
+is_closed (Some (AtSplit numbers)) = true
+is_closed (Some (AtTerminal (AtLeaf leaf))) = true
+is_closed (Some (AtTerminal (AtLines lines))) = true
+is_closed (Some (AtTerminal (DominatedBy name))) = false
+
+-- what may be named if this is found
+abbrev pub may_be_named : Rule → Option (Vertex LineEnding) → Bool
+may_be_named NoneNamed vertex = false
+may_be_named WrittenEarlier vertex = is_node vertex
+may_be_named ClampedStanding vertex = is_closed vertex
+
+-- WHAT A TREE SHOWS over a prefix by lines at its head: no order that begins so takes less than low
+
+abbrev pub LineEndingShows : Rule → Problem → ℕ → List Fact → List ℕ → Tree LineEnding → List ℕ → LineEnding → Type 0
+LineEndingShows rule b low known prefix tree at (AtLeaf leaf) = LeafShows b low at leaf
+LineEndingShows rule b low known prefix tree at (AtLines lines) = IsClosedByLines b low known at lines
+LineEndingShows rule b low known prefix tree at (DominatedBy name) =
+    DominatesByRule rule b name at × (may_be_named rule (node_at prefix tree name) ≡ true)
+
+abbrev pub ShowsByLines : Rule → Problem → ℕ → List Line → List ℕ → Tree LineEnding → Type 0
+ShowsByLines rule b low lines prefix tree =
+    AreFounded b low [] lines × TreeHolds b.block (LineEndingShows rule b low (facts_after [] lines) prefix tree) prefix tree

@@ -1,0 +1,33 @@
+//! Lines that each give a fact, and trees that show a bound by them.
+
+ghost use Rattle.std.specs.Prelude.{ℕ, List, [], ◌++◌, ◌≤◌};
+ghost use Rattle.s66_model.specs.declared.rule.Rule.{Rule};
+ghost use Rattle.s66_model.specs.Timing.{Problem, total_of};
+ghost use Rattle.s66_model.specs.LegalOrder.{IsLegal};
+ghost use Rattle.s66_model.specs.BestAndBound.{IsBound};
+ghost use Rattle.s66_model.specs.Tree.{Tree};
+ghost use Rattle.s66_moments.specs.Facts.{Fact, Follows};
+ghost use Rattle.s66_moments.specs.FactLines.{Line, fact_of, IsFounded, AreFounded, facts_after};
+ghost use Rattle.s66_moments.specs.LineTrees.{LineEnding, ShowsByLines};
+
+/// A line's fact follows from what is known before it, if it is founded on that. So what follows from all lines follows from what was
+/// known before them, and lines that are founded for a time are founded for each that is less.
+pub fn line_law()
+    ensures line { (b : Problem) (low : ℕ) (known : List Fact) (line : Line) →
+        IsFounded b low known line → Follows b low known (fact_of line) }
+    ensures derived { (b : Problem) (low : ℕ) (known : List Fact) (lines : List Line) (fact : Fact) →
+        AreFounded b low known lines → Follows b low (facts_after known lines) fact → Follows b low known fact }
+    ensures lower { (b : Problem) (low other : ℕ) (known : List Fact) (lines : List Line) →
+        other ≤ low → AreFounded b low known lines → AreFounded b other known lines }
+{}
+
+/// What a tree shows by lines, by leaves and by dominated leaves of one rule is at most the total of every legal order that begins
+/// with its prefix: over the empty prefix it is a bound. What it shows of a time it shows of each that is less.
+pub fn line_tree_law()
+    ensures below { (rule : Rule) (b : Problem) (low : ℕ) (lines : List Line) (prefix rest : List ℕ) (tree : Tree LineEnding) →
+        ShowsByLines rule b low lines prefix tree → IsLegal b.block (prefix ++ rest) → low ≤ total_of b (prefix ++ rest) }
+    ensures bound { (rule : Rule) (b : Problem) (low : ℕ) (lines : List Line) (tree : Tree LineEnding) →
+        ShowsByLines rule b low lines [] tree → IsBound b low }
+    ensures lower { (rule : Rule) (b : Problem) (low other : ℕ) (lines : List Line) (prefix : List ℕ) (tree : Tree LineEnding) →
+        other ≤ low → ShowsByLines rule b low lines prefix tree → ShowsByLines rule b other lines prefix tree }
+{}
