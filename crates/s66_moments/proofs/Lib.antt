@@ -12,3 +12,4 @@ pub mod Tails
 pub mod PathWords
 pub mod Preceders
 pub mod CoveredChains
+pub mod WorkedLines

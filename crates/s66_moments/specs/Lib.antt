@@ -4,3 +4,4 @@ pub mod Paths
 pub mod FactLines
 pub mod LineTrees
 pub mod Networks
+pub mod Examples

@@ -1,12 +1,14 @@
 //! Moments of an order, and facts of all legal orders that take less than a time: laws by which bounds are shown with few splits.
-#![tactic(auto)]
+#![tactic(auto, unfolding(s66_isa::specs::Table::row, s66_model::specs::Timing::issue_of, s66_model::specs::Timing::start_of, s66_model::specs::Timing::point, s66_model::specs::Dependence::conflict))]
 
+mod examples;
 mod facts;
 mod lines;
 mod moment;
 mod networks;
 mod paths;
 
+pub use examples::{arc_examples, line_examples, line_tree_examples, path_examples};
 pub use facts::{fact_law, load_arc_law, pair_law, prefix_law};
 pub use lines::{line_law, line_tree_law};
 pub use moment::{Moment, Stage};

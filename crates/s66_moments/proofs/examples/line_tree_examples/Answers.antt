@@ -1,0 +1,42 @@
+use Rattle.std.proofs.Common.{[], ◌∷◌, refl, inl, inr, lit≤}
+use Rattle.s66_isa.specs.Table.{x_reg, row}
+use Rattle.s66_model.specs.Dependence.{conflict}
+use Rattle.s66_model.specs.Timing.{issue_of, start_of, point}
+use Rattle.s66_model.specs.declared.rule.Rule.TheVariants.{NoneNamed}
+use Rattle.s66_model.specs.Examples.{standard_problem}
+use Rattle.s66_model.specs.Tree.{Alone}
+use Rattle.s66_moments.specs.declared.moment.Stage.TheVariants.{Issue, Start, Done, Free}
+use Rattle.s66_moments.specs.declared.moment.Moment.TheVariants.{Origin, At, End}
+use Rattle.s66_moments.specs.LineTrees.{AtLines, ShowsByLines}
+use Rattle.s66_moments.specs.Examples.{hop, booleans_between, load_line}
+use Rattle.s66_moments.proofs.ClosedTrees.{lines-below}
+use Rattle.s66_moments.proofs.WorkedLines.{from_start, between_two, by_parcels, by_unit, other_way, ring}
+use Rattle.s66_moments.proofs.examples.line_tree_examples.Goals as goal
+
+one_line : ShowsByLines NoneNamed (standard_problem booleans_between) 16 (load_line ∷ []) [] (Alone (AtLines []))
+unfolding row conflict issue_of start_of point
+one_line = ((from_start, tt), (tt, inl (hop 16 End ∷ [], (inr (inl (inr (inl refl))), refl), lit≤ tt)))
+
+pub returns-clause-one_load_line : goal.returns-clause-one_load_line
+unfolding row conflict issue_of start_of point
+returns-clause-one_load_line c = one_line
+
+pub returns-clause-one_inner_line : goal.returns-clause-one_inner_line
+unfolding row conflict issue_of start_of point
+returns-clause-one_inner_line c = ((between_two, tt), (tt, inl (hop 0 (At 1 Issue) ∷ hop 0 (At 1 Start) ∷ hop 11 (At 4 Start) ∷ hop 5 (At 4 Free) ∷ hop 0 End ∷ [], (inl (tt, refl, refl), (inl (inl refl, refl, refl), (inr (inl (inr (inl refl))), (inl (inl refl, refl, refl), (inl (tt, refl, refl), refl))))), lit≤ tt)))
+
+pub returns-clause-bound_16 : goal.returns-clause-bound_16
+unfolding row conflict issue_of start_of point
+returns-clause-bound_16 c = λ order legal. lines-below NoneNamed (standard_problem booleans_between) 16 (load_line ∷ []) [] order (Alone (AtLines [])) one_line legal
+
+pub returns-clause-one_pair : goal.returns-clause-one_pair
+unfolding row conflict issue_of start_of point
+returns-clause-one_pair c = ((by_parcels, tt), (tt, inl (hop 0 (At 1 Issue) ∷ hop 1 (At 2 Issue) ∷ hop 0 (At 2 Start) ∷ hop 3 (At 2 (Done (x_reg 1))) ∷ hop 0 (At 3 Start) ∷ hop 11 (At 3 Free) ∷ hop 0 End ∷ [], (inl (tt, refl, refl), (inl (inr ([], (inr (inl (inr (inl refl))), (lit≤ tt, lit≤ tt))), refl, refl), (inl (inl refl, refl, refl), (inl (inl refl, refl, refl), (inl (inr ([], (inl refl, (lit≤ tt, lit≤ tt))), refl, refl), (inl (inl refl, refl, refl), (inl (tt, refl, refl), refl))))))), lit≤ tt)))
+
+pub returns-clause-ring_of_pairs : goal.returns-clause-ring_of_pairs
+unfolding row conflict issue_of start_of point
+returns-clause-ring_of_pairs c = ((by_unit, (other_way, tt)), (tt, inr (2, (lit≤ tt, lit≤ tt), (3 ∷ [], (inr (inl (inr (inl refl))), (lit≤ tt, lit≤ tt), (inr (inl (inr (inr (inl refl)))), (lit≤ tt, lit≤ tt)))))))
+
+pub returns-clause-by_what_comes_next : goal.returns-clause-by_what_comes_next
+unfolding row conflict issue_of start_of point
+returns-clause-by_what_comes_next c = (tt, (lit≤ tt, refl, ((tt, inl (hop 5 (At 2 Issue) ∷ hop 0 (At 2 Start) ∷ hop 5 (At 2 Free) ∷ hop 0 End ∷ [], (inr (inr (refl, (1 ∷ [], inl refl, inr (refl, refl)))), (inl (inl refl, refl, refl), (inl (inl refl, refl, refl), (inl (tt, refl, refl), refl)))), lit≤ tt)), ((tt, inl (hop 5 (At 1 Issue) ∷ hop 0 (At 1 Start) ∷ hop 5 (At 1 Free) ∷ hop 0 End ∷ [], (inr (inr (refl, (2 ∷ [], inl refl, inr (refl, refl)))), (inl (inl refl, refl, refl), (inl (inl refl, refl, refl), (inl (tt, refl, refl), refl)))), lit≤ tt)), tt))))

@@ -1,0 +1,102 @@
+-- Used by examples alone: worked blocks, their COMPASS lines above each, paths through their moments, and lines that show their bounds, under the standard profile.
+use Rattle.std.specs.Prelude.{ℕ, List, [], ◌∷◌, Option}
+use Rattle.s66_isa.specs.declared.instr.Instr.{Instr}
+use Rattle.s66_isa.specs.declared.instr.Kind.TheVariants.{Boolean, Add, Multiply, Increment}
+use Rattle.s66_isa.specs.Table.{instr, x_reg}
+use Rattle.s66_model.specs.Leaves.{Load}
+use Rattle.s66_model.specs.Tree.{Tree, Parted, Siblings, NoMore, Unsplit, Split}
+use Rattle.s66_model.specs.Examples.{standard_problem}
+use Rattle.s66_moments.specs.declared.moment.Stage.{Stage}
+use Rattle.s66_moments.specs.declared.moment.Stage.TheVariants.{Issue, Start, Done, Free}
+use Rattle.s66_moments.specs.declared.moment.Moment.{Moment}
+use Rattle.s66_moments.specs.declared.moment.Moment.TheVariants.{Origin, At, End}
+use Rattle.s66_moments.specs.Paths.{Hop}
+use Rattle.s66_moments.specs.Networks.{Network, network, precedes}
+use Rattle.s66_moments.specs.FactLines.{Use, Line, ForcedPair, LoadArc}
+use Rattle.s66_moments.specs.LineTrees.{LineEnding, AtLeaf, AtLines, DominatedBy}
+
+-- ARCS
+
+-- the arcs by dependence
+abbrev pub arcs_of : List Instr → Network
+arcs_of block = network (standard_problem block) (precedes block)
+
+abbrev pub arc_in : List Instr → ℕ → Stage → ℕ → Stage → Option ℕ
+arc_in block m e n f = arcs_of block (At m e) (At n f)
+
+abbrev pub hop : ℕ → Moment → Hop
+hop wait to = record { wait = wait; to = to }
+
+-- FX1 X2+X3 / FX4 X1+X5: the only Add unit is free one minor cycle after X1 is there
+abbrev pub two_adds : List Instr
+two_adds = instr 0o30 1 2 3 ∷ instr 0o30 4 1 5 ∷ []
+
+-- from the start of its first to the end
+abbrev pub unit_path : List Hop
+unit_path =
+    hop 4 (At 1 (Done (x_reg 1))) ∷ hop 1 (At 1 Free) ∷ hop 0 (At 2 Issue) ∷ hop 0 (At 2 Start) ∷ hop 4 (At 2 (Done (x_reg 4))) ∷ hop 1 (At 2 Free) ∷ hop 0 End ∷ []
+
+-- FX1 X2+X3 / BX4 X1*X5 / FX6 X4+X4: the third depends on the first only by the second
+abbrev pub boolean_between_adds : List Instr
+boolean_between_adds = instr 0o30 1 2 3 ∷ instr 0o11 4 1 5 ∷ instr 0o30 6 4 4 ∷ []
+
+-- FX1 X2*X3 / FX4 X1*X5: there are two Multiply units
+abbrev pub two_multiplies : List Instr
+two_multiplies = instr 0o40 1 2 3 ∷ instr 0o40 4 1 5 ∷ []
+
+-- LOAD ARCS
+
+-- BX1 X2*X3 / BX4 X1*X1 / BX5 X1*X1 / FX6 X4+X5: two of one unit between the first, which has it before, and the last
+abbrev pub booleans_between : List Instr
+booleans_between = instr 0o11 1 2 3 ∷ instr 0o11 4 1 1 ∷ instr 0o11 5 1 1 ∷ instr 0o30 6 4 5 ∷ []
+
+abbrev pub use_of : ℕ → ℕ → Use
+use_of number amount = record { number = number; amount = amount }
+
+-- the end comes 16 after the origin, since both are used for 4 between, at least 4 after it
+abbrev pub load_line : Line
+load_line = LoadArc Boolean Origin End 4 16 (use_of 2 4 ∷ use_of 3 4 ∷ [])
+
+-- the fourth starts 11 after the first
+abbrev pub inner_line : Line
+inner_line = LoadArc Boolean (At 1 Start) (At 4 Start) 4 11 (use_of 2 4 ∷ use_of 3 4 ∷ [])
+
+-- three uses of 11 by two Multiply units take 17
+abbrev pub two_copies_line : Line
+two_copies_line = LoadArc Multiply Origin End 0 17 (use_of 1 11 ∷ use_of 2 11 ∷ use_of 3 11 ∷ [])
+
+-- the fourth issues 12 after the origin: each use lasts until its unit is free
+abbrev pub until_free_line : Line
+until_free_line = LoadArc Boolean Origin End 4 12 (use_of 2 4 ∷ use_of 3 4 ∷ [])
+
+-- FX1 X2+X3 / FX4 X2+X5: one Add unit for two that don't depend on each other
+abbrev pub two_free_adds : List Instr
+two_free_adds = instr 0o30 1 2 3 ∷ instr 0o30 4 2 5 ∷ []
+
+-- after the first, which leaves its unit at 5, what is left of its use from 1 on, and the second
+abbrev pub still_line : Line
+still_line = LoadArc Add Origin End 1 10 (use_of 1 4 ∷ use_of 2 5 ∷ [])
+
+-- PAIRS
+
+-- BX2 X4*X3 / IX1 X3+X1 / FX2 X1*X4: 15 minor cycles are left from the issue of either of the first two only if it issues first
+abbrev pub first_of_two : List Instr
+first_of_two = instr 0o11 2 4 3 ∷ instr 0o36 1 3 1 ∷ instr 0o40 2 1 4 ∷ []
+
+-- BX5 X2*X5 / FX2 X4+X4 / FX5 X1+X4: either sum has to leave the Add unit to the other
+abbrev pub two_sums : List Instr
+two_sums = instr 0o11 5 2 5 ∷ instr 0o30 2 4 4 ∷ instr 0o30 5 1 4 ∷ []
+
+-- TREES
+
+-- split once, with two children
+abbrev pub split_once : LineEnding → LineEnding → Tree LineEnding
+split_once first second = Parted (1 ∷ 2 ∷ []) (Unsplit first (Unsplit second NoMore))
+
+abbrev pub increments_load : LineEnding
+increments_load = AtLeaf (Load Increment)
+
+-- split at the empty prefix, 1 and 2: these endings at 1 2 and 2 1, and that leaf elsewhere
+abbrev pub increments_tree : LineEnding → LineEnding → Tree LineEnding
+increments_tree first second =
+    Parted (1 ∷ 2 ∷ 3 ∷ []) (Split (2 ∷ 3 ∷ []) (Unsplit first (Unsplit increments_load NoMore)) (Split (1 ∷ 3 ∷ []) (Unsplit second (Unsplit increments_load NoMore)) (Unsplit increments_load NoMore)))

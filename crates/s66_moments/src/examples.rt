@@ -1,0 +1,133 @@
+//! Worked examples of arcs, paths, lines and trees.
+
+ghost use Rattle.std.specs.Prelude.{ℕ, List, [], ◌∷◌, ◌+◌, ◌≡◌, ◌≢◌, true, false, Some, None};
+ghost use Rattle.s66_isa.specs.declared.instr.Kind.TheVariants.{Boolean};
+ghost use Rattle.s66_isa.specs.Table.{a_reg, x_reg};
+ghost use Rattle.s66_model.specs.declared.rule.Rule.TheVariants.{NoneNamed, WrittenEarlier, ClampedStanding};
+ghost use Rattle.s66_model.specs.Timing.{total_of};
+ghost use Rattle.s66_model.specs.BestAndBound.{IsBound};
+ghost use Rattle.s66_model.specs.Leaves.{Load, chain};
+ghost use Rattle.s66_model.specs.Tree.{Alone};
+ghost use Rattle.s66_model.specs.Examples.{
+  standard_problem,
+  floor_in,
+  load_problem,
+  multiply_problem,
+  one_load,
+  first_order,
+  third_order,
+  store_then_load,
+  two_loads,
+  three_increments,
+};
+ghost use Rattle.s66_moments.specs.declared.moment.Stage.TheVariants.{Issue, Start, Done, Free};
+ghost use Rattle.s66_moments.specs.declared.moment.Moment.TheVariants.{Origin, At, End};
+ghost use Rattle.s66_moments.specs.Moments.{time_of, soonest};
+ghost use Rattle.s66_moments.specs.Facts.{Before, Begins};
+ghost use Rattle.s66_moments.specs.Paths.{waits};
+ghost use Rattle.s66_moments.specs.Networks.{IsRemaining, IsNetworkPath, precedes, tail, greatest_path};
+ghost use Rattle.s66_moments.specs.FactLines.{ForcedPair, IsFounded};
+ghost use Rattle.s66_moments.specs.LineTrees.{AtLines, DominatedBy, IsTooLate, ShowsByLines};
+ghost use Rattle.s66_moments.specs.Examples.{
+  arcs_of,
+  arc_in,
+  two_adds,
+  unit_path,
+  boolean_between_adds,
+  two_multiplies,
+  booleans_between,
+  load_line,
+  inner_line,
+  two_copies_line,
+  until_free_line,
+  two_free_adds,
+  still_line,
+  first_of_two,
+  two_sums,
+  split_once,
+  increments_load,
+  increments_tree,
+};
+
+/// Which moments have an arc, and of how long.
+pub fn arc_examples()
+    ensures issue_to_start { arc_in one_load 1 Issue 1 Start ≡ Some 0 }
+    ensures start_to_a_load { arc_in one_load 1 Start 1 (Done (x_reg 1)) ≡ Some 8 }
+    ensures start_to_its_address { arc_in one_load 1 Start 1 (Done (a_reg 1)) ≡ Some 3 }
+    ensures start_to_no_result { arc_in one_load 1 Start 1 (Done (x_reg 7)) ≡ None }
+    ensures start_to_free { arc_in one_load 1 Start 1 Free ≡ Some 4 }
+    ensures held_result_to_free { arc_in one_load 1 (Done (a_reg 1)) 1 Free ≡ Some 1 }
+    ensures fetched_result_to_free { arc_in one_load 1 (Done (x_reg 1)) 1 Free ≡ None }
+    ensures issues_in_order { arc_in two_adds 1 Issue 2 Issue ≡ Some 1 }
+    ensures no_issues_of_two_that_may_change_places { arc_in one_load 1 Issue 3 Issue ≡ None }
+    ensures no_issues_back { arc_in two_adds 2 Issue 1 Issue ≡ None }
+    ensures first_order { arc_in first_order 1 (Done (x_reg 1)) 2 Issue ≡ Some 0 }
+    ensures only_unit { arc_in two_adds 1 Free 2 Issue ≡ Some 0 }
+    ensures only_unit_of_the_next_but_one { arc_in boolean_between_adds 1 Free 3 Issue ≡ Some 0 }
+    ensures only_unit_to_a_start { arc_in two_adds 1 Free 2 Start ≡ None }
+    ensures only_unit_back { arc_in two_adds 2 Free 1 Issue ≡ None }
+    ensures unit_of_another_kind { arc_in boolean_between_adds 1 Free 2 Issue ≡ None }
+    ensures one_unit_of_two { arc_in two_multiplies 1 Free 2 Issue ≡ None }
+    ensures second_order { arc_in one_load 1 (Done (x_reg 1)) 2 Start ≡ Some 0 }
+    ensures operand_is_no_result { arc_in one_load 1 (Done (x_reg 1)) 2 Issue ≡ None }
+    ensures store_then_load { arc_in store_then_load 1 Start 2 Start ≡ Some 1 }
+    ensures two_loads { arc_in two_loads 2 Start 3 Start ≡ None }
+    ensures third_order { arc_in third_order 2 Start 3 (Done (x_reg 5)) ≡ Some 1 }
+    ensures origin { arcs_of two_adds Origin (At 2 Issue) ≡ Some 0 }
+    ensures free_to_the_end { arcs_of two_adds (At 2 Free) End ≡ Some 0 }
+    ensures result_to_the_end { arcs_of two_adds (At 2 (Done (x_reg 4))) End ≡ Some 0 }
+    ensures precedes_through_the_second { precedes boolean_between_adds 1 3 ≡ true }
+    ensures precedes_nothing { precedes one_load 1 3 ≡ false }
+{}
+
+/// When moments are, at the soonest too, and what paths take: a chain shows 9 of two additions, a path all their 10.
+pub fn path_examples()
+    ensures issue_time { time_of (standard_problem two_adds) (1 ∷ 2 ∷ []) (At 2 Issue) ≡ 5 }
+    ensures result_time { time_of (standard_problem two_adds) (1 ∷ 2 ∷ []) (At 2 (Done (x_reg 4))) ≡ 9 }
+    ensures end_time { time_of (standard_problem two_adds) (1 ∷ 2 ∷ []) End ≡ 10 }
+    ensures soonest_start { soonest load_problem (1 ∷ []) 2 Start ≡ 8 }
+    ensures soonest_issue { soonest load_problem (1 ∷ []) 2 Issue ≡ 1 }
+    ensures soonest_free { soonest load_problem [] 2 Free ≡ 4 }
+    ensures longest_chain { chain (standard_problem two_adds) [] ≡ 9 }
+    ensures path { IsNetworkPath (arcs_of two_adds) (At 1 Start) unit_path End }
+    ensures path_takes { soonest (standard_problem two_adds) [] 1 Start + waits unit_path ≡ 10 }
+    ensures path_is_of_what_remains { IsRemaining (standard_problem two_adds) [] 1 Start }
+    ensures not_of_what_is_placed { ¬ IsRemaining (standard_problem two_adds) (1 ∷ []) 1 Start }
+    ensures not_of_what_is_no_result { ¬ IsRemaining (standard_problem two_adds) [] 1 (Done (x_reg 7)) }
+    ensures no_path_of_another_time { ¬ IsNetworkPath (arcs_of two_adds) (At 2 Start) unit_path End }
+    ensures tail_of_the_first { tail (standard_problem two_adds) (arcs_of two_adds) (At 1 Start) ≡ 10 }
+    ensures tail_of_the_second { tail (standard_problem two_adds) (arcs_of two_adds) (At 2 Issue) ≡ 5 }
+    ensures greatest { greatest_path (standard_problem two_adds) (arcs_of two_adds) [] ≡ 10 }
+    ensures greatest_after_1 { greatest_path (standard_problem two_adds) (arcs_of two_adds) (1 ∷ []) ≡ 10 }
+{}
+
+/// Which lines are founded: load arcs over uses from the issue, from the start, until the unit is free, and over what is left of one;
+/// pairs that are forced by parcels and by the only unit.
+pub fn line_examples()
+    ensures from_the_start { IsFounded (standard_problem booleans_between) 16 [] load_line }
+    ensures between_two_moments { IsFounded (standard_problem booleans_between) 16 [] inner_line }
+    ensures until_free { IsFounded (standard_problem booleans_between) 16 [] until_free_line }
+    ensures from_the_issue_by_two_copies { IsFounded multiply_problem 17 [] two_copies_line }
+    ensures still_used { IsFounded (standard_problem two_free_adds) 10 (Begins (1 ∷ []) ∷ []) still_line }
+    ensures late_by_parcels { IsFounded (standard_problem first_of_two) 15 [] (ForcedPair 1 2) }
+    ensures late_by_the_unit { IsFounded (standard_problem two_sums) 11 [] (ForcedPair 3 2) }
+    ensures late_the_other_way { IsFounded (standard_problem two_sums) 11 (Before 3 2 ∷ []) (ForcedPair 2 3) }
+    ensures ring { IsTooLate (standard_problem two_sums) 11 (Before 2 3 ∷ Before 3 2 ∷ []) }
+    ensures turned_by_a_prefix { IsTooLate (standard_problem first_of_two) 15 (Begins (2 ∷ []) ∷ Before 1 2 ∷ []) }
+{}
+
+/// What lines show of blocks with no split, and what their floors are; what a tree shows whose children's moments come too late.
+pub fn line_tree_examples()
+    ensures one_load_line { ShowsByLines NoneNamed (standard_problem booleans_between) 16 (load_line ∷ []) [] (Alone (AtLines [])) }
+    ensures one_inner_line { ShowsByLines NoneNamed (standard_problem booleans_between) 16 (inner_line ∷ []) [] (Alone (AtLines [])) }
+    ensures bound_16 { IsBound (standard_problem booleans_between) 16 }
+    ensures its_floor { floor_in booleans_between [] ≡ (Load Boolean, 12) }
+    ensures it_takes_16 { total_of (standard_problem booleans_between) (1 ∷ 2 ∷ 3 ∷ 4 ∷ []) ≡ 16 }
+    ensures one_pair { ShowsByLines NoneNamed (standard_problem first_of_two) 15 (ForcedPair 1 2 ∷ []) [] (Alone (AtLines [])) }
+    ensures it_takes_15 { total_of (standard_problem first_of_two) (1 ∷ 2 ∷ 3 ∷ []) ≡ 15 }
+    ensures ring_of_pairs { ShowsByLines NoneNamed (standard_problem two_sums) 11 (ForcedPair 3 2 ∷ ForcedPair 2 3 ∷ []) [] (Alone (AtLines [])) }
+    ensures it_takes_11 { total_of (standard_problem two_sums) (1 ∷ 2 ∷ 3 ∷ []) ≡ 11 }
+    ensures by_what_comes_next { ShowsByLines NoneNamed (standard_problem two_free_adds) 10 [] [] (split_once (AtLines []) (AtLines [])) }
+    ensures dominated_earlier { ShowsByLines WrittenEarlier (standard_problem three_increments) 7 [] [] (increments_tree increments_load (DominatedBy (1 ∷ 2 ∷ []))) }
+    ensures dominated_standing { ShowsByLines ClampedStanding (standard_problem three_increments) 7 [] [] (increments_tree (DominatedBy (2 ∷ 1 ∷ [])) increments_load) }
+{}
