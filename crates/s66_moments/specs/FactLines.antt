@@ -52,19 +52,20 @@ use_time b kind uses = over (weigh (λ (u : Use). u.amount) uses) (copies b kind
 abbrev pub IsHeld : Problem → Use → Type 0
 IsHeld b u = u.amount ≤ (row_at b u.number).hold + 1
 
--- Each use begins h after e at the soonest, and ends so long before f that the wait is no more than h, the time, and what is left.
+-- Each use begins h after e at the soonest. These h, the time of all uses, and what is left from the end of any one of them to f make up
+-- the wait at least: f comes t after a moment of the use, of which the amount may be part.
 
--- from its issue on
+-- it begins with the issue
 abbrev pub IsUsedFromIssue : Problem → List Fact → Moment → Moment → (h wait time : ℕ) → Use → Type 0
 IsUsedFromIssue b known e f h wait time u =
     (t : ℕ) × IsHeld b u × Leads b known e h (At u.number Issue) × Leads b known (At u.number Issue) t f × (u.amount + wait ≤ h + time + t)
 
--- from its start on
+-- it begins with the start
 abbrev pub IsUsedFromStart : Problem → List Fact → Moment → Moment → (h wait time : ℕ) → Use → Type 0
 IsUsedFromStart b known e f h wait time u =
     (t : ℕ) × IsHeld b u × Leads b known e h (At u.number Start) × Leads b known (At u.number Start) t f × (u.amount + wait ≤ h + time + t)
 
--- from its start until its unit is free
+-- it begins with the start, and f comes t after its unit is free
 abbrev pub IsUsedUntilFree : Problem → List Fact → Moment → Moment → (h wait time : ℕ) → Use → Type 0
 IsUsedUntilFree b known e f h wait time u =
     (t : ℕ) × IsHeld b u × Leads b known e h (At u.number Start) × Leads b known (At u.number Free) t f × (wait ≤ h + time + t)
@@ -95,12 +96,12 @@ IsFounded b low known (LoadArc kind e f h wait []) = ⊥
 IsFounded b low known (LoadArc kind e f h wait (u ∷ us)) =
     AreOnce (map (λ (v : Use). v.number) (u ∷ us)) × AreBetween b known kind e f h wait (use_time b kind (u ∷ us)) (u ∷ us)
 
+-- what is known after lines, the newest first
+abbrev pub facts_after : List Fact → List Line → List Fact
+facts_after known [] = known
+facts_after known (line ∷ lines) = facts_after (fact_of line ∷ known) lines
+
 -- each on what is known before it
 abbrev pub AreFounded : Problem → ℕ → List Fact → List Line → Type 0
 AreFounded b low known [] = Unit {0}
 AreFounded b low known (line ∷ lines) = IsFounded b low known line × AreFounded b low (fact_of line ∷ known) lines
-
--- what is known after them, the newest first
-abbrev pub facts_after : List Fact → List Line → List Fact
-facts_after known [] = known
-facts_after known (line ∷ lines) = facts_after (fact_of line ∷ known) lines
