@@ -1,12 +1,12 @@
 -- Paths and lines of the worked blocks.
-use Rattle.std.proofs.Common.{ℕ, List, [], ◌∷◌, refl, inl, inr, lit≤}
+use Rattle.std.proofs.Common.{[], ◌∷◌, refl, inl, inr, lit≤}
 use Rattle.s66_isa.specs.Table.{x_reg, row}
 use Rattle.s66_model.specs.Dependence.{conflict}
 use Rattle.s66_model.specs.Timing.{Problem, issue_of, start_of, point}
 use Rattle.s66_model.specs.Examples.{standard_problem, multiply_problem}
 use Rattle.s66_moments.specs.declared.moment.Stage.TheVariants.{Issue, Start, Done, Free}
 use Rattle.s66_moments.specs.declared.moment.Moment.TheVariants.{Origin, At, End}
-use Rattle.s66_moments.specs.Facts.{Fact, Before, Begins}
+use Rattle.s66_moments.specs.Facts.{Before, Begins}
 use Rattle.s66_moments.specs.Paths.{Leads}
 use Rattle.s66_moments.specs.FactLines.{ForcedPair, IsFounded}
 use Rattle.s66_moments.specs.LineTrees.{IsTooLate}

@@ -12,8 +12,8 @@ use Rattle.s66_moments.specs.declared.moment.Moment.{Moment}
 use Rattle.s66_moments.specs.declared.moment.Moment.TheVariants.{Origin, At, End}
 use Rattle.s66_moments.specs.Paths.{Hop}
 use Rattle.s66_moments.specs.Networks.{Network, network, precedes}
-use Rattle.s66_moments.specs.FactLines.{Use, Line, ForcedPair, LoadArc}
-use Rattle.s66_moments.specs.LineTrees.{LineEnding, AtLeaf, AtLines, DominatedBy}
+use Rattle.s66_moments.specs.FactLines.{Use, Line, LoadArc}
+use Rattle.s66_moments.specs.LineTrees.{LineEnding, AtLeaf}
 
 -- ARCS
 
@@ -34,7 +34,8 @@ two_adds = instr 0o30 1 2 3 ∷ instr 0o30 4 1 5 ∷ []
 -- from the start of its first to the end
 abbrev pub unit_path : List Hop
 unit_path =
-    hop 4 (At 1 (Done (x_reg 1))) ∷ hop 1 (At 1 Free) ∷ hop 0 (At 2 Issue) ∷ hop 0 (At 2 Start) ∷ hop 4 (At 2 (Done (x_reg 4))) ∷ hop 1 (At 2 Free) ∷ hop 0 End ∷ []
+    hop 4 (At 1 (Done (x_reg 1))) ∷ hop 1 (At 1 Free) ∷ hop 0 (At 2 Issue) ∷ hop 0 (At 2 Start)
+    ∷ hop 4 (At 2 (Done (x_reg 4))) ∷ hop 1 (At 2 Free) ∷ hop 0 End ∷ []
 
 -- FX1 X2+X3 / BX4 X1*X5 / FX6 X4+X4: the third depends on the first only by the second
 abbrev pub boolean_between_adds : List Instr
@@ -65,7 +66,7 @@ inner_line = LoadArc Boolean (At 1 Start) (At 4 Start) 4 11 (use_of 2 4 ∷ use_
 abbrev pub two_copies_line : Line
 two_copies_line = LoadArc Multiply Origin End 0 17 (use_of 1 11 ∷ use_of 2 11 ∷ use_of 3 11 ∷ [])
 
--- the fourth issues 12 after the origin: each use lasts until its unit is free
+-- the end comes 12 after the origin, since each use lasts until its unit is free
 abbrev pub until_free_line : Line
 until_free_line = LoadArc Boolean Origin End 4 12 (use_of 2 4 ∷ use_of 3 4 ∷ [])
 
@@ -96,7 +97,11 @@ split_once first second = Parted (1 ∷ 2 ∷ []) (Unsplit first (Unsplit second
 abbrev pub increments_load : LineEnding
 increments_load = AtLeaf (Load Increment)
 
+-- two children, the second with that leaf
+abbrev pub and_load : LineEnding → Siblings LineEnding
+and_load first = Unsplit first (Unsplit increments_load NoMore)
+
 -- split at the empty prefix, 1 and 2: these endings at 1 2 and 2 1, and that leaf elsewhere
 abbrev pub increments_tree : LineEnding → LineEnding → Tree LineEnding
 increments_tree first second =
-    Parted (1 ∷ 2 ∷ 3 ∷ []) (Split (2 ∷ 3 ∷ []) (Unsplit first (Unsplit increments_load NoMore)) (Split (1 ∷ 3 ∷ []) (Unsplit second (Unsplit increments_load NoMore)) (Unsplit increments_load NoMore)))
+    Parted (1 ∷ 2 ∷ 3 ∷ []) (Split (2 ∷ 3 ∷ []) (and_load first) (Split (1 ∷ 3 ∷ []) (and_load second) (Unsplit increments_load NoMore)))

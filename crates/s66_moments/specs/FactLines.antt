@@ -24,23 +24,23 @@ pub data Line : Type 0 where
   LoadArc : (kind : Kind) → (e f : Moment) → (h wait : ℕ) → List Use → Line
 
 abbrev pub fact_of : Line → Fact
-fact_of (ForcedPair y x) = Before y x
+fact_of (ForcedPair m n) = Before m n
 fact_of (LoadArc kind e f h wait uses) = Arc e wait f 0
 
--- FORCED PAIRS: if x stood before y
+-- FORCED PAIRS: if n stood before m
 
--- y would issue after the parcels of x, too late
+-- m would issue after the parcels of n, too late
 abbrev pub IsLateByParcels : Problem → ℕ → List Fact → ℕ → ℕ → Type 0
-IsLateByParcels b low known x y =
-    (h t : ℕ) × Leads b known Origin h (At x Issue) × Leads b known (At y Issue) t End × (low ≤ h + (row_at b x).parcels + t)
+IsLateByParcels b low known n m =
+    (h t : ℕ) × Leads b known Origin h (At n Issue) × Leads b known (At m Issue) t End × (low ≤ h + (row_at b n).parcels + t)
 
--- y would issue when x leaves the only unit, too late
+-- m would issue when n leaves the only unit, too late
 abbrev pub IsLateByUnit : Problem → ℕ → List Fact → ℕ → ℕ → Type 0
-IsLateByUnit b low known x y =
-    (h t : ℕ) × IsOnlyUnit b x y × Leads b known Origin h (At x Free) × Leads b known (At y Issue) t End × (low ≤ h + t)
+IsLateByUnit b low known n m =
+    (h t : ℕ) × IsOnlyUnit b n m × Leads b known Origin h (At n Free) × Leads b known (At m Issue) t End × (low ≤ h + t)
 
 abbrev pub IsForced : Problem → ℕ → List Fact → ℕ → ℕ → Type 0
-IsForced b low known y x = (x ≢ y) × IsNumber b x × IsNumber b y × (IsLateByParcels b low known x y ⊎ IsLateByUnit b low known x y)
+IsForced b low known m n = (n ≢ m) × IsNumber b n × IsNumber b m × (IsLateByParcels b low known n m ⊎ IsLateByUnit b low known n m)
 
 -- LOAD ARCS
 
@@ -91,7 +91,7 @@ AreBetween b known kind e f h wait time (u ∷ us) =
 -- LINES, one after the other
 
 abbrev pub IsFounded : Problem → ℕ → List Fact → Line → Type 0
-IsFounded b low known (ForcedPair y x) = IsForced b low known y x
+IsFounded b low known (ForcedPair m n) = IsForced b low known m n
 IsFounded b low known (LoadArc kind e f h wait []) = ⊥
 IsFounded b low known (LoadArc kind e f h wait (u ∷ us)) =
     AreOnce (map (λ (v : Use). v.number) (u ∷ us)) × AreBetween b known kind e f h wait (use_time b kind (u ∷ us)) (u ∷ us)

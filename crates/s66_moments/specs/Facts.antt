@@ -41,7 +41,7 @@ IsNumber b n = (1 ≤ n) × (n ≤ length b.block)
 
 -- both need the only unit of their kind
 abbrev pub IsOnlyUnit : Problem → ℕ → ℕ → Type 0
-IsOnlyUnit b x y = (same_kind (row_at b x).kind (row_at b y).kind ≡ true) × (copies b (row_at b y).kind ≡ 1)
+IsOnlyUnit b m n = (same_kind (row_at b m).kind (row_at b n).kind ≡ true) × (copies b (row_at b n).kind ≡ 1)
 
 -- THE LOAD OF UNITS BETWEEN TWO MOMENTS
 
@@ -54,7 +54,7 @@ pub record Work : Type 0 where
 
 -- all works, over the copies of the kind, rounded up
 abbrev pub load_time : Problem → Kind → List Work → ℕ
-load_time b kind works = over (weigh (λ (x : Work). x.amount) works) (copies b kind)
+load_time b kind works = over (weigh (λ (u : Work). u.amount) works) (copies b kind)
 
 -- none of the numbers is there twice
 abbrev pub AreOnce : List ℕ → Type 0
@@ -63,10 +63,10 @@ AreOnce (n ∷ ns) = (has n ns ≡ false) × AreOnce ns
 
 -- A unit of the kind does the work between h after e and q before f, if v is added to f: no sooner than its instruction issues, and
 -- until it is free at the latest.
-pub record IsWithin (b : Problem) (low : ℕ) (known : List Fact) (kind : Kind) (e : Moment) (h : ℕ) (f : Moment) (q v : ℕ) (x : Work) : Type 0 where
-  pub is_number : IsNumber b x.number
-  pub is_kind : same_kind (row_at b x.number).kind kind ≡ true
-  pub issued : Follows b low known (Arc (At x.number Issue) 0 x.from x.more)
-  pub begun : Follows b low known (Arc e h x.from x.more)
-  pub held : Follows b low known (Arc x.from (x.more + x.amount) (At x.number Free) 0)
-  pub ended : Follows b low known (Arc x.from (x.more + x.amount + q) f v)
+pub record IsWithin (b : Problem) (low : ℕ) (known : List Fact) (kind : Kind) (e : Moment) (h : ℕ) (f : Moment) (q v : ℕ) (u : Work) : Type 0 where
+  pub is_number : IsNumber b u.number
+  pub is_kind : same_kind (row_at b u.number).kind kind ≡ true
+  pub issued : Follows b low known (Arc (At u.number Issue) 0 u.from u.more)
+  pub begun : Follows b low known (Arc e h u.from u.more)
+  pub held : Follows b low known (Arc u.from (u.more + u.amount) (At u.number Free) 0)
+  pub ended : Follows b low known (Arc u.from (u.more + u.amount + q) f v)

@@ -128,6 +128,8 @@ pub fn line_tree_examples()
     ensures ring_of_pairs { ShowsByLines NoneNamed (standard_problem two_sums) 11 (ForcedPair 3 2 ∷ ForcedPair 2 3 ∷ []) [] (Alone (AtLines [])) }
     ensures it_takes_11 { total_of (standard_problem two_sums) (1 ∷ 2 ∷ 3 ∷ []) ≡ 11 }
     ensures by_what_comes_next { ShowsByLines NoneNamed (standard_problem two_free_adds) 10 [] [] (split_once (AtLines []) (AtLines [])) }
-    ensures dominated_earlier { ShowsByLines WrittenEarlier (standard_problem three_increments) 7 [] [] (increments_tree increments_load (DominatedBy (1 ∷ 2 ∷ []))) }
-    ensures dominated_standing { ShowsByLines ClampedStanding (standard_problem three_increments) 7 [] [] (increments_tree (DominatedBy (2 ∷ 1 ∷ [])) increments_load) }
+    ensures dominated_earlier { ShowsByLines WrittenEarlier (standard_problem three_increments) 7 [] []
+        (increments_tree increments_load (DominatedBy (1 ∷ 2 ∷ []))) }
+    ensures dominated_standing { ShowsByLines ClampedStanding (standard_problem three_increments) 7 [] []
+        (increments_tree (DominatedBy (2 ∷ 1 ∷ [])) increments_load) }
 {}

@@ -35,14 +35,14 @@ pub fn pair_law()
     ensures transitive { (b : Problem) (low : ℕ) (known : List Fact) (m k n : ℕ) →
         Follows b low known (Before m k) → Follows b low known (Before k n) → Follows b low known (Before m n) }
     ensures ring { (b : Problem) (low : ℕ) (known : List Fact) (n : ℕ) → Follows b low known (Before n n) → NoOrder b low known }
-    ensures forced { (b : Problem) (low : ℕ) (known : List Fact) (x y : ℕ) → x ≢ y → IsNumber b x → IsNumber b y →
-        NoOrder b low (Before x y ∷ known) → Follows b low known (Before y x) }
-    ensures forced_by_parcels { (b : Problem) (low : ℕ) (known : List Fact) (x y h t : ℕ) → x ≢ y → IsNumber b x → IsNumber b y →
-        Follows b low known (Arc Origin h (At x Issue) 0) → Follows b low known (Arc (At y Issue) t End 0) →
-        low ≤ h + (row_at b x).parcels + t → Follows b low known (Before y x) }
-    ensures forced_by_unit { (b : Problem) (low : ℕ) (known : List Fact) (x y h t : ℕ) → x ≢ y → IsNumber b x → IsNumber b y →
-        IsOnlyUnit b x y → Follows b low known (Arc Origin h (At x Free) 0) → Follows b low known (Arc (At y Issue) t End 0) →
-        low ≤ h + t → Follows b low known (Before y x) }
+    ensures forced { (b : Problem) (low : ℕ) (known : List Fact) (m n : ℕ) → m ≢ n → IsNumber b m → IsNumber b n →
+        NoOrder b low (Before n m ∷ known) → Follows b low known (Before m n) }
+    ensures forced_by_parcels { (b : Problem) (low : ℕ) (known : List Fact) (m n h t : ℕ) → m ≢ n → IsNumber b m → IsNumber b n →
+        Follows b low known (Arc Origin h (At n Issue) 0) → Follows b low known (Arc (At m Issue) t End 0) →
+        low ≤ h + (row_at b n).parcels + t → Follows b low known (Before m n) }
+    ensures forced_by_unit { (b : Problem) (low : ℕ) (known : List Fact) (m n h t : ℕ) → m ≢ n → IsNumber b m → IsNumber b n →
+        IsOnlyUnit b n m → Follows b low known (Arc Origin h (At n Free) 0) → Follows b low known (Arc (At m Issue) t End 0) →
+        low ≤ h + t → Follows b low known (Before m n) }
 {}
 
 /// What a prefix decides: when each moment of what is placed is, that all else comes no sooner than if it came next and stands
@@ -65,7 +65,7 @@ pub fn prefix_law()
 /// kind, rounded up, for any number of copies. Each instruction counts once, and there is one at least.
 pub fn load_arc_law()
     ensures { (b : Problem) (low : ℕ) (known : List Fact) (kind : Kind) (e f : Moment) (h q v : ℕ) (works : List Work) →
-        0 < length works → AreOnce (map (λ (x : Work). x.number) works) →
-        ((x : Work) → Among x works → IsWithin b low known kind e h f q v x) →
+        0 < length works → AreOnce (map (λ (u : Work). u.number) works) →
+        ((u : Work) → Among u works → IsWithin b low known kind e h f q v u) →
         Follows b low known (Arc e (h + load_time b kind works + q) f v) }
 {}

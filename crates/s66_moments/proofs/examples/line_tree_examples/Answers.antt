@@ -6,11 +6,11 @@ use Rattle.s66_model.specs.declared.rule.Rule.TheVariants.{NoneNamed}
 use Rattle.s66_model.specs.Examples.{standard_problem}
 use Rattle.s66_model.specs.Tree.{Alone}
 use Rattle.s66_moments.specs.declared.moment.Stage.TheVariants.{Issue, Start, Done, Free}
-use Rattle.s66_moments.specs.declared.moment.Moment.TheVariants.{Origin, At, End}
+use Rattle.s66_moments.specs.declared.moment.Moment.TheVariants.{At, End}
 use Rattle.s66_moments.specs.LineTrees.{AtLines, ShowsByLines}
 use Rattle.s66_moments.specs.Examples.{hop, booleans_between, load_line}
 use Rattle.s66_moments.proofs.ClosedTrees.{lines-below}
-use Rattle.s66_moments.proofs.WorkedLines.{from_start, between_two, by_parcels, by_unit, other_way, ring}
+use Rattle.s66_moments.proofs.WorkedLines.{from_start, between_two, by_parcels, by_unit, other_way}
 use Rattle.s66_moments.proofs.examples.line_tree_examples.Goals as goal
 
 one_line : ShowsByLines NoneNamed (standard_problem booleans_between) 16 (load_line ∷ []) [] (Alone (AtLines []))

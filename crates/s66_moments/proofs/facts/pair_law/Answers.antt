@@ -1,3 +1,4 @@
+use Rattle.std.proofs.Common.{sym}
 use Rattle.s66_moments.proofs.FactLaws.{before-transitive, before-itself, forced, forced-parcels, forced-unit}
 use Rattle.s66_moments.proofs.Steps.{precedes-so}
 use Rattle.s66_moments.proofs.facts.pair_law.Goals as goal
@@ -12,10 +13,10 @@ pub returns-clause-ring : goal.returns-clause-ring
 returns-clause-ring c = λ b low known n ring order legal less so. before-itself b order legal n (ring order legal less so)
 
 pub returns-clause-forced : goal.returns-clause-forced
-returns-clause-forced c = λ b low known x y differ is_x is_y none. forced b low known x y differ is_x is_y none
+returns-clause-forced c = λ b low known m n differ is_m is_n none. forced b low known n m (λ e. differ (sym e)) is_n is_m none
 
 pub returns-clause-forced_by_parcels : goal.returns-clause-forced_by_parcels
-returns-clause-forced_by_parcels c = λ b low known x y h t differ is_x is_y head tail late. forced-parcels b low known x y differ is_x is_y h t head tail late
+returns-clause-forced_by_parcels c = λ b low known m n h t differ is_m is_n head tail late. forced-parcels b low known n m (λ e. differ (sym e)) is_n is_m h t head tail late
 
 pub returns-clause-forced_by_unit : goal.returns-clause-forced_by_unit
-returns-clause-forced_by_unit c = λ b low known x y h t differ is_x is_y one head tail late. forced-unit b low known x y differ is_x is_y h t one.0 one.1 head tail late
+returns-clause-forced_by_unit c = λ b low known m n h t differ is_m is_n one head tail late. forced-unit b low known n m (λ e. differ (sym e)) is_n is_m h t one.0 one.1 head tail late
