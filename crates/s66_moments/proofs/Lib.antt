@@ -13,3 +13,4 @@ pub mod PathWords
 pub mod Preceders
 pub mod CoveredChains
 pub mod WorkedLines
+pub mod MoreArcs

@@ -127,7 +127,7 @@ pub some-arc : (o : Option ℕ) → is_some o ≡ true → o ≡ Some (unwrap_or
 some-arc None h = absurd (true≢false (sym h))
 some-arc (Some w) h = refl
 
-arc-some : (o : Option ℕ) (w : ℕ) → o ≡ Some w → (is_some o ≡ true) × (unwrap_or o 0 ≡ w)
+pub arc-some : (o : Option ℕ) (w : ℕ) → o ≡ Some w → (is_some o ≡ true) × (unwrap_or o 0 ≡ w)
 arc-some o w h = rw h (refl, refl)
 
 module _ (b : Problem) (arcs : Network) where

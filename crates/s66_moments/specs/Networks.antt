@@ -1,16 +1,16 @@
 -- Used by contracts of what computes floors and checks paths: networks of arcs, and the greatest path through one, by what follows each moment, which is known before anything is placed.
-use Rattle.std.specs.Prelude.{ℕ, zero, suc, ◌+◌, ◌*◌, ◌≡◌, ◌≤◌, ◌<◌, Bool, true, if◌then◌else◌, ◌||◌, ◌&&◌, ◌==◌, max, List, [], ◌∷◌, ◌++◌, map, length, nat_lt, Option, Some, None, unwrap_or, is_some}
+use Rattle.std.specs.Prelude.{ℕ, zero, suc, ◌+◌, ◌*◌, ◌≡◌, ◌≤◌, ◌<◌, Bool, true, false, if◌then◌else◌, ◌||◌, ◌&&◌, ◌==◌, max, List, [], ◌∷◌, ◌++◌, map, length, nat_lt, Option, Some, None, unwrap_or, is_some}
 use Rattle.s66_isa.specs.declared.instr.Instr.{Instr}
 use Rattle.s66_isa.specs.declared.instr.Kind.{Kind}
 use Rattle.s66_isa.specs.Lists.{greatest, some_of, tally, least_from, Among}
-use Rattle.s66_isa.specs.Table.{Row, Write, numbers}
+use Rattle.s66_isa.specs.Table.{Row, Write, same_reg, numbers}
 use Rattle.s66_model.specs.Timing.{Problem, Point, row_at, copies, points_of, total, slot_of, busy_at, done_of, memory_wait, readers_wait}
 use Rattle.s66_model.specs.Dependence.{depends}
 use Rattle.s66_model.specs.LegalOrder.{is_remaining, remaining}
 use Rattle.s66_moments.specs.declared.moment.Stage.{Stage}
 use Rattle.s66_moments.specs.declared.moment.Stage.TheVariants.{Issue, Start, Done, Free}
 use Rattle.s66_moments.specs.declared.moment.Moment.{Moment}
-use Rattle.s66_moments.specs.declared.moment.Moment.TheVariants.{At, End}
+use Rattle.s66_moments.specs.declared.moment.Moment.TheVariants.{Origin, At, End}
 use Rattle.s66_moments.specs.Moments.{is_moment, has_stage, soonest, own_arc, arc}
 use Rattle.s66_moments.specs.Facts.{Fact, Arc, Follows, IsNumber}
 use Rattle.s66_moments.specs.Paths.{Precedes, Hop, IsPath}
@@ -60,10 +60,13 @@ targets b = End ∷ moments_among b (numbers b.block)
 abbrev pub most_arcs : Problem → ℕ
 most_arcs b = 4 * length b.block + 1
 
--- each arc leads up: so no path is a ring
+-- each arc leads to a target of a higher rank
+abbrev pub RisesBy : Problem → Network → (Moment → ℕ) → Type 0
+RisesBy b arcs rank = (e f : Moment) → is_some (arcs e f) ≡ true → Among f (targets b) × (rank e < rank f) × (rank f ≤ most_arcs b)
+
+-- so no path is a ring
 abbrev pub IsRising : Problem → Network → Type 0
-IsRising b arcs =
-    (rank : Moment → ℕ) × ((e f : Moment) → is_some (arcs e f) ≡ true → Among f (targets b) × (rank e < rank f) × (rank f ≤ most_arcs b))
+IsRising b arcs = (rank : Moment → ℕ) × RisesBy b arcs rank
 
 -- places of the numbers by which what stands before stands lower: so no number stands before itself
 abbrev pub IsPlaced : Problem → (ℕ → ℕ → Bool) → (ℕ → ℕ) → Type 0
@@ -75,6 +78,29 @@ abbrev pub HasOwnArcs : Problem → Network → Type 0
 HasOwnArcs b arcs =
     (n : ℕ) (e f : Stage) (w : ℕ) → is_moment b (At n e) ≡ true → is_moment b (At n f) ≡ true → own_arc (row_at b n) e f ≡ Some w →
     (v : ℕ) × (arcs (At n e) (At n f) ≡ Some v) × (w ≤ v)
+
+-- MORE ARCS AND PAIRS
+
+abbrev pub same_stage : Stage → Stage → Bool
+same_stage Issue Issue = true
+same_stage Start Start = true
+same_stage (Done x) (Done y) = same_reg x y
+same_stage Free Free = true
+same_stage e f = false
+
+abbrev pub same_moment : Moment → Moment → Bool
+same_moment Origin Origin = true
+same_moment (At m e) (At n f) = m == n && same_stage e f
+same_moment End End = true
+same_moment e f = false
+
+-- and from e to f so much at least
+abbrev pub with_arc : Network → Moment → ℕ → Moment → Network
+with_arc arcs e w f m n = if same_moment m e && same_moment n f then Some (max w (unwrap_or (arcs e f) 0)) else arcs m n
+
+-- j stands before k too, and so does all before j before all after k
+abbrev pub with_pair : (ℕ → ℕ → Bool) → ℕ → ℕ → ℕ → ℕ → Bool
+with_pair before j k m n = before m n || (m == j || before m j) && (n == k || before k n)
 
 -- WHAT FOLLOWS A MOMENT
 

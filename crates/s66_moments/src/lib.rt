@@ -13,6 +13,7 @@ pub use facts::{fact_law, load_arc_law, pair_law, prefix_law};
 pub use lines::{line_law, line_tree_law};
 pub use moment::{Moment, Stage};
 pub use networks::{
-    covered_law, greatest_path_law, network_law, path_words_law, precedes_law, tail_path_law,
+    covered_law, greatest_path_law, more_arcs_law, more_pairs_law, network_law, path_words_law,
+    precedes_law, tail_path_law,
 };
 pub use paths::{step_law, table_law};

@@ -1,8 +1,8 @@
 //! Networks of arcs, what follows each moment in them, and the greatest path of what remains after a prefix.
 
-ghost use Rattle.std.specs.Prelude.{ℕ, List, Bool, ◌∷◌, ◌+◌, ◌≡◌, ◌≤◌, ◌<◌, ◌⊎◌, true, length};
+ghost use Rattle.std.specs.Prelude.{ℕ, List, Bool, ◌∷◌, ◌+◌, ◌≡◌, ◌≤◌, ◌<◌, ◌⊎◌, true, length, max, Some, unwrap_or};
 ghost use Rattle.s66_isa.specs.declared.instr.Instr.{Instr};
-ghost use Rattle.s66_isa.specs.Lists.{greatest};
+ghost use Rattle.s66_isa.specs.Lists.{greatest, Among};
 ghost use Rattle.s66_model.specs.Timing.{Problem};
 ghost use Rattle.s66_model.specs.Dependence.{depends};
 ghost use Rattle.s66_model.specs.LegalOrder.{is_remaining, remaining};
@@ -11,25 +11,9 @@ ghost use Rattle.s66_moments.specs.declared.moment.Stage.{Stage};
 ghost use Rattle.s66_moments.specs.declared.moment.Moment.{Moment};
 ghost use Rattle.s66_moments.specs.declared.moment.Moment.TheVariants.{Origin, At, End};
 ghost use Rattle.s66_moments.specs.Moments.{is_moment, soonest};
-ghost use Rattle.s66_moments.specs.Facts.{Fact, Arc, Begins, Follows};
+ghost use Rattle.s66_moments.specs.Facts.{Fact, Arc, Before, Begins, Follows, IsNumber};
 ghost use Rattle.s66_moments.specs.Paths.{Hop, waits};
-ghost use Rattle.s66_moments.specs.Networks.{
-  Network,
-  network,
-  precedes,
-  IsKnown,
-  AreArcs,
-  IsRising,
-  IsPlaced,
-  HasOwnArcs,
-  targets,
-  tail,
-  through,
-  IsRemaining,
-  IsNetworkPath,
-  greatest_path,
-  by_words,
-};
+ghost use Rattle.s66_moments.specs.Networks.{Network, network, precedes, IsKnown, AreArcs, IsRising, IsPlaced, HasOwnArcs, targets, tail, through, IsRemaining, IsNetworkPath, greatest_path, by_words, RisesBy, with_arc, with_pair, most_arcs};
 
 /// What a number precedes by dependence: what depends on it, and what depends on what it precedes.
 pub fn precedes_law()
@@ -51,6 +35,26 @@ pub fn network_law()
     ensures rising { (b : Problem) (before : ℕ → ℕ → Bool) (place : ℕ → ℕ) →
         IsPlaced b before place → IsRising b (network b before) }
     ensures own { (b : Problem) (before : ℕ → ℕ → Bool) → HasOwnArcs b (network b before) }
+{}
+
+/// A network with an arc more has it, and no arc or tail that is shorter. What follows still follows if the arc does, and no arcs form a
+/// ring still if it leads up.
+pub fn more_arcs_law()
+    ensures there { (arcs : Network) (e f : Moment) (w : ℕ) → with_arc arcs e w f e f ≡ Some (max w (unwrap_or (arcs e f) 0)) }
+    ensures arcs { (b : Problem) (low : ℕ) (known : List Fact) (arcs : Network) (e f : Moment) (w : ℕ) →
+        AreArcs b low known arcs → Follows b low known (Arc e w f 0) → AreArcs b low known (with_arc arcs e w f) }
+    ensures rising { (b : Problem) (arcs : Network) (e f : Moment) (w : ℕ) (rank : Moment → ℕ) → RisesBy b arcs rank →
+        Among f (targets b) → rank e < rank f → rank f ≤ most_arcs b → RisesBy b (with_arc arcs e w f) rank }
+    ensures own { (b : Problem) (arcs : Network) (e f : Moment) (w : ℕ) → HasOwnArcs b arcs → HasOwnArcs b (with_arc arcs e w f) }
+    ensures longer { (b : Problem) (arcs : Network) (e f m : Moment) (w : ℕ) → tail b arcs m ≤ tail b (with_arc arcs e w f) m }
+{}
+
+/// A test with a known pair more, closed again, is still known, and rises by the same places if the pair does.
+pub fn more_pairs_law()
+    ensures known { (b : Problem) (known : List Fact) (before : ℕ → ℕ → Bool) (j k : ℕ) → IsKnown b known before →
+        IsNumber b j → IsNumber b k → Among (Before j k) known → IsKnown b known (with_pair before j k) }
+    ensures rising { (b : Problem) (before : ℕ → ℕ → Bool) (place : ℕ → ℕ) (j k : ℕ) → IsPlaced b before place →
+        IsNumber b j → IsNumber b k → place j < place k → IsPlaced b (with_pair before j k) place }
 {}
 
 /// If the arcs follow, so does that the end comes a tail later than a moment, and with a prefix that the moment comes no sooner than
