@@ -1,5 +1,5 @@
 -- Each step is so in every order that has what is known, and so is each path of them.
-use Rattle.std.proofs.Common.{ℕ, ◌+◌, ◌≤◌, ◌≡◌, Bool, true, List, [], ◌∷◌, ◌++◌, ap, arith, inl, inr, subst}
+use Rattle.std.proofs.Common.{ℕ, ◌+◌, ◌≤◌, ◌≡◌, Bool, true, List, [], ◌∷◌, ◌++◌, sym, ap, arith, inl, inr, subst}
 use Rattle.s66_model.specs.Timing.{Problem}
 use Rattle.s66_model.specs.LegalOrder.{IsLegal}
 use Rattle.s66_moments.specs.declared.moment.Moment.{Moment}
@@ -70,3 +70,11 @@ table-along Steps reached times kept e f (hop ∷ hops) here path =
     let (there, late) = kept e hop.to hop.wait path.0 here in
     let (end, rest) = table-along Steps reached times kept hop.to f hops there path.1 in
     (end, omega (arith, late, rest))
+
+-- the same from where the paths lead to
+pub table-back : (Steps : Moment → ℕ → Moment → Type 0) (reached : Moment → Bool) (times : Moment → ℕ) → AreKept (λ f w e. Steps e w f) reached times → (e f : Moment) (hops : List Hop) → reached f ≡ true → IsPath Steps e hops f → (reached e ≡ true) × (times f + waits hops ≤ times e)
+table-back Steps reached times kept e f [] there path = (subst (λ m. reached m ≡ true) (sym path) there, omega (arith, ap times path))
+table-back Steps reached times kept e f (hop ∷ hops) there path =
+    let (next, rest) = table-back Steps reached times kept hop.to f hops there path.1 in
+    let (here, late) = kept hop.to e hop.wait path.0 next in
+    (here, omega (arith, late, rest))

@@ -15,9 +15,13 @@ pub fn step_law()
         Leads b known e w f → Follows b low known (Arc e w f 0) }
 {}
 
-/// Times that keep each step from what they reach are no less than any path, and where they reach nothing no path leads.
+/// Times from a moment on that keep each step from what they reach are no less than any path from it, and where they reach nothing no
+/// path leads. The same is so of times before a moment, as tails are.
 pub fn table_law()
-    ensures { (b : Problem) (known : List Fact) (reached : Moment → Bool) (times : Moment → ℕ) →
+    ensures heads { (b : Problem) (known : List Fact) (reached : Moment → Bool) (times : Moment → ℕ) →
         AreKept (IsStep b known) reached times → (e f : Moment) (w : ℕ) → reached e ≡ true → Leads b known e w f →
         (reached f ≡ true) × (times e + w ≤ times f) }
+    ensures tails { (b : Problem) (known : List Fact) (reached : Moment → Bool) (times : Moment → ℕ) →
+        AreKept (λ f w e. IsStep b known e w f) reached times → (e f : Moment) (w : ℕ) → reached f ≡ true → Leads b known e w f →
+        (reached e ≡ true) × (times f + w ≤ times e) }
 {}
