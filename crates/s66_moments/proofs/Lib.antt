@@ -14,3 +14,4 @@ pub mod Preceders
 pub mod CoveredChains
 pub mod WorkedLines
 pub mod MoreArcs
+pub mod NextLeaves

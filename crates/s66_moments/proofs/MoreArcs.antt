@@ -3,7 +3,7 @@ use Rattle.std.proofs.Common.{ℕ, zero, suc, ◌+◌, ◌≤◌, ◌<◌, ◌�
 use Rattle.std.specs.Prelude.{unwrap_or, is_some}
 use Rattle.std.proofs.lemmas.Bool.{cond-true, cond-false, and_parts, and_from, or_cases, eqb-true, eq-eqb, cases_Bool}
 use Rattle.s66_isa.specs.Lists.{Among}
-use Rattle.s66_isa.proofs.Lists.{greatest-le-greatest}
+use Rattle.s66_isa.proofs.Lists.{cases_le, greatest-le-greatest}
 use Rattle.s66_isa.proofs.SameRegister.{same_reg-true, same_reg-self}
 use Rattle.s66_model.specs.Timing.{Problem}
 use Rattle.s66_moments.specs.declared.moment.Stage.{Stage}
@@ -11,8 +11,8 @@ use Rattle.s66_moments.specs.declared.moment.Stage.TheVariants.{Issue, Start, Do
 use Rattle.s66_moments.specs.declared.moment.Moment.{Moment}
 use Rattle.s66_moments.specs.declared.moment.Moment.TheVariants.{Origin, At, End}
 use Rattle.s66_moments.specs.Facts.{Fact, Arc, Before, Follows, IsNumber}
-use Rattle.s66_moments.specs.Paths.{PrecedesBy, Precedes}
-use Rattle.s66_moments.specs.Networks.{Network, IsKnown, IsPlaced, AreArcs, targets, most_arcs, RisesBy, HasOwnArcs, same_stage, same_moment, with_arc, with_pair, through, tail_over, tail}
+use Rattle.s66_moments.specs.Paths.{PrecedesBy, Precedes, IsStep}
+use Rattle.s66_moments.specs.Networks.{Network, IsKnown, IsPlaced, AreArcs, targets, most_arcs, RisesBy, HasOwnArcs, same_stage, same_moment, with_arc, with_pair, through, tail_over, tail, AreSteps}
 use Rattle.s66_moments.proofs.TableArcs.{Some-same}
 use Rattle.s66_moments.proofs.Tails.{some-arc, arc-some}
 
@@ -145,6 +145,41 @@ module _ (arcs : Network) (e : Moment) (w : ℕ) (f : Moment) where
   pub with-longer_tail : (b : Problem) (m : Moment) → tail b arcs m ≤ tail b (with_arc arcs e w f) m
   with-longer_tail b m = tail-grows b (most_arcs b) m
 
+pub with-steps : (b : Problem) (known : List Fact) (arcs : Network) (e : Moment) (w : ℕ) (f : Moment) → AreSteps b known arcs → Among (Arc e w f 0) known → AreSteps b known (with_arc arcs e w f)
+with-steps b known arcs e w f steps among m n v is =
+    elim (with-cases arcs e w f m n) [
+      | inl at ↦
+          let (first, second, there) = at in
+          let value : max w (unwrap_or (arcs e f) 0) ≡ v = Some-same (max w (unwrap_or (arcs e f) 0)) v (there-is there is) in
+          subst (λ k. IsStep b known k v n) (sym first) (subst (λ k. IsStep b known e v k) (sym second) (longer v value))
+      | inr same ↦ steps m n v (there-is same is)
+    ]
+  where
+    there-is : {o p q : Option ℕ} → o ≡ p → o ≡ q → p ≡ q
+    there-is {q = q} one two = subst (λ x. x ≡ q) one two
+
+    -- the known arc, or the one that was there
+    longer : (v : ℕ) → max w (unwrap_or (arcs e f) 0) ≡ v → IsStep b known e v f
+    longer v value =
+        elim (cases_Bool (is_some (arcs e f))) [
+          | inl some ↦ of-two (unwrap_or (arcs e f) 0) v value (steps e f (unwrap_or (arcs e f) 0) (some-arc (arcs e f) some))
+          | inr none ↦ subst (λ x. IsStep b known e x f) (none-value (arcs e f) none v value) (inr (inl among))
+        ]
+      where
+        none-value : (o : Option ℕ) → is_some o ≡ false → (v : ℕ) → max w (unwrap_or o 0) ≡ v → w ≡ v
+        none-value None h v is = omega (arith, is)
+        none-value (Some u) h v is = absurd cc
+
+        of-two : (u v : ℕ) → max w u ≡ v → IsStep b known e u f → IsStep b known e v f
+        of-two u v value old =
+            elim (cases_le u w) [
+              | inl le ↦ subst (λ x. IsStep b known e x f) (low u v value le) (inr (inl among))
+              | inr lt ↦ subst (λ x. IsStep b known e x f) (omega (arith, value, lt)) old
+            ]
+          where
+            low : (u v : ℕ) → max w u ≡ v → u ≤ w → w ≡ v
+            low u v value le = omega (arith, value, le)
+
 -- A PAIR MORE
 
 module _ (b : Problem) (known : List Fact) where
@@ -154,7 +189,7 @@ module _ (b : Problem) (known : List Fact) where
       let (rest, is) = precedes-joined j js k n by.2 then in
       (j ∷ rest, (by.0, by.1, is))
 
-  precedes-through : (m k n : ℕ) → Precedes b known m k → Precedes b known k n → Precedes b known m n
+  pub precedes-through : (m k n : ℕ) → Precedes b known m k → Precedes b known k n → Precedes b known m n
   precedes-through m k n (between, by) then = precedes-joined m between k n by then
 
   pub pair-known : (before : ℕ → ℕ → Bool) (y x : ℕ) → IsKnown b known before → IsNumber b y → IsNumber b x → Among (Before y x) known → IsKnown b known (with_pair before y x)

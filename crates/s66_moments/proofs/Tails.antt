@@ -1,5 +1,5 @@
 -- Tails of a network: each is reached by a path, no path is greater, and each follows from what is known.
-use Rattle.std.proofs.Common.{ℕ, zero, suc, ◌+◌, ◌*◌, ◌-◌, ◌≤◌, ◌<◌, ◌≡◌, Bool, true, false, true≢false, cond, ◌||◌, ◌&&◌, max, List, [], ◌∷◌, ◌++◌, length, map, refl, sym, ap, arith, inl, inr, ◌∙◌, ◌⊎◌, subst, Some, None, Option}
+use Rattle.std.proofs.Common.{ℕ, zero, suc, ◌+◌, ◌-◌, ◌≤◌, ◌<◌, ◌≡◌, Bool, true, false, true≢false, cond, ◌||◌, ◌&&◌, max, List, [], ◌∷◌, ◌++◌, length, map, refl, sym, ap, arith, inl, inr, ◌∙◌, ◌⊎◌, subst, Some, None, Option}
 use Rattle.std.specs.Prelude.{unwrap_or, is_some}
 use Rattle.std.proofs.lemmas.Bool.{cond_both, cond-true, cond-false, or_cases, and_parts, and_from, eqb-true, eq-eqb, ne_eqb, cases_Bool, cases_eq}
 use Rattle.s66_isa.specs.declared.reg.Reg.{Reg}
@@ -16,7 +16,7 @@ use Rattle.s66_moments.specs.declared.moment.Moment.TheVariants.{Origin, At, End
 use Rattle.s66_moments.specs.Moments.{time_of, has_stage, is_moment, soonest, own_arc, arc}
 use Rattle.s66_moments.specs.Facts.{Fact, Arc, Begins, AreSo, Follows}
 use Rattle.s66_moments.specs.Paths.{IsInOrder, Hop, waits}
-use Rattle.s66_moments.specs.Networks.{Network, is_in_order, network, AreArcs, moments_of, moments_among, targets, most_arcs, IsRising, IsPlaced, tail_over, tail, through, IsRemaining, IsNetworkPath, IsKnown, HasOwnArcs, soonest_path, greatest_path}
+use Rattle.s66_moments.specs.Networks.{Network, is_in_order, network, AreArcs, moments_of, moments_among, targets, most_arcs, IsRising, IsPlaced, tail_over, tail, through, IsRemaining, IsNetworkPath, IsKnown, HasOwnArcs, soonest_path, greatest_path, RisesBy, rank_by, stage_rank, precedes, AreSteps}
 use Rattle.s66_model.proofs.Remaining.{remaining-parts, among-remaining, remaining-among, all-remain}
 use Rattle.s66_model.proofs.LongestChain.{greatest-reached}
 use Rattle.s66_moments.proofs.TableArcs.{None-none, moment-parts, moment-number}
@@ -131,16 +131,16 @@ pub arc-some : (o : Option ℕ) (w : ℕ) → o ≡ Some w → (is_some o ≡ tr
 arc-some o w h = rw h (refl, refl)
 
 module _ (b : Problem) (arcs : Network) where
-  tail-reached : (more : ℕ) (e : Moment) → (hops : List Hop) × (f : Moment) × IsNetworkPath arcs e hops f × (waits hops ≡ tail_over b arcs more e)
-  tail-reached zero e = ([], e, refl, refl)
+  pub tail-reached : (more : ℕ) (e : Moment) → (hops : List Hop) × (f : Moment) × IsNetworkPath arcs e hops f × (waits hops ≡ tail_over b arcs more e) × (is_moment b e ≡ true → is_moment b f ≡ true)
+  tail-reached zero e = ([], e, refl, refl, λ h. h)
   tail-reached (suc more) e =
       let (f, among, same) = greatest-reached (through arcs (tail_over b arcs more) e) End (targets b) (inl refl) in
       elim (cases_Bool (is_some (arcs e f))) [
         | inl goes ↦
-            let (hops, g, path, takes) = tail-reached more f in
+            let (hops, g, path, takes, ends) = tail-reached more f in
             let first : Hop = record { wait = unwrap_or (arcs e f) 0; to = f } in
-            (first ∷ hops, g, (some-arc (arcs e f) goes, path), omega (arith, same, takes, cond-true {A = ℕ} (is_some (arcs e f)) (unwrap_or (arcs e f) 0 + tail_over b arcs more f) 0 goes))
-        | inr ends ↦ ([], e, refl, omega (arith, same, cond-false {A = ℕ} (is_some (arcs e f)) (unwrap_or (arcs e f) 0 + tail_over b arcs more f) 0 ends))
+            (first ∷ hops, g, (some-arc (arcs e f) goes, path), omega (arith, same, takes, cond-true {A = ℕ} (is_some (arcs e f)) (unwrap_or (arcs e f) 0 + tail_over b arcs more f) 0 goes), λ h. ends (target-moment b f among))
+        | inr none ↦ ([], e, refl, omega (arith, same, cond-false {A = ℕ} (is_some (arcs e f)) (unwrap_or (arcs e f) 0 + tail_over b arcs more f) 0 none), λ h. h)
       ]
 
   -- NONE IS GREATER
@@ -175,7 +175,7 @@ module _ (b : Problem) (arcs : Network) where
     -- an arc and what follows it
     pub tail-step : (e f : Moment) (w : ℕ) → arcs e f ≡ Some w → w + tail b arcs f ≤ tail b arcs e
     tail-step e f w is =
-        let (hops, g, path, takes) = tail-reached (most_arcs b) f in
+        let (hops, g, path, takes, ends) = tail-reached (most_arcs b) f in
         let first : Hop = record { wait = w; to = f } in
         let le : waits (first ∷ hops) ≤ tail b arcs e = path-tail e (first ∷ hops) g (is, path) in
         omega (arith, takes, le)
@@ -194,7 +194,7 @@ module _ (b : Problem) (arcs : Network) where
 
     pub tail-again : (e : Moment) → tail b arcs e ≡ greatest (through arcs (tail b arcs) e) (targets b)
     tail-again e =
-        let (hops, f, path, takes) = tail-reached (most_arcs b) e in
+        let (hops, f, path, takes, ends) = tail-reached (most_arcs b) e in
         let above : greatest (through arcs (tail b arcs) e) (targets b) ≤ tail b arcs e =
         greatest-le (through arcs (tail b arcs) e) (tail b arcs e) (targets b) (λ f among.
         cond_both (is_some (arcs e f)) (unwrap_or (arcs e f) 0 + tail b arcs f) 0 (λ t. t ≤ tail b arcs e)
@@ -217,7 +217,7 @@ module _ (b : Problem) (arcs : Network) where
   greatest-is_path prefix n remains =
       let (e, among, same) = greatest-reached (soonest_path b arcs prefix) (At n Issue) (moments_among b (remaining b.block prefix)) (moment-among b prefix n Issue remains refl) in
       let (m, stage, is, left, there) = all-among b e (remaining b.block prefix) among in
-      let (hops, f, path, takes) = tail-reached (most_arcs b) (At m stage) in
+      let (hops, f, path, takes, ends) = tail-reached (most_arcs b) (At m stage) in
       (m, stage, hops, f, (remaining-among b.block prefix m left, there), path, omega (arith, takes, same, ap (soonest_path b arcs prefix) is))
 
   -- TAILS FOLLOW from what is known, if the arcs do
@@ -289,21 +289,19 @@ module _ (b : Problem) (before : ℕ → ℕ → Bool) where
   in-order-is known each End (At n f) is_e is_f h = tt
   in-order-is known each End End is_e is_f h = tt
 
+  pub network-steps : (known : List Fact) → IsKnown b known before → AreSteps b known (network b before)
+  network-steps known is e f w h =
+      let (is_e, is_f, stands, at) = network-parts e f w h in
+      inl (in-order-is known is e f is_e is_f stands, is_f, at)
+
   pub network-follows : (low : ℕ) (known : List Fact) → IsKnown b known before → AreArcs b low known (network b before)
   network-follows low known each e f w h order legal less so =
-      let (is_e, is_f, stands, is) = network-parts e f w h in
-      omega (arith, step-so b known order legal so e w f (inl (in-order-is known each e f is_e is_f stands, is_f, is)))
+      omega (arith, step-so b known order legal so e w f (network-steps known each e f w h))
 
 pub network-own : (b : Problem) (before : ℕ → ℕ → Bool) → HasOwnArcs b (network b before)
 network-own b before n e f w is_e is_f is = (w, rw (is_e, is_f, eq-eqb n n refl) is, omega arith)
 
 -- ARCS LEAD UP
-
-abbrev stage_rank : Stage → ℕ
-stage_rank Issue = 0
-stage_rank Start = 1
-stage_rank (Done x) = 2
-stage_rank Free = 3
 
 stage-small : (stage : Stage) → stage_rank stage ≤ 3
 stage-small Issue = omega arith
@@ -331,9 +329,7 @@ own-rises r Free Free w h = absurd (None-none w h)
 
 module _ (b : Problem) (before : ℕ → ℕ → Bool) (place : ℕ → ℕ) (placed : IsPlaced b before place) where
   abbrev place_rank : Moment → ℕ
-  place_rank Origin = 0
-  place_rank (At n stage) = 4 * place n + stage_rank stage - 3
-  place_rank End = most_arcs b
+  place_rank e = rank_by b place e
 
   abbrev LeadsUp : Moment → Moment → Type 0
   LeadsUp e f = Among f (targets b) × (place_rank e < place_rank f) × (place_rank f ≤ most_arcs b)
@@ -370,10 +366,19 @@ module _ (b : Problem) (before : ℕ → ℕ → Bool) (place : ℕ → ℕ) (pl
   leads-up End (At n f) w is_e is_f stands is = absurd (None-none w is)
   leads-up End End w is_e is_f stands is = absurd (None-none w is)
 
+  pub network-rises_by : RisesBy b (network b before) (rank_by b place)
+  network-rises_by e f some =
+      let w : ℕ = unwrap_or (network b before e f) 0 in
+      let (is_e, is_f, stands, is) = network-parts b before e f w (some-arc (network b before e f) some) in
+      leads-up e f w is_e is_f stands is
+
   pub network-rises : IsRising b (network b before)
-  network-rises = (
-    place_rank,
-    λ e f some. (let w : ℕ = unwrap_or (network b before e f) 0 in
-        let (is_e, is_f, stands, is) = network-parts b before e f w (some-arc (network b before e f) some) in
-        leads-up e f w is_e is_f stands is),
-  )
+  network-rises = (rank_by b place, network-rises_by)
+
+-- BY DEPENDENCE no order is below the greatest path
+
+pub dependence-below : (b : Problem) (prefix rest : List ℕ) → IsKnown b [] (precedes b.block) → IsLegal b.block (prefix ++ rest) → greatest_path b (network b (precedes b.block)) prefix ≤ total_of b (prefix ++ rest)
+dependence-below b prefix rest known legal =
+    let low : ℕ = total_of b (prefix ++ rest) + 1 in
+    let late = greatest-follows b (network b (precedes b.block)) low [] (network-follows b (precedes b.block) low [] known) prefix (prefix ++ rest) legal (omega arith) ((rest, refl), tt) in
+    omega (arith, late)

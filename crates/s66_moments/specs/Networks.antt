@@ -1,5 +1,5 @@
 -- Used by contracts of what computes floors and checks paths: networks of arcs, and the greatest path through one, by what follows each moment, which is known before anything is placed.
-use Rattle.std.specs.Prelude.{ℕ, zero, suc, ◌+◌, ◌*◌, ◌≡◌, ◌≤◌, ◌<◌, Bool, true, false, if◌then◌else◌, ◌||◌, ◌&&◌, ◌==◌, max, List, [], ◌∷◌, ◌++◌, map, length, nat_lt, Option, Some, None, unwrap_or, is_some}
+use Rattle.std.specs.Prelude.{ℕ, zero, suc, ◌+◌, ◌-◌, ◌*◌, ◌≡◌, ◌≤◌, ◌<◌, Bool, true, false, if◌then◌else◌, ◌||◌, ◌&&◌, ◌==◌, max, List, [], ◌∷◌, ◌++◌, map, length, nat_lt, Option, Some, None, unwrap_or, is_some}
 use Rattle.s66_isa.specs.declared.instr.Instr.{Instr}
 use Rattle.s66_isa.specs.declared.instr.Kind.{Kind}
 use Rattle.s66_isa.specs.Lists.{greatest, some_of, tally, least_from, Among}
@@ -13,7 +13,7 @@ use Rattle.s66_moments.specs.declared.moment.Moment.{Moment}
 use Rattle.s66_moments.specs.declared.moment.Moment.TheVariants.{Origin, At, End}
 use Rattle.s66_moments.specs.Moments.{is_moment, has_stage, soonest, own_arc, arc}
 use Rattle.s66_moments.specs.Facts.{Fact, Arc, Follows, IsNumber}
-use Rattle.s66_moments.specs.Paths.{Precedes, Hop, IsPath}
+use Rattle.s66_moments.specs.Paths.{Precedes, IsStep, Hop, IsPath}
 
 -- NETWORKS: how much later each moment comes at least than each other, None where nothing is said
 
@@ -40,6 +40,10 @@ precedes block m n = precedes_over block (length block) m n
 -- so it is known
 abbrev pub IsKnown : Problem → List Fact → (ℕ → ℕ → Bool) → Type 0
 IsKnown b known before = (m n : ℕ) → IsNumber b m → IsNumber b n → before m n ≡ true → Precedes b known m n
+
+-- each arc is a step by what is known
+abbrev pub AreSteps : Problem → List Fact → Network → Type 0
+AreSteps b known arcs = (e f : Moment) (w : ℕ) → arcs e f ≡ Some w → IsStep b known e w f
 
 -- each arc follows from what is known
 abbrev pub AreArcs : Problem → ℕ → List Fact → Network → Type 0
@@ -72,6 +76,18 @@ IsRising b arcs = (rank : Moment → ℕ) × RisesBy b arcs rank
 abbrev pub IsPlaced : Problem → (ℕ → ℕ → Bool) → (ℕ → ℕ) → Type 0
 IsPlaced b before place =
     ((n : ℕ) → IsNumber b n → IsNumber b (place n)) × ((m n : ℕ) → IsNumber b m → IsNumber b n → before m n ≡ true → place m < place n)
+
+-- the ranks that these places give: the stages of each instruction one above the other, between the origin and the end
+abbrev pub stage_rank : Stage → ℕ
+stage_rank Issue = 0
+stage_rank Start = 1
+stage_rank (Done x) = 2
+stage_rank Free = 3
+
+abbrev pub rank_by : Problem → (ℕ → ℕ) → Moment → ℕ
+rank_by b place Origin = 0
+rank_by b place (At n stage) = 4 * place n + stage_rank stage - 3
+rank_by b place End = most_arcs b
 
 -- no arc of an instruction is missing, or shorter than in the table
 abbrev pub HasOwnArcs : Problem → Network → Type 0

@@ -10,7 +10,7 @@ mod paths;
 
 pub use examples::{arc_examples, line_examples, line_tree_examples, path_examples};
 pub use facts::{fact_law, load_arc_law, pair_law, prefix_law};
-pub use lines::{line_law, line_tree_law};
+pub use lines::{line_law, line_tree_law, next_leaf_law};
 pub use moment::{Moment, Stage};
 pub use networks::{
     covered_law, greatest_path_law, more_arcs_law, more_pairs_law, network_law, path_words_law,

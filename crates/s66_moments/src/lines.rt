@@ -1,14 +1,19 @@
 //! Lines that each give a fact, and trees that show a bound by them.
 
-ghost use Rattle.std.specs.Prelude.{ℕ, List, [], ◌++◌, ◌≤◌};
+ghost use Rattle.std.specs.Prelude.{ℕ, List, [], ◌∷◌, ◌++◌, ◌+◌, ◌≤◌};
 ghost use Rattle.s66_model.specs.declared.rule.Rule.{Rule};
 ghost use Rattle.s66_model.specs.Timing.{Problem, total_of};
 ghost use Rattle.s66_model.specs.LegalOrder.{IsLegal};
 ghost use Rattle.s66_model.specs.BestAndBound.{IsBound};
 ghost use Rattle.s66_model.specs.Tree.{Tree};
-ghost use Rattle.s66_moments.specs.Facts.{Fact, Follows};
+ghost use Rattle.s66_moments.specs.declared.moment.Stage.{Stage};
+ghost use Rattle.s66_moments.specs.declared.moment.Moment.TheVariants.{At};
+ghost use Rattle.s66_moments.specs.Moments.{soonest};
+ghost use Rattle.s66_moments.specs.Facts.{Fact, Begins, Follows, IsNumber};
+ghost use Rattle.s66_moments.specs.Paths.{Precedes, IsPlacedFirst};
+ghost use Rattle.s66_moments.specs.Networks.{Network, AreSteps, IsRemaining, tail};
 ghost use Rattle.s66_moments.specs.FactLines.{Line, fact_of, IsFounded, AreFounded, facts_after};
-ghost use Rattle.s66_moments.specs.LineTrees.{LineEnding, ShowsByLines};
+ghost use Rattle.s66_moments.specs.LineTrees.{LineEnding, IsTooLate, ShowsByLines};
 
 /// A line's fact follows from what is known before it, if it is founded on that. So what follows from all lines follows from what was
 /// known before them, and lines that are founded for a time are founded for each that is less.
@@ -19,6 +24,16 @@ pub fn line_law()
         AreFounded b low known lines → Follows b low (facts_after known lines) fact → Follows b low known fact }
     ensures lower { (b : Problem) (low other : ℕ) (known : List Fact) (lines : List Line) →
         other ≤ low → AreFounded b low known lines → AreFounded b other known lines }
+{}
+
+/// An unsplit prefix is closed if a moment of what remains, as if its instruction came next, and its tail reach low by known arcs. So it
+/// is if it has a number and not one that is known to precede it.
+pub fn next_leaf_law()
+    ensures next { (b : Problem) (low : ℕ) (known : List Fact) (prefix : List ℕ) (arcs : Network) (n : ℕ) (stage : Stage) →
+        AreSteps b known arcs → IsRemaining b prefix n stage →
+        low ≤ soonest b prefix n stage + tail b arcs (At n stage) → IsTooLate b low (Begins prefix ∷ known) }
+    ensures turned { (b : Problem) (low : ℕ) (known : List Fact) (prefix : List ℕ) (m n : ℕ) → IsNumber b m → IsNumber b n →
+        Precedes b known m n → IsPlacedFirst prefix n m → IsTooLate b low (Begins prefix ∷ known) }
 {}
 
 /// What a tree shows by lines, by leaves and by dominated leaves of one rule is at most the total of every legal order that begins

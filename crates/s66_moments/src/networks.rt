@@ -1,11 +1,11 @@
 //! Networks of arcs, what follows each moment in them, and the greatest path of what remains after a prefix.
 
-ghost use Rattle.std.specs.Prelude.{ℕ, List, Bool, ◌∷◌, ◌+◌, ◌≡◌, ◌≤◌, ◌<◌, ◌⊎◌, true, length, max, Some, unwrap_or};
+ghost use Rattle.std.specs.Prelude.{ℕ, List, Bool, ◌∷◌, ◌++◌, ◌+◌, ◌≡◌, ◌≤◌, ◌<◌, ◌⊎◌, true, length, max, Some, unwrap_or};
 ghost use Rattle.s66_isa.specs.declared.instr.Instr.{Instr};
 ghost use Rattle.s66_isa.specs.Lists.{greatest, Among};
-ghost use Rattle.s66_model.specs.Timing.{Problem};
+ghost use Rattle.s66_model.specs.Timing.{Problem, total_of};
 ghost use Rattle.s66_model.specs.Dependence.{depends};
-ghost use Rattle.s66_model.specs.LegalOrder.{is_remaining, remaining};
+ghost use Rattle.s66_model.specs.LegalOrder.{IsLegal, is_remaining, remaining};
 ghost use Rattle.s66_model.specs.Leaves.{IsChain, chain_value};
 ghost use Rattle.s66_moments.specs.declared.moment.Stage.{Stage};
 ghost use Rattle.s66_moments.specs.declared.moment.Moment.{Moment};
@@ -13,9 +13,10 @@ ghost use Rattle.s66_moments.specs.declared.moment.Moment.TheVariants.{Origin, A
 ghost use Rattle.s66_moments.specs.Moments.{is_moment, soonest};
 ghost use Rattle.s66_moments.specs.Facts.{Fact, Arc, Before, Begins, Follows, IsNumber};
 ghost use Rattle.s66_moments.specs.Paths.{Hop, waits};
-ghost use Rattle.s66_moments.specs.Networks.{Network, network, precedes, IsKnown, AreArcs, IsRising, IsPlaced, HasOwnArcs, targets, tail, through, IsRemaining, IsNetworkPath, greatest_path, by_words, RisesBy, with_arc, with_pair, most_arcs};
+ghost use Rattle.s66_moments.specs.Networks.{Network, network, precedes, IsKnown, AreArcs, IsRising, IsPlaced, HasOwnArcs, targets, tail, through, IsRemaining, IsNetworkPath, greatest_path, by_words, RisesBy, with_arc, with_pair, most_arcs, rank_by, AreSteps};
 
-/// What a number precedes by dependence: what depends on it, and what depends on what it precedes.
+/// What a number precedes by dependence: what depends on it, and what depends on what it precedes. This is so whatever is known, and
+/// rises, so that no number precedes itself.
 pub fn precedes_law()
     ensures near { (block : List Instr) (m n : ℕ) → depends block m n ≡ true → precedes block m n ≡ true }
     ensures far { (block : List Instr) (m k n : ℕ) →
@@ -30,10 +31,12 @@ pub fn precedes_law()
 /// The arcs of the table, by a test which number stands first, follow from what is known if the test does. They have no ring if the
 /// numbers have places by which the test rises, and lack no arc of an instruction.
 pub fn network_law()
+    ensures steps { (b : Problem) (known : List Fact) (before : ℕ → ℕ → Bool) →
+        IsKnown b known before → AreSteps b known (network b before) }
     ensures arcs { (b : Problem) (low : ℕ) (known : List Fact) (before : ℕ → ℕ → Bool) →
         IsKnown b known before → AreArcs b low known (network b before) }
     ensures rising { (b : Problem) (before : ℕ → ℕ → Bool) (place : ℕ → ℕ) →
-        IsPlaced b before place → IsRising b (network b before) }
+        IsPlaced b before place → RisesBy b (network b before) (rank_by b place) }
     ensures own { (b : Problem) (before : ℕ → ℕ → Bool) → HasOwnArcs b (network b before) }
 {}
 
@@ -41,6 +44,8 @@ pub fn network_law()
 /// ring still if it leads up.
 pub fn more_arcs_law()
     ensures there { (arcs : Network) (e f : Moment) (w : ℕ) → with_arc arcs e w f e f ≡ Some (max w (unwrap_or (arcs e f) 0)) }
+    ensures steps { (b : Problem) (known : List Fact) (arcs : Network) (e f : Moment) (w : ℕ) →
+        AreSteps b known arcs → Among (Arc e w f 0) known → AreSteps b known (with_arc arcs e w f) }
     ensures arcs { (b : Problem) (low : ℕ) (known : List Fact) (arcs : Network) (e f : Moment) (w : ℕ) →
         AreArcs b low known arcs → Follows b low known (Arc e w f 0) → AreArcs b low known (with_arc arcs e w f) }
     ensures rising { (b : Problem) (arcs : Network) (e f : Moment) (w : ℕ) (rank : Moment → ℕ) → RisesBy b arcs rank →
@@ -57,8 +62,9 @@ pub fn more_pairs_law()
         IsNumber b j → IsNumber b k → place j < place k → IsPlaced b (with_pair before j k) place }
 {}
 
-/// If the arcs follow, so does that the end comes a tail later than a moment, and with a prefix that the moment comes no sooner than
-/// if its instruction came next. If no arcs form a ring, a tail is the greatest of the arcs from there, each with what follows it.
+/// The end comes a tail later than a moment at least, if the arcs follow; so a moment of what remains, as if its instruction came next,
+/// and its tail are a lower bound of all orders that begin so. If no arcs form a ring, a tail is the greatest of the arcs from there,
+/// each with what follows it.
 pub fn tail_path_law()
     ensures tail { (b : Problem) (low : ℕ) (known : List Fact) (arcs : Network) (e : Moment) →
         AreArcs b low known arcs → is_moment b e ≡ true → Follows b low known (Arc e (tail b arcs e) End 0) }
@@ -69,11 +75,13 @@ pub fn tail_path_law()
         tail b arcs e ≡ greatest (through arcs (tail b arcs) e) (targets b) }
 {}
 
-/// The greatest path of what remains is a lower bound of all orders that begin so, if its arcs follow. While a number remains some
-/// path takes it, and if no arcs form a ring none is greater.
+/// The greatest path of what remains is a lower bound of all orders that begin so, if its arcs follow, as those by dependence do. While
+/// a number remains some path takes it, and if no arcs form a ring none is greater.
 pub fn greatest_path_law()
     ensures below { (b : Problem) (low : ℕ) (known : List Fact) (arcs : Network) (prefix : List ℕ) →
         AreArcs b low known arcs → Follows b low (Begins prefix ∷ known) (Arc Origin (greatest_path b arcs prefix) End 0) }
+    ensures by_dependence { (b : Problem) (prefix rest : List ℕ) → IsLegal b.block (prefix ++ rest) →
+        greatest_path b (network b (precedes b.block)) prefix ≤ total_of b (prefix ++ rest) }
     ensures greatest { (b : Problem) (arcs : Network) (prefix : List ℕ) (n : ℕ) (stage : Stage) (hops : List Hop) (f : Moment) →
         IsRising b arcs → IsRemaining b prefix n stage → IsNetworkPath arcs (At n stage) hops f →
         soonest b prefix n stage + waits hops ≤ greatest_path b arcs prefix }

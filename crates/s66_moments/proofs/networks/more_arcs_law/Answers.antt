@@ -1,8 +1,11 @@
-use Rattle.s66_moments.proofs.MoreArcs.{with-there, with-follows, with-rises, with-own, with-longer_tail}
+use Rattle.s66_moments.proofs.MoreArcs.{with-steps, with-there, with-follows, with-rises, with-own, with-longer_tail}
 use Rattle.s66_moments.proofs.networks.more_arcs_law.Goals as goal
 
 pub returns-clause-there : goal.returns-clause-there
 returns-clause-there c = λ arcs e f w. with-there arcs e w f
+
+pub returns-clause-steps : goal.returns-clause-steps
+returns-clause-steps c = λ b known arcs e f w steps among. with-steps b known arcs e w f steps among
 
 pub returns-clause-arcs : goal.returns-clause-arcs
 returns-clause-arcs c = λ b low known arcs e f w follow more. with-follows arcs e w f b low known follow more
