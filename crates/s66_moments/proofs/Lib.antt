@@ -14,4 +14,5 @@ pub mod Preceders
 pub mod CoveredChains
 pub mod WorkedLines
 pub mod MoreArcs
+pub mod Rings
 pub mod NextLeaves

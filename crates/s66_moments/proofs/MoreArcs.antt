@@ -1,5 +1,5 @@
 -- A network with an arc more, and a test with a pair more.
-use Rattle.std.proofs.Common.{ℕ, zero, suc, ◌+◌, ◌≤◌, ◌<◌, ◌≡◌, Bool, true, false, true≢false, ◌||◌, ◌&&◌, max, List, [], ◌∷◌, refl, sym, ap, arith, inl, inr, eqb, ◌∙◌, ◌⊎◌, subst, Some, None, Option}
+use Rattle.std.proofs.Common.{ℕ, zero, suc, ◌+◌, ◌≤◌, ◌<◌, ◌≡◌, Bool, true, false, true≢false, ◌&&◌, max, List, [], ◌∷◌, refl, sym, ap, arith, inl, inr, eqb, ◌∙◌, ◌⊎◌, subst, Some, None, Option}
 use Rattle.std.specs.Prelude.{unwrap_or, is_some}
 use Rattle.std.proofs.lemmas.Bool.{cond-true, cond-false, and_parts, and_from, or_cases, eqb-true, eq-eqb, cases_Bool}
 use Rattle.s66_isa.specs.Lists.{Among}
@@ -12,7 +12,7 @@ use Rattle.s66_moments.specs.declared.moment.Moment.{Moment}
 use Rattle.s66_moments.specs.declared.moment.Moment.TheVariants.{Origin, At, End}
 use Rattle.s66_moments.specs.Facts.{Fact, Arc, Before, Follows, IsNumber}
 use Rattle.s66_moments.specs.Paths.{PrecedesBy, Precedes, IsStep}
-use Rattle.s66_moments.specs.Networks.{Network, IsKnown, IsPlaced, AreArcs, targets, most_arcs, RisesBy, HasOwnArcs, same_stage, same_moment, with_arc, with_pair, through, tail_over, tail, AreSteps}
+use Rattle.s66_moments.specs.Networks.{Network, IsKnown, AreArcs, targets, most_arcs, RisesBy, HasOwnArcs, same_stage, same_moment, with_arc, with_pair, through, tail_over, tail, AreSteps}
 use Rattle.s66_moments.proofs.TableArcs.{Some-same}
 use Rattle.s66_moments.proofs.Tails.{some-arc, arc-some}
 
@@ -208,23 +208,3 @@ module _ (b : Problem) (known : List Fact) where
               | inr past ↦ precedes-through m y n (is m y is_m is_y past) late
             ]
       ]
-
-pub pair-placed : (b : Problem) (before : ℕ → ℕ → Bool) (place : ℕ → ℕ) (y x : ℕ) → IsPlaced b before place → IsNumber b y → IsNumber b x → place y < place x → IsPlaced b (with_pair before y x) place
-pair-placed b before place y x placed is_y is_x up = (placed.0, rises)
-  where
-    rises : (m n : ℕ) → IsNumber b m → IsNumber b n → with_pair before y x m n ≡ true → place m < place n
-    rises m n is_m is_n h =
-        elim (or_cases (before m n) _ h) [
-          | inl old ↦ placed.1 m n is_m is_n old
-          | inr more ↦
-              let (first, second) = and_parts (eqb m y || before m y) (eqb n x || before x n) more in
-              let low : place m ≤ place y = elim (or_cases (eqb m y) (before m y) first) [
-                | inl here ↦ omega (arith, ap place (eqb-true m y here))
-                | inr past ↦ omega (arith, placed.1 m y is_m is_y past)
-              ] in
-              let high : place x ≤ place n = elim (or_cases (eqb n x) (before x n) second) [
-                | inl here ↦ omega (arith, ap place (eqb-true n x here))
-                | inr past ↦ omega (arith, placed.1 x n is_x is_n past)
-              ] in
-              omega (arith, low, high, up)
-        ]

@@ -1,6 +1,6 @@
 -- What precedes a number by dependence: what it depends on, and what precedes one of these.
 use Rattle.std.proofs.Common.{ℕ, zero, suc, ◌+◌, ◌-◌, ◌≤◌, ◌<◌, ◌≡◌, Bool, true, ◌&&◌, List, [], ◌∷◌, ◌++◌, length, refl, arith, inl, inr, ap, sym, ◌∙◌, ◌⊎◌}
-use Rattle.std.proofs.lemmas.Bool.{or_cases, or_left, or_right, and_parts, and_from}
+use Rattle.std.proofs.lemmas.Bool.{cases_Bool, or_cases, or_left, or_right, and_parts, and_from}
 use Rattle.s66_isa.specs.declared.instr.Instr.{Instr}
 use Rattle.s66_isa.specs.Lists.{some_of, Among}
 use Rattle.s66_isa.specs.Table.{numbers}
@@ -9,7 +9,7 @@ use Rattle.s66_model.specs.Timing.{Problem}
 use Rattle.s66_model.specs.Dependence.{depends}
 use Rattle.s66_moments.specs.Facts.{Fact, IsNumber}
 use Rattle.s66_moments.specs.Paths.{PrecedesBy, Precedes}
-use Rattle.s66_moments.specs.Networks.{IsPlaced, precedes_over, precedes}
+use Rattle.s66_moments.specs.Networks.{IsPlaced, IsTransitive, HasNoRing, precedes_over, precedes}
 use Rattle.s66_model.proofs.LegalOrders.{depends-lt, depends-from}
 
 some-among : (test : ℕ → Bool) (ns : List ℕ) → some_of test ns ≡ true → (k : ℕ) × Among k ns × (test k ≡ true)
@@ -103,6 +103,27 @@ module _ (block : List Instr) where
         | inl here ↦ depends-lt block m n here
         | inr past ↦ (let (k, among, first, then) = past in omega (arith, rises more m k first, depends-lt block k n then))
       ]
+
+  -- and over all between the two
+  joined : (more m k n : ℕ) → n ≤ length block → precedes block m k ≡ true → precedes_over block more k n ≡ true → precedes block m n ≡ true
+  joined zero m k n high first then = precedes-far m k n high first then
+  joined (suc more) m k n high first then =
+      elim (last-between more k n then) [
+        | inl here ↦ precedes-far m k n high first here
+        | inr past ↦
+            let (i, among, middle, last) = past in
+            precedes-far m i n high (joined more m k i (omega (arith, high, depends-lt block i n last)) first middle) last
+      ]
+
+pub precedes-transitive : (b : Problem) → IsTransitive b (precedes b.block)
+precedes-transitive b m k n is_m is_k is_n first then = joined b.block (length b.block) m k n is_n.1 first then
+
+pub precedes-no_ring : (b : Problem) → HasNoRing b (precedes b.block)
+precedes-no_ring b n is =
+    elim (cases_Bool (precedes b.block n n)) [
+      | inl ring ↦ absurd (omega (arith, rises b.block (length b.block) n n ring))
+      | inr none ↦ none
+    ]
 
 -- the numbers are places by which it rises
 pub precedes-placed : (b : Problem) → IsPlaced b (precedes b.block) (λ n. n)

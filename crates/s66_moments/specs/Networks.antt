@@ -118,6 +118,19 @@ with_arc arcs e w f m n = if same_moment m e && same_moment n f then Some (max w
 abbrev pub with_pair : (ℕ → ℕ → Bool) → ℕ → ℕ → ℕ → ℕ → Bool
 with_pair before j k m n = before m n || (m == j || before m j) && (n == k || before k n)
 
+-- what stands before what stands before a number, stands before it
+abbrev pub IsTransitive : Problem → (ℕ → ℕ → Bool) → Type 0
+IsTransitive b before =
+    (m k n : ℕ) → IsNumber b m → IsNumber b k → IsNumber b n → before m k ≡ true → before k n ≡ true → before m n ≡ true
+
+-- no number stands before itself
+abbrev pub HasNoRing : Problem → (ℕ → ℕ → Bool) → Type 0
+HasNoRing b before = (n : ℕ) → IsNumber b n → before n n ≡ false
+
+-- a number's place by how many stand before it
+abbrev pub place_by : Problem → (ℕ → ℕ → Bool) → ℕ → ℕ
+place_by b before n = 1 + tally (λ m. before m n) (numbers b.block)
+
 -- WHAT FOLLOWS A MOMENT
 
 -- an arc from e to f, and what follows f; 0 if there is none

@@ -1,6 +1,6 @@
 //! Networks of arcs, what follows each moment in them, and the greatest path of what remains after a prefix.
 
-ghost use Rattle.std.specs.Prelude.{ℕ, List, Bool, ◌∷◌, ◌++◌, ◌+◌, ◌≡◌, ◌≤◌, ◌<◌, ◌⊎◌, true, length, max, Some, unwrap_or};
+ghost use Rattle.std.specs.Prelude.{ℕ, List, Bool, ◌∷◌, ◌++◌, ◌+◌, ◌≡◌, ◌≢◌, ◌≤◌, ◌<◌, ◌⊎◌, true, false, length, max, Some, unwrap_or};
 ghost use Rattle.s66_isa.specs.declared.instr.Instr.{Instr};
 ghost use Rattle.s66_isa.specs.Lists.{greatest, Among};
 ghost use Rattle.s66_model.specs.Timing.{Problem, total_of};
@@ -13,10 +13,10 @@ ghost use Rattle.s66_moments.specs.declared.moment.Moment.TheVariants.{Origin, A
 ghost use Rattle.s66_moments.specs.Moments.{is_moment, soonest};
 ghost use Rattle.s66_moments.specs.Facts.{Fact, Arc, Before, Begins, Follows, IsNumber};
 ghost use Rattle.s66_moments.specs.Paths.{Hop, waits};
-ghost use Rattle.s66_moments.specs.Networks.{Network, network, precedes, IsKnown, AreArcs, IsRising, IsPlaced, HasOwnArcs, targets, tail, through, IsRemaining, IsNetworkPath, greatest_path, by_words, RisesBy, with_arc, with_pair, most_arcs, rank_by, AreSteps};
+ghost use Rattle.s66_moments.specs.Networks.{Network, network, precedes, IsKnown, AreArcs, IsRising, IsPlaced, HasOwnArcs, targets, tail, through, IsRemaining, IsNetworkPath, greatest_path, by_words, RisesBy, with_arc, with_pair, most_arcs, rank_by, AreSteps, IsTransitive, HasNoRing, place_by};
 
-/// What a number precedes by dependence: what depends on it, and what depends on what it precedes. This is so whatever is known, and
-/// rises, so that no number precedes itself.
+/// What a number precedes by dependence: what depends on it, and what depends on what it precedes. This is so whatever is known,
+/// transitive, and without a ring.
 pub fn precedes_law()
     ensures near { (block : List Instr) (m n : ℕ) → depends block m n ≡ true → precedes block m n ≡ true }
     ensures far { (block : List Instr) (m k n : ℕ) →
@@ -25,7 +25,9 @@ pub fn precedes_law()
         (depends block m n ≡ true)
         ⊎ ((k : ℕ) × (1 ≤ k) × (k < n) × (precedes block m k ≡ true) × (depends block k n ≡ true)) }
     ensures known { (b : Problem) (known : List Fact) → IsKnown b known (precedes b.block) }
-    ensures rising { (b : Problem) → IsPlaced b (precedes b.block) (λ n. n) }
+    ensures transitive { (b : Problem) → IsTransitive b (precedes b.block) }
+    ensures no_ring { (b : Problem) → HasNoRing b (precedes b.block) }
+    ensures places { (b : Problem) → IsPlaced b (precedes b.block) (λ n. n) }
 {}
 
 /// The arcs of the table, by a test which number stands first, follow from what is known if the test does. They have no ring if the
@@ -54,12 +56,17 @@ pub fn more_arcs_law()
     ensures longer { (b : Problem) (arcs : Network) (e f m : Moment) (w : ℕ) → tail b arcs m ≤ tail b (with_arc arcs e w f) m }
 {}
 
-/// A test with a known pair more, closed again, is still known, and rises by the same places if the pair does.
+/// A test with a known pair more, closed again, is still known and transitive. It has no ring if the pair wasn't known the other way
+/// round, and if there is none, the numbers have places.
 pub fn more_pairs_law()
     ensures known { (b : Problem) (known : List Fact) (before : ℕ → ℕ → Bool) (j k : ℕ) → IsKnown b known before →
         IsNumber b j → IsNumber b k → Among (Before j k) known → IsKnown b known (with_pair before j k) }
-    ensures rising { (b : Problem) (before : ℕ → ℕ → Bool) (place : ℕ → ℕ) (j k : ℕ) → IsPlaced b before place →
-        IsNumber b j → IsNumber b k → place j < place k → IsPlaced b (with_pair before j k) place }
+    ensures transitive { (b : Problem) (before : ℕ → ℕ → Bool) (j k : ℕ) → IsNumber b j → IsNumber b k →
+        IsTransitive b before → IsTransitive b (with_pair before j k) }
+    ensures no_ring { (b : Problem) (before : ℕ → ℕ → Bool) (j k : ℕ) → IsNumber b j → IsNumber b k → IsTransitive b before →
+        HasNoRing b before → j ≢ k → before k j ≡ false → HasNoRing b (with_pair before j k) }
+    ensures places { (b : Problem) (before : ℕ → ℕ → Bool) →
+        IsTransitive b before → HasNoRing b before → IsPlaced b before (place_by b before) }
 {}
 
 /// The end comes a tail later than a moment at least, if the arcs follow; so a moment of what remains, as if its instruction came next,

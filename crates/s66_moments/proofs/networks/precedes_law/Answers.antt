@@ -1,4 +1,4 @@
-use Rattle.s66_moments.proofs.Preceders.{precedes-near, precedes-far, precedes-cases, precedes-known, precedes-placed}
+use Rattle.s66_moments.proofs.Preceders.{precedes-near, precedes-far, precedes-cases, precedes-known, precedes-transitive, precedes-no_ring, precedes-placed}
 use Rattle.s66_moments.proofs.networks.precedes_law.Goals as goal
 
 pub returns-clause-near : goal.returns-clause-near
@@ -13,5 +13,11 @@ returns-clause-cases c = precedes-cases
 pub returns-clause-known : goal.returns-clause-known
 returns-clause-known c = λ b known. precedes-known b known
 
-pub returns-clause-rising : goal.returns-clause-rising
-returns-clause-rising c = precedes-placed
+pub returns-clause-transitive : goal.returns-clause-transitive
+returns-clause-transitive c = precedes-transitive
+
+pub returns-clause-no_ring : goal.returns-clause-no_ring
+returns-clause-no_ring c = precedes-no_ring
+
+pub returns-clause-places : goal.returns-clause-places
+returns-clause-places c = precedes-placed
