@@ -10,7 +10,7 @@ use Rattle.s66_moments.specs.Facts.{Before, Begins}
 use Rattle.s66_moments.specs.Paths.{Leads}
 use Rattle.s66_moments.specs.FactLines.{ForcedPair, IsFounded}
 use Rattle.s66_moments.specs.LineTrees.{IsTooLate}
-use Rattle.s66_moments.specs.Examples.{hop, booleans_between, load_line, inner_line, until_free_line, two_copies_line, two_free_adds, still_line, first_of_two, two_sums}
+use Rattle.s66_moments.specs.Examples.{hop, two_adds, booleans_between, load_line, inner_line, until_free_line, two_copies_line, two_free_adds, still_line, first_of_two, two_sums}
 
 -- TWO OF ONE UNIT BETWEEN
 
@@ -96,3 +96,14 @@ ring = inr (2, (lit≤ tt, lit≤ tt), (3 ∷ [], (inr (inl (inl refl)), (lit≤
 pub turned : IsTooLate (standard_problem first_of_two) 15 (Begins (2 ∷ []) ∷ Before 1 2 ∷ [])
 unfolding row conflict issue_of start_of point
 turned = inr (1, (lit≤ tt, lit≤ tt), (2 ∷ [], (inr (inl (inr (inl refl))), (lit≤ tt, lit≤ tt), (inr (inr (2 ∷ [], inl refl, (refl, refl))), (lit≤ tt, lit≤ tt)))))
+
+-- WHAT IS PLACED
+
+pub placed_total : IsTooLate (standard_problem two_adds) 5 (Begins (1 ∷ []) ∷ [])
+unfolding row conflict issue_of start_of point
+placed_total = inl (hop 5 End ∷ [], (inr (inr (refl, (1 ∷ [], inl refl, refl))), refl), lit≤ tt)
+
+-- the second issues when the unit of the first is free
+pub over_placed : IsTooLate (standard_problem two_adds) 10 (Begins (1 ∷ []) ∷ [])
+unfolding row conflict issue_of start_of point
+over_placed = inl (hop 5 (At 1 Free) ∷ hop 0 (At 2 Issue) ∷ hop 0 (At 2 Start) ∷ hop 5 (At 2 Free) ∷ hop 0 End ∷ [], (inr (inr (refl, (1 ∷ [], inl refl, inl (refl, refl)))), (inl (inr ([], (inl refl, (lit≤ tt, lit≤ tt))), refl, refl), (inl (inl refl, refl, refl), (inl (inl refl, refl, refl), (inl (tt, refl, refl), refl))))), lit≤ tt)

@@ -19,6 +19,7 @@ ghost use Rattle.s66_model.specs.Examples.{
   store_then_load,
   two_loads,
   three_increments,
+  late_result,
 };
 ghost use Rattle.s66_moments.specs.declared.moment.Stage.TheVariants.{Issue, Start, Done, Free};
 ghost use Rattle.s66_moments.specs.declared.moment.Moment.TheVariants.{Origin, At, End};
@@ -59,6 +60,7 @@ pub fn arc_examples()
     ensures held_result_to_free { arc_in one_load 1 (Done (a_reg 1)) 1 Free ≡ Some 1 }
     ensures fetched_result_to_free { arc_in one_load 1 (Done (x_reg 1)) 1 Free ≡ None }
     ensures issues_in_order { arc_in two_adds 1 Issue 2 Issue ≡ Some 1 }
+    ensures issue_after_two_parcels { arc_in late_result 1 Issue 3 Issue ≡ Some 2 }
     ensures no_issues_of_two_that_may_change_places { arc_in one_load 1 Issue 3 Issue ≡ None }
     ensures no_issues_back { arc_in two_adds 2 Issue 1 Issue ≡ None }
     ensures first_order { arc_in first_order 1 (Done (x_reg 1)) 2 Issue ≡ Some 0 }
@@ -113,6 +115,8 @@ pub fn line_examples()
     ensures late_by_the_unit { IsFounded (standard_problem two_sums) 11 [] (ForcedPair 3 2) }
     ensures late_the_other_way { IsFounded (standard_problem two_sums) 11 (Before 3 2 ∷ []) (ForcedPair 2 3) }
     ensures ring { IsTooLate (standard_problem two_sums) 11 (Before 2 3 ∷ Before 3 2 ∷ []) }
+    ensures total_of_a_prefix { IsTooLate (standard_problem two_adds) 5 (Begins (1 ∷ []) ∷ []) }
+    ensures over_what_is_placed { IsTooLate (standard_problem two_adds) 10 (Begins (1 ∷ []) ∷ []) }
     ensures turned_by_a_prefix { IsTooLate (standard_problem first_of_two) 15 (Begins (2 ∷ []) ∷ Before 1 2 ∷ []) }
 {}
 

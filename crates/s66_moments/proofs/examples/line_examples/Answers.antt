@@ -1,4 +1,4 @@
-use Rattle.s66_moments.proofs.WorkedLines.{from_start, between_two, until_free, two_copies, still, by_parcels, by_unit, other_way, ring, turned}
+use Rattle.s66_moments.proofs.WorkedLines.{from_start, between_two, until_free, two_copies, still, by_parcels, by_unit, other_way, ring, placed_total, over_placed, turned}
 use Rattle.s66_moments.proofs.examples.line_examples.Goals as goal
 
 pub returns-clause-from_the_start : goal.returns-clause-from_the_start
@@ -30,3 +30,9 @@ returns-clause-ring c = ring
 
 pub returns-clause-turned_by_a_prefix : goal.returns-clause-turned_by_a_prefix
 returns-clause-turned_by_a_prefix c = turned
+
+pub returns-clause-total_of_a_prefix : goal.returns-clause-total_of_a_prefix
+returns-clause-total_of_a_prefix c = placed_total
+
+pub returns-clause-over_what_is_placed : goal.returns-clause-over_what_is_placed
+returns-clause-over_what_is_placed c = over_placed
