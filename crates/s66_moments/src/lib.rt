@@ -16,4 +16,4 @@ pub use networks::{
     covered_law, greatest_path_law, more_arcs_law, more_pairs_law, network_law, path_words_law,
     precedes_law, tail_path_law,
 };
-pub use paths::{step_law, table_law};
+pub use paths::{path_law, table_law};

@@ -8,7 +8,7 @@ ghost use Rattle.s66_moments.specs.Paths.{IsStep, AreKept, Leads};
 
 /// In each legal order that has what is known, a step takes as long at least as it says: by an arc of the table, by a known fact, or
 /// by what a known prefix decides. So does a path of steps.
-pub fn step_law()
+pub fn path_law()
     ensures step { (b : Problem) (low : ℕ) (known : List Fact) (e f : Moment) (w : ℕ) →
         IsStep b known e w f → Follows b low known (Arc e w f 0) }
     ensures path { (b : Problem) (low : ℕ) (known : List Fact) (e f : Moment) (w : ℕ) →
