@@ -152,18 +152,25 @@ impl<'a, R: Clock> Gate for Held<'a, R> {
     }
 }
 
-/// A gate that is always open, and records which workers have claimed.
+/// A gate that is always open, and records which workers have claimed, and how many pieces came.
 #[derive(Drop)]
 pub struct Claimants {
     /// A bit for each, at its number.
     workers: AtomicU32,
+    pieces: AtomicU32,
 }
 
 impl Claimants {
     pub fn none() -> Claimants {
         Claimants {
             workers: AtomicU32::new(0),
+            pieces: AtomicU32::new(0),
         }
+    }
+
+    /// How many pieces workers have come to graft.
+    pub fn pieces(&self) -> u32 {
+        self.pieces.load(Ordering::SeqCst)
     }
 
     /// A bit for each worker that has claimed, at its number.
@@ -173,7 +180,9 @@ impl Claimants {
 }
 
 impl Gate for Claimants {
-    fn before_graft(&self, _w: u8) {}
+    fn before_graft(&self, _w: u8) {
+        self.pieces.fetch_add(1, Ordering::SeqCst);
+    }
 
     fn after_claim(&self, w: u8, _got: bool) {
         self.workers

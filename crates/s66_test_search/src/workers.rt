@@ -5,9 +5,10 @@ ghost use Rattle.s66_model.specs.declared.limits.TheConstants.{WORKERS_LIMIT};
 use crate::gates::{Claimants, Filling, Held, Meeting};
 use crate::hub::open_hub;
 use s66_isa::Profile;
+use s66_ledger::Ledger;
 use s66_line::Block;
 use s66_model::{BUDGET_LIMIT, Options, Rule};
-use s66_pool::{FIRST_SPLITS, Free, Gate, Seat, run, work};
+use s66_pool::{FIRST_SPLITS, Free, Gate, Hub, Seat, run, work};
 use s66_source::read_source;
 use s66_test_blocks::{MULTIPLIES, SEVEN_MULTIPLIES, only_block};
 use std::process::Abort;
@@ -112,6 +113,53 @@ fn splits_of(seats: &[Seat]) -> (u32, u32) {
     (sum, fewest)
 }
 
+/// What workers leave of a search.
+#[derive(Clone, Copy)]
+struct Left {
+    /// How many splits all of them have spent.
+    splits: u32,
+    /// How many the one has spent that has spent the fewest.
+    fewest: u32,
+    /// What every order takes at least.
+    bound: u32,
+}
+
+/// Lets workers search a block by a rule from the first split on, as long as they find something to do.
+fn left_by<R: AllocGlobal + Abort + Threads + Wait + Sync, G: Gate + Sync>(
+    rt: &R,
+    block: &Block,
+    rule: Rule,
+    workers: u8,
+    gate: &G,
+) -> Left
+    requires { 1 ≤ workers }
+{
+    let alloc = rt.alloc();
+    let profile = Profile::standard();
+    let options = Options {
+        workers,
+        nodes: BUDGET_LIMIT,
+        rule,
+    };
+    let ledger = Ledger::by_rule(alloc, block, &profile, rule, BUDGET_LIMIT, workers).expect(
+        rt, "memory",
+    );
+    let (hub, seats) = Hub::new(alloc, ledger).expect(rt, "memory");
+    let Ok(seats) = work(rt, &hub, seats, block, &profile, options, gate) else {
+        panic!(rt; "no memory")
+    };
+    let (splits, fewest) = splits_of(seats.as_slice());
+    let Ok(ledger) = hub.close(seats) else {
+        panic!(rt; "all seats are there")
+    };
+    assert_eq!(rt; ledger.splits(), splits);
+    Left {
+        splits,
+        fewest,
+        bound: ledger.bound(),
+    }
+}
+
 /// Lets workers search five multiplies, and checks that they leave nothing to be done. Returns how many splits the worker that
 /// spent the fewest has spent.
 fn search_all<R: AllocGlobal + Abort + Threads + Wait + Sync, G: Gate + Sync>(
@@ -122,23 +170,9 @@ fn search_all<R: AllocGlobal + Abort + Threads + Wait + Sync, G: Gate + Sync>(
 ) -> u32
     requires { 1 ≤ workers }
 {
-    let profile = Profile::standard();
-    let options = Options {
-        workers,
-        nodes: BUDGET_LIMIT,
-        rule: Rule::NoneNamed,
-    };
-    let (hub, seats) = open_hub(rt, block, BUDGET_LIMIT, workers);
-    let Ok(seats) = work(rt, &hub, seats, block, &profile, options, gate) else {
-        panic!(rt; "no memory")
-    };
-    let (sum, fewest) = splits_of(seats.as_slice());
-    let Ok(ledger) = hub.close(seats) else {
-        panic!(rt; "all seats are there")
-    };
-    let stated = (sum, ledger.splits(), ledger.bound());
-    assert_eq!(rt; stated, (ALL_SPLITS, ALL_SPLITS, 33));
-    fewest
+    let left = left_by(rt, block, Rule::NoneNamed, workers, gate);
+    assert_eq!(rt; (left.splits, left.bound), (ALL_SPLITS, 33));
+    left.fewest
 }
 
 #[test]
@@ -189,6 +223,55 @@ fn grafted_nodes_are_named(rt: HostRuntime) -> Result<(), Fail> {
     check_named(&rt, block, 4)
 }
 
+/// Every order takes 16, and the first beginning that is known of a set of numbers dominates all others: one split for each set.
+const SEVEN_ALIKE: &str = "  SB0 B1\n  SB0 B1\n  SB0 B1\n  SB0 B1\n  SB0 B1\n  SB0 B1\n  SB0 B1\n";
+
+/// How many sets lack some of the seven.
+const SETS: u32 = 127;
+
+/// A worker names the nodes of its earlier pieces, so that it splits none of a set twice. Two name each other's: they may split
+/// again only what the other is about to graft.
+#[test]
+fn each_set_is_split_once(rt: HostRuntime) -> Result<(), Fail> {
+    let source = read_source(rt.alloc(), SEVEN_ALIKE.as_bytes())?;
+    let block = only_block(&source).expect(&rt, "one block");
+    let left = left_by(&rt, block, Rule::ClampedStanding, 1, &Free);
+    assert_eq!(rt; (left.splits, left.bound), (SETS, 16));
+    let gate = Held::new(&rt, Meeting::Grafts);
+    let left = left_by(&rt, block, Rule::ClampedStanding, 2, &gate);
+    gate.check(&rt);
+    assert!(rt; 0 < left.fewest);
+    assert!(rt; left.splits < 2 * SETS, "{}", left.splits);
+    assert_eq!(rt; left.bound, 16);
+    Ok(())
+}
+
+/// The best order takes 30, the source order 32. Workers that don't read the hint before each split take 138 splits.
+const UNPACK: &str =
+    "  SA1 B4\n  MX0 54\n  LX1 6\n  BX6 -X0*X1\n  SA6 B5\n  LX1 6\n  BX6 -X0*X1\n  SA6 A6+B1\n  LX1 6\n  BX6 -X0*X1\n  SA6 A6+B1\n  LX1 6\n  BX6 -X0*X1\n  SA6 A6+B1\n";
+
+/// The best order takes 20, the source order 29. Workers that don't lower the hint by the orders that they find take 4,020 splits.
+const FOUR_LOADS: &str =
+    "  SA1 A1+B1\n  BX6 X1\n  SA2 A2+B1\n  BX7 X2\n  SA3 A3+B1\n  BX0 X3\n  SA4 A4+B1\n  LX4 X4,B2\n";
+
+/// Lets a worker search a block to its end; returns how many splits that takes, and the bound.
+fn search_by_one<R: AllocGlobal + Abort + Threads + Wait + Sync>(
+    rt: &R,
+    text: &str,
+) -> Result<(u32, u32), Fail> {
+    let source = read_source(rt.alloc(), text.as_bytes())?;
+    let block = only_block(&source).expect(rt, "one block");
+    let left = left_by(rt, block, Rule::NoneNamed, 1, &Free);
+    Ok((left.splits, left.bound))
+}
+
+#[test]
+fn hint_saves_splits(rt: HostRuntime) -> Result<(), Fail> {
+    assert_eq!(rt; search_by_one(&rt, UNPACK)?, (55, 30));
+    assert_eq!(rt; search_by_one(&rt, FOUR_LOADS)?, (127, 20));
+    Ok(())
+}
+
 /// After its first piece, of at most 64 splits, a worker claims several nodes: all but one go into its lane.
 #[test]
 fn lane_fills(rt: HostRuntime) -> Result<(), Fail> {
@@ -229,6 +312,30 @@ fn long_search_is_shared(rt: HostRuntime) -> Result<(), Fail> {
     let gate = Held::new(&rt, Meeting::Claims);
     assert_eq!(rt; run_seven(&rt, 2, BUDGET_LIMIT, &gate)?, (44, 8660));
     gate.check(&rt);
+    Ok(())
+}
+
+/// Thirteen alike have 8,191 sets that lack some: workers search by the rule of the search what the first splits leave.
+#[test]
+fn workers_name_nodes(rt: HostRuntime) -> Result<(), Fail> {
+    let alloc = rt.alloc();
+    let text = vec![in alloc; *b"  SB0 B1\n"; 13]?;
+    let source = read_source(alloc, text.as_flattened())?;
+    let block = only_block(&source).expect(&rt, "one block");
+    let options = Options {
+        workers: 2,
+        nodes: BUDGET_LIMIT,
+        rule: Rule::ClampedStanding,
+    };
+    let gate = Claimants::none();
+    let answer = run(&rt, block, &Profile::standard(), options, &gate)?;
+    assert_eq!(rt; answer.bound(), answer.time());
+    assert!(rt;
+        8_191 <= answer.splits() && answer.splits() < 16_382,
+        "{}",
+        answer.splits()
+    );
+    assert!(rt; 16 < gate.pieces(), "{}", gate.pieces());
     Ok(())
 }
 
