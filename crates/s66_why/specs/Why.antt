@@ -1,0 +1,205 @@
+-- To be believed: for how long each instruction of a timed order is kept back and what holds it, and the chain of waits that its time comes from.
+use Rattle.std.specs.Prelude.{ℕ, ◌+◌, ◌-◌, Bool, false, if◌then◌else◌, ◌&&◌, ◌||◌, ◌==◌, not, min, List, [], ◌∷◌, ◌++◌, codes, decimal, flat_map, length, map, nat_lt, replicate, reverse}
+use Rattle.s66_isa.specs.Lists.{after_blanks, weigh}
+use Rattle.s66_isa.specs.Table.{Reg, Write, same_reg, same_kind, has_reg, memory_pair}
+use Rattle.s66_isa.specs.declared.instr.Kind.{Kind}
+use Rattle.s66_isa.specs.declared.instr.Kind.TheVariants.{Boolean, Shift, Add, LongAdd, Multiply, Divide, Increment}
+use Rattle.s66_isa.specs.declared.reg.Bank.{Bank}
+use Rattle.s66_isa.specs.declared.reg.Bank.TheVariants.{A, B, X}
+use Rattle.s66_model.specs.Timing.{Point, done_at, end_of, points_of, total}
+use Rattle.s66_time.specs.TimedOrder.{TimedOrder}
+use Rattle.s66_why.specs.declared.cause.Cause.{Cause}
+use Rattle.s66_why.specs.declared.cause.Cause.TheVariants.{Writes, Takes, References, Reads, Ends}
+use Rattle.s66_why.specs.declared.cause.Holder.{Holder}
+use Rattle.s66_why.specs.declared.stretch.Conflict.{Conflict}
+use Rattle.s66_why.specs.declared.stretch.Conflict.TheVariants.{First, Second, Third}
+use Rattle.s66_why.specs.declared.stretch.Stretch.{Stretch}
+use Rattle.s66_why.specs.declared.path.Link.{Link}
+use Rattle.s66_why.specs.declared.path.Link.TheVariants.{Held, InLine}
+-- the examples open it, to compute numbers
+unfoldable pub use Rattle.std.specs.Fmt.{digits}
+
+-- Points are in order, the newest first, as in Timing: s are all points before p.
+
+-- WHAT HOLDS
+
+-- an instruction stops to be a cause to wait at t
+abbrev pub lets_go : Cause → ℕ → Point → Bool
+lets_go (Writes r) t q = done_at q r == t
+lets_go (Takes kind) t q = same_kind q.row.kind kind && q.free == t
+lets_go (References memory) t q = memory_pair q.row.memory memory && q.start + 1 == t
+lets_go (Reads r) t q = has_reg r q.row.reads && q.start + 1 == t
+lets_go Ends t q = end_of q == t
+
+-- the lower of two numbers, of which 0 is none
+abbrev pub lower : ℕ → ℕ → ℕ
+lower n m = if m == 0 then n else min n m
+
+-- the lowest number of those that let go then, 0 if none does
+abbrev pub lowest : Cause → ℕ → List Point → ℕ
+lowest cause t [] = 0
+lowest cause t (q ∷ s) = if lets_go cause t q then lower q.number (lowest cause t s) else lowest cause t s
+
+abbrev pub holder : Cause → ℕ → List Point → Holder
+holder cause t s = record { cause = cause; number = lowest cause t s }
+
+abbrev pub nobody : Holder
+nobody = record { cause = Ends; number = 0 }
+
+-- the first, unless the second has a lower number, or there is no first
+abbrev pub sooner : Holder → Holder → Holder
+sooner a b = if not (b.number == 0) && (a.number == 0 || nat_lt b.number a.number) then b else a
+
+-- the first, or the second if there is no first
+abbrev pub or_else : Holder → Holder → Holder
+or_else a b = if a.number == 0 then b else a
+
+-- of those whose results in these registers are done then the one of the lowest number, and of equal ones the first register;
+-- or the holder so far, if that is sooner
+abbrev pub soonest : Holder → ℕ → List Point → List Reg → Holder
+soonest best t s [] = best
+soonest best t s (r ∷ rs) = soonest (sooner best (holder (Writes r) t s)) t s rs
+
+-- what p waits for until it issues: a result in a register that it writes, or else a unit
+abbrev pub first_holder : List Point → Point → Holder
+first_holder s p = or_else (soonest nobody p.issue s (map (λ (w : Write). w.reg) p.row.writes)) (holder (Takes p.row.kind) p.issue s)
+
+-- until it starts: a result in a register that it reads, or else a reference to memory
+abbrev pub second_holder : List Point → Point → Holder
+second_holder s p = or_else (soonest nobody p.start s p.row.reads) (holder (References p.row.memory) p.start s)
+
+-- until its result is done: a reader of the register
+abbrev pub third_holder : List Point → Point → Write → Holder
+third_holder s p w = holder (Reads w.reg) (done_at p w.reg) s
+
+-- FOR HOW LONG
+
+-- the minor cycle in which p issues if only the parcels before it are waited for
+abbrev pub slot : List Point → Point → ℕ
+slot [] p = 0
+slot (q ∷ s) p = q.issue + (p.parcel - q.parcel)
+
+-- the instruction is kept back from one minor cycle to another, if the second is later
+abbrev pub stretch : Point → Conflict → (from to : ℕ) → Holder → List Stretch
+stretch p conflict from to holder =
+    if nat_lt from to then record { number = p.number; conflict = conflict; from = from; to = to; holder = holder } ∷ [] else []
+
+abbrev pub first_stretch : List Point → Point → List Stretch
+first_stretch s p = stretch p First (slot s p) p.issue (first_holder s p)
+
+abbrev pub second_stretch : List Point → Point → List Stretch
+second_stretch s p = stretch p Second p.issue p.start (second_holder s p)
+
+abbrev pub third_stretch : List Point → Point → Write → List Stretch
+third_stretch s p w = stretch p Third (p.start + w.latency) (done_at p w.reg) (third_holder s p w)
+
+abbrev pub stretches_at : List Point → Point → List Stretch
+stretches_at s p = first_stretch s p ++ second_stretch s p ++ flat_map (third_stretch s p) p.row.writes
+
+abbrev pub stretches : List Point → List Stretch
+stretches [] = []
+stretches (p ∷ s) = stretches s ++ stretches_at s p
+
+-- THE PATH
+
+-- what p waited for last until it issued: a holder, or whatever held the line before it
+abbrev pub before_issue : List Point → Point → Link
+before_issue s p = if nat_lt (slot s p) p.issue then Held (first_holder s p) else InLine
+
+-- until it started
+abbrev pub before_start : List Point → Point → Link
+before_start s p = if nat_lt p.issue p.start then Held (second_holder s p) else before_issue s p
+
+-- when this result of p is done, p lets go for this cause
+abbrev pub decides : Cause → Point → Write → Bool
+decides (Writes r) p w = same_reg w.reg r
+decides (Takes kind) p w = w.held && done_at p w.reg == p.free - 1
+decides (References memory) p w = false
+decides (Reads r) p w = false
+decides Ends p w = done_at p w.reg == end_of p || (p.free == end_of p && w.held && done_at p w.reg == p.free - 1)
+
+-- until it let go for this cause, which one of these results may have decided that was held for a reader
+abbrev pub before : Cause → List Point → Point → List Write → Link
+before cause s p [] = before_start s p
+before cause s p (w ∷ ws) = if decides cause p w && nat_lt (p.start + w.latency) (done_at p w.reg) then Held (third_holder s p w) else before cause s p ws
+
+-- p is where the link leads
+abbrev pub is_linked : Link → List Point → Point → Bool
+is_linked (Held h) s p = p.number == h.number
+is_linked InLine s p = nat_lt (slot s p) p.issue
+
+abbrev pub next_link : Link → List Point → Point → Link
+next_link (Held h) s p = before h.cause s p p.row.writes
+next_link InLine s p = Held (first_holder s p)
+
+-- the numbers from a link on, the latest first
+abbrev pub walk : Link → List Point → List ℕ
+walk link [] = []
+walk link (p ∷ s) = if is_linked link s p then p.number ∷ walk (next_link link s p) s else walk link s
+
+-- the numbers to the instruction that ends last
+abbrev pub path : List Point → List ℕ
+path s = reverse (walk (Held (holder Ends (total s) s)) s)
+
+-- WHAT IS WRITTEN
+
+abbrev pub kind_name : Kind → List ℕ
+kind_name Boolean = codes "BOOLEAN"
+kind_name Shift = codes "SHIFT"
+kind_name Add = codes "ADD"
+kind_name LongAdd = codes "LONGADD"
+kind_name Multiply = codes "MULTIPLY"
+kind_name Divide = codes "DIVIDE"
+kind_name Increment = codes "INCREMENT"
+
+abbrev pub bank_name : Bank → List ℕ
+bank_name A = codes "A"
+bank_name B = codes "B"
+bank_name X = codes "X"
+
+abbrev pub register_text : Reg → List ℕ
+register_text r = codes " REGISTER " ++ bank_name r.bank ++ decimal r.digit
+
+abbrev pub cause_text : Cause → List ℕ
+cause_text (Writes r) = register_text r
+cause_text (Takes kind) = codes " UNIT " ++ kind_name kind
+cause_text (References memory) = codes " MEMORY"
+cause_text (Reads r) = register_text r
+cause_text Ends = codes " END"
+
+abbrev pub conflict_name : Conflict → List ℕ
+conflict_name First = codes "FIRST"
+conflict_name Second = codes "SECOND"
+conflict_name Third = codes "THIRD"
+
+-- right in three places
+abbrev pub in_three : ℕ → List ℕ
+in_three n = replicate (3 - length (decimal n)) 32 ++ decimal n
+
+abbrev pub stretch_line : Stretch → List ℕ
+stretch_line x =
+    in_three x.number ++ codes " " ++ conflict_name x.conflict ++ codes " " ++ decimal x.from ++ codes " TO " ++ decimal x.to
+    ++ cause_text x.holder.cause ++ codes " BY " ++ decimal x.holder.number ++ codes "\n"
+
+abbrev pub path_line : List ℕ → List ℕ
+path_line numbers = codes "PATH" ++ after_blanks numbers ++ codes "\n"
+
+abbrev pub conflict_number : Conflict → ℕ
+conflict_number First = 1
+conflict_number Second = 2
+conflict_number Third = 3
+
+-- how many minor cycles the stretches of a conflict are long, in sum
+abbrev pub lost : Conflict → List Stretch → ℕ
+lost conflict xs = weigh (λ (x : Stretch). if conflict_number x.conflict == conflict_number conflict then x.to - x.from else 0) xs
+
+abbrev pub lost_line : List Stretch → List ℕ
+lost_line xs =
+    codes "LOST FIRST " ++ decimal (lost First xs) ++ codes " SECOND " ++ decimal (lost Second xs) ++ codes " THIRD " ++ decimal (lost Third xs) ++ codes "\n"
+
+-- of the points of an order
+abbrev pub text_of_points : List Point → List ℕ
+text_of_points s = flat_map stretch_line (stretches s) ++ path_line (path s) ++ lost_line (stretches s)
+
+abbrev pub why_text : TimedOrder → List ℕ
+why_text t = text_of_points (points_of t.problem t.numbers)

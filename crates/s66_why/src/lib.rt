@@ -1,0 +1,13 @@
+//! Why instructions of a timed order wait, what each waits for, and which waits its time comes from.
+#![tactic(auto)]
+
+mod cause;
+mod holders;
+mod lost;
+mod path;
+mod placed;
+mod points;
+mod stretch;
+mod text;
+
+pub use text::push_why;

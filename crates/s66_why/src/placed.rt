@@ -1,0 +1,128 @@
+ghost use Rattle.std.specs.Prelude.{◌≡◌, if◌then◌else◌, max};
+ghost use Rattle.s66_isa.specs.Lists.{greatest};
+ghost use Rattle.s66_isa.specs.Table.{same_reg};
+ghost use Rattle.s66_model.specs.Timing.{ResultAt as ResultOf, done_at, end_of};
+ghost use Rattle.s66_why.specs.Why.{lets_go};
+
+use crate::cause::Cause;
+use arrayvec::ArrayVec;
+use s66_isa::{Reg, Row, has_register, is_memory_conflict, is_same_kind, is_same_register};
+use std::marker::Model;
+
+/// A result: its register, the minor cycle in which it is done, and whether the unit holds it.
+#[derive(Clone, Copy, Debug, Default, Drop)]
+pub struct ResultAt {
+    pub reg: Reg,
+    pub time: u32,
+    pub held: bool,
+}
+
+impl Model for ResultAt {
+    ghost use Rattle.s66_model.specs.Timing.{ResultAt};
+
+    ghost Value = { ResultAt };
+
+    ghost view = { λ d. record { reg = d.reg; time = d.time; held = d.held } };
+
+    ghost inverse = { λ d. record { reg = d.reg; time = d.time; held = d.held } };
+}
+
+impl ResultAt {
+    /// When it is done, if it is in this register; 0 if it is in another.
+    fn time_in(&self, register: Reg) -> u32
+        ensures { result ≡ if same_reg self.now.reg register then self.now.time else 0 }
+    {
+        if is_same_register(self.reg, register) {
+            self.time
+        } else {
+            0
+        }
+    }
+}
+
+/// An instruction at its place in a timed order: its parcel from 0, and its times in minor cycles.
+#[derive(Debug, Drop)]
+pub struct Placed {
+    pub number: u8,
+    pub row: Row,
+    pub parcel: u32,
+    pub issue: u32,
+    pub start: u32,
+    pub results: ArrayVec<ResultAt, 2>,
+    pub free: u32,
+}
+
+impl Model for Placed {
+    ghost use Rattle.std.specs.Prelude.{◌≤◌};
+    ghost use Rattle.s66_model.specs.Timing.{Point};
+    ghost use Rattle.s66_time.specs.declared.limits.TheConstants.{TOTAL_LIMIT};
+
+    ghost Value = { Point };
+
+    ghost view = { λ p. record { number = p.number; row = p.row; parcel = p.parcel; issue = p.issue; start = p.start; results = p.results.items; free = p.free } };
+
+    ghost invariant = { λ p. (p.parcel ≤ p.issue) × (p.issue ≤ p.start) × (p.start ≤ TOTAL_LIMIT) };
+}
+
+impl Default for Placed {
+    /// A blank: a list makes one for each place that isn't taken.
+    fn default() -> Placed {
+        Placed {
+            number: 0,
+            row: Row::default(),
+            parcel: 0,
+            issue: 0,
+            start: 0,
+            results: ArrayVec::new(),
+            free: 0,
+        }
+    }
+}
+
+impl Placed {
+    /// When its result in a register is done; 0 if it has none.
+    pub fn done_at(&self, register: Reg) -> u32
+        ensures { result ≡ done_at self.now register }
+    {
+        let mut done = 0u32;
+        for made in self.results.as_slice() {
+            done = done.max(made.time_in(register));
+        }
+        done
+    }
+
+    /// When its last result is done; 0 if it has none.
+    fn last_result(&self) -> u32
+        ensures { result ≡ greatest (λ (d : ResultOf). d.time) self.now.results }
+    {
+        let mut last = 0u32;
+        for made in self.results.as_slice() {
+            last = last.max(made.time);
+        }
+        last
+    }
+
+    /// When its unit is free and its results are done.
+    pub fn end(&self) -> u32
+        ensures { result ≡ end_of self.now }
+    {
+        self.free.max(self.last_result())
+    }
+
+    /// Whether another no longer waits for it from this time on.
+    pub fn lets_go(&self, cause: &Cause, time: u32) -> bool
+        ensures { result ≡ lets_go cause.now time self.now }
+    {
+        match cause {
+            Cause::Writes(register) => self.done_at(*register) == time,
+            Cause::Takes(kind) => is_same_kind(self.row.kind, *kind) && self.free == time,
+            Cause::References(memory) => {
+                is_memory_conflict(self.row.memory, *memory) && self.start + 1 == time
+            }
+            Cause::Reads(register) => {
+                has_register(self.row.reads.as_slice(), *register) && self.start + 1 == time
+            }
+            Cause::Ends => self.end() == time,
+        }
+    }
+}

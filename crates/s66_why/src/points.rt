@@ -1,0 +1,76 @@
+ghost use Rattle.std.specs.Prelude.{◌≡◌, ◌+◌, ◌<◌, ◌≤◌, length, map, reverse, take};
+ghost use Rattle.s66_isa.specs.Lists.{greatest};
+ghost use Rattle.s66_isa.specs.Table.{Write as WriteOf};
+ghost use Rattle.s66_model.specs.Timing.{points_of, readers_wait, result_at};
+ghost use Rattle.s66_time.specs.TimedOrder.{point_at};
+ghost use Rattle.s66_time.specs.declared.limits.TheConstants.{TOTAL_LIMIT};
+
+use crate::placed::{Placed, ResultAt};
+use arrayvec::ArrayVec;
+use s66_isa::{BLOCK_LIMIT, Reg, Row, Write, has_register};
+use s66_time::Timed;
+
+/// One minor cycle after the last start of a register's readers; 0 if there is none.
+fn readers_wait(earlier: &[Placed], register: Reg) -> u32
+    ensures value { result ≡ readers_wait (reverse earlier.now) register }
+    ensures at_most { result ≤ TOTAL_LIMIT + 1 }
+{
+    let mut wait = 0u32;
+    for point in earlier {
+        if has_register(point.row.reads.as_slice(), register) {
+            wait = wait.max(point.start + 1);
+        }
+    }
+    wait
+}
+
+/// When each result is done of an instruction that starts then after the earlier ones.
+fn results(earlier: &[Placed], row: &Row, start: u32) -> ArrayVec<ResultAt, 2>
+    requires { start ≤ TOTAL_LIMIT }
+    ensures { result.items ≡ map (result_at (reverse earlier.now) start) row.now.writes }
+{
+    let mut results = ArrayVec::new();
+    for write in row.writes.as_slice() {
+        let wait = readers_wait(earlier, write.reg);
+        results.push(ResultAt {
+            reg: write.reg,
+            time: (start + write.latency).max(wait),
+            held: write.held,
+        });
+    }
+    results
+}
+
+/// The instruction at a position, after the earlier ones.
+fn placed(timed: &Timed, position: usize, earlier: &[Placed]) -> Placed
+    requires position { position < length timed.now.numbers }
+    requires earlier { earlier.now ≡ reverse (points_of timed.now.problem (take position timed.now.numbers)) }
+    ensures { result ≡ point_at timed.now position }
+{
+    let times = timed.at(position);
+    let order = timed.order();
+    let number = order.numbers()[position];
+    let row = Row::of(&order.instr(number as usize), timed.profile());
+    let results = results(earlier, &row, times.start);
+    Placed {
+        number,
+        row,
+        parcel: times.parcel,
+        issue: times.issue,
+        start: times.start,
+        results,
+        free: times.free,
+    }
+}
+
+/// The instructions of a timed order, in order. Each looks back over those before it.
+pub fn points_of(timed: &Timed) -> ArrayVec<Placed, BLOCK_LIMIT>
+    ensures { result.items ≡ reverse (points_of timed.now.problem timed.now.numbers) }
+{
+    let mut points = ArrayVec::new();
+    for position in 0..timed.order().numbers().len() {
+        let point = placed(timed, position, points.as_slice());
+        points.push(point);
+    }
+    points
+}

@@ -1,0 +1,96 @@
+ghost use Rattle.std.specs.Prelude.{◌≡◌, ◌≤◌, option_to_list, reverse};
+ghost use Rattle.s66_why.specs.Why.{slot, first_stretch, second_stretch, third_stretch};
+
+use crate::cause::Holder;
+use crate::holders::{first_holder, second_holder, third_holder};
+use crate::placed::Placed;
+use s66_isa::Write;
+
+/// Thornton's orders of conflict.
+#[derive(Clone, Copy, Debug, PartialEq, Eq)]
+pub enum Conflict {
+    /// An instruction can't issue.
+    First,
+    /// It can't start.
+    Second,
+    /// It can't hand in its result.
+    Third,
+}
+
+/// The minor cycles from one to another in which an instruction is kept back.
+#[derive(Clone, Copy, Debug, Drop)]
+pub struct Stretch {
+    pub number: u8,
+    pub conflict: Conflict,
+    pub from: u32,
+    pub to: u32,
+    pub holder: Holder,
+}
+
+/// The minor cycle in which an instruction issues if it waits only for the parcels before it.
+pub fn slot(earlier: &[Placed], point: &Placed) -> u32
+    ensures { result ≡ slot (reverse earlier.now) point.now }
+{
+    match earlier.last() {
+        None => 0,
+        Some(before) => before.issue + (point.parcel.saturating_sub(before.parcel)),
+    }
+}
+
+/// For how long an instruction can't issue, if its slot is past.
+pub fn first_stretch(earlier: &[Placed], point: &Placed) -> Option<Stretch>
+    ensures { option_to_list result ≡ first_stretch (reverse earlier.now) point.now }
+{
+    let from = slot(earlier, point);
+    let to = point.issue;
+    if from < to {
+        Some(Stretch {
+            number: point.number,
+            conflict: Conflict::First,
+            from,
+            to,
+            holder: first_holder(earlier, point),
+        })
+    } else {
+        None
+    }
+}
+
+/// For how long an instruction that has issued can't start, if it waits.
+pub fn second_stretch(earlier: &[Placed], point: &Placed) -> Option<Stretch>
+    ensures { option_to_list result ≡ second_stretch (reverse earlier.now) point.now }
+{
+    let from = point.issue;
+    let to = point.start;
+    if from < to {
+        Some(Stretch {
+            number: point.number,
+            conflict: Conflict::Second,
+            from,
+            to,
+            holder: second_holder(earlier, point),
+        })
+    } else {
+        None
+    }
+}
+
+/// For how long this result of an instruction is held, if it is.
+pub fn third_stretch(earlier: &[Placed], point: &Placed, write: &Write) -> Option<Stretch>
+    requires { write.now.latency ≤ 100 }
+    ensures { option_to_list result ≡ third_stretch (reverse earlier.now) point.now write.now }
+{
+    let from = point.start + write.latency;
+    let to = point.done_at(write.reg);
+    if from < to {
+        Some(Stretch {
+            number: point.number,
+            conflict: Conflict::Third,
+            from,
+            to,
+            holder: third_holder(earlier, point, write),
+        })
+    } else {
+        None
+    }
+}
