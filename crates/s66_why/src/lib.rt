@@ -2,6 +2,7 @@
 #![tactic(auto)]
 
 mod cause;
+mod examples;
 mod holders;
 mod lost;
 mod path;
@@ -10,4 +11,5 @@ mod points;
 mod stretch;
 mod text;
 
+pub use examples::{cause_examples, equal_cause_examples, path_example};
 pub use text::push_why;
