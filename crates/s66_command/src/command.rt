@@ -24,6 +24,13 @@ pub enum Command<'a> {
         /// The text of the profile, if it isn't the standard one.
         profile: Option<&'a str>,
     },
+    /// Why the instructions of each block of a source wait, as it was written.
+    Why {
+        /// Whether lines that can't be read, and what a macro, a directive or a count covers, are left alone.
+        cut: bool,
+        /// The text of the profile, if it isn't the standard one.
+        profile: Option<&'a str>,
+    },
     /// Each block of a source in the best order that was found.
     Order {
         /// Whether lines that can't be read, and what a macro, a directive or a count covers, are left alone.
@@ -72,6 +79,7 @@ impl<'a> Command<'a> {
         match self {
             Command::Time { profile, .. }
             | Command::Chart { profile, .. }
+            | Command::Why { profile, .. }
             | Command::Order { profile, .. }
             | Command::Prove { profile, .. }
             | Command::Sum { profile, .. } => profile,

@@ -2,7 +2,7 @@ ghost use Rattle.std.specs.Prelude.{◌≡◌, IfOk, IfErr, List, map};
 ghost use Rattle.clap.specs.Words.{Text, app_of, found_of, kind_of, new_app};
 ghost use Rattle.clap.specs.declared.error.kind.ErrorKind.TheVariants.{ArgumentConflict};
 ghost use Rattle.s66_command.specs.FoundOptions.{AreNodesFound, AreOptionsFound, AreWorkersFound};
-ghost use Rattle.s66_command.specs.Usage.{Asks, IsArgumentOf, IsCommandOf, IsUsageOf, Refuses, chart_app, check_app, deps_app, flag_rule, lint_app, nodes_rule, order_app, profile_rule, prove_app, rule_unless_both, s66_app, search_app, source_app, sum_app, time_app, workers_rule};
+ghost use Rattle.s66_command.specs.Usage.{Asks, IsArgumentOf, IsCommandOf, IsUsageOf, Refuses, chart_app, check_app, deps_app, flag_rule, lint_app, nodes_rule, order_app, profile_rule, prove_app, rule_unless_both, s66_app, search_app, source_app, sum_app, time_app, why_app, workers_rule};
 ghost use Rattle.s66_command.specs.declared.usage.Usage.TheVariants.{OutOfMemory};
 
 use crate::command::Command as Asked;
@@ -87,6 +87,8 @@ const TIME_ENDING: &str = help_ending!("s66 time --trace < SOURCE");
 const DEPS_ENDING: &str = help_ending!("s66 deps < SOURCE", "the source was refused", "");
 
 const CHART_ENDING: &str = help_ending!("s66 chart < SOURCE");
+
+const WHY_ENDING: &str = help_ending!("s66 why < SOURCE");
 
 const ORDER_ENDING: &str = help_ending!(
     "s66 order --nodes 1000 < SOURCE",
@@ -265,6 +267,20 @@ fn chart_command<'a>(alloc: Global) -> Result<Command<'a>, AllocError>
     .arg(profile_option(alloc))
 }
 
+/// The subcommand `why`.
+fn why_command<'a>(alloc: Global) -> Result<Command<'a>, AllocError>
+    ensures { IfOk result (IsCommandOf why_app) }
+{
+    source_command(
+        alloc,
+        "why",
+        "Prints what each instruction of a block waits for, and for how long",
+        "s66 why [OPTIONS] < SOURCE",
+        WHY_ENDING,
+    )?
+    .arg(profile_option(alloc))
+}
+
 /// A subcommand that searches.
 fn search_command<'a>(
     alloc: Global,
@@ -368,6 +384,7 @@ fn program<'a>(alloc: Global) -> Result<Command<'a>, AllocError>
         .subcommand(time_command(alloc)?)?
         .subcommand(deps_command(alloc)?)?
         .subcommand(chart_command(alloc)?)?
+        .subcommand(why_command(alloc)?)?
         .subcommand(order_command(alloc)?)?
         .subcommand(prove_command(alloc)?)?
         .subcommand(check_command(alloc))?
@@ -446,6 +463,10 @@ pub fn command_of<'a, S: AsStr>(alloc: Global, words: &'a [S]) -> Result<Asked<'
         Some(("chart", chart)) => Ok(Asked::Chart {
             cut: chart.get_flag("cut"),
             profile: chart.get_str("profile"),
+        }),
+        Some(("why", why)) => Ok(Asked::Why {
+            cut: why.get_flag("cut"),
+            profile: why.get_str("profile"),
         }),
         Some(("order", order)) => {
             let Some(options) = options_in(order) else {

@@ -21,7 +21,8 @@ unreachable-requires g c =
             | inr (inr (inr (inr (inr (inl e))))) ↦ search rules
             | inr (inr (inr (inr (inr (inr (inl e)))))) ↦ search rules
             | inr (inr (inr (inr (inr (inr (inr (inl e))))))) ↦ search rules
-            | inr (inr (inr (inr (inr (inr (inr (inr none))))))) ↦ none
+            | inr (inr (inr (inr (inr (inr (inr (inr (inl e)))))))) ↦ search rules
+            | inr (inr (inr (inr (inr (inr (inr (inr (inr none)))))))) ↦ none
           ]
       | in_default-via-in_default w ↦ name-known m words _ is (ap (option_map (λ p. p.0.now)) (sym w.in_default.is) ∙ c.subcommand.ensures.name)
     ]
@@ -68,6 +69,19 @@ returns-in-Some-chart-default-clause-ok g c =
       asks,
       flag-of words found c.get_flag-in-Some-chart-default.result _ (codes "cut") here ((inl refl, (inr refl, (inr refl, tt))), refl) (c.get_flag-in-Some-chart-default.ensures.value, c.get_flag-in-Some-chart-default.ensures.other),
       profile-of words found _ c.get_str-in-Some-chart-default.result here c.get_str-in-Some-chart-default.ensures,
+    )
+
+pub returns-in-Some-why-default-clause-ok : goal.returns-in-Some-why-default-clause-ok
+returns-in-Some-why-default-clause-ok g c =
+    let words = map g.S.AsStr.text c.args.words.now in
+    let m = c.in-Ok.matches in
+    let is = taken m (app_of c.in_ok-program.field-0) words c.in_ok-program.ensures c.in-Ok.ensures.kinds c.in-Ok.ensures.matches in
+    let asks = asks-for m words c.in-Some-why-default.field-0-0.now (codes "why") is c.in-Some-why-default.ensures.name c.in-Some-why-default.is-why in
+    let found = found_of c.in-Some-why-default.why.now in
+    let here = matched m words found _ is asks.1 refl c.in-Some-why-default.ensures.rows in (
+      asks,
+      flag-of words found c.get_flag-in-Some-why-default.result _ (codes "cut") here ((inl refl, (inr refl, (inr refl, tt))), refl) (c.get_flag-in-Some-why-default.ensures.value, c.get_flag-in-Some-why-default.ensures.other),
+      profile-of words found _ c.get_str-in-Some-why-default.result here c.get_str-in-Some-why-default.ensures,
     )
 
 pub returns-in-Some-order-default-clause-ok : goal.returns-in-Some-order-default-clause-ok
