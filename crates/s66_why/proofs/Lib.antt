@@ -1,3 +1,6 @@
+pub mod AmongParts
 pub mod Earlier
+pub mod Forbidden
+pub mod Found
 pub mod Lines
 pub mod Writes

@@ -1,2 +1,3 @@
+pub mod Forbids
 pub mod Sums
 pub mod Why

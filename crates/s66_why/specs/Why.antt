@@ -6,7 +6,7 @@ use Rattle.s66_isa.specs.declared.instr.Kind.{Kind}
 use Rattle.s66_isa.specs.declared.instr.Kind.TheVariants.{Boolean, Shift, Add, LongAdd, Multiply, Divide, Increment}
 use Rattle.s66_isa.specs.declared.reg.Bank.{Bank}
 use Rattle.s66_isa.specs.declared.reg.Bank.TheVariants.{A, B, X}
-use Rattle.s66_model.specs.Timing.{Point, done_at, end_of, points_of, total}
+use Rattle.s66_model.specs.Timing.{Point, done_at, end_of, points_of, readers_wait, total}
 use Rattle.s66_time.specs.TimedOrder.{TimedOrder}
 use Rattle.s66_why.specs.declared.cause.Cause.{Cause}
 use Rattle.s66_why.specs.declared.cause.Cause.TheVariants.{Writes, Takes, References, Reads, Ends}
@@ -69,8 +69,8 @@ abbrev pub second_holder : List Point → Point → Holder
 second_holder s p = or_else (soonest nobody p.start s p.row.reads) (holder (References p.row.memory) p.start s)
 
 -- until its result is done: a reader of the register
-abbrev pub third_holder : List Point → Point → Write → Holder
-third_holder s p w = holder (Reads w.reg) (done_at p w.reg) s
+abbrev pub third_holder : List Point → Write → Holder
+third_holder s w = holder (Reads w.reg) (readers_wait s w.reg) s
 
 -- FOR HOW LONG
 
@@ -91,7 +91,7 @@ abbrev pub second_stretch : List Point → Point → List Stretch
 second_stretch s p = stretch p Second p.issue p.start (second_holder s p)
 
 abbrev pub third_stretch : List Point → Point → Write → List Stretch
-third_stretch s p w = stretch p Third (p.start + w.latency) (done_at p w.reg) (third_holder s p w)
+third_stretch s p w = stretch p Third (p.start + w.latency) (readers_wait s w.reg) (third_holder s w)
 
 abbrev pub stretches_at : List Point → Point → List Stretch
 stretches_at s p = first_stretch s p ++ second_stretch s p ++ flat_map (third_stretch s p) p.row.writes
@@ -118,10 +118,14 @@ decides (References memory) p w = false
 decides (Reads r) p w = false
 decides Ends p w = done_at p w.reg == end_of p || (p.free == end_of p && w.held && done_at p w.reg == p.free - 1)
 
--- until it let go for this cause, which one of these results may have decided that was held for a reader
+-- the result is held for a reader
+abbrev pub is_held : List Point → Point → Write → Bool
+is_held s p w = nat_lt (p.start + w.latency) (readers_wait s w.reg)
+
+-- until it let go for this cause, which one of these results may have decided that was held
 abbrev pub before : Cause → List Point → Point → List Write → Link
 before cause s p [] = before_start s p
-before cause s p (w ∷ ws) = if decides cause p w && nat_lt (p.start + w.latency) (done_at p w.reg) then Held (third_holder s p w) else before cause s p ws
+before cause s p (w ∷ ws) = if decides cause p w && is_held s p w then Held (third_holder s w) else before cause s p ws
 
 -- p is where the link leads
 abbrev pub is_linked : Link → List Point → Point → Bool

@@ -3,7 +3,7 @@ ghost use Rattle.s66_isa.specs.Table.{Write as WriteOf};
 ghost use Rattle.s66_why.specs.Why.{lowest, holder, nobody, soonest, first_holder, second_holder, third_holder};
 
 use crate::cause::{Cause, Holder, lower};
-use crate::placed::Placed;
+use crate::placed::{Placed, readers_wait};
 use s66_isa::{Reg, Write};
 
 /// The lowest number of the earlier instructions that let go at a time; 0 if none does.
@@ -65,9 +65,13 @@ pub fn second_holder(earlier: &[Placed], point: &Placed) -> Holder
     result.or_else(holder(earlier, Cause::References(point.row.memory), point.start))
 }
 
-/// What an instruction waits for until this result of it is done.
-pub fn third_holder(earlier: &[Placed], point: &Placed, write: &Write) -> Holder
-    ensures { result ≡ third_holder (reverse earlier.now) point.now write.now }
+/// What a result waits for until it is done.
+pub fn third_holder(earlier: &[Placed], write: &Write) -> Holder
+    ensures { result ≡ third_holder (reverse earlier.now) write.now }
 {
-    holder(earlier, Cause::Reads(write.reg), point.done_at(write.reg))
+    holder(
+        earlier,
+        Cause::Reads(write.reg),
+        readers_wait(earlier, write.reg),
+    )
 }

@@ -4,6 +4,7 @@
 mod cause;
 mod examples;
 mod holders;
+mod laws;
 mod lost;
 mod path;
 mod placed;
@@ -12,4 +13,5 @@ mod stretch;
 mod text;
 
 pub use examples::{cause_examples, equal_cause_examples, path_example};
+pub use laws::cause_law;
 pub use text::push_why;

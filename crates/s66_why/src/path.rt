@@ -1,11 +1,11 @@
-ghost use Rattle.std.specs.Prelude.{◌≡◌, ◌+◌, ◌≤◌, length, nat_lt, reverse};
+ghost use Rattle.std.specs.Prelude.{◌≡◌, ◌≤◌, length, reverse};
 ghost use Rattle.s66_isa.specs.declared.limits.TheConstants.{BLOCK_LIMIT};
-ghost use Rattle.s66_model.specs.Timing.{done_at, total};
-ghost use Rattle.s66_why.specs.Why.{before_issue, before_start, decides, before, is_linked, next_link, walk, path};
+ghost use Rattle.s66_model.specs.Timing.{total};
+ghost use Rattle.s66_why.specs.Why.{before_issue, before_start, decides, before, is_held, is_linked, next_link, walk, path};
 
 use crate::cause::{Cause, Holder};
 use crate::holders::{first_holder, holder, second_holder, third_holder};
-use crate::placed::Placed;
+use crate::placed::{Placed, readers_wait};
 use crate::stretch::slot;
 use arrayvec::ArrayVec;
 use s66_isa::{BLOCK_LIMIT, Write, is_same_register};
@@ -59,11 +59,11 @@ fn decides(cause: &Cause, point: &Placed, write: &Write) -> bool
 }
 
 /// Whether this result is held for a reader.
-fn is_held_back(point: &Placed, write: &Write) -> bool
-    ensures { result ≡ nat_lt (point.now.start + write.now.latency) (done_at point.now write.now.reg) }
+fn is_held(earlier: &[Placed], point: &Placed, write: &Write) -> bool
+    ensures { result ≡ is_held (reverse earlier.now) point.now write.now }
 {
     let made = point.start as usize + write.latency as usize;
-    made < point.done_at(write.reg) as usize
+    made < readers_wait(earlier, write.reg) as usize
 }
 
 /// What an instruction waited for last until it let go for this cause.
@@ -71,8 +71,8 @@ fn before(cause: &Cause, earlier: &[Placed], point: &Placed) -> Link
     ensures { result ≡ before cause.now (reverse earlier.now) point.now point.now.row.writes }
 {
     for write in point.row.writes.as_slice() {
-        if decides(cause, point, write) && is_held_back(point, write) {
-            return Link::Held(third_holder(earlier, point, write));
+        if decides(cause, point, write) && is_held(earlier, point, write) {
+            return Link::Held(third_holder(earlier, write));
         }
     }
     before_start(earlier, point)

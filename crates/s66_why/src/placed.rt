@@ -1,7 +1,8 @@
-ghost use Rattle.std.specs.Prelude.{◌≡◌, if◌then◌else◌, max};
+ghost use Rattle.std.specs.Prelude.{◌≡◌, ◌+◌, ◌≤◌, if◌then◌else◌, max, reverse};
 ghost use Rattle.s66_isa.specs.Lists.{greatest};
 ghost use Rattle.s66_isa.specs.Table.{same_reg};
-ghost use Rattle.s66_model.specs.Timing.{ResultAt as ResultOf, done_at, end_of};
+ghost use Rattle.s66_model.specs.Timing.{ResultAt as ResultOf, done_at, end_of, readers_wait};
+ghost use Rattle.s66_time.specs.declared.limits.TheConstants.{TOTAL_LIMIT};
 ghost use Rattle.s66_why.specs.Why.{lets_go};
 
 use crate::cause::Cause;
@@ -125,4 +126,18 @@ impl Placed {
             Cause::Ends => self.end() == time,
         }
     }
+}
+
+/// One minor cycle after the last start of a register's readers; 0 if there is none.
+pub fn readers_wait(earlier: &[Placed], register: Reg) -> u32
+    ensures value { result ≡ readers_wait (reverse earlier.now) register }
+    ensures at_most { result ≤ TOTAL_LIMIT + 1 }
+{
+    let mut wait = 0u32;
+    for point in earlier {
+        if has_register(point.row.reads.as_slice(), register) {
+            wait = wait.max(point.start + 1);
+        }
+    }
+    wait
 }

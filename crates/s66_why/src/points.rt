@@ -1,28 +1,14 @@
 ghost use Rattle.std.specs.Prelude.{◌≡◌, ◌+◌, ◌<◌, ◌≤◌, length, map, reverse, take};
 ghost use Rattle.s66_isa.specs.Lists.{greatest};
 ghost use Rattle.s66_isa.specs.Table.{Write as WriteOf};
-ghost use Rattle.s66_model.specs.Timing.{points_of, readers_wait, result_at};
+ghost use Rattle.s66_model.specs.Timing.{points_of, result_at};
 ghost use Rattle.s66_time.specs.TimedOrder.{point_at};
 ghost use Rattle.s66_time.specs.declared.limits.TheConstants.{TOTAL_LIMIT};
 
-use crate::placed::{Placed, ResultAt};
+use crate::placed::{Placed, ResultAt, readers_wait};
 use arrayvec::ArrayVec;
-use s66_isa::{BLOCK_LIMIT, Reg, Row, Write, has_register};
+use s66_isa::{BLOCK_LIMIT, Row};
 use s66_time::Timed;
-
-/// One minor cycle after the last start of a register's readers; 0 if there is none.
-fn readers_wait(earlier: &[Placed], register: Reg) -> u32
-    ensures value { result ≡ readers_wait (reverse earlier.now) register }
-    ensures at_most { result ≤ TOTAL_LIMIT + 1 }
-{
-    let mut wait = 0u32;
-    for point in earlier {
-        if has_register(point.row.reads.as_slice(), register) {
-            wait = wait.max(point.start + 1);
-        }
-    }
-    wait
-}
 
 /// When each result is done of an instruction that starts then after the earlier ones.
 fn results(earlier: &[Placed], row: &Row, start: u32) -> ArrayVec<ResultAt, 2>

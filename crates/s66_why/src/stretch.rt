@@ -3,7 +3,7 @@ ghost use Rattle.s66_why.specs.Why.{slot, first_stretch, second_stretch, third_s
 
 use crate::cause::Holder;
 use crate::holders::{first_holder, second_holder, third_holder};
-use crate::placed::Placed;
+use crate::placed::{Placed, readers_wait};
 use s66_isa::Write;
 
 /// Thornton's orders of conflict.
@@ -81,14 +81,14 @@ pub fn third_stretch(earlier: &[Placed], point: &Placed, write: &Write) -> Optio
     ensures { option_to_list result ≡ third_stretch (reverse earlier.now) point.now write.now }
 {
     let from = point.start + write.latency;
-    let to = point.done_at(write.reg);
+    let to = readers_wait(earlier, write.reg);
     if from < to {
         Some(Stretch {
             number: point.number,
             conflict: Conflict::Third,
             from,
             to,
-            holder: third_holder(earlier, point, write),
+            holder: third_holder(earlier, write),
         })
     } else {
         None

@@ -1,7 +1,7 @@
 use Rattle.std.proofs.Common.{◌≡◌, ◌+◌, ◌≤◌, take, reverse}
 use Rattle.s66_model.specs.Timing.{readers_wait}
 use Rattle.s66_time.specs.declared.limits.TheConstants.{TOTAL_LIMIT}
-use Rattle.s66_why.proofs.points.readers_wait.Given as goal
+use Rattle.s66_why.proofs.placed.readers_wait.Given as goal
 
 abbrev pub invariant-loop-point : goal.invariant-loop-point
 invariant-loop-point l = record {

@@ -1,0 +1,15 @@
+//! What is true of all that is written: contracts of functions that do nothing.
+
+ghost use Rattle.std.specs.Prelude.{ℕ, List, ◌≤◌, length};
+ghost use Rattle.s66_isa.specs.Lists.{Among};
+ghost use Rattle.s66_isa.specs.declared.limits.TheConstants.{BLOCK_LIMIT};
+ghost use Rattle.s66_model.specs.Timing.{Problem, points_of, point_of};
+ghost use Rattle.s66_why.specs.Forbids.{AreFromOne, IsForbidden};
+ghost use Rattle.s66_why.specs.Why.{stretches_at};
+ghost use Rattle.s66_why.specs.declared.stretch.Stretch.{Stretch as StretchOf};
+
+/// Each stretch of an instruction that comes after others ends because of an earlier instruction, for which a rule forbids a minor
+/// cycle less.
+pub fn cause_law()
+    ensures { (b : Problem) (ns : List ℕ) (n : ℕ) (x : StretchOf) → length ns ≤ BLOCK_LIMIT → AreFromOne ns → Among x (stretches_at (points_of b ns) (point_of b (points_of b ns) n)) → IsForbidden b (points_of b ns) (point_of b (points_of b ns) n) x }
+{}
