@@ -6,7 +6,7 @@ use Rattle.s66_line.specs.Block.{Block}
 use Rattle.s66_source.specs.Source.{source_of}
 use Rattle.s66_source.specs.declared.error.SourceError.{SourceError}
 use Rattle.s66_command.specs.declared.command.Command.{Command}
-use Rattle.s66_command.specs.declared.command.Command.TheVariants.{Time, Deps, Chart, Order, Prove, Check, Lint, Sum}
+use Rattle.s66_command.specs.declared.command.Command.TheVariants.{Time, Deps, Chart, Why, Order, Prove, Check, Lint, Sum}
 use Rattle.s66_program.specs.declared.limits.TheConstants.{SOURCE_FRONT}
 use Rattle.s66_program.specs.declared.outcome.Fault.{Fault}
 use Rattle.s66_program.specs.declared.outcome.Fault.TheVariants as fault
@@ -35,6 +35,7 @@ accepted : (p : Profile) (command : Command) (input text : List ℕ) (status : S
 accepted p (Time cut trace profile) input text status reads ((blocks, ok, is), done) = (blocks, ok)
 accepted p (Deps cut) input text status reads ((blocks, ok, is), done) = (blocks, ok)
 accepted p (Chart cut profile) input text status reads ((blocks, ok, is), done) = (blocks, ok)
+accepted p (Why cut profile) input text status reads ((blocks, ok, is), done) = (blocks, ok)
 accepted p (Order cut options trace profile) input text status reads (blocks, ok, is) = (blocks, ok)
 accepted p (Prove cut options profile) input text status reads (blocks, ok, is) = (blocks, ok)
 accepted p Check input text status reads is = absurd (cc)
@@ -59,6 +60,7 @@ no-documents : (command : Command) → reads_source command ≡ true → reads_d
 no-documents (Time cut trace profile) source documents = cc
 no-documents (Deps cut) source documents = cc
 no-documents (Chart cut profile) source documents = cc
+no-documents (Why cut profile) source documents = cc
 no-documents (Order cut options trace profile) source documents = cc
 no-documents (Prove cut options profile) source documents = cc
 no-documents Check source documents = cc

@@ -3,6 +3,7 @@ pub mod BlockHead
 pub mod TimeText
 pub mod DepsText
 pub mod ChartText
+pub mod WhyText
 pub mod OrderText
 pub mod ProveText
 pub mod CheckText

@@ -9,7 +9,7 @@ use Rattle.s66_source.specs.Source.{source_of}
 use Rattle.s66_model.specs.declared.limits.TheConstants.{WORKERS_LIMIT}
 use Rattle.s66_profile.specs.ProfileText.{profile_in_text}
 use Rattle.s66_command.specs.declared.command.Command.{Command}
-use Rattle.s66_command.specs.declared.command.Command.TheVariants.{Time, Deps, Chart, Order, Prove, Check, Lint, Sum}
+use Rattle.s66_command.specs.declared.command.Command.TheVariants.{Time, Deps, Chart, Why, Order, Prove, Check, Lint, Sum}
 use Rattle.s66_command.specs.Profile.{profile_text}
 use Rattle.s66_program.specs.declared.outcome.Status.{Status}
 use Rattle.s66_program.specs.declared.outcome.Status.TheVariants.{Done}
@@ -18,6 +18,7 @@ use Rattle.s66_program.specs.declared.output.Listing.TheVariants as listing
 use Rattle.s66_program.specs.TimeText.{time_lines}
 use Rattle.s66_program.specs.DepsText.{deps_lines}
 use Rattle.s66_program.specs.ChartText.{chart_lines}
+use Rattle.s66_program.specs.WhyText.{why_lines}
 use Rattle.s66_program.specs.OrderText.{IsOrderOutput}
 use Rattle.s66_program.specs.ProveText.{IsProveOutput}
 use Rattle.s66_program.specs.CheckText.{IsCheckOutput}
@@ -33,6 +34,7 @@ abbrev pub IsWithin : Command → Type 0
 IsWithin (Time cut trace profile) = Unit {0}
 IsWithin (Deps cut) = Unit {0}
 IsWithin (Chart cut profile) = Unit {0}
+IsWithin (Why cut profile) = Unit {0}
 IsWithin (Order cut options trace profile) = IsSearchWithin options.workers options.nodes
 IsWithin (Prove cut options profile) = IsSearchWithin options.workers options.nodes
 IsWithin Check = Unit {0}
@@ -57,6 +59,7 @@ abbrev pub block_lines : Profile → Listing → ℕ → Block → List ℕ
 block_lines p (listing.Times trace) n block = time_lines p trace n block
 block_lines p listing.Dependences n block = deps_lines n block
 block_lines p listing.Chart n block = chart_lines p n block
+block_lines p listing.Why n block = why_lines p n block
 
 -- of these blocks, before which n blocks come
 abbrev pub lines_of_blocks : Profile → Listing → ℕ → List Block → List ℕ
@@ -74,6 +77,7 @@ abbrev pub is_cut : Command → Bool
 is_cut (Time cut trace profile) = cut
 is_cut (Deps cut) = cut
 is_cut (Chart cut profile) = cut
+is_cut (Why cut profile) = cut
 is_cut (Order cut options trace profile) = cut
 is_cut (Prove cut options profile) = cut
 is_cut (Sum cut options trace profile) = cut
@@ -88,6 +92,7 @@ abbrev pub IsOutput : Profile → Command → (input text : List ℕ) → Status
 IsOutput p (Time cut trace profile) input text status = IsListing p (listing.Times trace) (record { cut = cut; text = input }) text × (status ≡ Done)
 IsOutput p (Deps cut) input text status = IsListing p listing.Dependences (record { cut = cut; text = input }) text × (status ≡ Done)
 IsOutput p (Chart cut profile) input text status = IsListing p listing.Chart (record { cut = cut; text = input }) text × (status ≡ Done)
+IsOutput p (Why cut profile) input text status = IsListing p listing.Why (record { cut = cut; text = input }) text × (status ≡ Done)
 IsOutput p (Order cut options trace profile) input text status = IsOrderOutput options.rule p options.nodes trace (record { cut = cut; text = input }) text status
 IsOutput p (Prove cut options profile) input text status = IsProveOutput options.rule p options.nodes (record { cut = cut; text = input }) text status
 IsOutput p Check input text status = IsCheckOutput input text status
@@ -99,6 +104,7 @@ abbrev pub reads_source : Command → Bool
 reads_source (Time cut trace profile) = true
 reads_source (Deps cut) = true
 reads_source (Chart cut profile) = true
+reads_source (Why cut profile) = true
 reads_source (Order cut options trace profile) = true
 reads_source (Prove cut options profile) = true
 reads_source Check = false

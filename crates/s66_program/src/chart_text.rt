@@ -14,7 +14,7 @@ use std::alloc::{AllocError, Global};
 use std::mem;
 
 /// The line of a block, whose number is from 1, and which is timed as it was written.
-fn push_chart_line(
+pub(crate) fn push_chart_line(
     out: &mut Vec<u8>,
     number: usize,
     block: &Block,

@@ -19,6 +19,7 @@ mod prove_text;
 mod run;
 mod sum_text;
 mod time_text;
+mod why_text;
 
 pub use documents::document_of;
 pub use laws::{

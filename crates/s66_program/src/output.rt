@@ -13,6 +13,7 @@ use crate::outcome::{Fault, Output, Status};
 use crate::prove_text::prove_output;
 use crate::sum_text::sum_output;
 use crate::time_text::push_time_lines;
+use crate::why_text::push_why_lines;
 use s66_command::Command;
 use s66_isa::Profile;
 use s66_line::Block;
@@ -31,6 +32,7 @@ pub enum Listing {
     },
     Dependences,
     Chart,
+    Why,
 }
 
 /// The lines of a block, whose number is from 1.
@@ -49,6 +51,7 @@ fn push_block(
         Listing::Times { trace } => push_time_lines(out, timer, *trace, number, block),
         Listing::Dependences => push_deps_lines(out, number, block),
         Listing::Chart => push_chart_lines(alloc, out, timer, number, block),
+        Listing::Why => push_why_lines(out, timer, number, block),
     }
 }
 
@@ -119,6 +122,15 @@ pub fn output_for<R: AllocGlobal + Threads + Wait + Sync, O: Observer>(
         }
         Command::Chart { cut, .. } => {
             let listing = Listing::Chart;
+            listing_output(
+                alloc,
+                profile,
+                &listing,
+                &read_source_with(alloc, cut, input)?,
+            )?
+        }
+        Command::Why { cut, .. } => {
+            let listing = Listing::Why;
             listing_output(
                 alloc,
                 profile,

@@ -45,6 +45,7 @@ fn most_kept(command: Command) -> Option<usize>
         Command::Time { .. }
         | Command::Deps { .. }
         | Command::Chart { .. }
+        | Command::Why { .. }
         | Command::Order { .. }
         | Command::Prove { .. }
         | Command::Sum { .. } => Some(SOURCE_FRONT),
