@@ -66,7 +66,7 @@ def rows():
     yield ["time", "more"], "", {2}
     yield ["order", "--workers", "17"], "", {2}
     yield ["order", "--dominate", "--dominate-tree"], "", {2}
-    for words in (["time"], ["time", "--trace"], ["deps"], ["chart"]):
+    for words in (["time"], ["time", "--trace"], ["deps"], ["chart"], ["why"]):
         yield words, SOURCE, {0}
         yield words, REFUSED_SOURCE, {3}
     yield ["time", "--profile", '{"load":2,"units_multiply":3}'], SOURCE, {0}

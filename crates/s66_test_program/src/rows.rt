@@ -12,6 +12,7 @@ mod order;
 mod profile;
 mod sum;
 mod time;
+mod why;
 mod words;
 
 /// A run: name, words, input, status, and the text that is written if the status is 0, 5, 7 or 8, and else goes to standard error.
@@ -143,6 +144,7 @@ fn runs_rows(rt: HostRuntime) {
     check_rows(&rt, time::ROWS);
     check_rows(&rt, deps::ROWS);
     check_rows(&rt, chart::ROWS);
+    check_rows(&rt, why::ROWS);
     check_rows(&rt, order::ROWS);
     check_rows(&rt, left_alone::ROWS);
     check_rows(&rt, lint::ROWS);
@@ -155,7 +157,7 @@ fn runs_rows(rt: HostRuntime) {
 #[test]
 fn refuses_bad_profiles(rt: HostRuntime) {
     for &(text, stated) in profile::BAD {
-        for command in ["time", "chart", "order", "prove", "sum"] {
+        for command in ["time", "chart", "why", "order", "prove", "sum"] {
             let words = ["s66", command, "--profile", text];
             for input in [ONE_LOAD, "  SA1 *+2\n"] {
                 check(&rt, text, &words, input.as_bytes(), 3, stated);

@@ -15,6 +15,8 @@ pub(crate) const DEPS: &[&str] = &["s66", "deps"];
 
 pub(crate) const CHART: &[&str] = &["s66", "chart"];
 
+pub(crate) const WHY: &[&str] = &["s66", "why"];
+
 pub(crate) const CHECK: &[&str] = &["s66", "check"];
 
 pub(crate) const LINT: &[&str] = &["s66", "lint"];

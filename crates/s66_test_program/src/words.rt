@@ -24,6 +24,7 @@ const NO_COMMANDS: &[(&[&str], u8)] = &[
     (&["s66", "lint", "--cut"], 2),
     (&["s66", "deps", "chart"], 2),
     (&["s66", "chart", "--trace"], 2),
+    (&["s66", "why", "--trace"], 2),
     (&["s66", "order", "--workers", "0"], 2),
     (&["s66", "order", "--workers", "17"], 2),
     (&["s66", "order", "--nodes"], 2),
@@ -48,6 +49,7 @@ const NO_COMMANDS: &[(&[&str], u8)] = &[
     (&["s66", "time", "--help"], 0),
     (&["s66", "deps", "--help"], 0),
     (&["s66", "chart", "--help"], 0),
+    (&["s66", "why", "--help"], 0),
     (&["s66", "order", "--help"], 0),
     (&["s66", "prove", "--help"], 0),
     (&["s66", "check", "--help"], 0),
@@ -94,6 +96,13 @@ const COMMANDS: &[(&[&str], Command)] = &[
     (
         &["s66", "chart", "--profile={}", "--cut"],
         Command::Chart {
+            cut: true,
+            profile: Some("{}"),
+        },
+    ),
+    (
+        &["s66", "why", "--cut", "--profile={}"],
+        Command::Why {
             cut: true,
             profile: Some("{}"),
         },
