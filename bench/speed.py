@@ -100,7 +100,7 @@ def tell_speed(program):
     for name, text in (BLOCKS | EXTREMES).items():
         with tempfile.TemporaryFile() as file:
             file.write(text)
-            for subcommand in ("time", "time --trace", "deps", "chart"):
+            for subcommand in ("time", "time --trace", "deps", "chart", "why"):
                 words = [program] + subcommand.split()
                 best, size = measured_time(words, file)
                 peak = peak_memory(words, file)
@@ -120,7 +120,7 @@ def instructions(words, text):
 
 
 def tell_instructions(program):
-    for subcommand in ("time", "deps", "chart"):
+    for subcommand in ("time", "deps", "chart", "why"):
         words = [program, subcommand]
         start = instructions(words, b"")
         for name, text in BLOCKS.items():
