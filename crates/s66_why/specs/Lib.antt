@@ -1,3 +1,4 @@
 pub mod Forbids
+pub mod KeptPoints
 pub mod Sums
 pub mod Why

@@ -1,4 +1,4 @@
-ghost use Rattle.std.specs.Prelude.{◌≡◌, ◌+◌, ◌≤◌, if◌then◌else◌, max, reverse};
+ghost use Rattle.std.specs.Prelude.{◌≡◌, ◌+◌, ◌≤◌, ◌==◌, if◌then◌else◌, max, reverse};
 ghost use Rattle.s66_isa.specs.Lists.{greatest};
 ghost use Rattle.s66_isa.specs.Table.{same_reg};
 ghost use Rattle.s66_model.specs.Timing.{ResultAt as ResultOf, done_at, end_of, readers_wait};
@@ -7,7 +7,7 @@ ghost use Rattle.s66_why.specs.Why.{lets_go};
 
 use crate::cause::Cause;
 use arrayvec::ArrayVec;
-use s66_isa::{Reg, Row, has_register, is_memory_conflict, is_same_kind, is_same_register};
+use s66_isa::{Reg, Registers, Row, is_memory_conflict, is_same_kind, is_same_register};
 use std::marker::Model;
 
 /// A result: its register, the minor cycle in which it is done, and whether the unit holds it.
@@ -26,6 +26,17 @@ impl Model for ResultAt {
     ghost view = { λ d. record { reg = d.reg; time = d.time; held = d.held } };
 
     ghost inverse = { λ d. record { reg = d.reg; time = d.time; held = d.held } };
+}
+
+/// When the last of these results is done; 0 if there is none.
+pub fn last_of(results: &[ResultAt]) -> u32
+    ensures { result ≡ greatest (λ (d : ResultOf). d.time) results.now }
+{
+    let mut last = 0u32;
+    for made in results {
+        last = last.max(made.time);
+    }
+    last
 }
 
 impl ResultAt {
@@ -51,31 +62,38 @@ pub struct Placed {
     pub start: u32,
     pub results: ArrayVec<ResultAt, 2>,
     pub free: u32,
+    /// When the last result is done; 0 if there is none.
+    pub last: u32,
+    /// The registers that it reads.
+    pub reads: Registers,
 }
 
 impl Model for Placed {
-    ghost use Rattle.std.specs.Prelude.{◌≤◌};
     ghost use Rattle.s66_model.specs.Timing.{Point};
-    ghost use Rattle.s66_time.specs.declared.limits.TheConstants.{TOTAL_LIMIT};
+    ghost use Rattle.s66_why.specs.KeptPoints.{IsKept};
 
     ghost Value = { Point };
 
     ghost view = { λ p. record { number = p.number; row = p.row; parcel = p.parcel; issue = p.issue; start = p.start; results = p.results.items; free = p.free } };
 
-    ghost invariant = { λ p. (p.parcel ≤ p.issue) × (p.issue ≤ p.start) × (p.start ≤ TOTAL_LIMIT) };
+    ghost invariant = { λ p. IsKept p.row p.parcel p.issue p.start p.results.items p.last p.reads };
 }
 
 impl Default for Placed {
     /// A blank: a list makes one for each place that isn't taken.
     fn default() -> Placed {
+        let row = Row::default();
+        let reads = Registers::of(row.reads.as_slice());
         Placed {
             number: 0,
-            row: Row::default(),
+            row,
             parcel: 0,
             issue: 0,
             start: 0,
             results: ArrayVec::new(),
             free: 0,
+            last: 0,
+            reads,
         }
     }
 }
@@ -92,22 +110,18 @@ impl Placed {
         done
     }
 
-    /// When its last result is done; 0 if it has none.
-    fn last_result(&self) -> u32
-        ensures { result ≡ greatest (λ (d : ResultOf). d.time) self.now.results }
-    {
-        let mut last = 0u32;
-        for made in self.results.as_slice() {
-            last = last.max(made.time);
-        }
-        last
-    }
-
     /// When its unit is free and its results are done.
     pub fn end(&self) -> u32
         ensures { result ≡ end_of self.now }
     {
-        self.free.max(self.last_result())
+        self.free.max(self.last)
+    }
+
+    /// Whether its result in a register is done then. Most are done before, which the last one shows.
+    fn is_done_at(&self, register: Reg, time: u32) -> bool
+        ensures { result ≡ (done_at self.now register == time) }
+    {
+        time <= self.last && self.done_at(register) == time
     }
 
     /// Whether another no longer waits for it from this time on.
@@ -115,14 +129,12 @@ impl Placed {
         ensures { result ≡ lets_go cause.now time self.now }
     {
         match cause {
-            Cause::Writes(register) => self.done_at(*register) == time,
-            Cause::Takes(kind) => is_same_kind(self.row.kind, *kind) && self.free == time,
+            Cause::Writes(register) => self.is_done_at(*register, time),
+            Cause::Takes(kind) => self.free == time && is_same_kind(self.row.kind, *kind),
             Cause::References(memory) => {
-                is_memory_conflict(self.row.memory, *memory) && self.start + 1 == time
+                self.start + 1 == time && is_memory_conflict(self.row.memory, *memory)
             }
-            Cause::Reads(register) => {
-                has_register(self.row.reads.as_slice(), *register) && self.start + 1 == time
-            }
+            Cause::Reads(register) => { self.start + 1 == time && self.reads.has(*register) }
             Cause::Ends => self.end() == time,
         }
     }
@@ -135,7 +147,7 @@ pub fn readers_wait(earlier: &[Placed], register: Reg) -> u32
 {
     let mut wait = 0u32;
     for point in earlier {
-        if has_register(point.row.reads.as_slice(), register) {
+        if point.reads.has(register) {
             wait = wait.max(point.start + 1);
         }
     }

@@ -5,9 +5,9 @@ ghost use Rattle.s66_model.specs.Timing.{points_of, result_at};
 ghost use Rattle.s66_time.specs.TimedOrder.{point_at};
 ghost use Rattle.s66_time.specs.declared.limits.TheConstants.{TOTAL_LIMIT};
 
-use crate::placed::{Placed, ResultAt, readers_wait};
+use crate::placed::{Placed, ResultAt, last_of, readers_wait};
 use arrayvec::ArrayVec;
-use s66_isa::{BLOCK_LIMIT, Row};
+use s66_isa::{BLOCK_LIMIT, Registers, Row};
 use s66_time::Timed;
 
 /// When each result is done of an instruction that starts then after the earlier ones.
@@ -38,6 +38,8 @@ fn placed(timed: &Timed, position: usize, earlier: &[Placed]) -> Placed
     let number = order.numbers()[position];
     let row = Row::of(&order.instr(number as usize), timed.profile());
     let results = results(earlier, &row, times.start);
+    let last = last_of(results.as_slice());
+    let reads = Registers::of(row.reads.as_slice());
     Placed {
         number,
         row,
@@ -46,6 +48,8 @@ fn placed(timed: &Timed, position: usize, earlier: &[Placed]) -> Placed
         start: times.start,
         results,
         free: times.free,
+        last,
+        reads,
     }
 }
 

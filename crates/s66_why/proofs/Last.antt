@@ -1,0 +1,13 @@
+-- No result is done after the last.
+use Rattle.std.proofs.Common.{◌≤◌, cond, arith}
+use Rattle.std.proofs.lemmas.Bool.{cond_both}
+use Rattle.s66_isa.specs.declared.reg.Reg.{Reg}
+use Rattle.s66_isa.specs.Lists.{greatest}
+use Rattle.s66_isa.specs.Table.{same_reg}
+use Rattle.s66_isa.proofs.Lists.{greatest-le-greatest}
+use Rattle.s66_model.specs.Timing.{Point, ResultAt, done_at}
+
+pub done-le-last : (r : Reg) (p : Point) → done_at p r ≤ greatest (λ (d : ResultAt). d.time) p.results
+done-le-last r p =
+    greatest-le-greatest (λ (d : ResultAt). cond (same_reg d.reg r) d.time 0) (λ (d : ResultAt). d.time)
+    (λ d. cond_both (same_reg d.reg r) d.time 0 (λ x. x ≤ d.time) (λ _. omega arith) (λ _. omega arith)) p.results
