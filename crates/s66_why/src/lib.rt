@@ -12,6 +12,11 @@ mod points;
 mod stretch;
 mod text;
 
+pub use cause::{Cause, Holder};
 pub use examples::{cause_examples, equal_cause_examples, path_example};
 pub use laws::cause_law;
-pub use text::push_why;
+pub use path::path as path_back;
+pub use placed::{Placed as PlacedInstr, ResultAt};
+pub use points::points_of;
+pub use stretch::{Conflict, Stretch, first_stretch, second_stretch, third_stretch};
+pub use text::{bank_name, conflict_name, kind_name, push_in_three, push_why};

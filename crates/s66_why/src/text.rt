@@ -19,7 +19,7 @@ use s66_time::Timed;
 use std::alloc::AllocError;
 
 /// The name of a kind of unit.
-fn kind_name(kind: Kind) -> &'static [u8]
+pub fn kind_name(kind: Kind) -> &'static [u8]
     ensures { result.now ≡ kind_name kind }
 {
     match kind {
@@ -34,7 +34,7 @@ fn kind_name(kind: Kind) -> &'static [u8]
 }
 
 /// The name of a bank.
-fn bank_name(bank: Bank) -> &'static [u8]
+pub fn bank_name(bank: Bank) -> &'static [u8]
     ensures { result.now ≡ bank_name bank }
 {
     match bank {
@@ -45,7 +45,7 @@ fn bank_name(bank: Bank) -> &'static [u8]
 }
 
 /// The name of a conflict.
-fn conflict_name(conflict: Conflict) -> &'static [u8]
+pub fn conflict_name(conflict: Conflict) -> &'static [u8]
     ensures { result.now ≡ conflict_name conflict }
 {
     match conflict {
@@ -79,7 +79,7 @@ fn push_cause(out: &mut Vec<u8>, cause: &Cause) -> Result<(), AllocError>
 }
 
 /// A number, right in three places.
-fn push_in_three(out: &mut Vec<u8>, number: u8) -> Result<(), AllocError>
+pub fn push_in_three(out: &mut Vec<u8>, number: u8) -> Result<(), AllocError>
     ensures { OnOk result (out.new.items ≡ out.old.items ++ in_three number) }
 {
     let mut buffer = Buffer::new();
