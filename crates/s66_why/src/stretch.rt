@@ -27,6 +27,19 @@ pub struct Stretch {
     pub holder: Holder,
 }
 
+impl Default for Stretch {
+    /// A blank: a list makes one for each place that isn't taken.
+    fn default() -> Stretch {
+        Stretch {
+            number: 0,
+            conflict: Conflict::First,
+            from: 0,
+            to: 0,
+            holder: Holder::nobody(),
+        }
+    }
+}
+
 /// The minor cycle in which an instruction issues if it waits only for the parcels before it.
 pub fn slot(earlier: &[Placed], point: &Placed) -> u32
     ensures { result ≡ slot (reverse earlier.now) point.now }

@@ -1,0 +1,20 @@
+use Rattle.std.proofs.Common.{ℕ, List, ◌++◌, ◌∙◌, ap, codes}
+use Rattle.s66_page.specs.declared.summary.Summary.{Summary}
+use Rattle.s66_page.specs.Page.{best_text, block_head, block_text, order_text, summary}
+use Rattle.s66_page.proofs.Pieces.{more, last}
+use Rattle.s66_page.proofs.block.push_block.Goals as goal
+
+pub returns : goal.returns
+unfolding block_text
+returns c =
+    let out = c.args.out.now.items in
+    let block = c.args.block.now in
+    let source = c.args.source.now in
+    let best = c.args.best.now in
+    let head = block_head block.label (summary c.args.number block source best c.args.bound) in
+    let order = order_text block (codes "As it is written") source in
+    let first =
+    c.in_ok-push_block_head.ensures ∙ ap (λ (label : List ℕ). out ++ block_head label c.summary_of-summary.result) c.label.ensures
+    ∙ ap (λ (s : Summary). out ++ block_head block.label s) c.summary_of-summary.ensures in
+    last c.push_best.result out c.push_order.new.out.items c.push_best.new.out.items (head ++ order) (best_text block source best)
+    (more out c.push_block_head.new.out.items c.push_order.new.out.items head order first c.in_ok-push_order.ensures) c.push_best.ensures

@@ -1,0 +1,27 @@
+-- To be believed: how the text of a source stands in a page, so that nothing of it is read as a part of the page.
+use Rattle.std.specs.Prelude.{ℕ, Bool, if◌then◌else◌, ◌&&◌, ◌||◌, ◌==◌, not, List, [], ◌∷◌, ◌++◌, codes, decimal, flat_map, nat_le, nat_lt}
+-- the examples open it, to compute numbers
+unfoldable pub use Rattle.std.specs.Fmt.{digits}
+
+-- a blank, a tab, or what ASCII prints
+abbrev pub is_printed : ℕ → Bool
+is_printed b = b == 9 || (nat_le 32 b && nat_lt b 127)
+
+-- a byte from 160 on is its character of Latin 1; any other that isn't printed is a replacement character
+abbrev pub escaped_byte : ℕ → List ℕ
+escaped_byte b =
+    if b == 60 then codes "&lt;"
+    else (if b == 62 then codes "&gt;"
+    else (if b == 38 then codes "&amp;"
+    else (if b == 34 then codes "&quot;"
+    else (if b == 39 then codes "&#39;"
+    else (if is_printed b then b ∷ []
+    else (if nat_le 160 b then codes "&#" ++ decimal b ++ codes ";"
+    else codes "&#65533;"))))))
+
+abbrev pub escaped : List ℕ → List ℕ
+escaped text = flat_map escaped_byte text
+
+-- it is printed, and no bracket or quote
+abbrev pub is_harmless : ℕ → Bool
+is_harmless b = is_printed b && not (b == 60 || b == 62 || b == 34 || b == 39)

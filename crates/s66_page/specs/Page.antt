@@ -1,0 +1,251 @@
+-- To be believed: the page that shows orders of blocks, a row for each instruction and each unit, in minor cycles.
+use Rattle.std.specs.Prelude.{ℕ, zero, suc, ◌+◌, ◌-◌, ◌*◌, ◌/◌, if◌then◌else◌, ◌==◌, List, [], ◌∷◌, ◌++◌, codes, decimal, filter, flat_map, length, map, nat_le, nat_lt, reverse}
+use Rattle.std.specs.List.{range_with_len, list_any}
+use Rattle.s66_isa.specs.Lists.{weigh}
+use Rattle.s66_isa.specs.Table.{latency_of, same_kind}
+use Rattle.s66_isa.specs.declared.instr.Kind.{Kind}
+use Rattle.s66_isa.specs.declared.instr.Kind.TheVariants.{Boolean, Shift, Add, LongAdd, Multiply, Divide, Increment}
+use Rattle.s66_line.specs.Block.{Block, bytes_of, instrs_of, line_of}
+use Rattle.s66_model.specs.Timing.{Point, latest_result, points_of, total_of}
+use Rattle.s66_time.specs.TimedOrder.{TimedOrder}
+use Rattle.s66_why.specs.declared.cause.Cause.{Cause}
+use Rattle.s66_why.specs.declared.cause.Cause.TheVariants.{Writes, Takes, References, Reads, Ends}
+use Rattle.s66_why.specs.declared.cause.Holder.{Holder}
+use Rattle.s66_why.specs.declared.stretch.Stretch.{Stretch}
+use Rattle.s66_why.specs.Why.{bank_name, conflict_name, kind_name, in_three, path, stretches_at, why_text}
+use Rattle.s66_page.specs.declared.work.Work.{Work}
+use Rattle.s66_page.specs.declared.summary.Summary.{Summary}
+use Rattle.s66_page.specs.Escape.{escaped}
+
+-- Points are in order, the newest first, as in Timing: s are all points before p.
+
+-- BARS
+
+-- from a minor cycle on, this many
+unfoldable pub span : (from cycles : ℕ) → List ℕ
+span from cycles = codes " x='" ++ decimal from ++ codes "em' width='" ++ decimal cycles ++ codes "em'><title>"
+
+unfoldable pub bar_start : (class : List ℕ) (from cycles : ℕ) → List ℕ
+bar_start class from cycles = codes "<rect class='" ++ class ++ codes "'" ++ span from cycles
+
+abbrev pub bar : (class : List ℕ) (from cycles : ℕ) (title : List ℕ) → List ℕ
+bar class from cycles title = bar_start class from cycles ++ title ++ codes "</title></rect>"
+
+-- what is waited for
+abbrev pub cause_words : Cause → List ℕ
+cause_words (Writes r) = bank_name r.bank ++ decimal r.digit ++ codes " still to come from "
+cause_words (Takes kind) = kind_name kind ++ codes " taken by "
+cause_words (References memory) = codes "memory used by "
+cause_words (Reads r) = bank_name r.bank ++ decimal r.digit ++ codes " still to be read by "
+cause_words Ends = codes "the end of "
+
+abbrev pub words : Holder → List ℕ
+words h = cause_words h.cause ++ decimal h.number
+
+unfoldable pub stretch_title : Stretch → List ℕ
+stretch_title x = conflict_name x.conflict ++ codes " " ++ decimal x.from ++ codes " TO " ++ decimal x.to ++ codes ": " ++ words x.holder
+
+unfoldable pub stretch_bar : Stretch → List ℕ
+stretch_bar x = bar (conflict_name x.conflict) x.from (x.to - x.from) (stretch_title x)
+
+unfoldable pub stretch_words : Stretch → List ℕ
+stretch_words x = codes " <tspan class='" ++ conflict_name x.conflict ++ codes "'>" ++ words x.holder ++ codes "</tspan>"
+
+-- the times of an instruction as it is drawn
+abbrev pub work : Point → Work
+work p =
+    record {
+      number = p.number;
+      kind = p.row.kind;
+      issue = p.issue;
+      start = p.start;
+      latency = latency_of p.row;
+      done = latest_result p;
+      free = p.free;
+      hold = p.row.hold;
+    }
+
+unfoldable pub work_title : Work → List ℕ
+work_title w = codes "ISSUE " ++ decimal w.issue ++ codes " START " ++ decimal w.start ++ codes " DONE " ++ decimal w.done ++ codes " FREE " ++ decimal w.free
+
+-- from its start to its last result, if that waits for no reader
+unfoldable pub work_bar : Work → List ℕ
+work_bar w = bar (kind_name w.kind) w.start w.latency (work_title w)
+
+-- ROWS OF INSTRUCTIONS
+
+-- an arrow up if the number is greater than this place of the order, from 1, and down if it is less
+abbrev pub arrow : (number place : ℕ) → List ℕ
+arrow number place = if nat_lt place number then codes "&#8593; " else (if nat_lt number place then codes "&#8595; " else codes "  ")
+
+-- the class of a row, by whether its number is on the path
+abbrev pub row_start : (number : ℕ) (on_path : List ℕ) → List ℕ
+row_start number on_path = if list_any (λ n. n == number) on_path then codes "<tr class='path'><th>" else codes "<tr><th>"
+
+-- the number, an arrow, the text of the source
+unfoldable pub row_head : (text on_path : List ℕ) (number place : ℕ) → List ℕ
+row_head text on_path number place = row_start number on_path ++ in_three number ++ arrow number place ++ escaped text ++ codes "<td><svg>"
+
+-- why it waits in words, after its last result
+unfoldable pub row_words : List Stretch → (done : ℕ) → List ℕ
+row_words xs done = codes "<text x='" ++ decimal done ++ codes "em' y='12' dx='2'>" ++ flat_map stretch_words xs ++ codes "</text></svg>\n"
+
+-- why it waits and how long it works, in bars
+unfoldable pub row_marks : List Stretch → Work → List ℕ
+row_marks xs w = flat_map stretch_bar xs ++ work_bar w ++ row_words xs w.done
+
+abbrev pub instruction_row : Block → (on_path : List ℕ) → List Point → Point → List ℕ
+instruction_row block on_path s p = row_head (bytes_of block p.number) on_path p.number (length s + 1) ++ row_marks (stretches_at s p) (work p)
+
+abbrev pub instruction_rows : Block → (on_path : List ℕ) → List Point → List ℕ
+instruction_rows block on_path [] = []
+instruction_rows block on_path (p ∷ s) = instruction_rows block on_path s ++ instruction_row block on_path s p
+
+-- ROWS OF UNITS
+
+-- what a unit does that is free at t: it takes the first instruction that issues then or later, and so on
+abbrev pub taken_from : ℕ → List Work → List Work
+taken_from t [] = []
+taken_from t (w ∷ ws) = if nat_le t w.issue then w ∷ taken_from w.free ws else taken_from t ws
+
+-- and what is left to other units
+abbrev pub left_from : ℕ → List Work → List Work
+left_from t [] = []
+left_from t (w ∷ ws) = if nat_le t w.issue then left_from w.free ws else w ∷ left_from t ws
+
+unfoldable pub numbered_bar : (class : List ℕ) (from cycles number : ℕ) → List ℕ
+numbered_bar class from cycles number = bar class from cycles (decimal number)
+
+unfoldable pub unit_number : Work → List ℕ
+unit_number w = codes "<text x='" ++ decimal w.start ++ codes "em' y='12'>" ++ decimal w.number ++ codes "</text>"
+
+-- taken from issue to free, and at work from start on
+unfoldable pub unit_bars : Work → List ℕ
+unit_bars w = numbered_bar (codes "taken") w.issue (w.free - w.issue) w.number ++ numbered_bar (kind_name w.kind) w.start w.hold w.number ++ unit_number w
+
+-- of the time of the order, in per cent, rounded down; every order takes some time
+abbrev pub share : (cycles total : ℕ) → ℕ
+share cycles total = if total == 0 then 0 else 100 * cycles / total
+
+abbrev pub taken : List Work → ℕ
+taken ws = weigh (λ (w : Work). w.free - w.issue) ws
+
+abbrev pub worked : List Work → ℕ
+worked ws = weigh (λ (w : Work). w.hold) ws
+
+unfoldable pub unit_shares : (taken works : ℕ) → List ℕ
+unit_shares taken works = codes " TAKEN " ++ decimal taken ++ codes " % WORKS " ++ decimal works ++ codes " %<td><svg>"
+
+unfoldable pub unit_head : (name : List ℕ) (taken works : ℕ) → List ℕ
+unit_head name taken works = codes "<tr class='unit'><th>     " ++ name ++ unit_shares taken works
+
+unfoldable pub unit_row : Kind → (total : ℕ) → List Work → List ℕ
+unit_row kind total ws = unit_head (kind_name kind) (share (taken ws) total) (share (worked ws) total) ++ flat_map unit_bars ws ++ codes "</svg>\n"
+
+-- if it takes any
+abbrev pub unit_row_of : Kind → (total : ℕ) → List Work → List ℕ
+unit_row_of kind total [] = []
+unit_row_of kind total (w ∷ ws) = unit_row kind total (w ∷ ws)
+
+-- of as many units as the first number at most, one after the other
+abbrev pub unit_rows : (most : ℕ) → Kind → (total : ℕ) → List Work → List ℕ
+unit_rows zero kind total ws = []
+unit_rows (suc most) kind total ws = unit_row_of kind total (taken_from 0 ws) ++ unit_rows most kind total (left_from 0 ws)
+
+-- of the units of a kind
+unfoldable pub kind_rows : (total : ℕ) → List Work → Kind → List ℕ
+kind_rows total ws kind = unit_rows (length ws) kind total (filter (λ (w : Work). same_kind w.kind kind) ws)
+
+-- of all units
+unfoldable pub all_kind_rows : (total : ℕ) → List Work → List ℕ
+all_kind_rows total ws =
+    kind_rows total ws Boolean ++ kind_rows total ws Shift ++ kind_rows total ws Add ++ kind_rows total ws LongAdd ++ kind_rows total ws Multiply
+    ++ kind_rows total ws Divide ++ kind_rows total ws Increment
+
+-- ORDERS
+
+-- a number above every tenth minor cycle
+unfoldable pub tick : ℕ → List ℕ
+tick ten = codes "<text x='" ++ decimal (10 * ten) ++ codes "em' y='12'>" ++ decimal (10 * ten) ++ codes "</text>"
+
+abbrev pub ticks : (total : ℕ) → List ℕ
+ticks total = flat_map tick (range_with_len 0 (total / 10 + 1))
+
+unfoldable pub heading : (title : List ℕ) (total : ℕ) → List ℕ
+heading title total = codes "<h3>" ++ title ++ (codes ": " ++ decimal total ++ codes "</h3>\n")
+
+-- the table of an order is as wide as its time and 40 minor cycles for words
+unfoldable pub table_start : (total : ℕ) → List ℕ
+table_start total = codes "<table class='order' style='--w:" ++ decimal (total + 40) ++ codes "em'>\n<tr class='ruler'><th><td><svg>"
+
+unfoldable pub order_head : (title : List ℕ) (total : ℕ) → List ℕ
+order_head title total = heading title total ++ table_start total ++ ticks total ++ codes "</svg>\n"
+
+-- the numbers of the path, the latest first
+abbrev pub on_path : TimedOrder → List ℕ
+on_path t = reverse (path (points_of t.problem t.numbers))
+
+abbrev pub works : TimedOrder → List Work
+works t = map work (reverse (points_of t.problem t.numbers))
+
+abbrev pub cycles_of : TimedOrder → ℕ
+cycles_of t = total_of t.problem t.numbers
+
+-- what `why` says of it
+unfoldable pub why_below : TimedOrder → List ℕ
+why_below t = codes "</table>\n<pre>" ++ why_text t ++ codes "</pre>\n"
+
+unfoldable pub order_text : Block → (title : List ℕ) → TimedOrder → List ℕ
+order_text block title t =
+    order_head title (cycles_of t) ++ instruction_rows block (on_path t) (points_of t.problem t.numbers) ++ all_kind_rows (cycles_of t) (works t) ++ why_below t
+
+-- BLOCKS
+
+unfoldable pub bound_text : (time bound : ℕ) → List ℕ
+bound_text time bound = if bound == time then codes "BEST" else (codes "AT LEAST " ++ decimal bound)
+
+-- of the n-th block, from 1, by its source order, the best order found, and what every order takes at least
+abbrev pub summary : ℕ → Block → (source best : TimedOrder) (bound : ℕ) → Summary
+summary n block source best bound =
+    record { number = n; line = line_of block 1; count = length (instrs_of block); source = cycles_of source; time = cycles_of best; bound = bound }
+
+unfoldable pub block_place : (number line count : ℕ) → List ℕ
+block_place number line count = codes " BLOCK " ++ decimal number ++ codes " LINE " ++ decimal line ++ codes " COUNT " ++ decimal count
+
+unfoldable pub block_times : (source time : ℕ) → List ℕ
+block_times source time = codes " SOURCE " ++ decimal source ++ codes " TIME " ++ decimal time ++ codes " "
+
+unfoldable pub block_anchor : (number : ℕ) → List ℕ
+block_anchor number = codes "<h2 id='b" ++ decimal number ++ codes "'>"
+
+unfoldable pub block_title : (label : List ℕ) → Summary → List ℕ
+block_title label b = block_anchor b.number ++ escaped label ++ block_place b.number b.line b.count
+
+unfoldable pub block_verdict : Summary → List ℕ
+block_verdict b = block_times b.source b.time ++ bound_text b.time b.bound ++ codes " <a href='#top'>&#8593;</a></h2>\n"
+
+unfoldable pub block_head : (label : List ℕ) → Summary → List ℕ
+block_head label b = block_title label b ++ block_verdict b
+
+-- the best order, if it takes less
+abbrev pub best_text : Block → (source best : TimedOrder) → List ℕ
+best_text block source best = if nat_lt (cycles_of best) (cycles_of source) then order_text block (codes "In the best order found") best else []
+
+unfoldable pub block_text : ℕ → Block → (source best : TimedOrder) (bound : ℕ) → List ℕ
+block_text n block source best bound =
+    block_head block.label (summary n block source best bound) ++ order_text block (codes "As it is written") source ++ best_text block source best
+
+-- THE LIST OF BLOCKS
+
+-- a link to the block
+unfoldable pub index_link : (number : ℕ) → List ℕ
+index_link number = codes "<tr><td><a href='#b" ++ decimal number ++ codes "'>" ++ decimal number ++ codes "</a>"
+
+unfoldable pub cell : ℕ → List ℕ
+cell n = codes "<td>" ++ decimal n
+
+unfoldable pub bound_cell : (time bound : ℕ) → List ℕ
+bound_cell time bound = codes "<td>" ++ bound_text time bound ++ codes "\n"
+
+unfoldable pub index_row : Summary → List ℕ
+index_row b = index_link b.number ++ cell b.line ++ cell b.count ++ cell b.source ++ cell b.time ++ bound_cell b.time b.bound

@@ -1,0 +1,199 @@
+ghost use Rattle.std.specs.Prelude.{◌≡◌, ◌++◌, OnOk};
+ghost use Rattle.s66_line.specs.Block.{instrs_of};
+ghost use Rattle.s66_page.specs.Page.{best_text, block_anchor, block_head, block_place, block_text, block_times, block_title, block_verdict, bound_cell, bound_text, cell, index_link, index_row, summary};
+
+use crate::escape::push_escaped;
+use crate::order::push_order;
+use crate::summary::Summary;
+use crate::text::{push_between, push_text, push_two};
+use s66_device::push_field;
+use s66_line::Block;
+use s66_time::Timed;
+use std::alloc::AllocError;
+
+/// The summary of a block, whose number is from 1.
+fn summary_of(number: usize, block: &Block, source: &Timed, best: &Timed, bound: u32) -> Summary
+    ensures { result ≡ summary number block.now source.now best.now bound }
+{
+    // so there is a first instruction
+    prove!(block.count() >= 1);
+    Summary {
+        number,
+        line: block.line(1),
+        count: block.count(),
+        source: source.total(),
+        time: best.total(),
+        bound,
+    }
+}
+
+/// That a time is best, or what every order takes at least.
+#[tactic(auto, unfolding(crate::specs::Page::bound_text))]
+fn push_bound(out: &mut Vec<u8>, time: u32, bound: u32) -> Result<(), AllocError>
+    ensures { OnOk result (out.new.items ≡ out.old.items ++ bound_text time bound) }
+{
+    if bound == time {
+        push_text(out, b"BEST")
+    } else {
+        push_field(out, b"AT LEAST ", bound as usize)
+    }
+}
+
+/// The beginning of a block, to which its number links.
+#[tactic(auto, unfolding(crate::specs::Page::block_anchor))]
+fn push_block_anchor(out: &mut Vec<u8>, number: usize) -> Result<(), AllocError>
+    ensures { OnOk result (out.new.items ≡ out.old.items ++ block_anchor number) }
+{
+    push_between(out, b"<h2 id='b", number, b"'>")
+}
+
+/// Where a block is.
+#[tactic(auto, unfolding(crate::specs::Page::block_place))]
+fn push_block_place(
+    out: &mut Vec<u8>,
+    number: usize,
+    line: u32,
+    count: usize,
+) -> Result<(), AllocError>
+    ensures { OnOk result (out.new.items ≡ out.old.items ++ block_place number line count) }
+{
+    push_field(out, b" BLOCK ", number)?;
+    push_field(out, b" LINE ", line as usize)?;
+    push_field(out, b" COUNT ", count)
+}
+
+/// How long a block takes.
+#[tactic(auto, unfolding(crate::specs::Page::block_times))]
+fn push_block_times(out: &mut Vec<u8>, source: u32, time: u32) -> Result<(), AllocError>
+    ensures { OnOk result (out.new.items ≡ out.old.items ++ block_times source time) }
+{
+    push_two(
+        out,
+        b" SOURCE ",
+        source as usize,
+        b" TIME ",
+        time as usize,
+        b" ",
+    )
+}
+
+/// The first half of the heading of a block.
+#[tactic(auto, unfolding(crate::specs::Page::block_title))]
+fn push_block_title(out: &mut Vec<u8>, label: &[u8], summary: &Summary) -> Result<(), AllocError>
+    ensures { OnOk result (out.new.items ≡ out.old.items ++ block_title label.now summary.now) }
+{
+    push_block_anchor(out, summary.number)?;
+    push_escaped(out, label)?;
+    push_block_place(out, summary.number, summary.line, summary.count)
+}
+
+/// The second half.
+#[tactic(auto, unfolding(crate::specs::Page::block_verdict))]
+fn push_block_verdict(out: &mut Vec<u8>, summary: &Summary) -> Result<(), AllocError>
+    ensures { OnOk result (out.new.items ≡ out.old.items ++ block_verdict summary.now) }
+{
+    push_block_times(out, summary.source, summary.time)?;
+    push_bound(out, summary.time, summary.bound)?;
+    push_text(out, b" <a href='#top'>&#8593;</a></h2>\n")
+}
+
+/// The heading of a block.
+#[tactic(auto, unfolding(crate::specs::Page::block_head))]
+fn push_block_head(out: &mut Vec<u8>, label: &[u8], summary: &Summary) -> Result<(), AllocError>
+    ensures { OnOk result (out.new.items ≡ out.old.items ++ block_head label.now summary.now) }
+{
+    push_block_title(out, label, summary)?;
+    push_block_verdict(out, summary)
+}
+
+/// The best order of a block, if it takes less than the source order.
+fn push_best(
+    out: &mut Vec<u8>,
+    block: &Block,
+    source: &Timed,
+    best: &Timed,
+) -> Result<(), AllocError>
+    requires { best.now.problem.block ≡ instrs_of block.now }
+    ensures { OnOk result (out.new.items ≡ out.old.items ++ best_text block.now source.now best.now) }
+{
+    if best.total() < source.total() {
+        push_order(out, block, b"In the best order found", best)
+    } else {
+        Ok(())
+    }
+}
+
+/// Appends a block, whose number is from 1: its heading, its source order, and the best order found if that takes less. No order
+/// takes less than the bound. It takes time quadratic in the length of the block, which is at most `BLOCK_LIMIT`, and allocates
+/// nothing but room in `out`. `Err` is out of memory.
+#[tactic(auto, unfolding(crate::specs::Page::block_text))]
+pub fn push_block(
+    out: &mut Vec<u8>,
+    number: usize,
+    block: &Block,
+    source: &Timed,
+    best: &Timed,
+    bound: u32,
+) -> Result<(), AllocError>
+    requires source { source.now.problem.block ≡ instrs_of block.now }
+    requires best { best.now.problem.block ≡ instrs_of block.now }
+    ensures { OnOk result (out.new.items ≡ out.old.items ++ block_text number block.now source.now best.now bound) }
+{
+    let summary = summary_of(number, block, source, best, bound);
+    push_block_head(out, block.label(), &summary)?;
+    push_order(out, block, b"As it is written", source)?;
+    push_best(out, block, source, best)
+}
+
+/// The link to a block.
+#[tactic(auto, unfolding(crate::specs::Page::index_link))]
+fn push_index_link(out: &mut Vec<u8>, number: usize) -> Result<(), AllocError>
+    ensures { OnOk result (out.new.items ≡ out.old.items ++ index_link number) }
+{
+    push_two(out, b"<tr><td><a href='#b", number, b"'>", number, b"</a>")
+}
+
+/// A number of a row.
+#[tactic(auto, unfolding(crate::specs::Page::cell))]
+fn push_cell(out: &mut Vec<u8>, number: usize) -> Result<(), AllocError>
+    ensures { OnOk result (out.new.items ≡ out.old.items ++ cell number) }
+{
+    push_field(out, b"<td>", number)
+}
+
+/// The end of a row.
+#[tactic(auto, unfolding(crate::specs::Page::bound_cell))]
+fn push_bound_cell(out: &mut Vec<u8>, time: u32, bound: u32) -> Result<(), AllocError>
+    ensures { OnOk result (out.new.items ≡ out.old.items ++ bound_cell time bound) }
+{
+    push_text(out, b"<td>")?;
+    push_bound(out, time, bound)?;
+    push_text(out, b"\n")
+}
+
+/// The row of a block in the list of all blocks.
+#[tactic(auto, unfolding(crate::specs::Page::index_row))]
+fn push_summary(out: &mut Vec<u8>, summary: &Summary) -> Result<(), AllocError>
+    ensures { OnOk result (out.new.items ≡ out.old.items ++ index_row summary.now) }
+{
+    push_index_link(out, summary.number)?;
+    push_cell(out, summary.line as usize)?;
+    push_cell(out, summary.count)?;
+    push_cell(out, summary.source as usize)?;
+    push_cell(out, summary.time as usize)?;
+    push_bound_cell(out, summary.time, summary.bound)
+}
+
+/// Appends the row of a block in the list of all blocks, which links to the block. Its number is from 1. `Err` is out of memory.
+pub fn push_index_row(
+    out: &mut Vec<u8>,
+    number: usize,
+    block: &Block,
+    source: &Timed,
+    best: &Timed,
+    bound: u32,
+) -> Result<(), AllocError>
+    ensures { OnOk result (out.new.items ≡ out.old.items ++ index_row (summary number block.now source.now best.now bound)) }
+{
+    push_summary(out, &summary_of(number, block, source, best, bound))
+}

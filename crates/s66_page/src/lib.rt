@@ -1,0 +1,16 @@
+//! Orders of blocks as a page for a browser: one HTML file that stands alone.
+#![tactic(auto)]
+
+mod bar;
+mod block;
+mod escape;
+mod order;
+mod row;
+mod summary;
+mod text;
+mod unit;
+mod work;
+
+pub use block::{push_block, push_index_row};
+pub use escape::push_escaped;
+pub use order::push_order;

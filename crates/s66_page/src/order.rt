@@ -1,0 +1,111 @@
+ghost use Rattle.std.specs.Prelude.{◌≡◌, ◌+◌, ◌*◌, ◌/◌, ◌≤◌, ◌<◌, ◌^◌, ◌++◌, OnOk, flat_map, length};
+ghost use Rattle.std.specs.List.{range_with_len};
+ghost use Rattle.s66_line.specs.Block.{instrs_of};
+ghost use Rattle.s66_model.specs.Timing.{points_of};
+ghost use Rattle.s66_page.specs.Page.{all_kind_rows, instruction_rows, on_path, works, cycles_of, heading, order_head, order_text, table_start, why_below, tick, ticks};
+
+use crate::row::push_rows;
+use crate::text::{push_between, push_text, push_two};
+use crate::unit::push_all_kind_rows;
+use crate::work::works_of;
+use s66_line::Block;
+use s66_time::Timed;
+use s66_why::{path_back, points_of, push_why};
+use std::alloc::AllocError;
+
+/// The number above a tenth minor cycle.
+#[tactic(auto, unfolding(crate::specs::Page::tick))]
+fn push_tick(out: &mut Vec<u8>, ten: usize) -> Result<(), AllocError>
+    requires { ten < 2 ^ 32 }
+    ensures { OnOk result (out.new.items ≡ out.old.items ++ tick ten) }
+{
+    let cycle = 10 * ten;
+    push_two(out, b"<text x='", cycle, b"em' y='12'>", cycle, b"</text>")
+}
+
+/// The numbers above the minor cycles of an order.
+fn push_ticks(out: &mut Vec<u8>, total: u32) -> Result<(), AllocError>
+    ensures { OnOk result (out.new.items ≡ out.old.items ++ ticks total) }
+{
+    let count = total as usize / 10 + 1;
+    for ten in 0..count {
+        push_tick(out, ten)?;
+    }
+    Ok(())
+}
+
+/// The heading of an order.
+#[tactic(auto, unfolding(crate::specs::Page::heading))]
+fn push_heading(out: &mut Vec<u8>, title: &[u8], total: u32) -> Result<(), AllocError>
+    ensures { OnOk result (out.new.items ≡ out.old.items ++ heading title.now total) }
+{
+    push_text(out, b"<h3>")?;
+    push_text(out, title)?;
+    push_between(out, b": ", total as usize, b"</h3>\n")
+}
+
+/// How the table of an order begins.
+#[tactic(auto, unfolding(crate::specs::Page::table_start))]
+fn push_table_start(out: &mut Vec<u8>, total: u32) -> Result<(), AllocError>
+    ensures { OnOk result (out.new.items ≡ out.old.items ++ table_start total) }
+{
+    push_between(
+        out,
+        b"<table class='order' style='--w:",
+        total as usize + 40,
+        b"em'>\n<tr class='ruler'><th><td><svg>",
+    )
+}
+
+/// The heading of an order, and the first row of its table.
+#[tactic(auto, unfolding(crate::specs::Page::order_head))]
+fn push_order_head(out: &mut Vec<u8>, title: &[u8], total: u32) -> Result<(), AllocError>
+    ensures { OnOk result (out.new.items ≡ out.old.items ++ order_head title.now total) }
+{
+    push_heading(out, title, total)?;
+    push_table_start(out, total)?;
+    push_ticks(out, total)?;
+    push_text(out, b"</svg>\n")
+}
+
+/// The rows of the instructions of an order, and those of its units.
+fn push_all_rows(out: &mut Vec<u8>, block: &Block, timed: &Timed) -> Result<(), AllocError>
+    requires { timed.now.problem.block ≡ instrs_of block.now }
+    ensures { OnOk result (out.new.items ≡ out.old.items ++ (instruction_rows block.now (on_path timed.now) (points_of timed.now.problem timed.now.numbers) ++ all_kind_rows (cycles_of timed.now) (works timed.now))) }
+{
+    let points = points_of(timed);
+    let points = points.as_slice();
+    let works = works_of(timed, points);
+    let works = works.as_slice();
+    let on_path = path_back(points, timed.total());
+    push_rows(out, block, timed, on_path.as_slice(), points, works)?;
+    push_all_kind_rows(out, timed.total(), works)
+}
+
+/// What `why` says of an order, below its table.
+#[tactic(auto, unfolding(crate::specs::Page::why_below))]
+fn push_why_below(out: &mut Vec<u8>, timed: &Timed) -> Result<(), AllocError>
+    ensures { OnOk result (out.new.items ≡ out.old.items ++ why_below timed.now) }
+{
+    push_text(out, b"</table>\n<pre>")?;
+    push_why(out, timed)?;
+    push_text(out, b"</pre>\n")
+}
+
+/// Appends an order of a block under a heading: a row for each instruction, a row for each unit that is taken, and what `why` says.
+/// Coordinates are minor cycles of 100 ns. It takes time quadratic in the length of the order, which is at most `BLOCK_LIMIT`, and
+/// allocates nothing but room in `out`. `Err` is out of memory.
+#[tactic(auto, unfolding(crate::specs::Page::order_text))]
+pub fn push_order(
+    out: &mut Vec<u8>,
+    block: &Block,
+    title: &[u8],
+    timed: &Timed,
+) -> Result<(), AllocError>
+    requires { timed.now.problem.block ≡ instrs_of block.now }
+    ensures { OnOk result (out.new.items ≡ out.old.items ++ order_text block.now title.now timed.now) }
+{
+    push_order_head(out, title, timed.total())?;
+    push_all_rows(out, block, timed)?;
+    push_why_below(out, timed)
+}

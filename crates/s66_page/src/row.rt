@@ -1,0 +1,194 @@
+ghost use Rattle.std.specs.Prelude.{◌≡◌, ◌+◌, ◌<◌, ◌≤◌, ◌++◌, OnOk, flat_map, length, map, option_to_list, reverse};
+ghost use Rattle.s66_line.specs.Block.{bytes_of, instrs_of};
+ghost use Rattle.s66_model.specs.Timing.{points_of};
+ghost use Rattle.s66_time.specs.TimedOrder.{point_at};
+ghost use Rattle.s66_why.specs.Why.{stretches_at};
+ghost use Rattle.s66_page.specs.Page.{arrow, row_start, row_head, row_marks, row_words, stretch_bar, stretch_words, work, instruction_rows};
+
+use crate::bar::{push_stretch_bar, push_stretch_words, push_work_bar};
+use crate::escape::push_escaped;
+use crate::text::push_text;
+use crate::work::Work;
+use s66_device::push_field;
+use s66_line::Block;
+use s66_time::Timed;
+use s66_why::{PlacedInstr, Stretch, first_stretch, push_in_three, second_stretch, third_stretch};
+use std::alloc::AllocError;
+
+/// Where an instruction moved that has a place in an order, from 1.
+fn arrow(number: u8, place: usize) -> &'static [u8]
+    ensures { result.now ≡ arrow number place }
+{
+    if place < number as usize {
+        b"&#8593; "
+    } else if (number as usize) < place {
+        b"&#8595; "
+    } else {
+        b"  "
+    }
+}
+
+/// How a row begins.
+fn row_start(number: u8, on_path: &[u8]) -> &'static [u8]
+    ensures { result.now ≡ row_start number on_path.now }
+{
+    if on_path.contains(&number) {
+        b"<tr class='path'><th>"
+    } else {
+        b"<tr><th>"
+    }
+}
+
+/// The number and the text of an instruction that has a place in an order, from 1.
+#[tactic(auto, unfolding(crate::specs::Page::row_head))]
+fn push_row_head(
+    out: &mut Vec<u8>,
+    text: &[u8],
+    on_path: &[u8],
+    number: u8,
+    place: usize,
+) -> Result<(), AllocError>
+    ensures { OnOk result (out.new.items ≡ out.old.items ++ row_head text.now on_path.now number place) }
+{
+    push_text(out, row_start(number, on_path))?;
+    push_in_three(out, number)?;
+    push_text(out, arrow(number, place))?;
+    push_escaped(out, text)?;
+    push_text(out, b"<td><svg>")
+}
+
+/// The bar of a stretch, if there is one.
+fn push_bar(out: &mut Vec<u8>, stretch: &Option<Stretch>) -> Result<(), AllocError>
+    ensures { OnOk result (out.new.items ≡ out.old.items ++ flat_map stretch_bar (option_to_list stretch.now)) }
+{
+    match stretch {
+        None => Ok(()),
+        Some(stretch) => push_stretch_bar(out, stretch),
+    }
+}
+
+/// The bars of the minor cycles in which an instruction is kept back.
+fn push_bars(
+    out: &mut Vec<u8>,
+    earlier: &[PlacedInstr],
+    point: &PlacedInstr,
+) -> Result<(), AllocError>
+    ensures { OnOk result (out.new.items ≡ out.old.items ++ flat_map stretch_bar (stretches_at (reverse earlier.now) point.now)) }
+{
+    push_bar(out, &first_stretch(earlier, point))?;
+    push_bar(out, &second_stretch(earlier, point))?;
+    for write in point.row.writes.as_slice() {
+        push_bar(out, &third_stretch(earlier, point, write))?;
+    }
+    Ok(())
+}
+
+/// The words of a stretch, if there is one.
+fn push_word(out: &mut Vec<u8>, stretch: &Option<Stretch>) -> Result<(), AllocError>
+    ensures { OnOk result (out.new.items ≡ out.old.items ++ flat_map stretch_words (option_to_list stretch.now)) }
+{
+    match stretch {
+        None => Ok(()),
+        Some(stretch) => push_stretch_words(out, stretch),
+    }
+}
+
+/// The words of the minor cycles in which an instruction is kept back.
+fn push_words(
+    out: &mut Vec<u8>,
+    earlier: &[PlacedInstr],
+    point: &PlacedInstr,
+) -> Result<(), AllocError>
+    ensures { OnOk result (out.new.items ≡ out.old.items ++ flat_map stretch_words (stretches_at (reverse earlier.now) point.now)) }
+{
+    push_word(out, &first_stretch(earlier, point))?;
+    push_word(out, &second_stretch(earlier, point))?;
+    for write in point.row.writes.as_slice() {
+        push_word(out, &third_stretch(earlier, point, write))?;
+    }
+    Ok(())
+}
+
+/// The words of an instruction whose last result is done then.
+#[tactic(auto, unfolding(crate::specs::Page::row_words))]
+fn push_row_words(
+    out: &mut Vec<u8>,
+    earlier: &[PlacedInstr],
+    point: &PlacedInstr,
+    done: u32,
+) -> Result<(), AllocError>
+    ensures { OnOk result (out.new.items ≡ out.old.items ++ row_words (stretches_at (reverse earlier.now) point.now) done) }
+{
+    push_field(out, b"<text x='", done as usize)?;
+    push_text(out, b"em' y='12' dx='2'>")?;
+    push_words(out, earlier, point)?;
+    push_text(out, b"</text></svg>\n")
+}
+
+/// What is drawn of an instruction.
+#[tactic(auto, unfolding(crate::specs::Page::row_marks))]
+fn push_row_marks(
+    out: &mut Vec<u8>,
+    earlier: &[PlacedInstr],
+    point: &PlacedInstr,
+    work: &Work,
+) -> Result<(), AllocError>
+    ensures { OnOk result (out.new.items ≡ out.old.items ++ row_marks (stretches_at (reverse earlier.now) point.now) work.now) }
+{
+    push_bars(out, earlier, point)?;
+    push_work_bar(out, work)?;
+    push_row_words(out, earlier, point, work.done)
+}
+
+/// The row of an instruction.
+fn push_row(
+    out: &mut Vec<u8>,
+    text: &[u8],
+    on_path: &[u8],
+    earlier: &[PlacedInstr],
+    point: &PlacedInstr,
+    work: &Work,
+) -> Result<(), AllocError>
+    ensures { OnOk result (out.new.items ≡ out.old.items ++ (row_head text.now on_path.now point.now.number (length earlier.now + 1) ++ row_marks (stretches_at (reverse earlier.now) point.now) work.now)) }
+{
+    push_row_head(out, text, on_path, point.number, earlier.len() + 1)?;
+    push_row_marks(out, earlier, point, work)
+}
+
+/// The text in the source of the instruction at a position.
+fn text_at<'a>(block: &Block<'a>, timed: &Timed, position: usize) -> &'a [u8]
+    requires position { position < length timed.now.numbers }
+    requires block { timed.now.problem.block ≡ instrs_of block.now }
+    ensures { result.now ≡ bytes_of block.now (point_at timed.now position).number }
+{
+    let number = timed.order().numbers()[position];
+    block.bytes(number as usize)
+}
+
+/// The rows of the instructions of a timed order.
+pub fn push_rows(
+    out: &mut Vec<u8>,
+    block: &Block,
+    timed: &Timed,
+    on_path: &[u8],
+    points: &[PlacedInstr],
+    works: &[Work],
+) -> Result<(), AllocError>
+    requires block { timed.now.problem.block ≡ instrs_of block.now }
+    requires points { points.now ≡ reverse (points_of timed.now.problem timed.now.numbers) }
+    requires works { works.now ≡ map work points.now }
+    ensures { OnOk result (out.new.items ≡ out.old.items ++ instruction_rows block.now on_path.now (points_of timed.now.problem timed.now.numbers)) }
+{
+    for position in 0..timed.order().numbers().len() {
+        let text = text_at(block, timed, position);
+        push_row(
+            out,
+            text,
+            on_path,
+            &points[..position],
+            &points[position],
+            &works[position],
+        )?;
+    }
+    Ok(())
+}

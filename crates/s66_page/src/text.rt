@@ -1,0 +1,47 @@
+ghost use Rattle.std.specs.Prelude.{◌≡◌, ◌++◌, OnOk, decimal};
+
+use s66_device::push_field;
+use std::alloc::AllocError;
+
+/// Appends a text. `Err` is out of memory, here and in all that appends to the page.
+pub fn push_text(out: &mut Vec<u8>, text: &[u8]) -> Result<(), AllocError>
+    ensures { OnOk result (out.new.items ≡ out.old.items ++ text.now) }
+{
+    out.extend_from_slice(text)
+}
+
+/// Appends a number in decimal.
+pub fn push_number(out: &mut Vec<u8>, number: u8) -> Result<(), AllocError>
+    ensures { OnOk result (out.new.items ≡ out.old.items ++ decimal number) }
+{
+    push_field(out, b"", number as usize)
+}
+
+/// Appends a number between two texts.
+pub fn push_between(
+    out: &mut Vec<u8>,
+    before: &[u8],
+    number: usize,
+    after: &[u8],
+) -> Result<(), AllocError>
+    ensures { OnOk result (out.new.items ≡ out.old.items ++ (before.now ++ decimal number ++ after.now)) }
+{
+    push_field(out, before, number)?;
+    push_text(out, after)
+}
+
+/// Appends two numbers before, between and after texts.
+pub fn push_two(
+    out: &mut Vec<u8>,
+    before: &[u8],
+    first: usize,
+    between: &[u8],
+    second: usize,
+    after: &[u8],
+) -> Result<(), AllocError>
+    ensures { OnOk result (out.new.items ≡ out.old.items ++ (before.now ++ decimal first ++ between.now ++ decimal second ++ after.now)) }
+{
+    push_field(out, before, first)?;
+    push_field(out, between, second)?;
+    push_text(out, after)
+}

@@ -1,0 +1,267 @@
+ghost use Rattle.std.specs.Prelude.{◌≡◌, ◌*◌, ◌<◌, ◌≤◌, ◌^◌, ◌++◌, OnOk, codes, filter, flat_map, length};
+ghost use Rattle.s66_isa.specs.declared.limits.TheConstants.{BLOCK_LIMIT};
+ghost use Rattle.s66_isa.specs.Table.{same_kind};
+ghost use Rattle.s66_page.specs.Page.{bar, taken_from, left_from, unit_bars, unit_number, numbered_bar, share, taken, worked, unit_head, unit_shares, unit_row, unit_row_of, unit_rows, kind_rows, all_kind_rows};
+ghost use Rattle.s66_page.specs.declared.work.Work.{Work as WorkOf};
+
+use crate::bar::{BAR_END, push_bar_start};
+use crate::text::{push_number, push_text, push_two};
+use crate::work::Work;
+use arrayvec::ArrayVec;
+use s66_isa::{BLOCK_LIMIT, Kind, is_same_kind};
+use s66_why::kind_name;
+use std::alloc::AllocError;
+
+/// The instructions whose units are of a kind.
+fn works_of_kind(works: &[Work], kind: Kind) -> ArrayVec<Work, BLOCK_LIMIT>
+    requires { length works.now ≤ BLOCK_LIMIT }
+    ensures { result.items ≡ filter (λ (w : WorkOf). same_kind w.kind kind) works.now }
+{
+    let mut same = ArrayVec::new();
+    for work in works {
+        if is_same_kind(work.kind, kind) {
+            same.push(*work);
+        }
+    }
+    same
+}
+
+/// What a unit does that takes the first of these instructions, then the next that issues when it is free, and so on.
+fn taken(works: &[Work]) -> ArrayVec<Work, BLOCK_LIMIT>
+    requires { length works.now ≤ BLOCK_LIMIT }
+    ensures { result.items ≡ taken_from 0 works.now }
+{
+    let mut taken = ArrayVec::new();
+    let mut free = 0;
+    for work in works {
+        if free <= work.issue {
+            taken.push(*work);
+            free = work.free;
+        }
+    }
+    taken
+}
+
+/// What that unit leaves to others.
+fn left(works: &[Work]) -> ArrayVec<Work, BLOCK_LIMIT>
+    requires { length works.now ≤ BLOCK_LIMIT }
+    ensures { result.items ≡ left_from 0 works.now }
+{
+    let mut left = ArrayVec::new();
+    let mut free = 0;
+    for work in works {
+        if free <= work.issue {
+            free = work.free;
+        } else {
+            left.push(*work);
+        }
+    }
+    left
+}
+
+/// A bar in the row of a unit, whose title is the number of the instruction.
+#[tactic(auto, unfolding(crate::specs::Page::numbered_bar))]
+fn push_numbered_bar(
+    out: &mut Vec<u8>,
+    class: &[u8],
+    from: u32,
+    cycles: u32,
+    number: u8,
+) -> Result<(), AllocError>
+    ensures { OnOk result (out.new.items ≡ out.old.items ++ numbered_bar class.now from cycles number) }
+{
+    push_bar_start(out, class, from, cycles)?;
+    push_number(out, number)?;
+    push_text(out, BAR_END)
+}
+
+/// The number of an instruction where its unit starts.
+#[tactic(auto, unfolding(crate::specs::Page::unit_number))]
+fn push_unit_number(out: &mut Vec<u8>, work: &Work) -> Result<(), AllocError>
+    ensures { OnOk result (out.new.items ≡ out.old.items ++ unit_number work.now) }
+{
+    push_two(
+        out,
+        b"<text x='",
+        work.start as usize,
+        b"em' y='12'>",
+        work.number as usize,
+        b"</text>",
+    )
+}
+
+/// What is drawn of an instruction in the row of its unit.
+#[tactic(auto, unfolding(crate::specs::Page::unit_bars))]
+fn push_unit_bars(out: &mut Vec<u8>, work: &Work) -> Result<(), AllocError>
+    ensures { OnOk result (out.new.items ≡ out.old.items ++ unit_bars work.now) }
+{
+    let taken = work.free.saturating_sub(work.issue);
+    push_numbered_bar(out, b"taken", work.issue, taken, work.number)?;
+    push_numbered_bar(
+        out,
+        kind_name(work.kind),
+        work.start,
+        work.hold,
+        work.number,
+    )?;
+    push_unit_number(out, work)
+}
+
+/// What is drawn of instructions in the row of their unit.
+fn push_all_unit_bars(out: &mut Vec<u8>, works: &[Work]) -> Result<(), AllocError>
+    ensures { OnOk result (out.new.items ≡ out.old.items ++ flat_map unit_bars works.now) }
+{
+    for work in works {
+        push_unit_bars(out, work)?;
+    }
+    Ok(())
+}
+
+/// For how many minor cycles a unit is taken.
+fn cycles_taken(works: &[Work]) -> usize
+    requires { length works.now ≤ BLOCK_LIMIT }
+    ensures value { result ≡ taken works.now }
+    ensures few { result ≤ 2 ^ 40 }
+{
+    let mut cycles = 0usize;
+    for work in works {
+        cycles += work.free.saturating_sub(work.issue) as usize;
+    }
+    cycles
+}
+
+/// For how many minor cycles a unit works on an instruction.
+fn hold_of(work: &Work) -> u32
+    ensures { result ≡ work.now.hold }
+{
+    work.hold
+}
+
+/// For how many minor cycles a unit works.
+fn cycles_worked(works: &[Work]) -> usize
+    requires { length works.now ≤ BLOCK_LIMIT }
+    ensures value { result ≡ worked works.now }
+    ensures few { result ≤ 2 ^ 40 }
+{
+    let mut cycles = 0usize;
+    for work in works {
+        cycles += hold_of(work) as usize;
+    }
+    cycles
+}
+
+/// A share of a time, in per cent, rounded down.
+fn share(cycles: usize, total: u32) -> usize
+    requires { cycles ≤ 2 ^ 40 }
+    ensures { result ≡ share cycles total }
+{
+    if total == 0 {
+        0
+    } else {
+        100 * cycles / total as usize
+    }
+}
+
+/// The shares of the time for which a unit is taken and works, in per cent.
+#[tactic(auto, unfolding(crate::specs::Page::unit_shares))]
+fn push_unit_shares(out: &mut Vec<u8>, taken: usize, works: usize) -> Result<(), AllocError>
+    ensures { OnOk result (out.new.items ≡ out.old.items ++ unit_shares taken works) }
+{
+    push_two(out, b" TAKEN ", taken, b" % WORKS ", works, b" %<td><svg>")
+}
+
+/// How the row of a unit begins.
+#[tactic(auto, unfolding(crate::specs::Page::unit_head))]
+fn push_unit_head(
+    out: &mut Vec<u8>,
+    name: &[u8],
+    taken: usize,
+    works: usize,
+) -> Result<(), AllocError>
+    ensures { OnOk result (out.new.items ≡ out.old.items ++ unit_head name.now taken works) }
+{
+    push_text(out, b"<tr class='unit'><th>     ")?;
+    push_text(out, name)?;
+    push_unit_shares(out, taken, works)
+}
+
+/// The row of a unit.
+#[tactic(auto, unfolding(crate::specs::Page::unit_row))]
+fn push_unit_row(
+    out: &mut Vec<u8>,
+    kind: Kind,
+    total: u32,
+    works: &[Work],
+) -> Result<(), AllocError>
+    requires { length works.now ≤ BLOCK_LIMIT }
+    ensures { OnOk result (out.new.items ≡ out.old.items ++ unit_row kind total works.now) }
+{
+    let taken = share(cycles_taken(works), total);
+    let worked = share(cycles_worked(works), total);
+    push_unit_head(out, kind_name(kind), taken, worked)?;
+    push_all_unit_bars(out, works)?;
+    push_text(out, b"</svg>\n")
+}
+
+/// The row of a unit, if it does anything.
+fn push_unit_row_of(
+    out: &mut Vec<u8>,
+    kind: Kind,
+    total: u32,
+    works: &[Work],
+) -> Result<(), AllocError>
+    requires { length works.now ≤ BLOCK_LIMIT }
+    ensures { OnOk result (out.new.items ≡ out.old.items ++ unit_row_of kind total works.now) }
+{
+    match works {
+        [] => Ok(()),
+        _ => push_unit_row(out, kind, total, works),
+    }
+}
+
+/// The rows of the units of a kind, whose instructions these are: as many as `most`, at most.
+fn push_unit_rows(
+    out: &mut Vec<u8>,
+    most: usize,
+    kind: Kind,
+    total: u32,
+    works: ArrayVec<Work, BLOCK_LIMIT>,
+) -> Result<(), AllocError>
+    ensures { OnOk result (out.new.items ≡ out.old.items ++ unit_rows most kind total works.items) }
+{
+    let mut rest = works;
+    for unit in 0..most {
+        push_unit_row_of(out, kind, total, taken(rest.as_slice()).as_slice())?;
+        rest = left(rest.as_slice());
+    }
+    Ok(())
+}
+
+/// The rows of the units of a kind.
+#[tactic(auto, unfolding(crate::specs::Page::kind_rows))]
+fn push_kind_rows(
+    out: &mut Vec<u8>,
+    total: u32,
+    works: &[Work],
+    kind: Kind,
+) -> Result<(), AllocError>
+    requires { length works.now ≤ BLOCK_LIMIT }
+    ensures { OnOk result (out.new.items ≡ out.old.items ++ kind_rows total works.now kind) }
+{
+    push_unit_rows(out, works.len(), kind, total, works_of_kind(works, kind))
+}
+
+/// The rows of all units that these instructions of an order take.
+#[tactic(auto, unfolding(crate::specs::Page::all_kind_rows))]
+pub fn push_all_kind_rows(out: &mut Vec<u8>, total: u32, works: &[Work]) -> Result<(), AllocError>
+    requires { length works.now ≤ BLOCK_LIMIT }
+    ensures { OnOk result (out.new.items ≡ out.old.items ++ all_kind_rows total works.now) }
+{
+    push_kind_rows(out, total, works, Kind::Boolean)?;
+    push_kind_rows(out, total, works, Kind::Shift)?;
+    push_kind_rows(out, total, works, Kind::Add)?;
+    push_kind_rows(out, total, works, Kind::LongAdd)?;
+    push_kind_rows(out, total, works, Kind::Multiply)?;
+    push_kind_rows(out, total, works, Kind::Divide)?;
+    push_kind_rows(out, total, works, Kind::Increment)
+}
