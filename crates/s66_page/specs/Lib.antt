@@ -1,2 +1,3 @@
 pub mod Escape
+pub mod Found
 pub mod Page

@@ -2,7 +2,8 @@
 use Rattle.std.specs.Prelude.{ℕ, zero, suc, ◌+◌, ◌-◌, ◌*◌, ◌/◌, if◌then◌else◌, ◌==◌, List, [], ◌∷◌, ◌++◌, codes, decimal, filter, flat_map, length, map, nat_le, nat_lt, reverse}
 use Rattle.std.specs.List.{range_with_len, list_any}
 use Rattle.s66_isa.specs.Lists.{weigh}
-use Rattle.s66_isa.specs.Table.{latency_of, same_kind}
+use Rattle.s66_isa.specs.declared.profile.Profile.{Profile}
+use Rattle.s66_isa.specs.Table.{latency_of, same_kind, numbers}
 use Rattle.s66_isa.specs.declared.instr.Kind.{Kind}
 use Rattle.s66_isa.specs.declared.instr.Kind.TheVariants.{Boolean, Shift, Add, LongAdd, Multiply, Divide, Increment}
 use Rattle.s66_line.specs.Block.{Block, bytes_of, instrs_of, line_of}
@@ -15,6 +16,8 @@ use Rattle.s66_why.specs.declared.stretch.Stretch.{Stretch}
 use Rattle.s66_why.specs.Why.{bank_name, conflict_name, kind_name, in_three, path, stretches_at, why_text}
 use Rattle.s66_page.specs.declared.work.Work.{Work}
 use Rattle.s66_page.specs.declared.summary.Summary.{Summary}
+use Rattle.s66_page.specs.declared.start.TheConstants.{PAGE_START}
+use Rattle.s66_page.specs.Found.{Found}
 use Rattle.s66_page.specs.Escape.{escaped}
 
 -- Points are in order, the newest first, as in Timing: s are all points before p.
@@ -249,3 +252,28 @@ bound_cell time bound = codes "<td>" ++ bound_text time bound ++ codes "\n"
 
 unfoldable pub index_row : Summary → List ℕ
 index_row b = index_link b.number ++ cell b.line ++ cell b.count ++ cell b.source ++ cell b.time ++ bound_cell b.time b.bound
+
+-- THE PAGE
+
+abbrev pub as_written : Profile → Block → TimedOrder
+as_written p block = record { problem = record { block = instrs_of block; profile = p }; numbers = numbers (instrs_of block) }
+
+abbrev pub as_found : Profile → Block → Found → TimedOrder
+as_found p block f = record { problem = record { block = instrs_of block; profile = p }; numbers = f.order.numbers }
+
+-- of the n-th block
+unfoldable pub index_entry : Profile → ℕ → Block → Found → List ℕ
+index_entry p n block f = index_row (summary n block (as_written p block) (as_found p block f) f.bound)
+
+unfoldable pub block_entry : Profile → ℕ → Block → Found → List ℕ
+block_entry p n block f = block_text n block (as_written p block) (as_found p block f) f.bound
+
+-- of these blocks, before which n come
+abbrev pub entries : (ℕ → Block → Found → List ℕ) → ℕ → List Block → List Found → List ℕ
+entries entry n (b ∷ bs) (f ∷ fs) = entry (n + 1) b f ++ entries entry (n + 1) bs fs
+entries entry n (b ∷ bs) [] = []
+entries entry n [] fs = []
+
+-- the list of blocks, and the blocks
+abbrev pub page_text : Profile → List Block → List Found → List ℕ
+page_text p blocks found = PAGE_START.now ++ entries (index_entry p) 0 blocks found ++ codes "</table>\n" ++ entries (block_entry p) 0 blocks found

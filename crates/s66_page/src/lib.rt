@@ -4,8 +4,11 @@
 mod bar;
 mod block;
 mod escape;
+mod found;
 mod order;
+mod page;
 mod row;
+mod start;
 mod summary;
 mod text;
 mod unit;
@@ -13,4 +16,6 @@ mod work;
 
 pub use block::{push_block, push_index_row};
 pub use escape::push_escaped;
+pub use found::Found;
 pub use order::push_order;
+pub use page::push_page;

@@ -1,0 +1,15 @@
+use Rattle.std.proofs.Common.{◌≡◌, ◌+◌, ◌++◌, length}
+use Rattle.s66_page.specs.Found.{AreOf}
+use Rattle.s66_page.specs.Page.{entries, index_entry}
+use Rattle.s66_page.proofs.page.push_index.Given as goal
+
+abbrev pub invariant-loop-blocks : goal.invariant-loop-blocks
+invariant-loop-blocks l = record {
+  text : l.out.items ++ entries (index_entry l.fn.timer) l.number l.blocks l.found ≡ l.fn.out.items ++ entries (index_entry l.fn.timer) 0 l.fn.blocks l.fn.found;
+  profile : l.timer ≡ l.fn.timer;
+  orders : AreOf l.blocks l.found;
+  number : l.number + length l.blocks ≡ length l.fn.blocks;
+}
+
+abbrev pub decreases-loop-blocks : goal.decreases-loop-blocks
+decreases-loop-blocks l = length l.blocks

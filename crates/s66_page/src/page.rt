@@ -1,0 +1,121 @@
+ghost use Rattle.std.specs.Prelude.{◌≡◌, ◌++◌, OnOk};
+ghost use Rattle.s66_line.specs.Block.{instrs_of};
+ghost use Rattle.s66_page.specs.Found.{AreOf};
+ghost use Rattle.s66_page.specs.Page.{entries, index_entry, block_entry, page_text};
+
+use crate::block::{push_block, push_index_row};
+use crate::found::Found;
+use crate::start::PAGE_START;
+use crate::text::push_text;
+use s66_dep::Order;
+use s66_line::Block;
+use s66_time::Timer;
+use std::alloc::AllocError;
+
+/// The row of the n-th block, from 1, in the list of blocks.
+#[tactic(auto, unfolding(crate::specs::Page::index_entry))]
+fn push_index_entry(
+    out: &mut Vec<u8>,
+    timer: &mut Timer,
+    number: usize,
+    block: &Block,
+    found: &Found,
+) -> Result<(), AllocError>
+    requires { found.now.order.block ≡ instrs_of block.now }
+    ensures profile { timer.new ≡ timer.old }
+    ensures text { OnOk result (out.new.items ≡ out.old.items ++ index_entry timer.old number block.now found.now) }
+{
+    let source = timer.time(block, &Order::source(block));
+    let best = timer.time(block, found.order);
+    push_index_row(out, number, block, &source, &best, found.bound)
+}
+
+/// The n-th block, from 1.
+#[tactic(auto, unfolding(crate::specs::Page::block_entry))]
+fn push_block_entry(
+    out: &mut Vec<u8>,
+    timer: &mut Timer,
+    number: usize,
+    block: &Block,
+    found: &Found,
+) -> Result<(), AllocError>
+    requires { found.now.order.block ≡ instrs_of block.now }
+    ensures profile { timer.new ≡ timer.old }
+    ensures text { OnOk result (out.new.items ≡ out.old.items ++ block_entry timer.old number block.now found.now) }
+{
+    let source = timer.time(block, &Order::source(block));
+    let best = timer.time(block, found.order);
+    push_block(out, number, block, &source, &best, found.bound)
+}
+
+/// The list of blocks.
+fn push_index(
+    out: &mut Vec<u8>,
+    timer: &mut Timer,
+    blocks: &[Block],
+    found: &[Found],
+) -> Result<(), AllocError>
+    requires { AreOf blocks.now found.now }
+    ensures profile { timer.new ≡ timer.old }
+    ensures text { OnOk result (out.new.items ≡ out.old.items ++ entries (index_entry timer.old) 0 blocks.now found.now) }
+{
+    let mut blocks = blocks;
+    let mut found = found;
+    let mut number = 0usize;
+    while let [block, more @ ..] = blocks {
+        let [one, others @ ..] = found else {
+            return Ok(());
+        };
+        number += 1;
+        push_index_entry(out, timer, number, block, one)?;
+        blocks = more;
+        found = others;
+    }
+    Ok(())
+}
+
+/// The blocks.
+fn push_blocks(
+    out: &mut Vec<u8>,
+    timer: &mut Timer,
+    blocks: &[Block],
+    found: &[Found],
+) -> Result<(), AllocError>
+    requires { AreOf blocks.now found.now }
+    ensures profile { timer.new ≡ timer.old }
+    ensures text { OnOk result (out.new.items ≡ out.old.items ++ entries (block_entry timer.old) 0 blocks.now found.now) }
+{
+    let mut blocks = blocks;
+    let mut found = found;
+    let mut number = 0usize;
+    while let [block, more @ ..] = blocks {
+        let [one, others @ ..] = found else {
+            return Ok(());
+        };
+        number += 1;
+        push_block_entry(out, timer, number, block, one)?;
+        blocks = more;
+        found = others;
+    }
+    Ok(())
+}
+
+/// Appends a page that shows blocks under the timer's profile, each in its source order, and in the order that was found for it if
+/// that takes less; before them is a list of all, which links to each. The page is a file that stands alone: no script, and nothing
+/// to be fetched. It takes time and room linear in the number of blocks and quadratic in the length of each, which is at most
+/// `BLOCK_LIMIT`, and allocates nothing but room in `out`. `Err` is out of memory.
+pub fn push_page(
+    out: &mut Vec<u8>,
+    timer: &mut Timer,
+    blocks: &[Block],
+    found: &[Found],
+) -> Result<(), AllocError>
+    requires { AreOf blocks.now found.now }
+    ensures profile { timer.new ≡ timer.old }
+    ensures text { OnOk result (out.new.items ≡ out.old.items ++ page_text timer.old blocks.now found.now) }
+{
+    push_text(out, PAGE_START)?;
+    push_index(out, timer, blocks, found)?;
+    push_text(out, b"</table>\n")?;
+    push_blocks(out, timer, blocks, found)
+}
