@@ -1,5 +1,5 @@
 -- To be believed: how the text of a source stands in a page, so that nothing of it is read as a part of the page.
-use Rattle.std.specs.Prelude.{ℕ, Bool, if◌then◌else◌, ◌&&◌, ◌||◌, ◌==◌, not, List, [], ◌∷◌, ◌++◌, codes, decimal, flat_map, nat_le, nat_lt}
+use Rattle.std.specs.Prelude.{ℕ, Bool, false, if◌then◌else◌, ◌&&◌, ◌||◌, ◌==◌, not, List, [], ◌∷◌, ◌++◌, codes, decimal, flat_map, nat_le, nat_lt}
 -- the examples open it, to compute numbers
 unfoldable pub use Rattle.std.specs.Fmt.{digits}
 
@@ -25,3 +25,15 @@ escaped text = flat_map escaped_byte text
 -- it is printed, and no bracket or quote
 abbrev pub is_harmless : ℕ → Bool
 is_harmless b = is_printed b && not (b == 60 || b == 62 || b == 34 || b == 39)
+
+-- letters, digits and number signs up to a semicolon, which is the last
+abbrev pub ends_reference : List ℕ → Bool
+ends_reference [] = false
+ends_reference (c ∷ []) = c == 59
+ends_reference (c ∷ cs) = not (c == 38) && not (c == 59) && ends_reference cs
+
+-- the byte itself, which is no &; or a reference to a character
+abbrev pub is_reference_or : ℕ → List ℕ → Bool
+is_reference_or b [] = false
+is_reference_or b (c ∷ []) = c == b && not (c == 38)
+is_reference_or b (c ∷ cs) = c == 38 && ends_reference cs
