@@ -1,3 +1,4 @@
 pub mod Escape
+pub mod Examples
 pub mod Found
 pub mod Page

@@ -174,8 +174,11 @@ tick ten = codes "<text x='" ++ decimal (10 * ten) ++ codes "em' y='12'>" ++ dec
 abbrev pub ticks : (total : ℕ) → List ℕ
 ticks total = flat_map tick (range_with_len 0 (total / 10 + 1))
 
+unfoldable pub heading_end : (total : ℕ) → List ℕ
+heading_end total = codes ": " ++ decimal total ++ codes " minor cycles</h3>\n"
+
 unfoldable pub heading : (title : List ℕ) (total : ℕ) → List ℕ
-heading title total = codes "<h3>" ++ title ++ (codes ": " ++ decimal total ++ codes "</h3>\n")
+heading title total = codes "<h3>" ++ title ++ heading_end total
 
 -- the table of an order is as wide as its time and 40 minor cycles for words
 unfoldable pub table_start : (total : ℕ) → List ℕ

@@ -4,6 +4,7 @@
 mod bar;
 mod block;
 mod escape;
+mod examples;
 mod found;
 mod laws;
 mod order;
@@ -17,6 +18,7 @@ mod work;
 
 pub use block::{push_block, push_index_row};
 pub use escape::push_escaped;
+pub use examples::{block_example, index_example, row_example, unit_example};
 pub use found::Found;
 pub use laws::escape_law;
 pub use order::push_order;

@@ -2,7 +2,7 @@ ghost use Rattle.std.specs.Prelude.{◌≡◌, ◌+◌, ◌*◌, ◌/◌, ◌≤
 ghost use Rattle.std.specs.List.{range_with_len};
 ghost use Rattle.s66_line.specs.Block.{instrs_of};
 ghost use Rattle.s66_model.specs.Timing.{points_of};
-ghost use Rattle.s66_page.specs.Page.{all_kind_rows, instruction_rows, on_path, works, cycles_of, heading, order_head, order_text, table_start, why_below, tick, ticks};
+ghost use Rattle.s66_page.specs.Page.{all_kind_rows, instruction_rows, on_path, works, cycles_of, heading, heading_end, order_head, order_text, table_start, why_below, tick, ticks};
 
 use crate::row::push_rows;
 use crate::text::{push_between, push_text, push_two};
@@ -34,6 +34,14 @@ fn push_ticks(out: &mut Vec<u8>, total: u32) -> Result<(), AllocError>
     Ok(())
 }
 
+/// The time in the heading of an order.
+#[tactic(auto, unfolding(crate::specs::Page::heading_end))]
+fn push_heading_end(out: &mut Vec<u8>, total: u32) -> Result<(), AllocError>
+    ensures { OnOk result (out.new.items ≡ out.old.items ++ heading_end total) }
+{
+    push_between(out, b": ", total as usize, b" minor cycles</h3>\n")
+}
+
 /// The heading of an order.
 #[tactic(auto, unfolding(crate::specs::Page::heading))]
 fn push_heading(out: &mut Vec<u8>, title: &[u8], total: u32) -> Result<(), AllocError>
@@ -41,7 +49,7 @@ fn push_heading(out: &mut Vec<u8>, title: &[u8], total: u32) -> Result<(), Alloc
 {
     push_text(out, b"<h3>")?;
     push_text(out, title)?;
-    push_between(out, b": ", total as usize, b"</h3>\n")
+    push_heading_end(out, total)
 }
 
 /// How the table of an order begins.

@@ -34,11 +34,11 @@ tspan.SECOND{fill:var(--word)}
 .INCREMENT{fill:#8d99ae}
 .taken{fill:CanvasText;opacity:.18}
 .unit text{fill:#000}
-pre{margin:4px 0;max-height:5em;overflow:auto;display:flex;flex-direction:column-reverse}
+pre{font:12px/15px monospace;margin:4px 0;max-height:60px;overflow:auto;display:flex;flex-direction:column-reverse}
 .path th{font-weight:bold}
 .path rect:not(.FIRST,.SECOND,.THIRD),rect.path{stroke:CanvasText;stroke-width:2px}
-@media(max-width:600px){svg{font-size:8px}}
-@media(min-width:1800px){svg{font-size:14px;height:20px}th,td{font-size:16px}body{font-size:18px}}
+@media(max-width:600px){svg{font-size:8px}.order th{font-size:9px}}
+@media(min-width:1800px){svg{font-size:14px;height:20px}th,td{font-size:16px;line-height:20px}body{font-size:18px}}
 @media print{pre{max-height:none}.order th,.ruler{position:static}h2{break-before:page}}
 </style>
 <p id='top'>A row for each instruction, in minor cycles of 100 ns:
