@@ -277,6 +277,6 @@ entries entry n (b ∷ bs) (f ∷ fs) = entry (n + 1) b f ++ entries entry (n + 
 entries entry n (b ∷ bs) [] = []
 entries entry n [] fs = []
 
--- the list of blocks, and the blocks
-abbrev pub page_text : Profile → List Block → List Found → List ℕ
-page_text p blocks found = PAGE_START.now ++ entries (index_entry p) 0 blocks found ++ codes "</table>\n" ++ entries (block_entry p) 0 blocks found
+-- the list of these blocks, before which n come, and the blocks
+abbrev pub page_text : Profile → ℕ → List Block → List Found → List ℕ
+page_text p n blocks found = PAGE_START.now ++ entries (index_entry p) n blocks found ++ codes "</table>\n" ++ entries (block_entry p) n blocks found

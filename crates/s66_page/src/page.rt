@@ -1,4 +1,4 @@
-ghost use Rattle.std.specs.Prelude.{◌≡◌, ◌++◌, OnOk};
+ghost use Rattle.std.specs.Prelude.{◌≡◌, ◌<◌, ◌^◌, ◌++◌, OnOk};
 ghost use Rattle.s66_line.specs.Block.{instrs_of};
 ghost use Rattle.s66_page.specs.Found.{AreOf};
 ghost use Rattle.s66_page.specs.Page.{entries, index_entry, block_entry, page_text};
@@ -48,20 +48,22 @@ fn push_block_entry(
     push_block(out, number, block, &source, &best, found.bound)
 }
 
-/// The list of blocks.
+/// The list of blocks, before which so many come.
 fn push_index(
     out: &mut Vec<u8>,
     timer: &mut Timer,
+    before: usize,
     blocks: &[Block],
     found: &[Found],
 ) -> Result<(), AllocError>
-    requires { AreOf blocks.now found.now }
+    requires before { before < 2 ^ 32 }
+    requires found { AreOf blocks.now found.now }
     ensures profile { timer.new ≡ timer.old }
-    ensures text { OnOk result (out.new.items ≡ out.old.items ++ entries (index_entry timer.old) 0 blocks.now found.now) }
+    ensures text { OnOk result (out.new.items ≡ out.old.items ++ entries (index_entry timer.old) before blocks.now found.now) }
 {
     let mut blocks = blocks;
     let mut found = found;
-    let mut number = 0usize;
+    let mut number = before;
     while let [block, more @ ..] = blocks {
         let [one, others @ ..] = found else {
             return Ok(());
@@ -74,20 +76,22 @@ fn push_index(
     Ok(())
 }
 
-/// The blocks.
+/// The blocks, before which so many come.
 fn push_blocks(
     out: &mut Vec<u8>,
     timer: &mut Timer,
+    before: usize,
     blocks: &[Block],
     found: &[Found],
 ) -> Result<(), AllocError>
-    requires { AreOf blocks.now found.now }
+    requires before { before < 2 ^ 32 }
+    requires found { AreOf blocks.now found.now }
     ensures profile { timer.new ≡ timer.old }
-    ensures text { OnOk result (out.new.items ≡ out.old.items ++ entries (block_entry timer.old) 0 blocks.now found.now) }
+    ensures text { OnOk result (out.new.items ≡ out.old.items ++ entries (block_entry timer.old) before blocks.now found.now) }
 {
     let mut blocks = blocks;
     let mut found = found;
-    let mut number = 0usize;
+    let mut number = before;
     while let [block, more @ ..] = blocks {
         let [one, others @ ..] = found else {
             return Ok(());
@@ -100,22 +104,25 @@ fn push_blocks(
     Ok(())
 }
 
-/// Appends a page that shows blocks under the timer's profile, each in its source order, and in the order that was found for it if
-/// that takes less; before them is a list of all, which links to each. The page is a file that stands alone: no script, and nothing
-/// to be fetched. It takes time and room linear in the number of blocks and quadratic in the length of each, which is at most
-/// `BLOCK_LIMIT`, and allocates nothing but room in `out`. `Err` is out of memory.
+/// Appends a page that shows blocks of a source, before which `before` blocks come, under the timer's profile: each in its source
+/// order, and in the order that was found for it if that takes less. Above them is a list of all, which links to each. The page is
+/// a file that stands alone: no script, and nothing to be fetched. It takes time and room linear in the number of blocks and
+/// quadratic in the length of each, which is at most `BLOCK_LIMIT`, and allocates nothing but room in `out`. `Err` is out of
+/// memory.
 pub fn push_page(
     out: &mut Vec<u8>,
     timer: &mut Timer,
+    before: usize,
     blocks: &[Block],
     found: &[Found],
 ) -> Result<(), AllocError>
-    requires { AreOf blocks.now found.now }
+    requires before { before < 2 ^ 32 }
+    requires found { AreOf blocks.now found.now }
     ensures profile { timer.new ≡ timer.old }
-    ensures text { OnOk result (out.new.items ≡ out.old.items ++ page_text timer.old blocks.now found.now) }
+    ensures text { OnOk result (out.new.items ≡ out.old.items ++ page_text timer.old before blocks.now found.now) }
 {
     push_text(out, PAGE_START)?;
-    push_index(out, timer, blocks, found)?;
+    push_index(out, timer, before, blocks, found)?;
     push_text(out, b"</table>\n")?;
-    push_blocks(out, timer, blocks, found)
+    push_blocks(out, timer, before, blocks, found)
 }

@@ -5,10 +5,10 @@ use Rattle.s66_page.proofs.page.push_blocks.Given as goal
 
 abbrev pub invariant-loop-blocks : goal.invariant-loop-blocks
 invariant-loop-blocks l = record {
-  text : l.out.items ++ entries (block_entry l.fn.timer) l.number l.blocks l.found ≡ l.fn.out.items ++ entries (block_entry l.fn.timer) 0 l.fn.blocks l.fn.found;
+  text : l.out.items ++ entries (block_entry l.fn.timer) l.number l.blocks l.found ≡ l.fn.out.items ++ entries (block_entry l.fn.timer) l.fn.before l.fn.blocks l.fn.found;
   profile : l.timer ≡ l.fn.timer;
   orders : AreOf l.blocks l.found;
-  number : l.number + length l.blocks ≡ length l.fn.blocks;
+  number : l.number + length l.blocks ≡ l.fn.before + length l.fn.blocks;
 }
 
 abbrev pub decreases-loop-blocks : goal.decreases-loop-blocks

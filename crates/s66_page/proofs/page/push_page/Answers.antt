@@ -10,9 +10,10 @@ returns-clause-text c =
     let blocks = c.args.blocks.now in
     let found = c.args.found.now in
     let p = c.args.timer.now in
-    let rows = entries (index_entry p) 0 blocks found in
+    let n = c.args.before in
+    let rows = entries (index_entry p) n blocks found in
     let close = codes "</table>\n" in
     let first = more out c.push_text.new.out.items c.push_index.new.out.items PAGE_START.now rows c.in_ok-push_text.ensures c.in_ok-push_index.ensures.text in
-    last c.push_blocks.result out c.push_text-2.new.out.items c.push_blocks.new.out.items (PAGE_START.now ++ rows ++ close) (entries (block_entry p) 0 blocks found)
+    last c.push_blocks.result out c.push_text-2.new.out.items c.push_blocks.new.out.items (PAGE_START.now ++ rows ++ close) (entries (block_entry p) n blocks found)
     (more out c.push_index.new.out.items c.push_text-2.new.out.items (PAGE_START.now ++ rows) close first c.in_ok-push_text-2.ensures)
-    (subst (λ q. OnOk c.push_blocks.result (c.push_blocks.new.out.items ≡ c.push_text-2.new.out.items ++ entries (block_entry q) 0 blocks found)) c.in_ok-push_index.ensures.profile c.push_blocks.ensures.text)
+    (subst (λ q. OnOk c.push_blocks.result (c.push_blocks.new.out.items ≡ c.push_text-2.new.out.items ++ entries (block_entry q) n blocks found)) c.in_ok-push_index.ensures.profile c.push_blocks.ensures.text)
