@@ -14,7 +14,7 @@ use Rattle.s66_model.proofs.Histories.{run-join, reached-covers, reached-table}
 use Rattle.s66_model.proofs.EndedLedgers.{ended-finishes}
 use Rattle.s66_time.specs.TimedOrder.{TimedOrder}
 use Rattle.s66_ledger.specs.declared.node.Node as declared
-use Rattle.s66_ledger.specs.LedgerMachine.{MachineOf, IsKept, state_of, machine_of}
+use Rattle.s66_ledger.specs.LedgerMachine.{MachineOf, Stored, IsKept, ledger_of, machine_of}
 use Rattle.s66_ledger.specs.Answers.{IsKeptAnswer, ended_of}
 use Rattle.s66_ledger.specs.Finishing.{Leads, IsSearched}
 use Rattle.s66_ledger.proofs.Events.{kept-covers, kept-room}
@@ -64,26 +64,27 @@ finishes old new reached (problem, budget, workers, (h, r), by) ended =
 
 -- THE ANSWER of a ledger that has ended
 
-pub kept-answer : (rule : Rule) (b : Problem) (budget : ℕ) (nodes : List declared.Node) (best : TimedOrder) (left : ℕ) (allowances : List ℕ) (spent : ℕ) (l : MachineOf) (low : ℕ) → IsKept rule b budget nodes best left allowances spent → machine_of rule b budget nodes best.numbers left allowances spent ≡ l → IsEnded l.problem l.budget l.state → low ≡ bound_of l.problem l.state → IsKeptAnswer (ended_of rule best.problem budget nodes best.numbers spent) nodes low
-kept-answer rule b budget nodes best left allowances spent l low kept view ended bound =
-    let state = state_of b nodes best.numbers left allowances spent in
-    let ends : IsEnded b budget state = subst (λ (m : MachineOf). IsEnded m.problem m.budget m.state) (sym view) ended in
-    let table = reached-table rule b budget (length allowances) state kept.reached in
-    let done = ended-finishes rule b budget (length allowances) state state [] kept.reached refl ends in
-    subst (λ (p : Problem). IsKeptAnswer (ended_of rule p budget nodes best.numbers spent) nodes low) (sym kept.own)
-    (record {
-      answer = done.answer;
-      bound = sym (bound ∙ ap (λ (m : MachineOf). bound_of m.problem m.state) (sym view));
-      few = kept.few;
-      table = record { root = table.root; children = table.children; others = table.others; splits = table.splits; best = table.best };
-      begins = λ node among. begin-among rule b (best_time b state) state.nodes state.nodes node (kept-covers rule b budget nodes best left allowances spent kept).nodes among;
-      floors = kept.floors;
-      room = omega (arith, length-nodes b nodes, kept.room, kept.few, kept-room rule b budget nodes best left allowances spent kept 0);
-    })
+module _ (m : Stored) (kept : IsKept m) (l : MachineOf) (view : machine_of m ≡ l) where
+  pub kept-answer : (low : ℕ) → IsEnded l.problem l.budget l.state → low ≡ bound_of l.problem l.state → IsKeptAnswer (ended_of m.rule m.best.problem m.budget m.nodes m.best.numbers m.spent) m.nodes low
+  kept-answer low ended bound =
+      let b = m.problem in
+      let state = ledger_of m in
+      let ends : IsEnded b m.budget state = subst (λ (l : MachineOf). IsEnded l.problem l.budget l.state) (sym view) ended in
+      let table = reached-table m.rule b m.budget (length m.allowances) state kept.reached in
+      let done = ended-finishes m.rule b m.budget (length m.allowances) state state [] kept.reached refl ends in
+      subst (λ (p : Problem). IsKeptAnswer (ended_of m.rule p m.budget m.nodes m.best.numbers m.spent) m.nodes low) (sym kept.own)
+      (record {
+        answer = done.answer;
+        bound = sym (bound ∙ ap (λ (l : MachineOf). bound_of l.problem l.state) (sym view));
+        few = kept.few;
+        table = record { root = table.root; children = table.children; others = table.others; splits = table.splits; best = table.best };
+        begins = λ node among. begin-among m.rule b (best_time b state) state.nodes state.nodes node (kept-covers m kept).nodes among;
+        floors = kept.floors;
+        room = omega (arith, length-nodes b m.nodes, kept.room, kept.few, kept-room m kept 0);
+      })
 
-pub kept-reached : (rule : Rule) (b : Problem) (budget : ℕ) (nodes : List declared.Node) (best : TimedOrder) (left : ℕ) (allowances : List ℕ) (spent : ℕ) (l : MachineOf) → IsKept rule b budget nodes best left allowances spent → machine_of rule b budget nodes best.numbers left allowances spent ≡ l → IsReached l.rule l.problem l.budget l.workers l.state
-kept-reached rule b budget nodes best left allowances spent l kept view =
-    subst (λ (m : MachineOf). IsReached m.rule m.problem m.budget m.workers m.state) view kept.reached
+  pub kept-reached : IsReached l.rule l.problem l.budget l.workers l.state
+  kept-reached = subst (λ (l : MachineOf). IsReached l.rule l.problem l.budget l.workers l.state) view kept.reached
 
 -- if the events went on from a ledger that was reached
 pub reached-end : (first last : MachineOf) → IsReached first.rule first.problem first.budget first.workers first.state → Leads first last → IsSearched last.problem last.budget last.state → IsEnded last.problem last.budget last.state

@@ -24,7 +24,7 @@ use Rattle.s66_ledger.specs.declared.node.State.TheVariants as state
 use Rattle.s66_model.specs.declared.limits.TheConstants.{BUDGET_LIMIT}
 use Rattle.s66_ledger.specs.Nodes.{prefixes, name_at, seen_state, nodes_of, node_at, with_state, HaveFloors, has_floor, is_open_state, is_open}
 use Rattle.s66_ledger.specs.OpenNodes.{IsOut, ranked}
-use Rattle.s66_ledger.specs.LedgerMachine.{MachineOf, IsMove, state_of, machine_of, IsKept}
+use Rattle.s66_ledger.specs.LedgerMachine.{MachineOf, IsMove, Stored, state_of, ledger_of, machine_of, IsKept}
 use Rattle.s66_ledger.proofs.SeenNodes.{length-nodes, at-nodes, open-seen, open-nodes, out-seen, nodes-state}
 use Rattle.s66_ledger.proofs.NodeFloors.{floors-state}
 use Rattle.s66_ledger.proofs.NodePrefixes.{name-below, name-root}
@@ -53,41 +53,42 @@ holds-at rule b best all [] i h lt = absurd (omega arith)
 holds-at rule b best all (node ∷ nodes) zero h lt = h.0.0
 holds-at rule b best all (node ∷ nodes) (suc i) h lt = holds-at rule b best all nodes i h.1 (omega (arith, lt))
 
-module _ (rule : Rule) (b : Problem) (budget : ℕ) (nodes : List Node) (best : TimedOrder) (left : ℕ) (allowances : List ℕ) (spent : ℕ) (h : IsKept rule b budget nodes best left allowances spent) where
-  abbrev old : Ledger
-  old = state_of b nodes best.numbers left allowances spent
+module _ (m : Stored) (h : IsKept m) where
+  abbrev b : Problem
+  b = m.problem
 
-  pub kept-covers : Covers rule b budget old
-  kept-covers = reached-covers rule b budget (length allowances) old h.reached
+  pub kept-covers : Covers m.rule b m.budget (ledger_of m)
+  kept-covers = reached-covers m.rule b m.budget (length m.allowances) (ledger_of m) h.reached
 
   -- what is left, allowed to a worker and spent is within the budget
-  pub kept-room : (i : ℕ) → left + get_or allowances i 0 + spent ≤ budget
-  kept-room i = omega (arith, kept-covers.sum, at-most-all allowances i)
+  pub kept-room : (i : ℕ) → m.left + get_or m.allowances i 0 + m.spent ≤ m.budget
+  kept-room i = omega (arith, kept-covers.sum, at-most-all m.allowances i)
 
-  pub kept-beginning : (i : ℕ) → i < length nodes → IsBeginning b.block (get_or (prefixes nodes) i [])
+  pub kept-beginning : (i : ℕ) → i < length m.nodes → IsBeginning b.block (get_or (prefixes m.nodes) i [])
   kept-beginning i lt =
-      subst (λ (n : model.Node). IsBeginning b.block n.prefix) (at-nodes b nodes i lt) (holds-at rule b (best_time b old) (nodes_of b nodes) (nodes_of b nodes) i kept-covers.nodes (omega (arith, lt, length-nodes b nodes)))
+      subst (λ (n : model.Node). IsBeginning b.block n.prefix) (at-nodes b m.nodes i lt) (holds-at m.rule b (best_time b (ledger_of m)) (nodes_of b m.nodes) (nodes_of b m.nodes) i kept-covers.nodes (omega (arith, lt, length-nodes b m.nodes)))
 
-  pub kept-short : (i : ℕ) → i < length nodes → length (get_or (prefixes nodes) i []) ≤ length b.block
+  pub kept-short : (i : ℕ) → i < length m.nodes → length (get_or (prefixes m.nodes) i []) ≤ length b.block
   kept-short i lt =
-      let (rest, legal) = beginning-front b.block (get_or (prefixes nodes) i []) (kept-beginning i lt) in
-      omega (arith, legal.whole, length-append (get_or (prefixes nodes) i []) rest)
+      let (rest, legal) = beginning-front b.block (get_or (prefixes m.nodes) i []) (kept-beginning i lt) in
+      omega (arith, legal.whole, length-append (get_or (prefixes m.nodes) i []) rest)
 
   -- nor is a name longer
-  pub name-short : (i : ℕ) → i < length nodes → length (name_at nodes i) ≤ length b.block
+  pub name-short : (i : ℕ) → i < length m.nodes → length (name_at m.nodes i) ≤ length b.block
   name-short i lt =
-      let v = (node_at nodes i).value in
+      let v = (node_at m.nodes i).value in
       elim (cases_le i v) [
-        | inl le ↦ omega (arith, ap length (name-root nodes i v lt refl le), kept-short 0 (omega (arith, lt)))
-        | inr below ↦ omega (arith, ap length (name-below nodes i v lt refl below), kept-short v (omega (arith, lt, below)))
+        | inl le ↦ omega (arith, ap length (name-root m.nodes i v lt refl le), kept-short 0 (omega (arith, lt)))
+        | inr below ↦ omega (arith, ap length (name-below m.nodes i v lt refl below), kept-short v (omega (arith, lt, below)))
       ]
 
   -- after a step
-  pub kept-next : (nodes2 : List Node) (best2 : TimedOrder) (left2 : ℕ) (allowances2 : List ℕ) (spent2 : ℕ) (event : Event) (reply : Reply) → best2.problem ≡ b → HaveFloors b nodes2 → length nodes2 ≤ 1 + BLOCK_LIMIT * spent2 → length allowances2 ≡ length allowances → Step rule b old event reply (state_of b nodes2 best2.numbers left2 allowances2 spent2) → IsKept rule b budget nodes2 best2 left2 allowances2 spent2
-  kept-next nodes2 best2 left2 allowances2 spent2 event reply own floors room same step =
-      let new = state_of b nodes2 best2.numbers left2 allowances2 spent2 in
+  pub kept-next : (nodes : List Node) (best : TimedOrder) (left : ℕ) (allowances : List ℕ) (spent : ℕ) (event : Event) (reply : Reply) → best.problem ≡ b → HaveFloors b nodes → length nodes ≤ 1 + BLOCK_LIMIT * spent → length allowances ≡ length m.allowances → Step m.rule b (ledger_of m) event reply (state_of b nodes best.numbers left allowances spent) →
+      IsKept (record m { nodes = nodes; best = best; left = left; allowances = allowances; spent = spent })
+  kept-next nodes best left allowances spent event reply own floors room same step =
+      let new = state_of b nodes best.numbers left allowances spent in
       record {
-        reached = subst (λ n. IsReached rule b budget n new) (sym same) (reached-step rule b budget (length allowances) old new event reply h.reached step);
+        reached = subst (λ n. IsReached m.rule b m.budget n new) (sym same) (reached-step m.rule b m.budget (length m.allowances) (ledger_of m) new event reply h.reached step);
         own = own;
         floors = floors;
         room = room;
@@ -95,53 +96,20 @@ module _ (rule : Rule) (b : Problem) (budget : ℕ) (nodes : List Node) (best : 
         workers = omega (arith, h.workers, same);
       }
 
-  pub kept-grant : (w share : ℕ) → 1 ≤ w → w ≤ length allowances → share ≡ min 64 left → IsKept rule b budget nodes best (left - share) (set allowances (w - 1) (get_or allowances (w - 1) 0 + share)) spent
-  kept-grant w share one le is =
-      subst (λ n. IsKept rule b budget nodes best (left - n) (set allowances (w - 1) (get_or allowances (w - 1) 0 + n)) spent) (sym is)
-      (kept-next nodes best (left - min 64 left) (set allowances (w - 1) (get_or allowances (w - 1) 0 + min 64 left)) spent (Grant w) (Granted (min 64 left)) h.own h.floors h.room (length-set allowances (w - 1) (get_or allowances (w - 1) 0 + min 64 left)) ((one, le), (refl, refl)))
-
-  pub kept-retire : (w : ℕ) → 1 ≤ w → w ≤ length allowances → IsKept rule b budget nodes best (left + get_or allowances (w - 1) 0) (set allowances (w - 1) 0) spent
-  kept-retire w one le =
-      kept-next nodes best (left + get_or allowances (w - 1) 0) (set allowances (w - 1) 0) spent (Retire w) Retired h.own h.floors h.room (length-set allowances (w - 1) 0) ((one, le), refl)
-
-  -- A NODE TAKES ANOTHER STATE
-
-  moved-room : (i : ℕ) (s : State) → length (with_state nodes i s) ≤ 1 + BLOCK_LIMIT * spent
-  moved-room i s = omega (arith, h.room, length-set nodes i (record (node_at nodes i) { state = s }))
-
-  moved : (i : ℕ) (s : State) (seen : model.State) → i < length nodes → ((name at : List ℕ) → seen_state b name at s ≡ seen) → state_of b (with_state nodes i s) best.numbers left allowances spent ≡ model.after_move old i seen
-  moved i s seen lt is = ap (λ (ns : List model.Node). record { nodes = ns; best = best.numbers; left = left; allowances = allowances; spent = spent }) (nodes-state b nodes i s seen lt is)
-
-  claim-moves : (w i : ℕ) → i < length nodes → (node_at nodes i).state ≡ state.Open → Moves rule b old (Claim w) (Claimed (Some i)) (state_of b (with_state nodes i state.Out) best.numbers left allowances spent)
-  claim-moves w i within was =
-      (omega (arith, within, length-nodes b nodes), ap (λ (n : model.Node). n.state) (at-nodes b nodes i within) ∙ ap (seen_state b (name_at nodes i) (get_or (prefixes nodes) i [])) was, moved i state.Out model.Out within (λ name at. refl))
-
-  pub kept-claim : (w i : ℕ) → 1 ≤ w → w ≤ length allowances → i < length nodes → (node_at nodes i).state ≡ state.Open → IsKept rule b budget (with_state nodes i state.Out) best left allowances spent
-  kept-claim w i one le within was =
-      kept-next (with_state nodes i state.Out) best left allowances spent (Claim w) (Claimed (Some i)) h.own (floors-state b nodes i state.Out within (ap has_floor was) h.floors) (moved-room i state.Out) refl ((one, le), claim-moves w i within was)
-
-  pub event-claim : (l : MachineOf) (w i : ℕ) → machine_of rule b budget nodes best.numbers left allowances spent ≡ l → 1 ≤ w → w ≤ length allowances → i < length nodes → (node_at nodes i).state ≡ state.Open → IsMove l (Claim w) (Claimed (Some i)) (machine_of rule b budget (with_state nodes i state.Out) best.numbers left allowances spent)
-  event-claim l w i is one le within was =
-      subst (λ (l : MachineOf). IsMove l (Claim w) (Claimed (Some i)) (machine_of rule b budget (with_state nodes i state.Out) best.numbers left allowances spent)) is (refl, refl, refl, ((one, le), claim-moves w i within was), refl)
-
-  pub event-none : (l : MachineOf) (w : ℕ) → machine_of rule b budget nodes best.numbers left allowances spent ≡ l → 1 ≤ w → w ≤ length allowances → tally is_open nodes ≡ 0 → IsMove l (Claim w) (Claimed None) l
-  event-none l w is one le none =
-      subst (λ (l : MachineOf). IsMove l (Claim w) (Claimed None) l) is (refl, refl, refl, ((one, le), (open-nodes b nodes ∙ none, refl)), refl)
-
   -- floors are far below the limit up to which they are ranked
-  ranked-floor : length b.block ≤ BLOCK_LIMIT → (i : ℕ) → i < length nodes → has_floor (node_at nodes i).state ≡ true → ranked (node_at nodes i).value ≡ floor_value b (get_or (prefixes nodes) i [])
+  ranked-floor : length b.block ≤ BLOCK_LIMIT → (i : ℕ) → i < length m.nodes → has_floor (node_at m.nodes i).state ≡ true → ranked (node_at m.nodes i).value ≡ floor_value b (get_or (prefixes m.nodes) i [])
   ranked-floor few i lt live =
-      let at = get_or (prefixes nodes) i [] in
+      let at = get_or (prefixes m.nodes) i [] in
       let fits : floor_value b at ≤ 104 * BLOCK_LIMIT = leaf-fits b at (Rattle.s66_model.specs.Leaves.floor b at) (kept-beginning i lt) few (floor-stands b at (kept-beginning i lt)) in
       omega (arith, h.floors i lt live, fits)
 
-  pub claimed-least : length b.block ≤ BLOCK_LIMIT → (i : ℕ) → i < length nodes → (node_at nodes i).state ≡ state.Open → ((j : ℕ) → is_open (node_at nodes j) ≡ true → ranked (node_at nodes i).value ≤ ranked (node_at nodes j).value) → (j : ℕ) → model.is_open (model.node_at (nodes_of b nodes) j) ≡ true → floor_value b (get_or (prefixes nodes) i []) ≤ floor_value b (model.node_at (nodes_of b nodes) j).prefix
+  pub claimed-least : length b.block ≤ BLOCK_LIMIT → (i : ℕ) → i < length m.nodes → (node_at m.nodes i).state ≡ state.Open → ((j : ℕ) → is_open (node_at m.nodes j) ≡ true → ranked (node_at m.nodes i).value ≤ ranked (node_at m.nodes j).value) → (j : ℕ) → model.is_open (model.node_at (nodes_of b m.nodes) j) ≡ true → floor_value b (get_or (prefixes m.nodes) i []) ≤ floor_value b (model.node_at (nodes_of b m.nodes) j).prefix
   claimed-least few i lt was least j opens =
-      let within : j < length nodes = omega (arith, open-within (nodes_of b nodes) j opens, length-nodes b nodes) in
-      let there = at-nodes b nodes j within in
-      let open-here : is_open (node_at nodes j) ≡ true = sym (open-seen b (name_at nodes j) (get_or (prefixes nodes) j []) (node_at nodes j).state) ∙ (ap (λ (n : model.Node). model.is_open n) (sym there) ∙ opens) in
+      let within : j < length m.nodes = omega (arith, open-within (nodes_of b m.nodes) j opens, length-nodes b m.nodes) in
+      let there = at-nodes b m.nodes j within in
+      let open-here : is_open (node_at m.nodes j) ≡ true = sym (open-seen b (name_at m.nodes j) (get_or (prefixes m.nodes) j []) (node_at m.nodes j).state) ∙ (ap (λ (n : model.Node). model.is_open n) (sym there) ∙ opens) in
       let le = least j open-here in
-      omega (arith, le, ranked-floor few i lt (ap has_floor was), ranked-floor few j within (open-floor (node_at nodes j).state open-here), ap (λ (n : model.Node). floor_value b n.prefix) there)
+      omega (arith, le, ranked-floor few i lt (ap has_floor was), ranked-floor few j within (open-floor (node_at m.nodes j).state open-here), ap (λ (n : model.Node). floor_value b n.prefix) there)
     where
       open-floor : (s : State) → is_open_state s ≡ true → has_floor s ≡ true
       open-floor state.Open e = refl
@@ -155,54 +123,100 @@ module _ (rule : Rule) (b : Problem) (budget : ℕ) (nodes : List Node) (best : 
       open-within (n ∷ ns) zero e = omega arith
       open-within (n ∷ ns) (suc k) e = omega (arith, open-within ns k e)
 
-  back-moves : (w i : ℕ) → IsOut nodes i → Moves rule b old (Back w i) Returned (state_of b (with_state nodes i state.Open) best.numbers left allowances spent)
-  back-moves w i out = (is-out b nodes best.numbers left allowances spent i out, moved i state.Open model.Open out.0 (λ name at. refl))
+  -- A NODE TAKES ANOTHER STATE
 
-  pub kept-back : (w i : ℕ) → 1 ≤ w → w ≤ length allowances → IsOut nodes i → IsKept rule b budget (with_state nodes i state.Open) best left allowances spent
-  kept-back w i one le out =
-      kept-next (with_state nodes i state.Open) best left allowances spent (Back w i) Returned h.own (floors-state b nodes i state.Open out.0 (ap has_floor out.1) h.floors) (moved-room i state.Open) refl ((one, le), back-moves w i out)
+  moved-room : (i : ℕ) (s : State) → length (with_state m.nodes i s) ≤ 1 + BLOCK_LIMIT * m.spent
+  moved-room i s = omega (arith, h.room, length-set m.nodes i (record (node_at m.nodes i) { state = s }))
 
-  pub event-back : (l : MachineOf) (w i : ℕ) → machine_of rule b budget nodes best.numbers left allowances spent ≡ l → 1 ≤ w → w ≤ length allowances → IsOut nodes i → IsMove l (Back w i) Returned (machine_of rule b budget (with_state nodes i state.Open) best.numbers left allowances spent)
-  event-back l w i is one le out =
-      subst (λ (l : MachineOf). IsMove l (Back w i) Returned (machine_of rule b budget (with_state nodes i state.Open) best.numbers left allowances spent)) is (refl, refl, refl, ((one, le), back-moves w i out), refl)
+  moved : (i : ℕ) (s : State) (seen : model.State) → i < length m.nodes → ((name at : List ℕ) → seen_state b name at s ≡ seen) → ledger_of (record m { nodes = with_state m.nodes i s }) ≡ model.after_move (ledger_of m) i seen
+  moved i s seen lt is = ap (λ (ns : List model.Node). record (ledger_of m) { nodes = ns }) (nodes-state b m.nodes i s seen lt is)
 
-  pub event-not-out : (l : MachineOf) (w i : ℕ) → machine_of rule b budget nodes best.numbers left allowances spent ≡ l → 1 ≤ w → w ≤ length allowances → ¬ IsOut nodes i → IsMove l (Back w i) NotOut l
-  event-not-out l w i is one le never =
-      subst (λ (l : MachineOf). IsMove l (Back w i) NotOut l) is (refl, refl, refl, ((one, le), (not-out b nodes best.numbers left allowances spent i never, refl)), refl)
+  -- EVENTS of a worker, of the machine that is seen
+  module _ (l : MachineOf) (is : machine_of m ≡ l) (w : ℕ) (worker : (1 ≤ w) × (w ≤ l.workers)) where
+    pub is-worker : (1 ≤ w) × (w ≤ length m.allowances)
+    is-worker = (worker.0, omega (arith, worker.1, ap (λ (l : MachineOf). l.workers) is))
 
-  -- ORDERS THAT ARE OFFERED
+    pub worker-place : w - 1 < length m.allowances
+    worker-place = omega (arith, is-worker.0, is-worker.1)
 
-  lower-moves : (w : ℕ) (timed : TimedOrder) → timed.problem ≡ b → IsLegal b.block timed.numbers → total_of b timed.numbers < total_of b best.numbers → Moves rule b old (Offer w true timed.numbers (total_of timed.problem timed.numbers)) Lower (state_of b nodes timed.numbers left allowances spent)
-  lower-moves w timed own legal lt =
-      let same : total_of timed.problem timed.numbers ≡ total_of b timed.numbers = ap (λ p. total_of p timed.numbers) own in
-      ((refl, legal, same), omega (arith, same, lt), refl)
+    pub kept-grant : (share : ℕ) → share ≡ min 64 m.left → IsKept (record m { left = m.left - share; allowances = set m.allowances (w - 1) (get_or m.allowances (w - 1) 0 + share) })
+    kept-grant share of =
+        subst (λ n. IsKept (record m { left = m.left - n; allowances = set m.allowances (w - 1) (get_or m.allowances (w - 1) 0 + n) })) (sym of)
+        (kept-next m.nodes m.best (m.left - min 64 m.left) (set m.allowances (w - 1) (get_or m.allowances (w - 1) 0 + min 64 m.left)) m.spent (Grant w) (Granted (min 64 m.left)) h.own h.floors h.room (length-set m.allowances (w - 1) (get_or m.allowances (w - 1) 0 + min 64 m.left)) (is-worker, (refl, refl)))
 
-  pub kept-lower : (w : ℕ) (timed : TimedOrder) → 1 ≤ w → w ≤ length allowances → timed.problem ≡ b → IsLegal b.block timed.numbers → total_of b timed.numbers < total_of b best.numbers → IsKept rule b budget nodes timed left allowances spent
-  kept-lower w timed one le own legal lt =
-      kept-next nodes timed left allowances spent (Offer w true timed.numbers (total_of timed.problem timed.numbers)) Lower own h.floors h.room refl ((one, le), lower-moves w timed own legal lt)
+    pub kept-retire : IsKept (record m { left = m.left + get_or m.allowances (w - 1) 0; allowances = set m.allowances (w - 1) 0 })
+    kept-retire =
+        kept-next m.nodes m.best (m.left + get_or m.allowances (w - 1) 0) (set m.allowances (w - 1) 0) m.spent (Retire w) Retired h.own h.floors h.room (length-set m.allowances (w - 1) 0) (is-worker, refl)
 
-  abbrev OfferedAs : MachineOf → ℕ → TimedOrder → Reply → MachineOf → Type 0
-  OfferedAs l w timed reply new = (event : Event) × IsOfferOf l.problem w timed.problem timed.numbers event × IsMove l event reply new
+    module _ (i : ℕ) (within : i < length m.nodes) (was : (node_at m.nodes i).state ≡ state.Open) where
+      claim-moves : Moves m.rule b (ledger_of m) (Claim w) (Claimed (Some i)) (ledger_of (record m { nodes = with_state m.nodes i state.Out }))
+      claim-moves =
+          (omega (arith, within, length-nodes b m.nodes), ap (λ (n : model.Node). n.state) (at-nodes b m.nodes i within) ∙ ap (seen_state b (name_at m.nodes i) (get_or (prefixes m.nodes) i [])) was, moved i state.Out model.Out within (λ name at. refl))
 
-  pub event-lower : (l : MachineOf) (w : ℕ) (timed : TimedOrder) → machine_of rule b budget nodes best.numbers left allowances spent ≡ l → 1 ≤ w → w ≤ length allowances → timed.problem ≡ b → IsLegal b.block timed.numbers → total_of b timed.numbers < total_of b best.numbers → OfferedAs l w timed Lower (machine_of rule b budget nodes timed.numbers left allowances spent)
-  event-lower l w timed is one le own legal lt =
-      subst (λ (l : MachineOf). OfferedAs l w timed Lower (machine_of rule b budget nodes timed.numbers left allowances spent)) is
-      (Offer w true timed.numbers (total_of timed.problem timed.numbers), (true, ((λ e. own), (λ e. refl)), refl), (refl, refl, refl, ((one, le), lower-moves w timed own legal lt), refl))
+      pub kept-claim : IsKept (record m { nodes = with_state m.nodes i state.Out })
+      kept-claim =
+          kept-next (with_state m.nodes i state.Out) m.best m.left m.allowances m.spent (Claim w) (Claimed (Some i)) h.own (floors-state b m.nodes i state.Out within (ap has_floor was) h.floors) (moved-room i state.Out) refl (is-worker, claim-moves)
 
-  pub event-not-lower : (l : MachineOf) (w : ℕ) (timed : TimedOrder) (least : ℕ) → machine_of rule b budget nodes best.numbers left allowances spent ≡ l → 1 ≤ w → w ≤ length allowances → timed.problem ≡ b → IsLegal b.block timed.numbers → least ≡ total_of b best.numbers → total_of b best.numbers ≤ total_of b timed.numbers → OfferedAs l w timed (NotLower least) l
-  event-not-lower l w timed least is one le own legal total ge =
-      let same : total_of timed.problem timed.numbers ≡ total_of b timed.numbers = ap (λ p. total_of p timed.numbers) own in
-      subst (λ (l : MachineOf). OfferedAs l w timed (NotLower least) l) is
-      (Offer w true timed.numbers (total_of timed.problem timed.numbers), (true, ((λ e. own), (λ e. refl)), refl), (refl, refl, refl, ((one, le), ((refl, legal, same), omega (arith, ge, same), total, refl)), refl))
+      pub event-claim : IsMove l (Claim w) (Claimed (Some i)) (machine_of (record m { nodes = with_state m.nodes i state.Out }))
+      event-claim =
+          subst (λ (l : MachineOf). IsMove l (Claim w) (Claimed (Some i)) (machine_of (record m { nodes = with_state m.nodes i state.Out }))) is (refl, refl, refl, (is-worker, claim-moves), refl)
 
-  pub event-other : (l : MachineOf) (w : ℕ) (timed : TimedOrder) → machine_of rule b budget nodes best.numbers left allowances spent ≡ l → 1 ≤ w → w ≤ length allowances → (own : Bool) → IsTrue own ↔ (timed.problem ≡ b) → own ≡ false → OfferedAs l w timed OtherBlock l
-  event-other l w timed is one le own iff not =
-      subst (λ (l : MachineOf). OfferedAs l w timed OtherBlock l) is
-      (Offer w own timed.numbers (total_of timed.problem timed.numbers), (own, iff, refl), (refl, refl, refl, ((one, le), (not, refl)), refl))
+    pub event-none : tally is_open m.nodes ≡ 0 → IsMove l (Claim w) (Claimed None) l
+    event-none none =
+        subst (λ (l : MachineOf). IsMove l (Claim w) (Claimed None) l) is (refl, refl, refl, (is-worker, (open-nodes b m.nodes ∙ none, refl)), refl)
+
+    module _ (i : ℕ) (out : IsOut m.nodes i) where
+      back-moves : Moves m.rule b (ledger_of m) (Back w i) Returned (ledger_of (record m { nodes = with_state m.nodes i state.Open }))
+      back-moves = (is-out b m.nodes m.best.numbers m.left m.allowances m.spent i out, moved i state.Open model.Open out.0 (λ name at. refl))
+
+      pub kept-back : IsKept (record m { nodes = with_state m.nodes i state.Open })
+      kept-back =
+          kept-next (with_state m.nodes i state.Open) m.best m.left m.allowances m.spent (Back w i) Returned h.own (floors-state b m.nodes i state.Open out.0 (ap has_floor out.1) h.floors) (moved-room i state.Open) refl (is-worker, back-moves)
+
+      pub event-back : IsMove l (Back w i) Returned (machine_of (record m { nodes = with_state m.nodes i state.Open }))
+      event-back =
+          subst (λ (l : MachineOf). IsMove l (Back w i) Returned (machine_of (record m { nodes = with_state m.nodes i state.Open }))) is (refl, refl, refl, (is-worker, back-moves), refl)
+
+    pub event-not-out : (i : ℕ) → ¬ IsOut m.nodes i → IsMove l (Back w i) NotOut l
+    event-not-out i never =
+        subst (λ (l : MachineOf). IsMove l (Back w i) NotOut l) is (refl, refl, refl, (is-worker, (not-out b m.nodes m.best.numbers m.left m.allowances m.spent i never, refl)), refl)
+
+    -- ORDERS THAT ARE OFFERED
+
+    abbrev OfferedAs : MachineOf → TimedOrder → Reply → MachineOf → Type 0
+    OfferedAs l timed reply new = (event : Event) × IsOfferOf l.problem w timed.problem timed.numbers event × IsMove l event reply new
+
+    module _ (timed : TimedOrder) (own : timed.problem ≡ b) (legal : IsLegal b.block timed.numbers) where
+      same : total_of timed.problem timed.numbers ≡ total_of b timed.numbers
+      same = ap (λ p. total_of p timed.numbers) own
+
+      module _ (lt : total_of b timed.numbers < total_of b m.best.numbers) where
+        lower-moves : Moves m.rule b (ledger_of m) (Offer w true timed.numbers (total_of timed.problem timed.numbers)) Lower (ledger_of (record m { best = timed }))
+        lower-moves = ((refl, legal, same), omega (arith, same, lt), refl)
+
+        pub kept-lower : IsKept (record m { best = timed })
+        kept-lower =
+            kept-next m.nodes timed m.left m.allowances m.spent (Offer w true timed.numbers (total_of timed.problem timed.numbers)) Lower own h.floors h.room refl (is-worker, lower-moves)
+
+        pub event-lower : OfferedAs l timed Lower (machine_of (record m { best = timed }))
+        event-lower =
+            subst (λ (l : MachineOf). OfferedAs l timed Lower (machine_of (record m { best = timed }))) is
+            (Offer w true timed.numbers (total_of timed.problem timed.numbers), (true, ((λ e. own), (λ e. refl)), refl), (refl, refl, refl, (is-worker, lower-moves), refl))
+
+      pub event-not-lower : (least : ℕ) → least ≡ total_of b m.best.numbers → total_of b m.best.numbers ≤ total_of b timed.numbers → OfferedAs l timed (NotLower least) l
+      event-not-lower least total ge =
+          subst (λ (l : MachineOf). OfferedAs l timed (NotLower least) l) is
+          (Offer w true timed.numbers (total_of timed.problem timed.numbers), (true, ((λ e. own), (λ e. refl)), refl), (refl, refl, refl, (is-worker, ((refl, legal, same), omega (arith, ge, same), total, refl)), refl))
+
+    pub event-other : (timed : TimedOrder) (own : Bool) → IsTrue own ↔ (timed.problem ≡ b) → own ≡ false → OfferedAs l timed OtherBlock l
+    event-other timed own iff not =
+        subst (λ (l : MachineOf). OfferedAs l timed OtherBlock l) is
+        (Offer w own timed.numbers (total_of timed.problem timed.numbers), (own, iff, refl), (refl, refl, refl, (is-worker, (not, refl)), refl))
 
 -- THE OPENING
 
-pub kept-opening : (rule : Rule) (b : Problem) (budget workers : ℕ) (best : TimedOrder) (nodes : List Node) (root : Node) (allowances : List ℕ) → best ≡ record { problem = b; numbers = numbers b.block } → nodes ≡ root ∷ [] → root.state ≡ state.Open → root.value ≡ floor_value b [] → allowances ≡ replicate workers 0 → budget ≤ BUDGET_LIMIT → workers ≤ 255 → IsKept rule b budget nodes best budget allowances 0
+pub kept-opening : (rule : Rule) (b : Problem) (budget workers : ℕ) (best : TimedOrder) (nodes : List Node) (root : Node) (allowances : List ℕ) → best ≡ record { problem = b; numbers = numbers b.block } → nodes ≡ root ∷ [] → root.state ≡ state.Open → root.value ≡ floor_value b [] → allowances ≡ replicate workers 0 → budget ≤ BUDGET_LIMIT → workers ≤ 255 →
+    IsKept (record { rule = rule; problem = b; budget = budget; nodes = nodes; best = best; left = budget; allowances = allowances; spent = 0 })
 kept-opening rule b budget workers best nodes root allowances is one open-root value all few at_most =
     rw (is, all, one)
     (record {

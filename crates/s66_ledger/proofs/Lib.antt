@@ -1,6 +1,7 @@
 pub mod Chained
 pub mod Chains
 pub mod Closing
+pub mod Stored
 pub mod Taken
 pub mod AnswerLines
 pub mod Depths

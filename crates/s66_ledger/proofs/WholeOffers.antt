@@ -16,7 +16,7 @@ use Rattle.s66_time.specs.TimedOrder.{TimedOrder}
 use Rattle.s66_ledger.specs.declared.reply.Offered.{Offered}
 use Rattle.s66_ledger.specs.declared.reply.Offered.TheVariants as offered
 use Rattle.s66_ledger.specs.Finishing.{WholesAreTimed, IsTimedAt, IsOffering, IsTiming}
-use Rattle.s66_ledger.specs.LedgerMachine.{MachineOf, IsMove, IsKept, machine_of, state_of}
+use Rattle.s66_ledger.specs.LedgerMachine.{MachineOf, IsMove, Stored, IsKept, machine_of, state_of}
 use Rattle.s66_ledger.specs.Nodes.{prefixes, name_at, node_at, nodes_of, seen_state, has_floor, is_live_state}
 use Rattle.s66_ledger.specs.declared.node.Node.{Node}
 use Rattle.s66_ledger.specs.declared.node.State.{State}
@@ -88,17 +88,18 @@ live-floor state.Split live = absurd cc
 live-floor state.Dominated live = absurd cc
 
 -- a node that is open or out, and isn't below the best
-pub not-below : (rule : Rule) (b : Problem) (budget : ℕ) (nodes : List Node) (best : TimedOrder) (left : ℕ) (allowances : List ℕ) (spent : ℕ) → IsKept rule b budget nodes best left allowances spent → (l : MachineOf) → machine_of rule b budget nodes best.numbers left allowances spent ≡ l → (i time : ℕ) → i < length nodes → time ≡ total_of best.problem best.numbers → ¬ ((is_live_state (node_at nodes i).state ≡ true) × ((node_at nodes i).value < time)) → is_live (model.node_at l.state.nodes i) ≡ true → best_time l.problem l.state ≤ floor_value l.problem (model.node_at l.state.nodes i).prefix
-not-below rule b budget nodes best left allowances spent h l is i time lt total never =
-    let at = get_or (prefixes nodes) i [] in
-    let s = (node_at nodes i).state in
+pub not-below : (m : Stored) → IsKept m → (l : MachineOf) → machine_of m ≡ l → (i time : ℕ) → i < length m.nodes → time ≡ total_of m.best.problem m.best.numbers → ¬ ((is_live_state (node_at m.nodes i).state ≡ true) × ((node_at m.nodes i).value < time)) → is_live (model.node_at l.state.nodes i) ≡ true → best_time l.problem l.state ≤ floor_value l.problem (model.node_at l.state.nodes i).prefix
+not-below m h l is i time lt total never =
+    let b = m.problem in
+    let at = get_or (prefixes m.nodes) i [] in
+    let s = (node_at m.nodes i).state in
     subst (λ (l : MachineOf). is_live (model.node_at l.state.nodes i) ≡ true → best_time l.problem l.state ≤ floor_value l.problem (model.node_at l.state.nodes i).prefix) is
-    (subst (λ (n : model.Node). is_live n ≡ true → total_of b best.numbers ≤ floor_value b n.prefix) (sym (at-nodes b nodes i lt))
+    (subst (λ (n : model.Node). is_live n ≡ true → total_of b m.best.numbers ≤ floor_value b n.prefix) (sym (at-nodes b m.nodes i lt))
     (λ live.
-    let here : is_live_state s ≡ true = sym (live-seen b (name_at nodes i) at s) ∙ live in
-    elim (cases_le time (node_at nodes i).value) [
+    let here : is_live_state s ≡ true = sym (live-seen b (name_at m.nodes i) at s) ∙ live in
+    elim (cases_le time (node_at m.nodes i).value) [
       | inr below ↦ absurd (never (here, below))
-      | inl ge ↦ omega (arith, ge, total, ap (λ p. total_of p best.numbers) h.own, h.floors i lt (live-floor s here))
+      | inl ge ↦ omega (arith, ge, total, ap (λ p. total_of p m.best.numbers) h.own, h.floors i lt (live-floor s here))
     ]))
 
 -- no node that is open or out has a whole order

@@ -31,16 +31,30 @@ abbrev pub state_of : Problem → List Node → List ℕ → ℕ → List ℕ �
 state_of b nodes best left allowances spent =
     record { nodes = nodes_of b nodes; best = best; left = left; allowances = allowances; spent = spent }
 
-abbrev pub machine_of : Rule → Problem → ℕ → List Node → List ℕ → ℕ → List ℕ → ℕ → MachineOf
-machine_of rule b budget nodes best left allowances spent =
-    record { rule = rule; problem = b; budget = budget; workers = length allowances; state = state_of b nodes best left allowances spent; lines = lines_of nodes }
+-- a machine as code stores it
+pub record Stored : Type 0 where
+  pub rule : Rule
+  pub problem : Problem
+  pub budget : ℕ
+  pub nodes : List Node
+  pub best : TimedOrder
+  pub left : ℕ
+  pub allowances : List ℕ
+  pub spent : ℕ
 
-pub record IsKept (rule : Rule) (b : Problem) (budget : ℕ) (nodes : List Node) (best : TimedOrder) (left : ℕ) (allowances : List ℕ) (spent : ℕ) : Type 0 where
+abbrev pub ledger_of : Stored → Ledger
+ledger_of m = state_of m.problem m.nodes m.best.numbers m.left m.allowances m.spent
+
+abbrev pub machine_of : Stored → MachineOf
+machine_of m =
+    record { rule = m.rule; problem = m.problem; budget = m.budget; workers = length m.allowances; state = ledger_of m; lines = lines_of m.nodes }
+
+pub record IsKept (m : Stored) : Type 0 where
   -- some history leads here from the opening
-  pub reached : IsReached rule b budget (length allowances) (state_of b nodes best.numbers left allowances spent)
-  pub own : best.problem ≡ b
-  pub floors : HaveFloors b nodes
+  pub reached : IsReached m.rule m.problem m.budget (length m.allowances) (ledger_of m)
+  pub own : m.best.problem ≡ m.problem
+  pub floors : HaveFloors m.problem m.nodes
   -- each split makes a node of each of its children
-  pub room : length nodes ≤ 1 + BLOCK_LIMIT * spent
-  pub few : budget ≤ BUDGET_LIMIT
-  pub workers : length allowances ≤ 255
+  pub room : length m.nodes ≤ 1 + BLOCK_LIMIT * m.spent
+  pub few : m.budget ≤ BUDGET_LIMIT
+  pub workers : length m.allowances ≤ 255

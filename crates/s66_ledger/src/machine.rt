@@ -33,9 +33,9 @@ impl<'a> Model for Machine<'a> {
 
     ghost Value = { MachineOf };
 
-    ghost view = { λ l. machine_of l.rule (record { block = instrs_of l.block.now; profile = l.profile }) l.budget l.table l.best.numbers l.left l.allowances.items l.spent };
+    ghost view = { λ l. machine_of (record { rule = l.rule; problem = record { block = instrs_of l.block.now; profile = l.profile }; budget = l.budget; nodes = l.table; best = l.best; left = l.left; allowances = l.allowances.items; spent = l.spent }) };
 
-    ghost invariant = { λ l. IsKept l.rule (record { block = instrs_of l.block.now; profile = l.profile }) l.budget l.table l.best l.left l.allowances.items l.spent };
+    ghost invariant = { λ l. IsKept (record { rule = l.rule; problem = record { block = instrs_of l.block.now; profile = l.profile }; budget = l.budget; nodes = l.table; best = l.best; left = l.left; allowances = l.allowances.items; spent = l.spent }) };
 }
 
 impl<'a> Machine<'a> {

@@ -3,6 +3,7 @@ use Rattle.s66_model.specs.Coverage.{Covers}
 use Rattle.s66_model.specs.Ledger.{Grant, Granted, allowance}
 use Rattle.s66_model.proofs.Histories.{reached-covers}
 use Rattle.s66_ledger.specs.LedgerMachine.{MachineOf}
+use Rattle.s66_ledger.proofs.Stored.{stored_of}
 use Rattle.s66_ledger.proofs.NodePrefixes.{get_or-any}
 use Rattle.s66_ledger.proofs.Leading.{event-leads}
 use Rattle.s66_ledger.proofs.Rounds.{grant-between, grant-spent}
@@ -18,10 +19,10 @@ returns-clause-between c =
 
 pub returns-clause-spent : goal.returns-clause-spent
 returns-clause-spent c =
-    let s = c.self.inside in
-    let some : 1 ≤ length s.allowances.items = omega (arith, c.requires.workers, ap (λ (l : MachineOf). l.workers) c.self.view_is) in
+    let m = stored_of c.self.inside in
+    let some : 1 ≤ length m.allowances = omega (arith, c.requires.workers, ap (λ (l : MachineOf). l.workers) c.self.view_is) in
     let none : allowance c.args.self.now.state 1 ≡ 0 =
-    omega (arith, c.if-allowance-gt0.false, c.index-allowance.ensures ∙ get_or-any s.allowances.items 0 c.index-allowance.result.now 0 (λ n. n) (omega (arith, some)), ap (λ (l : MachineOf). allowance l.state 1) c.self.view_is) in
+    omega (arith, c.if-allowance-gt0.false, c.index-allowance.ensures ∙ get_or-any m.allowances 0 c.index-allowance.result.now 0 (λ n. n) (omega (arith, some)), ap (λ (l : MachineOf). allowance l.state 1) c.self.view_is) in
     let covers : Covers c.args.self.now.rule c.args.self.now.problem c.args.self.now.budget c.args.self.now.state =
-    subst (λ (l : MachineOf). Covers l.rule l.problem l.budget l.state) c.self.view_is (reached-covers _ _ s.budget (length s.allowances.items) _ c.self.invariant.reached) in
+    subst (λ (l : MachineOf). Covers l.rule l.problem l.budget l.state) c.self.view_is (reached-covers _ _ m.budget (length m.allowances) _ c.self.invariant.reached) in
     grant-spent c.args.self.now c.grant.new.self c.grant.result c.grant.ensures.granted covers c.requires.between none

@@ -1,7 +1,5 @@
 use Rattle.std.proofs.Common.{ℕ, true, List, Some, None, ◌≡◌, ◌≤◌, ◌∙◌, [], arith, length, ap, sym, subst, get_or, refl}
 use Rattle.s66_isa.specs.declared.limits.TheConstants.{BLOCK_LIMIT}
-use Rattle.s66_line.specs.Block.{instrs_of}
-use Rattle.s66_model.specs.Timing.{Problem}
 use Rattle.s66_model.specs.Leaves.{floor_value}
 use Rattle.s66_model.specs.Ledger as model
 use Rattle.s66_ledger.specs.declared.node.Node.{Node}
@@ -9,6 +7,7 @@ use Rattle.s66_ledger.specs.declared.node.State.TheVariants as state
 use Rattle.s66_ledger.specs.Nodes.{prefixes, lines_of, no_node, node_at}
 use Rattle.s66_model.specs.Tickets.{TicketOf}
 use Rattle.s66_ledger.specs.LedgerMachine.{MachineOf, IsMove, IsKept, machine_of}
+use Rattle.s66_ledger.proofs.Stored.{stored_of}
 use Rattle.s66_ledger.proofs.NodePrefixes.{prefixes-set, lines-state}
 use Rattle.s66_ledger.proofs.SeenNodes.{at-nodes}
 use Rattle.s66_ledger.proofs.Events.{kept-short, kept-claim, event-claim, event-none, claimed-least}
@@ -16,58 +15,50 @@ use Rattle.s66_ledger.proofs.machine.Machine.claim.Goals as goal
 
 pub returns-in_default-clause-ok : goal.returns-in_default-clause-ok
 returns-in_default-clause-ok c =
-    let s = c.self.inside in
-    let b : Problem = record { block = instrs_of s.block.now; profile = s.profile } in
-    let le : c.args.w ≤ length s.allowances.items = omega (arith, c.requires.1, ap (λ (l : MachineOf). l.workers) c.self.view_is) in
-    subst (λ (ns : List Node). IsMove c.args.self.now (model.Claim c.args.w) (model.Claimed None) (machine_of s.rule b s.budget ns s.best.numbers s.left s.allowances.items s.spent)) (sym c.in_default.ensures.same)
+    let m = stored_of c.self.inside in
+    subst (λ (ns : List Node). IsMove c.args.self.now (model.Claim c.args.w) (model.Claimed None) (machine_of (record m { nodes = ns }))) (sym c.in_default.ensures.same)
     (subst (λ (l : MachineOf). IsMove c.args.self.now (model.Claim c.args.w) (model.Claimed None) l) (sym c.self.view_is)
-    (event-none _ b s.budget s.table s.best s.left s.allowances.items s.spent c.self.invariant c.args.self.now c.args.w c.self.view_is c.requires.0 le c.in_default.ensures.none))
+    (event-none m c.self.invariant c.args.self.now c.self.view_is c.args.w c.requires c.in_default.ensures.none))
 
 pub prefix_of-prefix-requires-clause-few : goal.prefix_of-prefix-requires-clause-few
 prefix_of-prefix-requires-clause-few c =
-    let s = c.self.inside in
-    let same = ap prefixes c.in-Some.ensures.moved ∙ prefixes-set s.table c.in-Some.node (record (node_at s.table c.in-Some.node) { state = state.Out }) no_node refl refl in
-    omega (arith, ap (λ ats. length (get_or ats c.in-Some.node [])) same, kept-short _ _ s.budget s.table s.best s.left s.allowances.items s.spent c.self.invariant c.in-Some.node c.in-Some.ensures.within, c.count.ensures.value, c.count.ensures.few)
+    let m = stored_of c.self.inside in
+    let same = ap prefixes c.in-Some.ensures.moved ∙ prefixes-set m.nodes c.in-Some.node (record (node_at m.nodes c.in-Some.node) { state = state.Out }) no_node refl refl in
+    omega (arith, ap (λ ats. length (get_or ats c.in-Some.node [])) same, kept-short m c.self.invariant c.in-Some.node c.in-Some.ensures.within, c.count.ensures.value, c.count.ensures.few)
 
 pub invariant_of-self-2 : goal.invariant_of-self-2
 invariant_of-self-2 c =
-    let s = c.self.inside in
-    let b : Problem = record { block = instrs_of s.block.now; profile = s.profile } in
-    let le : c.args.w ≤ length s.allowances.items = omega (arith, c.requires.1, ap (λ (l : MachineOf). l.workers) c.self.view_is) in
-    subst (λ ns. IsKept s.rule b s.budget ns s.best s.left s.allowances.items s.spent) (sym c.in-Some.ensures.moved)
-    (kept-claim _ b s.budget s.table s.best s.left s.allowances.items s.spent c.self.invariant c.args.w c.in-Some.node c.requires.0 le c.in-Some.ensures.within c.in-Some.ensures.was)
+    let m = stored_of c.self.inside in
+    subst (λ ns. IsKept (record m { nodes = ns })) (sym c.in-Some.ensures.moved)
+    (kept-claim m c.self.invariant c.args.self.now c.self.view_is c.args.w c.requires c.in-Some.node c.in-Some.ensures.within c.in-Some.ensures.was)
 
 pub returns-clause-ok : goal.returns-clause-ok
 returns-clause-ok c =
-    let s = c.self.inside in
-    let b : Problem = record { block = instrs_of s.block.now; profile = s.profile } in
-    let le : c.args.w ≤ length s.allowances.items = omega (arith, c.requires.1, ap (λ (l : MachineOf). l.workers) c.self.view_is) in
-    subst (λ (t : TicketOf). IsMove c.args.self.now (model.Claim c.args.w) (model.Claimed (Some t.node)) (machine_of s.rule b s.budget c.claim.new.self s.best.numbers s.left s.allowances.items s.spent)) (sym c.new.ensures)
-    (subst (λ ns. IsMove c.args.self.now (model.Claim c.args.w) (model.Claimed (Some c.in-Some.node)) (machine_of s.rule b s.budget ns s.best.numbers s.left s.allowances.items s.spent)) (sym c.in-Some.ensures.moved)
-    (event-claim _ b s.budget s.table s.best s.left s.allowances.items s.spent c.self.invariant c.args.self.now c.args.w c.in-Some.node c.self.view_is c.requires.0 le c.in-Some.ensures.within c.in-Some.ensures.was))
+    let m = stored_of c.self.inside in
+    subst (λ (t : TicketOf). IsMove c.args.self.now (model.Claim c.args.w) (model.Claimed (Some t.node)) (machine_of (record m { nodes = c.claim.new.self }))) (sym c.new.ensures)
+    (subst (λ ns. IsMove c.args.self.now (model.Claim c.args.w) (model.Claimed (Some c.in-Some.node)) (machine_of (record m { nodes = ns }))) (sym c.in-Some.ensures.moved)
+    (event-claim m c.self.invariant c.args.self.now c.self.view_is c.args.w c.requires c.in-Some.node c.in-Some.ensures.within c.in-Some.ensures.was))
 
 pub returns-clause-lines : goal.returns-clause-lines
 returns-clause-lines c = ap lines_of c.in-Some.ensures.moved ∙ (lines-state c.self.inside.table c.in-Some.node state.Out ∙ ap (λ (l : MachineOf). l.lines) c.self.view_is)
 
 pub returns-clause-ticket : goal.returns-clause-ticket
 returns-clause-ticket c =
-    let s = c.self.inside in
-    let b : Problem = record { block = instrs_of s.block.now; profile = s.profile } in
+    let m = stored_of c.self.inside in
     let i = c.in-Some.node in
-    let same = ap prefixes c.in-Some.ensures.moved ∙ prefixes-set s.table i (record (node_at s.table i) { state = state.Out }) no_node refl refl in
-    let here : get_or (prefixes s.table) i [] ≡ (model.node_at c.args.self.now.state.nodes i).prefix =
-    sym (ap (λ (n : model.Node). n.prefix) (at-nodes b s.table i c.in-Some.ensures.within)) ∙ ap (λ (l : MachineOf). (model.node_at l.state.nodes i).prefix) c.self.view_is in
+    let same = ap prefixes c.in-Some.ensures.moved ∙ prefixes-set m.nodes i (record (node_at m.nodes i) { state = state.Out }) no_node refl refl in
+    let here : get_or (prefixes m.nodes) i [] ≡ (model.node_at c.args.self.now.state.nodes i).prefix =
+    sym (ap (λ (n : model.Node). n.prefix) (at-nodes m.problem m.nodes i c.in-Some.ensures.within)) ∙ ap (λ (l : MachineOf). (model.node_at l.state.nodes i).prefix) c.self.view_is in
     subst (λ (t : TicketOf). t.prefix ≡ (model.node_at c.args.self.now.state.nodes t.node).prefix) (sym c.new.ensures)
     (c.prefix_of-prefix.ensures ∙ (ap (λ ats. get_or ats i []) same ∙ here))
 
 pub returns-clause-least : goal.returns-clause-least
 returns-clause-least c =
-    let s = c.self.inside in
-    let b : Problem = record { block = instrs_of s.block.now; profile = s.profile } in
+    let m = stored_of c.self.inside in
     let i = c.in-Some.node in
-    let same = ap prefixes c.in-Some.ensures.moved ∙ prefixes-set s.table i (record (node_at s.table i) { state = state.Out }) no_node refl refl in
-    let prefix : c.new.result.prefix ≡ get_or (prefixes s.table) i [] = ap (λ (t : TicketOf). t.prefix) c.new.ensures ∙ (c.prefix_of-prefix.ensures ∙ ap (λ ats. get_or ats i []) same) in
-    let few : length b.block ≤ BLOCK_LIMIT = omega (arith, c.count.ensures.value, c.count.ensures.few) in
+    let same = ap prefixes c.in-Some.ensures.moved ∙ prefixes-set m.nodes i (record (node_at m.nodes i) { state = state.Out }) no_node refl refl in
+    let prefix : c.new.result.prefix ≡ get_or (prefixes m.nodes) i [] = ap (λ (t : TicketOf). t.prefix) c.new.ensures ∙ (c.prefix_of-prefix.ensures ∙ ap (λ ats. get_or ats i []) same) in
+    let few : length m.problem.block ≤ BLOCK_LIMIT = omega (arith, c.count.ensures.value, c.count.ensures.few) in
     subst (λ at. (j : ℕ) → model.is_open (model.node_at c.args.self.now.state.nodes j) ≡ true → floor_value c.args.self.now.problem at ≤ floor_value c.args.self.now.problem (model.node_at c.args.self.now.state.nodes j).prefix) (sym prefix)
-    (subst (λ (l : MachineOf). (j : ℕ) → model.is_open (model.node_at l.state.nodes j) ≡ true → floor_value l.problem (get_or (prefixes s.table) i []) ≤ floor_value l.problem (model.node_at l.state.nodes j).prefix) c.self.view_is
-    (claimed-least _ b s.budget s.table s.best s.left s.allowances.items s.spent c.self.invariant few i c.in-Some.ensures.within c.in-Some.ensures.was c.in-Some.ensures.least))
+    (subst (λ (l : MachineOf). (j : ℕ) → model.is_open (model.node_at l.state.nodes j) ≡ true → floor_value l.problem (get_or (prefixes m.nodes) i []) ≤ floor_value l.problem (model.node_at l.state.nodes j).prefix) c.self.view_is
+    (claimed-least m c.self.invariant few i c.in-Some.ensures.within c.in-Some.ensures.was c.in-Some.ensures.least))

@@ -1,5 +1,4 @@
 use Rattle.std.proofs.Common.{ℕ, List, ◌≡◌, ◌≢◌, ◌<◌, ◌∙◌, [], get_or, inl, inr, arith, ap, sym, length, Option, Some, None, IfSome, IfNone}
-use Rattle.s66_line.specs.Block.{instrs_of}
 use Rattle.s66_isa.proofs.Lists.{cases_le}
 use Rattle.s66_model.specs.Timing.{Problem}
 use Rattle.s66_model.specs.DominatedLeaves.{Dominated}
@@ -8,6 +7,7 @@ use Rattle.s66_model.specs.Ledger.{Cut, Closed}
 use Rattle.s66_ledger.specs.declared.node.Node.{Node}
 use Rattle.s66_ledger.specs.declared.node.State.TheVariants as state
 use Rattle.s66_ledger.specs.LedgerMachine.{MachineOf}
+use Rattle.s66_ledger.proofs.Stored.{stored_of}
 use Rattle.s66_ledger.specs.Nodes.{name_at, node_at, nodes_of, prefixes, seen_state}
 use Rattle.s66_ledger.proofs.Events.{name-short}
 use Rattle.s66_ledger.proofs.NodePrefixes.{get_or-past}
@@ -16,9 +16,8 @@ use Rattle.s66_ledger.proofs.machine.Machine.name_of.Goals as goal
 
 pub name_of-requires : goal.name_of-requires
 name_of-requires c lt =
-    let s = c.self.inside in
-    let b : Problem = record { block = instrs_of s.block.now; profile = s.profile } in
-    omega (arith, name-short s.rule b s.budget s.table s.best s.left s.allowances.items s.spent c.self.invariant c.args.node lt, c.count.ensures.value, c.count.ensures.few)
+    let m = stored_of c.self.inside in
+    omega (arith, name-short m c.self.invariant c.args.node lt, c.count.ensures.value, c.count.ensures.few)
 
 some-weaker : {X : Type 0} (P Q : X → Type 0) (r : Option X) → ((x : X) → P x → Q x) → IfSome r P → IfSome r Q
 some-weaker P Q None f h = h
@@ -48,14 +47,12 @@ module _ (b : Problem) (xs : List Node) (i : ℕ) (l : MachineOf) (is : nodes_of
 
 pub returns-clause-some : goal.returns-clause-some
 returns-clause-some c =
-    let s = c.self.inside in
-    let b : Problem = record { block = instrs_of s.block.now; profile = s.profile } in
+    let m = stored_of c.self.inside in
     some-weaker _ _ c.name_of.result
-    (λ name h. named b s.table c.args.node c.args.self.now (ap (λ (l : MachineOf). l.state.nodes) c.self.view_is) name.items h.0 h.1 h.2)
+    (λ name h. named m.problem m.nodes c.args.node c.args.self.now (ap (λ (l : MachineOf). l.state.nodes) c.self.view_is) name.items h.0 h.1 h.2)
     c.name_of.ensures.some
 
 pub returns-clause-none : goal.returns-clause-none
 returns-clause-none c =
-    let s = c.self.inside in
-    let b : Problem = record { block = instrs_of s.block.now; profile = s.profile } in
-    none-weaker _ _ c.name_of.result (unnamed b s.table c.args.node c.args.self.now (ap (λ (l : MachineOf). l.state.nodes) c.self.view_is)) c.name_of.ensures.none
+    let m = stored_of c.self.inside in
+    none-weaker _ _ c.name_of.result (unnamed m.problem m.nodes c.args.node c.args.self.now (ap (λ (l : MachineOf). l.state.nodes) c.self.view_is)) c.name_of.ensures.none

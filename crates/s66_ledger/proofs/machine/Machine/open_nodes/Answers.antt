@@ -1,14 +1,12 @@
 use Rattle.std.proofs.Common.{◌∙◌, ap, sym}
 use Rattle.s66_isa.specs.Lists.{tally}
-use Rattle.s66_line.specs.Block.{instrs_of}
-use Rattle.s66_model.specs.Timing.{Problem}
 use Rattle.s66_model.specs.Ledger.{is_open}
 use Rattle.s66_ledger.specs.LedgerMachine.{MachineOf}
+use Rattle.s66_ledger.proofs.Stored.{stored_of}
 use Rattle.s66_ledger.proofs.SeenNodes.{open-nodes}
 use Rattle.s66_ledger.proofs.machine.Machine.open_nodes.Goals as goal
 
 pub returns : goal.returns
 returns c =
-    let s = c.self.inside in
-    let b : Problem = record { block = instrs_of s.block.now; profile = s.profile } in
-    c.open_count.ensures ∙ (sym (open-nodes b s.table) ∙ ap (λ (l : MachineOf). tally is_open l.state.nodes) c.self.view_is)
+    let m = stored_of c.self.inside in
+    c.open_count.ensures ∙ (sym (open-nodes m.problem m.nodes) ∙ ap (λ (l : MachineOf). tally is_open l.state.nodes) c.self.view_is)

@@ -1,10 +1,9 @@
 use Rattle.std.proofs.Common.{inl, inr, ◌≢◌, ◌<◌, ◌∙◌, [], arith, length, get_or, true≢false, ap, sym, subst}
-use Rattle.s66_line.specs.Block.{instrs_of}
-use Rattle.s66_model.specs.Timing.{Problem}
 use Rattle.s66_model.specs.LegalOrder.{IsBeginning}
 use Rattle.s66_model.specs.Ledger as model
 use Rattle.s66_ledger.specs.Nodes.{prefixes}
 use Rattle.s66_ledger.specs.LedgerMachine.{MachineOf}
+use Rattle.s66_ledger.proofs.Stored.{stored_of}
 use Rattle.s66_ledger.proofs.SeenNodes.{length-nodes, at-nodes}
 use Rattle.s66_ledger.proofs.Events.{kept-short, kept-beginning}
 use Rattle.s66_ledger.proofs.WholeOffers.{not-below}
@@ -13,34 +12,30 @@ use Rattle.s66_ledger.proofs.machine.Machine.promising_order.Goals.{else-is_live
 
 pub is_live_below-requires : goal.is_live_below-requires
 is_live_below-requires c =
-    let s = c.self.inside in
-    let b : Problem = record { block = instrs_of s.block.now; profile = s.profile } in
-    omega (arith, c.requires, length-nodes b s.table, ap (λ (l : MachineOf). length l.state.nodes) c.self.view_is)
+    let m = stored_of c.self.inside in
+    omega (arith, c.requires, length-nodes m.problem m.nodes, ap (λ (l : MachineOf). length l.state.nodes) c.self.view_is)
 
 pub prefix_of-requires-clause-few : goal.prefix_of-requires-clause-few
 prefix_of-requires-clause-few c =
-    let s = c.self.inside in
-    let b : Problem = record { block = instrs_of s.block.now; profile = s.profile } in
-    let lt : c.args.node < length s.table = omega (arith, c.requires, length-nodes b s.table, ap (λ (l : MachineOf). length l.state.nodes) c.self.view_is) in
-    omega (arith, kept-short _ b s.budget s.table s.best s.left s.allowances.items s.spent c.self.invariant c.args.node lt, c.count.ensures.value, c.count.ensures.few)
+    let m = stored_of c.self.inside in
+    let lt : c.args.node < length m.nodes = omega (arith, c.requires, length-nodes m.problem m.nodes, ap (λ (l : MachineOf). length l.state.nodes) c.self.view_is) in
+    omega (arith, kept-short m c.self.invariant c.args.node lt, c.count.ensures.value, c.count.ensures.few)
 
 pub returns-then-has_length-clause-prefix : goal.returns-then-has_length-clause-prefix
 returns-then-has_length-clause-prefix c =
-    let s = c.self.inside in
-    let b : Problem = record { block = instrs_of s.block.now; profile = s.profile } in
-    let lt : c.args.node < length s.table = omega (arith, c.requires, length-nodes b s.table, ap (λ (l : MachineOf). length l.state.nodes) c.self.view_is) in
+    let m = stored_of c.self.inside in
+    let lt : c.args.node < length m.nodes = omega (arith, c.requires, length-nodes m.problem m.nodes, ap (λ (l : MachineOf). length l.state.nodes) c.self.view_is) in
     c.prefix_of.ensures
-    ∙ (sym (ap (λ (n : model.Node). n.prefix) (at-nodes b s.table c.args.node lt))
+    ∙ (sym (ap (λ (n : model.Node). n.prefix) (at-nodes m.problem m.nodes c.args.node lt))
     ∙ ap (λ (l : MachineOf). (model.node_at l.state.nodes c.args.node).prefix) c.self.view_is)
 
 pub returns-then-has_length-clause-begins : goal.returns-then-has_length-clause-begins
 returns-then-has_length-clause-begins c =
-    let s = c.self.inside in
-    let b : Problem = record { block = instrs_of s.block.now; profile = s.profile } in
-    let lt : c.args.node < length s.table = omega (arith, c.requires, length-nodes b s.table, ap (λ (l : MachineOf). length l.state.nodes) c.self.view_is) in
+    let m = stored_of c.self.inside in
+    let lt : c.args.node < length m.nodes = omega (arith, c.requires, length-nodes m.problem m.nodes, ap (λ (l : MachineOf). length l.state.nodes) c.self.view_is) in
     subst (λ at. IsBeginning c.args.self.now.problem.block at) (sym c.prefix_of.ensures)
-    (subst (λ (l : MachineOf). IsBeginning l.problem.block (get_or (prefixes s.table) c.args.node [])) c.self.view_is
-    (kept-beginning _ b s.budget s.table s.best s.left s.allowances.items s.spent c.self.invariant c.args.node lt))
+    (subst (λ (l : MachineOf). IsBeginning l.problem.block (get_or (prefixes m.nodes) c.args.node [])) c.self.view_is
+    (kept-beginning m c.self.invariant c.args.node lt))
 
 pub returns-then-has_length-clause-whole : goal.returns-then-has_length-clause-whole
 returns-then-has_length-clause-whole c =
@@ -51,18 +46,17 @@ returns-then-has_length-clause-whole c =
 
 pub returns-else-is_live_below-clause-none : goal.returns-else-is_live_below-clause-none
 returns-else-is_live_below-clause-none c =
-    let s = c.self.inside in
-    let b : Problem = record { block = instrs_of s.block.now; profile = s.profile } in
-    let lt : c.args.node < length s.table = omega (arith, c.requires, length-nodes b s.table, ap (λ (l : MachineOf). length l.state.nodes) c.self.view_is) in
+    let m = stored_of c.self.inside in
+    let lt : c.args.node < length m.nodes = omega (arith, c.requires, length-nodes m.problem m.nodes, ap (λ (l : MachineOf). length l.state.nodes) c.self.view_is) in
     elim c.else-is_live_below.branch [
       | else-is_live_below-via-then-is_live_below+else-has_length w ↦
-          (let other : length (get_or (prefixes s.table) c.args.node []) ≢ w.count-then-is_live_below.result = λ same. true≢false (sym (w.has_length.ensures.1 same) ∙ w.if-has_length.false) in
-          let part : length (get_or (prefixes s.table) c.args.node []) < length b.block =
-          omega (arith, kept-short _ b s.budget s.table s.best s.left s.allowances.items s.spent c.self.invariant c.args.node lt, w.count-then-is_live_below.ensures.value, other) in
-          λ live. inl (omega (arith, part, ap (λ (n : model.Node). length n.prefix) (at-nodes b s.table c.args.node lt), ap (λ (l : MachineOf). length (model.node_at l.state.nodes c.args.node).prefix) c.self.view_is, ap (λ (l : MachineOf). length l.problem.block) c.self.view_is)))
+          (let other : length (get_or (prefixes m.nodes) c.args.node []) ≢ w.count-then-is_live_below.result = λ same. true≢false (sym (w.has_length.ensures.1 same) ∙ w.if-has_length.false) in
+          let part : length (get_or (prefixes m.nodes) c.args.node []) < length m.problem.block =
+          omega (arith, kept-short m c.self.invariant c.args.node lt, w.count-then-is_live_below.ensures.value, other) in
+          λ live. inl (omega (arith, part, ap (λ (n : model.Node). length n.prefix) (at-nodes m.problem m.nodes c.args.node lt), ap (λ (l : MachineOf). length (model.node_at l.state.nodes c.args.node).prefix) c.self.view_is, ap (λ (l : MachineOf). length l.problem.block) c.self.view_is)))
       | else-is_live_below-via-else-is_live_below w ↦
           λ live.
           inr
-          (not-below _ b s.budget s.table s.best s.left s.allowances.items s.spent c.self.invariant c.args.self.now c.self.view_is c.args.node c.total.result lt c.total.ensures.value
+          (not-below m c.self.invariant c.args.self.now c.self.view_is c.args.node c.total.result lt c.total.ensures.value
           (λ below. true≢false (sym (c.is_live_below.ensures.1 below) ∙ w.if-is_live_below.false)) live)
     ]

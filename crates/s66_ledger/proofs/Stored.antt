@@ -1,0 +1,17 @@
+-- A machine as code stores it.
+use Rattle.s66_line.specs.Block.{instrs_of}
+use Rattle.s66_ledger.specs.declared.machine.Machine.TheInside.{Inside}
+use Rattle.s66_ledger.specs.LedgerMachine.{Stored}
+
+abbrev pub stored_of : Inside → Stored
+stored_of m =
+    record {
+      rule = m.rule;
+      problem = record { block = instrs_of m.block.now; profile = m.profile };
+      budget = m.budget;
+      nodes = m.table;
+      best = m.best;
+      left = m.left;
+      allowances = m.allowances.items;
+      spent = m.spent;
+    }
