@@ -29,8 +29,8 @@ pub fn grow(
     };
     Ok(Counts {
         splits: piece.splits(),
-        // each line but the first is of a child
-        pushes: piece.vertices().len().saturating_sub(1),
+        // each node but the first is a child
+        pushes: piece.nodes().len().saturating_sub(1),
         best,
     })
 }

@@ -17,13 +17,13 @@ const SPLITS: u32 = 100;
 /// Three that don't differ, so that what begins with one of them is dominated.
 const ALIKE: &str = "  SB0 B1\n  SB0 B1\n  SB0 B1\n";
 
-/// How many splits and lines a piece has, and the time of its best order.
+/// How many splits and nodes a piece has, and the time of its best order.
 fn answered(piece: &Piece) -> Answered {
     let time = match piece.timed() {
         Some(timed) => timed.total() as usize,
         None => 0,
     };
-    [piece.splits() as usize, piece.vertices().len(), time, 0]
+    [piece.splits() as usize, piece.nodes().len(), time, 0]
 }
 
 /// A piece for a best time.

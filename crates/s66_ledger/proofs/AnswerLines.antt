@@ -20,9 +20,9 @@ use Rattle.s66_model.proofs.NodeTrees.{some-passes, passes-some, is-same, uncut-
 use Rattle.s66_model.proofs.OneTree.{same-is}
 use Rattle.s66_node.specs.Walked.{front}
 use Rattle.s66_node.proofs.Growing.{front-push}
-use Rattle.s66_ledger.specs.declared.node.Node.{Node}
-use Rattle.s66_ledger.specs.declared.node.State.{State}
-use Rattle.s66_ledger.specs.declared.node.State.TheVariants as state
+use Rattle.s66_node.specs.declared.node.Node.{Node}
+use Rattle.s66_node.specs.declared.node.State.{State}
+use Rattle.s66_node.specs.declared.node.State.TheVariants as state
 use Rattle.s66_ledger.specs.AnswerLines.{AreOneTree, StandsAt, lines_from}
 use Rattle.s66_ledger.specs.LedgerMachine.{state_of}
 use Rattle.s66_ledger.specs.Links.{parent_of, IsChild, HasChild}

@@ -2,7 +2,7 @@
 use Rattle.std.proofs.Common.{ℕ, zero, suc, ◌+◌, ◌≤◌, ◌<◌, ◌≡◌, ◌≢◌, Bool, true, false, cond, eqb, List, length, get_or, set, add-one, length-set, sym, ap, arith, inl, inr, ◌∙◌}
 use Rattle.std.proofs.lemmas.Bool.{cases_eq, eq-eqb, ne_eqb}
 use Rattle.std.proofs.lemmas.List.{get_or-set_same, get_or-set_other}
-use Rattle.s66_ledger.specs.declared.node.Node.{Node}
+use Rattle.s66_node.specs.declared.node.Node.{Node}
 use Rattle.s66_ledger.specs.Nodes.{node_at}
 use Rattle.s66_ledger.specs.Links.{parent_of, child_below, AreLinks, IsChild, HasChild}
 

@@ -3,10 +3,11 @@ use Rattle.std.proofs.Common.{ℕ, zero, suc, ◌+◌, ◌<◌, ◌≡◌, min, 
 use Rattle.std.proofs.lemmas.Bool.{cases_eq}
 use Rattle.std.proofs.lemmas.List.{length-set}
 use Rattle.s66_isa.proofs.Lists.{cases_le}
-use Rattle.s66_ledger.specs.declared.node.Node.{Node}
-use Rattle.s66_ledger.specs.declared.node.State.{State}
+use Rattle.s66_node.specs.declared.node.Node.{Node}
+use Rattle.s66_node.specs.declared.node.State.{State}
 use Rattle.s66_ledger.specs.Nodes.{prefixes, node_at, no_node, with_state, HaveDepths}
-use Rattle.s66_ledger.proofs.NodePrefixes.{get_or-front, get_or-last, get_or-any, push-front, push-last, prefixes-set}
+use Rattle.s66_node.proofs.Nodes.{get_or-front, get_or-last}
+use Rattle.s66_ledger.proofs.NodePrefixes.{get_or-any, push-front, push-last, prefixes-set}
 use Rattle.s66_ledger.proofs.OpenHeap.{set-here, set-other}
 
 pub depths-first : (x : Node) → x.depth ≡ 0 → HaveDepths (x ∷ [])

@@ -18,11 +18,12 @@ use Rattle.s66_model.proofs.Beginnings.{beginning-front}
 use Rattle.s66_model.proofs.FloorParts.{leaf-fits}
 use Rattle.s66_model.proofs.Floors.{floor-stands}
 use Rattle.s66_time.specs.TimedOrder.{TimedOrder}
-use Rattle.s66_ledger.specs.declared.node.Node.{Node}
-use Rattle.s66_ledger.specs.declared.node.State.{State}
-use Rattle.s66_ledger.specs.declared.node.State.TheVariants as state
+use Rattle.s66_node.specs.declared.node.Node.{Node}
+use Rattle.s66_node.specs.declared.node.State.{State}
+use Rattle.s66_node.specs.declared.node.State.TheVariants as state
 use Rattle.s66_model.specs.declared.limits.TheConstants.{BUDGET_LIMIT}
-use Rattle.s66_ledger.specs.Nodes.{prefixes, name_at, seen_state, nodes_of, node_at, with_state, HaveFloors, has_floor, is_open_state, is_open}
+use Rattle.s66_node.specs.Nodes.{has_floor, is_open_state}
+use Rattle.s66_ledger.specs.Nodes.{prefixes, name_at, seen_state, nodes_of, node_at, with_state, HaveFloors, is_open}
 use Rattle.s66_ledger.specs.OpenNodes.{IsOut, ranked}
 use Rattle.s66_ledger.specs.LedgerMachine.{MachineOf, IsMove, Stored, state_of, ledger_of, machine_of, IsKept}
 use Rattle.s66_ledger.proofs.SeenNodes.{length-nodes, at-nodes, open-seen, open-nodes, out-seen, nodes-state}

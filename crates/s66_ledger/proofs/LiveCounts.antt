@@ -1,18 +1,19 @@
 -- How many nodes are out, and how deep those are that are open or out: of one node more, and of a node in another state.
-use Rattle.std.proofs.Common.{ℕ, zero, suc, ◌+◌, ◌≤◌, ◌<◌, ◌≡◌, Bool, true, false, cond, List, [], ◌∷◌, ◌++◌, length, get_or, set, refl, sym, ap, arith, inl, inr, nat_le, ◌∙◌, length-append}
+use Rattle.std.proofs.Common.{ℕ, zero, suc, ◌+◌, ◌≤◌, ◌<◌, ◌≡◌, Bool, true, false, cond, List, [], ◌∷◌, ◌++◌, length, get_or, set, refl, sym, ap, arith, inl, inr, ◌∙◌, length-append}
 use Rattle.std.proofs.lemmas.Bool.{cases_eq, cases_Bool}
 use Rattle.s66_isa.specs.declared.limits.TheConstants.{BLOCK_LIMIT}
 use Rattle.s66_isa.specs.Lists.{tally}
 use Rattle.s66_isa.proofs.Lists.{tally-set, tally-append, cases_le}
-use Rattle.s66_ledger.specs.declared.node.Node.{Node}
-use Rattle.s66_ledger.specs.declared.node.State.{State}
-use Rattle.s66_ledger.specs.declared.node.State.TheVariants as state
-use Rattle.s66_ledger.specs.Nodes.{prefixes, node_at, no_node, HaveDepths, is_open_state, is_live_state, is_out_state, is_out}
+use Rattle.s66_node.specs.declared.node.Node.{Node}
+use Rattle.s66_node.specs.declared.node.State.{State}
+use Rattle.s66_node.specs.declared.node.State.TheVariants as state
+use Rattle.s66_node.specs.Nodes.{is_open_state, is_live_state}
+use Rattle.s66_ledger.specs.Nodes.{prefixes, node_at, no_node, HaveDepths, is_out_state, is_out}
 use Rattle.s66_ledger.specs.OpenNodes.{IsOut}
-use Rattle.s66_ledger.specs.Subtrees.{placed, settled, settled_state}
 use Rattle.s66_ledger.specs.LiveNodes.{AreCounted}
 use Rattle.s66_ledger.proofs.OpenHeap.{set-here, set-other}
-use Rattle.s66_ledger.proofs.NodePrefixes.{get_or-front, get_or-last, get_or-past}
+use Rattle.s66_node.proofs.Nodes.{get_or-front, get_or-last}
+use Rattle.s66_ledger.proofs.NodePrefixes.{get_or-past}
 
 pub one : (b c : Bool) → b ≡ c → ◌≡◌ {A = ℕ} (cond b 1 0) (cond c 1 0)
 one b c e = ap (λ t. cond {A = ℕ} t 1 0) e
@@ -99,21 +100,7 @@ room-out (x ∷ nodes) (suc i) lt is = elim (cases_Bool (is_out x)) [
 pub short-live : (nodes : List Node) (out deepest count : ℕ) → AreCounted nodes out deepest → HaveDepths nodes → deepest < count → count ≤ BLOCK_LIMIT → (i : ℕ) → i < length nodes → is_live_state (node_at nodes i).state ≡ true → length (get_or (prefixes nodes) i []) < count
 short-live nodes out deepest count are depths less few i lt live = omega (arith, less, few, are.within i live, depths i lt)
 
--- a subtree's node isn't out, and one that isn't open then is neither
-pub settled-in : (best root first : ℕ) (x node : Node) → x ≡ placed root first (settled best node) → is_out x ≡ false
-settled-in best root first x node is = ap is_out is ∙ settles best node.value node.state
-  where
-    closes : (b : Bool) → is_out_state (cond b state.Closed state.Open) ≡ false
-    closes true = refl
-    closes false = refl
-
-    settles : (best value : ℕ) (s : State) → is_out_state (settled_state best value s) ≡ false
-    settles best value state.Open = refl
-    settles best value state.Out = refl
-    settles best value state.Closed = closes (nat_le best value)
-    settles best value state.Split = refl
-    settles best value state.Dominated = refl
-
+-- a node that isn't open or out
 pub shut-in : (s : State) → is_open_state s ≡ false → is_out_state s ≡ false → is_live_state s ≡ false
 shut-in state.Open shut in_table = absurd cc
 shut-in state.Out shut in_table = absurd cc

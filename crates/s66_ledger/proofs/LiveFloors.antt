@@ -6,10 +6,11 @@ use Rattle.s66_model.specs.Timing.{Problem}
 use Rattle.s66_model.specs.Leaves.{floor_value}
 use Rattle.s66_model.specs.Ledger as model
 use Rattle.s66_model.specs.Coverage.{live_floors}
-use Rattle.s66_ledger.specs.declared.node.Node.{Node}
-use Rattle.s66_ledger.specs.declared.node.State.{State}
-use Rattle.s66_ledger.specs.declared.node.State.TheVariants as state
-use Rattle.s66_ledger.specs.Nodes.{prefixes, seen_state, nodes_at, nodes_of, node_at, HaveFloors, has_floor, is_live_state}
+use Rattle.s66_node.specs.declared.node.Node.{Node}
+use Rattle.s66_node.specs.declared.node.State.{State}
+use Rattle.s66_node.specs.declared.node.State.TheVariants as state
+use Rattle.s66_node.specs.Nodes.{has_floor, is_live_state}
+use Rattle.s66_ledger.specs.Nodes.{prefixes, seen_state, seen_node, seen_at, nodes_of, node_at, HaveFloors}
 use Rattle.s66_ledger.specs.LiveNodes.{live_values}
 use Rattle.s66_ledger.proofs.NodePrefixes.{length-prefixes}
 
@@ -22,12 +23,12 @@ head-live b name at state.Closed v vs ws h e = e
 head-live b name at state.Split v vs ws h e = e
 head-live b name at state.Dominated v vs ws h e = e
 
-live-at : (b : Problem) (before ats : List (List ℕ)) (xs : List Node) → length ats ≡ length xs → ((i : ℕ) → i < length xs → has_floor (node_at xs i).state ≡ true → (node_at xs i).value ≡ floor_value b (get_or ats i [])) → live_floors b (nodes_at b before ats xs) ≡ live_values xs
+live-at : (b : Problem) (before ats : List (List ℕ)) (xs : List Node) → length ats ≡ length xs → ((i : ℕ) → i < length xs → has_floor (node_at xs i).state ≡ true → (node_at xs i).value ≡ floor_value b (get_or ats i [])) → live_floors b (seen_at (seen_node b) before ats xs) ≡ live_values xs
 live-at b before [] [] e h = refl
 live-at b before [] (x ∷ xs) e h = absurd (omega (arith, e))
 live-at b before (a ∷ ats) [] e h = absurd (omega (arith, e))
 live-at b before (a ∷ ats) (x ∷ xs) e h =
-    head-live b (get_or before x.value []) a x.state x.value (live_floors b (nodes_at b (before ++ a ∷ []) ats xs)) (live_values xs) (h 0 (omega arith)) (live-at b (before ++ a ∷ []) ats xs (omega (arith, e)) (λ i lt. h (suc i) (omega (arith, lt))))
+    head-live b (get_or before x.value []) a x.state x.value (live_floors b (seen_at (seen_node b) (before ++ a ∷ []) ats xs)) (live_values xs) (h 0 (omega arith)) (live-at b (before ++ a ∷ []) ats xs (omega (arith, e)) (λ i lt. h (suc i) (omega (arith, lt))))
 
 pub live-same : (b : Problem) (xs : List Node) → HaveFloors b xs → live_floors b (nodes_of b xs) ≡ live_values xs
 live-same b xs h = live-at b [] (prefixes xs) xs (length-prefixes xs) h

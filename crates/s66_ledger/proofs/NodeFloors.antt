@@ -5,10 +5,12 @@ use Rattle.std.proofs.lemmas.List.{length-set}
 use Rattle.s66_isa.proofs.Lists.{cases_le}
 use Rattle.s66_model.specs.Timing.{Problem}
 use Rattle.s66_model.specs.Leaves.{floor_value}
-use Rattle.s66_ledger.specs.declared.node.Node.{Node}
-use Rattle.s66_ledger.specs.declared.node.State.{State}
-use Rattle.s66_ledger.specs.Nodes.{prefixes, node_at, no_node, with_state, has_floor, HaveFloors}
-use Rattle.s66_ledger.proofs.NodePrefixes.{get_or-front, get_or-last, push-front, push-last, prefixes-set}
+use Rattle.s66_node.specs.declared.node.Node.{Node}
+use Rattle.s66_node.specs.declared.node.State.{State}
+use Rattle.s66_node.specs.Nodes.{has_floor}
+use Rattle.s66_ledger.specs.Nodes.{prefixes, node_at, no_node, with_state, HaveFloors}
+use Rattle.s66_node.proofs.Nodes.{get_or-front, get_or-last}
+use Rattle.s66_ledger.proofs.NodePrefixes.{push-front, push-last, prefixes-set}
 use Rattle.s66_ledger.proofs.OpenHeap.{set-here, set-other}
 
 at-front : (xs : List Node) (x : Node) (i : ℕ) → i < length xs → node_at (xs ++ x ∷ []) i ≡ node_at xs i

@@ -3,20 +3,12 @@ use Rattle.std.proofs.Common.{ℕ, zero, suc, ◌+◌, ◌≤◌, ◌<◌, ◌�
 use Rattle.std.proofs.lemmas.Bool.{cases_Bool, lt-ltb, ltb-true}
 use Rattle.std.proofs.lemmas.List.{length-take}
 use Rattle.s66_isa.proofs.Lists.{cases_le}
-use Rattle.s66_ledger.specs.declared.node.Node.{Node}
-use Rattle.s66_ledger.specs.declared.node.State.{State}
-use Rattle.s66_ledger.specs.Nodes.{prefixes_from, prefixes, name_at, lines_of, no_node, node_at, with_state}
+use Rattle.s66_node.specs.declared.node.Node.{Node}
+use Rattle.s66_node.specs.Nodes.{prefixes_from}
+use Rattle.s66_ledger.specs.Nodes.{prefixes, name_at, node_at}
+use Rattle.s66_node.proofs.Nodes.{get_or-front, get_or-last, prefixes_from-push, length-prefixes_from}
 
 -- LISTS
-
-pub get_or-front : {X : Type 0} (xs : List X) (y : X) (i : ℕ) (d : X) → i < length xs → get_or (xs ++ y ∷ []) i d ≡ get_or xs i d
-get_or-front [] y i d lt = absurd (omega arith)
-get_or-front (x ∷ xs) y zero d lt = refl
-get_or-front (x ∷ xs) y (suc i) d lt = get_or-front xs y i d (omega arith)
-
-pub get_or-last : {X : Type 0} (xs : List X) (y d : X) → get_or (xs ++ y ∷ []) (length xs) d ≡ y
-get_or-last [] y d = refl
-get_or-last (x ∷ xs) y d = get_or-last xs y d
 
 pub get_or-past : {X : Type 0} (xs : List X) (i : ℕ) (d : X) → length xs ≤ i → get_or xs i d ≡ d
 get_or-past [] i d le = refl
@@ -31,18 +23,9 @@ get_or-any (x ∷ xs) (suc i) d e f lt = get_or-any xs i d e f (omega arith)
 
 -- ONE NODE MORE
 
-prefixes_from-push : (made : List (List ℕ)) (xs : List Node) (x : Node) → prefixes_from made (xs ++ x ∷ []) ≡ prefixes_from made xs ++ (get_or (prefixes_from made xs) x.parent [] ++ x.number ∷ []) ∷ []
-prefixes_from-push made [] x = refl
-prefixes_from-push made (y ∷ xs) x = prefixes_from-push (made ++ (get_or made y.parent [] ++ y.number ∷ []) ∷ []) xs x
-
 pub prefixes-push : (xs : List Node) (x : Node) → 0 < length xs → prefixes (xs ++ x ∷ []) ≡ prefixes xs ++ (get_or (prefixes xs) x.parent [] ++ x.number ∷ []) ∷ []
 prefixes-push [] x some = absurd (omega arith)
 prefixes-push (y ∷ xs) x some = prefixes_from-push ([] ∷ []) xs x
-
-length-prefixes_from : (made : List (List ℕ)) (xs : List Node) → length (prefixes_from made xs) ≡ length made + length xs
-length-prefixes_from made [] = omega arith
-length-prefixes_from made (x ∷ xs) =
-    omega (arith, length-prefixes_from (made ++ (get_or made x.parent [] ++ x.number ∷ []) ∷ []) xs, length-append made ((get_or made x.parent [] ++ x.number ∷ []) ∷ []))
 
 pub length-prefixes : (xs : List Node) → length (prefixes xs) ≡ length xs
 length-prefixes [] = refl
@@ -71,15 +54,6 @@ pub prefixes-set : (xs : List Node) (i : ℕ) (y d : Node) → y.parent ≡ (get
 prefixes-set [] i y d e f = refl
 prefixes-set (x ∷ xs) zero y d e f = refl
 prefixes-set (x ∷ xs) (suc i) y d e f = prefixes_from-set ([] ∷ []) xs i y d e f
-
--- a node with its line too
-pub lines-set : (xs : List Node) (i : ℕ) (y d : Node) → y.line ≡ (get_or xs i d).line → lines_of (set xs i y) ≡ lines_of xs
-lines-set [] i y d e = refl
-lines-set (x ∷ xs) zero y d e = ap (λ line. line ∷ lines_of xs) e
-lines-set (x ∷ xs) (suc i) y d e = ap (λ lines. x.line ∷ lines) (lines-set xs i y d e)
-
-pub lines-state : (xs : List Node) (i : ℕ) (s : State) → lines_of (with_state xs i s) ≡ lines_of xs
-lines-state xs i s = lines-set xs i (record (node_at xs i) { state = s }) no_node refl
 
 -- UP TO THE PARENT
 

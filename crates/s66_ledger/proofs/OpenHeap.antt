@@ -9,12 +9,14 @@ use Rattle.std.specs.List.{All, sum_by}
 use Rattle.std.specs.List.Sorted.{IsPermutation}
 use Rattle.s66_isa.specs.Lists.{tally}
 use Rattle.s66_isa.proofs.Lists.{tally-set, tally-append, cases_le}
-use Rattle.s66_ledger.specs.declared.node.Node.{Node}
-use Rattle.s66_ledger.specs.declared.node.State.{State}
-use Rattle.s66_ledger.specs.declared.node.State.TheVariants as state
+use Rattle.s66_node.specs.declared.node.Node.{Node}
+use Rattle.s66_node.specs.declared.node.State.{State}
+use Rattle.s66_node.specs.declared.node.State.TheVariants as state
 use Rattle.s66_ledger.specs.declared.limits.TheConstants.{DEPTH_RANKS}
-use Rattle.s66_ledger.specs.Nodes.{no_node, node_at, is_open_state, is_open}
-use Rattle.s66_ledger.proofs.NodePrefixes.{get_or-front, get_or-last, get_or-past}
+use Rattle.s66_node.specs.Nodes.{is_open_state}
+use Rattle.s66_ledger.specs.Nodes.{no_node, node_at, is_open}
+use Rattle.s66_node.proofs.Nodes.{get_or-front, get_or-last}
+use Rattle.s66_ledger.proofs.NodePrefixes.{get_or-past}
 use Rattle.s66_ledger.specs.OpenNodes.{ranked, rank_of, IsRanked, AreOpenNodes}
 
 abbrev pub Entry : Type 0

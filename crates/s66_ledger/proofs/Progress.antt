@@ -18,8 +18,7 @@ use Rattle.s66_model.specs.Tickets.{TicketOf}
 use Rattle.s66_ledger.specs.ClaimedNodes.{IsLeastOpen}
 use Rattle.s66_ledger.specs.LedgerMachine.{MachineOf, IsMove}
 use Rattle.s66_model.proofs.LedgerSteps.{root-stands}
-use Rattle.s66_ledger.proofs.Opened.{same-splits}
-use Rattle.s66_ledger.specs.Opened.{with_lines}
+use Rattle.s66_ledger.proofs.Taken.{same-splits}
 use Rattle.s66_ledger.specs.GraftMoves.{IsTakenMove}
 use Rattle.s66_ledger.specs.PieceSplits.{piece_splits}
 use Rattle.s66_ledger.specs.Finishing.{IsSearched, IsBetween, IsOffering, still_to_go}
@@ -79,10 +78,10 @@ taken-less old mid new ticket piece covers offers at_most grafts gains =
     let (some, fits, holds, is) = graft-step mid new ticket piece grafts in
     let falls : best_time old.problem mid.state ≤ best_time old.problem old.state = run-falls old.rule old.problem history old.state mid.state run in
     let best : best_time new.problem new.state ≡ best_time old.problem mid.state = ap (λ p. best_time p new.state) (problem2 ∙ problem) ∙ ap (best_time old.problem) is in
-    let spent : new.state.spent ≡ old.state.spent + splits (tree_of (with_lines piece grafts.taken)) = omega (arith, ap (λ (l : Ledger). l.spent) is, ap (λ (l : Ledger). l.spent) offers.same) in
-    let room : old.state.spent + splits (tree_of (with_lines piece grafts.taken)) ≤ old.budget = omega (arith, covers.sum, fits, at-most-all old.state.allowances 0, ap (λ (l : Ledger). allowance l 1) offers.same) in
+    let spent : new.state.spent ≡ old.state.spent + splits grafts.part = omega (arith, ap (λ (l : Ledger). l.spent) is, ap (λ (l : Ledger). l.spent) offers.same) in
+    let room : old.state.spent + splits grafts.part ≤ old.budget = omega (arith, covers.sum, fits, at-most-all old.state.allowances 0, ap (λ (l : Ledger). allowance l 1) offers.same) in
     elim gains [
-      | inl split ↦ omega (arith, split, same-splits (tree_of piece) (tree_of (with_lines piece grafts.taken)) grafts.opens, falls, best, spent, room, budget, budget2)
+      | inl split ↦ omega (arith, split, same-splits (tree_of piece) grafts.part grafts.taken.opens, falls, best, spent, room, budget, budget2)
       | inr lower ↦
           omega (
             arith,

@@ -1,19 +1,22 @@
 -- A move of the machine with its entry is an event, and the history leads on; what its accounts spend adds up.
-use Rattle.std.proofs.Common.{ℕ, ◌+◌, ◌≡◌, ◌≢◌, ◌≤◌, ◌<◌, ◌∙◌, Bool, true, false, true≢false, List, [], ◌∷◌, ◌++◌, Some, None, map, take, drop, length, length-append, append_assoc, refl, ap, sym, subst, arith}
+use Rattle.std.proofs.Common.{ℕ, ◌+◌, ◌≡◌, ◌≢◌, ◌≤◌, ◌<◌, ◌∙◌, Bool, true, false, true≢false, List, [], ◌∷◌, ◌++◌, Some, None, map, take, drop, length, get_or, length-append, append_assoc, refl, ap, sym, subst, arith}
 use Rattle.std.proofs.Math.Seq.{take-length, take-append_seam, take-append-add}
 use Rattle.std.proofs.lemmas.List.{append-nil, nil_from_length, take-append-le, drop-append-le, length-drop, length-take, length-map, take-append-drop}
 use Rattle.s66_isa.specs.Lists.{weigh, rising}
 use Rattle.s66_isa.proofs.Lists.{weigh-append}
 use Rattle.s66_model.specs.declared.rule.Rule.{Rule}
 use Rattle.s66_model.specs.Timing.{Problem, total_of}
-use Rattle.s66_model.specs.Tree.{Tree, Vertex, splits}
-use Rattle.s66_model.specs.Stated.{Stated}
-use Rattle.s66_model.specs.Piece.{Terminal}
-use Rattle.s66_model.specs.Ledger.{Ledger, Node, Event, Graft, Offer, Reply, Taken, Moves, Run, opening}
+use Rattle.s66_model.specs.Tree.{Tree, Vertex, flat, splits}
+use Rattle.s66_model.specs.Piece.{Terminal, Frontier}
+use Rattle.s66_model.specs.Ledger.{Ledger, Event, Graft, Offer, Reply, Taken, Moves, Run, opening}
 use Rattle.s66_model.specs.Recorded.{IsOwn, IsOwnPiece, IsOfferOf, graft_event}
 use Rattle.s66_model.specs.Accounts.{Account, account_of}
 use Rattle.s66_model.proofs.Histories.{run-next, history-spent}
-use Rattle.s66_node.specs.Skeletons.{line_byte, line_name, names_of, skeleton_of, skeleton_prefix, skeleton_tree}
+use Rattle.s66_model.specs.Preorder.{read_tree}
+use Rattle.s66_model.proofs.Forests.{read-flat}
+use Rattle.s66_node.specs.declared.node.Node.{Node}
+use Rattle.s66_node.specs.declared.node.State.{State}
+use Rattle.s66_node.specs.Nodes.{line_of}
 use Rattle.s66_node.specs.Pieces.{PieceOf, tree_of}
 use Rattle.s66_ledger.specs.declared.entry.Entry.{Entry}
 use Rattle.s66_ledger.specs.declared.entry.Refusal.{Refusal}
@@ -23,45 +26,37 @@ use Rattle.s66_ledger.specs.declared.reply.Offered.TheVariants as offered
 use Rattle.s66_ledger.specs.Replies.{offered_reply}
 use Rattle.s66_ledger.specs.HistoryEntries.{byte_count, line_count, entry_of, entries_of, refusal_reply, error_of}
 use Rattle.s66_ledger.specs.LedgerMachine.{MachineOf, IsMove}
-use Rattle.s66_ledger.specs.declared.node.Node as node
-use Rattle.s66_ledger.specs.Subtrees.{IsSubtreeOf, lines_below, root_bytes}
-use Rattle.s66_ledger.specs.Opened.{open_line, opened, with_lines}
-use Rattle.s66_ledger.specs.DominatedNodes.{state_name, names_in}
-use Rattle.s66_ledger.proofs.Names.{take-map, is_taken, still-named}
 use Rattle.s66_ledger.specs.GraftMoves.{IsGraftMove, IsRefusedMove, taken_event, IsTakenMove}
 use Rattle.s66_ledger.specs.Grafts.{IsGraftAt, IsRefusedGraftAt}
-use Rattle.s66_ledger.proofs.Opened.{same-splits, open-nameless}
+use Rattle.s66_ledger.specs.Nodes.{no_node, node_at}
+use Rattle.s66_ledger.specs.Grafting.{opened_state, IsTakenAs}
+use Rattle.s66_ledger.proofs.NodePrefixes.{get_or-any}
+use Rattle.s66_ledger.proofs.Taken.{same-splits}
 use Rattle.s66_ledger.specs.Ledgers.{LedgerOf, IsEvent, IsRecorded, events_of, account_summary, with_history}
 
--- the next entry comes with its own bytes, and those of its lines with their names
-entries-next : (b : Problem) (before : List Entry) (bytes lines : List ℕ) (names : List (List ℕ)) (entry : Entry) (own own_lines : List ℕ) (own_names : List (List ℕ)) → weigh byte_count before ≡ length bytes → weigh line_count before ≡ length lines → weigh line_count before ≡ length names → byte_count entry ≡ length own → line_count entry ≡ length own_lines → line_count entry ≡ length own_names → entries_of b (before ++ entry ∷ []) (bytes ++ own) (lines ++ own_lines) (names ++ own_names) ≡ entries_of b before bytes lines names ++ entry_of b entry own own_lines own_names ∷ []
-entries-next b [] bytes lines names entry own own_lines own_names all all_lines all_names counted lines_counted names_counted =
-    rw (nil_from_length bytes (sym all), nil_from_length lines (sym all_lines), nil_from_length names (sym all_names))
-    (ap (λ k. entry_of b entry (take k own) (take (line_count entry) own_lines) (take (line_count entry) own_names) ∷ []) counted
-    ∙ (ap (λ k. entry_of b entry (take (length own) own) (take k own_lines) (take (line_count entry) own_names) ∷ []) lines_counted
-    ∙ (ap (λ k. entry_of b entry (take (length own) own) (take (length own_lines) own_lines) (take k own_names) ∷ []) names_counted
-    ∙ rw (take-length own, take-length own_lines, take-length own_names) refl)))
-entries-next b (e ∷ es) bytes lines names entry own own_lines own_names all all_lines all_names counted lines_counted names_counted =
+-- the next entry comes with its own bytes and lines
+entries-next : (b : Problem) (before : List Entry) (bytes : List ℕ) (lines : List (Vertex Terminal)) (entry : Entry) (own : List ℕ) (own_lines : List (Vertex Terminal)) → weigh byte_count before ≡ length bytes → weigh line_count before ≡ length lines → byte_count entry ≡ length own → line_count entry ≡ length own_lines → entries_of b (before ++ entry ∷ []) (bytes ++ own) (lines ++ own_lines) ≡ entries_of b before bytes lines ++ entry_of b entry own own_lines ∷ []
+entries-next b [] bytes lines entry own own_lines all all_lines counted lines_counted =
+    rw (nil_from_length bytes (sym all), nil_from_length lines (sym all_lines))
+    (ap (λ k. entry_of b entry (take k own) (take (line_count entry) own_lines) ∷ []) counted
+    ∙ (ap (λ k. entry_of b entry (take (length own) own) (take k own_lines) ∷ []) lines_counted
+    ∙ rw (take-length own, take-length own_lines) refl))
+entries-next b (e ∷ es) bytes lines entry own own_lines all all_lines counted lines_counted =
     let within : byte_count e ≤ length bytes = omega (arith, all) in
     let lines_within : line_count e ≤ length lines = omega (arith, all_lines) in
-    let names_within : line_count e ≤ length names = omega (arith, all_names) in
     let rest : weigh byte_count es ≡ length (drop (byte_count e) bytes) = omega (arith, all, length-drop (byte_count e) bytes) in
     let lines_rest : weigh line_count es ≡ length (drop (line_count e) lines) = omega (arith, all_lines, length-drop (line_count e) lines) in
-    let names_rest : weigh line_count es ≡ length (drop (line_count e) names) = omega (arith, all_names, length-drop (line_count e) names) in
-    rw (take-append-le (byte_count e) bytes own within, drop-append-le (byte_count e) bytes own within, take-append-le (line_count e) lines own_lines lines_within, drop-append-le (line_count e) lines own_lines lines_within, take-append-le (line_count e) names own_names names_within, drop-append-le (line_count e) names own_names names_within)
-    (ap (λ stated. entry_of b e (take (byte_count e) bytes) (take (line_count e) lines) (take (line_count e) names) ∷ stated) (entries-next b es (drop (byte_count e) bytes) (drop (line_count e) lines) (drop (line_count e) names) entry own own_lines own_names rest lines_rest names_rest counted lines_counted names_counted))
+    rw (take-append-le (byte_count e) bytes own within, drop-append-le (byte_count e) bytes own within, take-append-le (line_count e) lines own_lines lines_within, drop-append-le (line_count e) lines own_lines lines_within)
+    (ap (λ stated. entry_of b e (take (byte_count e) bytes) (take (line_count e) lines) ∷ stated) (entries-next b es (drop (byte_count e) bytes) (drop (line_count e) lines) entry own own_lines rest lines_rest counted lines_counted))
 
--- room is reserved, and the entry pushed with its own bytes; the machine has its lines, with their names
-module _ (m next : MachineOf) (before reserved after : List Entry) (bytes all : List ℕ) (entry : Entry) (own own_lines : List ℕ) (own_names : List (List ℕ)) (event : Event) (reply : Reply) (moved : IsMove m event reply next) (more : next.lines ≡ m.lines ++ own_lines) (named : names_in next.state.nodes ≡ names_in m.state.nodes ++ own_names) (is : entry_of m.problem entry own own_lines own_names ≡ (event, reply)) (same : reserved ≡ before) (pushed : after ≡ reserved ++ entry ∷ []) (put : all ≡ bytes ++ own) (counted : byte_count entry ≡ length own) (lines_counted : line_count entry ≡ length own_lines) (names_counted : line_count entry ≡ length own_names) (kept : IsRecorded (with_history m before bytes)) where
+-- room is reserved, and the entry pushed with its own bytes; the machine has its lines
+module _ (m next : MachineOf) (before reserved after : List Entry) (bytes all : List ℕ) (entry : Entry) (own : List ℕ) (own_lines : List (Vertex Terminal)) (event : Event) (reply : Reply) (moved : IsMove m event reply next) (more : next.lines ≡ m.lines ++ own_lines) (is : entry_of m.problem entry own own_lines ≡ (event, reply)) (same : reserved ≡ before) (pushed : after ≡ reserved ++ entry ∷ []) (put : all ≡ bytes ++ own) (counted : byte_count entry ≡ length own) (lines_counted : line_count entry ≡ length own_lines) (kept : IsRecorded (with_history m before bytes)) where
   events-on : events_of (with_history next after all) ≡ events_of (with_history m before bytes) ++ (event, reply) ∷ []
   events-on =
       let lines : weigh line_count before ≡ length (drop 1 m.lines) = omega (arith, kept.lines, length-drop 1 m.lines) in
-      let before_names = names_in m.state.nodes in
-      let as_many : length before_names ≡ length m.lines = length-map m.state.nodes (λ (n : Node). state_name n.state) ∙ kept.nodes in
-      let names : weigh line_count before ≡ length (drop 1 before_names) = omega (arith, kept.lines, as_many, length-drop 1 before_names) in
-      ap (λ (p : Problem). entries_of p after all (drop 1 next.lines) (drop 1 (names_in next.state.nodes))) moved.0
-      ∙ (rw (pushed, same, put, more, named, drop-append-le 1 m.lines own_lines (omega (arith, kept.lines)), drop-append-le 1 before_names own_names (omega (arith, kept.lines, as_many)))
-      (entries-next m.problem before bytes (drop 1 m.lines) (drop 1 before_names) entry own own_lines own_names kept.bytes lines names counted lines_counted names_counted)
+      ap (λ (p : Problem). entries_of p after all (drop 1 next.lines)) moved.0
+      ∙ (rw (pushed, same, put, more, drop-append-le 1 m.lines own_lines (omega (arith, kept.lines)))
+      (entries-next m.problem before bytes (drop 1 m.lines) entry own own_lines kept.bytes lines counted lines_counted)
       ∙ ap (λ (e : Event × Reply). events_of (with_history m before bytes) ++ e ∷ []) is)
 
   pub recorded : IsRecorded (with_history next after all)
@@ -80,31 +75,26 @@ module _ (m next : MachineOf) (before reserved after : List Entry) (bytes all : 
             omega (arith, ap (weigh byte_count) pushed, ap (λ es. weigh byte_count (es ++ entry ∷ [])) same, weigh-append byte_count before (entry ∷ []), ap length put, length-append bytes own, kept.bytes, counted);
         lines =
             omega (arith, ap (weigh line_count) pushed, ap (λ es. weigh line_count (es ++ entry ∷ [])) same, weigh-append line_count before (entry ∷ []), ap length more, length-append m.lines own_lines, kept.lines, lines_counted);
-        nodes =
-            omega (arith, ap length more, length-append m.lines own_lines, kept.nodes, lines_counted, names_counted, ap length named, length-append (names_in m.state.nodes) own_names, length-map m.state.nodes (λ (n : Node). state_name n.state), length-map next.state.nodes (λ (n : Node). state_name n.state));
       }
 
   pub recorded-event : IsEvent (with_history m before bytes) event reply (with_history next after all)
   recorded-event = (moved.0, moved.1, moved.2, moved.3, events-on, moved.4)
 
 -- an entry without lines
-module _ (m next : MachineOf) (before reserved after : List Entry) (bytes all : List ℕ) (entry : Entry) (own : List ℕ) (event : Event) (reply : Reply) (moved : IsMove m event reply next) (still : next.lines ≡ m.lines) (quiet : is_taken reply ≡ false) (is : entry_of m.problem entry own [] [] ≡ (event, reply)) (same : reserved ≡ before) (pushed : after ≡ reserved ++ entry ∷ []) (put : all ≡ bytes ++ own) (counted : byte_count entry ≡ length own) (none : line_count entry ≡ 0) (kept : IsRecorded (with_history m before bytes)) where
-  nameless : names_in next.state.nodes ≡ names_in m.state.nodes ++ []
-  nameless = still-named m.rule m.problem m.state event reply next.state moved.3.1 quiet ∙ sym (append-nil (names_in m.state.nodes))
-
+module _ (m next : MachineOf) (before reserved after : List Entry) (bytes all : List ℕ) (entry : Entry) (own : List ℕ) (event : Event) (reply : Reply) (moved : IsMove m event reply next) (still : next.lines ≡ m.lines) (is : entry_of m.problem entry own [] ≡ (event, reply)) (same : reserved ≡ before) (pushed : after ≡ reserved ++ entry ∷ []) (put : all ≡ bytes ++ own) (counted : byte_count entry ≡ length own) (none : line_count entry ≡ 0) (kept : IsRecorded (with_history m before bytes)) where
   pub recorded-lineless : IsRecorded (with_history next after all)
-  recorded-lineless = recorded m next before reserved after bytes all entry own [] [] event reply moved (still ∙ sym (append-nil m.lines)) nameless is same pushed put counted none none kept
+  recorded-lineless = recorded m next before reserved after bytes all entry own [] event reply moved (still ∙ sym (append-nil m.lines)) is same pushed put counted none kept
 
   pub event-lineless : IsEvent (with_history m before bytes) event reply (with_history next after all)
-  event-lineless = recorded-event m next before reserved after bytes all entry own [] [] event reply moved (still ∙ sym (append-nil m.lines)) nameless is same pushed put counted none none kept
+  event-lineless = recorded-event m next before reserved after bytes all entry own [] event reply moved (still ∙ sym (append-nil m.lines)) is same pushed put counted none kept
 
 -- an entry without bytes
-module _ (m next : MachineOf) (before reserved after : List Entry) (bytes : List ℕ) (entry : Entry) (event : Event) (reply : Reply) (moved : IsMove m event reply next) (still : next.lines ≡ m.lines) (quiet : is_taken reply ≡ false) (is : entry_of m.problem entry [] [] [] ≡ (event, reply)) (same : reserved ≡ before) (pushed : after ≡ reserved ++ entry ∷ []) (none : byte_count entry ≡ 0) (lineless : line_count entry ≡ 0) (kept : IsRecorded (with_history m before bytes)) where
+module _ (m next : MachineOf) (before reserved after : List Entry) (bytes : List ℕ) (entry : Entry) (event : Event) (reply : Reply) (moved : IsMove m event reply next) (still : next.lines ≡ m.lines) (is : entry_of m.problem entry [] [] ≡ (event, reply)) (same : reserved ≡ before) (pushed : after ≡ reserved ++ entry ∷ []) (none : byte_count entry ≡ 0) (lineless : line_count entry ≡ 0) (kept : IsRecorded (with_history m before bytes)) where
   pub recorded-alone : IsRecorded (with_history next after bytes)
-  recorded-alone = recorded-lineless m next before reserved after bytes bytes entry [] event reply moved still quiet is same pushed (sym (append-nil bytes)) none lineless kept
+  recorded-alone = recorded-lineless m next before reserved after bytes bytes entry [] event reply moved still is same pushed (sym (append-nil bytes)) none lineless kept
 
   pub event-alone : IsEvent (with_history m before bytes) event reply (with_history next after bytes)
-  event-alone = event-lineless m next before reserved after bytes bytes entry [] event reply moved still quiet is same pushed (sym (append-nil bytes)) none lineless kept
+  event-alone = event-lineless m next before reserved after bytes bytes entry [] event reply moved still is same pushed (sym (append-nil bytes)) none lineless kept
 
 -- WHETHER A PIECE OR AN ORDER IS THE LEDGER'S
 
@@ -148,17 +138,23 @@ offer-entry b p w order numbers own time reply event owns same total (other, oth
     ∙ (ap (λ o. stated (Offer w o order (total_of p order)) reply) (own-same b p own other owns others)
     ∙ ap (λ e. stated e reply) (sym is)))
 
+-- a piece has a root
+pub root-state : (p : PieceOf) (nodes : List Node) (d : Node) (part : Tree Terminal) → IsTakenAs p part → nodes ≡ p.nodes → opened_state (get_or nodes 0 d).state ≡ opened_state (node_at p.nodes 0).state
+root-state p nodes d part h is =
+    let some : 0 < length nodes = omega (arith, ap length is, h.count, ap length h.root, length-take 1 (flat part)) in
+    get_or-any nodes 0 d no_node (λ (n : Node). opened_state n.state) some ∙ ap (λ xs. opened_state (node_at xs 0).state) is
+
 module _ (m next : MachineOf) (w i : ℕ) (p : PieceOf) (count : ℕ) (counts : count ≡ splits (tree_of p)) where
-  -- the bytes of the root and of the lines below it, and their names, determine what is taken of the piece
-  pub taken-entry : (skeleton : List ℕ) (names : List (List ℕ)) (depth : ℕ) (h : IsTakenMove m w i p next) → skeleton ≡ skeleton_of (with_lines p h.taken) → names ≡ names_of (with_lines p h.taken) → depth ≡ length p.prefix → stated (Graft w i true (skeleton_prefix depth skeleton) count (Some (skeleton_tree m.problem depth skeleton names))) Taken ≡ stated (taken_event w i p h.taken) Taken
-  taken-entry skeleton names depth h all named deep =
-      let whole : Tree Terminal = tree_of (with_lines p h.taken) in
-      let same_count : count ≡ splits whole = counts ∙ same-splits (tree_of p) whole h.opens in
-      let prefix : skeleton_prefix depth skeleton ≡ p.prefix = rw (all, deep) h.skeleton.0 in
-      let tree : skeleton_tree m.problem depth skeleton names ≡ whole = ap (λ b. skeleton_tree b depth skeleton names) (sym h.problem) ∙ rw (all, named, deep) h.skeleton.1 in
-      ap (λ t. stated (Graft w i true (skeleton_prefix depth skeleton) count (Some t)) Taken) tree
-      ∙ (ap (λ n. stated (Graft w i true (skeleton_prefix depth skeleton) n (Some whole)) Taken) same_count
-      ∙ ap (λ at. stated (Graft w i true at (splits whole) (Some whole)) Taken) prefix)
+  -- the root's state and the lines below it determine what is taken of the piece
+  pub taken-entry : (prefix : List ℕ) (root : State) (h : IsTakenMove m w i p next) → prefix ≡ p.prefix → root ≡ opened_state (node_at p.nodes 0).state →
+      stated (Graft w i true prefix count (Some (read_tree Frontier (line_of m.problem [] prefix root ∷ drop 1 (flat h.part))))) Taken ≡ stated (taken_event w i p h.part) Taken
+  taken-entry prefix root h over is =
+      let all : line_of m.problem [] prefix root ∷ drop 1 (flat h.part) ≡ flat h.part =
+      rw (over, is, sym h.problem) (ap (λ ks. ks ++ drop 1 (flat h.part)) (sym h.taken.root) ∙ take-append-drop 1 (flat h.part)) in
+      let tree : read_tree Frontier (line_of m.problem [] prefix root ∷ drop 1 (flat h.part)) ≡ h.part = ap (read_tree Frontier) all ∙ read-flat Frontier h.part h.taken.match in
+      ap (λ t. stated (Graft w i true prefix count (Some t)) Taken) tree
+      ∙ (ap (λ n. stated (Graft w i true prefix n (Some h.part)) Taken) (counts ∙ same-splits (tree_of p) h.part h.taken.opens)
+      ∙ ap (λ at. stated (Graft w i true at (splits h.part) (Some h.part)) Taken) over)
 
   pub refused-move : (why : Refusal) → IsRefusedMove m w i p (error_of why) next → IsGraftMove m w i p (refusal_reply why) next
   refused-move refusal.NotOut h = h
@@ -175,67 +171,6 @@ module _ (m next : MachineOf) (w i : ℕ) (p : PieceOf) (count : ℕ) (counts : 
       without-tree refusal.NotOut = refl
       without-tree refusal.OtherPrefix = refl
       without-tree refusal.OverAllowance = refl
-
--- the bytes of a root are put after those that are stored, and its line's taken off
-pub prefix-kept : (p : PieceOf) (kept put left : List ℕ) (n depth : ℕ) → put ≡ kept ++ root_bytes p → n ≡ length kept → depth ≡ length p.prefix → left ≡ take (n + depth) put → left ≡ kept ++ p.prefix
-prefix-kept p kept put left n depth is count deep cut =
-    cut ∙ (rw (is, count, deep) (take-append-add kept (root_bytes p) (length p.prefix)) ∙ ap (λ at. kept ++ at) (take-append_seam p.prefix (take 1 (map line_byte p.vertices))))
-
--- a piece's root has a line
-pub root-counted : (p : PieceOf) → 0 < length p.vertices → length p.prefix + 1 ≡ length (root_bytes p)
-root-counted p some =
-    omega (arith, some, length-append p.prefix (take 1 (map line_byte p.vertices)), length-take 1 (map line_byte p.vertices), length-map p.vertices line_byte)
-
-pub root-skeleton : (p : PieceOf) → root_bytes p ++ lines_below p ≡ skeleton_of p
-root-skeleton p =
-    append_assoc p.prefix (take 1 (map line_byte p.vertices)) (lines_below p) ∙ ap (λ lines. p.prefix ++ lines) (take-append-drop 1 (map line_byte p.vertices))
-
--- THE LINES THAT ARE TAKEN
-
-module _ (m next : MachineOf) (w i : ℕ) (p : PieceOf) (nodes : List node.Node) (of : IsSubtreeOf (opened p) nodes) (h : IsTakenMove m w i p next) where
-  abbrev pub taken_piece : PieceOf
-  taken_piece = with_lines p h.taken
-
-  some : 0 < length h.taken
-  some = omega (arith, of.count, h.count, length-map p.vertices open_line)
-
-  -- the root's is the same
-  pub taken-root : root_bytes (opened p) ≡ root_bytes taken_piece
-  taken-root =
-      ap (λ bytes. p.prefix ++ bytes) (take-map line_byte (opened p).vertices ∙ (ap (map line_byte) (sym h.root) ∙ sym (take-map line_byte h.taken)))
-
-  pub taken-root_counted : length p.prefix + 1 ≡ length (root_bytes taken_piece)
-  taken-root_counted = root-counted taken_piece some
-
-  -- a node for each line below the root, with its byte and its name
-  pub taken-lines_counted : length nodes ≡ length (lines_below taken_piece)
-  taken-lines_counted = omega (arith, of.count, h.count, length-map p.vertices open_line, length-drop 1 (map line_byte h.taken), length-map h.taken line_byte)
-
-  pub taken-names_counted : length nodes ≡ length (drop 1 (names_of taken_piece))
-  taken-names_counted = omega (arith, of.count, h.count, length-map p.vertices open_line, length-drop 1 (names_of taken_piece), length-map h.taken line_name)
-
-  -- the root has no name
-  pub taken-names : [] ∷ drop 1 (names_of taken_piece) ≡ names_of taken_piece
-  taken-names = by h.taken p.vertices h.root some
-    where
-      by : (ts ks : List (Vertex Stated)) → take 1 ts ≡ take 1 (map open_line ks) → 0 < length ts → [] ∷ drop 1 (map line_name ts) ≡ map line_name ts
-      by [] ks is lt = absurd (omega arith)
-      by (t ∷ ts) [] is lt = absurd cc
-      by (t ∷ ts) (k ∷ ks) is lt =
-          let first : t ≡ open_line k = cc in
-          ap (λ name. name ∷ map line_name ts) (sym (ap line_name first ∙ open-nameless k))
-
--- A REFUSAL takes nothing
-
-pub refused-quiet : (why : Refusal) → is_taken (refusal_reply why) ≡ false
-refused-quiet refusal.NotOut = refl
-refused-quiet refusal.OtherPrefix = refl
-refused-quiet refusal.OverAllowance = refl
-
-pub offered-quiet : (answer : Offered) → is_taken (offered_reply answer) ≡ false
-offered-quiet offered.Lower = refl
-offered-quiet (offered.NotLower least) = refl
-offered-quiet offered.OtherBlock = refl
 
 pub refused-at : (old new : LedgerOf) (w i : ℕ) (p : PieceOf) (why : Refusal) → IsGraftAt old w i p (refusal_reply why) new → IsRefusedGraftAt old w i p (error_of why) new
 refused-at old new w i p refusal.NotOut h = h

@@ -21,9 +21,8 @@ use Rattle.s66_model.specs.Coverage.{Covers}
 use Rattle.s66_node.specs.Pieces.{PieceOf, tree_of}
 use Rattle.s66_model.specs.Tickets.{TicketOf}
 use Rattle.s66_ledger.specs.LedgerMachine.{MachineOf, IsMove}
-use Rattle.s66_ledger.specs.Opened.{with_lines}
 use Rattle.s66_ledger.specs.GraftMoves.{IsGraftMove, taken_event, IsTakenMove}
-use Rattle.s66_ledger.proofs.Opened.{same-splits, same-wholes}
+use Rattle.s66_ledger.proofs.Taken.{same-splits, same-wholes}
 use Rattle.s66_ledger.specs.Finishing.{Leads, NoneOut, IsIdle, IsBetween, IsWithin, IsOffering, still_to_go}
 use Rattle.s66_ledger.proofs.Leading.{event-leads, leads-on, leads-nowhere, leads-fall}
 use Rattle.s66_ledger.proofs.TimedWholes.{wholes-offered, wholes-moved, wholes-grafted}
@@ -214,11 +213,11 @@ offer-to-go old new offers =
 
 -- A GRAFT
 
-pub graft-step : (old new : MachineOf) (ticket : TicketOf) (piece : PieceOf) → (h : IsTakenMove old 1 ticket.node piece new) → (1 ≤ length old.state.allowances) × (splits (tree_of (with_lines piece h.taken)) ≤ allowance old.state 1) × IsPiece old.rule old.problem piece.prefix (tree_of (with_lines piece h.taken)) × (new.state ≡ after_graft old.problem old.state 1 ticket.node piece.prefix (tree_of (with_lines piece h.taken)))
+pub graft-step : (old new : MachineOf) (ticket : TicketOf) (piece : PieceOf) → (h : IsTakenMove old 1 ticket.node piece new) → (1 ≤ length old.state.allowances) × (splits h.part ≤ allowance old.state 1) × IsPiece old.rule old.problem piece.prefix h.part × (new.state ≡ after_graft old.problem old.state 1 ticket.node piece.prefix h.part)
 graft-step old new ticket piece h = (h.move.3.0.1, h.move.3.1.2, h.move.3.1.4, h.move.3.1.5)
 
 pub leads-graft : (old new : MachineOf) (ticket : TicketOf) (piece : PieceOf) → IsTakenMove old 1 ticket.node piece new → Leads old new
-leads-graft old new ticket piece h = event-leads old new (taken_event 1 ticket.node piece h.taken) Taken h.move
+leads-graft old new ticket piece h = event-leads old new (taken_event 1 ticket.node piece h.part) Taken h.move
 
 -- of a piece whose whole orders aren't below the best time
 pub graft-between : (old new : MachineOf) (ticket : TicketOf) (piece : PieceOf) → IsWithin old.problem old.state ticket → ((order : List ℕ) → Among order (whole_orders piece.prefix (tree_of piece)) → best_time old.problem old.state ≤ total_of old.problem order) → IsTakenMove old 1 ticket.node piece new → IsBetween new.problem new.state
@@ -226,8 +225,8 @@ graft-between old new ticket piece within each h =
     let b = old.problem in
     let l = old.state in
     let i = ticket.node in
-    let tree = tree_of (with_lines piece h.taken) in
-    let same : whole_orders piece.prefix (tree_of piece) ≡ whole_orders piece.prefix tree = same-wholes piece.prefix (tree_of piece) tree h.opens in
+    let tree = h.part in
+    let same : whole_orders piece.prefix (tree_of piece) ≡ whole_orders piece.prefix tree = same-wholes piece.prefix (tree_of piece) tree h.taken.opens in
     let best = best_time b l in
     let taken = graft-step old new ticket piece h in
     let root : Node = record { prefix = (node_at l.nodes i).prefix; state = root_state b best piece.prefix tree } in

@@ -1,86 +1,151 @@
--- A piece that is taken with some of its dominated prefixes put into the frontier.
-use Rattle.std.proofs.Common.{ℕ, ◌≡◌, Bool, true, false, cond, eqb, List, [], ◌∷◌, ◌++◌, refl, sym, ap, inl, inr, ◌∙◌, ◌⊎◌, subst, Option, None}
+-- A piece that is taken with some of its dominated prefixes left open.
+use Rattle.std.proofs.Common.{ℕ, ◌+◌, ◌≡◌, ◌≢◌, Bool, true, false, cond, eqb, List, [], ◌∷◌, ◌++◌, length, drop, get_or, refl, sym, ap, arith, inl, inr, ◌∙◌, ◌⊎◌, subst, Option, None, length-append}
 use Rattle.s66_isa.specs.declared.instr.Instr.{Instr}
+use Rattle.s66_isa.specs.Lists.{Among}
+use Rattle.s66_line.proofs.OperationLaw.{among-at}
 use Rattle.s66_model.specs.declared.rule.Rule.{Rule}
 use Rattle.s66_model.specs.declared.rule.Rule.TheVariants.{NoneNamed, WrittenEarlier, ClampedStanding}
 use Rattle.s66_model.specs.Timing.{Problem}
-use Rattle.s66_model.specs.Tree.{Tree, Alone, Parted, Siblings, NoMore, Unsplit, Split, Vertex, AtTerminal, AtSplit, SiblingsHold, TreeHolds, flat_siblings, flat}
-use Rattle.s66_model.specs.NodeNames.{terminal_at, sibling_at, node_at, is_node}
+use Rattle.s66_model.specs.LegalOrder.{IsIncomplete}
+use Rattle.s66_model.specs.DominatedLeaves.{DominatesByRule}
+use Rattle.s66_model.specs.Tree.{Tree, Alone, Parted, Siblings, NoMore, Unsplit, Split, Vertex, AtTerminal, AtSplit, SiblingsHold, TreeHolds, flat_siblings, flat, sibling_splits, splits, sibling_values}
+use Rattle.s66_model.specs.NodeNames as names
+use Rattle.s66_model.specs.NodeNames.{terminal_at, sibling_at, is_node}
 use Rattle.s66_model.specs.Piece.{Terminal, Carries, Frontier, Passed, IsNamedIn, TerminalHolds, IsPiece}
-use Rattle.s66_model.specs.Preorder.{read_tree, TreeMatches}
-use Rattle.s66_model.specs.Stated.{Stated, StatedLeaf, StatedFrontier, StatedPassed, StatedHolds, terminal_of, siblings_seen, tree_seen, IsStatedTree}
+use Rattle.s66_model.specs.Preorder.{SiblingsMatch, TreeMatches}
+use Rattle.s66_model.specs.Expansion.{whole_at, whole_orders}
 use Rattle.s66_model.specs.Recorded.{TerminalOpens, SiblingsOpen, TreeOpens}
-use Rattle.s66_model.proofs.Forests.{read-flat, tree-match}
-use Rattle.s66_model.proofs.TreesHold.{tree-weaken, seen-holds}
-use Rattle.s66_node.specs.Pieces.{PieceOf, stated_tree, tree_of}
-use Rattle.s66_node.specs.Skeletons.{skeleton_of, names_of, IsSkeletonOf}
-use Rattle.s66_node.proofs.Skeletons.{skeleton-holds}
-use Rattle.s66_node.proofs.Terminals.{holds-terminal}
-use Rattle.s66_ledger.specs.Opened.{open_stated, open_line, LinesOpen, with_lines}
-use Rattle.s66_ledger.proofs.Opened.{dominated-part}
+use Rattle.s66_model.specs.Ledger as model
+use Rattle.s66_model.specs.Ledger.{sibling_nodes, root_state, new_nodes, may_name, TerminalIsNamed, AreNamed}
+use Rattle.s66_model.proofs.Forests.{tree-match}
+use Rattle.s66_node.specs.Growing.{sibling_prefixes, tree_prefixes}
+use Rattle.s66_node.specs.declared.node.Node.{Node}
+use Rattle.s66_node.specs.declared.node.State.{State}
+use Rattle.s66_node.specs.declared.node.State.TheVariants as state
+use Rattle.s66_ledger.specs.Nodes.{prefixes, name_at, node_at, seen_state, nodes_of}
+use Rattle.s66_ledger.specs.Grafting.{IsNamed}
+use Rattle.s66_ledger.proofs.SeenNodes.{at-nodes, length-nodes}
 
 -- LINES
 
-lines-cut : (xs ys ls : List (Vertex Stated)) → LinesOpen (xs ++ ys) ls → (fs : List (Vertex Stated)) × (bs : List (Vertex Stated)) × (fs ++ bs ≡ ls) × LinesOpen xs fs × LinesOpen ys bs
+-- a line is taken as it is, or left open
+abbrev pub LineOpens : Vertex Terminal → Vertex Terminal → Type 0
+LineOpens (AtSplit numbers) line = line ≡ AtSplit numbers
+LineOpens (AtTerminal terminal) line = (taken : Terminal) × (line ≡ AtTerminal taken) × TerminalOpens terminal taken
+
+abbrev pub LinesOpen : (lines taken : List (Vertex Terminal)) → Type 0
+LinesOpen [] [] = Unit {0}
+LinesOpen (k ∷ ks) (t ∷ ts) = LineOpens k t × LinesOpen ks ts
+LinesOpen [] (t ∷ ts) = ⊥
+LinesOpen (k ∷ ks) [] = ⊥
+
+pub opens-length : (ks ts : List (Vertex Terminal)) → LinesOpen ks ts → length ts ≡ length ks
+opens-length [] [] h = refl
+opens-length [] (t ∷ ts) h = absurd h
+opens-length (k ∷ ks) [] h = absurd h
+opens-length (k ∷ ks) (t ∷ ts) h = omega (arith, opens-length ks ts h.1)
+
+lines-cut : (xs ys ls : List (Vertex Terminal)) → LinesOpen (xs ++ ys) ls → (fs : List (Vertex Terminal)) × (bs : List (Vertex Terminal)) × (fs ++ bs ≡ ls) × LinesOpen xs fs × LinesOpen ys bs
 lines-cut [] ys ls h = ([], ls, refl, tt, h)
 lines-cut (x ∷ xs) ys [] h = absurd h
 lines-cut (x ∷ xs) ys (l ∷ ls) h =
     let (fs, bs, e, f, g) = lines-cut xs ys ls h.1 in
-    (l ∷ fs, bs, ap (λ (ks : List (Vertex Stated)). l ∷ ks) e, (h.0, f), g)
+    (l ∷ fs, bs, ap (λ (ks : List (Vertex Terminal)). l ∷ ks) e, (h.0, f), g)
 
-abbrev pub StatedTaken : Stated → Stated → Type 0
-StatedTaken t u = (u ≡ t) ⊎ (u ≡ open_stated t)
+-- A TREE is taken so
 
-line-terminal : (t : Stated) (l : Vertex Stated) → (l ≡ AtTerminal t) ⊎ (l ≡ open_line (AtTerminal t)) → (u : Stated) × (l ≡ AtTerminal u) × StatedTaken t u
-line-terminal t l (inl e) = (t, e, inl refl)
-line-terminal t l (inr e) = (open_stated t, e, inr refl)
-
-line-split : (ns : List ℕ) (l : Vertex Stated) → (l ≡ AtSplit ns) ⊎ (l ≡ open_line (AtSplit ns)) → l ≡ AtSplit ns
-line-split ns l (inl e) = e
-line-split ns l (inr e) = e
-
--- TREES whose terminals are taken so
-
-abbrev pub SiblingsTaken : Siblings Stated → Siblings Stated → Type 0
-SiblingsTaken NoMore NoMore = Unit {0}
-SiblingsTaken (Unsplit t siblings) (Unsplit u others) = StatedTaken t u × SiblingsTaken siblings others
-SiblingsTaken (Split ns sub siblings) (Split ms under others) = (ns ≡ ms) × SiblingsTaken sub under × SiblingsTaken siblings others
-SiblingsTaken siblings others = ⊥
-
-abbrev pub TreeTaken : Tree Stated → Tree Stated → Type 0
-TreeTaken (Alone t) (Alone u) = StatedTaken t u
-TreeTaken (Parted ns siblings) (Parted ms others) = (ns ≡ ms) × SiblingsTaken siblings others
-TreeTaken tree other = ⊥
-
-siblings-taken : (siblings : Siblings Stated) (ls : List (Vertex Stated)) → LinesOpen (flat_siblings siblings) ls → (others : Siblings Stated) × SiblingsTaken siblings others × (flat_siblings others ≡ ls)
+siblings-taken : (siblings : Siblings Terminal) (ls : List (Vertex Terminal)) → LinesOpen (flat_siblings siblings) ls → (others : Siblings Terminal) × SiblingsOpen siblings others × (flat_siblings others ≡ ls)
 siblings-taken NoMore [] h = (NoMore, tt, refl)
 siblings-taken NoMore (l ∷ ls) h = absurd h
 siblings-taken (Unsplit t siblings) [] h = absurd h
 siblings-taken (Unsplit t siblings) (l ∷ ls) h =
-    let (u, is, stated) = line-terminal t l h.0 in
+    let (u, is, opens) = h.0 in
     let (others, of, e) = siblings-taken siblings ls h.1 in
-    (Unsplit u others, (stated, of), ap (λ (ks : List (Vertex Stated)). AtTerminal u ∷ ks) e ∙ ap (λ (k : Vertex Stated). k ∷ ls) (sym is))
+    (Unsplit u others, (opens, of), ap (λ (ks : List (Vertex Terminal)). AtTerminal u ∷ ks) e ∙ ap (λ (k : Vertex Terminal). k ∷ ls) (sym is))
 siblings-taken (Split ns sub siblings) [] h = absurd h
 siblings-taken (Split ns sub siblings) (l ∷ ls) h =
-    let is = line-split ns l h.0 in
     let (fs, bs, e, f, g) = lines-cut (flat_siblings sub) (flat_siblings siblings) ls h.1 in
     let (under, of, same) = siblings-taken sub fs f in
     let (others, of2, same2) = siblings-taken siblings bs g in
-    (Split ns under others, (refl, of, of2), rw (same, same2) (ap (λ (ks : List (Vertex Stated)). AtSplit ns ∷ ks) e ∙ ap (λ (k : Vertex Stated). k ∷ ls) (sym is)))
+    (Split ns under others, (refl, of, of2), rw (same, same2) (ap (λ (ks : List (Vertex Terminal)). AtSplit ns ∷ ks) e ∙ ap (λ (k : Vertex Terminal). k ∷ ls) (sym h.0)))
 
-tree-taken : (tree : Tree Stated) (ls : List (Vertex Stated)) → LinesOpen (flat tree) ls → (other : Tree Stated) × TreeTaken tree other × (flat other ≡ ls)
+pub tree-taken : (tree : Tree Terminal) (ls : List (Vertex Terminal)) → LinesOpen (flat tree) ls → (part : Tree Terminal) × TreeOpens tree part × (flat part ≡ ls)
 tree-taken (Alone t) [] h = absurd h
-tree-taken (Alone t) (l ∷ []) h = let (u, is, stated) = line-terminal t l h.0 in (Alone u, stated, ap (λ (k : Vertex Stated). k ∷ []) (sym is))
+tree-taken (Alone t) (l ∷ []) h = let (u, is, opens) = h.0 in (Alone u, opens, ap (λ (k : Vertex Terminal). k ∷ []) (sym is))
 tree-taken (Alone t) (l ∷ (m ∷ ls)) h = absurd h.1
 tree-taken (Parted ns siblings) [] h = absurd h
 tree-taken (Parted ns siblings) (l ∷ ls) h =
-    let is = line-split ns l h.0 in
     let (others, of, e) = siblings-taken siblings ls h.1 in
-    (Parted ns others, (refl, of), ap (λ (ks : List (Vertex Stated)). AtSplit ns ∷ ks) e ∙ ap (λ (k : Vertex Stated). k ∷ ls) (sym is))
+    (Parted ns others, (refl, of), ap (λ (ks : List (Vertex Terminal)). AtSplit ns ∷ ks) e ∙ ap (λ (k : Vertex Terminal). k ∷ ls) (sym h.0))
 
--- what holds of the terminals
-module _ (block : List Instr) (Q R : List ℕ → Stated → Type 0) (each : (at : List ℕ) (t u : Stated) → StatedTaken t u → Q at t → R at u) where
-  siblings-hold : (siblings others : Siblings Stated) (prefix ns : List ℕ) → SiblingsTaken siblings others → SiblingsHold block Q prefix ns siblings → SiblingsHold block R prefix ns others
+-- it has the same prefixes
+siblings-prefixes : (siblings others : Siblings Terminal) (at ns : List ℕ) → SiblingsOpen siblings others → sibling_prefixes at ns others ≡ sibling_prefixes at ns siblings
+siblings-prefixes siblings others at [] h = refl
+siblings-prefixes NoMore NoMore at (n ∷ ns) h = refl
+siblings-prefixes (Unsplit t siblings) (Unsplit u others) at (n ∷ ns) h = ap (λ ats. (at ++ n ∷ []) ∷ ats) (siblings-prefixes siblings others at ns h.1)
+siblings-prefixes (Split ms sub siblings) (Split ks under others) at (n ∷ ns) h =
+    rw (sym h.0, siblings-prefixes sub under (at ++ n ∷ []) ms h.1, siblings-prefixes siblings others at ns h.2) refl
+siblings-prefixes siblings others at (n ∷ ns) h = absurd h
+
+pub taken-prefixes : (tree part : Tree Terminal) (at : List ℕ) → TreeOpens tree part → tree_prefixes at part ≡ tree_prefixes at tree
+taken-prefixes (Alone t) (Alone u) at h = refl
+taken-prefixes (Parted ns siblings) (Parted ms others) at h = rw (sym h.0) (ap (λ ats. at ∷ ats) (siblings-prefixes siblings others at ns h.1))
+taken-prefixes tree part at h = absurd h
+
+-- and the same splits
+siblings-same_splits : (siblings others : Siblings Terminal) → SiblingsOpen siblings others → sibling_splits siblings ≡ sibling_splits others
+siblings-same_splits NoMore NoMore h = refl
+siblings-same_splits (Unsplit terminal siblings) (Unsplit taken others) h = siblings-same_splits siblings others h.1
+siblings-same_splits (Split numbers sub siblings) (Split ns under others) h =
+    omega (arith, siblings-same_splits sub under h.1, siblings-same_splits siblings others h.2)
+siblings-same_splits siblings others h = absurd h
+
+pub same-splits : (tree part : Tree Terminal) → TreeOpens tree part → splits tree ≡ splits part
+same-splits (Alone terminal) (Alone taken) h = refl
+same-splits (Parted numbers siblings) (Parted ns others) h = omega (arith, siblings-same_splits siblings others h.1)
+same-splits tree part h = absurd h
+
+-- and the same whole orders
+open-whole : (at : List ℕ) (terminal taken : Terminal) → TerminalOpens terminal taken → whole_at at terminal ≡ whole_at at taken
+open-whole at (Carries leaf) taken h = ap (whole_at at) (sym h)
+open-whole at Frontier taken h = ap (whole_at at) (sym h)
+open-whole at (Passed name) taken (inl h) = ap (whole_at at) (sym h)
+open-whole at (Passed name) taken (inr h) = ap (whole_at at) (sym h)
+
+siblings-same_wholes : (prefix ns : List ℕ) (siblings others : Siblings Terminal) → SiblingsOpen siblings others → sibling_values whole_at prefix ns siblings ≡ sibling_values whole_at prefix ns others
+siblings-same_wholes prefix [] siblings others h = refl
+siblings-same_wholes prefix (n ∷ ns) NoMore NoMore h = refl
+siblings-same_wholes prefix (n ∷ ns) (Unsplit terminal siblings) (Unsplit taken others) h =
+    rw (open-whole (prefix ++ n ∷ []) terminal taken h.0, siblings-same_wholes prefix ns siblings others h.1) refl
+siblings-same_wholes prefix (n ∷ ns) (Split numbers sub siblings) (Split ms under others) h =
+    rw (sym h.0, siblings-same_wholes (prefix ++ n ∷ []) numbers sub under h.1, siblings-same_wholes prefix ns siblings others h.2) refl
+siblings-same_wholes prefix (n ∷ ns) siblings others h = absurd h
+
+pub same-wholes : (prefix : List ℕ) (tree part : Tree Terminal) → TreeOpens tree part → whole_orders prefix tree ≡ whole_orders prefix part
+same-wholes prefix (Alone terminal) (Alone taken) h = open-whole prefix terminal taken h
+same-wholes prefix (Parted numbers siblings) (Parted ns others) h =
+    siblings-same_wholes prefix numbers siblings others h.1 ∙ ap (λ ms. sibling_values whole_at prefix ms others) h.0
+same-wholes prefix tree part h = absurd h
+
+-- a tree that is taken whole
+pub terminal-whole : (terminal : Terminal) → TerminalOpens terminal terminal
+terminal-whole (Carries leaf) = refl
+terminal-whole Frontier = refl
+terminal-whole (Passed name) = inl refl
+
+siblings-whole : (siblings : Siblings Terminal) → SiblingsOpen siblings siblings
+siblings-whole NoMore = tt
+siblings-whole (Unsplit terminal siblings) = (terminal-whole terminal, siblings-whole siblings)
+siblings-whole (Split numbers sub siblings) = (refl, siblings-whole sub, siblings-whole siblings)
+
+pub taken-whole : (tree : Tree Terminal) → TreeOpens tree tree
+taken-whole (Alone terminal) = terminal-whole terminal
+taken-whole (Parted numbers siblings) = (refl, siblings-whole siblings)
+
+-- WHAT HOLDS of its terminals
+
+module _ (block : List Instr) (Q R : List ℕ → Terminal → Type 0) (each : (at : List ℕ) (t u : Terminal) → TerminalOpens t u → Q at t → R at u) where
+  siblings-hold : (siblings others : Siblings Terminal) (prefix ns : List ℕ) → SiblingsOpen siblings others → SiblingsHold block Q prefix ns siblings → SiblingsHold block R prefix ns others
   siblings-hold NoMore NoMore prefix [] k h = tt
   siblings-hold NoMore NoMore prefix (n ∷ ns) k h = absurd h
   siblings-hold (Unsplit t siblings) (Unsplit u others) prefix [] k h = absurd h
@@ -90,43 +155,16 @@ module _ (block : List Instr) (Q R : List ℕ → Stated → Type 0) (each : (at
       (h.0, sym k.0 ∙ h.1, subst (λ xs. SiblingsHold block R (prefix ++ n ∷ []) xs under) k.0 (siblings-hold sub under (prefix ++ n ∷ []) numbers k.1 h.2), siblings-hold siblings others prefix ns k.2 h.3)
   siblings-hold siblings others prefix ns k h = absurd k
 
-  tree-hold : (tree other : Tree Stated) (prefix : List ℕ) → TreeTaken tree other → TreeHolds block Q prefix tree → TreeHolds block R prefix other
+  pub tree-hold : (tree part : Tree Terminal) (prefix : List ℕ) → TreeOpens tree part → TreeHolds block Q prefix tree → TreeHolds block R prefix part
   tree-hold (Alone t) (Alone u) prefix k h = each prefix t u k h
   tree-hold (Parted ns siblings) (Parted ms others) prefix k h =
       (h.0, sym k.0 ∙ h.1, subst (λ xs. SiblingsHold block R prefix xs others) k.0 (siblings-hold siblings others prefix ns k.1 h.2))
-  tree-hold tree other prefix k h = absurd k
+  tree-hold tree part prefix k h = absurd k
 
--- and their terminals open those of the piece
-module _ (b : Problem) where
-  terminal-same : (terminal : Terminal) → TerminalOpens terminal terminal
-  terminal-same (Carries leaf) = refl
-  terminal-same Frontier = refl
-  terminal-same (Passed name) = inl refl
+pub taken-match : (block : List Instr) (Q : List ℕ → Terminal → Type 0) (tree part : Tree Terminal) (prefix : List ℕ) → TreeOpens tree part → TreeHolds block Q prefix tree → TreeMatches part
+taken-match block Q tree part prefix k h = tree-match block (λ at t. Unit {0}) part prefix (tree-hold block Q (λ at t. Unit {0}) (λ at t u k h. tt) tree part prefix k h)
 
-  terminal-opens : (at : List ℕ) (t u : Stated) → StatedTaken t u → TerminalOpens (terminal_of b at t) (terminal_of b at u)
-  terminal-opens at t u (inl e) = subst (λ v. TerminalOpens (terminal_of b at t) (terminal_of b at v)) (sym e) (terminal-same (terminal_of b at t))
-  terminal-opens at t u (inr e) = subst (λ v. TerminalOpens (terminal_of b at t) (terminal_of b at v)) (sym e) (opening t)
-    where
-      opening : (t : Stated) → TerminalOpens (terminal_of b at t) (terminal_of b at (open_stated t))
-      opening (StatedLeaf value) = refl
-      opening (StatedFrontier value) = refl
-      opening (StatedPassed value name) = inr refl
-
-  siblings-opens : (siblings others : Siblings Stated) (prefix ns : List ℕ) → SiblingsTaken siblings others → SiblingsOpen (siblings_seen (terminal_of b) prefix ns siblings) (siblings_seen (terminal_of b) prefix ns others)
-  siblings-opens siblings others prefix [] k = tt
-  siblings-opens NoMore NoMore prefix (n ∷ ns) k = tt
-  siblings-opens (Unsplit t siblings) (Unsplit u others) prefix (n ∷ ns) k = (terminal-opens (prefix ++ n ∷ []) t u k.0, siblings-opens siblings others prefix ns k.1)
-  siblings-opens (Split numbers sub siblings) (Split ms under others) prefix (n ∷ ns) k =
-      (k.0, subst (λ xs. SiblingsOpen (siblings_seen (terminal_of b) (prefix ++ n ∷ []) numbers sub) (siblings_seen (terminal_of b) (prefix ++ n ∷ []) xs under)) k.0 (siblings-opens sub under (prefix ++ n ∷ []) numbers k.1), siblings-opens siblings others prefix ns k.2)
-  siblings-opens siblings others prefix (n ∷ ns) k = absurd k
-
-  tree-opens : (tree other : Tree Stated) (prefix : List ℕ) → TreeTaken tree other → TreeOpens (tree_seen (terminal_of b) prefix tree) (tree_seen (terminal_of b) prefix other)
-  tree-opens (Alone t) (Alone u) prefix k = terminal-opens prefix t u k
-  tree-opens (Parted ns siblings) (Parted ms others) prefix k =
-      (k.0, subst (λ xs. SiblingsOpen (siblings_seen (terminal_of b) prefix ns siblings) (siblings_seen (terminal_of b) prefix xs others)) k.0 (siblings-opens siblings others prefix ns k.1))
-  tree-opens tree other prefix k = absurd k
-
--- THE SAME NODES
+-- THE SAME NAMES
 
 terminal-node : (terminal taken : Terminal) (path : List ℕ) → is_node (terminal_at terminal path) ≡ is_node (terminal_at taken path)
 terminal-node terminal taken [] = refl
@@ -148,71 +186,134 @@ siblings-node (Split numbers sub siblings) (Split ks under others) (m ∷ ms) (n
     (siblings-node siblings others ms (n ∷ path) k.2)
 siblings-node siblings others (m ∷ ms) (n ∷ path) k = absurd k
 
-tree-node : (tree taken : Tree Terminal) (prefix name : List ℕ) → TreeOpens tree taken → is_node (node_at prefix tree name) ≡ is_node (node_at prefix taken name)
+tree-node : (tree part : Tree Terminal) (prefix name : List ℕ) → TreeOpens tree part → is_node (names.node_at prefix tree name) ≡ is_node (names.node_at prefix part name)
 tree-node (Alone terminal) (Alone taken) [] name k = terminal-node terminal taken name
 tree-node (Parted numbers siblings) (Parted ns others) [] name k = siblings-node siblings others numbers name k.1 ∙ ap (λ xs. is_node (sibling_at xs others name)) k.0
-tree-node tree taken (n ∷ prefix) [] k = refl
-tree-node tree taken (n ∷ prefix) (m ∷ name) k =
-    either-node (eqb n m) (node_at prefix tree name) None (node_at prefix taken name) None (tree-node tree taken prefix name k) refl
-tree-node tree taken [] name k = absurd k
+tree-node tree part (n ∷ prefix) [] k = refl
+tree-node tree part (n ∷ prefix) (m ∷ name) k =
+    either-node (eqb n m) (names.node_at prefix tree name) None (names.node_at prefix part name) None (tree-node tree part prefix name k) refl
+tree-node tree part [] name k = absurd k
 
-still-in : (rule : Rule) (prefix : List ℕ) (tree taken : Tree Terminal) (at name : List ℕ) → TreeOpens tree taken → IsNamedIn rule prefix tree at name → IsNamedIn rule prefix taken at name
-still-in NoneNamed prefix tree taken at name k h = h
-still-in WrittenEarlier prefix tree taken at name k h = sym (tree-node tree taken prefix name k) ∙ h
-still-in ClampedStanding prefix tree taken at name k h = h
+still-in : (rule : Rule) (prefix : List ℕ) (tree part : Tree Terminal) (at name : List ℕ) → TreeOpens tree part → IsNamedIn rule prefix tree at name → IsNamedIn rule prefix part at name
+still-in NoneNamed prefix tree part at name k h = h
+still-in WrittenEarlier prefix tree part at name k h = sym (tree-node tree part prefix name k) ∙ h
+still-in ClampedStanding prefix tree part at name k h = h
 
--- a terminal of the piece as it is taken
-stated-held : (rule : Rule) (b : Problem) (prefix : List ℕ) (tree taken : Tree Terminal) → TreeOpens tree taken → (at : List ℕ) (t u : Stated) → StatedTaken t u → StatedHolds rule b prefix tree at t → StatedHolds rule b prefix taken at u
-stated-held rule b prefix tree taken k at t u (inl e) h = subst (StatedHolds rule b prefix taken at) (sym e) (same t h)
+-- a dominated prefix is incomplete
+pub dominated-part : (rule : Rule) (b : Problem) (name at : List ℕ) → DominatesByRule rule b name at → IsIncomplete b.block at
+dominated-part NoneNamed b name at h = absurd h
+dominated-part WrittenEarlier b name at h = h.0
+dominated-part ClampedStanding b name at h = h.0
+
+pub taken-is_piece : (rule : Rule) (b : Problem) (prefix : List ℕ) (tree part : Tree Terminal) → TreeOpens tree part → IsPiece rule b prefix tree → IsPiece rule b prefix part
+taken-is_piece rule b prefix tree part k h = tree-hold b.block (TerminalHolds rule b prefix tree) (TerminalHolds rule b prefix part) each tree part prefix k h
   where
-    same : (t : Stated) → StatedHolds rule b prefix tree at t → StatedHolds rule b prefix taken at t
-    same (StatedLeaf value) h = h
-    same (StatedFrontier value) h = h
-    same (StatedPassed value name) h = (h.0, h.1, still-in rule prefix tree taken at name k h.2)
-stated-held rule b prefix tree taken k at t u (inr e) h = subst (StatedHolds rule b prefix taken at) (sym e) (opening t h)
-  where
-    opening : (t : Stated) → StatedHolds rule b prefix tree at t → StatedHolds rule b prefix taken at (open_stated t)
-    opening (StatedLeaf value) h = h
-    opening (StatedFrontier value) h = h
-    opening (StatedPassed value name) h = (h.0, dominated-part rule b name at h.1)
+    each : (at : List ℕ) (t u : Terminal) → TerminalOpens t u → TerminalHolds rule b prefix tree at t → TerminalHolds rule b prefix part at u
+    each at (Carries leaf) u opens held = subst (TerminalHolds rule b prefix part at) (sym opens) held
+    each at Frontier u opens held = subst (TerminalHolds rule b prefix part at) (sym opens) held
+    each at (Passed name) u (inl is) held = subst (TerminalHolds rule b prefix part at) (sym is) (held.0, still-in rule prefix tree part at name k held.1)
+    each at (Passed name) u (inr is) held = subst (TerminalHolds rule b prefix part at) (sym is) (dominated-part rule b name at held.0)
 
--- THE PIECE
+-- AS NODES OF THE LEDGER
 
-module _ (p : PieceOf) (taken : List (Vertex Stated)) (stated : IsStatedTree p.rule p.problem p.prefix (stated_tree p)) (preorder : flat (stated_tree p) ≡ p.vertices) (opens : LinesOpen p.vertices taken) where
-  abbrev q : PieceOf
-  q = with_lines p taken
+abbrev pub line_node : Problem → (best : ℕ) → List ℕ → Vertex Terminal → model.Node
+line_node b best at (AtSplit numbers) = record { prefix = at; state = model.Cut }
+line_node b best at (AtTerminal terminal) = record { prefix = at; state = model.state_of b best at terminal }
 
-  part : (other : Tree Stated) × TreeTaken (stated_tree p) other × (flat other ≡ taken)
-  part = tree-taken (stated_tree p) taken (subst (λ ks. LinesOpen ks taken) (sym preorder) opens)
+abbrev pub line_nodes : Problem → (best : ℕ) → List (List ℕ) → List (Vertex Terminal) → List model.Node
+line_nodes b best [] ks = []
+line_nodes b best (at ∷ ats) [] = []
+line_nodes b best (at ∷ ats) (k ∷ ks) = line_node b best at k ∷ line_nodes b best ats ks
 
-  part-match : TreeMatches part.0
-  part-match =
-      tree-match p.problem.block (λ at t. Unit {0}) part.0 p.prefix
-      (tree-hold p.problem.block (StatedHolds p.rule p.problem p.prefix (tree_of p)) (λ at t. Unit {0}) (λ at t u k h. tt) (stated_tree p) part.0 p.prefix part.1 stated)
+module _ (b : Problem) (best : ℕ) where
+  line_nodes-both : (ats others : List (List ℕ)) (ks ls : List (Vertex Terminal)) → length ats ≡ length ks → line_nodes b best (ats ++ others) (ks ++ ls) ≡ line_nodes b best ats ks ++ line_nodes b best others ls
+  line_nodes-both [] others [] ls e = refl
+  line_nodes-both [] others (k ∷ ks) ls e = absurd (omega (arith, e))
+  line_nodes-both (at ∷ ats) others [] ls e = absurd (omega (arith, e))
+  line_nodes-both (at ∷ ats) others (k ∷ ks) ls e = ap (λ (xs : List model.Node). line_node b best at k ∷ xs) (line_nodes-both ats others ks ls (omega (arith, e)))
 
-  part-read : stated_tree q ≡ part.0
-  part-read = ap (read_tree (StatedFrontier 0)) (sym part.2) ∙ read-flat (StatedFrontier 0) part.0 part-match
+  siblings-many : (siblings : Siblings Terminal) (at ns : List ℕ) → SiblingsMatch ns siblings → length (sibling_prefixes at ns siblings) ≡ length (flat_siblings siblings)
+  siblings-many NoMore at [] h = refl
+  siblings-many NoMore at (n ∷ ns) h = absurd h
+  siblings-many (Unsplit t siblings) at [] h = absurd h
+  siblings-many (Unsplit t siblings) at (n ∷ ns) h = omega (arith, siblings-many siblings at ns h)
+  siblings-many (Split ms sub siblings) at [] h = absurd h
+  siblings-many (Split ms sub siblings) at (n ∷ ns) h =
+      omega (arith, siblings-many sub (at ++ n ∷ []) ms h.0, siblings-many siblings at ns h.1, length-append (sibling_prefixes (at ++ n ∷ []) ms sub) (sibling_prefixes at ns siblings), length-append (flat_siblings sub) (flat_siblings siblings))
 
-  pub taken-tree : TreeTaken (stated_tree p) (stated_tree q)
-  taken-tree = subst (TreeTaken (stated_tree p)) (sym part-read) part.1
+  siblings-nodes : (siblings : Siblings Terminal) (at ns : List ℕ) → SiblingsMatch ns siblings → line_nodes b best (sibling_prefixes at ns siblings) (flat_siblings siblings) ≡ sibling_nodes b best at ns siblings
+  siblings-nodes NoMore at [] h = refl
+  siblings-nodes NoMore at (n ∷ ns) h = absurd h
+  siblings-nodes (Unsplit t siblings) at [] h = absurd h
+  siblings-nodes (Unsplit t siblings) at (n ∷ ns) h = ap (λ (xs : List model.Node). line_node b best (at ++ n ∷ []) (AtTerminal t) ∷ xs) (siblings-nodes siblings at ns h)
+  siblings-nodes (Split ms sub siblings) at [] h = absurd h
+  siblings-nodes (Split ms sub siblings) at (n ∷ ns) h =
+      let child = at ++ n ∷ [] in
+      ap (λ (xs : List model.Node). line_node b best child (AtSplit ms) ∷ xs)
+      (line_nodes-both (sibling_prefixes child ms sub) (sibling_prefixes at ns siblings) (flat_siblings sub) (flat_siblings siblings) (siblings-many sub child ms h.0)
+      ∙ rw (siblings-nodes sub child ms h.0, siblings-nodes siblings at ns h.1) refl)
 
-  pub taken-match : TreeMatches (stated_tree q)
-  taken-match = subst TreeMatches (sym part-read) part-match
+  -- below the root
+  pub tree-nodes : (tree : Tree Terminal) (at : List ℕ) → TreeMatches tree → line_nodes b best (drop 1 (tree_prefixes at tree)) (drop 1 (flat tree)) ≡ new_nodes b best at tree
+  tree-nodes (Alone t) at h = refl
+  tree-nodes (Parted ns siblings) at h = siblings-nodes siblings at ns h
 
-  pub taken-preorder : flat (stated_tree q) ≡ taken
-  taken-preorder = ap flat part-read ∙ part.2
+  -- and the root
+  pub tree-root : (tree : Tree Terminal) (at : List ℕ) (k : Vertex Terminal) (ks : List (Vertex Terminal)) → flat tree ≡ k ∷ ks → root_state b best at tree ≡ (line_node b best at k).state
+  tree-root (Alone t) at k ks e = let first : AtTerminal t ≡ k = cc in ap (λ (l : Vertex Terminal). (line_node b best at l).state) first
+  tree-root (Parted ns siblings) at k ks e = let first : AtSplit ns ≡ k = cc in ap (λ (l : Vertex Terminal). (line_node b best at l).state) first
 
-  pub taken-opens : TreeOpens (tree_of p) (tree_of q)
-  taken-opens = tree-opens p.problem (stated_tree p) (stated_tree q) p.prefix taken-tree
+-- WHAT IS NAMED
 
-  pub taken-stated : IsStatedTree p.rule p.problem p.prefix (stated_tree q)
-  taken-stated =
-      tree-hold p.problem.block (StatedHolds p.rule p.problem p.prefix (tree_of p)) (StatedHolds p.rule p.problem p.prefix (tree_of q)) (stated-held p.rule p.problem p.prefix (tree_of p) (tree_of q) taken-opens) (stated_tree p) (stated_tree q) p.prefix taken-tree stated
+-- the name of a line is that of a node
+abbrev pub LineIsNamed : List Node → Vertex Terminal → Type 0
+LineIsNamed nodes (AtSplit numbers) = Unit {0}
+LineIsNamed nodes (AtTerminal (Carries leaf)) = Unit {0}
+LineIsNamed nodes (AtTerminal Frontier) = Unit {0}
+LineIsNamed nodes (AtTerminal (Passed name)) = (n : ℕ) × IsNamed nodes n name
 
-  pub taken-skeleton : IsSkeletonOf q (skeleton_of q) (names_of q)
-  taken-skeleton = skeleton-holds q (StatedHolds p.rule p.problem p.prefix (tree_of q)) taken-stated
+abbrev pub LinesAreNamed : List Node → List (Vertex Terminal) → Type 0
+LinesAreNamed nodes [] = Unit {0}
+LinesAreNamed nodes (k ∷ ks) = LineIsNamed nodes k × LinesAreNamed nodes ks
 
-  pub taken-is_piece : IsPiece p.rule p.problem p.prefix (tree_of q)
-  taken-is_piece =
-      seen-holds (terminal_of p.problem) p.problem.block (TerminalHolds p.rule p.problem p.prefix (tree_of q)) (stated_tree q) p.prefix
-      (tree-weaken p.problem.block (StatedHolds p.rule p.problem p.prefix (tree_of q)) (λ at t. TerminalHolds p.rule p.problem p.prefix (tree_of q) at (terminal_of p.problem at t)) (holds-terminal p.rule p.problem p.prefix (tree_of q)) (stated_tree q) p.prefix taken-stated)
+named-cut : (nodes : List Node) (xs ys : List (Vertex Terminal)) → LinesAreNamed nodes (xs ++ ys) → LinesAreNamed nodes xs × LinesAreNamed nodes ys
+named-cut nodes [] ys h = (tt, h)
+named-cut nodes (x ∷ xs) ys h = let rest = named-cut nodes xs ys h.1 in ((h.0, rest.0), rest.1)
+
+may-standing : (rule : Rule) (b : Problem) (other at name of : List ℕ) (s : State) → DominatesByRule rule b other at → s ≢ state.Dominated → may_name rule (seen_state b name of s) ≡ true
+may-standing NoneNamed b other at name of s h standing = absurd h
+may-standing WrittenEarlier b other at name of s h standing = refl
+may-standing ClampedStanding b other at name of state.Open h standing = refl
+may-standing ClampedStanding b other at name of state.Out h standing = refl
+may-standing ClampedStanding b other at name of state.Closed h standing = refl
+may-standing ClampedStanding b other at name of state.Split h standing = refl
+may-standing ClampedStanding b other at name of state.Dominated h standing = absurd (standing refl)
+
+module _ (rule : Rule) (b : Problem) (root : List ℕ) (tree : Tree Terminal) (nodes : List Node) where
+  terminal-named : (at : List ℕ) (t : Terminal) → TerminalHolds rule b root tree at t → LineIsNamed nodes (AtTerminal t) → TerminalIsNamed rule (nodes_of b nodes) at t
+  terminal-named at (Carries leaf) h line = tt
+  terminal-named at Frontier h line = tt
+  terminal-named at (Passed name) h (n, named) =
+      let is = at-nodes b nodes n named.within in (
+        model.node_at (nodes_of b nodes) n,
+        among-at (nodes_of b nodes) n model.no_node (omega (arith, named.within, length-nodes b nodes)),
+        ap (λ (x : model.Node). x.prefix) is ∙ named.over,
+        ap (λ (x : model.Node). may_name rule x.state) is ∙ may-standing rule b name at (name_at nodes n) (get_or (prefixes nodes) n []) (node_at nodes n).state h.0 named.standing,
+      )
+
+  siblings-named : (siblings : Siblings Terminal) (prefix ns : List ℕ) → SiblingsHold b.block (TerminalHolds rule b root tree) prefix ns siblings → LinesAreNamed nodes (flat_siblings siblings) → SiblingsHold b.block (TerminalIsNamed rule (nodes_of b nodes)) prefix ns siblings
+  siblings-named NoMore prefix [] h lines = tt
+  siblings-named NoMore prefix (n ∷ ns) h lines = absurd h
+  siblings-named (Unsplit t siblings) prefix [] h lines = absurd h
+  siblings-named (Unsplit t siblings) prefix (n ∷ ns) h lines = (terminal-named (prefix ++ n ∷ []) t h.0 lines.0, siblings-named siblings prefix ns h.1 lines.1)
+  siblings-named (Split numbers sub siblings) prefix [] h lines = absurd h
+  siblings-named (Split numbers sub siblings) prefix (n ∷ ns) h lines =
+      let parts = named-cut nodes (flat_siblings sub) (flat_siblings siblings) lines.1 in
+      (h.0, h.1, siblings-named sub (prefix ++ n ∷ []) numbers h.2 parts.0, siblings-named siblings prefix ns h.3 parts.1)
+
+  tree-named : (part : Tree Terminal) (prefix : List ℕ) → TreeHolds b.block (TerminalHolds rule b root tree) prefix part → LinesAreNamed nodes (flat part) → AreNamed rule b (nodes_of b nodes) prefix part
+  tree-named (Alone t) prefix h lines = terminal-named prefix t h lines.0
+  tree-named (Parted numbers siblings) prefix h lines = (h.0, h.1, siblings-named siblings prefix numbers h.2 lines.1)
+
+pub taken-named : (rule : Rule) (b : Problem) (prefix : List ℕ) (part : Tree Terminal) (nodes : List Node) → IsPiece rule b prefix part → LinesAreNamed nodes (flat part) → AreNamed rule b (nodes_of b nodes) prefix part
+taken-named rule b prefix part nodes piece lines = tree-named rule b prefix part nodes part prefix piece lines

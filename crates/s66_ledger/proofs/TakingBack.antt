@@ -8,7 +8,7 @@ use Rattle.s66_ledger.specs.Finishing.{NoneOut, NoneOutBelow, IsIdle, IsReopenin
 use Rattle.s66_ledger.specs.LedgerMachine.{MachineOf, IsMove, state_of}
 use Rattle.s66_ledger.specs.Nodes.{nodes_of}
 use Rattle.s66_ledger.specs.OpenNodes as OpenNodes
-use Rattle.s66_ledger.specs.declared.node.Node as kept
+use Rattle.s66_node.specs.declared.node.Node as kept
 use Rattle.s66_model.specs.Timing.{Problem}
 use Rattle.s66_ledger.proofs.Events.{not-out}
 use Rattle.s66_ledger.proofs.Leading.{each-among, leads-nowhere, event-leads}

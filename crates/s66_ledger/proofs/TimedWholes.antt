@@ -16,7 +16,7 @@ use Rattle.s66_time.specs.TimedOrder.{TimedOrder}
 use Rattle.s66_node.specs.Pieces.{IsBestTimed}
 use Rattle.s66_node.proofs.Leasts.{among-either}
 use Rattle.s66_ledger.specs.LedgerMachine.{MachineOf}
-use Rattle.s66_ledger.proofs.Opened.{dominated-part}
+use Rattle.s66_ledger.proofs.Taken.{dominated-part}
 use Rattle.s66_ledger.specs.Finishing.{WholesAreTimed, IsOffering}
 use Rattle.s66_ledger.proofs.Leading.{each-set, leads-fall}
 

@@ -17,10 +17,11 @@ use Rattle.s66_ledger.specs.declared.reply.Offered.{Offered}
 use Rattle.s66_ledger.specs.declared.reply.Offered.TheVariants as offered
 use Rattle.s66_ledger.specs.Finishing.{WholesAreTimed, IsTimedAt, IsOffering, IsTiming}
 use Rattle.s66_ledger.specs.LedgerMachine.{MachineOf, IsMove, Stored, IsKept, machine_of, state_of}
-use Rattle.s66_ledger.specs.Nodes.{prefixes, name_at, node_at, nodes_of, seen_state, has_floor, is_live_state}
-use Rattle.s66_ledger.specs.declared.node.Node.{Node}
-use Rattle.s66_ledger.specs.declared.node.State.{State}
-use Rattle.s66_ledger.specs.declared.node.State.TheVariants as state
+use Rattle.s66_node.specs.Nodes.{has_floor, is_live_state}
+use Rattle.s66_ledger.specs.Nodes.{prefixes, name_at, node_at, nodes_of, seen_state}
+use Rattle.s66_node.specs.declared.node.Node.{Node}
+use Rattle.s66_node.specs.declared.node.State.{State}
+use Rattle.s66_node.specs.declared.node.State.TheVariants as state
 use Rattle.s66_ledger.specs.Replies.{offered_reply}
 use Rattle.s66_ledger.proofs.SeenNodes.{at-nodes, length-nodes}
 use Rattle.s66_ledger.proofs.Leading.{each-among, leads-fall}

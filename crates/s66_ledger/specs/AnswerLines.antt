@@ -11,7 +11,7 @@ use Rattle.s66_model.specs.Later.{later}
 use Rattle.s66_model.specs.NodeTable.{IsTable}
 use Rattle.s66_model.specs.NodeTree.{is_split_at, ending_at}
 use Rattle.s66_model.specs.TreeLines.{lines_of}
-use Rattle.s66_ledger.specs.declared.node.Node.{Node}
+use Rattle.s66_node.specs.declared.node.Node.{Node}
 use Rattle.s66_ledger.specs.LedgerMachine.{state_of}
 use Rattle.s66_ledger.specs.Nodes.{nodes_of, prefixes}
 

@@ -9,7 +9,7 @@ use Rattle.s66_model.specs.Ledger.{Ledger, Node}
 use Rattle.s66_model.specs.NodeTable.{IsTable}
 use Rattle.s66_model.specs.Ended.{ended_answer}
 use Rattle.s66_model.specs.declared.limits.TheConstants.{BUDGET_LIMIT}
-use Rattle.s66_ledger.specs.declared.node.Node as declared
+use Rattle.s66_node.specs.declared.node.Node as declared
 use Rattle.s66_ledger.specs.LedgerMachine.{state_of}
 use Rattle.s66_ledger.specs.Nodes.{HaveFloors}
 

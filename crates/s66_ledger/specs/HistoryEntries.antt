@@ -1,9 +1,12 @@
 -- Used by contracts: which event of the machine an entry of a ledger's history is, and with which reply.
-use Rattle.std.specs.Prelude.{ℕ, true, Some, None, if◌then◌else◌, ◌+◌, List, [], ◌∷◌, ◌++◌, take, drop}
+use Rattle.std.specs.Prelude.{ℕ, true, Some, None, if◌then◌else◌, List, [], ◌∷◌, take, drop}
 use Rattle.s66_model.specs.Timing.{Problem}
+use Rattle.s66_model.specs.Tree.{Vertex}
+use Rattle.s66_model.specs.Preorder.{read_tree}
+use Rattle.s66_model.specs.Piece.{Terminal, Frontier}
 use Rattle.s66_model.specs.Ledger as model
 use Rattle.s66_model.specs.Ledger.{Event, Reply, Granted, Claimed, Returned, NotOut, Retired, Taken}
-use Rattle.s66_node.specs.Skeletons.{skeleton_prefix, skeleton_tree}
+use Rattle.s66_node.specs.Nodes.{line_of}
 use Rattle.s66_ledger.specs.declared.entry.Entry.{Entry}
 use Rattle.s66_ledger.specs.declared.entry.Entry.TheVariants as entry
 use Rattle.s66_ledger.specs.declared.entry.Refusal.{Refusal}
@@ -26,37 +29,35 @@ error_of refusal.OverAllowance = error.OverAllowance
 abbrev pub byte_count : Entry → ℕ
 byte_count (entry.Grant _ _) = 0
 byte_count (entry.Claim _ _) = 0
-byte_count (entry.Taken _ _ depth _ _) = depth + 1
+byte_count (entry.Taken _ _ depth _ _ _) = depth
 byte_count (entry.Refused _ _ _ depth _ _) = depth
 byte_count (entry.Offer _ _ count _ _) = count
 byte_count (entry.Back _ _ _) = 0
 byte_count (entry.Retire _) = 0
 
--- how many nodes of the ledger the entry made, each by a line of its piece below the root
+-- how many nodes of the ledger the entry made, each by a line of its piece
 abbrev pub line_count : Entry → ℕ
 line_count (entry.Grant _ _) = 0
 line_count (entry.Claim _ _) = 0
-line_count (entry.Taken _ _ _ lines _) = lines
+line_count (entry.Taken _ _ _ _ nodes _) = nodes
 line_count (entry.Refused _ _ _ _ _ _) = 0
 line_count (entry.Offer _ _ _ _ _) = 0
 line_count (entry.Back _ _ _) = 0
 line_count (entry.Retire _) = 0
 
--- of a ledger of this problem, by the entry, its own bytes, those of the lines that it made nodes of, and these lines' names. The
--- bytes of a piece that was taken end with its root's line, which has no name
-abbrev pub entry_of : Problem → Entry → List ℕ → List ℕ → List (List ℕ) → Event × Reply
-entry_of b (entry.Grant w splits) own_bytes own_lines own_names = (model.Grant w, Granted splits)
-entry_of b (entry.Claim w node) own_bytes own_lines own_names = (model.Claim w, Claimed node)
-entry_of b (entry.Taken w node depth lines splits) own_bytes own_lines own_names =
-    let skeleton = own_bytes ++ own_lines in
-    (model.Graft w node true (skeleton_prefix depth skeleton) splits (Some (skeleton_tree b depth skeleton ([] ∷ own_names))), Taken)
-entry_of b (entry.Refused w node own depth splits why) own_bytes own_lines own_names = (model.Graft w node own own_bytes splits None, refusal_reply why)
-entry_of b (entry.Offer w own count time offered) own_bytes own_lines own_names = (model.Offer w own own_bytes time, offered_reply offered)
-entry_of b (entry.Back w node returned) own_bytes own_lines own_names = (model.Back w node, if returned then Returned else NotOut)
-entry_of b (entry.Retire w) own_bytes own_lines own_names = (model.Retire w, Retired)
+-- of a ledger of this problem, by the entry, its own bytes, and the lines that it made nodes of
+abbrev pub entry_of : Problem → Entry → List ℕ → List (Vertex Terminal) → Event × Reply
+entry_of b (entry.Grant w splits) own_bytes own_lines = (model.Grant w, Granted splits)
+entry_of b (entry.Claim w node) own_bytes own_lines = (model.Claim w, Claimed node)
+entry_of b (entry.Taken w node depth root nodes splits) own_bytes own_lines =
+    (model.Graft w node true own_bytes splits (Some (read_tree Frontier (line_of b [] own_bytes root ∷ own_lines))), Taken)
+entry_of b (entry.Refused w node own depth splits why) own_bytes own_lines = (model.Graft w node own own_bytes splits None, refusal_reply why)
+entry_of b (entry.Offer w own count time offered) own_bytes own_lines = (model.Offer w own own_bytes time, offered_reply offered)
+entry_of b (entry.Back w node returned) own_bytes own_lines = (model.Back w node, if returned then Returned else NotOut)
+entry_of b (entry.Retire w) own_bytes own_lines = (model.Retire w, Retired)
 
--- of entries: the bytes of one come after those of the entries before it, and so do its lines and their names
-abbrev pub entries_of : Problem → List Entry → List ℕ → List ℕ → List (List ℕ) → List (Event × Reply)
-entries_of b [] bytes lines names = []
-entries_of b (e ∷ es) bytes lines names =
-    entry_of b e (take (byte_count e) bytes) (take (line_count e) lines) (take (line_count e) names) ∷ entries_of b es (drop (byte_count e) bytes) (drop (line_count e) lines) (drop (line_count e) names)
+-- of entries: the bytes of one come after those of the entries before it, and so do its lines
+abbrev pub entries_of : Problem → List Entry → List ℕ → List (Vertex Terminal) → List (Event × Reply)
+entries_of b [] bytes lines = []
+entries_of b (e ∷ es) bytes lines =
+    entry_of b e (take (byte_count e) bytes) (take (line_count e) lines) ∷ entries_of b es (drop (byte_count e) bytes) (drop (line_count e) lines)

@@ -1,12 +1,16 @@
 -- Used by contracts: what they see of a ledger's machine, and what one move of it is. Used by an invariant: what is true of every machine that is kept.
-use Rattle.std.specs.Prelude.{ℕ, ◌+◌, ◌*◌, ◌≡◌, ◌≤◌, List, length}
+use Rattle.std.specs.Prelude.{ℕ, ◌+◌, ◌*◌, ◌≡◌, ◌<◌, ◌≤◌, List, length, get_or, Option, None, Some}
 use Rattle.s66_isa.specs.declared.limits.TheConstants.{BLOCK_LIMIT}
 use Rattle.s66_model.specs.declared.rule.Rule.{Rule}
 use Rattle.s66_model.specs.Timing.{Problem}
-use Rattle.s66_model.specs.Ledger.{Ledger, Event, Reply, Step}
+use Rattle.s66_model.specs.Tree.{Vertex, AtTerminal}
+use Rattle.s66_model.specs.Piece.{Terminal, Frontier}
+use Rattle.s66_model.specs.Ledger.{Ledger, Node, node_at, Event, Reply, Step}
 use Rattle.s66_model.specs.Reached.{IsReached}
 use Rattle.s66_time.specs.TimedOrder.{TimedOrder}
-use Rattle.s66_ledger.specs.declared.node.Node.{Node}
+use Rattle.s66_node.specs.declared.node.Node as code
+use Rattle.s66_node.specs.declared.node.State.{State}
+use Rattle.s66_node.specs.Nodes.{line_of}
 use Rattle.s66_model.specs.declared.limits.TheConstants.{BUDGET_LIMIT}
 use Rattle.s66_ledger.specs.Nodes.{nodes_of, lines_of, HaveFloors}
 
@@ -18,8 +22,8 @@ pub record MachineOf : Type 0 where
   pub budget : ℕ
   pub workers : ℕ
   pub state : Ledger
-  -- the bytes of the lines that made its nodes
-  pub lines : List ℕ
+  -- the lines of pieces that made its nodes
+  pub lines : List (Vertex Terminal)
 
 -- one event with its reply: a step of the machine
 abbrev pub IsMove : MachineOf → Event → Reply → MachineOf → Type 0
@@ -27,16 +31,22 @@ IsMove old event reply new =
     (new.problem ≡ old.problem) × (new.budget ≡ old.budget) × (new.workers ≡ old.workers)
     × Step old.rule old.problem old.state event reply new.state × (new.rule ≡ old.rule)
 
-abbrev pub state_of : Problem → List Node → List ℕ → ℕ → List ℕ → ℕ → Ledger
+abbrev pub state_of : Problem → List code.Node → List ℕ → ℕ → List ℕ → ℕ → Ledger
 state_of b nodes best left allowances spent =
     record { nodes = nodes_of b nodes; best = best; left = left; allowances = allowances; spent = spent }
+
+-- a node of this number was made so, by its line; none if there is none
+abbrev pub IsMadeAs : Problem → List Node → List (Vertex Terminal) → ℕ → Option State → Type 0
+IsMadeAs b nodes lines i None = length lines ≤ i
+IsMadeAs b nodes lines i (Some s) =
+    (i < length lines) × ((name : List ℕ) × (get_or lines i (AtTerminal Frontier) ≡ line_of b name (node_at nodes i).prefix s))
 
 -- a machine as code stores it
 pub record Stored : Type 0 where
   pub rule : Rule
   pub problem : Problem
   pub budget : ℕ
-  pub nodes : List Node
+  pub nodes : List code.Node
   pub best : TimedOrder
   pub left : ℕ
   pub allowances : List ℕ
@@ -47,7 +57,7 @@ ledger_of m = state_of m.problem m.nodes m.best.numbers m.left m.allowances m.sp
 
 abbrev pub machine_of : Stored → MachineOf
 machine_of m =
-    record { rule = m.rule; problem = m.problem; budget = m.budget; workers = length m.allowances; state = ledger_of m; lines = lines_of m.nodes }
+    record { rule = m.rule; problem = m.problem; budget = m.budget; workers = length m.allowances; state = ledger_of m; lines = lines_of m.problem m.nodes }
 
 pub record IsKept (m : Stored) : Type 0 where
   -- some history leads here from the opening

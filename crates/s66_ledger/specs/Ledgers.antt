@@ -3,10 +3,11 @@ use Rattle.std.specs.Prelude.{ℕ, ◌≡◌, List, [], ◌∷◌, ◌++◌, ◌
 use Rattle.s66_isa.specs.Lists.{weigh}
 use Rattle.s66_model.specs.declared.rule.Rule.{Rule}
 use Rattle.s66_model.specs.Timing.{Problem}
+use Rattle.s66_model.specs.Tree.{Vertex}
+use Rattle.s66_model.specs.Piece.{Terminal}
 use Rattle.s66_model.specs.Ledger.{Ledger, Event, Reply, Step, Run, opening}
 use Rattle.s66_model.specs.Accounts.{Summary, summary_of}
 use Rattle.s66_ledger.specs.declared.entry.Entry.{Entry}
-use Rattle.s66_ledger.specs.DominatedNodes.{names_in}
 use Rattle.s66_ledger.specs.HistoryEntries.{byte_count, line_count, entries_of}
 use Rattle.s66_ledger.specs.LedgerMachine.{MachineOf}
 
@@ -22,12 +23,12 @@ pub record LedgerOf : Type 0 where
   pub entries : List Entry
   -- the bytes of the entries, one's after another's
   pub bytes : List ℕ
-  -- the bytes of the lines that made its nodes
-  pub lines : List ℕ
+  -- the lines of pieces that made its nodes
+  pub lines : List (Vertex Terminal)
 
--- the events of its history, with their replies; no line made the first node. A name is that of the node that the line made, which keeps it
+-- the events of its history, with their replies; no line made the first node
 abbrev pub events_of : LedgerOf → List (Event × Reply)
-events_of l = entries_of l.problem l.entries l.bytes (drop 1 l.lines) (drop 1 (names_in l.state.nodes))
+events_of l = entries_of l.problem l.entries l.bytes (drop 1 l.lines)
 
 -- one event with its reply: a step of the machine, and an entry
 abbrev pub IsEvent : LedgerOf → Event → Reply → LedgerOf → Type 0
@@ -40,7 +41,6 @@ pub record IsRecorded (l : LedgerOf) : Type 0 where
   pub run : Run l.rule l.problem (opening l.problem l.budget l.workers) (events_of l) l.state
   pub bytes : weigh byte_count l.entries ≡ length l.bytes
   pub lines : weigh line_count l.entries + 1 ≡ length l.lines
-  pub nodes : length l.state.nodes ≡ length l.lines
 
 -- what the rule of a lock reads of it
 abbrev pub account_summary : LedgerOf → Summary

@@ -1,10 +1,9 @@
 pub mod Answers
 pub mod ClaimedNodes
-pub mod Closing
-pub mod DominatedNodes
 pub mod AnswerLines
 pub mod HistoryEntries
 pub mod Finishing
+pub mod Grafting
 pub mod GraftMoves
 pub mod Grafts
 pub mod LedgerMachine
@@ -13,9 +12,6 @@ pub mod Links
 pub mod LiveNodes
 pub mod Nodes
 pub mod OpenNodes
-pub mod Opened
 pub mod PieceSplits
-pub mod Attaching
 pub mod Replies
 pub mod Steps
-pub mod Subtrees

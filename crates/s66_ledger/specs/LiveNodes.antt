@@ -1,8 +1,9 @@
 -- Used by contracts within the crate alone: the floors of the nodes that are open or out, how many are out, and how deep they are.
 use Rattle.std.specs.Prelude.{ℕ, ◌≡◌, ◌≤◌, true, if◌then◌else◌, List, [], ◌∷◌, ◌++◌}
 use Rattle.s66_isa.specs.Lists.{tally}
-use Rattle.s66_ledger.specs.declared.node.Node.{Node}
-use Rattle.s66_ledger.specs.Nodes.{node_at, is_live_state, is_out}
+use Rattle.s66_node.specs.declared.node.Node.{Node}
+use Rattle.s66_node.specs.Nodes.{is_live_state}
+use Rattle.s66_ledger.specs.Nodes.{node_at, is_out}
 
 abbrev pub live_values : List Node → List ℕ
 live_values [] = []

@@ -1,16 +1,15 @@
-ghost use Rattle.std.specs.Prelude.{ℕ, List, ◌+◌, ◌≡◌, ◌<◌, ◌^◌, ◌↔◌, IsTrue, length, IfOk, OnOk, OnErr};
+ghost use Rattle.std.specs.Prelude.{ℕ, ◌+◌, ◌≡◌, ◌<◌, ◌^◌, ◌↔◌, IsTrue, length, map, IfOk, OnOk, OnErr};
 ghost use Rattle.std.specs.BinaryHeap.{IsHeap, heap_items};
+ghost use Rattle.s66_node.specs.declared.node.State.TheVariants as state;
+ghost use Rattle.s66_node.specs.Nodes.{named};
 ghost use Rattle.s66_ledger.specs.LiveNodes.{AreCounted};
 ghost use Rattle.s66_ledger.specs.Nodes.{with_state};
 ghost use Rattle.s66_ledger.specs.OpenNodes.{AreOpenNodes, compare_ranked};
-ghost use Rattle.s66_ledger.specs.Closing.{Closes, IsClosing, IsNamed};
-ghost use Rattle.s66_ledger.specs.Subtrees.{placed, settled, settled_state};
-ghost use Rattle.s66_node.specs.SeenVertices.{seen, seen_vertex};
+ghost use Rattle.s66_ledger.specs.Grafting.{placed_parent, placed, settled_state, opened_state, IsNamed, Grafts, IsGrafting, HaveNames};
 
-use crate::node::{Node, State};
 use crate::path;
 use crate::rank::rank_of;
-use s66_node::{PASSED, Vertex};
+use s66_node::{Dominance, Node, State};
 use std::alloc::AllocError;
 use std::collections::BinaryHeap;
 
@@ -39,22 +38,25 @@ pub fn settled_state(state: State, value: u32, best: u32) -> State
     }
 }
 
-/// A subtree's node for this best time, under the root of this number; the subtree's first node has the number `first`.
-fn placed(node: &Node, root: u32, first: u32, best: u32) -> Node
-    ensures { result ≡ placed root first (settled best node.now) }
+/// What is made of a node of a piece if its name isn't found.
+pub fn opened_state(state: State) -> State
+    ensures { result ≡ opened_state state }
+{
+    match state {
+        State::Dominated => State::Open,
+        _ => state,
+    }
+}
+
+/// A piece's node under the root of this number; the first node after the root has the number `first`.
+fn placed(node: &Node, root: u32, first: u32) -> Node
+    ensures { result ≡ placed root first node.now }
 {
     let parent = match node.parent {
         0 => root,
         place => first.saturating_add(place - 1),
     };
-    Node {
-        parent,
-        value: node.value,
-        number: node.number,
-        depth: node.depth,
-        line: node.line,
-        state: settled_state(node.state, node.value, best),
-    }
+    Node { parent, ..*node }
 }
 
 /// Whether the node of this number has this prefix and isn't dominated, in time linear in the prefix's length.
@@ -65,59 +67,72 @@ fn is_named(nodes: &[Node], named: u32, numbers: &[u8]) -> bool
     i < nodes.len() && nodes[i].state != State::Dominated && path::is_over(nodes, named, numbers)
 }
 
-/// The node of a line, to be put after those that there are. It is closed if the line's prefix is dominated and the node of that
-/// name is found at the place that the line guesses, else as it is. The piece's root has this number, and the first node below it
-/// the number `first`.
-fn closed(nodes: &[Node], root: u32, first: u32, vertex: &Vertex, node: Node) -> Node
-    ensures { Closes nodes.now (seen_vertex vertex.now) node result }
+/// A piece's node for this best time, to be put after those that there are. One that is dominated is closed if the node of its
+/// name is found at the place that the name guesses, and else open.
+fn grafted(
+    nodes: &[Node],
+    root: u32,
+    first: u32,
+    best: u32,
+    node: &Node,
+    dominances: &[Dominance],
+) -> Node
+    requires { node.now.state ≡ state.Dominated → node.now.value < length dominances.now }
+    ensures { Grafts best root first (map named dominances.now) nodes.now node.now result }
 {
-    let Vertex::Passed { name, .. } = vertex else {
-        return node;
-    };
-    let named = name.place.number(root, first);
-    if !is_named(nodes, named, name.numbers.as_slice()) {
-        return node;
+    let placed = placed(node, root, first);
+    if node.state != State::Dominated {
+        return Node {
+            state: settled_state(node.state, node.value, best),
+            ..placed
+        };
     }
-    Node {
-        parent: node.parent,
-        value: named,
-        number: node.number,
-        depth: node.depth,
-        line: PASSED,
-        state: State::Dominated,
+    let dominance = &dominances[node.value as usize];
+    let named = dominance.name.place.number(root, first);
+    if is_named(nodes, named, dominance.name.numbers.as_slice()) {
+        Node {
+            value: named,
+            ..placed
+        }
+    } else {
+        Node {
+            value: dominance.floor,
+            made: State::Open,
+            state: State::Open,
+            ..placed
+        }
     }
 }
 
-/// Puts a subtree's nodes, which come with their piece's lines, after those that there are, under the root of this number. Those
-/// of dominated lines are closed if the names are found, and those that are open go into the heap. Returns how deep those that
-/// are open or out are then. It takes time linear in their number and in the length of each name, with a logarithm of the number
-/// of open nodes for each that is open. `Err` leaves all as it was.
+/// Puts a piece's nodes below its root after those that there are, under the root of this number. Dominated ones are closed if
+/// their names are found, and those that are open go into the heap. Returns how deep those that are open or out are then. It takes
+/// time linear in their number and in the length of each name, with a logarithm of the number of open nodes for each that is open.
+/// `Err` leaves all as it was.
 pub fn append(
     nodes: &mut Vec<Node>,
     heap: &mut BinaryHeap<(u32, u32)>,
     deepest: u8,
     root: u32,
     best: u32,
-    vertices: &[Vertex],
-    subtree: &[Node],
+    below: &[Node],
+    dominances: &[Dominance],
 ) -> Result<u8, AllocError>
     requires heap { IsHeap compare_ranked (heap_items heap.old) }
     requires open_nodes { AreOpenNodes nodes.old.items (heap_items heap.old) }
-    requires room { length nodes.old.items + length subtree.now < 2 ^ 32 }
-    requires lines { length subtree.now < length vertices.now }
+    requires room { length nodes.old.items + length below.now < 2 ^ 32 }
+    requires names { HaveNames (length dominances.now) below.now }
     ensures heap { IsHeap compare_ranked (heap_items heap.new) }
     ensures open_nodes { AreOpenNodes nodes.new.items (heap_items heap.new) }
-    ensures ok { OnOk result (IsClosing best root nodes.old.items subtree.now (seen vertices.now) nodes.new.items) }
+    ensures ok { OnOk result (IsGrafting best root (map named dominances.now) nodes.old.items below.now nodes.new.items) }
     ensures counted { IfOk result (λ d. (out : ℕ) → AreCounted nodes.old.items out deepest → AreCounted nodes.new.items out d) }
     ensures err { OnErr result (nodes.new.items ≡ nodes.old.items) }
 {
-    heap.reserve(subtree.len())?;
-    nodes.reserve(subtree.len())?;
+    heap.reserve(below.len())?;
+    nodes.reserve(below.len())?;
     let mut deepest = deepest;
     let first = nodes.len() as u32;
-    for i in 0..subtree.len() {
-        let plain = placed(&subtree[i], root, first, best);
-        let node = closed(nodes.as_slice(), root, first, &vertices[i + 1], plain);
+    for i in 0..below.len() {
+        let node = grafted(nodes.as_slice(), root, first, best, &below[i], dominances);
         if node.state.is_open() {
             let Ok(()) = heap.push((rank_of(node.value, node.depth), first + i as u32)) else {
                 unreachable!()

@@ -3,6 +3,7 @@ ghost use Rattle.s66_ledger.specs.HistoryEntries.{error_of};
 ghost use Rattle.s66_ledger.specs.declared.reply.GraftError.TheVariants as error;
 
 use crate::reply::{GraftError, Offered};
+use s66_node::State;
 
 /// What a ledger's history has of one event, with its reply. Workers count from 1, nodes from 0; times are in minor cycles.
 ///
@@ -19,14 +20,14 @@ pub enum Entry {
         w: u8,
         node: Option<u32>,
     },
-    /// A piece of `splits` splits was put in the place of the node. The bytes are the `depth` numbers of its prefix and the byte
-    /// of its root's line. Those of the `lines` lines below are in the nodes that the piece became, one in each, and so are the
-    /// names of dominated ones.
+    /// A piece of `splits` splits was put in the place of the node; its root was this. The bytes are the `depth` numbers of its
+    /// prefix. The `nodes` nodes below its root are the next ones of the ledger, which say what they were in it.
     Taken {
         w: u8,
         node: u32,
         depth: u8,
-        lines: u32,
+        root: State,
+        nodes: u32,
         splits: u32,
     },
     /// A piece of `splits` splits was refused; `own` says whether it is of the ledger's block and profile. The bytes are the

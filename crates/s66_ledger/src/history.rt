@@ -8,8 +8,7 @@ use std::alloc::Global;
 pub struct History {
     /// An entry for each event, the oldest first.
     pub entries: Vec<Entry>,
-    /// The bytes of the entries that have some, those of one after those of the entries before it. What a piece's lines below its
-    /// root say isn't among them: the nodes that they made store it.
+    /// The bytes of the entries that have some, one's after another's.
     pub bytes: Vec<u8>,
 }
 

@@ -1,19 +1,15 @@
-ghost use Rattle.std.specs.Prelude.{◌≡◌, ◌++◌, OnOk, OnErr};
-ghost use Rattle.s66_ledger.specs.Opened.{opened};
-ghost use Rattle.s66_ledger.specs.Subtrees.{root_bytes};
-
 use crate::answer::Answer;
+use crate::attaching::opened_state;
 use crate::entry::{Entry, refusal_of};
 use crate::history::History;
 use crate::machine::Machine;
 use crate::reply::{BackError, GraftError, Offered};
 use crate::step::node_of;
-use crate::subtree::{Subtree, byte_of};
 use arrayvec::ArrayVec;
 use s66_isa::{BLOCK_LIMIT, Profile};
 use s66_line::Block;
 use s66_model::{BUDGET_LIMIT, Rule, Summed, Ticket};
-use s66_node::{Marks, Piece, Walk};
+use s66_node::{Marks, Piece, State, Walk};
 use s66_time::Timed;
 use std::alloc::{AllocError, Global};
 use std::marker::Model;
@@ -23,7 +19,6 @@ use std::marker::Model;
 pub struct Ledger<'a> {
     machine: Machine<'a>,
     history: History,
-    pub(crate) alloc: Global,
 }
 
 impl<'a> Model for Ledger<'a> {
@@ -42,19 +37,6 @@ impl<'a> Summed for Ledger<'a> {
     ghost summary = { λ l. account_summary l };
 }
 
-/// Appends the bytes of a piece's root to those that are stored: its prefix and the byte of its line. `Err` is out of memory.
-fn keep_root(bytes: &mut Vec<u8>, piece: &Piece) -> Result<(), AllocError>
-    ensures ok { OnOk result (bytes.new.items ≡ bytes.old.items ++ root_bytes (opened piece.now)) }
-    ensures err { OnErr result (bytes.new.items ≡ bytes.old.items) }
-{
-    let prefix = piece.prefix();
-    let line = byte_of(&piece.vertices()[0]);
-    bytes.reserve(prefix.len() + 1)?;
-    bytes.extend_from_slice(prefix)?;
-    bytes.push_reserved(line);
-    Ok(())
-}
-
 impl<'a> Ledger<'a> {
     ghost use Rattle.std.specs.Prelude.{ℕ, List, [], ◌≡◌, ◌≢◌, ◌≤◌, length, slice_get, IfOk, IfSome, IfNone, IfErr, OnOk, OnErr};
     ghost use Rattle.s66_line.specs.Block.{instrs_of};
@@ -70,9 +52,8 @@ impl<'a> Ledger<'a> {
     ghost use Rattle.s66_ledger.specs.Ledgers.{IsEvent, IsRecorded, events_of, account_summary};
     ghost use Rattle.s66_ledger.specs.Answers.{answer_of};
     ghost use Rattle.s66_ledger.specs.Grafts.{IsGraft, IsRefusedGraft, IsGraftAt, IsRefusedGraftAt};
-    ghost use Rattle.s66_ledger.specs.Opened.{opened};
-    ghost use Rattle.s66_ledger.specs.Subtrees.{IsSubtreeOf};
     ghost use Rattle.s66_ledger.specs.ClaimedNodes.{claimed_node, IsTicketOf, IsLeastOpen};
+    ghost use Rattle.s66_ledger.specs.LedgerMachine.{IsMadeAs};
     ghost use Rattle.s66_ledger.specs.Replies.{offered_reply};
     ghost use Rattle.s66_model.specs.declared.limits.TheConstants.{BUDGET_LIMIT};
     ghost use Rattle.s66_ledger.specs.declared.reply.BackError.TheVariants as refused;
@@ -137,7 +118,6 @@ impl<'a> Ledger<'a> {
         Ok(Ledger {
             machine: Machine::new(alloc, walk, rule, budget, workers)?,
             history: History::new(alloc),
-            alloc,
         })
     }
 
@@ -186,12 +166,12 @@ impl<'a> Ledger<'a> {
         &self.history
     }
 
-    /// The byte of the piece line that made the node of this number, as `Vertex::byte` returns it. The history leaves these bytes
-    /// of each piece that was taken to the nodes. No line made node 0. None if there is no such node.
-    pub fn line(&self, node: u32) -> Option<u8>
-        ensures { result ≡ slice_get self.now.lines node }
+    /// What the node of this number was in the piece that made it, and open if its name wasn't found; node 0 was made open. None if
+    /// there is no such node. With its prefix and its name this is its line of the piece.
+    pub fn made(&self, node: u32) -> Option<State>
+        ensures { IsMadeAs self.now.problem self.now.state.nodes self.now.lines node result }
     {
-        self.machine.line_of(node)
+        self.machine.made(node)
     }
 
     /// The name of a node that is dominated: the prefix of the node that dominates it, by the line that made it. None of any
@@ -361,7 +341,7 @@ impl<'a> Ledger<'a> {
     /// closed if its name is found at the place that the piece guesses, at a node that comes before it and isn't dominated
     /// itself; else it is kept open.
     ///
-    /// It takes time linear in the piece's lines and their names, with a logarithm of the number of open nodes for each that is
+    /// It takes time linear in the piece's nodes and their names, with a logarithm of the number of open nodes for each that is
     /// open. All room is made before anything changes.
     pub fn graft(
         &mut self,
@@ -375,26 +355,16 @@ impl<'a> Ledger<'a> {
         ensures err { OnErr result (self.new.state ≡ self.old.state) }
         ensures handed_back { IfErr result (λ e. (e.1 ≡ ticket) × (e.2 ≡ piece)) }
     {
-        let Ok(subtree) = Subtree::of(self.alloc, &piece) else {
-            return Err((GraftError::OutOfMemory, ticket, piece));
-        };
-        match self.graft_at(w, ticket.node(), &piece, &subtree) {
+        match self.graft_at(w, ticket.node(), &piece) {
             Ok(()) => Ok(()),
             Err(why) => Err((why, ticket, piece)),
         }
     }
 
-    /// Puts a piece, whose subtree comes with it, in the place of the node of this number, in the time of `graft` and with its
-    /// refusals. Both stay with the caller, who can make and drop them while no other thread waits.
-    pub fn graft_at(
-        &mut self,
-        w: u8,
-        node: u32,
-        piece: &Piece,
-        subtree: &Subtree,
-    ) -> Result<(), GraftError>
-        requires worker { (1 ≤ w) × (w ≤ self.old.workers) }
-        requires subtree { IsSubtreeOf (opened piece.now) subtree.now }
+    /// Puts a piece in the place of the node of this number, in the time of `graft` and with its refusals. It stays with the caller,
+    /// who can drop it while no other thread waits.
+    pub fn graft_at(&mut self, w: u8, node: u32, piece: &Piece) -> Result<(), GraftError>
+        requires { (1 ≤ w) × (w ≤ self.old.workers) }
         ensures ok { OnOk result (IsGraftAt self.old w node piece.now Taken self.new) }
         ensures refused { IfErr result (λ why. IsRefusedGraftAt self.old w node piece.now why self.new) }
         ensures err { OnErr result (self.new.state ≡ self.old.state) }
@@ -402,20 +372,24 @@ impl<'a> Ledger<'a> {
         let Ok(()) = self.history.entries.reserve(1) else {
             return Err(GraftError::OutOfMemory);
         };
-        let kept = self.history.bytes.len();
-        let Ok(()) = keep_root(&mut self.history.bytes, piece) else {
-            return Err(GraftError::OutOfMemory);
-        };
         let prefix = piece.prefix();
         let depth = prefix.len() as u8;
+        let kept = self.history.bytes.len();
+        let Ok(()) = self.history.bytes.extend_from_slice(prefix) else {
+            return Err(GraftError::OutOfMemory);
+        };
         let splits = piece.splits();
-        let error = match self.machine.graft(w, node, piece, subtree) {
+        let first = self.machine.node_count();
+        let error = match self.machine.graft(w, node, piece) {
             Ok(()) => {
+                let root = opened_state(piece.nodes()[0].state);
+                let nodes = self.machine.node_count() - first;
                 self.history.entries.push_reserved(Entry::Taken {
                     w,
                     node,
                     depth,
-                    lines: subtree.count(),
+                    root,
+                    nodes,
                     splits,
                 });
                 return Ok(());
@@ -426,12 +400,10 @@ impl<'a> Ledger<'a> {
             self.history.bytes.truncate(kept);
             return Err(error);
         };
-        let own = self.machine.is_own(piece);
-        self.history.bytes.truncate(kept + depth as usize);
         self.history.entries.push_reserved(Entry::Refused {
             w,
             node,
-            own,
+            own: self.machine.is_own(piece),
             depth,
             splits,
             why,
@@ -451,11 +423,7 @@ impl<'a> Ledger<'a> {
         ensures budget { IfOk result (λ a. a.budget ≡ self.entry.budget) }
         ensures finished { IfOk result (λ a. IsFinished self.entry.rule self.entry.problem self.entry.budget self.entry.state (answer_of a)) }
     {
-        let Ledger {
-            machine,
-            history,
-            ..
-        } = self;
+        let Ledger { machine, history } = self;
         drop(history);
         machine.finish(alloc)
     }
@@ -476,11 +444,7 @@ impl<'a> Ledger<'a> {
         ensures budget { IfOk result (λ a. a.budget ≡ self.entry.budget) }
         ensures finished { IfOk result (λ a. IsFinished self.entry.rule self.entry.problem self.entry.budget self.entry.state (answer_of a)) }
     {
-        let Ledger {
-            machine,
-            history,
-            ..
-        } = self;
+        let Ledger { machine, history } = self;
         drop(history);
         machine.finish_with(alloc, walk, marks)
     }

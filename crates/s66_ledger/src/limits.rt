@@ -12,6 +12,3 @@ pub const SCHEDULE_ROUNDS: u32 = 16;
 
 /// The most splits of a piece in which any node of the ledger may be named.
 pub const DOMINATED_PIECE_LIMIT: u32 = 8;
-
-/// No piece of this many lines is grafted: no worker may spend its splits, nor is there memory for its nodes.
-pub const PIECE_LINES_LIMIT: usize = 0x8000_0000;

@@ -9,14 +9,13 @@ ghost use Rattle.s66_model.specs.Tree.{AtTerminal};
 ghost use Rattle.s66_ledger.specs.AnswerLines.{AreOneTree, StandsAt, lines_left, to_come};
 ghost use Rattle.s66_ledger.specs.Links.{AreLinks};
 ghost use Rattle.s66_ledger.specs.Nodes.{node_at, nodes_of, HaveFloors};
-ghost use Rattle.s66_ledger.specs.declared.node.State.TheVariants as state;
+ghost use Rattle.s66_node.specs.declared.node.State.TheVariants as state;
 
 use crate::links::Links;
-use crate::node::{Node, State};
 use crate::path::{name_of, up};
 use s66_bound::Leaf;
 use s66_dep::Set;
-use s66_node::Walk;
+use s66_node::{Node, State, Walk};
 use s66_tree::{Tree, TreeLine};
 use std::alloc::AllocError;
 

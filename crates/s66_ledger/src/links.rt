@@ -1,8 +1,8 @@
 ghost use Rattle.std.specs.Prelude.{◌≡◌, ◌<◌, ◌^◌, length, IfOk};
 ghost use Rattle.s66_ledger.specs.Links.{AreLinks, IsChild, HasChild};
 
-use crate::node::Node;
 use crate::path::up;
+use s66_node::Node;
 use std::alloc::{AllocError, Global};
 
 /// The way from a node of a table down to its children, the last made first.

@@ -2,7 +2,7 @@ ghost use Rattle.std.specs.Prelude.{◌≡◌, ◌∷◌};
 ghost use Rattle.s66_isa.specs.Lists.{least};
 ghost use Rattle.s66_ledger.specs.LiveNodes.{live_values};
 
-use crate::node::Node;
+use s66_node::Node;
 
 /// The least of a value and the floors of the nodes that are open or out.
 pub fn least_floor(nodes: &[Node], value: u32) -> u32

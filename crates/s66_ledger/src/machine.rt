@@ -2,13 +2,12 @@ use crate::answer::Answer;
 use crate::limits::GRANT_LIMIT;
 use crate::node_table::NodeTable;
 use crate::reply::{BackError, GraftError, Offered};
-use crate::subtree::Subtree;
 use arrayvec::ArrayVec;
 use s66_dep::Order;
 use s66_isa::{BLOCK_LIMIT, Profile};
 use s66_line::Block;
 use s66_model::{BUDGET_LIMIT, Rule, Ticket};
-use s66_node::{Marks, Piece, Priority, Walk};
+use s66_node::{Marks, Piece, Priority, State, Walk};
 use s66_time::{Timed, time_of};
 use std::alloc::{AllocError, Global};
 use std::marker::Model;
@@ -51,15 +50,13 @@ impl<'a> Machine<'a> {
     ghost use Rattle.s66_model.specs.Coverage.{Covers, bound_of, IsFinished};
     ghost use Rattle.s66_model.specs.BestAndBound.{IsBound};
     ghost use Rattle.s66_model.specs.NodeTable.{IsTable};
-    ghost use Rattle.s66_ledger.specs.LedgerMachine.{IsMove};
+    ghost use Rattle.s66_ledger.specs.LedgerMachine.{IsMove, IsMadeAs};
     ghost use Rattle.s66_model.specs.Ended.{IsEnded, ended_answer};
     ghost use Rattle.s66_ledger.specs.Answers.{answer_of};
     ghost use Rattle.s66_ledger.specs.Finishing.{IsReopening, IsSearched, Leads, NoneOut, WholesAreTimed};
     ghost use Rattle.s66_ledger.specs.GraftMoves.{IsTakenMove, IsRefusedMove};
     ghost use Rattle.s66_ledger.specs.ClaimedNodes.{claimed_node, IsTicketOf, IsLeastOpen};
     ghost use Rattle.s66_ledger.specs.Replies.{offered_reply};
-    ghost use Rattle.s66_ledger.specs.Opened.{opened};
-    ghost use Rattle.s66_ledger.specs.Subtrees.{IsSubtreeOf};
     ghost use Rattle.s66_model.specs.declared.limits.TheConstants.{BUDGET_LIMIT};
     ghost use Rattle.s66_ledger.specs.declared.reply.BackError.TheVariants as refused;
 
@@ -268,16 +265,17 @@ impl<'a> Machine<'a> {
 
     /// How many nodes there are.
     pub(crate) fn node_count(&self) -> u32
-        ensures { result ≡ length self.now.state.nodes }
+        ensures value { result ≡ length self.now.state.nodes }
+        ensures lines { result ≡ length self.now.lines }
     {
         self.table.count() as u32
     }
 
-    /// The byte of the line that made a node, if there is one of this number.
-    pub fn line_of(&self, node: u32) -> Option<u8>
-        ensures { result ≡ slice_get self.now.lines node }
+    /// What a node was in the piece that made it, if there is one of this number.
+    pub fn made(&self, node: u32) -> Option<State>
+        ensures { IsMadeAs self.now.problem self.now.state.nodes self.now.lines node result }
     {
-        self.table.line_of(node)
+        self.table.made(node)
     }
 
     /// The name of a node that is dominated: the prefix of the node that dominates it. None of any other node. In time linear in its
@@ -337,21 +335,14 @@ impl<'a> Machine<'a> {
         piece.rule() == self.rule && piece.is_of(self.block, &self.profile)
     }
 
-    /// Puts a piece, whose subtree comes with it, in the place of a node that was handed out, and spends its splits. The node
-    /// takes the state of the piece's root, and the piece's other prefixes become nodes. A leaf that is below the best time is
-    /// kept open, and so is a dominated prefix whose name isn't found at the place that the piece guesses.
+    /// Puts a piece in the place of a node that was handed out, and spends its splits. The node takes the state of the piece's root,
+    /// and the piece's other prefixes become nodes. A leaf that is below the best time is kept open, and so is a dominated prefix
+    /// whose name isn't found at the place that the piece guesses.
     ///
-    /// It takes time linear in the piece's lines, with a logarithm of the number of open nodes for each that is open. All room is
-    /// made before anything changes.
-    pub fn graft(
-        &mut self,
-        w: u8,
-        node: u32,
-        piece: &Piece,
-        subtree: &Subtree,
-    ) -> Result<(), GraftError>
-        requires worker { (1 ≤ w) × (w ≤ self.old.workers) }
-        requires subtree { IsSubtreeOf (opened piece.now) subtree.now }
+    /// It takes time linear in the piece's nodes and their names, with a logarithm of the number of open nodes for each that is open.
+    /// All room is made before anything changes.
+    pub fn graft(&mut self, w: u8, node: u32, piece: &Piece) -> Result<(), GraftError>
+        requires { (1 ≤ w) × (w ≤ self.old.workers) }
         ensures ok { OnOk result (IsTakenMove self.old w node piece.now self.new) }
         ensures refused { IfErr result (λ e. IsRefusedMove self.old w node piece.now e self.new) }
         ensures err { OnErr result (self.new ≡ self.old) }
@@ -359,8 +350,8 @@ impl<'a> Machine<'a> {
         // so the numbers of its nodes fit
         prove!(self.block.count() <= BLOCK_LIMIT);
         let own = self.is_own(piece);
-        // proof only: its lines are those of a piece's tree
-        let _lines = piece.vertices();
+        // proof only: its nodes are those of a piece's tree
+        let _nodes = piece.nodes();
         if !self.table.is_out(node) {
             return Err(GraftError::NotOut);
         }
@@ -376,7 +367,7 @@ impl<'a> Machine<'a> {
             return Err(GraftError::OverAllowance);
         }
         let best = self.best.total();
-        let Ok(()) = self.table.attach(node, best, piece, subtree) else {
+        let Ok(()) = self.table.attach(node, best, piece) else {
             return Err(GraftError::OutOfMemory);
         };
         self.allowances[at] -= splits;

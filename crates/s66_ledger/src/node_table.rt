@@ -1,11 +1,9 @@
 use crate::attaching::{append, set_state, settled_state};
-use crate::node::{Node, State};
 use crate::rank::rank_of;
-use crate::subtree::{Subtree, state_of, value_of};
 use crate::{live, path};
 use arrayvec::ArrayVec;
 use s66_isa::BLOCK_LIMIT;
-use s66_node::{Piece, Vertex};
+use s66_node::{Dominance, Node, Piece, State};
 use std::alloc::{AllocError, Global};
 use std::collections::BinaryHeap;
 use std::marker::Model;
@@ -25,7 +23,7 @@ pub struct NodeTable {
 impl Model for NodeTable {
     ghost use Rattle.std.specs.Prelude.{List};
     ghost use Rattle.std.specs.BinaryHeap.{IsHeap, heap_items};
-    ghost use Rattle.s66_ledger.specs.declared.node.Node.{Node};
+    ghost use Rattle.s66_node.specs.declared.node.Node.{Node};
     ghost use Rattle.s66_ledger.specs.Nodes.{HaveDepths};
     ghost use Rattle.s66_ledger.specs.OpenNodes.{AreOpenNodes, compare_ranked};
     ghost use Rattle.s66_ledger.specs.LiveNodes.{AreCounted};
@@ -38,24 +36,24 @@ impl Model for NodeTable {
 }
 
 impl NodeTable {
-    ghost use Rattle.std.specs.Prelude.{ℕ, [], ◌∷◌, ◌++◌, ◌+◌, ◌^◌, ◌≡◌, ◌≢◌, ◌<◌, ◌≤◌, ◌↔◌, true, false, IsTrue, IfOk, OnOk, OnErr, IfSome, IfNone, length, get_or, slice_get};
+    ghost use Rattle.std.specs.Prelude.{ℕ, List, [], ◌∷◌, ◌++◌, ◌+◌, ◌^◌, ◌≡◌, ◌≢◌, ◌<◌, ◌≤◌, ◌↔◌, true, false, IsTrue, IfOk, OnOk, OnErr, IfSome, IfNone, length, map, option_map, get_or, slice_get};
     ghost use Rattle.s66_isa.specs.Lists.{tally, least};
     ghost use Rattle.s66_ledger.specs.LiveNodes.{live_values};
     ghost use Rattle.s66_isa.specs.declared.limits.TheConstants.{BLOCK_LIMIT};
-    ghost use Rattle.s66_ledger.specs.declared.node.State.{State};
-    ghost use Rattle.s66_ledger.specs.Closing.{IsSplitUnder, IsAttachedAs};
-    ghost use Rattle.s66_node.specs.declared.vertex.TheConstants.{FRONTIER};
-    ghost use Rattle.s66_ledger.specs.Opened.{opened};
-    ghost use Rattle.s66_ledger.specs.Subtrees.{IsSubtreeOf, attached};
-    ghost use Rattle.s66_ledger.specs.Nodes.{is_open, is_live_state, name_at, node_at, with_state, prefixes, nodes_of, lines_of, HaveFloors, HaveDepths};
+    ghost use Rattle.s66_node.specs.declared.node.Node.{Node};
+    ghost use Rattle.s66_node.specs.declared.node.State.{State};
+    ghost use Rattle.s66_node.specs.Nodes.{named};
+    ghost use Rattle.s66_ledger.specs.Grafting.{IsGrafting, IsSplitUnder, IsAttachedAs, HaveNames};
+    ghost use Rattle.s66_node.specs.Nodes.{is_live_state};
+    ghost use Rattle.s66_ledger.specs.Nodes.{is_open, name_at, node_at, with_state, prefixes, HaveFloors, HaveDepths};
     ghost use Rattle.s66_ledger.specs.OpenNodes.{IsOut, ranked};
 
     /// One node, the empty prefix with its floor, open.
     pub fn new(alloc: Global, floor: u32) -> Result<NodeTable, AllocError>
-        ensures { IfOk result (λ t. t ≡ (record { parent = 0; value = floor; number = 0; depth = 0; line = FRONTIER; state = State.Open }) ∷ []) }
+        ensures { IfOk result (λ t. t ≡ (record { parent = 0; value = floor; number = 0; depth = 0; made = State.Open; state = State.Open }) ∷ []) }
     {
         let mut nodes = Vec::new(alloc);
-        nodes.push(Node::root(floor))?;
+        nodes.push(Node::new(0, 0, 0, floor, State::Open))?;
         let mut open = BinaryHeap::new(alloc);
         open.push((rank_of(floor, 0), 0))?;
         Ok(NodeTable {
@@ -160,11 +158,12 @@ impl NodeTable {
         self.nodes[node as usize].value
     }
 
-    /// The byte of the line that made a node, if there is one of this number.
-    pub fn line_of(&self, node: u32) -> Option<u8>
-        ensures { result ≡ slice_get (lines_of self.now) node }
+    /// What a node was in the piece that made it, if there is one of this number.
+    pub fn made(&self, node: u32) -> Option<State>
+        ensures some { IfSome result (λ s. (node < length self.now) × (s ≡ (node_at self.now node).made)) }
+        ensures none { IfNone result (length self.now ≤ node) }
     {
-        Some(self.nodes.get(node as usize)?.line)
+        Some(self.nodes.get(node as usize)?.made)
     }
 
     /// The name of a node, if there is one of this number and it is dominated, in time linear in its length.
@@ -213,34 +212,29 @@ impl NodeTable {
         Ok(())
     }
 
-    /// Puts a piece, whose subtree comes with it, in the place of a node that is handed out. The node takes the state of the
-    /// piece's root, and the piece's other prefixes become nodes; dominated ones are closed if the nodes of their names are
-    /// found, and else open. It takes time linear in the piece's lines and their names, with a logarithm of the number of open
-    /// nodes for each that is open. `Err` leaves all as it was.
-    pub fn attach(
-        &mut self,
-        root: u32,
-        best: u32,
-        piece: &Piece,
-        subtree: &Subtree,
-    ) -> Result<(), AllocError>
+    /// Puts a piece in the place of a node that is handed out. The node takes the state of the piece's root, and the piece's other
+    /// nodes come after those that there are; dominated ones are closed if the nodes of their names are found, and else open. It
+    /// takes time linear in the piece's nodes and their names, with a logarithm of the number of open nodes for each that is open.
+    /// `Err` leaves all as it was.
+    pub fn attach(&mut self, root: u32, best: u32, piece: &Piece) -> Result<(), AllocError>
         requires out { IsOut self.old root }
         requires over { get_or (prefixes self.old) root [] ≡ piece.now.prefix }
         requires floors { HaveFloors piece.now.problem self.old }
-        requires room { length self.old + length piece.now.vertices < 2 ^ 32 }
-        requires subtree { IsSubtreeOf (opened piece.now) subtree.now }
+        requires room { length self.old + length piece.now.nodes < 2 ^ 32 }
         ensures err { OnErr result (self.new ≡ self.old) }
-        ensures count { OnOk result (length self.new + 1 ≡ length self.old + length piece.now.vertices) }
+        ensures count { OnOk result (length self.new + 1 ≡ length self.old + length piece.now.nodes) }
         ensures floors { OnOk result (HaveFloors piece.now.problem self.new) }
         ensures ok { OnOk result (IsAttachedAs piece.now best root self.old self.new) }
     {
         // proof only: the nodes have depths
         let _ = &self.nodes;
-        let vertex = &piece.vertices()[0];
-        if let Vertex::Split(_) = vertex {
-            return self.attach_split(root, best, piece, subtree);
+        let Some((first, below)) = piece.nodes().split_first() else {
+            unreachable!()
+        };
+        if let State::Split = first.state {
+            return self.attach_split(root, best, below, piece.dominances());
         }
-        if settled_state(state_of(vertex), value_of(vertex), best).is_open() {
+        if settled_state(first.state, first.value, best).is_open() {
             self.give_back(root)?;
             return Ok(());
         }
@@ -249,20 +243,20 @@ impl NodeTable {
         Ok(())
     }
 
-    /// Splits a node that is handed out: these nodes go under it.
+    /// Splits a node that is handed out: these nodes of a piece go under it.
     fn attach_split(
         &mut self,
         root: u32,
         best: u32,
-        piece: &Piece,
-        subtree: &Subtree,
+        below: &[Node],
+        dominances: &[Dominance],
     ) -> Result<(), AllocError>
         requires out { IsOut self.old root }
-        requires room { length self.old + length subtree.now < 2 ^ 32 }
-        requires lines { length subtree.now + 1 ≡ length piece.now.vertices }
-        requires depths { HaveDepths (attached best root self.old subtree.now) }
+        requires room { length self.old + length below.now < 2 ^ 32 }
+        requires names { HaveNames (length dominances.now) below.now }
+        requires depths { (all : List Node) → IsGrafting best root (map named dominances.now) self.old below.now all → HaveDepths all }
         ensures err { OnErr result (self.new ≡ self.old) }
-        ensures ok { OnOk result (IsSplitUnder best root self.old subtree.now piece.now.vertices self.new) }
+        ensures ok { OnOk result (IsSplitUnder best root (map named dominances.now) self.old below.now self.new) }
     {
         let deepest = append(
             &mut self.nodes,
@@ -270,8 +264,8 @@ impl NodeTable {
             self.deepest,
             root,
             best,
-            piece.vertices(),
-            subtree.nodes(),
+            below,
+            dominances,
         )?;
         self.deepest = deepest;
         set_state(&mut self.nodes, root as usize, State::Split);

@@ -3,9 +3,9 @@ ghost use Rattle.s66_isa.specs.declared.limits.TheConstants.{BLOCK_LIMIT};
 ghost use Rattle.s66_ledger.specs.Nodes.{name_at, node_at, prefixes};
 ghost use Rattle.s66_ledger.specs.Links.{parent_of};
 
-use crate::node::Node;
 use arrayvec::ArrayVec;
 use s66_isa::BLOCK_LIMIT;
+use s66_node::Node;
 
 /// Whether this is the prefix of a node: up its parents, in time linear in the prefix's length.
 pub fn is_over(nodes: &[Node], node: u32, prefix: &[u8]) -> bool

@@ -8,7 +8,6 @@ ghost use Rattle.s66_ledger.specs.PieceSplits.{piece_splits};
 use crate::limits::{DOMINATED_PIECE_LIMIT, SCHEDULE_ROUNDS};
 use crate::machine::Machine;
 use crate::reply::{BackError, GraftError};
-use crate::subtree::Subtree;
 use s66_model::{Rule, Ticket};
 use s66_node::{Constant, Marks, Piece, Priority, Walk, schedule_below};
 use std::alloc::{AllocError, Global};
@@ -131,7 +130,7 @@ impl<'a> Machine<'a> {
         let piece = self.expand(alloc, walk, marks, ticket.prefix())?;
         let root = ticket.node();
         let first = self.node_count();
-        self.take_in(alloc, ticket, piece)?;
+        self.take_in(ticket, piece)?;
         marks.settle(root, first);
         Ok(true)
     }
@@ -217,7 +216,7 @@ impl<'a> Machine<'a> {
     }
 
     /// Offers the best of the piece's whole orders, and puts the piece in the place of the ticket's node.
-    fn take_in(&mut self, alloc: Global, ticket: Ticket, piece: Piece) -> Result<(), AllocError>
+    fn take_in(&mut self, ticket: Ticket, piece: Piece) -> Result<(), AllocError>
         requires workers { 1 ≤ self.old.workers }
         requires covers { Covers self.old.rule self.old.problem self.old.budget self.old.state }
         requires within { IsWithin self.old.problem self.old.state ticket }
@@ -234,8 +233,7 @@ impl<'a> Machine<'a> {
     {
         // first, so that no whole order is left open below the best time
         self.offer_best(&piece);
-        let subtree = Subtree::of(alloc, &piece)?;
-        match self.graft(1, ticket.node(), &piece, &subtree) {
+        match self.graft(1, ticket.node(), &piece) {
             Ok(()) => Ok(()),
             Err(GraftError::OutOfMemory) => Err(AllocError),
             Err(GraftError::NotOut) => unreachable!(),

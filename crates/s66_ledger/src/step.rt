@@ -5,7 +5,6 @@ ghost use Rattle.s66_ledger.specs.Steps.{reply_of};
 
 use crate::ledger::Ledger;
 use crate::reply::{BackError, GraftError, Offered};
-use crate::subtree::Subtree;
 use s66_model::Ticket;
 use s66_node::Piece;
 use s66_time::Timed;
@@ -90,8 +89,7 @@ impl Ledger<'_> {
         ensures ok { IfOk result (λ reply. IsGraftAt self.old w node piece (reply_of reply) self.new) }
         ensures err { OnErr result (self.new ≡ self.old) }
     {
-        let subtree = Subtree::of(self.alloc, &piece)?;
-        match self.graft_at(w, node, &piece, &subtree) {
+        match self.graft_at(w, node, &piece) {
             Ok(()) => Ok(Reply::Taken),
             Err(GraftError::NotOut) => Ok(Reply::NotOut),
             Err(GraftError::OtherPrefix) => Ok(Reply::OtherPrefix),

@@ -1,9 +1,10 @@
 pub mod Earlier
 pub mod Growing
 pub mod Leasts
+pub mod Nodes
 pub mod NamedSplits
-pub mod Skeletons
 pub mod Pieces
+pub mod Pushing
 pub mod Firsts
 pub mod Frontiers
 pub mod Schedules

@@ -1,5 +1,4 @@
-pub mod SeenVertices
-pub mod Skeletons
+pub mod Nodes
 pub mod Pieces
 pub mod Walked
 pub mod Growing

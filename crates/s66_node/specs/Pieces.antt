@@ -4,36 +4,49 @@ use Rattle.s66_model.specs.declared.rule.Rule.{Rule}
 use Rattle.s66_model.specs.Timing.{Problem}
 use Rattle.s66_model.specs.Tree.{Tree, Vertex, flat, splits}
 use Rattle.s66_model.specs.Preorder.{read_tree}
-use Rattle.s66_model.specs.Piece.{Terminal}
-use Rattle.s66_model.specs.Stated.{Stated, StatedFrontier, tree_stated, IsStatedTree}
+use Rattle.s66_model.specs.Piece.{Terminal, Frontier, IsPiece}
 use Rattle.s66_model.specs.Expansion.{IsBestWhole}
 use Rattle.s66_time.specs.TimedOrder.{TimedOrder}
+use Rattle.s66_node.specs.declared.node.Node.{Node}
+use Rattle.s66_node.specs.Nodes.{Named, prefixes_over, lines_at, AreNodes}
+use Rattle.s66_node.specs.Growing.{tree_prefixes}
 
 pub record PieceOf : Type 0 where
   -- of its dominated leaves
   pub rule : Rule
   pub problem : Problem
   pub prefix : List ℕ
-  -- its tree's lines in preorder
-  pub vertices : List (Vertex Stated)
+  -- its tree's nodes in preorder
+  pub nodes : List Node
+  -- of the dominated ones, each by its node's value
+  pub names : List Named
   pub timed : Option TimedOrder
 
--- its tree with the values and names that its terminals state
-abbrev pub stated_tree : PieceOf → Tree Stated
-stated_tree p = read_tree (StatedFrontier 0) p.vertices
+abbrev pub prefixes_of : PieceOf → List (List ℕ)
+prefixes_of p = prefixes_over p.prefix p.nodes
+
+-- its tree's lines in preorder
+abbrev pub lines_of : PieceOf → List (Vertex Terminal)
+lines_of p = lines_at p.problem p.names (prefixes_of p) p.nodes
 
 -- its tree
 abbrev pub tree_of : PieceOf → Tree Terminal
-tree_of p = tree_stated p.problem p.prefix (stated_tree p)
+tree_of p = read_tree Frontier (lines_of p)
 
 -- a timed order of the problem that is one of the least whole orders of the tree; none if it has none
 abbrev pub IsBestTimed : Problem → List ℕ → Tree Terminal → Option TimedOrder → Type 0
 IsBestTimed b prefix tree None = IsBestWhole b prefix tree None
 IsBestTimed b prefix tree (Some timed) = (timed.problem ≡ b) × IsBestWhole b prefix tree (Some timed.numbers)
 
+-- its nodes are those of its tree in preorder
+pub record AreTreeNodes (p : PieceOf) : Type 0 where
+  pub piece : IsPiece p.rule p.problem p.prefix (tree_of p)
+  pub lines : flat (tree_of p) ≡ lines_of p
+  pub prefixes : tree_prefixes p.prefix (tree_of p) ≡ prefixes_of p
+  pub nodes : AreNodes p.problem p.names p.prefix p.nodes
+
 -- what is true of every piece with this many splits
 pub record IsKept (p : PieceOf) (count : ℕ) : Type 0 where
-  pub stated : IsStatedTree p.rule p.problem p.prefix (stated_tree p)
-  pub vertices : flat (stated_tree p) ≡ p.vertices
+  pub nodes : AreTreeNodes p
   pub splits : splits (tree_of p) ≡ count
   pub timed : IsBestTimed p.problem p.prefix (tree_of p) p.timed

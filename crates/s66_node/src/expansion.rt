@@ -236,7 +236,8 @@ impl Walk<'_> {
     {
         self.go_to(prefix);
         let Grown {
-            vertices,
+            nodes,
+            dominances,
             splits,
             least,
         } = grow(alloc, self, incumbent, allowance, rule, names)?;
@@ -247,7 +248,8 @@ impl Walk<'_> {
             source: Order::source(block),
             profile: *profile,
             prefix: copy_of(prefix),
-            vertices,
+            nodes,
+            dominances,
             splits,
             timed: timed_of(alloc, block, profile, least)?,
         })

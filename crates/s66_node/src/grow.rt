@@ -1,15 +1,15 @@
-ghost use Rattle.std.specs.Prelude.{◌≡◌, ◌≤◌, ◌++◌, [], ℕ, List, IfOk, IfSome, IfNone, IsTrue};
-ghost use Rattle.s66_isa.specs.Lists.{Among};
+ghost use Rattle.std.specs.Prelude.{◌≡◌, ◌≤◌, ◌++◌, [], ℕ, List, IfOk, OnOk, IfSome, IfNone, IsTrue};
 ghost use Rattle.s66_model.specs.declared.rule.Rule.TheVariants.{NoneNamed, WrittenEarlier};
 ghost use Rattle.s66_model.specs.Leaves.{floor_value};
-ghost use Rattle.s66_model.specs.Tree.{Tree, AtTerminal};
-ghost use Rattle.s66_model.specs.Stated.{Stated, StatedPassed};
-ghost use Rattle.s66_node.specs.SeenVertices.{seen_vertex};
-ghost use Rattle.s66_node.specs.Walking.{Span, span, IsDue, IsStated, IsFrontier, IsLeast, IsGrown, whole_stated};
+ghost use Rattle.s66_model.specs.Tree.{Tree};
+ghost use Rattle.s66_model.specs.Piece.{Terminal};
+ghost use Rattle.s66_model.specs.Expansion.{whole_at};
+ghost use Rattle.s66_node.specs.Walking.{Span, span, IsDue, IsFound, IsOpen, IsLeast, IsGrown, IsValued, IsPushed, terminal_by, state_by};
 
 use crate::least::Least;
+use crate::name::{Dominance, Name};
 use crate::naming::Naming;
-use crate::vertex::Vertex;
+use crate::node::{Node, State};
 use crate::walk::Walk;
 use crate::whole_order::{WholeOrder, keep_lesser};
 use arrayvec::ArrayVec;
@@ -17,62 +17,140 @@ use s66_dep::Set;
 use s66_isa::BLOCK_LIMIT;
 use s66_model::Rule;
 use std::alloc::{AllocError, Global};
+use std::boxed::Box;
 
-/// How many lines there is room for from the start in a tree that is split: a small tree needs no more.
-const FIRST_LINES: usize = 64;
+/// How many nodes there is room for from the start in a tree that is split: a small tree needs no more.
+const FIRST_NODES: usize = 64;
 
-/// A tree by its lines in preorder, how many of them are splits, and the first of the least of its whole orders.
+/// A tree by its nodes in preorder, what its dominated nodes have besides, how many of its nodes are split, and the first of the
+/// least of its whole orders.
 #[derive(Debug, Drop)]
 pub(crate) struct Grown {
-    pub vertices: Vec<Vertex>,
+    pub nodes: Vec<Node>,
+    pub dominances: Vec<Dominance>,
     pub splits: u32,
     pub least: Option<WholeOrder>,
 }
 
+/// What a prefix has that isn't split. A value is that of its floor, in minor cycles.
+#[derive(Debug, Drop)]
+pub(crate) enum Unsplit {
+    /// Its floor is its leaf.
+    Leaf { value: u32 },
+    /// It stays open.
+    Open { value: u32 },
+    /// This node dominates it.
+    Dominated { value: u32, name: Box<Name> },
+}
+
+impl Unsplit {
+    ghost use Rattle.std.specs.Prelude.{◌≡◌};
+    ghost use Rattle.s66_node.specs.Walking.{state_by};
+
+    /// The state of its node.
+    fn state(&self) -> State
+        ensures { result ≡ state_by self.now }
+    {
+        match self {
+            Unsplit::Leaf { .. } => State::Closed,
+            Unsplit::Open { .. } => State::Open,
+            Unsplit::Dominated { .. } => State::Dominated,
+        }
+    }
+}
+
+/// A node that is split, by its place, and the last numbers of its children that are still to come.
+#[derive(Clone, Copy, Debug, Default)]
+pub(crate) struct OpenSplit {
+    pub node: u32,
+    pub left: Set,
+}
+
+/// A count of nodes or names as the place of the next one. `Err` if no place is so great: there is no memory for so many.
+fn place_of(count: usize) -> Result<u32, AllocError>
+    ensures { IfOk result (λ place. place ≡ count) }
+{
+    match u32::try_from(count) {
+        Ok(place) => Ok(place),
+        Err(_) => Err(AllocError),
+    }
+}
+
+/// The value of the node of a prefix that isn't split, whose dominance is kept if it has one.
+fn keep_dominance(dominances: &mut Vec<Dominance>, unsplit: Unsplit) -> Result<u32, AllocError>
+    ensures { IfOk result (λ value. IsValued dominances.old.items dominances.new.items unsplit value) }
+{
+    match unsplit {
+        Unsplit::Leaf { value } | Unsplit::Open { value } => Ok(value),
+        Unsplit::Dominated { value, name } => {
+            let place = place_of(dominances.len())?;
+            dominances.push(Dominance { floor: value, name })?;
+            Ok(place)
+        }
+    }
+}
+
+/// Appends the node of a prefix that isn't split, and what it has besides if it is dominated.
+fn push_unsplit(
+    nodes: &mut Vec<Node>,
+    dominances: &mut Vec<Dominance>,
+    parent: u32,
+    number: u8,
+    depth: u8,
+    unsplit: Unsplit,
+) -> Result<(), AllocError>
+    ensures { OnOk result (IsPushed nodes.old.items dominances.old.items parent number depth unsplit nodes.new.items dominances.new.items) }
+{
+    let state = unsplit.state();
+    let value = keep_dominance(dominances, unsplit)?;
+    nodes.push(Node::new(parent, number, depth, value, state))?;
+    Ok(())
+}
+
 /// What the walk's prefix, whose floor has this value, has if it isn't split. That is its floor as leaf if the floor is at least
-/// the best time or the prefix is complete, else a place in the frontier. Nothing if it is to be split.
-fn unsplit_vertex(walk: &Walk<'_>, value: u32, best: u32, may_split: bool) -> Option<Vertex>
+/// the best time or the prefix is complete, else it stays open. Nothing if it is to be split.
+fn unsplit_by_floor(walk: &Walk<'_>, value: u32, best: u32, may_split: bool) -> Option<Unsplit>
     requires { value ≡ floor_value walk.now.problem walk.now.numbers }
-    ensures stated { IfSome result (λ k. (stated : Stated) × (seen_vertex k ≡ AtTerminal stated) × IsStated NoneNamed walk.now.problem (span best best) walk.now.numbers stated) }
-    ensures left_open { IfSome result (λ k. IsFrontier (seen_vertex k) → ¬ IsTrue may_split) }
+    ensures found { IfSome result (IsFound NoneNamed walk.now.problem (span best best) walk.now.numbers []) }
+    ensures left_open { IfSome result (λ unsplit. IsOpen unsplit → ¬ IsTrue may_split) }
     ensures due { IfNone result (IsDue walk.now.problem best walk.now.numbers) }
     ensures may { IfNone result (IsTrue may_split) }
 {
     if walk.is_complete() || value >= best {
-        return Some(Vertex::Leaf { value });
+        return Some(Unsplit::Leaf { value });
     }
     if may_split {
         None
     } else {
-        Some(Vertex::Frontier { value })
+        Some(Unsplit::Open { value })
     }
 }
 
 /// What the walk's prefix has below the root, if it may be split by the best time. That is the name of a node that dominates it,
-/// if one is known. Else it is nothing if the prefix is to be split, or a place in the frontier.
-fn open_vertex<N: Naming>(
+/// if one is known. Else it is nothing if the prefix is to be split, or it stays open.
+fn unsplit_by_name<N: Naming>(
     alloc: Global,
     walk: &Walk<'_>,
     value: u32,
     may_split: bool,
     rule: Rule,
     names: &mut N,
-) -> Result<Option<Vertex>, AllocError>
+) -> Result<Option<Unsplit>, AllocError>
     requires value { value ≡ floor_value walk.now.problem walk.now.numbers }
     requires suits { N.suits names.old walk.now.problem }
     ensures suits { N.suits names.new walk.now.problem }
     ensures same { N.names names.new ≡ N.names names.old }
-    ensures stated { (best : Span) → IsDue walk.now.problem best.high walk.now.numbers → IfOk result (λ vertex. IfSome vertex (λ k. (stated : Stated) × (seen_vertex k ≡ AtTerminal stated) × IsStated rule walk.now.problem best walk.now.numbers stated × (rule ≡ WrittenEarlier → (value : ℕ) (name : List ℕ) → stated ≡ StatedPassed value name → Among name (N.names names.old)))) }
-    ensures left_open { IfOk result (λ vertex. IfSome vertex (λ k. IsFrontier (seen_vertex k) → ¬ IsTrue may_split)) }
-    ensures may { IfOk result (λ vertex. IfNone vertex (IsTrue may_split)) }
+    ensures found { (best : Span) → IsDue walk.now.problem best.high walk.now.numbers → IfOk result (λ unsplit. IfSome unsplit (IsFound rule walk.now.problem best walk.now.numbers (N.names names.old))) }
+    ensures left_open { IfOk result (λ unsplit. IfSome unsplit (λ u. IsOpen u → ¬ IsTrue may_split)) }
+    ensures may { IfOk result (λ unsplit. IfNone unsplit (IsTrue may_split)) }
 {
     if let Some(name) = names.find_name(alloc, walk, rule)? {
-        return Ok(Some(Vertex::Passed { value, name }));
+        return Ok(Some(Unsplit::Dominated { value, name }));
     }
     if may_split {
         Ok(None)
     } else {
-        Ok(Some(Vertex::Frontier { value }))
+        Ok(Some(Unsplit::Open { value }))
     }
 }
 
@@ -86,7 +164,7 @@ fn unsplit_child<L: Least, N: Naming>(
     may_split: bool,
     rule: Rule,
     names: &mut N,
-) -> Result<Option<Vertex>, AllocError>
+) -> Result<Option<Unsplit>, AllocError>
     requires kept { L.kept incumbent.old ≡ best.old }
     requires suits { N.suits names.old walk.now.problem }
     ensures suits { N.suits names.new walk.now.problem }
@@ -94,29 +172,29 @@ fn unsplit_child<L: Least, N: Naming>(
     ensures kept { L.kept incumbent.new ≡ best.new }
     ensures falls { best.new ≤ best.old }
     ensures lowest { (L.lowest incumbent.new ≡ L.lowest incumbent.old) × (L.lowest incumbent.old ≤ best.old → L.lowest incumbent.old ≤ best.new) }
-    ensures stated { IfOk result (λ vertex. IfSome vertex (λ k. (stated : Stated) × (seen_vertex k ≡ AtTerminal stated) × IsStated rule walk.now.problem (span best.old best.new) walk.now.numbers stated × (rule ≡ WrittenEarlier → (value : ℕ) (name : List ℕ) → stated ≡ StatedPassed value name → Among name (N.names names.old)))) }
-    ensures due { IfOk result (λ vertex. IfNone vertex (IsDue walk.now.problem best.new walk.now.numbers)) }
-    ensures left_open { IfOk result (λ vertex. IfSome vertex (λ k. IsFrontier (seen_vertex k) → ¬ IsTrue may_split)) }
-    ensures may { IfOk result (λ vertex. IfNone vertex (IsTrue may_split)) }
+    ensures found { IfOk result (λ unsplit. IfSome unsplit (IsFound rule walk.now.problem (span best.old best.new) walk.now.numbers (N.names names.old))) }
+    ensures due { IfOk result (λ unsplit. IfNone unsplit (IsDue walk.now.problem best.new walk.now.numbers)) }
+    ensures left_open { IfOk result (λ unsplit. IfSome unsplit (λ u. IsOpen u → ¬ IsTrue may_split)) }
+    ensures may { IfOk result (λ unsplit. IfNone unsplit (IsTrue may_split)) }
 {
     let value = walk.floor_value();
-    if let Some(leaf) = unsplit_vertex(walk, value, *best, true) {
+    if let Some(leaf) = unsplit_by_floor(walk, value, *best, true) {
         return Ok(Some(leaf));
     }
     if may_split {
         *best = incumbent.least();
-        if let Some(leaf) = unsplit_vertex(walk, value, *best, true) {
+        if let Some(leaf) = unsplit_by_floor(walk, value, *best, true) {
             return Ok(Some(leaf));
         }
     }
-    open_vertex(alloc, walk, value, may_split, rule, names)
+    unsplit_by_name(alloc, walk, value, may_split, rule, names)
 }
 
-/// Keeps the lesser of the least whole order so far and that of the walk's prefix, if this line is its leaf.
-fn keep_whole(least: &mut Option<WholeOrder>, walk: &Walk<'_>, vertex: &Vertex)
-    ensures { (rule : Rule) (best : Span) (stated : Stated) (found : List (List ℕ)) → seen_vertex vertex.now ≡ AtTerminal stated → IsStated rule walk.now.problem best walk.now.numbers stated → IsLeast walk.now.problem found least.old → IsLeast walk.now.problem (found ++ whole_stated walk.now.problem walk.now.numbers stated) least.new }
+/// Keeps the lesser of the least whole order so far and that of the walk's prefix, if this is its leaf.
+fn keep_whole(least: &mut Option<WholeOrder>, walk: &Walk<'_>, unsplit: &Unsplit)
+    ensures { (rule : Rule) (best : Span) (known found : List (List ℕ)) → IsFound rule walk.now.problem best walk.now.numbers known unsplit.now → IsLeast walk.now.problem found least.old → IsLeast walk.now.problem (found ++ whole_at walk.now.numbers (terminal_by walk.now.problem walk.now.numbers unsplit.now)) least.new }
 {
-    if let Vertex::Leaf { value } = vertex {
+    if let Unsplit::Leaf { value } = unsplit {
         if walk.is_complete() {
             keep_lesser(least, walk.numbers(), *value);
         }
@@ -128,7 +206,7 @@ fn keep_whole(least: &mut Option<WholeOrder>, walk: &Walk<'_>, vertex: &Vertex)
 /// and before each split below it.
 ///
 /// A split below the walk's prefix costs one look for each instruction that depends directly on its last number, and each of its
-/// children a push, an undo and a floor. Nothing is allocated but room for lines.
+/// children a push, an undo and a floor. Nothing is allocated but room for nodes and names.
 ///
 /// Below its root, a prefix that would be split or stay open is dominated if a node is known that dominates it by the rule.
 /// Those that are split or stay open may be known from then on.
@@ -146,50 +224,58 @@ pub(crate) fn grow<L: Least, N: Naming>(
     ensures same { walk.new.problem ≡ walk.old.problem }
     ensures falls { L.kept incumbent.new ≤ L.kept incumbent.old }
     ensures lowest { (L.lowest incumbent.new ≡ L.lowest incumbent.old) × (L.lowest incumbent.old ≤ L.kept incumbent.new) }
-    ensures grown { IfOk result (λ grown. (tree : Tree Stated) × IsGrown rule walk.old.problem (span (L.kept incumbent.old) (L.kept incumbent.new)) allowance walk.old.numbers grown tree) }
+    ensures grown { IfOk result (λ grown. (tree : Tree Terminal) × IsGrown rule walk.old.problem (span (L.kept incumbent.old) (L.kept incumbent.new)) allowance walk.old.numbers grown tree) }
 {
     // so each prefix has a frame
     prove!(walk.numbers().len() <= BLOCK_LIMIT);
-    let mut vertices = Vec::new(alloc);
+    let mut nodes = Vec::new(alloc);
+    let mut dominances = Vec::new(alloc);
     let mut least = None;
+    let depth = walk.numbers().len() as u8;
     let value = walk.floor_value();
     let mut best = incumbent.least();
-    if let Some(vertex) = unsplit_vertex(walk, value, best, 0 < allowance) {
-        keep_whole(&mut least, walk, &vertex);
-        names.keep_terminal(walk, rule, 0, &vertex);
-        vertices.push(vertex)?;
+    if let Some(unsplit) = unsplit_by_floor(walk, value, best, 0 < allowance) {
+        keep_whole(&mut least, walk, &unsplit);
+        names.keep_terminal(walk, rule, 0, unsplit.state());
+        push_unsplit(&mut nodes, &mut dominances, 0, 0, depth, unsplit)?;
         return Ok(Grown {
-            vertices,
+            nodes,
+            dominances,
             splits: 0,
             least,
         });
     }
-    vertices.reserve(FIRST_LINES)?;
+    nodes.reserve(FIRST_NODES)?;
     names.keep_split(walk, rule, 0);
     let ready = walk.ready();
-    vertices.push(Vertex::Split(ready))?;
+    nodes.push(Node::new(0, 0, depth, 0, State::Split))?;
     let mut splits = 1;
     // of each prefix from the first one down to the walk's, the children that are still to come
-    let mut frames: ArrayVec<Set, BLOCK_LIMIT> = ArrayVec::new();
-    frames.push(ready);
+    let mut frames: ArrayVec<OpenSplit, BLOCK_LIMIT> = ArrayVec::new();
+    frames.push(OpenSplit {
+        node: 0,
+        left: ready,
+    });
     while let Some(mut frame) = frames.pop() {
-        if let Some(n) = frame.pop_first() {
+        if let Some(n) = frame.left.pop_first() {
             frames.push(frame);
             walk.push(n);
+            let depth = walk.numbers().len() as u8;
             let may_split = splits < allowance;
             let child = unsplit_child(alloc, walk, &mut best, incumbent, may_split, rule, names)?;
             match child {
-                Some(vertex) => {
-                    keep_whole(&mut least, walk, &vertex);
-                    names.keep_terminal(walk, rule, vertices.len(), &vertex);
-                    vertices.push(vertex)?;
+                Some(unsplit) => {
+                    keep_whole(&mut least, walk, &unsplit);
+                    names.keep_terminal(walk, rule, nodes.len(), unsplit.state());
+                    push_unsplit(&mut nodes, &mut dominances, frame.node, n, depth, unsplit)?;
                     walk.undo();
                 }
                 None => {
-                    names.keep_split(walk, rule, vertices.len());
+                    names.keep_split(walk, rule, nodes.len());
                     let ready = walk.ready();
-                    vertices.push(Vertex::Split(ready))?;
-                    frames.push(ready);
+                    let node = place_of(nodes.len())?;
+                    nodes.push(Node::new(frame.node, n, depth, 0, State::Split))?;
+                    frames.push(OpenSplit { node, left: ready });
                     splits += 1;
                 }
             }
@@ -198,7 +284,8 @@ pub(crate) fn grow<L: Least, N: Naming>(
         }
     }
     Ok(Grown {
-        vertices,
+        nodes,
+        dominances,
         splits,
         least,
     })

@@ -9,7 +9,7 @@ ghost use Rattle.s66_node.specs.MarkTables.{IsEntry, AreEntries, numbers_of};
 ghost use Rattle.s66_node.specs.declared.marks.TheConstants.{TABLE_LIMIT};
 
 use crate::chains::{Chains, NONE};
-use crate::vertex::Place;
+use crate::name::Place;
 use crate::walk::{Walk, common_length};
 use crate::whole_order::copy_of;
 use arrayvec::ArrayVec;

@@ -1,5 +1,6 @@
 use crate::marks::Marks;
-use crate::vertex::{Name, Vertex};
+use crate::name::Name;
+use crate::node::State;
 use crate::walk::Walk;
 use s66_model::Rule;
 use std::alloc::{AllocError, Global};
@@ -34,15 +35,15 @@ pub trait Naming {
         ensures dominates { IfOk result (λ found. IfSome found (λ name. IsIncomplete walk.now.problem.block walk.now.numbers → DominatesByRule rule walk.now.problem name.value.numbers.items walk.now.numbers)) }
         ensures known { rule ≡ WrittenEarlier → IfOk result (λ found. IfSome found (λ name. Among name.value.numbers.items (names self.old))) };
 
-    /// May know the walk's prefix from now on, which is split: this is its line.
+    /// May know the walk's prefix from now on, which is split: this is the place of its node.
     fn keep_split(&mut self, walk: &Walk<'_>, rule: Rule, line: usize)
         requires suits { suits self.old walk.now.problem }
         ensures suits { suits self.new walk.now.problem }
         ensures known { (name : List ℕ) → Among name (names self.new) → (name ≡ walk.now.numbers) ⊎ Among name (names self.old) };
 
-    /// May know the walk's prefix from now on, which isn't split and has this vertex in this line. By the rule of earlier
+    /// May know the walk's prefix from now on, which isn't split: its node has this place and this state. By the rule of earlier
     /// nodes it doesn't.
-    fn keep_terminal(&mut self, walk: &Walk<'_>, rule: Rule, line: usize, vertex: &Vertex)
+    fn keep_terminal(&mut self, walk: &Walk<'_>, rule: Rule, line: usize, state: State)
         requires suits { suits self.old walk.now.problem }
         ensures suits { suits self.new walk.now.problem }
         ensures known { rule ≡ WrittenEarlier → names self.new ≡ names self.old };
@@ -70,7 +71,7 @@ impl Naming for NoNames {
 
     fn keep_split(&mut self, _walk: &Walk<'_>, _rule: Rule, _line: usize) {}
 
-    fn keep_terminal(&mut self, _walk: &Walk<'_>, _rule: Rule, _line: usize, _vertex: &Vertex) {}
+    fn keep_terminal(&mut self, _walk: &Walk<'_>, _rule: Rule, _line: usize, _state: State) {}
 }
 
 impl Naming for Marks<'_> {
@@ -96,8 +97,8 @@ impl Naming for Marks<'_> {
         self.insert(walk, rule, line);
     }
 
-    fn keep_terminal(&mut self, walk: &Walk<'_>, rule: Rule, line: usize, vertex: &Vertex) {
-        if let (Rule::ClampedStanding, Vertex::Frontier { .. }) = (rule, vertex) {
+    fn keep_terminal(&mut self, walk: &Walk<'_>, rule: Rule, line: usize, state: State) {
+        if let (Rule::ClampedStanding, State::Open) = (rule, state) {
             self.insert(walk, rule, line);
         }
     }

@@ -1,4 +1,5 @@
-use crate::vertex::Vertex;
+use crate::name::Dominance;
+use crate::node::Node;
 use arrayvec::ArrayVec;
 use s66_dep::Order;
 use s66_isa::{BLOCK_LIMIT, Profile, is_same_profile};
@@ -16,35 +17,34 @@ pub struct Piece {
     pub(crate) source: Order,
     pub(crate) profile: Profile,
     pub(crate) prefix: ArrayVec<u8, BLOCK_LIMIT>,
-    pub(crate) vertices: Vec<Vertex>,
+    pub(crate) nodes: Vec<Node>,
+    pub(crate) dominances: Vec<Dominance>,
     pub(crate) splits: u32,
     // boxed, so that a move of a piece is cheap
     pub(crate) timed: Option<Box<Timed>>,
 }
 
 impl Model for Piece {
+    ghost use Rattle.std.specs.Prelude.{map};
     ghost use Rattle.std.specs.Option.{option_map};
+    ghost use Rattle.s66_node.specs.Nodes.{named};
     ghost use Rattle.s66_node.specs.Pieces.{PieceOf, IsKept};
-    ghost use Rattle.s66_node.specs.SeenVertices.{seen};
 
     ghost Value = { PieceOf };
 
-    ghost view = { λ p. record { rule = p.rule; problem = record { block = p.source.block; profile = p.profile }; prefix = p.prefix.items; vertices = seen p.vertices.items; timed = option_map (λ t. t.value) p.timed } };
+    ghost view = { λ p. record { rule = p.rule; problem = record { block = p.source.block; profile = p.profile }; prefix = p.prefix.items; nodes = p.nodes.items; names = map named p.dominances.items; timed = option_map (λ t. t.value) p.timed } };
 
-    ghost invariant = { λ p. IsKept (record { rule = p.rule; problem = record { block = p.source.block; profile = p.profile }; prefix = p.prefix.items; vertices = seen p.vertices.items; timed = option_map (λ t. t.value) p.timed }) p.splits };
+    ghost invariant = { λ p. IsKept (record { rule = p.rule; problem = record { block = p.source.block; profile = p.profile }; prefix = p.prefix.items; nodes = p.nodes.items; names = map named p.dominances.items; timed = option_map (λ t. t.value) p.timed }) p.splits };
 }
 
 impl Piece {
-    ghost use Rattle.std.specs.Prelude.{◌≡◌, ◌≤◌, ◌↔◌, IsTrue, length};
+    ghost use Rattle.std.specs.Prelude.{◌≡◌, ◌≤◌, ◌↔◌, IsTrue, length, map};
     ghost use Rattle.s66_isa.specs.declared.limits.TheConstants.{BLOCK_LIMIT};
     ghost use Rattle.std.specs.Option.{option_copied};
     ghost use Rattle.s66_line.specs.Block.{instrs_of};
-    ghost use Rattle.s66_model.specs.Tree.{flat, splits};
-    ghost use Rattle.s66_model.specs.Piece.{IsPiece};
-    ghost use Rattle.s66_node.specs.Pieces.{stated_tree, tree_of, IsBestTimed};
-    ghost use Rattle.s66_model.specs.Stated.{IsStatedTree};
-    ghost use Rattle.s66_node.specs.SeenVertices.{seen};
-    ghost use Rattle.s66_node.specs.Skeletons.{skeleton_of, names_of, IsSkeletonOf};
+    ghost use Rattle.s66_model.specs.Tree.{splits};
+    ghost use Rattle.s66_node.specs.Nodes.{named};
+    ghost use Rattle.s66_node.specs.Pieces.{tree_of, IsBestTimed, AreTreeNodes};
 
     /// Whether it is of this block under this profile, in time linear in the block's length.
     pub fn is_of(&self, block: &Block, profile: &Profile) -> bool
@@ -75,19 +75,22 @@ impl Piece {
         self.splits
     }
 
-    /// The lines of the tree in preorder, with the value of each floor in minor cycles. The prefix, the lines' bytes after it,
-    /// and the names of the dominated leaves determine the tree: together they are the piece's skeleton.
-    pub fn vertices(&self) -> &[Vertex]
-        ensures value { seen result.now ≡ self.now.vertices }
-        ensures preorder { flat (stated_tree self.now) ≡ self.now.vertices }
-        ensures stated { IsStatedTree self.now.rule self.now.problem self.now.prefix (stated_tree self.now) }
-        ensures piece { IsPiece self.now.rule self.now.problem self.now.prefix (tree_of self.now) }
-        ensures skeleton { IsSkeletonOf self.now (skeleton_of self.now) (names_of self.now) }
+    /// The nodes of the tree in preorder. The place of each among them is its number here.
+    pub fn nodes(&self) -> &[Node]
+        ensures value { result.now ≡ self.now.nodes }
+        ensures tree { AreTreeNodes self.now }
         ensures few { length self.now.problem.block ≤ BLOCK_LIMIT }
     {
         // proof only: a number for each instruction
         let _few = self.source.numbers();
-        self.vertices.as_slice()
+        self.nodes.as_slice()
+    }
+
+    /// What the dominated nodes have besides, each at the place that its node's value says.
+    pub fn dominances(&self) -> &[Dominance]
+        ensures { map named result.now ≡ self.now.names }
+    {
+        self.dominances.as_slice()
     }
 
     /// A least one of the tree's whole orders, timed, if it has some.

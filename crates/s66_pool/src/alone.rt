@@ -6,7 +6,7 @@ ghost use Rattle.s66_node.specs.Pieces.{tree_of};
 ghost use Rattle.s66_pool.specs.Workers.{IsSameSearch};
 
 use crate::search::offer_schedule;
-use s66_ledger::{Ledger, SCHEDULE_ROUNDS, Subtree, Ticket, expand_by_rule};
+use s66_ledger::{Ledger, SCHEDULE_ROUNDS, Ticket, expand_by_rule};
 use s66_node::{Marks, Piece, Priority, Walk};
 use std::alloc::Global;
 
@@ -70,7 +70,7 @@ fn search_round(
         return false;
     };
     match expand_below(alloc, ledger, walk, marks, ticket.prefix(), *allowance) {
-        Some(piece) => take_in(alloc, ledger, marks, ticket, &piece, allowance),
+        Some(piece) => take_in(ledger, marks, ticket, &piece, allowance),
         None => {
             let _ = ledger.back(1, ticket);
             false
@@ -105,7 +105,6 @@ fn expand_below(
 /// Offers the best of a piece's whole orders, and puts the piece in the place of the ticket's node. False if out of memory: then
 /// the node is given back.
 fn take_in(
-    alloc: Global,
     ledger: &mut Ledger<'_>,
     marks: &mut Marks<'_>,
     ticket: Ticket,
@@ -118,7 +117,7 @@ fn take_in(
     ensures same { IsSameSearch ledger.old ledger.new }
 {
     // the offer first, so that no whole order is left open below the best time
-    if offer_best(ledger, piece) && graft(alloc, ledger, marks, ticket.node(), piece) {
+    if offer_best(ledger, piece) && graft(ledger, marks, ticket.node(), piece) {
         *allowance -= piece.splits();
         return true;
     }
@@ -127,22 +126,13 @@ fn take_in(
 }
 
 /// Puts a piece in the place of a node, and lets the marks know which nodes it has become; false if out of memory.
-fn graft(
-    alloc: Global,
-    ledger: &mut Ledger<'_>,
-    marks: &mut Marks<'_>,
-    node: u32,
-    piece: &Piece,
-) -> bool
+fn graft(ledger: &mut Ledger<'_>, marks: &mut Marks<'_>, node: u32, piece: &Piece) -> bool
     requires { 1 ≤ ledger.old.workers }
     ensures marks { marks.new.problem ≡ marks.old.problem }
     ensures same { IsSameSearch ledger.old ledger.new }
 {
-    let Ok(subtree) = Subtree::of(alloc, piece) else {
-        return false;
-    };
     let first = ledger.node_count();
-    if ledger.graft_at(1, node, piece, &subtree).is_err() {
+    if ledger.graft_at(1, node, piece).is_err() {
         return false;
     }
     marks.settle(node, first);

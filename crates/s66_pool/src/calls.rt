@@ -3,7 +3,7 @@
 use crate::hub::Hub;
 use crate::seat::Seat;
 use crate::supply::{Needs, Supply, serve};
-use s66_ledger::{BackError, GraftError, Offered, Subtree, Ticket};
+use s66_ledger::{BackError, GraftError, Offered, Ticket};
 use s66_node::Piece;
 use s66_time::Timed;
 use std::alloc::AllocError;
@@ -100,13 +100,10 @@ impl<'a> Hub<'a> {
         ensures refused { IfErr result (λ why. HasBeenRefused seat.old node piece.now why seat.new) }
         ensures unclaimed { OnErr result (tickets.new.items ≡ []) }
     {
-        let Ok(subtree) = Subtree::of(self.alloc, piece) else {
-            return Err(GraftError::OutOfMemory);
-        };
         let added = piece.splits();
         let mut ledger = self.lock.take(rt, &mut seat.token);
         seat.attached = ledger.node_count();
-        if let Err(why) = ledger.graft_at(seat.number, node, piece, &subtree) {
+        if let Err(why) = ledger.graft_at(seat.number, node, piece) {
             self.lock.give(&mut seat.token, ledger);
             return Err(why);
         }

@@ -1,6 +1,6 @@
 use crate::shared_marks::{SharedMarks, Token, name_in};
 use s66_model::Rule;
-use s66_node::{Marks, Name, Naming, Place, Vertex, Walk};
+use s66_node::{Marks, Name, Naming, Place, State, Walk};
 use std::alloc::{AllocError, Global};
 use std::boxed::Box;
 use std::marker::Model;
@@ -94,7 +94,7 @@ impl<R: Wait> Naming for Known<'_, '_, R> {
         self.own.keep_split(walk, rule, line);
     }
 
-    fn keep_terminal(&mut self, walk: &Walk<'_>, rule: Rule, line: usize, vertex: &Vertex) {
-        self.own.keep_terminal(walk, rule, line, vertex);
+    fn keep_terminal(&mut self, walk: &Walk<'_>, rule: Rule, line: usize, state: State) {
+        self.own.keep_terminal(walk, rule, line, state);
     }
 }

@@ -16,7 +16,7 @@ use std::alloc::{AllocError, Global};
 
 /// How many splits an entry spends, if it is the worker's.
 fn splits_in(entry: &Entry, w: u8) -> u32
-    ensures { (b : Problem) → let stated = entry_of b entry.now [] [] [] in result ≡ (if worker stated.0 == w then spends stated.0 stated.1 else 0) }
+    ensures { (b : Problem) → let stated = entry_of b entry.now [] [] in result ≡ (if worker stated.0 == w then spends stated.0 stated.1 else 0) }
 {
     match entry {
         Entry::Taken { w: by, splits, .. } => { if *by == w { *splits } else { 0 } }

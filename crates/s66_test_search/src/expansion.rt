@@ -1,8 +1,8 @@
 ghost use Rattle.std.specs.Prelude.{ℕ, ◌≡◌, ◌≤◌};
 
 use s66_dep::{Set, is_beginning};
-use s66_isa::Profile;
-use s66_node::{Constant, Least, Piece, Vertex, expand, expand_with};
+use s66_isa::{BLOCK_LIMIT, Profile};
+use s66_node::{Constant, Least, Node, Piece, State, expand, expand_with};
 use s66_source::read_source;
 use s66_test_blocks::{MULTIPLIES, ONE_LOAD, SEVEN_MULTIPLIES, only_block};
 use std::process::Abort;
@@ -58,23 +58,37 @@ fn piece_by<R: AllocGlobal + Abort, L: Least>(
     Ok(piece)
 }
 
-/// A line of a piece without dominated leaves.
+/// A node of a piece without dominated leaves, by what its tree says there.
 #[derive(Clone, Copy, Debug, PartialEq, Eq)]
 enum Line {
     Split(Set),
     Leaf(u32),
-    Frontier(u32),
+    Open(u32),
+}
+
+/// The last numbers of the children of the node at this place.
+fn children<R: Abort>(rt: &R, nodes: &[Node], place: usize) -> Set {
+    let mut numbers = Set::empty();
+    for i in 1..nodes.len() {
+        if nodes[i].parent as usize == place {
+            let n = nodes[i].number;
+            assert!(rt; 1 <= n && n as usize <= BLOCK_LIMIT);
+            numbers = numbers.with(n);
+        }
+    }
+    numbers
 }
 
 /// The lines of a piece, none of which is dominated.
 fn lines_of<R: AllocGlobal + Abort>(rt: &R, piece: &Piece) -> Result<Vec<Line>, Fail> {
+    let nodes = piece.nodes();
     let mut lines = Vec::new(rt.alloc());
-    for vertex in piece.vertices() {
-        let line = match vertex {
-            Vertex::Split(numbers) => Some(Line::Split(*numbers)),
-            Vertex::Leaf { value } => Some(Line::Leaf(*value)),
-            Vertex::Frontier { value } => Some(Line::Frontier(*value)),
-            Vertex::Passed { .. } => None,
+    for i in 0..nodes.len() {
+        let line = match nodes[i].state {
+            State::Split => Some(Line::Split(children(rt, nodes, i))),
+            State::Closed => Some(Line::Leaf(nodes[i].value)),
+            State::Open => Some(Line::Open(nodes[i].value)),
+            State::Out | State::Dominated => None,
         };
         lines.push(line.expect(rt, "no dominated leaf"))?;
     }
@@ -97,7 +111,7 @@ fn check_timed<R: Abort>(rt: &R, piece: &Piece, numbers: &[u8], total: u32) {
 /// Three multiplies take 22 in any order, and at least 17 while fewer than three are placed.
 #[test]
 fn expands_prefixes(rt: HostRuntime) -> Result<(), Fail> {
-    let open = Line::Frontier(17);
+    let open = Line::Open(17);
     let split = piece_of(&rt, MULTIPLIES, &[], 22, 1)?;
     assert_eq!(rt; split.splits(), 1);
     check_lines(&rt, &split, &[Line::Split(Set::up_to(3)), open, open, open])?;
@@ -170,6 +184,6 @@ fn expands_to_whole_orders(rt: HostRuntime) -> Result<(), Fail> {
 fn expands_to_many_orders(rt: HostRuntime) -> Result<(), Fail> {
     let piece = piece_of(&rt, SEVEN_MULTIPLIES, &[], 44, 10_000)?;
     assert_eq!(rt; piece.splits(), 8660);
-    assert_eq!(rt; piece.vertices().len(), 8660 + 5040);
+    assert_eq!(rt; piece.nodes().len(), 8660 + 5040);
     Ok(())
 }

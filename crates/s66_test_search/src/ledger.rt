@@ -5,7 +5,7 @@ use s66_dep::{Order, is_beginning};
 use s66_isa::Profile;
 use s66_ledger::{Entry, Event, Ledger, Offered, Reply, Ticket};
 use s66_line::Block;
-use s66_node::{FRONTIER, Piece, SPLIT, expand};
+use s66_node::{Piece, State, expand};
 use s66_source::read_source;
 use s66_test_blocks::{MULTIPLIES, only_block};
 use s66_time::{Timed, time_of};
@@ -30,7 +30,8 @@ const HISTORY: &[Entry] = &[
         w: 1,
         node: 0,
         depth: 0,
-        lines: 3,
+        root: State::Split,
+        nodes: 3,
         splits: 1,
     },
     Entry::Offer {
@@ -75,8 +76,8 @@ const REPLIES: [Reply; 10] = [
     Reply::Granted(BUDGET - 1),
 ];
 
-/// The bytes of the entries: a piece that splits the empty prefix into all three numbers, and the source order.
-const BYTES: &[u8] = &[SPLIT + 3, 1, 2, 3];
+/// The bytes of the entries: the source order, since the piece's prefix is empty.
+const BYTES: &[u8] = &[1, 2, 3];
 
 /// A ledger of two workers.
 pub fn new_ledger<'a, R: AllocGlobal + Abort>(rt: &R, block: &'a Block<'a>) -> Ledger<'a>
@@ -85,13 +86,13 @@ pub fn new_ledger<'a, R: AllocGlobal + Abort>(rt: &R, block: &'a Block<'a>) -> L
     Ledger::new(rt.alloc(), block, &Profile::standard(), BUDGET, 2).expect(rt, "memory")
 }
 
-/// Checks that the ledger's history is `HISTORY` with its bytes. The piece's three lines stay open.
+/// Checks that the ledger's history is `HISTORY` with its bytes. The piece's three nodes were open in it.
 fn check_history<R: Abort>(rt: &R, ledger: &Ledger) {
     let history = ledger.history();
     assert_eq!(rt; history.entries.as_slice(), HISTORY);
     assert_eq!(rt; history.bytes.as_slice(), BYTES);
-    assert_eq!(rt; ledger.line(3), Some(FRONTIER));
-    assert_eq!(rt; ledger.line(4), None);
+    assert_eq!(rt; ledger.made(3), Some(State::Open));
+    assert_eq!(rt; ledger.made(4), None);
 }
 
 /// What a ledger returns of its search: the best time, the bound, how many splits are spent and how many nodes are open.

@@ -6,7 +6,7 @@ use s66_dep::is_beginning;
 use s66_isa::Profile;
 use s66_line::Block;
 use s66_model::Rule;
-use s66_node::{Constant, Marks, Piece, Place, Vertex, Walk, expand_dominated};
+use s66_node::{Constant, Marks, Piece, Place, State, Walk, expand_dominated};
 use s66_source::read_source;
 use s66_test_blocks::only_block;
 use std::process::Abort;
@@ -18,18 +18,18 @@ const THREE_INCREMENTS: &str = "  SB0 B1\n  SB0 B1\n  SB0 B1\n";
 /// The third waits for the X1 of the first.
 const LATE_READER: &str = "  FX1 X2/X3\n  SX5 B1\n  BX4 X1\n  FX6 X7+X0\n";
 
-/// How many lines of a piece are dominated. Each other one is a split, or a leaf with this value.
-fn count_passed<R: Abort>(rt: &R, piece: &Piece, leaf: u32) -> u32 {
-    let mut passed = 0u32;
-    for vertex in piece.vertices() {
-        match vertex {
-            Vertex::Split(_) => {}
-            Vertex::Leaf { value } => assert_eq!(rt; *value, leaf),
-            Vertex::Frontier { .. } => panic!(rt; "no line is open"),
-            Vertex::Passed { .. } => passed = passed.saturating_add(1),
+/// How many nodes of a piece are dominated. Each other one is a split, or a leaf with this value.
+fn count_dominated<R: Abort>(rt: &R, piece: &Piece, leaf: u32) -> u32 {
+    let mut dominated = 0u32;
+    for node in piece.nodes() {
+        match node.state {
+            State::Split => {}
+            State::Closed => assert_eq!(rt; node.value, leaf),
+            State::Dominated => dominated = dominated.saturating_add(1),
+            State::Open | State::Out => panic!(rt; "no node is open"),
         }
     }
-    passed
+    dominated
 }
 
 /// With all orders of three that take 8, the beginnings 2 1, 3 1 and 3 2 are dominated.
@@ -41,7 +41,7 @@ fn expands_three_increments(rt: HostRuntime) -> Result<(), Fail> {
     for best in 8..10u32 {
         let piece = expand_dominated(rt.alloc(), block, &profile, &[], best, 64)?;
         assert_eq!(&rt; piece.splits(), 7);
-        assert_eq!(&rt; count_passed(&rt, &piece, 8), 3);
+        assert_eq!(&rt; count_dominated(&rt, &piece, 8), 3);
         assert_eq!(&rt; piece.rule(), Rule::WrittenEarlier);
     }
     Ok(())
@@ -55,12 +55,10 @@ fn expands_late_reader(rt: HostRuntime) -> Result<(), Fail> {
     assert!(&rt; is_beginning(block, &[1]));
     let piece = expand_dominated(rt.alloc(), block, &Profile::standard(), &[1], 40, 64)?;
     assert_eq!(&rt; piece.splits(), 9);
-    assert_eq!(&rt; count_passed(&rt, &piece, 33), 1);
-    for vertex in piece.vertices() {
-        if let Vertex::Passed { name, .. } = vertex {
-            assert_eq!(&rt; name.numbers.as_slice(), [1u8, 2, 3].as_slice());
-            assert_eq!(&rt; name.place, Place::Line(2));
-        }
+    assert_eq!(&rt; count_dominated(&rt, &piece, 33), 1);
+    for dominance in piece.dominances() {
+        assert_eq!(&rt; dominance.name.numbers.as_slice(), [1u8, 2, 3].as_slice());
+        assert_eq!(&rt; dominance.name.place, Place::Line(2));
     }
     Ok(())
 }
@@ -76,16 +74,14 @@ fn check_standing<R: AllocGlobal + Abort>(rt: &R, block: &Block) -> Result<(), F
     assert!(rt; is_beginning(block, &[2]));
     let first = walk.expand_dominated(rt.alloc(), &[1], &mut best, 64, &mut marks, rule)?;
     assert_eq!(rt; first.splits(), 3);
-    assert_eq!(rt; count_passed(rt, &first, 8), 0);
+    assert_eq!(rt; count_dominated(rt, &first, 8), 0);
     marks.settle(4, 20);
     let second = walk.expand_dominated(rt.alloc(), &[2], &mut best, 64, &mut marks, rule)?;
     assert_eq!(rt; second.splits(), 2);
-    assert_eq!(rt; count_passed(rt, &second, 8), 1);
-    for vertex in second.vertices() {
-        if let Vertex::Passed { name, .. } = vertex {
-            assert_eq!(rt; name.numbers.as_slice(), [1u8, 2].as_slice());
-            assert_eq!(rt; name.place, Place::Node(20));
-        }
+    assert_eq!(rt; count_dominated(rt, &second, 8), 1);
+    for dominance in second.dominances() {
+        assert_eq!(rt; dominance.name.numbers.as_slice(), [1u8, 2].as_slice());
+        assert_eq!(rt; dominance.name.place, Place::Node(20));
     }
     Ok(())
 }

@@ -1,19 +1,19 @@
-use Rattle.std.proofs.Common.{◌+◌, ◌-◌, ◌≤◌, ℕ, length, take, heap_items, heap_len, vec_len}
+use Rattle.std.proofs.Common.{◌+◌, ◌-◌, ◌≤◌, ℕ, length, map, take, heap_items, heap_len, vec_len}
 use Rattle.std.specs.BinaryHeap.{IsHeap, heap_capacity}
 use Rattle.std.specs.Vec.{vec_capacity}
 use Rattle.s66_ledger.specs.LiveNodes.{AreCounted}
 use Rattle.s66_ledger.specs.OpenNodes.{AreOpenNodes, compare_ranked}
-use Rattle.s66_node.specs.SeenVertices.{seen}
-use Rattle.s66_ledger.specs.Closing.{IsClosing}
+use Rattle.s66_node.specs.Nodes.{named}
+use Rattle.s66_ledger.specs.Grafting.{IsGrafting}
 use Rattle.s66_ledger.proofs.attaching.append.Given as goal
 
 abbrev pub invariant-loop-i : goal.invariant-loop-i
 invariant-loop-i l =
     record {
-      nodes : IsClosing l.best l.root l.fn.nodes.items (take l.i l.subtree) (seen l.vertices) l.nodes.items;
+      nodes : IsGrafting l.best l.root (map named l.dominances) l.fn.nodes.items (take l.i l.below) l.nodes.items;
       heap : IsHeap compare_ranked (heap_items l.heap);
       listed : AreOpenNodes l.nodes.items (heap_items l.heap);
       counted : (out : ℕ) → AreCounted l.fn.nodes.items out l.fn.deepest → AreCounted l.nodes.items out l.deepest;
-      heap_room : heap_len l.heap + (length l.subtree - l.i) ≤ heap_capacity l.heap;
-      room : vec_len l.nodes + (length l.subtree - l.i) ≤ vec_capacity l.nodes;
+      heap_room : heap_len l.heap + (length l.below - l.i) ≤ heap_capacity l.heap;
+      room : vec_len l.nodes + (length l.below - l.i) ≤ vec_capacity l.nodes;
     }

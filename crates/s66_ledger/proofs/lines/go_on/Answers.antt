@@ -5,7 +5,7 @@ use Rattle.s66_model.proofs.Later.{next-ready, replaced, dropped}
 use Rattle.s66_node.specs.Walked.{Walked}
 use Rattle.s66_ledger.specs.AnswerLines.{AreOneTree, StandsAt}
 use Rattle.s66_ledger.specs.Nodes.{no_node, node_at}
-use Rattle.s66_ledger.specs.declared.node.Node.{Node}
+use Rattle.s66_node.specs.declared.node.Node.{Node}
 use Rattle.s66_ledger.proofs.NodePrefixes.{get_or-any}
 use Rattle.s66_ledger.proofs.AnswerLines.{parent-split, up-stands, root-stands}
 use Rattle.s66_ledger.proofs.lines.go_on.Goals as goal

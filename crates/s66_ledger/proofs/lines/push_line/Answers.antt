@@ -3,7 +3,7 @@ use Rattle.s66_dep.specs.Members.{numbers_in}
 use Rattle.s66_model.specs.DominatedLeaves.{Ending}
 use Rattle.s66_model.specs.Later.{children, later}
 use Rattle.s66_model.specs.Tree.{Vertex, AtSplit}
-use Rattle.s66_ledger.specs.declared.node.Node.{Node}
+use Rattle.s66_node.specs.declared.node.Node.{Node}
 use Rattle.s66_node.specs.Walked.{Walked}
 use Rattle.s66_ledger.specs.AnswerLines.{to_come}
 use Rattle.s66_ledger.specs.Nodes.{no_node}

@@ -1,5 +1,5 @@
 use Rattle.std.proofs.Common.{◌∙◌, [], arith, ap, sym, get_or, length}
-use Rattle.s66_ledger.specs.declared.node.Node.{Node}
+use Rattle.s66_node.specs.declared.node.Node.{Node}
 use Rattle.s66_ledger.specs.Nodes.{prefixes, no_node}
 use Rattle.s66_ledger.proofs.NodePrefixes.{get_or-any, name-below, name-root}
 use Rattle.s66_ledger.proofs.path.name_of.Goals as goal

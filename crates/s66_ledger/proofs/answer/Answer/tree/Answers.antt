@@ -11,7 +11,7 @@ use Rattle.s66_node.specs.Walked.{Walked}
 use Rattle.s66_ledger.specs.Answers.{AnswerOf, answer_of}
 use Rattle.s66_ledger.specs.AnswerLines.{AreOneTree, StandsAt, lines_from, lines_left}
 use Rattle.s66_ledger.specs.Nodes.{nodes_of, HaveFloors}
-use Rattle.s66_ledger.specs.declared.node.Node.{Node}
+use Rattle.s66_node.specs.declared.node.Node.{Node}
 use Rattle.s66_ledger.proofs.AnswerLines.{fewer-left, one-tree, root-there, lines-whole}
 use Rattle.s66_ledger.proofs.SeenNodes.{length-nodes}
 use Rattle.s66_ledger.proofs.answer.Answer.tree.Goals as goal

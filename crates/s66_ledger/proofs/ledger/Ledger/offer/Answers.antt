@@ -4,7 +4,7 @@ use Rattle.s66_model.specs.Ledger.{Event}
 use Rattle.s66_model.specs.Recorded.{IsOwn, IsOfferOf}
 use Rattle.s66_ledger.specs.Replies.{offered_reply}
 use Rattle.s66_ledger.specs.Ledgers.{LedgerOf, IsEvent, with_history}
-use Rattle.s66_ledger.proofs.Recording.{recorded-lineless, event-lineless, offered-own, offer-entry, offered-quiet}
+use Rattle.s66_ledger.proofs.Recording.{recorded-lineless, event-lineless, offered-own, offer-entry}
 use Rattle.s66_ledger.proofs.ledger.Ledger.offer.Goals as goal
 
 pub invariant_of-self-2 : goal.invariant_of-self-2
@@ -15,7 +15,7 @@ invariant_of-self-2 c =
     let (event, offers, moves) = c.offer-offered.ensures.offered in
     let own : IsOwn m.problem t.problem c.is_own.result = offered-own m.rule m.problem t.problem m.state c.offer-offered.new.self.state c.args.w t.numbers event c.offer-offered.result c.is_own.result offers moves.3.1 c.is_own.ensures.other c.is_own.ensures.own in
     recorded-lineless m c.offer-offered.new.self c.self.inside.history.entries.items c.reserve.new.self.items c.push_reserved.new.self.items c.self.inside.history.bytes.items c.extend_from_slice.new.self.items _ c.numbers-numbers.result.now event (offered_reply c.offer-offered.result)
-    moves c.offer-offered.ensures.lines (offered-quiet c.offer-offered.result) (offer-entry m.problem t.problem c.args.w t.numbers c.numbers-numbers.result.now c.is_own.result c.total-time.result (offered_reply c.offer-offered.result) event own order c.total-time.ensures.value offers)
+    moves c.offer-offered.ensures.lines (offer-entry m.problem t.problem c.args.w t.numbers c.numbers-numbers.result.now c.is_own.result c.total-time.result (offered_reply c.offer-offered.result) event own order c.total-time.ensures.value offers)
     c.reserve.ensures.items c.push_reserved.ensures.items c.in_ok-extend_from_slice.ensures.items (omega (arith, c.numbers-numbers.ensures.few)) refl c.self.invariant
 
 pub returns-clause-ok : goal.returns-clause-ok
@@ -30,6 +30,6 @@ returns-clause-ok c =
       event,
       offers,
       event-lineless m c.offer-offered.new.self c.self.inside.history.entries.items c.reserve.new.self.items c.push_reserved.new.self.items c.self.inside.history.bytes.items c.extend_from_slice.new.self.items _ c.numbers-numbers.result.now event (offered_reply c.offer-offered.result)
-          moves c.offer-offered.ensures.lines (offered-quiet c.offer-offered.result) (offer-entry m.problem t.problem c.args.w t.numbers c.numbers-numbers.result.now c.is_own.result c.total-time.result (offered_reply c.offer-offered.result) event own order c.total-time.ensures.value offers)
+          moves c.offer-offered.ensures.lines (offer-entry m.problem t.problem c.args.w t.numbers c.numbers-numbers.result.now c.is_own.result c.total-time.result (offered_reply c.offer-offered.result) event own order c.total-time.ensures.value offers)
           c.reserve.ensures.items c.push_reserved.ensures.items c.in_ok-extend_from_slice.ensures.items (omega (arith, c.numbers-numbers.ensures.few)) refl c.self.invariant,
     )

@@ -1,10 +1,10 @@
 use Rattle.std.proofs.Common.{true≢false, ◌∙◌, ap, sym, subst}
 use Rattle.s66_model.specs.Ledger as model
-use Rattle.s66_ledger.specs.declared.node.State.TheVariants as state
+use Rattle.s66_node.specs.declared.node.State.TheVariants as state
 use Rattle.s66_ledger.specs.Nodes.{lines_of}
 use Rattle.s66_ledger.specs.LedgerMachine.{MachineOf, IsMove, IsKept, machine_of}
 use Rattle.s66_ledger.proofs.Stored.{stored_of}
-use Rattle.s66_ledger.proofs.NodePrefixes.{lines-state}
+use Rattle.s66_ledger.proofs.SeenNodes.{lines-state}
 use Rattle.s66_ledger.proofs.Events.{kept-back, event-back, event-not-out}
 use Rattle.s66_ledger.proofs.machine.Machine.back.Goals as goal
 
@@ -26,4 +26,6 @@ returns-clause-ok c =
     (event-back m c.self.invariant c.args.self.now c.self.view_is c.args.w c.requires c.args.node (c.is_out.ensures.0 c.if-not-is_out.false))
 
 pub returns-clause-lines : goal.returns-clause-lines
-returns-clause-lines c = ap lines_of c.in-Ok.ensures.ok ∙ (lines-state c.self.inside.table c.args.node state.Open ∙ ap (λ (l : MachineOf). l.lines) c.self.view_is)
+returns-clause-lines c =
+    let m = stored_of c.self.inside in
+    ap (lines_of m.problem) c.in-Ok.ensures.ok ∙ (lines-state m.problem m.nodes c.args.node state.Open ∙ ap (λ (l : MachineOf). l.lines) c.self.view_is)

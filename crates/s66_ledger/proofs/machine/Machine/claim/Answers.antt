@@ -2,13 +2,14 @@ use Rattle.std.proofs.Common.{ℕ, true, List, Some, None, ◌≡◌, ◌≤◌,
 use Rattle.s66_isa.specs.declared.limits.TheConstants.{BLOCK_LIMIT}
 use Rattle.s66_model.specs.Leaves.{floor_value}
 use Rattle.s66_model.specs.Ledger as model
-use Rattle.s66_ledger.specs.declared.node.Node.{Node}
-use Rattle.s66_ledger.specs.declared.node.State.TheVariants as state
+use Rattle.s66_node.specs.declared.node.Node.{Node}
+use Rattle.s66_node.specs.declared.node.State.TheVariants as state
 use Rattle.s66_ledger.specs.Nodes.{prefixes, lines_of, no_node, node_at}
 use Rattle.s66_model.specs.Tickets.{TicketOf}
 use Rattle.s66_ledger.specs.LedgerMachine.{MachineOf, IsMove, IsKept, machine_of}
 use Rattle.s66_ledger.proofs.Stored.{stored_of}
-use Rattle.s66_ledger.proofs.NodePrefixes.{prefixes-set, lines-state}
+use Rattle.s66_ledger.proofs.NodePrefixes.{prefixes-set}
+use Rattle.s66_ledger.proofs.SeenNodes.{lines-state}
 use Rattle.s66_ledger.proofs.SeenNodes.{at-nodes}
 use Rattle.s66_ledger.proofs.Events.{kept-short, kept-claim, event-claim, event-none, claimed-least}
 use Rattle.s66_ledger.proofs.machine.Machine.claim.Goals as goal
@@ -40,7 +41,9 @@ returns-clause-ok c =
     (event-claim m c.self.invariant c.args.self.now c.self.view_is c.args.w c.requires c.in-Some.node c.in-Some.ensures.within c.in-Some.ensures.was))
 
 pub returns-clause-lines : goal.returns-clause-lines
-returns-clause-lines c = ap lines_of c.in-Some.ensures.moved ∙ (lines-state c.self.inside.table c.in-Some.node state.Out ∙ ap (λ (l : MachineOf). l.lines) c.self.view_is)
+returns-clause-lines c =
+    let m = stored_of c.self.inside in
+    ap (lines_of m.problem) c.in-Some.ensures.moved ∙ (lines-state m.problem m.nodes c.in-Some.node state.Out ∙ ap (λ (l : MachineOf). l.lines) c.self.view_is)
 
 pub returns-clause-ticket : goal.returns-clause-ticket
 returns-clause-ticket c =

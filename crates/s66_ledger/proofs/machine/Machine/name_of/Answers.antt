@@ -4,8 +4,8 @@ use Rattle.s66_model.specs.Timing.{Problem}
 use Rattle.s66_model.specs.DominatedLeaves.{Dominated}
 use Rattle.s66_model.specs.Ledger as model
 use Rattle.s66_model.specs.Ledger.{Cut, Closed}
-use Rattle.s66_ledger.specs.declared.node.Node.{Node}
-use Rattle.s66_ledger.specs.declared.node.State.TheVariants as state
+use Rattle.s66_node.specs.declared.node.Node.{Node}
+use Rattle.s66_node.specs.declared.node.State.TheVariants as state
 use Rattle.s66_ledger.specs.LedgerMachine.{MachineOf}
 use Rattle.s66_ledger.proofs.Stored.{stored_of}
 use Rattle.s66_ledger.specs.Nodes.{name_at, node_at, nodes_of, prefixes, seen_state}

@@ -1,121 +1,107 @@
-use Rattle.std.proofs.Common.{ℕ, true, ◌+◌, ◌-◌, ◌≡◌, ◌∙◌, ◌++◌, List, ap, arith, refl, sym, subst, length, get_or, heap_items, []}
-use Rattle.std.proofs.lemmas.List.{append-nil, length-set}
+use Rattle.std.proofs.Common.{ℕ, true, true≢false, ◌+◌, ◌-◌, ◌≡◌, ◌≢◌, ◌∙◌, ◌++◌, ◌∷◌, List, ap, arith, refl, sym, subst, length, map, get_or, heap_items}
 use Rattle.std.proofs.lemmas.Result.{on_ok_weaker}
-use Rattle.s66_dep.specs.Members.{numbers_in}
-use Rattle.s66_model.specs.Ledger as model
-use Rattle.s66_model.specs.Ledger.{root_state, new_nodes}
-use Rattle.s66_model.specs.Tree.{Alone, flat}
-use Rattle.s66_model.specs.Stated.{Stated}
-use Rattle.s66_node.specs.Pieces.{PieceOf, stated_tree, tree_of}
-use Rattle.s66_ledger.specs.declared.node.Node.{Node}
-use Rattle.s66_ledger.specs.declared.node.State.{State}
-use Rattle.s66_ledger.specs.declared.node.State.TheVariants as state
+use Rattle.std.proofs.lemmas.List.{length-map}
+use Rattle.s66_node.specs.declared.name.Dominance.{Dominance}
+use Rattle.s66_node.specs.declared.node.Node.{Node}
+use Rattle.s66_node.specs.declared.node.State.{State}
+use Rattle.s66_node.specs.declared.node.State.TheVariants as state
+use Rattle.s66_node.specs.Nodes.{is_open_state, Named, named}
+use Rattle.s66_node.specs.Pieces.{PieceOf}
 use Rattle.s66_ledger.specs.OpenNodes.{IsOut, AreOpenNodes}
 use Rattle.s66_ledger.specs.LiveNodes.{AreCounted}
-use Rattle.s66_ledger.specs.Nodes.{no_node, node_at, with_state, nodes_of, lines_of, prefixes, HaveFloors, HaveDepths, is_open_state, is_out_state, has_floor}
-use Rattle.s66_ledger.specs.Opened.{opened, IsPlain, open_vertex}
-use Rattle.s66_ledger.proofs.Opened.{opened-plain, opened-preorder, opened-lines, opened-length}
-use Rattle.s66_ledger.specs.Attaching.{stated_state}
-use Rattle.s66_ledger.specs.Subtrees.{lines_below}
-use Rattle.s66_ledger.specs.Closing.{IsSplitUnder, IsAttachedAs}
-use Rattle.s66_ledger.proofs.Closing.{all-open, open-lines_named, attached-split, split-floors, split-count}
+use Rattle.s66_ledger.specs.Nodes.{no_node, node_at, with_state, is_out_state, HaveFloors, HaveDepths}
+use Rattle.s66_ledger.specs.Grafting.{settled_state, IsGrafting, IsSplitUnder, IsAttachedAs, HaveNames}
+use Rattle.s66_ledger.proofs.Attached.{grafting-depths, split-count, split-floors, attached-split, not-open, alone-count, alone-floors, attached-alone}
+use Rattle.s66_ledger.proofs.Grafting.{below-names}
 use Rattle.s66_ledger.proofs.Depths.{depths-state}
-use Rattle.s66_ledger.proofs.NodeFloors.{floors-state}
 use Rattle.s66_ledger.proofs.LiveCounts.{counted-set, some-out, one}
 use Rattle.s66_ledger.proofs.OpenHeap.{still-shut, out-shut, is-open}
-use Rattle.s66_ledger.proofs.Attached.{split-root, alone-nodes, terminal-root, stated-closed}
-use Rattle.s66_ledger.proofs.NodePrefixes.{lines-state}
-use Rattle.s66_ledger.proofs.Reading.{settled-stated}
-use Rattle.s66_ledger.proofs.Subtrees.{terminal-lineless}
 use Rattle.s66_ledger.proofs.node_table.NodeTable.attach.Goals as goal
 
--- in these nodes the piece is in the place of one that was out
-abbrev Stands : PieceOf → ℕ → ℕ → List Node → List Node → Type 0
-Stands p best i old new = nodes_of p.problem new ≡ model.with_state (nodes_of p.problem old) i (root_state p.problem best p.prefix (tree_of p)) ++ new_nodes p.problem best p.prefix (tree_of p)
+pub attach_split-requires-clause-names : goal.attach_split-requires-clause-names
+attach_split-requires-clause-names c =
+    let p = c.args.piece.now in
+    let first : p.nodes ≡ c.in-Some.first.now ∷ c.in-Some.below.now = sym c.nodes.ensures.value ∙ c.in-Some.ensures.cases.0 in
+    subst (λ n. HaveNames n c.in-Some.below.now) (ap length (sym c.dominances.ensures) ∙ length-map c.dominances.result.now named) (below-names p.problem p.names p.prefix p.nodes c.in-Some.below.now c.in-Some.first.now c.nodes.ensures.tree.nodes first)
 
--- a piece that isn't split
-module _ (p : PieceOf) (best i : ℕ) (s : State) (stated : Stated) (old new : List Node) (out : IsOut old i) (alone : stated_tree p ≡ Alone stated) (is : s ≡ stated_state best stated) (moved : new ≡ with_state old i s) where
-  alone-count : flat (stated_tree p) ≡ p.vertices → length new + 1 ≡ length old + length p.vertices
-  alone-count preorder = omega (arith, ap length moved, length-set old i (record (node_at old i) { state = s }), ap length (sym preorder ∙ ap flat alone))
-
-  alone-lines : flat (stated_tree p) ≡ p.vertices → lines_of new ≡ lines_of old ++ lines_below p
-  alone-lines preorder =
-      ap lines_of moved
-      ∙ (lines-state old i s
-      ∙ (sym (append-nil (lines_of old)) ∙ ap (λ ls. lines_of old ++ ls) (sym (terminal-lineless p (ap length (sym preorder ∙ ap flat alone))))))
-
-  alone-floors : HaveFloors p.problem old → HaveFloors p.problem new
-  alone-floors floors = subst (HaveFloors p.problem) (sym moved) (floors-state p.problem old i s out.0 (ap has_floor out.1) floors)
-
-  alone-stands : get_or (prefixes old) i [] ≡ p.prefix → IsPlain p → Stands p best i old new
-  alone-stands over holds =
-      subst (Stands p best i old) (sym moved)
-      (alone-nodes p.problem best i p.prefix (stated_tree p) old s stated out.0 is over holds alone)
+pub attach_split-requires-clause-depths : goal.attach_split-requires-clause-depths
+attach_split-requires-clause-depths c =
+    let p = c.args.piece.now in
+    let first : p.nodes ≡ c.in-Some.first.now ∷ c.in-Some.below.now = sym c.nodes.ensures.value ∙ c.in-Some.ensures.cases.0 in
+    subst (λ (names : List Named). (all : List Node) → IsGrafting c.args.best c.args.root names c.args.self.now c.in-Some.below.now all → HaveDepths all) (sym c.dominances.ensures)
+    (grafting-depths p c.nodes.ensures.tree c.in-Some.first.now c.in-Some.below.now first c.args.best c.args.root c.args.self.now c.requires.out c.requires.over c.requires.room (subst HaveDepths c.self.view_is c.self.invariant.2))
 
 pub returns-in-Split-clause-count : goal.returns-in-Split-clause-count
 returns-in-Split-clause-count c =
     let p = c.args.piece.now in
-    let old = c.args.self.now in
+    let first : p.nodes ≡ c.in-Some.first.now ∷ c.in-Some.below.now = sym c.nodes.ensures.value ∙ c.in-Some.ensures.cases.0 in
+    let split : c.in-Some.first.now.state ≡ state.Split = c.in-Split.is in
     let new = c.attach_split.new.self in
-    let i = c.args.root in
-    let many : length c.args.subtree.now + 1 ≡ length p.vertices = c.requires.subtree.count ∙ opened-length p in
-    let count : IsSplitUnder c.args.best i old c.args.subtree.now p.vertices new → length new + 1 ≡ length old + length p.vertices = split-count c.args.best i old c.args.subtree.now new p.vertices many in
-    on_ok_weaker c.attach_split.result count c.attach_split.ensures.ok
+    let shows : IsSplitUnder c.args.best c.args.root (map named c.dominances.result.now) c.args.self.now c.in-Some.below.now new → length new + 1 ≡ length c.args.self.now + length p.nodes =
+    λ is. (let under : IsSplitUnder c.args.best c.args.root p.names c.args.self.now c.in-Some.below.now new = subst (λ names. IsSplitUnder c.args.best c.args.root names c.args.self.now c.in-Some.below.now new) c.dominances.ensures is in split-count p c.nodes.ensures.tree c.in-Some.first.now c.in-Some.below.now first c.args.best c.args.root c.args.self.now c.requires.out c.requires.over c.requires.room split new under) in
+    on_ok_weaker c.attach_split.result shows c.attach_split.ensures.ok
 
 pub returns-in-Split-clause-floors : goal.returns-in-Split-clause-floors
 returns-in-Split-clause-floors c =
     let p = c.args.piece.now in
-    let old = c.args.self.now in
+    let first : p.nodes ≡ c.in-Some.first.now ∷ c.in-Some.below.now = sym c.nodes.ensures.value ∙ c.in-Some.ensures.cases.0 in
+    let split : c.in-Some.first.now.state ≡ state.Split = c.in-Split.is in
     let new = c.attach_split.new.self in
-    let i = c.args.root in
-    let whole = c.requires.subtree.anywhere c.args.best i old (record { within = c.requires.out.0; over = c.requires.over; floors = c.requires.floors; depths = subst HaveDepths c.self.view_is c.self.invariant.2; room = omega (arith, c.requires.room, opened-length p) }) in
-    let many : length c.args.subtree.now + 1 ≡ length p.vertices = c.requires.subtree.count ∙ opened-length p in
-    let split : IsSplitUnder c.args.best i old c.args.subtree.now p.vertices new → HaveFloors p.problem new = split-floors c.args.best i old c.args.subtree.now new p.vertices many p.problem c.requires.out whole.floors in
-    on_ok_weaker c.attach_split.result split c.attach_split.ensures.ok
+    let shows : IsSplitUnder c.args.best c.args.root (map named c.dominances.result.now) c.args.self.now c.in-Some.below.now new → HaveFloors p.problem new =
+    λ is. (let under : IsSplitUnder c.args.best c.args.root p.names c.args.self.now c.in-Some.below.now new = subst (λ names. IsSplitUnder c.args.best c.args.root names c.args.self.now c.in-Some.below.now new) c.dominances.ensures is in split-floors p c.nodes.ensures.tree c.in-Some.first.now c.in-Some.below.now first c.args.best c.args.root c.args.self.now c.requires.out c.requires.over c.requires.room split new under c.requires.floors) in
+    on_ok_weaker c.attach_split.result shows c.attach_split.ensures.ok
 
 pub returns-in-Split-clause-ok : goal.returns-in-Split-clause-ok
 returns-in-Split-clause-ok c =
     let p = c.args.piece.now in
-    let q = opened p in
-    let old = c.args.self.now in
+    let first : p.nodes ≡ c.in-Some.first.now ∷ c.in-Some.below.now = sym c.nodes.ensures.value ∙ c.in-Some.ensures.cases.0 in
+    let split : c.in-Some.first.now.state ≡ state.Split = c.in-Split.is in
     let new = c.attach_split.new.self in
-    let i = c.args.root in
-    let vertices = c.vertices.result.now in
-    let whole = c.requires.subtree.anywhere c.args.best i old (record { within = c.requires.out.0; over = c.requires.over; floors = c.requires.floors; depths = subst HaveDepths c.self.view_is c.self.invariant.2; room = omega (arith, c.requires.room, opened-length p) }) in
-    let numbers = numbers_in c.in-Split.field-0 in
-    let parts = split-root (stated_tree q) vertices q.vertices (opened-preorder p c.vertices.ensures.preorder) (opened-lines vertices p c.vertices.ensures.value) c.index-vertices-0.result c.index-vertices-0.result numbers c.index-vertices-0.is (ap open_vertex c.in-Split.is) in
-    let split : IsSplitUnder c.args.best i old c.args.subtree.now p.vertices new → IsAttachedAs p c.args.best i old new =
-    λ under. attached-split p c.vertices.ensures.stated c.vertices.ensures.preorder c.args.best i old c.args.subtree.now new c.requires.out c.requires.subtree whole under numbers parts in
-    on_ok_weaker c.attach_split.result split c.attach_split.ensures.ok
+    let shows : IsSplitUnder c.args.best c.args.root (map named c.dominances.result.now) c.args.self.now c.in-Some.below.now new → IsAttachedAs p c.args.best c.args.root c.args.self.now new =
+    λ is. (let under : IsSplitUnder c.args.best c.args.root p.names c.args.self.now c.in-Some.below.now new = subst (λ names. IsSplitUnder c.args.best c.args.root names c.args.self.now c.in-Some.below.now new) c.dominances.ensures is in attached-split p c.nodes.ensures.tree c.in-Some.first.now c.in-Some.below.now first c.args.best c.args.root c.args.self.now c.requires.out c.requires.over c.requires.room split new under) in
+    on_ok_weaker c.attach_split.result shows c.attach_split.ensures.ok
 
--- a piece that isn't split
-alone-attached : (q : PieceOf) (best i : ℕ) (s : State) (stated : Stated) (old new : List Node) → IsOut old i → stated_tree (opened q) ≡ Alone stated → s ≡ stated_state best stated → new ≡ with_state old i s → flat (stated_tree (opened q)) ≡ (opened q).vertices → get_or (prefixes old) i [] ≡ q.prefix → IsPlain (opened q) → IsAttachedAs q best i old new
-alone-attached q best i s stated old new out alone is moved preorder over plain = record {
-  taken = (opened q).vertices;
-  opens = all-open q.vertices;
-  root_line = refl;
-  lines = alone-lines (opened q) best i s stated old new out alone is moved preorder;
-  nodes = alone-stands (opened q) best i s stated old new out alone is moved over plain;
-  named = open-lines_named new q.vertices;
-}
+pub returns-then-is_open-clause-count : goal.returns-then-is_open-clause-count
+returns-then-is_open-clause-count c =
+    let p = c.args.piece.now in
+    let first : p.nodes ≡ c.in-Some.first.now ∷ c.in-Some.below.now = sym c.nodes.ensures.value ∙ c.in-Some.ensures.cases.0 in
+    let moved : c.give_back.new.self ≡ with_state c.args.self.now c.args.root (settled_state c.args.best c.in-Some.first.now.value c.in-Some.first.now.state) = c.in_ok-give_back.ensures.ok ∙ ap (with_state c.args.self.now c.args.root) (sym (is-open c.settled_state.result (sym c.is_open.ensures ∙ c.if-is_open.true)) ∙ c.settled_state.ensures) in
+    alone-count p c.nodes.ensures.tree c.in-Some.first.now c.in-Some.below.now first c.in_default-state.not-Split c.args.best c.args.root c.args.self.now _ c.requires.out c.requires.over moved
 
-pub returns-then-is_open : goal.returns-then-is_open
-returns-then-is_open c =
-    let q = c.args.piece.now in
-    let p = opened q in
-    let old = c.args.self.now in
-    let i = c.args.root in
-    let vertices = c.vertices.result.now in
-    let (stated, seen_is, stated_is, value_is) = settled-stated c.args.best _ _ _ _ c.in_default.not-Split c.settled_state.ensures c.state_of.ensures c.value_of.ensures in
-    let alone = terminal-root (stated_tree p) vertices p.vertices (opened-preorder q c.vertices.ensures.preorder) (opened-lines vertices q c.vertices.ensures.value) c.index-vertices-0.result c.index-vertices-0.result stated c.index-vertices-0.is seen_is in
-    let now : state.Open ≡ stated_state c.args.best stated = sym (is-open c.settled_state.result (sym c.is_open.ensures ∙ c.if-is_open.true)) ∙ stated_is in
-    let moved = c.in_ok-give_back.ensures.ok in
-    record {
-      err = tt;
-      count = omega (arith, alone-count p c.args.best i state.Open stated old c.give_back.new.self c.requires.out alone now moved (opened-preorder q c.vertices.ensures.preorder), opened-length q);
-      floors = alone-floors p c.args.best i state.Open stated old c.give_back.new.self c.requires.out alone now moved c.requires.floors;
-      ok = alone-attached q c.args.best i state.Open stated old c.give_back.new.self c.requires.out alone now moved (opened-preorder q c.vertices.ensures.preorder) c.requires.over (opened-plain q c.vertices.ensures.stated);
-    }
+pub returns-then-is_open-clause-floors : goal.returns-then-is_open-clause-floors
+returns-then-is_open-clause-floors c =
+    let p = c.args.piece.now in
+    let first : p.nodes ≡ c.in-Some.first.now ∷ c.in-Some.below.now = sym c.nodes.ensures.value ∙ c.in-Some.ensures.cases.0 in
+    let moved : c.give_back.new.self ≡ with_state c.args.self.now c.args.root (settled_state c.args.best c.in-Some.first.now.value c.in-Some.first.now.state) = c.in_ok-give_back.ensures.ok ∙ ap (with_state c.args.self.now c.args.root) (sym (is-open c.settled_state.result (sym c.is_open.ensures ∙ c.if-is_open.true)) ∙ c.settled_state.ensures) in
+    alone-floors p c.nodes.ensures.tree c.in-Some.first.now c.in-Some.below.now first c.in_default-state.not-Split c.args.best c.args.root c.args.self.now _ c.requires.out c.requires.over moved c.requires.floors
+
+pub returns-then-is_open-clause-ok : goal.returns-then-is_open-clause-ok
+returns-then-is_open-clause-ok c =
+    let p = c.args.piece.now in
+    let first : p.nodes ≡ c.in-Some.first.now ∷ c.in-Some.below.now = sym c.nodes.ensures.value ∙ c.in-Some.ensures.cases.0 in
+    let moved : c.give_back.new.self ≡ with_state c.args.self.now c.args.root (settled_state c.args.best c.in-Some.first.now.value c.in-Some.first.now.state) = c.in_ok-give_back.ensures.ok ∙ ap (with_state c.args.self.now c.args.root) (sym (is-open c.settled_state.result (sym c.is_open.ensures ∙ c.if-is_open.true)) ∙ c.settled_state.ensures) in
+    attached-alone p c.nodes.ensures.tree c.in-Some.first.now c.in-Some.below.now first c.in_default-state.not-Split c.args.best c.args.root c.args.self.now _ c.requires.out c.requires.over moved
+
+pub returns-clause-count : goal.returns-clause-count
+returns-clause-count c =
+    let p = c.args.piece.now in
+    let first : p.nodes ≡ c.in-Some.first.now ∷ c.in-Some.below.now = sym c.nodes.ensures.value ∙ c.in-Some.ensures.cases.0 in
+    let moved : c.set_state.new.nodes.items ≡ with_state c.args.self.now c.args.root (settled_state c.args.best c.in-Some.first.now.value c.in-Some.first.now.state) = c.set_state.ensures ∙ (ap (λ (ns : List Node). with_state ns c.args.root state.Closed) c.self.view_is ∙ ap (with_state c.args.self.now c.args.root) (sym (not-open c.args.best c.in-Some.first.now.value c.in-Some.first.now.state c.in_default-state.not-Split (ap is_open_state (sym c.settled_state.ensures) ∙ (sym c.is_open.ensures ∙ c.if-is_open.false))))) in
+    alone-count p c.nodes.ensures.tree c.in-Some.first.now c.in-Some.below.now first c.in_default-state.not-Split c.args.best c.args.root c.args.self.now _ c.requires.out c.requires.over moved
+
+pub returns-clause-floors : goal.returns-clause-floors
+returns-clause-floors c =
+    let p = c.args.piece.now in
+    let first : p.nodes ≡ c.in-Some.first.now ∷ c.in-Some.below.now = sym c.nodes.ensures.value ∙ c.in-Some.ensures.cases.0 in
+    let moved : c.set_state.new.nodes.items ≡ with_state c.args.self.now c.args.root (settled_state c.args.best c.in-Some.first.now.value c.in-Some.first.now.state) = c.set_state.ensures ∙ (ap (λ (ns : List Node). with_state ns c.args.root state.Closed) c.self.view_is ∙ ap (with_state c.args.self.now c.args.root) (sym (not-open c.args.best c.in-Some.first.now.value c.in-Some.first.now.state c.in_default-state.not-Split (ap is_open_state (sym c.settled_state.ensures) ∙ (sym c.is_open.ensures ∙ c.if-is_open.false))))) in
+    alone-floors p c.nodes.ensures.tree c.in-Some.first.now c.in-Some.below.now first c.in_default-state.not-Split c.args.best c.args.root c.args.self.now _ c.requires.out c.requires.over moved c.requires.floors
+
+pub returns-clause-ok : goal.returns-clause-ok
+returns-clause-ok c =
+    let p = c.args.piece.now in
+    let first : p.nodes ≡ c.in-Some.first.now ∷ c.in-Some.below.now = sym c.nodes.ensures.value ∙ c.in-Some.ensures.cases.0 in
+    let moved : c.set_state.new.nodes.items ≡ with_state c.args.self.now c.args.root (settled_state c.args.best c.in-Some.first.now.value c.in-Some.first.now.state) = c.set_state.ensures ∙ (ap (λ (ns : List Node). with_state ns c.args.root state.Closed) c.self.view_is ∙ ap (with_state c.args.self.now c.args.root) (sym (not-open c.args.best c.in-Some.first.now.value c.in-Some.first.now.state c.in_default-state.not-Split (ap is_open_state (sym c.settled_state.ensures) ∙ (sym c.is_open.ensures ∙ c.if-is_open.false))))) in
+    attached-alone p c.nodes.ensures.tree c.in-Some.first.now c.in-Some.below.now first c.in_default-state.not-Split c.args.best c.args.root c.args.self.now _ c.requires.out c.requires.over moved
 
 pub invariant_of-self : goal.invariant_of-self
 invariant_of-self c =
@@ -132,24 +118,6 @@ invariant_of-self c =
           (omega (arith, one (is_out_state (node_at nodes i).state) true (ap is_out_state out.1), some-out nodes i out, c.self.invariant.3.count))
           (λ live. absurd cc)),
     )
-
-pub returns : goal.returns
-returns c =
-    let q = c.args.piece.now in
-    let p = opened q in
-    let old = c.args.self.now in
-    let i = c.args.root in
-    let vertices = c.vertices.result.now in
-    let (stated, seen_is, stated_is, value_is) = settled-stated c.args.best _ _ _ _ c.in_default.not-Split c.settled_state.ensures c.state_of.ensures c.value_of.ensures in
-    let alone = terminal-root (stated_tree p) vertices p.vertices (opened-preorder q c.vertices.ensures.preorder) (opened-lines vertices q c.vertices.ensures.value) c.index-vertices-0.result c.index-vertices-0.result stated c.index-vertices-0.is seen_is in
-    let now : state.Closed ≡ stated_state c.args.best stated = sym (stated-closed c.args.best stated (ap is_open_state (sym stated_is) ∙ (sym c.is_open.ensures ∙ c.if-is_open.false))) in
-    let moved = c.set_state.ensures ∙ ap (λ (ns : List Node). with_state ns i state.Closed) c.self.view_is in
-    record {
-      err = tt;
-      count = omega (arith, alone-count p c.args.best i state.Closed stated old _ c.requires.out alone now moved (opened-preorder q c.vertices.ensures.preorder), opened-length q);
-      floors = alone-floors p c.args.best i state.Closed stated old _ c.requires.out alone now moved c.requires.floors;
-      ok = alone-attached q c.args.best i state.Closed stated old _ c.requires.out alone now moved (opened-preorder q c.vertices.ensures.preorder) c.requires.over (opened-plain q c.vertices.ensures.stated);
-    }
 
 pub overflow_sub-self : goal.overflow_sub-self
 overflow_sub-self c =

@@ -1,34 +1,29 @@
-use Rattle.std.proofs.Common.{ℕ, List, ◌-◌, true, arith, ◌≡◌, ap, refl, sym, subst, heap_items}
-use Rattle.s66_ledger.specs.declared.node.Node.{Node}
-use Rattle.s66_ledger.specs.declared.node.State.TheVariants as state
+use Rattle.std.proofs.Common.{ℕ, List, ◌-◌, true, arith, ◌≡◌, ap, refl, sym, subst, heap_items, map}
+use Rattle.s66_node.specs.declared.node.Node.{Node}
+use Rattle.s66_node.specs.declared.node.State.TheVariants as state
+use Rattle.s66_node.specs.Nodes.{named}
 use Rattle.s66_ledger.specs.Nodes.{no_node, node_at, HaveDepths, is_out_state}
 use Rattle.s66_ledger.specs.OpenNodes.{AreOpenNodes, IsOut}
-use Rattle.s66_model.specs.Tree.{Vertex}
-use Rattle.s66_model.specs.Stated.{Stated}
-use Rattle.s66_ledger.specs.Closing.{IsClosing}
-use Rattle.s66_ledger.proofs.Closing.{closing-out, closing-depths}
+use Rattle.s66_ledger.specs.Grafting.{IsGrafting}
+use Rattle.s66_ledger.proofs.Grafting.{grafting-out}
 use Rattle.s66_ledger.specs.LiveNodes.{AreCounted}
 use Rattle.s66_ledger.proofs.Depths.{depths-state}
 use Rattle.s66_ledger.proofs.LiveCounts.{counted-set, some-out, one}
 use Rattle.s66_ledger.proofs.OpenHeap.{still-shut, out-shut}
 use Rattle.s66_ledger.proofs.node_table.NodeTable.attach_split.Goals as goal
 
-closing-as : (best root : ℕ) (made made2 subtree subtree2 : List Node) (lines lines2 : List (Vertex Stated)) (all : List Node) → made ≡ made2 → subtree ≡ subtree2 → lines ≡ lines2 → IsClosing best root made subtree lines all → IsClosing best root made2 subtree2 lines2 all
-closing-as best root made made2 subtree subtree2 lines lines2 all e f g h =
-    subst (λ xs. IsClosing best root xs subtree2 lines2 all) e (subst (λ xs. IsClosing best root made xs lines2 all) f (subst (λ ks. IsClosing best root made subtree ks all) g h))
-
 pub invariant_of-self-2 : goal.invariant_of-self-2
 invariant_of-self-2 c =
-    let p = c.args.piece.now in
     let made = c.args.self.now in
     let root = c.args.root in
-    let subtree = c.args.subtree.now in
+    let below = c.args.below.now in
+    let names = map named c.args.dominances.now in
     let nodes = c.append.new.nodes.items in
     let entries = heap_items c.append.new.heap in
-    let closing : IsClosing c.args.best root made subtree p.vertices nodes = closing-as c.args.best root _ made _ subtree _ p.vertices nodes c.self.view_is c.nodes.ensures c.vertices.ensures.value c.in_ok-deepest.ensures.ok in
+    let grafting : IsGrafting c.args.best root names made below nodes = subst (λ xs. IsGrafting c.args.best root names xs below nodes) c.self.view_is c.in_ok-deepest.ensures.ok in
     let now = c.set_state.ensures in
-    let out : IsOut nodes root = closing-out c.args.best root made subtree p.vertices nodes closing root c.requires.out in
-    let depths : HaveDepths nodes = closing-depths p.problem c.args.best root made subtree p.vertices nodes closing (omega (arith, c.requires.out.0)) c.requires.lines c.requires.depths in
+    let out : IsOut nodes root = grafting-out c.args.best root names made below nodes grafting root c.requires.out in
+    let depths : HaveDepths nodes = c.requires.depths nodes grafting in
     let t = c.self.inside in
     let counted : AreCounted nodes t.out c.in_ok-deepest.deepest = c.in_ok-deepest.ensures.counted t.out c.self.invariant.3 in (
       c.in_ok-deepest.ensures.heap,
@@ -42,18 +37,14 @@ invariant_of-self-2 c =
 
 pub returns-clause-ok : goal.returns-clause-ok
 returns-clause-ok c =
-    let p = c.args.piece.now in
-    let nodes = c.append.new.nodes.items in
     record {
-      all = nodes;
-      closing = closing-as c.args.best c.args.root _ c.args.self.now _ c.args.subtree.now _ p.vertices nodes c.self.view_is c.nodes.ensures c.vertices.ensures.value c.in_ok-deepest.ensures.ok;
+      all = c.append.new.nodes.items;
+      grafting = subst (λ xs. IsGrafting c.args.best c.args.root (map named c.args.dominances.now) xs c.args.below.now c.append.new.nodes.items) c.self.view_is c.in_ok-deepest.ensures.ok;
       split = c.set_state.ensures;
     }
 
 pub overflow_sub-self : goal.overflow_sub-self
 overflow_sub-self c =
     let t = c.self.inside in
-    let root = c.args.root in
-    let made = c.args.self.now in
-    let out : IsOut t.nodes.items root = subst (λ ns. IsOut ns root) (sym c.self.view_is) c.requires.out in
-    omega (arith, some-out t.nodes.items root out, c.self.invariant.3.count)
+    let out : IsOut t.nodes.items c.args.root = subst (λ ns. IsOut ns c.args.root) (sym c.self.view_is) c.requires.out in
+    omega (arith, some-out t.nodes.items c.args.root out, c.self.invariant.3.count)

@@ -1,9 +1,10 @@
 use Rattle.std.proofs.Common.{ℕ, true, false, ◌≡◌, ◌≤◌, ◌∙◌, ap, arith, refl, subst, heap_items}
 use Rattle.std.proofs.lemmas.List.Sorted.{first_le_from_greatest}
 use Rattle.std.specs.Ordering.{nat_cmp}
-use Rattle.s66_ledger.specs.declared.node.Node.{Node}
-use Rattle.s66_ledger.specs.declared.node.State.TheVariants as state
-use Rattle.s66_ledger.specs.Nodes.{no_node, node_at, is_open, is_live_state, is_out_state}
+use Rattle.s66_node.specs.declared.node.Node.{Node}
+use Rattle.s66_node.specs.declared.node.State.TheVariants as state
+use Rattle.s66_node.specs.Nodes.{is_live_state}
+use Rattle.s66_ledger.specs.Nodes.{no_node, node_at, is_open, is_out_state}
 use Rattle.s66_ledger.specs.OpenNodes.{ranked}
 use Rattle.s66_ledger.proofs.Depths.{depths-set}
 use Rattle.s66_ledger.proofs.LiveCounts.{counted-set, room-out, one}
@@ -16,7 +17,7 @@ invariant_of-self-2 c =
     let t = c.self.inside in
     let popped = c.in_ok-node.ensures.permutation in
     let node = c.index_mut.result.now in
-    let y : Node = record { parent = node.parent; value = node.value; number = node.number; depth = node.depth; line = node.line; state = state.Out } in
+    let y : Node = record { parent = node.parent; value = node.value; number = node.number; depth = node.depth; made = node.made; state = state.Out } in
     let within = taken-within t.nodes.items (heap_items t.open) c.self.invariant.1 (heap_items c.pop.new.self) c.in_ok-node.field-0-0 c.in_ok-node.node popped in
     let was = taken-open t.nodes.items (heap_items t.open) c.self.invariant.1 (heap_items c.pop.new.self) c.in_ok-node.field-0-0 c.in_ok-node.node popped in
     let at : node ≡ node_at t.nodes.items c.in_ok-node.node = c.index_mut.ensures.value ∙ get_or-any t.nodes.items c.in_ok-node.node c.index_mut.result.now no_node (λ x. x) within in (

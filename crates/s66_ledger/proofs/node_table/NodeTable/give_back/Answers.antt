@@ -1,8 +1,9 @@
 use Rattle.std.proofs.Common.{◌≡◌, ◌<◌, true, arith, length, ◌∙◌, ◌∷◌, ap, refl, sym, subst, heap_items}
 use Rattle.std.specs.List.Sorted.{IsPermutation}
-use Rattle.s66_ledger.specs.declared.node.Node.{Node}
-use Rattle.s66_ledger.specs.declared.node.State.TheVariants as state
-use Rattle.s66_ledger.specs.Nodes.{no_node, node_at, is_live_state, is_out_state}
+use Rattle.s66_node.specs.declared.node.Node.{Node}
+use Rattle.s66_node.specs.declared.node.State.TheVariants as state
+use Rattle.s66_node.specs.Nodes.{is_live_state}
+use Rattle.s66_ledger.specs.Nodes.{no_node, node_at, is_out_state}
 use Rattle.s66_ledger.specs.OpenNodes.{rank_of}
 use Rattle.s66_ledger.proofs.Depths.{depths-set}
 use Rattle.s66_ledger.proofs.LiveCounts.{counted-set, some-out, one}
@@ -15,7 +16,7 @@ invariant_of-self-2 c =
     let t = c.self.inside in
     let i = c.args.node in
     let node = c.index_mut.result.now in
-    let y : Node = record { parent = node.parent; value = node.value; number = node.number; depth = node.depth; line = node.line; state = state.Open } in
+    let y : Node = record { parent = node.parent; value = node.value; number = node.number; depth = node.depth; made = node.made; state = state.Open } in
     let out = subst (λ ns. (i < length ns) × ((node_at ns i).state ≡ state.Out)) (sym c.self.view_is) c.requires in
     let was = ap (λ (x : Node). x.value) c.index.ensures ∙ get_or-any t.nodes.items i c.index.result.now no_node (λ x. x.value) out.0 in
     let now = ap (λ (x : Node). x.value) c.index_mut.ensures.value ∙ get_or-any t.nodes.items i c.index_mut.result.now no_node (λ x. x.value) out.0 in

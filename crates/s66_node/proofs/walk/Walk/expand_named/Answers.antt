@@ -4,15 +4,15 @@ use Rattle.s66_isa.specs.declared.instr.Instr.{Instr}
 use Rattle.s66_line.specs.Block.{instrs_of}
 use Rattle.s66_model.specs.Timing.{Problem}
 use Rattle.s66_model.specs.Tree.{Tree}
-use Rattle.s66_model.specs.Stated.{Stated, tree_stated}
+use Rattle.s66_model.specs.Piece.{Terminal}
 use Rattle.s66_model.specs.Expansion.{whole_orders}
 use Rattle.s66_dep.proofs.LongestBeginning.{beginning-few}
 use Rattle.s66_time.specs.Ticking.{problem_of}
 use Rattle.s66_time.specs.TimedOrder.{TimedOrder}
-use Rattle.s66_node.specs.Pieces.{IsBestTimed}
+use Rattle.s66_node.specs.Pieces.{PieceOf, IsBestTimed}
 use Rattle.s66_node.specs.Walked.{Walked}
-use Rattle.s66_node.specs.Walking.{span, IsGrown, IsLeast}
-use Rattle.s66_node.proofs.Pieces.{grown-least, piece-tree, piece-expansion, piece-kept}
+use Rattle.s66_node.specs.Walking.{Span, span, IsGrown, IsLeast, names_of}
+use Rattle.s66_node.proofs.Pieces.{piece-tree, piece-expansion, piece-kept}
 use Rattle.s66_node.proofs.walk.Walk.expand_named.Goals as goal
 use Rattle.s66_node.proofs.walk.Walk.expand_named.Goals.{In_ok-timed_of}
 use Rattle.s66_node.proofs.walk.Walk.expand_named.Given.{Over}
@@ -37,27 +37,32 @@ module _ (g : Over) (c : In_ok-timed_of g) where
   own : record { block = c.source.result.block; profile = c.profile-profile.result.now } ≡ b
   own = ap (λ (is : List Instr). record { block = is; profile = c.profile-profile.result.now }) c.source.ensures.block ∙ asked
 
-  grown : (tree : Tree Stated) × IsGrown c.args.rule b (span (g.L.Least.kept c.args.incumbent.now) (g.L.Least.kept c.grow.new.incumbent)) c.args.allowance c.args.prefix.now c.in_ok-vertices.field-0 tree
-  grown = subst (λ (w : Walked). (tree : Tree Stated) × IsGrown c.args.rule w.problem (span (g.L.Least.kept c.args.incumbent.now) (g.L.Least.kept c.grow.new.incumbent)) c.args.allowance w.numbers c.in_ok-vertices.field-0 tree) c.go_to.ensures c.in_ok-vertices.ensures.grown
+  abbrev best : Span
+  best = span (g.L.Least.kept c.args.incumbent.now) (g.L.Least.kept c.grow.new.incumbent)
 
-  timed : (tree : Tree Stated) → IsGrown c.args.rule b (span (g.L.Least.kept c.args.incumbent.now) (g.L.Least.kept c.grow.new.incumbent)) c.args.allowance c.args.prefix.now c.in_ok-vertices.field-0 tree → IsBestTimed b c.args.prefix.now (tree_stated b c.args.prefix.now tree) shown
+  grown : (tree : Tree Terminal) × IsGrown c.args.rule b best c.args.allowance c.args.prefix.now c.in_ok-nodes.field-0 tree
+  grown = subst (λ (w : Walked). (tree : Tree Terminal) × IsGrown c.args.rule w.problem best c.args.allowance w.numbers c.in_ok-nodes.field-0 tree) c.go_to.ensures c.in_ok-nodes.ensures.grown
+
+  timed : (tree : Tree Terminal) → IsGrown c.args.rule b best c.args.allowance c.args.prefix.now c.in_ok-nodes.field-0 tree → IsBestTimed b c.args.prefix.now tree shown
   timed tree h =
       let ns = c.args.prefix.now in
-      let all = tree_stated b ns tree in
-      subst (λ (p : Problem). IsLeast p (whole_orders ns all) c.in_ok-vertices.field-0.least → IsBestTimed p ns all shown) asked (c.in_ok-timed_of.ensures ns all) (grown-least c.args.rule b (span (g.L.Least.kept c.args.incumbent.now) (g.L.Least.kept c.grow.new.incumbent)) c.args.allowance ns c.in_ok-vertices.field-0 tree h)
+      subst (λ (p : Problem). IsLeast p (whole_orders ns tree) c.in_ok-nodes.field-0.least → IsBestTimed p ns tree shown) asked (c.in_ok-timed_of.ensures ns tree) h.least
+
+  abbrev piece : PieceOf
+  piece = record { rule = c.args.rule; problem = record { block = c.source.result.block; profile = c.profile-profile.result.now }; prefix = c.copy_of.result.items; nodes = c.in_ok-nodes.field-0.nodes.items; names = names_of c.in_ok-nodes.field-0; timed = shown }
 
 pub invariant_of-result : goal.invariant_of-result
 invariant_of-result g c =
     let (tree, h) = grown g c in
-    piece-kept c.args.rule (b g c) (span (g.L.Least.kept c.args.incumbent.now) (g.L.Least.kept c.grow.new.incumbent)) c.args.allowance c.args.prefix.now c.in_ok-vertices.field-0 tree h (record { rule = c.args.rule; problem = _; prefix = _; vertices = _; timed = shown g c }) refl (own g c) c.copy_of.ensures refl (timed g c tree h)
+    piece-kept c.args.rule (b g c) (best g c) c.args.allowance c.args.prefix.now c.in_ok-nodes.field-0 tree h (piece g c) refl (own g c) c.copy_of.ensures refl refl (timed g c tree h)
 
 pub returns-clause-expansion : goal.returns-clause-expansion
 returns-clause-expansion g c =
     let (tree, h) = grown g c in
-    piece-expansion c.args.rule (b g c) (span (g.L.Least.kept c.args.incumbent.now) (g.L.Least.kept c.grow.new.incumbent)) c.args.allowance c.args.prefix.now c.in_ok-vertices.field-0 tree h (record { rule = c.args.rule; problem = _; prefix = _; vertices = _; timed = shown g c }) refl (own g c) c.copy_of.ensures refl
+    piece-expansion c.args.rule (b g c) (best g c) c.args.allowance c.args.prefix.now c.in_ok-nodes.field-0 tree h (piece g c) refl (own g c) c.copy_of.ensures refl refl
 
 pub returns-clause-timed : goal.returns-clause-timed
 returns-clause-timed g c =
     let (tree, h) = grown g c in
-    let is = piece-tree c.args.rule (b g c) (span (g.L.Least.kept c.args.incumbent.now) (g.L.Least.kept c.grow.new.incumbent)) c.args.allowance c.args.prefix.now c.in_ok-vertices.field-0 tree h (record { rule = c.args.rule; problem = _; prefix = _; vertices = _; timed = shown g c }) refl (own g c) c.copy_of.ensures refl in
+    let is = piece-tree c.args.rule (b g c) (best g c) c.args.allowance c.args.prefix.now c.in_ok-nodes.field-0 tree h (piece g c) refl (own g c) c.copy_of.ensures refl refl in
     subst (λ t. IsBestTimed (b g c) c.args.prefix.now t (shown g c)) (sym is) (timed g c tree h)

@@ -9,8 +9,8 @@ use Rattle.s66_pool.proofs.AfterCalls.{seat-keeps, grafted, graft-refused, keeps
 use Rattle.s66_pool.proofs.Supplied.{graft-keeps, has-grafted-and-supply}
 use Rattle.s66_pool.proofs.hub.Hub.graft_and_supply.Goals as goal
 
-pub graft_at-requires-clause-worker : goal.graft_at-requires-clause-worker
-graft_at-requires-clause-worker g c =
+pub graft_at-requires : goal.graft_at-requires
+graft_at-requires g c =
     number_within c.take-ledger.result.value c.deref_mut.result.now c.deref_mut.ensures.value (book c.seat.inside.token) c.seat.inside.number c.take-ledger.ensures.agrees c.seat.invariant.1
 
 -- REFUSED
@@ -45,7 +45,7 @@ pub overflow_add-seat : goal.overflow_add-seat
 overflow_add-seat g c =
     let p = book c.seat.inside.token in
     let call = grafted c.take-ledger.result.value c.deref_mut.result.now c.graft_at.new.self c.deref_mut.ensures.value p c.seat.inside.number c.seat.invariant.1 c.take-ledger.ensures.agrees
-    c.args.node c.args.piece.now c.in_default-graft_at.ensures.ok in
+    c.args.node c.args.piece.now c.in_default.ensures.ok in
     let now : c.deref-2.result.now ≡ c.graft_at.new.self = c.deref-2.ensures in
     omega (
       arith,
@@ -61,21 +61,21 @@ pub serve-got-requires-clause-worker : goal.serve-got-requires-clause-worker
 serve-got-requires-clause-worker g c =
     let p = book c.seat.inside.token in
     let call = grafted c.take-ledger.result.value c.deref_mut.result.now c.graft_at.new.self c.deref_mut.ensures.value p c.seat.inside.number c.seat.invariant.1 c.take-ledger.ensures.agrees
-    c.args.node c.args.piece.now c.in_default-graft_at.ensures.ok in
+    c.args.node c.args.piece.now c.in_default.ensures.ok in
     number_within c.graft_at.new.self c.deref_mut-2.result.now c.deref_mut-2.ensures.value (renewed (account_summary c.graft_at.new.self) p p.least) c.seat.inside.number (renewed-agrees (account_summary c.take-ledger.result.value) (account_summary c.graft_at.new.self) p c.take-ledger.ensures.agrees call.0.0) c.seat.invariant.1
 
 pub give-requires-2-clause-follows : goal.give-requires-2-clause-follows
 give-requires-2-clause-follows g c =
     let p = book c.seat.inside.token in
     let keeps = graft-keeps c.take-ledger.result.value p c.take-ledger.ensures.agrees c.deref_mut.result.now c.graft_at.new.self c.deref_mut.ensures.value c.seat.inside.number c.seat.invariant.1
-    c.args.node c.args.piece.now c.in_default-graft_at.ensures.ok c.deref_mut-2.result.now c.serve-got.new.ledger c.deref_mut-2.ensures.value c.serve-got.result c.serve-got.new.tickets.items c.serve-got.ensures.events in
+    c.args.node c.args.piece.now c.in_default.ensures.ok c.deref_mut-2.result.now c.serve-got.new.ledger c.deref_mut-2.ensures.value c.serve-got.result c.serve-got.new.tickets.items c.serve-got.ensures.events in
     follows-at c.take-ledger.new.token.me (account_summary c.take-ledger.result.value) p c.take-ledger.ensures.holding (account_summary c.serve-got.new.ledger) keeps.0
 
 pub invariant_of-seat-2 : goal.invariant_of-seat-2
 invariant_of-seat-2 g c =
     let p = book c.seat.inside.token in
     let keeps = graft-keeps c.take-ledger.result.value p c.take-ledger.ensures.agrees c.deref_mut.result.now c.graft_at.new.self c.deref_mut.ensures.value c.seat.inside.number c.seat.invariant.1
-    c.args.node c.args.piece.now c.in_default-graft_at.ensures.ok c.deref_mut-2.result.now c.serve-got.new.ledger c.deref_mut-2.ensures.value c.serve-got.result c.serve-got.new.tickets.items c.serve-got.ensures.events in
+    c.args.node c.args.piece.now c.in_default.ensures.ok c.deref_mut-2.result.now c.serve-got.new.ledger c.deref_mut-2.ensures.value c.serve-got.result c.serve-got.new.tickets.items c.serve-got.ensures.events in
     seat-keeps c.take-ledger.new.token.me (account_summary c.take-ledger.result.value) p c.take-ledger.ensures.holding (account_summary c.serve-got.new.ledger) c.give-2.new.token.me c.give-2.ensures.resting c.seat.inside.number
     (c.seat.inside.splits + c.splits-added.result) c.seat.invariant.1 (omega (arith, keeps.1, c.seat.invariant.2, c.splits-added.ensures))
 
@@ -85,5 +85,5 @@ returns-clause-ok g c =
     let now : SeatOf = record { hub = c.give-2.new.token.table_id; book = book c.give-2.new.token } in
     let gave = gave-book c.take-ledger.new.token.me (account_summary c.take-ledger.result.value) p c.take-ledger.ensures.holding (account_summary c.serve-got.new.ledger) c.give-2.new.token.me c.give-2.ensures.resting in
     has-grafted-and-supply c.take-ledger.result.value p c.take-ledger.ensures.agrees c.deref_mut.result.now c.graft_at.new.self c.deref_mut.ensures.value c.seat.inside.number c.seat.invariant.1
-    c.args.node c.args.piece.now c.in_default-graft_at.ensures.ok c.deref_mut-2.result.now c.serve-got.new.ledger c.deref_mut-2.ensures.value c.serve-got.result c.serve-got.new.tickets.items c.serve-got.ensures.events
+    c.args.node c.args.piece.now c.in_default.ensures.ok c.deref_mut-2.result.now c.serve-got.new.ledger c.deref_mut-2.ensures.value c.serve-got.result c.serve-got.new.tickets.items c.serve-got.ensures.events
     c.args.seat.now now (ap (λ (t : SeatOf). t.book) c.seat.view_is) gave

@@ -1,0 +1,59 @@
+use crate::whole_order::copy_of;
+use arrayvec::ArrayVec;
+use s66_isa::BLOCK_LIMIT;
+use std::alloc::{AllocError, Global};
+use std::boxed::Box;
+
+/// Where the node of a name may be found: a guess, which whoever follows it has to test.
+#[derive(Clone, Copy, Debug, PartialEq, Eq)]
+pub enum Place {
+    /// The node of this place in the same piece; its root's is 0.
+    Line(u32),
+    /// The node of this number of a ledger.
+    Node(u32),
+}
+
+impl Place {
+    /// The number of that node in a ledger in which the piece's root has the number `root`, and its other nodes those from `first` on.
+    pub fn number(self, root: u32, first: u32) -> u32 {
+        match self {
+            Place::Line(0) => root,
+            Place::Line(line) => first.saturating_add(line - 1),
+            Place::Node(number) => number,
+        }
+    }
+}
+
+/// A node that dominates a prefix.
+#[derive(Debug, Drop)]
+pub struct Name {
+    /// Its numbers.
+    pub numbers: ArrayVec<u8, BLOCK_LIMIT>,
+    /// Where it may be found.
+    pub place: Place,
+}
+
+impl Name {
+    ghost use Rattle.std.specs.Prelude.{◌≡◌, ◌≤◌, IfOk, length};
+    ghost use Rattle.s66_isa.specs.declared.limits.TheConstants.{BLOCK_LIMIT};
+
+    /// The node with these numbers, which may be found there.
+    pub fn new(alloc: Global, numbers: &[u8], place: Place) -> Result<Box<Name>, AllocError>
+        requires { length numbers.now ≤ BLOCK_LIMIT }
+        ensures { IfOk result (λ name. name.value.numbers.items ≡ numbers.now) }
+    {
+        let name = Name {
+            numbers: copy_of(numbers),
+            place,
+        };
+        Ok(Box::new(alloc, name)?)
+    }
+}
+
+/// What a dominated node of a piece has besides.
+#[derive(Debug, Drop)]
+pub struct Dominance {
+    /// The value of its floor, in minor cycles.
+    pub floor: u32,
+    pub name: Box<Name>,
+}
