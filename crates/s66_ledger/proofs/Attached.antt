@@ -1,10 +1,10 @@
 -- A piece in the place of a node.
-use Rattle.std.proofs.Common.{ℕ, zero, suc, ◌+◌, ◌^◌, ◌≤◌, ◌<◌, ◌≡◌, ◌≢◌, Bool, true, false, cond, nat_le, List, [], ◌∷◌, ◌++◌, length, take, drop, get_or, refl, sym, ap, arith, ◌∙◌, subst, length-append, inl, inr}
+use Rattle.std.proofs.Common.{ℕ, zero, suc, ◌+◌, ◌^◌, ◌<◌, ◌≡◌, ◌≢◌, Bool, true, false, cond, nat_le, List, [], ◌∷◌, ◌++◌, length, take, drop, get_or, refl, sym, ap, arith, ◌∙◌, subst, inl, inr}
 use Rattle.std.proofs.lemmas.Bool.{cases_eq}
 use Rattle.std.proofs.lemmas.List.{append-nil, length-set}
 use Rattle.s66_model.specs.Timing.{Problem}
 use Rattle.s66_model.specs.LegalOrder.{ready}
-use Rattle.s66_model.specs.Leaves.{floor, floor_value}
+use Rattle.s66_model.specs.Leaves.{floor}
 use Rattle.s66_model.specs.Tree.{Tree, Alone, Parted, Vertex, AtTerminal, AtSplit, flat}
 use Rattle.s66_model.specs.DominatedLeaves.{Bounding}
 use Rattle.s66_model.specs.Piece.{Terminal, Carries, Frontier, Passed, TerminalHolds}
@@ -20,12 +20,12 @@ use Rattle.s66_node.specs.Pieces.{PieceOf, prefixes_of, tree_of, AreTreeNodes}
 use Rattle.s66_node.proofs.Nodes.{length-prefixes_over, length-lines}
 use Rattle.s66_ledger.specs.Nodes.{prefixes, name_at, seen_state, nodes_of, lines_of, no_node, node_at, with_state, HaveFloors, HaveDepths}
 use Rattle.s66_ledger.specs.OpenNodes.{IsOut}
-use Rattle.s66_ledger.specs.Grafting.{placed_parent, settled_state, opened_state, IsNamed, IsGrafting, IsSplitUnder, root_line, IsTakenAs, IsAttachedAs}
-use Rattle.s66_ledger.proofs.NodePrefixes.{length-prefixes, prefixes-set}
+use Rattle.s66_ledger.specs.Grafting.{placed_parent, settled_state, opened_state, IsNamed, IsGrafting, IsSplitUnder, root_line, IsAttachedAs}
+use Rattle.s66_ledger.proofs.NodePrefixes.{prefixes-set}
 use Rattle.s66_ledger.proofs.SeenNodes.{nodes-set, nodes-state, lines-state, at-nodes, length-nodes}
 use Rattle.s66_ledger.proofs.NodeFloors.{floors-state}
 use Rattle.s66_ledger.proofs.OpenHeap.{set-here, set-other}
-use Rattle.s66_ledger.proofs.Taken.{LineOpens, LinesOpen, opens-length, tree-taken, taken-prefixes, taken-match, taken-is_piece, taken-named, line_node, line_nodes, tree-nodes, tree-root, LineIsNamed, LinesAreNamed}
+use Rattle.s66_ledger.proofs.Taken.{LinesOpen, opens-length, tree-taken, taken-prefixes, taken-match, taken-is_piece, taken-named, line_nodes, tree-nodes, tree-root, LineIsNamed, LinesAreNamed}
 use Rattle.s66_ledger.proofs.Grafting.{AreMade, IsMarked, marked-all, later_prefixes, prefixes-later, grafting-length, grafting-out}
 
 -- a piece has a line for each node
@@ -115,11 +115,11 @@ module _ (p : PieceOf) (are : AreTreeNodes p) (x : Node) (below : List Node) (fi
       within : root < length all
       within = omega (arith, out.0, grafting-length best root p.names old below all under.grafting)
 
-      pub split-count : length new + 1 ≡ length old + length p.nodes
+      split-count : length new + 1 ≡ length old + length p.nodes
       split-count =
           omega (arith, ap length under.split, length-set all root (record (node_at all root) { state = state.Split }), grafting-length best root p.names old below all under.grafting, ap length first)
 
-      pub split-floors : HaveFloors b old → HaveFloors b new
+      split-floors : HaveFloors b old → HaveFloors b new
       split-floors floors =
           let there : IsOut all root = grafting-out best root p.names old below all under.grafting root out in
           subst (HaveFloors b) (sym under.split) (floors-state b all root state.Split within (ap has_floor there.1) (subst (HaveFloors b) (sym under.grafting.behind) (m.floors floors)))
@@ -133,8 +133,8 @@ module _ (p : PieceOf) (are : AreTreeNodes p) (x : Node) (below : List Node) (fi
       part : (part : Tree Terminal) × TreeOpens (tree_of p) part × (flat part ≡ top_line ∷ m.taken)
       part = tree-taken (tree_of p) (top_line ∷ m.taken) (subst (λ ks. LinesOpen ks (top_line ∷ m.taken)) (sym (lines-are ∙ ap (λ (k : Vertex Terminal). k ∷ lines_at b p.names later below) top-is)) (refl, m.opens))
 
-      pub attached-split : IsAttachedAs p best root old new
-      attached-split =
+      pub attached-split : HaveFloors b old → IsAttachedAs p best root old new
+      attached-split floors =
           let (tree, opens, lines) = part in
           let match = taken-match b.block (TerminalHolds p.rule b p.prefix (tree_of p)) (tree_of p) tree p.prefix opens are.piece in
           let piece = taken-is_piece p.rule b p.prefix (tree_of p) tree opens are.piece in
@@ -153,6 +153,8 @@ module _ (p : PieceOf) (are : AreTreeNodes p) (x : Node) (below : List Node) (fi
                   count = ap length lines ∙ (omega (arith, opens-length (lines_at b p.names later below) m.taken m.opens, ap length lines-are, piece-length p are));
                   root = ap (take 1) lines ∙ ap (λ (k : Vertex Terminal). k ∷ []) (sym (root-is ∙ ap (λ s. line_of b [] p.prefix (opened_state s)) split));
                 };
+            count = split-count;
+            floors = split-floors floors;
             piece = piece;
             lines =
                 ap (lines_of b) under.split
@@ -248,14 +250,14 @@ module _ (p : PieceOf) (are : AreTreeNodes p) (x : Node) (below : List Node) (fi
   one : length p.nodes ≡ 1
   one = sym (piece-length p are) ∙ ap (λ (t : Tree Terminal). length (flat t)) only.0
 
-  pub alone-count : length new + 1 ≡ length old + length p.nodes
+  alone-count : length new + 1 ≡ length old + length p.nodes
   alone-count = omega (arith, ap length moved, length-set old root (record (node_at old root) { state = settled_state best x.value x.state }), one)
 
-  pub alone-floors : HaveFloors p.problem old → HaveFloors p.problem new
+  alone-floors : HaveFloors p.problem old → HaveFloors p.problem new
   alone-floors floors = subst (HaveFloors p.problem) (sym moved) (floors-state p.problem old root (settled_state best x.value x.state) out.0 (ap has_floor out.1) floors)
 
-  pub attached-alone : IsAttachedAs p best root old new
-  attached-alone =
+  pub attached-alone : HaveFloors p.problem old → IsAttachedAs p best root old new
+  attached-alone floors =
       let b = p.problem in
       let opens : TreeOpens (tree_of p) (Alone left.taken) = subst (λ (t : Tree Terminal). TreeOpens t (Alone left.taken)) (sym only.0) left.opens in
       let piece = taken-is_piece p.rule b p.prefix (tree_of p) (Alone left.taken) opens are.piece in
@@ -264,6 +266,8 @@ module _ (p : PieceOf) (are : AreTreeNodes p) (x : Node) (below : List Node) (fi
       record {
         part = Alone left.taken;
         taken = record { opens = opens; match = tt; count = sym one; root = ap (λ (k : Vertex Terminal). k ∷ []) (sym (root-is p are x below first ∙ left.line_taken)) };
+        count = alone-count;
+        floors = alone-floors floors;
         piece = piece;
         lines = ap (lines_of b) moved ∙ (lines-state b old root s ∙ sym (append-nil (lines_of b old)));
         nodes =

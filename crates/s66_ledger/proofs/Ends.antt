@@ -12,8 +12,6 @@ use Rattle.s66_model.specs.Ended.{IsEnded, ended_answer}
 use Rattle.s66_dep.proofs.LongestBeginning.{beginning-few}
 use Rattle.s66_model.proofs.Histories.{run-join, reached-covers, reached-table}
 use Rattle.s66_model.proofs.EndedLedgers.{ended-finishes}
-use Rattle.s66_time.specs.TimedOrder.{TimedOrder}
-use Rattle.s66_node.specs.declared.node.Node as declared
 use Rattle.s66_ledger.specs.LedgerMachine.{MachineOf, Stored, IsKept, ledger_of, machine_of}
 use Rattle.s66_ledger.specs.Answers.{IsKeptAnswer, ended_of}
 use Rattle.s66_ledger.specs.Finishing.{Leads, IsSearched}

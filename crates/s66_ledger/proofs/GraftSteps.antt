@@ -151,7 +151,7 @@ module _ (m : Stored) (h : IsKept m) (l : MachineOf) (is : machine_of m ≡ l) (
                 move = (refl, refl, length-set m.allowances (w - 1) (get_or m.allowances (w - 1) 0 - count), (works, taken-moves), refl);
               })
 
-          pub kept-taken : HaveFloors p.problem new → length new + 1 ≡ length m.nodes + length p.nodes → IsKept after
-          kept-taken floors longer =
+          pub kept-taken : IsKept after
+          kept-taken =
               kept-next m h new m.best m.left (set m.allowances (w - 1) (get_or m.allowances (w - 1) 0 - count)) (m.spent + count) (Graft w i true p.prefix (splits part) (Some part)) Taken h.own
-              (subst (λ (r : Problem). HaveFloors r new) piece-problem floors) (omega (arith, longer, nodes-few, counts, h.room)) (length-set m.allowances (w - 1) (get_or m.allowances (w - 1) 0 - count)) (works, taken-moves)
+              (subst (λ (r : Problem). HaveFloors r new) piece-problem at.floors) (omega (arith, at.count, nodes-few, counts, h.room)) (length-set m.allowances (w - 1) (get_or m.allowances (w - 1) 0 - count)) (works, taken-moves)

@@ -1,29 +1,27 @@
 -- The nodes of a piece after those of a ledger.
-use Rattle.std.proofs.Common.{ℕ, zero, suc, ◌+◌, ◌-◌, ◌^◌, ◌≤◌, ◌<◌, ◌≡◌, ◌≢◌, ◌⊎◌, min, Bool, true, false, true≢false, cond, nat_le, List, [], ◌∷◌, ◌++◌, length, take, drop, get_or, refl, sym, ap, arith, inl, inr, ◌∙◌, subst, append_assoc, length-append}
-use Rattle.std.proofs.lemmas.Bool.{cases_eq}
-use Rattle.std.proofs.lemmas.List.{append-nil, length-set, length-take, take_more}
+use Rattle.std.proofs.Common.{ℕ, zero, suc, ◌+◌, ◌-◌, ◌^◌, ◌≤◌, ◌<◌, ◌≡◌, min, Bool, true, false, cond, nat_le, List, [], ◌∷◌, ◌++◌, length, take, get_or, refl, sym, ap, arith, inl, inr, ◌∙◌, subst, append_assoc, length-append}
+use Rattle.std.proofs.lemmas.List.{append-nil, take_more}
 use Rattle.s66_isa.proofs.Lists.{cases_le}
 use Rattle.s66_model.specs.Timing.{Problem}
 use Rattle.s66_model.specs.LegalOrder.{ready}
 use Rattle.s66_model.specs.Leaves.{floor, floor_value}
-use Rattle.s66_model.specs.Tree.{Tree, Vertex, AtTerminal, AtSplit, flat}
+use Rattle.s66_model.specs.Tree.{Vertex, AtTerminal, AtSplit}
 use Rattle.s66_model.specs.DominatedLeaves.{Bounding}
 use Rattle.s66_model.specs.Piece.{Terminal, Carries, Frontier, Passed}
 use Rattle.s66_model.specs.Ledger as model
 use Rattle.s66_node.specs.declared.node.Node.{Node}
 use Rattle.s66_node.specs.declared.node.State.{State}
 use Rattle.s66_node.specs.declared.node.State.TheVariants as state
-use Rattle.s66_node.specs.Nodes.{has_floor, is_open_state, prefixes_from, line_of, Named, named_at, lines_at, IsNode, NodesFrom, AreNodes}
+use Rattle.s66_node.specs.Nodes.{has_floor, prefixes_from, line_of, Named, named_at, lines_at, IsNode, NodesFrom, AreNodes}
 use Rattle.s66_node.proofs.Nodes.{get_or-front, get_or-last}
-use Rattle.s66_ledger.specs.Nodes.{prefixes, name_at, seen_state, seen_node, made_line, nodes_of, lines_of, no_node, node_at, with_state, is_out_state, is_out, HaveFloors, HaveDepths}
+use Rattle.s66_ledger.specs.Nodes.{prefixes, seen_state, seen_node, made_line, nodes_of, lines_of, no_node, node_at, is_out_state, is_out, HaveFloors, HaveDepths}
 use Rattle.s66_ledger.specs.OpenNodes.{IsOut}
-use Rattle.s66_ledger.specs.Grafting.{placed_parent, settled_state, opened_state, placed, IsNamed, GraftsIn, Grafts, AreGrafted, IsGrafting, IsSplitUnder, HaveNames}
-use Rattle.s66_ledger.proofs.NodePrefixes.{get_or-any, length-prefixes, prefixes-push, push-front, push-last, prefixes-set}
-use Rattle.s66_ledger.proofs.SeenNodes.{nodes-push, lines-push, nodes-set, nodes-state, lines-state, at-nodes, length-nodes}
-use Rattle.s66_ledger.proofs.NodeFloors.{floors-push, floors-state}
+use Rattle.s66_ledger.specs.Grafting.{placed_parent, placed, IsNamed, GraftsIn, Grafts, AreGrafted, IsGrafting, HaveNames}
+use Rattle.s66_ledger.proofs.NodePrefixes.{get_or-any, push-front, push-last}
+use Rattle.s66_ledger.proofs.SeenNodes.{nodes-push, lines-push}
+use Rattle.s66_ledger.proofs.NodeFloors.{floors-push}
 use Rattle.s66_ledger.proofs.Depths.{depths-push}
-use Rattle.s66_ledger.proofs.OpenHeap.{set-here, set-other}
-use Rattle.s66_ledger.proofs.Taken.{LineOpens, LinesOpen, terminal-whole, line_node, line_nodes, LineIsNamed, LinesAreNamed}
+use Rattle.s66_ledger.proofs.Taken.{LineOpens, LinesOpen, line_node, line_nodes, LineIsNamed, LinesAreNamed}
 
 -- STILL NAMED after more nodes
 

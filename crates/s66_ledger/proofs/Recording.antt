@@ -1,7 +1,7 @@
 -- A move of the machine with its entry is an event, and the history leads on; what its accounts spend adds up.
-use Rattle.std.proofs.Common.{ℕ, ◌+◌, ◌≡◌, ◌≢◌, ◌≤◌, ◌<◌, ◌∙◌, Bool, true, false, true≢false, List, [], ◌∷◌, ◌++◌, Some, None, map, take, drop, length, get_or, length-append, append_assoc, refl, ap, sym, subst, arith}
-use Rattle.std.proofs.Math.Seq.{take-length, take-append_seam, take-append-add}
-use Rattle.std.proofs.lemmas.List.{append-nil, nil_from_length, take-append-le, drop-append-le, length-drop, length-take, length-map, take-append-drop}
+use Rattle.std.proofs.Common.{ℕ, ◌+◌, ◌≡◌, ◌≢◌, ◌≤◌, ◌<◌, ◌↔◌, ◌∙◌, Bool, true, false, true≢false, List, [], ◌∷◌, ◌++◌, Some, None, map, take, drop, length, get_or, length-append, refl, ap, sym, subst, arith}
+use Rattle.std.proofs.Math.Seq.{take-length}
+use Rattle.std.proofs.lemmas.List.{append-nil, nil_from_length, take-append-le, drop-append-le, length-drop, length-take, take-append-drop}
 use Rattle.s66_isa.specs.Lists.{weigh, rising}
 use Rattle.s66_isa.proofs.Lists.{weigh-append}
 use Rattle.s66_model.specs.declared.rule.Rule.{Rule}
@@ -98,17 +98,11 @@ module _ (m next : MachineOf) (before reserved after : List Entry) (bytes : List
 
 -- WHETHER A PIECE OR AN ORDER IS THE LEDGER'S
 
-own-same : (b p : Problem) (own other : Bool) → IsOwn b p own → IsOwn b p other → own ≡ other
-own-same b p true true h k = refl
-own-same b p true false h k = absurd (true≢false (sym (k.1 (h.0 refl))))
-own-same b p false true h k = absurd (true≢false (sym (h.1 (k.0 refl))))
-own-same b p false false h k = refl
-
-own-piece_same : (rule : Rule) (b : Problem) (q : Rule) (p : Problem) (own other : Bool) → IsOwnPiece rule b q p own → IsOwnPiece rule b q p other → own ≡ other
-own-piece_same rule b q p true true h k = refl
-own-piece_same rule b q p true false h k = absurd (true≢false (sym (k.1 (h.0 refl))))
-own-piece_same rule b q p false true h k = absurd (true≢false (sym (h.1 (k.0 refl))))
-own-piece_same rule b q p false false h k = refl
+same-if : (P : Type 0) (own other : Bool) → ((own ≡ true) ↔ P) → ((other ≡ true) ↔ P) → own ≡ other
+same-if P true true h k = refl
+same-if P true false h k = absurd (true≢false (sym (k.1 (h.0 refl))))
+same-if P false true h k = absurd (true≢false (sym (h.1 (k.0 refl))))
+same-if P false false h k = refl
 
 abbrev is-other : Offered → Bool
 is-other offered.OtherBlock = true
@@ -135,7 +129,7 @@ pub offer-entry : (b p : Problem) (w : ℕ) (order numbers : List ℕ) (own : Bo
 offer-entry b p w order numbers own time reply event owns same total (other, others, is) =
     ap (λ ns. stated (Offer w own ns time) reply) same
     ∙ (ap (λ t. stated (Offer w own order t) reply) total
-    ∙ (ap (λ o. stated (Offer w o order (total_of p order)) reply) (own-same b p own other owns others)
+    ∙ (ap (λ o. stated (Offer w o order (total_of p order)) reply) (same-if (p ≡ b) own other owns others)
     ∙ ap (λ e. stated e reply) (sym is)))
 
 -- a piece has a root
@@ -164,7 +158,7 @@ module _ (m next : MachineOf) (w i : ℕ) (p : PieceOf) (count : ℕ) (counts : 
   pub refused-entry : (own : Bool) (why : Refusal) → IsOwnPiece m.rule m.problem p.rule p.problem own → (h : IsGraftMove m w i p (refusal_reply why) next) → stated (Graft w i own p.prefix count None) (refusal_reply why) ≡ stated h.0 (refusal_reply why)
   refused-entry own why owned (event, (other, taken, owns, opens, is), move) =
       ap (λ n. stated (Graft w i own p.prefix n None) (refusal_reply why)) (counts ∙ same-splits (tree_of p) taken opens)
-      ∙ (ap (λ o. stated (Graft w i o p.prefix (splits taken) None) (refusal_reply why)) (own-piece_same m.rule m.problem p.rule p.problem own other owned owns)
+      ∙ (ap (λ o. stated (Graft w i o p.prefix (splits taken) None) (refusal_reply why)) (same-if ((p.rule ≡ m.rule) × (p.problem ≡ m.problem)) own other owned owns)
       ∙ ap (λ e. stated e (refusal_reply why)) (sym (is ∙ without-tree why)))
     where
       without-tree : (r : Refusal) → graft_event w i other p.prefix taken (refusal_reply r) ≡ Graft w i other p.prefix (splits taken) None

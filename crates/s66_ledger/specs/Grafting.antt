@@ -1,6 +1,5 @@
 -- Used by contracts within the crate alone: the nodes of a piece in a ledger, some of them closed as dominated by nodes that come before them.
 use Rattle.std.specs.Prelude.{ℕ, zero, suc, ◌+◌, ◌-◌, ◌^◌, ◌≡◌, ◌≢◌, ◌<◌, ◌⊎◌, if◌then◌else◌, nat_le, min, List, [], ◌∷◌, ◌++◌, length, get_or, take, drop}
-use Rattle.s66_model.specs.Timing.{Problem}
 use Rattle.s66_model.specs.Tree.{Tree, Vertex, flat}
 use Rattle.s66_model.specs.Piece.{Terminal, IsPiece}
 use Rattle.s66_model.specs.Preorder.{TreeMatches}
@@ -12,7 +11,7 @@ use Rattle.s66_node.specs.declared.node.State.{State}
 use Rattle.s66_node.specs.declared.node.State.TheVariants as state
 use Rattle.s66_node.specs.Nodes.{Named, named_at, line_of}
 use Rattle.s66_node.specs.Pieces.{PieceOf, tree_of}
-use Rattle.s66_ledger.specs.Nodes.{node_at, prefixes, nodes_of, lines_of, with_state}
+use Rattle.s66_ledger.specs.Nodes.{node_at, prefixes, nodes_of, lines_of, with_state, HaveFloors}
 
 -- A NODE
 
@@ -101,6 +100,8 @@ pub record IsTakenAs (p : PieceOf) (part : Tree Terminal) : Type 0 where
 pub record IsAttachedAs (p : PieceOf) (best root : ℕ) (old new : List Node) : Type 0 where
   pub part : Tree Terminal
   pub taken : IsTakenAs p part
+  pub count : length new + 1 ≡ length old + length p.nodes
+  pub floors : HaveFloors p.problem new
   pub piece : IsPiece p.rule p.problem p.prefix part
   pub lines : lines_of p.problem new ≡ lines_of p.problem old ++ drop 1 (flat part)
   pub nodes : nodes_of p.problem new ≡ model.with_state (nodes_of p.problem old) root (root_state p.problem best p.prefix part) ++ new_nodes p.problem best p.prefix part

@@ -12,7 +12,8 @@ use s66_time::{Timed, time_of};
 use std::alloc::{AllocError, Global};
 use std::marker::Model;
 
-/// The ledger of a search without its history: the state to which its events lead; it borrows the block.
+/// The ledger of a search without its history: the state to which its events lead; it borrows the block. What a method does that
+/// `Ledger` has too, is said there.
 #[derive(Drop)]
 pub(crate) struct Machine<'a> {
     rule: Rule,
@@ -143,8 +144,6 @@ impl<'a> Machine<'a> {
         self.table.open_count()
     }
 
-    /// The best time, in minor cycles. Whatever happened to the ledger, every legal order begins with the prefix of exactly one of
-    /// its nodes that aren't split, and its nodes are those of one tree.
     pub fn best(&self) -> u32
         ensures value { result ≡ best_time self.now.problem self.now.state }
         ensures covers { Covers self.now.rule self.now.problem self.now.budget self.now.state }
@@ -153,8 +152,6 @@ impl<'a> Machine<'a> {
         self.best.total()
     }
 
-    /// A lower bound of the totals of all legal orders, in minor cycles: the least of the best time and the floors of the nodes that
-    /// are open or out. In time linear in the number of nodes.
     pub fn bound(&self) -> u32
         ensures value { result ≡ bound_of self.now.problem self.now.state }
         ensures bound { IsBound self.now.problem result }
@@ -162,7 +159,6 @@ impl<'a> Machine<'a> {
         self.table.least_floor(self.best.total())
     }
 
-    /// Moves `GRANT_LIMIT` splits of the budget to the worker, or what is left of it, and returns how many.
     pub fn grant(&mut self, w: u8) -> u32
         requires { (1 ≤ w) × (w ≤ self.old.workers) }
         ensures granted { IsMove self.old (Grant w) (Granted result) self.new }
@@ -174,7 +170,6 @@ impl<'a> Machine<'a> {
         share
     }
 
-    /// Gives the worker's allowance back to the budget.
     pub fn retire(&mut self, w: u8)
         requires { (1 ≤ w) × (w ≤ self.old.workers) }
         ensures retired { IsMove self.old (Retire w) Retired self.new }
@@ -193,8 +188,6 @@ impl<'a> Machine<'a> {
         self.allowances[at] = 0;
     }
 
-    /// Hands out the open node of the least floor, of equal ones the deepest, and of these the newest; None only if no node is
-    /// open. In time logarithmic in the number of open nodes.
     pub fn claim(&mut self, w: u8) -> Option<Ticket>
         requires { (1 ≤ w) × (w ≤ self.old.workers) }
         ensures ok { IsMove self.old (Claim w) (Claimed (claimed_node result)) self.new }
@@ -271,15 +264,12 @@ impl<'a> Machine<'a> {
         self.table.count() as u32
     }
 
-    /// What a node was in the piece that made it, if there is one of this number.
     pub fn made(&self, node: u32) -> Option<State>
         ensures { IsMadeAs self.now.problem self.now.state.nodes self.now.lines node result }
     {
         self.table.made(node)
     }
 
-    /// The name of a node that is dominated: the prefix of the node that dominates it. None of any other node. In time linear in its
-    /// length.
     pub fn name_of(&self, node: u32) -> Option<ArrayVec<u8, BLOCK_LIMIT>>
         ensures some { IfSome result (λ name. (node_at self.now.state.nodes node).state ≡ Closed (Dominated name.items)) }
         ensures none { IfNone result ((name : List ℕ) → (node_at self.now.state.nodes node).state ≢ Closed (Dominated name)) }
@@ -335,12 +325,6 @@ impl<'a> Machine<'a> {
         piece.rule() == self.rule && piece.is_of(self.block, &self.profile)
     }
 
-    /// Puts a piece in the place of a node that was handed out, and spends its splits. The node takes the state of the piece's root,
-    /// and the piece's other prefixes become nodes. A leaf that is below the best time is kept open, and so is a dominated prefix
-    /// whose name isn't found at the place that the piece guesses.
-    ///
-    /// It takes time linear in the piece's nodes and their names, with a logarithm of the number of open nodes for each that is open.
-    /// All room is made before anything changes.
     pub fn graft(&mut self, w: u8, node: u32, piece: &Piece) -> Result<(), GraftError>
         requires { (1 ≤ w) × (w ≤ self.old.workers) }
         ensures ok { OnOk result (IsTakenMove self.old w node piece.now self.new) }
@@ -375,11 +359,6 @@ impl<'a> Machine<'a> {
         Ok(())
     }
 
-    /// Brings the search to its end. It offers two list schedules, takes back every allowance and every node that is out, and
-    /// offers the whole orders among the nodes. Then it goes on until no open node's floor is below the best time, or the budget
-    /// is spent and no whole order is below it.
-    ///
-    /// The time is that of expanding what it claims, and linear in the number of nodes. `Err` is out of memory.
     pub fn finish(mut self, alloc: Global) -> Result<Answer, AllocError>
         requires { 1 ≤ self.workers }
         ensures rule { IfOk result (λ a. a.rule ≡ self.entry.rule) }
@@ -396,8 +375,6 @@ impl<'a> Machine<'a> {
         Ok(self.into_answer())
     }
 
-    /// Brings the search to its end as `finish` does, but offers no list schedule, and goes on with a walk and marks of nodes that
-    /// its caller has used.
     pub fn finish_with(
         mut self,
         alloc: Global,

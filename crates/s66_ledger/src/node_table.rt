@@ -222,8 +222,6 @@ impl NodeTable {
         requires floors { HaveFloors piece.now.problem self.old }
         requires room { length self.old + length piece.now.nodes < 2 ^ 32 }
         ensures err { OnErr result (self.new ≡ self.old) }
-        ensures count { OnOk result (length self.new + 1 ≡ length self.old + length piece.now.nodes) }
-        ensures floors { OnOk result (HaveFloors piece.now.problem self.new) }
         ensures ok { OnOk result (IsAttachedAs piece.now best root self.old self.new) }
     {
         // proof only: the nodes have depths

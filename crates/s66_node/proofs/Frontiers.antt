@@ -1,5 +1,5 @@
 -- What is left open was not allowed to be split, while a tree is made.
-use Rattle.std.proofs.Common.{ℕ, ◌+◌, ◌≤◌, ◌<◌, ◌≡◌, List, [], ◌∷◌, ◌++◌, sym, arith, inl, inr, refl}
+use Rattle.std.proofs.Common.{ℕ, ◌+◌, ◌≤◌, ◌<◌, ◌≡◌, List, [], ◌∷◌, ◌++◌, arith, inl, inr}
 use Rattle.s66_model.specs.Tree.{Vertex, AtTerminal, AtSplit}
 use Rattle.s66_model.specs.Piece.{Terminal, Frontier}
 use Rattle.s66_node.specs.Walking.{IsSpent}

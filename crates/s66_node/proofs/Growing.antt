@@ -4,8 +4,9 @@ use Rattle.std.proofs.lemmas.List.{append-nil}
 use Rattle.s66_isa.specs.declared.instr.Instr.{Instr}
 use Rattle.s66_isa.specs.Lists.{Among}
 use Rattle.s66_model.specs.LegalOrder.{ready, IsIncomplete}
-use Rattle.s66_model.specs.Tree.{Tree, Alone, Parted, Siblings, NoMore, Unsplit, Split, Vertex, AtTerminal, AtSplit, SiblingsHold, TreeHolds, flat_siblings, flat, sibling_splits, splits, sibling_values, tree_values, siblings_split_at, split_at}
+use Rattle.s66_model.specs.Tree.{Tree, Alone, Parted, Siblings, NoMore, Unsplit, Split, AtTerminal, AtSplit, SiblingsHold, TreeHolds, flat_siblings, flat, sibling_splits, splits, sibling_values, tree_values, siblings_split_at, split_at}
 use Rattle.s66_node.specs.Walked.{front}
+use Rattle.s66_node.proofs.Leasts.{among-either}
 use Rattle.s66_node.specs.Growing.{SiblingsGrow, TreeGrows, RestsGrow, sibling_prefixes, tree_prefixes, flat_rests, rest_prefixes, rest_values, rests_split_at, Part, Grows}
 
 take-front : (at : List ℕ) (n : ℕ) → take (length at) (at ++ n ∷ []) ≡ at
@@ -111,18 +112,13 @@ module _ {M : Type 0} (block : List Instr) (P : List ℕ → Type 0) (Q : List �
   tree-holds part prefix (Parted numbers siblings) h = (part prefix h.0, h.1, siblings-hold part prefix numbers siblings h.2)
 
   -- P holds wherever it is split
-  among-append : (x : List ℕ) (xs ys : List (List ℕ)) (R : Type 0) → (Among x xs → R) → (Among x ys → R) → Among x (xs ++ ys) → R
-  among-append x [] ys R f g h = g h
-  among-append x (y ∷ xs) ys R f g (inl e) = f (inl e)
-  among-append x (y ∷ xs) ys R f g (inr h) = among-append x xs ys R (λ k. f (inr k)) g h
-
   siblings-splits : (prefix ns : List ℕ) (siblings : Siblings M) → SiblingsGrow block P Q prefix ns siblings → (at : List ℕ) → Among at (siblings_split_at prefix ns siblings) → P at
   siblings-splits prefix [] siblings h at among = absurd among
   siblings-splits prefix (n ∷ ns) NoMore h at among = absurd h
   siblings-splits prefix (n ∷ ns) (Unsplit terminal siblings) h at among = siblings-splits prefix ns siblings h.1 at among
   siblings-splits prefix (n ∷ ns) (Split numbers sub siblings) h at (inl e) = subst P (sym e) h.0
   siblings-splits prefix (n ∷ ns) (Split numbers sub siblings) h at (inr among) =
-      among-append at (siblings_split_at (prefix ++ n ∷ []) numbers sub) (siblings_split_at prefix ns siblings) (P at) (λ k. siblings-splits (prefix ++ n ∷ []) numbers sub h.2 at k) (λ k. siblings-splits prefix ns siblings h.3 at k) among
+      among-either at (siblings_split_at (prefix ++ n ∷ []) numbers sub) (siblings_split_at prefix ns siblings) (P at) (λ k. siblings-splits (prefix ++ n ∷ []) numbers sub h.2 at k) (λ k. siblings-splits prefix ns siblings h.3 at k) among
 
   pub tree-splits : (prefix : List ℕ) (tree : Tree M) → TreeGrows block P Q prefix tree → (at : List ℕ) → Among at (split_at prefix tree) → P at
   tree-splits prefix (Alone terminal) h at among = absurd among

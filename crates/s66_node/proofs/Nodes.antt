@@ -1,5 +1,5 @@
 -- One node more: its prefix, its line, and what holds of it.
-use Rattle.std.proofs.Common.{ℕ, zero, suc, ◌+◌, ◌≤◌, ◌<◌, ◌≡◌, List, [], ◌∷◌, ◌++◌, length, get_or, refl, sym, ap, arith, ◌∙◌, length-append, subst}
+use Rattle.std.proofs.Common.{ℕ, zero, suc, ◌+◌, ◌<◌, ◌≡◌, List, [], ◌∷◌, ◌++◌, length, get_or, refl, sym, ap, arith, ◌∙◌, length-append, subst}
 use Rattle.s66_model.specs.Timing.{Problem}
 use Rattle.s66_model.specs.Tree.{Vertex}
 use Rattle.s66_model.specs.Piece.{Terminal}
@@ -103,22 +103,30 @@ nodes_from-push : (b : Problem) (names : List Named) (made : List (List ℕ)) (x
 nodes_from-push b names made [] x h lt is = (lt, is, tt)
 nodes_from-push b names made (y ∷ xs) x h lt is = (h.0, h.1, nodes_from-push b names (made ++ (get_or made y.parent [] ++ y.number ∷ []) ∷ []) xs x h.2 lt is)
 
+-- with its prefix and its line
+pub record ArePushed (b : Problem) (root : List ℕ) (names all : List Named) (nodes new : List Node) (at : List ℕ) (line : Vertex Terminal) : Type 0 where
+  pub stand : AreNodes b all root new
+  pub prefixes : prefixes_over root new ≡ prefixes_over root nodes ++ at ∷ []
+  pub lines : lines_at b all (prefixes_over root new) new ≡ lines_at b names (prefixes_over root nodes) nodes ++ line ∷ []
+
 module _ (b : Problem) (root : List ℕ) (names more all : List Named) (nodes new : List Node) (x : Node) (at : List ℕ) (h : AreNodes b names root nodes) (called : all ≡ names ++ more) (put : new ≡ nodes ++ x ∷ []) (within : x.parent < length (prefixes_over root nodes)) (path : get_or (prefixes_over root nodes) x.parent [] ++ x.number ∷ [] ≡ at) (is : IsNode b all at x) where
   some : 0 < length nodes
   some = omega (arith, within, length-prefixes_over root nodes)
 
-  pub pushed-prefixes : prefixes_over root new ≡ prefixes_over root nodes ++ at ∷ []
-  pushed-prefixes = ap (prefixes_over root) put ∙ (prefixes_over-push root nodes x some ∙ ap (λ a. prefixes_over root nodes ++ a ∷ []) path)
+  more_prefixes : prefixes_over root new ≡ prefixes_over root nodes ++ at ∷ []
+  more_prefixes = ap (prefixes_over root) put ∙ (prefixes_over-push root nodes x some ∙ ap (λ a. prefixes_over root nodes ++ a ∷ []) path)
 
-  pub pushed-nodes : AreNodes b all root new
-  pushed-nodes = rw (put, called) (by nodes h within (subst (λ a. IsNode b (names ++ more) a x) (sym path) (subst (λ ns. IsNode b ns at x) called is)))
-    where
-      by : (xs : List Node) → AreNodes b names root xs → x.parent < length (prefixes_over root xs) → IsNode b (names ++ more) (get_or (prefixes_over root xs) x.parent [] ++ x.number ∷ []) x → AreNodes b (names ++ more) root (xs ++ x ∷ [])
-      by [] are lt of = absurd are
-      by (y ∷ xs) are lt of = (still-node b names more root y are.0, nodes_from-push b (names ++ more) (root ∷ []) xs x (still-nodes b names more (root ∷ []) xs are.1) lt of)
+  more_nodes : (xs : List Node) → AreNodes b names root xs → x.parent < length (prefixes_over root xs) → IsNode b (names ++ more) (get_or (prefixes_over root xs) x.parent [] ++ x.number ∷ []) x → AreNodes b (names ++ more) root (xs ++ x ∷ [])
+  more_nodes [] are lt of = absurd are
+  more_nodes (y ∷ xs) are lt of = (still-node b names more root y are.0, nodes_from-push b (names ++ more) (root ∷ []) xs x (still-nodes b names more (root ∷ []) xs are.1) lt of)
 
-  pub pushed-lines : lines_at b all (prefixes_over root new) new ≡ lines_at b names (prefixes_over root nodes) nodes ++ line_of b (named_at all x.value).name at x.state ∷ []
-  pushed-lines =
-      rw (pushed-prefixes, put, called)
-      (lines-push b (names ++ more) (prefixes_over root nodes) nodes at x (length-prefixes_over root nodes)
-      ∙ ap (λ (ks : List (Vertex Terminal)). ks ++ line_of b (named_at (names ++ more) x.value).name at x.state ∷ []) (still-lines b names more root (prefixes_over root nodes) nodes h))
+  pub are-pushed : ArePushed b root names all nodes new at (line_of b (named_at all x.value).name at x.state)
+  are-pushed =
+      record {
+        stand = rw (put, called) (more_nodes nodes h within (subst (λ a. IsNode b (names ++ more) a x) (sym path) (subst (λ ns. IsNode b ns at x) called is)));
+        prefixes = more_prefixes;
+        lines =
+            rw (more_prefixes, put, called)
+            (lines-push b (names ++ more) (prefixes_over root nodes) nodes at x (length-prefixes_over root nodes)
+            ∙ ap (λ (ks : List (Vertex Terminal)). ks ++ line_of b (named_at (names ++ more) x.value).name at x.state ∷ []) (still-lines b names more root (prefixes_over root nodes) nodes h));
+      }

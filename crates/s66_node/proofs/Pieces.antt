@@ -1,5 +1,5 @@
 -- A piece from the tree that was grown.
-use Rattle.std.proofs.Common.{ℕ, ◌<◌, ◌≡◌, ◌⊎◌, true, List, length, map, refl, sym, ap, arith, inl, inr, ◌∙◌, subst}
+use Rattle.std.proofs.Common.{ℕ, ◌<◌, ◌≡◌, ◌⊎◌, true, List, length, refl, sym, ap, arith, inl, inr, ◌∙◌, subst}
 use Rattle.s66_isa.specs.Lists.{Among}
 use Rattle.s66_model.specs.declared.rule.Rule.{Rule}
 use Rattle.s66_model.specs.declared.rule.Rule.TheVariants.{NoneNamed, WrittenEarlier, ClampedStanding}
@@ -13,9 +13,9 @@ use Rattle.s66_model.specs.Preorder.{read_tree, TreeMatches}
 use Rattle.s66_model.proofs.Forests.{read-flat, tree-match}
 use Rattle.s66_model.proofs.TreesHold.{tree-weaken}
 use Rattle.s66_node.specs.declared.grow.Grown.{Grown}
-use Rattle.s66_node.specs.Nodes.{prefixes_over, lines_at, AreNodes}
+use Rattle.s66_node.specs.Nodes.{prefixes_over}
 use Rattle.s66_node.specs.Growing.{tree_prefixes}
-use Rattle.s66_node.specs.Pieces.{PieceOf, prefixes_of, lines_of, tree_of, IsBestTimed, AreTreeNodes, IsKept}
+use Rattle.s66_node.specs.Pieces.{PieceOf, lines_of, tree_of, IsBestTimed, AreTreeNodes, IsKept}
 use Rattle.s66_node.specs.Walking.{Span, IsDue, IsLeft, IsGrown, NameSplits, names_of}
 use Rattle.s66_node.proofs.Growing.{tree-holds, tree-splits}
 use Rattle.s66_node.proofs.NamedSplits.{split-node, tree-within}

@@ -1,5 +1,5 @@
 -- What was found of a prefix becomes a node of the tree that is made.
-use Rattle.std.proofs.Common.{ℕ, true, ◌≤◌, ◌<◌, ◌≡◌, List, [], ◌∷◌, ◌++◌, length, map, get_or, refl, sym, ap, arith, ◌∙◌, subst, Some, None}
+use Rattle.std.proofs.Common.{ℕ, true, ◌≤◌, ◌<◌, ◌≡◌, List, [], ◌∷◌, ◌++◌, length, map, get_or, refl, sym, ap, ◌∙◌, subst}
 use Rattle.std.proofs.lemmas.List.{append-nil}
 use Rattle.s66_model.specs.declared.rule.Rule.{Rule}
 use Rattle.s66_model.specs.Timing.{Problem}
@@ -14,8 +14,8 @@ use Rattle.s66_node.specs.declared.grow.Unsplit.{Unsplit}
 use Rattle.s66_node.specs.declared.grow.Unsplit.TheVariants as unsplit
 use Rattle.s66_node.specs.Nodes.{has_floor, Named, named, named_at, line_of, prefixes_over, lines_at, IsNode, AreNodes}
 use Rattle.s66_node.specs.Walking.{Span, span, IsFound, HasValue, IsPushed, state_by, value_by, named_by, terminal_by}
-use Rattle.s66_node.proofs.Nodes.{pushed-prefixes, pushed-nodes, pushed-lines}
-use Rattle.s66_node.proofs.Terminals.{left-wider, left-any}
+use Rattle.s66_node.proofs.Nodes.{ArePushed, are-pushed}
+use Rattle.s66_node.proofs.Terminals.{left-wider}
 
 -- a prefix that isn't open isn't left open
 pub found-open : (b : Problem) (at : List ℕ) (u : Unsplit) → terminal_by b at u ≡ Frontier → state_by u ≡ state.Open
@@ -73,19 +73,11 @@ module _ (rule : Rule) (b : Problem) (best : Span) (root at : List ℕ) (n : ℕ
   abbrev child : Node
   child = record { parent = parent; value = put.value; number = n; depth = depth; made = state_by u; state = state_by u }
 
-  is-node : IsNode b (map named all) (at ++ n ∷ []) child
-  is-node = found-node b (at ++ n ∷ []) u h.value (map named all) parent put.value n depth deep short put.valued.valued
-
-  pub terminal-nodes : AreNodes b (map named all) root new
-  terminal-nodes = pushed-nodes b root (map named dominances) put.valued.more (map named all) nodes new child (at ++ n ∷ []) are put.valued.names put.pushed within (ap (λ a. a ++ n ∷ []) over) is-node
-
-  pub terminal-prefixes : prefixes_over root new ≡ prefixes_over root nodes ++ (at ++ n ∷ []) ∷ []
-  terminal-prefixes = pushed-prefixes b root (map named dominances) put.valued.more (map named all) nodes new child (at ++ n ∷ []) are put.valued.names put.pushed within (ap (λ a. a ++ n ∷ []) over) is-node
-
-  pub terminal-lines : lines_at b (map named all) (prefixes_over root new) new ≡ lines_at b (map named dominances) (prefixes_over root nodes) nodes ++ AtTerminal (terminal_by b (at ++ n ∷ []) u) ∷ []
-  terminal-lines =
-      pushed-lines b root (map named dominances) put.valued.more (map named all) nodes new child (at ++ n ∷ []) are put.valued.names put.pushed within (ap (λ a. a ++ n ∷ []) over) is-node
-      ∙ ap (λ (k : Vertex Terminal). lines_at b (map named dominances) (prefixes_over root nodes) nodes ++ k ∷ []) (found-line b (at ++ n ∷ []) u h.value (map named all) parent put.value n depth deep short put.valued.valued)
+  pub terminal-pushed : ArePushed b root (map named dominances) (map named all) nodes new (at ++ n ∷ []) (AtTerminal (terminal_by b (at ++ n ∷ []) u))
+  terminal-pushed =
+      subst (ArePushed b root (map named dominances) (map named all) nodes new (at ++ n ∷ [])) (found-line b (at ++ n ∷ []) u h.value (map named all) parent put.value n depth deep short put.valued.valued)
+      (are-pushed b root (map named dominances) put.valued.more (map named all) nodes new child (at ++ n ∷ []) are put.valued.names put.pushed within (ap (λ a. a ++ n ∷ []) over)
+      (found-node b (at ++ n ∷ []) u h.value (map named all) parent put.value n depth deep short put.valued.valued))
 
 -- a node that is split
 pub split-node : (b : Problem) (names : List Named) (at : List ℕ) (x : Node) → x.depth ≡ length at → x.depth ≤ 255 → x.made ≡ state.Split → x.state ≡ state.Split → IsNode b names at x
@@ -103,11 +95,6 @@ module _ (b : Problem) (root at : List ℕ) (n : ℕ) (nodes new : List Node) (n
   abbrev split : Node
   split = record { parent = parent; value = 0; number = n; depth = depth; made = state.Split; state = state.Split }
 
-  pub split-nodes : AreNodes b names root new
-  split-nodes = pushed-nodes b root names [] names nodes new split (at ++ n ∷ []) are (sym (append-nil names)) put within (ap (λ a. a ++ n ∷ []) over) (split-node b names (at ++ n ∷ []) split deep short refl refl)
-
-  pub split-prefixes : prefixes_over root new ≡ prefixes_over root nodes ++ (at ++ n ∷ []) ∷ []
-  split-prefixes = pushed-prefixes b root names [] names nodes new split (at ++ n ∷ []) are (sym (append-nil names)) put within (ap (λ a. a ++ n ∷ []) over) (split-node b names (at ++ n ∷ []) split deep short refl refl)
-
-  pub split-lines : lines_at b names (prefixes_over root new) new ≡ lines_at b names (prefixes_over root nodes) nodes ++ AtSplit (ready b.block (at ++ n ∷ [])) ∷ []
-  split-lines = pushed-lines b root names [] names nodes new split (at ++ n ∷ []) are (sym (append-nil names)) put within (ap (λ a. a ++ n ∷ []) over) (split-node b names (at ++ n ∷ []) split deep short refl refl)
+  pub split-pushed : ArePushed b root names names nodes new (at ++ n ∷ []) (AtSplit (ready b.block (at ++ n ∷ [])))
+  split-pushed =
+      are-pushed b root names [] names nodes new split (at ++ n ∷ []) are (sym (append-nil names)) put within (ap (λ a. a ++ n ∷ []) over) (split-node b names (at ++ n ∷ []) split deep short refl refl)

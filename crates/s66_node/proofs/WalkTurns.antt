@@ -1,6 +1,6 @@
 -- Each turn of a walk.
 use Rattle.std.proofs.Common.{ℕ, ◌+◌, ◌-◌, ◌*◌, ◌≤◌, ◌<◌, ◌≡◌, ◌==◌, ◌⊎◌, true, false, get_or, reverse, List, [], ◌∷◌, ◌++◌, length, map, refl, sym, ap, arith, inl, inr, ◌∙◌, length-append, subst, Option, None, eqb-true}
-use Rattle.std.proofs.lemmas.List.{reverse-append, length-take, map-append}
+use Rattle.std.proofs.lemmas.List.{reverse-append, length-take}
 use Rattle.s66_isa.specs.declared.limits.TheConstants.{BLOCK_LIMIT}
 use Rattle.s66_isa.specs.Lists.{Among, weigh}
 use Rattle.s66_isa.proofs.Lists.{weigh-append, among-front, among-rest}

@@ -1,10 +1,8 @@
-use Rattle.std.proofs.Common.{◌+◌, ◌≡◌, ◌∙◌, ◌++◌, ◌∷◌, [], arith, ap, sym, subst, length, get_or, take, map, heap_items, true≢false}
+use Rattle.std.proofs.Common.{◌+◌, ◌≡◌, ◌∙◌, ◌++◌, ◌∷◌, [], arith, ap, sym, subst, length, take, map, heap_items, true≢false}
 use Rattle.std.proofs.lemmas.List.{length-take, take_all}
 use Rattle.std.specs.List.Sorted.{IsPermutation}
-use Rattle.s66_node.specs.declared.node.Node.{Node}
-use Rattle.s66_node.specs.declared.node.State.TheVariants as state
 use Rattle.s66_node.specs.Nodes.{named}
-use Rattle.s66_ledger.specs.Nodes.{no_node, node_at}
+use Rattle.s66_ledger.specs.Nodes.{node_at}
 use Rattle.s66_ledger.specs.Grafting.{Grafts, IsGrafting}
 use Rattle.s66_ledger.proofs.LiveCounts.{counted-push, shut-in}
 use Rattle.s66_ledger.proofs.OpenHeap.{more-open, more-shut}

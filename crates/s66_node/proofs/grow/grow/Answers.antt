@@ -1,13 +1,13 @@
-use Rattle.std.proofs.Common.{ℕ, ◌+◌, ◌-◌, ◌*◌, ◌≤◌, ◌<◌, ◌≡◌, ◌⊎◌, ◌++◌, ◌∷◌, [], List, Option, IfSome, IfNone, IsTrue, nat_lt, true, arith, inl, inr, sym, ◌∙◌, ap, subst, refl, length, length-append, map}
+use Rattle.std.proofs.Common.{ℕ, ◌+◌, ◌-◌, ◌*◌, ◌≤◌, ◌≡◌, ◌⊎◌, ◌++◌, ◌∷◌, [], List, Option, IfSome, IfNone, IsTrue, nat_lt, true, arith, inl, inr, sym, ◌∙◌, ap, subst, refl, length, length-append, map}
 use Rattle.std.proofs.lemmas.Bool.{lt-ltb, ltb-true, true≢false}
 use Rattle.s66_isa.specs.declared.limits.TheConstants.{BLOCK_LIMIT}
 use Rattle.s66_isa.specs.Lists.{Among}
-use Rattle.s66_model.specs.declared.rule.Rule.TheVariants.{NoneNamed, WrittenEarlier}
+use Rattle.s66_model.specs.declared.rule.Rule.TheVariants.{NoneNamed}
 use Rattle.s66_model.specs.Timing.{Problem}
 use Rattle.s66_model.specs.Piece.{Frontier, Passed}
 use Rattle.s66_model.specs.Expansion.{whole_at}
 use Rattle.s66_model.specs.LegalOrder.{ready, is_ready}
-use Rattle.s66_model.specs.Tree.{Alone, AtTerminal, AtSplit}
+use Rattle.s66_model.specs.Tree.{Alone, AtTerminal}
 use Rattle.s66_dep.specs.Members.{numbers_in}
 use Rattle.s66_dep.proofs.LongestBeginning.{beginning-few}
 use Rattle.s66_node.specs.Walked.{Walked, front}
@@ -16,11 +16,11 @@ use Rattle.s66_node.specs.declared.grow.Unsplit.{Unsplit}
 use Rattle.s66_node.specs.declared.node.Node.{Node}
 use Rattle.s66_node.specs.declared.node.State.TheVariants as state
 use Rattle.s66_node.specs.Nodes.{named, prefixes_over, lines_at}
-use Rattle.s66_node.specs.Walking.{span, IsLeast, IsDue, IsFound, IsOpen, IsLeft, IsSpent, IsWalk, terminal_by, state_by}
+use Rattle.s66_node.specs.Walking.{span, IsLeast, IsDue, IsFound, IsOpen, terminal_by}
 use Rattle.s66_node.proofs.Frontiers.{spent-terminal}
 use Rattle.s66_node.proofs.Growing.{front-push}
 use Rattle.s66_node.proofs.Nodes.{length-prefixes_over}
-use Rattle.s66_node.proofs.Pushing.{found-wider, found-open, root-nodes, root-prefixes, root-lines, terminal-nodes, terminal-prefixes, terminal-lines, split-node, split-nodes, split-prefixes, split-lines}
+use Rattle.s66_node.proofs.Pushing.{found-wider, found-open, root-nodes, root-prefixes, root-lines, terminal-pushed, split-node, split-pushed}
 use Rattle.s66_node.proofs.Terminals.{left-any, left-unnamed}
 use Rattle.s66_node.proofs.WalkTurns.{next-ready, not-empty, is-empty, none-empty, walk-root, next-few, next-room, frame-within, frame-over, walk-terminal, walk-split, walk-up, walk-last, walk-done, work-terminal, work-split, work-up}
 use Rattle.s66_node.proofs.grow.grow.Goals as goal
@@ -150,13 +150,14 @@ loop-frame-preserved-in-Some-child g c =
     let all = c.push_unsplit-in-Some-child.new.dominances.items in
     let parent = c.in-Some-pop.frame.node in
     let known = g.N.Naming.names lf.names in
+    let pushed = terminal-pushed c.args.rule b best root lf.walk.numbers n known u nodes new old all parent _ deep short lf.invariant.nodes within over any put in
     record {
       problem = ap (λ (w : Walked). w.problem) c.undo.ensures ∙ own;
       kept = c.unsplit_child.ensures.kept;
       falls = omega (arith, c.unsplit_child.ensures.falls, lf.invariant.falls);
       lowest = (c.unsplit_child.ensures.lowest.0 ∙ lf.invariant.lowest.0, omega (arith, c.unsplit_child.ensures.lowest.1 (omega (arith, lf.invariant.lowest.0, lf.invariant.lowest.1)), lf.invariant.lowest.0));
       suits = subst (λ (p : Problem). g.N.Naming.suits c.keep_terminal-in-Some-child.new.self p) own c.keep_terminal-in-Some-child.ensures.suits;
-      nodes = terminal-nodes c.args.rule b best root lf.walk.numbers n known u nodes new old all parent _ deep short lf.invariant.nodes within over any put;
+      nodes = pushed.stand;
       walk = λ low le.
           let old_le : low ≤ lf.best = omega (arith, le, c.unsplit_child.ensures.falls) in
           let here = found low le in
@@ -168,8 +169,8 @@ loop-frame-preserved-in-Some-child g c =
           walk-terminal c.args.rule b (span (g.L.Least.kept c.args.incumbent.now) low) c.args.allowance root lf.walk.numbers lf.frames.items c.pop.new.self.items c.in-Some-pop.frame (lines_at b (map named lf.dominances.items) (prefixes_over root lf.nodes.items) lf.nodes.items) (prefixes_over root lf.nodes.items) lf.splits lf.least (g.N.Naming.names lf.names) (lf.invariant.walk low old_le) c.in-Some-pop.ensures.items
           n frame c.in-Some-pop_first.ensures.some refl c.push-in-Some-pop_first.new.self.items _ _ c.keep_whole-in-Some-child.new.least (g.N.Naming.names c.keep_terminal-in-Some-child.new.self) (terminal_by b child u) c.undo.new.self.numbers
           (λ by. c.keep_terminal-in-Some-child.ensures.known by ∙ c.unsplit_child.ensures.same) here.knows c.push-in-Some-pop_first.ensures.items up here.left
-          (terminal-lines c.args.rule b best root lf.walk.numbers n known u nodes new old all parent _ deep short lf.invariant.nodes within over any put)
-          (terminal-prefixes c.args.rule b best root lf.walk.numbers n known u nodes new old all parent _ deep short lf.invariant.nodes within over any put)
+          pushed.lines
+          pushed.prefixes
           lower (λ is lt. left (found-open b child u is) (lt-ltb lf.splits c.args.allowance lt));
     }
 
@@ -227,21 +228,22 @@ loop-frame-preserved-in-None g c =
     let kept : (name : List ℕ) → Among name (g.N.Naming.names c.keep_split-in-None.new.self) → (name ≡ child) ⊎ Among name (g.N.Naming.names lf.names) =
     λ name among.
     subst (λ at. (name ≡ at) ⊎ Among name (g.N.Naming.names lf.names)) next (subst (λ names. (name ≡ now.numbers) ⊎ Among name names) c.unsplit_child.ensures.same (c.keep_split-in-None.ensures.known name among)) in
+    let pushed = split-pushed b root lf.walk.numbers n nodes new names parent _ deep short lf.invariant.nodes within over put in
     record {
       problem = ap (λ (w : Walked). w.problem) c.ready-ready-in-None.ensures.same ∙ own;
       kept = c.unsplit_child.ensures.kept;
       falls = omega (arith, c.unsplit_child.ensures.falls, lf.invariant.falls);
       lowest = (c.unsplit_child.ensures.lowest.0 ∙ lf.invariant.lowest.0, omega (arith, c.unsplit_child.ensures.lowest.1 (omega (arith, lf.invariant.lowest.0, lf.invariant.lowest.1)), lf.invariant.lowest.0));
       suits = subst (λ (p : Problem). g.N.Naming.suits c.keep_split-in-None.new.self p) own c.keep_split-in-None.ensures.suits;
-      nodes = split-nodes b root lf.walk.numbers n nodes new names parent _ deep short lf.invariant.nodes within over put;
+      nodes = pushed.stand;
       walk = λ low le.
           let old_le : low ≤ lf.best = omega (arith, le, c.unsplit_child.ensures.falls) in
           rw c.ready-ready-in-None.ensures.same
           (walk-split c.args.rule b (span (g.L.Least.kept c.args.incumbent.now) low) c.args.allowance root lf.walk.numbers lf.frames.items c.pop.new.self.items c.in-Some-pop.frame (lines_at b (map named lf.dominances.items) (prefixes_over root lf.nodes.items) lf.nodes.items) (prefixes_over root lf.nodes.items) lf.splits lf.least (g.N.Naming.names lf.names) (lf.invariant.walk low old_le) c.in-Some-pop.ensures.items
           n frame c.in-Some-pop_first.ensures.some refl below c.push-in-None-2.new.self.items _ _ (g.N.Naming.names c.keep_split-in-None.new.self) now.numbers kept
           (c.push-in-None-2.ensures.items ∙ ap (λ fs. fs ++ below ∷ []) c.push-in-Some-pop_first.ensures.items) next due ready_is last
-          (split-lines b root lf.walk.numbers n nodes new names parent _ deep short lf.invariant.nodes within over put)
-          (split-prefixes b root lf.walk.numbers n nodes new names parent _ deep short lf.invariant.nodes within over put)
+          pushed.lines
+          pushed.prefixes
           (ltb-true lf.splits c.args.allowance (subst (λ (o : Option Unsplit). IfNone o (IsTrue (nat_lt lf.splits c.args.allowance))) c.in-None.is c.in_ok-child.ensures.may)));
     }
 

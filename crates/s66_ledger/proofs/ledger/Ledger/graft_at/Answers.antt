@@ -1,4 +1,4 @@
-use Rattle.std.proofs.Common.{◌∙◌, ◌-◌, true, ◌≡◌, ◌++◌, ◌∷◌, [], None, refl, ap, sym, subst, length, drop, arith, length-append}
+use Rattle.std.proofs.Common.{◌∙◌, ◌-◌, true, ◌≡◌, None, refl, ap, sym, subst, length, drop, arith, length-append}
 use Rattle.s66_model.specs.Tree.{flat}
 use Rattle.s66_model.specs.Ledger.{Graft, Taken}
 use Rattle.s66_model.specs.Recorded.{IsOwnPiece}

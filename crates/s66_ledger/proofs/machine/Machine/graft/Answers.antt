@@ -1,4 +1,4 @@
-use Rattle.std.proofs.Common.{◌+◌, ◌-◌, ◌<◌, ◌≡◌, ◌∙◌, true≢false, set, sym, arith, subst}
+use Rattle.std.proofs.Common.{◌+◌, ◌-◌, ◌∙◌, true≢false, set, sym, arith, subst}
 use Rattle.s66_ledger.specs.LedgerMachine.{machine_of, IsKept}
 use Rattle.s66_ledger.proofs.Stored.{stored_of}
 use Rattle.s66_ledger.specs.GraftMoves.{IsTakenMove}
@@ -52,7 +52,7 @@ invariant_of-self-2 c =
     let k = c.splits-splits.result in
     subst (λ n. IsKept (record m { nodes = c.attach.new.self; allowances = set m.allowances (c.args.w - 1) (n - k); spent = m.spent + k })) (sym now)
     (kept-taken m c.self.invariant c.args.self.now c.self.view_is c.args.w c.requires c.args.node c.args.piece.now c.is_own-own.result c.is_own-own.ensures (c.is_out.ensures.0 c.if-not-is_out.false) c.if-not-own.false c.nodes-nodes.ensures.tree (omega (arith, c.count.ensures.value, c.count.ensures.few))
-    c.attach.new.self k (c.is_over.ensures.0 c.if-not-is_over.false ∙ c.prefix.ensures.value) c.splits-splits.ensures (omega (arith, was, c.if-index-splits.false)) c.total-best.result c.total-best.ensures.value c.in-Ok.ensures.ok c.in-Ok.ensures.floors c.in-Ok.ensures.count)
+    c.attach.new.self k (c.is_over.ensures.0 c.if-not-is_over.false ∙ c.prefix.ensures.value) c.splits-splits.ensures (omega (arith, was, c.if-index-splits.false)) c.total-best.result c.total-best.ensures.value c.in-Ok.ensures.ok)
 
 pub returns-clause-ok : goal.returns-clause-ok
 returns-clause-ok c =

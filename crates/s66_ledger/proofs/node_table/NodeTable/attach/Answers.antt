@@ -1,17 +1,14 @@
-use Rattle.std.proofs.Common.{ℕ, true, true≢false, ◌+◌, ◌-◌, ◌≡◌, ◌≢◌, ◌∙◌, ◌++◌, ◌∷◌, List, ap, arith, refl, sym, subst, length, map, get_or, heap_items}
+use Rattle.std.proofs.Common.{true, ◌+◌, ◌-◌, ◌≡◌, ◌∙◌, ◌∷◌, List, ap, arith, refl, sym, subst, length, map, heap_items}
 use Rattle.std.proofs.lemmas.Result.{on_ok_weaker}
 use Rattle.std.proofs.lemmas.List.{length-map}
-use Rattle.s66_node.specs.declared.name.Dominance.{Dominance}
 use Rattle.s66_node.specs.declared.node.Node.{Node}
-use Rattle.s66_node.specs.declared.node.State.{State}
 use Rattle.s66_node.specs.declared.node.State.TheVariants as state
 use Rattle.s66_node.specs.Nodes.{is_open_state, Named, named}
-use Rattle.s66_node.specs.Pieces.{PieceOf}
 use Rattle.s66_ledger.specs.OpenNodes.{IsOut, AreOpenNodes}
 use Rattle.s66_ledger.specs.LiveNodes.{AreCounted}
 use Rattle.s66_ledger.specs.Nodes.{no_node, node_at, with_state, is_out_state, HaveFloors, HaveDepths}
 use Rattle.s66_ledger.specs.Grafting.{settled_state, IsGrafting, IsSplitUnder, IsAttachedAs, HaveNames}
-use Rattle.s66_ledger.proofs.Attached.{grafting-depths, split-count, split-floors, attached-split, not-open, alone-count, alone-floors, attached-alone}
+use Rattle.s66_ledger.proofs.Attached.{grafting-depths, attached-split, not-open, attached-alone}
 use Rattle.s66_ledger.proofs.Grafting.{below-names}
 use Rattle.s66_ledger.proofs.Depths.{depths-state}
 use Rattle.s66_ledger.proofs.LiveCounts.{counted-set, some-out, one}
@@ -31,26 +28,6 @@ attach_split-requires-clause-depths c =
     subst (λ (names : List Named). (all : List Node) → IsGrafting c.args.best c.args.root names c.args.self.now c.in-Some.below.now all → HaveDepths all) (sym c.dominances.ensures)
     (grafting-depths p c.nodes.ensures.tree c.in-Some.first.now c.in-Some.below.now first c.args.best c.args.root c.args.self.now c.requires.out c.requires.over c.requires.room (subst HaveDepths c.self.view_is c.self.invariant.2))
 
-pub returns-in-Split-clause-count : goal.returns-in-Split-clause-count
-returns-in-Split-clause-count c =
-    let p = c.args.piece.now in
-    let first : p.nodes ≡ c.in-Some.first.now ∷ c.in-Some.below.now = sym c.nodes.ensures.value ∙ c.in-Some.ensures.cases.0 in
-    let split : c.in-Some.first.now.state ≡ state.Split = c.in-Split.is in
-    let new = c.attach_split.new.self in
-    let shows : IsSplitUnder c.args.best c.args.root (map named c.dominances.result.now) c.args.self.now c.in-Some.below.now new → length new + 1 ≡ length c.args.self.now + length p.nodes =
-    λ is. (let under : IsSplitUnder c.args.best c.args.root p.names c.args.self.now c.in-Some.below.now new = subst (λ names. IsSplitUnder c.args.best c.args.root names c.args.self.now c.in-Some.below.now new) c.dominances.ensures is in split-count p c.nodes.ensures.tree c.in-Some.first.now c.in-Some.below.now first c.args.best c.args.root c.args.self.now c.requires.out c.requires.over c.requires.room split new under) in
-    on_ok_weaker c.attach_split.result shows c.attach_split.ensures.ok
-
-pub returns-in-Split-clause-floors : goal.returns-in-Split-clause-floors
-returns-in-Split-clause-floors c =
-    let p = c.args.piece.now in
-    let first : p.nodes ≡ c.in-Some.first.now ∷ c.in-Some.below.now = sym c.nodes.ensures.value ∙ c.in-Some.ensures.cases.0 in
-    let split : c.in-Some.first.now.state ≡ state.Split = c.in-Split.is in
-    let new = c.attach_split.new.self in
-    let shows : IsSplitUnder c.args.best c.args.root (map named c.dominances.result.now) c.args.self.now c.in-Some.below.now new → HaveFloors p.problem new =
-    λ is. (let under : IsSplitUnder c.args.best c.args.root p.names c.args.self.now c.in-Some.below.now new = subst (λ names. IsSplitUnder c.args.best c.args.root names c.args.self.now c.in-Some.below.now new) c.dominances.ensures is in split-floors p c.nodes.ensures.tree c.in-Some.first.now c.in-Some.below.now first c.args.best c.args.root c.args.self.now c.requires.out c.requires.over c.requires.room split new under c.requires.floors) in
-    on_ok_weaker c.attach_split.result shows c.attach_split.ensures.ok
-
 pub returns-in-Split-clause-ok : goal.returns-in-Split-clause-ok
 returns-in-Split-clause-ok c =
     let p = c.args.piece.now in
@@ -58,50 +35,22 @@ returns-in-Split-clause-ok c =
     let split : c.in-Some.first.now.state ≡ state.Split = c.in-Split.is in
     let new = c.attach_split.new.self in
     let shows : IsSplitUnder c.args.best c.args.root (map named c.dominances.result.now) c.args.self.now c.in-Some.below.now new → IsAttachedAs p c.args.best c.args.root c.args.self.now new =
-    λ is. (let under : IsSplitUnder c.args.best c.args.root p.names c.args.self.now c.in-Some.below.now new = subst (λ names. IsSplitUnder c.args.best c.args.root names c.args.self.now c.in-Some.below.now new) c.dominances.ensures is in attached-split p c.nodes.ensures.tree c.in-Some.first.now c.in-Some.below.now first c.args.best c.args.root c.args.self.now c.requires.out c.requires.over c.requires.room split new under) in
+    λ is. (let under : IsSplitUnder c.args.best c.args.root p.names c.args.self.now c.in-Some.below.now new = subst (λ names. IsSplitUnder c.args.best c.args.root names c.args.self.now c.in-Some.below.now new) c.dominances.ensures is in attached-split p c.nodes.ensures.tree c.in-Some.first.now c.in-Some.below.now first c.args.best c.args.root c.args.self.now c.requires.out c.requires.over c.requires.room split new under c.requires.floors) in
     on_ok_weaker c.attach_split.result shows c.attach_split.ensures.ok
-
-pub returns-then-is_open-clause-count : goal.returns-then-is_open-clause-count
-returns-then-is_open-clause-count c =
-    let p = c.args.piece.now in
-    let first : p.nodes ≡ c.in-Some.first.now ∷ c.in-Some.below.now = sym c.nodes.ensures.value ∙ c.in-Some.ensures.cases.0 in
-    let moved : c.give_back.new.self ≡ with_state c.args.self.now c.args.root (settled_state c.args.best c.in-Some.first.now.value c.in-Some.first.now.state) = c.in_ok-give_back.ensures.ok ∙ ap (with_state c.args.self.now c.args.root) (sym (is-open c.settled_state.result (sym c.is_open.ensures ∙ c.if-is_open.true)) ∙ c.settled_state.ensures) in
-    alone-count p c.nodes.ensures.tree c.in-Some.first.now c.in-Some.below.now first c.in_default-state.not-Split c.args.best c.args.root c.args.self.now _ c.requires.out c.requires.over moved
-
-pub returns-then-is_open-clause-floors : goal.returns-then-is_open-clause-floors
-returns-then-is_open-clause-floors c =
-    let p = c.args.piece.now in
-    let first : p.nodes ≡ c.in-Some.first.now ∷ c.in-Some.below.now = sym c.nodes.ensures.value ∙ c.in-Some.ensures.cases.0 in
-    let moved : c.give_back.new.self ≡ with_state c.args.self.now c.args.root (settled_state c.args.best c.in-Some.first.now.value c.in-Some.first.now.state) = c.in_ok-give_back.ensures.ok ∙ ap (with_state c.args.self.now c.args.root) (sym (is-open c.settled_state.result (sym c.is_open.ensures ∙ c.if-is_open.true)) ∙ c.settled_state.ensures) in
-    alone-floors p c.nodes.ensures.tree c.in-Some.first.now c.in-Some.below.now first c.in_default-state.not-Split c.args.best c.args.root c.args.self.now _ c.requires.out c.requires.over moved c.requires.floors
 
 pub returns-then-is_open-clause-ok : goal.returns-then-is_open-clause-ok
 returns-then-is_open-clause-ok c =
     let p = c.args.piece.now in
     let first : p.nodes ≡ c.in-Some.first.now ∷ c.in-Some.below.now = sym c.nodes.ensures.value ∙ c.in-Some.ensures.cases.0 in
     let moved : c.give_back.new.self ≡ with_state c.args.self.now c.args.root (settled_state c.args.best c.in-Some.first.now.value c.in-Some.first.now.state) = c.in_ok-give_back.ensures.ok ∙ ap (with_state c.args.self.now c.args.root) (sym (is-open c.settled_state.result (sym c.is_open.ensures ∙ c.if-is_open.true)) ∙ c.settled_state.ensures) in
-    attached-alone p c.nodes.ensures.tree c.in-Some.first.now c.in-Some.below.now first c.in_default-state.not-Split c.args.best c.args.root c.args.self.now _ c.requires.out c.requires.over moved
-
-pub returns-clause-count : goal.returns-clause-count
-returns-clause-count c =
-    let p = c.args.piece.now in
-    let first : p.nodes ≡ c.in-Some.first.now ∷ c.in-Some.below.now = sym c.nodes.ensures.value ∙ c.in-Some.ensures.cases.0 in
-    let moved : c.set_state.new.nodes.items ≡ with_state c.args.self.now c.args.root (settled_state c.args.best c.in-Some.first.now.value c.in-Some.first.now.state) = c.set_state.ensures ∙ (ap (λ (ns : List Node). with_state ns c.args.root state.Closed) c.self.view_is ∙ ap (with_state c.args.self.now c.args.root) (sym (not-open c.args.best c.in-Some.first.now.value c.in-Some.first.now.state c.in_default-state.not-Split (ap is_open_state (sym c.settled_state.ensures) ∙ (sym c.is_open.ensures ∙ c.if-is_open.false))))) in
-    alone-count p c.nodes.ensures.tree c.in-Some.first.now c.in-Some.below.now first c.in_default-state.not-Split c.args.best c.args.root c.args.self.now _ c.requires.out c.requires.over moved
-
-pub returns-clause-floors : goal.returns-clause-floors
-returns-clause-floors c =
-    let p = c.args.piece.now in
-    let first : p.nodes ≡ c.in-Some.first.now ∷ c.in-Some.below.now = sym c.nodes.ensures.value ∙ c.in-Some.ensures.cases.0 in
-    let moved : c.set_state.new.nodes.items ≡ with_state c.args.self.now c.args.root (settled_state c.args.best c.in-Some.first.now.value c.in-Some.first.now.state) = c.set_state.ensures ∙ (ap (λ (ns : List Node). with_state ns c.args.root state.Closed) c.self.view_is ∙ ap (with_state c.args.self.now c.args.root) (sym (not-open c.args.best c.in-Some.first.now.value c.in-Some.first.now.state c.in_default-state.not-Split (ap is_open_state (sym c.settled_state.ensures) ∙ (sym c.is_open.ensures ∙ c.if-is_open.false))))) in
-    alone-floors p c.nodes.ensures.tree c.in-Some.first.now c.in-Some.below.now first c.in_default-state.not-Split c.args.best c.args.root c.args.self.now _ c.requires.out c.requires.over moved c.requires.floors
+    attached-alone p c.nodes.ensures.tree c.in-Some.first.now c.in-Some.below.now first c.in_default-state.not-Split c.args.best c.args.root c.args.self.now _ c.requires.out c.requires.over moved c.requires.floors
 
 pub returns-clause-ok : goal.returns-clause-ok
 returns-clause-ok c =
     let p = c.args.piece.now in
     let first : p.nodes ≡ c.in-Some.first.now ∷ c.in-Some.below.now = sym c.nodes.ensures.value ∙ c.in-Some.ensures.cases.0 in
     let moved : c.set_state.new.nodes.items ≡ with_state c.args.self.now c.args.root (settled_state c.args.best c.in-Some.first.now.value c.in-Some.first.now.state) = c.set_state.ensures ∙ (ap (λ (ns : List Node). with_state ns c.args.root state.Closed) c.self.view_is ∙ ap (with_state c.args.self.now c.args.root) (sym (not-open c.args.best c.in-Some.first.now.value c.in-Some.first.now.state c.in_default-state.not-Split (ap is_open_state (sym c.settled_state.ensures) ∙ (sym c.is_open.ensures ∙ c.if-is_open.false))))) in
-    attached-alone p c.nodes.ensures.tree c.in-Some.first.now c.in-Some.below.now first c.in_default-state.not-Split c.args.best c.args.root c.args.self.now _ c.requires.out c.requires.over moved
+    attached-alone p c.nodes.ensures.tree c.in-Some.first.now c.in-Some.below.now first c.in_default-state.not-Split c.args.best c.args.root c.args.self.now _ c.requires.out c.requires.over moved c.requires.floors
 
 pub invariant_of-self : goal.invariant_of-self
 invariant_of-self c =

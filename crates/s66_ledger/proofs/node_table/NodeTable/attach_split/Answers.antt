@@ -1,5 +1,4 @@
-use Rattle.std.proofs.Common.{ℕ, List, ◌-◌, true, arith, ◌≡◌, ap, refl, sym, subst, heap_items, map}
-use Rattle.s66_node.specs.declared.node.Node.{Node}
+use Rattle.std.proofs.Common.{◌-◌, true, arith, ap, refl, sym, subst, heap_items, map}
 use Rattle.s66_node.specs.declared.node.State.TheVariants as state
 use Rattle.s66_node.specs.Nodes.{named}
 use Rattle.s66_ledger.specs.Nodes.{no_node, node_at, HaveDepths, is_out_state}
