@@ -19,9 +19,6 @@ leads-on old mid new (p, q, r, (h, go), by) (p2, q2, r2, (k, on), by2) =
     let on_old : Run old.rule old.problem mid.state k new.state = subst (λ (b : Problem). Run old.rule b mid.state k new.state) p (subst (λ x. Run x mid.problem mid.state k new.state) by on) in
     (p2 ∙ p, q2 ∙ q, r2 ∙ r, (h ++ k, run-join old.rule old.problem h k old.state mid.state new.state go on_old), by2 ∙ by)
 
-pub leads-far : (first second third fourth last : MachineOf) → Leads first second → Leads second third → Leads third fourth → Leads fourth last → Leads first last
-leads-far first second third fourth last a b c d = leads-on first third last (leads-on first second third a b) (leads-on third fourth last c d)
-
 pub leads-fall : (old new : MachineOf) → Leads old new → best_time new.problem new.state ≤ best_time new.problem old.state
 leads-fall old new (p, q, r, (h, go), by) = run-falls old.rule new.problem h old.state new.state (subst (λ (b : Problem). Run old.rule b old.state h new.state) (sym p) go)
 

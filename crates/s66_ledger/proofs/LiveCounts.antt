@@ -1,14 +1,13 @@
 -- How many nodes are out, and how deep those are that are open or out: of one node more, and of a node in another state.
 use Rattle.std.proofs.Common.{ℕ, zero, suc, ◌+◌, ◌≤◌, ◌<◌, ◌≡◌, Bool, true, false, cond, List, [], ◌∷◌, ◌++◌, length, get_or, set, refl, sym, ap, arith, inl, inr, ◌∙◌, length-append}
 use Rattle.std.proofs.lemmas.Bool.{cases_eq, cases_Bool}
-use Rattle.s66_isa.specs.declared.limits.TheConstants.{BLOCK_LIMIT}
 use Rattle.s66_isa.specs.Lists.{tally}
 use Rattle.s66_isa.proofs.Lists.{tally-set, tally-append, cases_le}
 use Rattle.s66_node.specs.declared.node.Node.{Node}
 use Rattle.s66_node.specs.declared.node.State.{State}
 use Rattle.s66_node.specs.declared.node.State.TheVariants as state
 use Rattle.s66_node.specs.Nodes.{is_open_state, is_live_state}
-use Rattle.s66_ledger.specs.Nodes.{prefixes, node_at, no_node, HaveDepths, is_out_state, is_out}
+use Rattle.s66_ledger.specs.Nodes.{node_at, no_node, is_out_state, is_out}
 use Rattle.s66_ledger.specs.OpenNodes.{IsOut}
 use Rattle.s66_ledger.specs.LiveNodes.{AreCounted}
 use Rattle.s66_ledger.proofs.OpenHeap.{set-here, set-other}
@@ -95,10 +94,6 @@ room-out (x ∷ nodes) (suc i) lt is = elim (cases_Bool (is_out x)) [
   | inl e ↦ omega (arith, room-out nodes i (omega arith) is, one (is_out x) true e)
   | inr e ↦ omega (arith, room-out nodes i (omega arith) is, one (is_out x) false e)
 ]
-
--- a prefix that is open or out has fewer numbers than none reaches
-pub short-live : (nodes : List Node) (out deepest count : ℕ) → AreCounted nodes out deepest → HaveDepths nodes → deepest < count → count ≤ BLOCK_LIMIT → (i : ℕ) → i < length nodes → is_live_state (node_at nodes i).state ≡ true → length (get_or (prefixes nodes) i []) < count
-short-live nodes out deepest count are depths less few i lt live = omega (arith, less, few, are.within i live, depths i lt)
 
 -- a node that isn't open or out
 pub shut-in : (s : State) → is_open_state s ≡ false → is_out_state s ≡ false → is_live_state s ≡ false

@@ -87,9 +87,6 @@ one : (b : Bool) (c : Bool) → b ≡ c → ◌≡◌ {A = ℕ} (cond b 1 0) (co
 one b c e = ap (λ t. cond {A = ℕ} t 1 0) e
 
 module _ (nodes : List Node) (entries : List Entry) (are : AreOpenNodes nodes entries) where
-  pub open-none : length entries ≡ 0 → tally is_open nodes ≡ 0
-  open-none none = omega (arith, are.count)
-
   module _ (rest : List Entry) (r i : ℕ) (popped : IsPermutation entries ((r, i) ∷ rest)) where
     counted : (k : ℕ) → tally (λ (e : Entry). e.1 == k) rest + cond (i == k) 1 0 ≡ cond (is_open (node_at nodes k)) 1 0
     counted k = omega (arith, are.once k, tally-permutation (λ (e : Entry). e.1 == k) entries ((r, i) ∷ rest) popped)

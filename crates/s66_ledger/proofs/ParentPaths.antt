@@ -34,12 +34,6 @@ module _ (here above prefix : List ℕ) (number r : ℕ) (goal : Type 0) (so : g
     pub turn-not : number ≢ get_or prefix s z → IsTrue false ↔ goal
     turn-not ne = never (λ g. ne (both g).1)
 
-    pub turn-up : number ≡ get_or prefix s z → goal ↔ (above ≡ take s prefix)
-    turn-up e = (
-      (λ g. (both g).0),
-      (λ h. so.1 (is ∙ (ap (λ y. y ++ number ∷ []) h ∙ (ap (λ n. take s prefix ++ n ∷ []) e ∙ (sym (take_more prefix s z within) ∙ ap (λ k. take k prefix) (sym next)))))),
-    )
-
 pub turn-last : (xs : List Node) (i r : ℕ) (prefix : List ℕ) (goal : Type 0) → goal ↔ (get_or (prefixes xs) i [] ≡ take r prefix) → 0 < length xs → i ≡ 0 → r ≤ length prefix → IsTrue (nat_eq r 0) ↔ goal
 turn-last xs i zero prefix goal so some first le =
     ((λ h. so.1 (ap (λ j. get_or (prefixes xs) j []) first ∙ prefix-none xs some)), (λ g. refl))

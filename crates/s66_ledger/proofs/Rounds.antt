@@ -24,7 +24,7 @@ use Rattle.s66_ledger.specs.LedgerMachine.{MachineOf, IsMove}
 use Rattle.s66_ledger.specs.GraftMoves.{IsGraftMove, taken_event, IsTakenMove}
 use Rattle.s66_ledger.proofs.Taken.{same-splits, same-wholes}
 use Rattle.s66_ledger.specs.Finishing.{Leads, NoneOut, IsIdle, IsBetween, IsWithin, IsOffering, still_to_go}
-use Rattle.s66_ledger.proofs.Leading.{event-leads, leads-on, leads-nowhere, leads-fall}
+use Rattle.s66_ledger.proofs.Leading.{event-leads, leads-on, leads-fall}
 use Rattle.s66_ledger.proofs.TimedWholes.{wholes-offered, wholes-moved, wholes-grafted}
 
 -- NODES THAT ARE OUT, counted
@@ -192,9 +192,6 @@ offer-offers old new w timed answer (event, (own, iff, stated), h) =
       leads = event-leads old new event (offered_reply answer) h;
       same = offer-moved old.rule old.problem old.state new.state w own timed.numbers (total_of timed.problem timed.numbers) answer (subst (λ (e : Event). Moves old.rule old.problem old.state e (offered_reply answer) new.state) stated h.3.1);
     }
-
-pub offer-nowhere : (l : MachineOf) → IsOffering l l
-offer-nowhere l = record { leads = leads-nowhere l; same = refl }
 
 pub offer-on : (old mid new : MachineOf) → IsOffering old mid → IsOffering mid new → IsOffering old new
 offer-on old mid new first second =

@@ -10,9 +10,8 @@ use Rattle.s66_model.specs.Ledger as model
 use Rattle.s66_node.specs.declared.node.Node.{Node}
 use Rattle.s66_node.specs.declared.node.State.{State}
 use Rattle.s66_node.specs.declared.node.State.TheVariants as state
-use Rattle.s66_node.specs.Nodes.{is_open_state}
+use Rattle.s66_node.specs.Nodes.{is_open_state, line_of}
 use Rattle.s66_ledger.specs.Nodes.{prefixes, name_at, seen_state, seen_node, made_line, seen_at, nodes_of, lines_of, no_node, node_at, with_state, is_open}
-use Rattle.s66_node.specs.Nodes.{line_of}
 use Rattle.s66_ledger.specs.LedgerMachine.{IsMadeAs}
 use Rattle.s66_ledger.proofs.NodePrefixes.{length-prefixes, prefixes-push, prefixes-set}
 

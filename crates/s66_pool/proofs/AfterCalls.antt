@@ -10,7 +10,7 @@ use Rattle.s66_model.specs.declared.rule.Rule.{Rule}
 use Rattle.s66_model.specs.Timing.{Problem, total_of}
 use Rattle.s66_model.specs.Tree.{Tree, splits}
 use Rattle.s66_model.specs.Piece.{Terminal}
-use Rattle.s66_model.specs.Accounts.{Summary, SeatRecord, Account, Agrees, opened, account_at, after_event, after_reading, least_after, no_account}
+use Rattle.s66_model.specs.Accounts.{Summary, SeatRecord, Account, Agrees, opened, account_at, after_event, least_after, no_account}
 use Rattle.s66_node.specs.Pieces.{PieceOf, tree_of}
 use Rattle.s66_ledger.specs.Ledgers.{LedgerOf, IsEvent, account_summary}
 use Rattle.s66_ledger.specs.Grafts.{IsGraftAt, IsRefusedGraftAt}
@@ -25,7 +25,7 @@ use Rattle.s66_ledger.specs.declared.reply.BackError.TheVariants as kept
 use Rattle.s66_ledger.proofs.Taken.{same-splits}
 use Rattle.s66_lock.specs.SeatViews.{View, Follows, renewed, idle, holding, first_book}
 use Rattle.s66_pool.specs.Hubs.{SeatOf, HasGrafted, HasBeenRefused, HasOffered, IsKnown}
-use Rattle.s66_pool.proofs.SeatEvents.{renewed-agrees, same-follows, same-book, event-follows, event-read, event-known, quiet-book, stated-book, lower-stated, answer-stated, gave-book, gave-opened}
+use Rattle.s66_pool.proofs.SeatEvents.{renewed-agrees, same-follows, same-book, event-follows, quiet-book, stated-book, lower-stated, answer-stated, gave-book, gave-opened}
 
 -- A SEAT THAT GAVE THE LEDGER BACK
 
@@ -69,19 +69,6 @@ module _ (l old new : LedgerOf) (e : old ≡ l) (p : SeatRecord) (number : ℕ) 
       let now = called event reply h in
       let book = quiet-book l new p (event p.who) reply now own agrees quiet in
       ((event-follows l new p (event p.who) reply now own, ap (λ (q : SeatRecord). q.account.splits) book), book)
-
-  -- an event that gives no time, after which the best time was read
-  pub reading-call : (event : ℕ → Event) (reply : Reply) → worker (event p.who) ≡ p.who → least_after p.least (event p.who) reply ≡ p.least → spends (event p.who) reply ≡ 0 → IsEvent old (event number) reply new
-      → Follows p.who (account_summary l) (account_summary new) × ((opened (account_summary new) p.who).account.splits ≡ p.account.splits)
-      × (opened (account_summary new) p.who ≡ after_reading (after_event p (event p.who) reply) (account_summary new).best) × ((account_summary new).best ≤ p.least)
-  reading-call event reply own quiet free h =
-      let now = called event reply h in
-      let read = event-read l new p (event p.who) reply now own agrees in (
-        event-follows l new p (event p.who) reply now own,
-        ap (λ (q : SeatRecord). q.account.splits) read ∙ omega (arith, free),
-        read,
-        omega (arith, event-known l new p (event p.who) reply now own agrees, quiet),
-      )
 
   -- a graft, and of any seat with this seat record what became of it
   module _ (i : ℕ) (piece : PieceOf) where

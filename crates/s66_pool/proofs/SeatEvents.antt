@@ -1,10 +1,10 @@
 -- What a call of the ledger makes of its summary, and of the seat record of the worker who called.
-use Rattle.std.proofs.Common.{◌≡◌, ℕ, ◌≤◌, min, Bool, List, [], ◌∷◌, ◌++◌, Result, Ok, Err, Option, None, IfOk, IfErr, sym, refl, ap, ◌∙◌, subst, arith}
+use Rattle.std.proofs.Common.{◌≡◌, ℕ, ◌≤◌, Bool, List, [], ◌∷◌, ◌++◌, Result, Ok, Err, Option, None, IfOk, IfErr, sym, refl, ap, ◌∙◌, subst, arith}
 use Rattle.atomic_table.specs.Table.{Me}
 use Rattle.s66_model.specs.Timing.{Problem}
 use Rattle.s66_model.specs.Ledger.{Event, Reply, Offer, Lower, NotLower, worker, best_time}
-use Rattle.s66_model.specs.Accounts.{Summary, SeatRecord, Agrees, summary_of, opened, after_event, after_reading, least_after}
-use Rattle.s66_model.proofs.AccountLaws.{agrees-own, agrees-other, agrees-read, accounts-count}
+use Rattle.s66_model.specs.Accounts.{Summary, SeatRecord, Agrees, summary_of, opened, after_event, least_after}
+use Rattle.s66_model.proofs.AccountLaws.{agrees-own, agrees-other, accounts-count}
 use Rattle.s66_model.proofs.LedgerRuns.{step-falls}
 use Rattle.s66_ledger.specs.Ledgers.{LedgerOf, IsEvent, events_of, account_summary}
 use Rattle.s66_lock.specs.SeatViews.{View, Follows, renewed, idle, holding, first_book, found_at}
@@ -44,12 +44,6 @@ renewed-agrees s t p is follows = record {
 -- the seat record that agrees is the one that is opened, but for its least time
 pub renewed-is : (s : Summary) (p : SeatRecord) → Agrees s p → renewed s p p.least ≡ p
 renewed-is s p is = λ i. record { who = p.who; rule = sym is.rule i; problem = sym is.problem i; budget = sym is.budget i; account = sym is.account i; least = p.least }
-
--- after the best time was read
-pub read-book : (s : Summary) (p : SeatRecord) → Agrees s p → opened s p.who ≡ after_reading p s.best
-read-book s p is =
-    let low : s.best ≡ min p.least s.best = omega (arith, is.least) in
-    ap (λ (n : ℕ). renewed s p n) low ∙ renewed-is s (after_reading p s.best) (agrees-read s p is)
 
 module _ (old new : LedgerOf) (p : SeatRecord) where
   -- THE LEDGER IS AS IT WAS
@@ -91,13 +85,6 @@ module _ (old new : LedgerOf) (p : SeatRecord) where
       pub stated-book : Agrees (account_summary old) p → (account_summary new).best ≡ least_after p.least event reply → opened (account_summary new) p.who ≡ after_event p event reply
       stated-book is stated =
           ap (λ (n : ℕ). renewed (account_summary new) p n) stated ∙ renewed-is (account_summary new) (after_event p event reply) (event-agrees is)
-
-      -- and then the best time was read
-      pub event-read : Agrees (account_summary old) p → opened (account_summary new) p.who ≡ after_reading (after_event p event reply) (account_summary new).best
-      event-read is = read-book (account_summary new) (after_event p event reply) (event-agrees is)
-
-      pub event-known : Agrees (account_summary old) p → (account_summary new).best ≤ least_after p.least event reply
-      event-known is = (event-agrees is).least
 
   -- an offer that is lower is the best time
   pub lower-stated : (w : ℕ) (own : Bool) (order : List ℕ) (time : ℕ) → IsEvent old (Offer w own order time) Lower new → Agrees (account_summary old) p

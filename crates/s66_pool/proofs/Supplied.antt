@@ -1,7 +1,7 @@
 -- What the events of a turn at the lock make of the ledger's summary, and of the seat record of the worker whose turn it is.
-use Rattle.std.proofs.Common.{◌≡◌, ℕ, ◌+◌, ◌≤◌, Bool, true, false, List, [], ◌∷◌, ◌++◌, length, map, Option, Some, None, sym, refl, ap, ◌∙◌, subst, arith}
+use Rattle.std.proofs.Common.{◌≡◌, ℕ, ◌+◌, Bool, true, false, List, [], ◌∷◌, ◌++◌, Option, Some, None, sym, refl, ap, ◌∙◌, subst, arith}
 use Rattle.s66_model.specs.Ledger as model
-use Rattle.s66_model.specs.Ledger.{Event, Reply, Grant, Granted, Claim, Claimed, worker}
+use Rattle.s66_model.specs.Ledger.{Event, Reply, Claim, Claimed, worker}
 use Rattle.s66_model.specs.Recorded.{spends}
 use Rattle.s66_model.specs.Tree.{splits}
 use Rattle.s66_model.specs.Accounts.{SeatRecord, Agrees, after_event, least_after}
@@ -27,21 +27,8 @@ pub claims-append : (l m n : LedgerOf) (w : ℕ) (tickets : List TicketOf) (t : 
 claims-append l m n w [] t e h = (n, subst (λ (k : LedgerOf). IsEvent k (Claim w) (Claimed (Some t.node)) n) e h, refl)
 claims-append l m n w (x ∷ tickets) t (between, first, more) h = (between, first, claims-append between m n w tickets t more h)
 
--- and none after the last
-pub claims-end : (l m : LedgerOf) (w : ℕ) (tickets : List TicketOf) → AreEvents l (claims w tickets) m → AreEvents l (claims w tickets ++ last_claim w false) m
-claims-end l m w tickets h = events-append l m m (claims w tickets) [] h refl
-
 pub claims-none : (l m n : LedgerOf) (w : ℕ) (tickets : List TicketOf) → AreEvents l (claims w tickets) m → IsEvent m (Claim w) (Claimed None) n → AreEvents l (claims w tickets ++ last_claim w true) n
 claims-none l m n w tickets h last = events-append l m n (claims w tickets) (last_claim w true) h (n, last, refl)
-
--- splits alone
-pub grants-end : (l m : LedgerOf) (w : ℕ) (granted : Option ℕ) → AreEvents l (grants w granted) m → AreEvents l (grants w granted ++ (claims w [] ++ last_claim w false)) m
-grants-end l m w granted h = events-append l m m (grants w granted) [] h refl
-
--- workers, budget and problem stay
-pub events-workers : (l m : LedgerOf) (es : List (Event × Reply)) → AreEvents l es m → m.workers ≡ l.workers
-events-workers l m [] e = ap (λ (k : LedgerOf). k.workers) e
-events-workers l m (x ∷ es) (between, first, more) = events-workers between m es more ∙ first.2
 
 -- EVENTS OF ONE WORKER, which give no time and spend nothing
 

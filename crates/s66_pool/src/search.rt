@@ -1,7 +1,6 @@
 ghost use Rattle.std.specs.Prelude.{◌≡◌, ◌≤◌, IfOk, OnErr, OnOk};
 ghost use Rattle.s66_line.specs.Block.{instrs_of};
-ghost use Rattle.s66_model.specs.declared.limits.TheConstants.{BUDGET_LIMIT};
-ghost use Rattle.s66_model.specs.declared.limits.TheConstants.{WORKERS_LIMIT};
+ghost use Rattle.s66_model.specs.declared.limits.TheConstants.{BUDGET_LIMIT, WORKERS_LIMIT};
 ghost use Rattle.s66_pool.specs.Workers.{IsSameSearch};
 
 use crate::alone::search_alone;

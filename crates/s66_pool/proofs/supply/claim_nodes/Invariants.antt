@@ -1,4 +1,4 @@
-use Rattle.std.proofs.Common.{◌≡◌, ◌≤◌, length}
+use Rattle.std.proofs.Common.{◌≡◌, length}
 use Rattle.s66_pool.specs.Supplies.{AreEvents, claims}
 use Rattle.s66_pool.proofs.supply.claim_nodes.Given as goal
 

@@ -9,8 +9,7 @@ use Rattle.s66_model.specs.Tickets.{TicketOf}
 use Rattle.s66_ledger.specs.LedgerMachine.{MachineOf, IsMove, IsKept, machine_of}
 use Rattle.s66_ledger.proofs.Stored.{stored_of}
 use Rattle.s66_ledger.proofs.NodePrefixes.{prefixes-set}
-use Rattle.s66_ledger.proofs.SeenNodes.{lines-state}
-use Rattle.s66_ledger.proofs.SeenNodes.{at-nodes}
+use Rattle.s66_ledger.proofs.SeenNodes.{lines-state, at-nodes}
 use Rattle.s66_ledger.proofs.Events.{kept-short, kept-claim, event-claim, event-none, claimed-least}
 use Rattle.s66_ledger.proofs.machine.Machine.claim.Goals as goal
 

@@ -1,4 +1,4 @@
-use Rattle.std.proofs.Common.{true, ◌+◌, ◌-◌, ◌≡◌, ◌∙◌, ◌∷◌, List, ap, arith, refl, sym, subst, length, map, heap_items}
+use Rattle.std.proofs.Common.{true, ◌-◌, ◌≡◌, ◌∙◌, ◌∷◌, List, ap, arith, refl, sym, subst, length, map, heap_items}
 use Rattle.std.proofs.lemmas.Result.{on_ok_weaker}
 use Rattle.std.proofs.lemmas.List.{length-map}
 use Rattle.s66_node.specs.declared.node.Node.{Node}
@@ -6,7 +6,7 @@ use Rattle.s66_node.specs.declared.node.State.TheVariants as state
 use Rattle.s66_node.specs.Nodes.{is_open_state, Named, named}
 use Rattle.s66_ledger.specs.OpenNodes.{IsOut, AreOpenNodes}
 use Rattle.s66_ledger.specs.LiveNodes.{AreCounted}
-use Rattle.s66_ledger.specs.Nodes.{no_node, node_at, with_state, is_out_state, HaveFloors, HaveDepths}
+use Rattle.s66_ledger.specs.Nodes.{no_node, node_at, with_state, is_out_state, HaveDepths}
 use Rattle.s66_ledger.specs.Grafting.{settled_state, IsGrafting, IsSplitUnder, IsAttachedAs, HaveNames}
 use Rattle.s66_ledger.proofs.Attached.{grafting-depths, attached-split, not-open, attached-alone}
 use Rattle.s66_ledger.proofs.Grafting.{below-names}

@@ -1,4 +1,4 @@
-use Rattle.std.proofs.Common.{◌≡◌, ◌+◌, ap, ◌∙◌, sym, arith}
+use Rattle.std.proofs.Common.{◌≡◌, ◌+◌, ap, ◌∙◌, arith}
 use Rattle.s66_isa.specs.Lists.{weigh}
 use Rattle.s66_ledger.specs.Ledgers.{LedgerOf, account_summary}
 use Rattle.s66_lock.specs.LockTokens.{book}

@@ -1,4 +1,4 @@
-use Rattle.std.proofs.Common.{◌≡◌, ap, ◌∙◌}
+use Rattle.std.proofs.Common.{ap, ◌∙◌}
 use Rattle.s66_ledger.specs.Ledgers.{account_summary}
 use Rattle.s66_lock.specs.LockTokens.{book}
 use Rattle.s66_pool.specs.Hubs.{SeatOf}

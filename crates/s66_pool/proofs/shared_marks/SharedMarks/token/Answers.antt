@@ -1,4 +1,4 @@
-use Rattle.std.proofs.Common.{rules, arith}
+use Rattle.std.proofs.Common.{rules}
 use Rattle.s66_pool.proofs.PartSteps.{enters}
 use Rattle.s66_pool.proofs.shared_marks.SharedMarks.token.Goals as goal
 
