@@ -49,7 +49,7 @@ pub struct Marks<'a> {
     entries: Vec<Entry>,
     /// The nodes that the entries are.
     places: Vec<Place>,
-    /// The entries whose nodes are lines of a piece, and maybe others.
+    /// The entries whose nodes are those of a piece, and maybe others.
     unsettled: Vec<u32>,
     /// The indices of the entries, by the hashes of their sets.
     chains: Chains,

@@ -267,7 +267,7 @@ impl<'b> SharedMarks<'b> {
         self.give(token, part);
     }
 
-    /// Takes over what a table knows, which is empty afterwards; by a rule that names lines of the same piece alone, nothing.
+    /// Takes over what a table knows, which is empty afterwards; by a rule that names nodes of the same piece alone, nothing.
     pub(crate) fn take_in<R: Wait>(&self, rt: &R, grafted: &mut Marks<'_>, rule: Rule)
         requires { grafted.old.problem ≡ self.now.table.shared.key.problem }
         ensures { grafted.new.problem ≡ grafted.old.problem }
