@@ -49,10 +49,9 @@ pub fn printed(alloc: Global) -> Result<Answered, AllocError> {
     if block.count() != 3 {
         return Err(AllocError);
     }
-    let mut order = ArrayVec::new();
-    for number in [1, 3, 2] {
-        order.push(number);
-    }
+    let Ok(order) = ArrayVec::try_from(&[1, 3, 2][..]) else {
+        return Err(AllocError);
+    };
     let placed = [Placed {
         order,
         source: 16,
