@@ -15,7 +15,11 @@ use Rattle.s66_why.specs.declared.cause.Holder.{Holder}
 use Rattle.s66_why.specs.declared.stretch.Stretch.{Stretch}
 use Rattle.s66_why.specs.Why.{bank_name, conflict_name, kind_name, in_three, path, stretches_at, why_text}
 use Rattle.s66_page.specs.declared.work.Work.{Work}
+use Rattle.s66_page.specs.declared.row.Shown.{Shown}
+use Rattle.s66_page.specs.declared.row.Shown.TheVariants.{Bar, Words}
 use Rattle.s66_page.specs.declared.summary.Summary.{Summary}
+use Rattle.s66_page.specs.declared.page.Part.{Part}
+use Rattle.s66_page.specs.declared.page.Part.TheVariants.{Row, Orders}
 use Rattle.s66_page.specs.declared.start.TheConstants.{PAGE_START}
 use Rattle.s66_page.specs.Found.{Found}
 use Rattle.s66_page.specs.Escape.{escaped}
@@ -54,6 +58,10 @@ stretch_bar x = bar (conflict_name x.conflict) x.from (x.to - x.from) (stretch_t
 unfoldable pub stretch_words : Stretch → List ℕ
 stretch_words x = codes " <tspan class='" ++ conflict_name x.conflict ++ codes "'>" ++ words x.holder ++ codes "</tspan>"
 
+abbrev pub shown_as : Shown → Stretch → List ℕ
+shown_as Bar x = stretch_bar x
+shown_as Words x = stretch_words x
+
 -- the times of an instruction as it is drawn
 abbrev pub work : Point → Work
 work p =
@@ -91,11 +99,11 @@ row_head text on_path number place = row_start number on_path ++ in_three number
 
 -- why it waits in words, after its last result
 unfoldable pub row_words : List Stretch → (done : ℕ) → List ℕ
-row_words xs done = codes "<text x='" ++ decimal done ++ codes "em' y='12' dx='2'>" ++ flat_map stretch_words xs ++ codes "</text></svg>\n"
+row_words xs done = codes "<text x='" ++ decimal done ++ codes "em' y='12' dx='2'>" ++ flat_map (shown_as Words) xs ++ codes "</text></svg>\n"
 
 -- why it waits and how long it works, in bars
 unfoldable pub row_marks : List Stretch → Work → List ℕ
-row_marks xs w = flat_map stretch_bar xs ++ work_bar w ++ row_words xs w.done
+row_marks xs w = flat_map (shown_as Bar) xs ++ work_bar w ++ row_words xs w.done
 
 abbrev pub instruction_row : Block → (on_path : List ℕ) → List Point → Point → List ℕ
 instruction_row block on_path s p = row_head (bytes_of block p.number) on_path p.number (length s + 1) ++ row_marks (stretches_at s p) (work p)
@@ -271,6 +279,10 @@ index_entry p n block f = index_row (summary n block (as_written p block) (as_fo
 unfoldable pub block_entry : Profile → ℕ → Block → Found → List ℕ
 block_entry p n block f = block_text n block (as_written p block) (as_found p block f) f.bound
 
+abbrev pub entry : Part → Profile → ℕ → Block → Found → List ℕ
+entry Row p n block f = index_entry p n block f
+entry Orders p n block f = block_entry p n block f
+
 -- of these blocks, before which n come
 abbrev pub entries : (ℕ → Block → Found → List ℕ) → ℕ → List Block → List Found → List ℕ
 entries entry n (b ∷ bs) (f ∷ fs) = entry (n + 1) b f ++ entries entry (n + 1) bs fs
@@ -279,4 +291,4 @@ entries entry n [] fs = []
 
 -- the list of these blocks, before which n come, and the blocks
 abbrev pub page_text : Profile → ℕ → List Block → List Found → List ℕ
-page_text p n blocks found = PAGE_START.now ++ entries (index_entry p) n blocks found ++ codes "</table>\n" ++ entries (block_entry p) n blocks found
+page_text p n blocks found = PAGE_START.now ++ entries (entry Row p) n blocks found ++ codes "</table>\n" ++ entries (entry Orders p) n blocks found

@@ -10,7 +10,7 @@ use crate::unit::push_all_kind_rows;
 use crate::work::works_of;
 use s66_line::Block;
 use s66_time::Timed;
-use s66_why::{path_back, points_of, push_why};
+use s66_why::{path_from_end, points_of, push_why};
 use std::alloc::AllocError;
 
 /// The number above a tenth minor cycle.
@@ -85,7 +85,7 @@ fn push_all_rows(out: &mut Vec<u8>, block: &Block, timed: &Timed) -> Result<(), 
     let points = points.as_slice();
     let works = works_of(timed, points);
     let works = works.as_slice();
-    let on_path = path_back(points, timed.total());
+    let on_path = path_from_end(points, timed.total());
     push_rows(out, block, timed, on_path.as_slice(), points, works)?;
     push_all_kind_rows(out, timed.total(), works)
 }

@@ -1,7 +1,7 @@
 ghost use Rattle.std.specs.Prelude.{◌≡◌, ◌<◌, ◌^◌, ◌++◌, OnOk};
 ghost use Rattle.s66_line.specs.Block.{instrs_of};
 ghost use Rattle.s66_page.specs.Found.{AreOf};
-ghost use Rattle.s66_page.specs.Page.{entries, index_entry, block_entry, page_text};
+ghost use Rattle.s66_page.specs.Page.{entries, entry, page_text};
 
 use crate::block::{push_block, push_index_row};
 use crate::found::Found;
@@ -12,74 +12,40 @@ use s66_line::Block;
 use s66_time::Timer;
 use std::alloc::AllocError;
 
-/// The row of the n-th block, from 1, in the list of blocks.
-#[tactic(auto, unfolding(crate::specs::Page::index_entry))]
-fn push_index_entry(
+/// What a page has of each block: its row in the list of blocks, or its orders.
+#[derive(Clone, Copy, Debug)]
+enum Part {
+    Row,
+    Orders,
+}
+
+/// A part of the n-th block, from 1.
+#[tactic(auto, unfolding(crate::specs::Page::index_entry, crate::specs::Page::block_entry))]
+fn push_entry(
     out: &mut Vec<u8>,
     timer: &mut Timer,
+    part: Part,
     number: usize,
     block: &Block,
     found: &Found,
 ) -> Result<(), AllocError>
     requires { found.now.order.block ≡ instrs_of block.now }
     ensures profile { timer.new ≡ timer.old }
-    ensures text { OnOk result (out.new.items ≡ out.old.items ++ index_entry timer.old number block.now found.now) }
+    ensures text { OnOk result (out.new.items ≡ out.old.items ++ entry part timer.old number block.now found.now) }
 {
     let source = timer.time(block, &Order::source(block));
     let best = timer.time(block, found.order);
-    push_index_row(out, number, block, &source, &best, found.bound)
-}
-
-/// The n-th block, from 1.
-#[tactic(auto, unfolding(crate::specs::Page::block_entry))]
-fn push_block_entry(
-    out: &mut Vec<u8>,
-    timer: &mut Timer,
-    number: usize,
-    block: &Block,
-    found: &Found,
-) -> Result<(), AllocError>
-    requires { found.now.order.block ≡ instrs_of block.now }
-    ensures profile { timer.new ≡ timer.old }
-    ensures text { OnOk result (out.new.items ≡ out.old.items ++ block_entry timer.old number block.now found.now) }
-{
-    let source = timer.time(block, &Order::source(block));
-    let best = timer.time(block, found.order);
-    push_block(out, number, block, &source, &best, found.bound)
-}
-
-/// The list of blocks, before which so many come.
-fn push_index(
-    out: &mut Vec<u8>,
-    timer: &mut Timer,
-    before: usize,
-    blocks: &[Block],
-    found: &[Found],
-) -> Result<(), AllocError>
-    requires before { before < 2 ^ 32 }
-    requires found { AreOf blocks.now found.now }
-    ensures profile { timer.new ≡ timer.old }
-    ensures text { OnOk result (out.new.items ≡ out.old.items ++ entries (index_entry timer.old) before blocks.now found.now) }
-{
-    let mut blocks = blocks;
-    let mut found = found;
-    let mut number = before;
-    while let [block, more @ ..] = blocks {
-        let [one, others @ ..] = found else {
-            return Ok(());
-        };
-        number += 1;
-        push_index_entry(out, timer, number, block, one)?;
-        blocks = more;
-        found = others;
+    match part {
+        Part::Row => push_index_row(out, number, block, &source, &best, found.bound),
+        Part::Orders => push_block(out, number, block, &source, &best, found.bound),
     }
-    Ok(())
 }
 
-/// The blocks, before which so many come.
-fn push_blocks(
+/// A part of each block, before which so many come.
+fn push_entries(
     out: &mut Vec<u8>,
     timer: &mut Timer,
+    part: Part,
     before: usize,
     blocks: &[Block],
     found: &[Found],
@@ -87,7 +53,7 @@ fn push_blocks(
     requires before { before < 2 ^ 32 }
     requires found { AreOf blocks.now found.now }
     ensures profile { timer.new ≡ timer.old }
-    ensures text { OnOk result (out.new.items ≡ out.old.items ++ entries (block_entry timer.old) before blocks.now found.now) }
+    ensures text { OnOk result (out.new.items ≡ out.old.items ++ entries (entry part timer.old) before blocks.now found.now) }
 {
     let mut blocks = blocks;
     let mut found = found;
@@ -97,7 +63,7 @@ fn push_blocks(
             return Ok(());
         };
         number += 1;
-        push_block_entry(out, timer, number, block, one)?;
+        push_entry(out, timer, part, number, block, one)?;
         blocks = more;
         found = others;
     }
@@ -122,7 +88,7 @@ pub fn push_page(
     ensures text { OnOk result (out.new.items ≡ out.old.items ++ page_text timer.old before blocks.now found.now) }
 {
     push_text(out, PAGE_START)?;
-    push_index(out, timer, before, blocks, found)?;
+    push_entries(out, timer, Part::Row, before, blocks, found)?;
     push_text(out, b"</table>\n")?;
-    push_blocks(out, timer, before, blocks, found)
+    push_entries(out, timer, Part::Orders, before, blocks, found)
 }

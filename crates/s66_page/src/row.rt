@@ -3,7 +3,7 @@ ghost use Rattle.s66_line.specs.Block.{bytes_of, instrs_of};
 ghost use Rattle.s66_model.specs.Timing.{points_of};
 ghost use Rattle.s66_time.specs.TimedOrder.{point_at};
 ghost use Rattle.s66_why.specs.Why.{stretches_at};
-ghost use Rattle.s66_page.specs.Page.{arrow, row_start, row_head, row_marks, row_words, stretch_bar, stretch_words, work, instruction_rows};
+ghost use Rattle.s66_page.specs.Page.{arrow, row_start, row_head, row_marks, row_words, shown_as, work, instruction_rows};
 
 use crate::bar::{push_stretch_bar, push_stretch_words, push_work_bar};
 use crate::escape::push_escaped;
@@ -57,54 +57,41 @@ fn push_row_head(
     push_text(out, b"<td><svg>")
 }
 
-/// The bar of a stretch, if there is one.
-fn push_bar(out: &mut Vec<u8>, stretch: &Option<Stretch>) -> Result<(), AllocError>
-    ensures { OnOk result (out.new.items ≡ out.old.items ++ flat_map stretch_bar (option_to_list stretch.now)) }
+/// How a stretch is shown: by a bar, or in words.
+#[derive(Clone, Copy, Debug)]
+enum Shown {
+    Bar,
+    Words,
+}
+
+/// A stretch, if there is one.
+fn push_stretch(
+    out: &mut Vec<u8>,
+    shown: Shown,
+    stretch: &Option<Stretch>,
+) -> Result<(), AllocError>
+    ensures { OnOk result (out.new.items ≡ out.old.items ++ flat_map (shown_as shown) (option_to_list stretch.now)) }
 {
-    match stretch {
-        None => Ok(()),
-        Some(stretch) => push_stretch_bar(out, stretch),
+    match (stretch, shown) {
+        (None, _) => Ok(()),
+        (Some(stretch), Shown::Bar) => push_stretch_bar(out, stretch),
+        (Some(stretch), Shown::Words) => push_stretch_words(out, stretch),
     }
 }
 
-/// The bars of the minor cycles in which an instruction is kept back.
-fn push_bars(
+/// The minor cycles in which an instruction is kept back.
+fn push_stretches(
     out: &mut Vec<u8>,
+    shown: Shown,
     earlier: &[PlacedInstr],
     point: &PlacedInstr,
 ) -> Result<(), AllocError>
-    ensures { OnOk result (out.new.items ≡ out.old.items ++ flat_map stretch_bar (stretches_at (reverse earlier.now) point.now)) }
+    ensures { OnOk result (out.new.items ≡ out.old.items ++ flat_map (shown_as shown) (stretches_at (reverse earlier.now) point.now)) }
 {
-    push_bar(out, &first_stretch(earlier, point))?;
-    push_bar(out, &second_stretch(earlier, point))?;
+    push_stretch(out, shown, &first_stretch(earlier, point))?;
+    push_stretch(out, shown, &second_stretch(earlier, point))?;
     for write in point.row.writes.as_slice() {
-        push_bar(out, &third_stretch(earlier, point, write))?;
-    }
-    Ok(())
-}
-
-/// The words of a stretch, if there is one.
-fn push_word(out: &mut Vec<u8>, stretch: &Option<Stretch>) -> Result<(), AllocError>
-    ensures { OnOk result (out.new.items ≡ out.old.items ++ flat_map stretch_words (option_to_list stretch.now)) }
-{
-    match stretch {
-        None => Ok(()),
-        Some(stretch) => push_stretch_words(out, stretch),
-    }
-}
-
-/// The words of the minor cycles in which an instruction is kept back.
-fn push_words(
-    out: &mut Vec<u8>,
-    earlier: &[PlacedInstr],
-    point: &PlacedInstr,
-) -> Result<(), AllocError>
-    ensures { OnOk result (out.new.items ≡ out.old.items ++ flat_map stretch_words (stretches_at (reverse earlier.now) point.now)) }
-{
-    push_word(out, &first_stretch(earlier, point))?;
-    push_word(out, &second_stretch(earlier, point))?;
-    for write in point.row.writes.as_slice() {
-        push_word(out, &third_stretch(earlier, point, write))?;
+        push_stretch(out, shown, &third_stretch(earlier, point, write))?;
     }
     Ok(())
 }
@@ -121,7 +108,7 @@ fn push_row_words(
 {
     push_field(out, b"<text x='", done as usize)?;
     push_text(out, b"em' y='12' dx='2'>")?;
-    push_words(out, earlier, point)?;
+    push_stretches(out, Shown::Words, earlier, point)?;
     push_text(out, b"</text></svg>\n")
 }
 
@@ -135,7 +122,7 @@ fn push_row_marks(
 ) -> Result<(), AllocError>
     ensures { OnOk result (out.new.items ≡ out.old.items ++ row_marks (stretches_at (reverse earlier.now) point.now) work.now) }
 {
-    push_bars(out, earlier, point)?;
+    push_stretches(out, Shown::Bar, earlier, point)?;
     push_work_bar(out, work)?;
     push_row_words(out, earlier, point, work.done)
 }

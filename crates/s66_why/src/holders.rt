@@ -3,11 +3,11 @@ ghost use Rattle.s66_isa.specs.Table.{Write as WriteOf};
 ghost use Rattle.s66_why.specs.Why.{lowest, holder, nobody, soonest, first_holder, second_holder, third_holder};
 
 use crate::cause::{Cause, Holder, lower};
-use crate::placed::{Placed, readers_wait};
+use crate::placed::{PlacedInstr, readers_wait};
 use s66_isa::{Reg, Write};
 
 /// The lowest number of the earlier instructions that let go at a time; 0 if none does.
-fn lowest(earlier: &[Placed], cause: &Cause, time: u32) -> u8
+fn lowest(earlier: &[PlacedInstr], cause: &Cause, time: u32) -> u8
     ensures { result ≡ lowest cause.now time (reverse earlier.now) }
 {
     let mut number = 0;
@@ -20,7 +20,7 @@ fn lowest(earlier: &[Placed], cause: &Cause, time: u32) -> u8
 }
 
 /// The earlier instruction that lets go at a time, if one does.
-pub fn holder(earlier: &[Placed], cause: Cause, time: u32) -> Holder
+pub fn holder(earlier: &[PlacedInstr], cause: Cause, time: u32) -> Holder
     ensures { result ≡ holder cause time (reverse earlier.now) }
 {
     let number = lowest(earlier, &cause, time);
@@ -28,7 +28,7 @@ pub fn holder(earlier: &[Placed], cause: Cause, time: u32) -> Holder
 }
 
 /// The earlier instruction whose result in one of these registers is done at a time, if one is.
-fn soonest_of_registers(earlier: &[Placed], registers: &[Reg], time: u32) -> Holder
+fn soonest_of_registers(earlier: &[PlacedInstr], registers: &[Reg], time: u32) -> Holder
     ensures { result ≡ soonest nobody time (reverse earlier.now) registers.now }
 {
     let mut best = Holder::nobody();
@@ -39,7 +39,7 @@ fn soonest_of_registers(earlier: &[Placed], registers: &[Reg], time: u32) -> Hol
 }
 
 /// The earlier instruction whose result in one of the registers that are written is done at a time, if one is.
-fn soonest_of_writes(earlier: &[Placed], writes: &[Write], time: u32) -> Holder
+fn soonest_of_writes(earlier: &[PlacedInstr], writes: &[Write], time: u32) -> Holder
     ensures { result ≡ soonest nobody time (reverse earlier.now) (map (λ (w : WriteOf). w.reg) writes.now) }
 {
     let mut best = Holder::nobody();
@@ -50,7 +50,7 @@ fn soonest_of_writes(earlier: &[Placed], writes: &[Write], time: u32) -> Holder
 }
 
 /// What an instruction waits for until it issues.
-pub fn first_holder(earlier: &[Placed], point: &Placed) -> Holder
+pub fn first_holder(earlier: &[PlacedInstr], point: &PlacedInstr) -> Holder
     ensures { result ≡ first_holder (reverse earlier.now) point.now }
 {
     let result = soonest_of_writes(earlier, point.row.writes.as_slice(), point.issue);
@@ -58,7 +58,7 @@ pub fn first_holder(earlier: &[Placed], point: &Placed) -> Holder
 }
 
 /// What an instruction waits for until it starts.
-pub fn second_holder(earlier: &[Placed], point: &Placed) -> Holder
+pub fn second_holder(earlier: &[PlacedInstr], point: &PlacedInstr) -> Holder
     ensures { result ≡ second_holder (reverse earlier.now) point.now }
 {
     let result = soonest_of_registers(earlier, point.row.reads.as_slice(), point.start);
@@ -66,7 +66,7 @@ pub fn second_holder(earlier: &[Placed], point: &Placed) -> Holder
 }
 
 /// What a result waits for until it is done.
-pub fn third_holder(earlier: &[Placed], write: &Write) -> Holder
+pub fn third_holder(earlier: &[PlacedInstr], write: &Write) -> Holder
     ensures { result ≡ third_holder (reverse earlier.now) write.now }
 {
     holder(

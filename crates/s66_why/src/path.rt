@@ -5,7 +5,7 @@ ghost use Rattle.s66_why.specs.Why.{before_issue, before_start, decides, before,
 
 use crate::cause::{Cause, Holder};
 use crate::holders::{first_holder, holder, second_holder, third_holder};
-use crate::placed::{Placed, readers_wait};
+use crate::placed::{PlacedInstr, readers_wait};
 use crate::stretch::slot;
 use arrayvec::ArrayVec;
 use s66_isa::{BLOCK_LIMIT, Write, is_same_register};
@@ -20,7 +20,7 @@ pub enum Link {
 }
 
 /// What an instruction waited for last until it issued.
-fn before_issue(earlier: &[Placed], point: &Placed) -> Link
+fn before_issue(earlier: &[PlacedInstr], point: &PlacedInstr) -> Link
     ensures { result ≡ before_issue (reverse earlier.now) point.now }
 {
     if slot(earlier, point) < point.issue {
@@ -31,7 +31,7 @@ fn before_issue(earlier: &[Placed], point: &Placed) -> Link
 }
 
 /// What an instruction waited for last until it started.
-fn before_start(earlier: &[Placed], point: &Placed) -> Link
+fn before_start(earlier: &[PlacedInstr], point: &PlacedInstr) -> Link
     ensures { result ≡ before_start (reverse earlier.now) point.now }
 {
     if point.issue < point.start {
@@ -42,7 +42,7 @@ fn before_start(earlier: &[Placed], point: &Placed) -> Link
 }
 
 /// Whether an instruction lets go when this result of it is done.
-fn decides(cause: &Cause, point: &Placed, write: &Write) -> bool
+fn decides(cause: &Cause, point: &PlacedInstr, write: &Write) -> bool
     ensures { result ≡ decides cause.now point.now write.now }
 {
     let done = point.done_at(write.reg);
@@ -59,7 +59,7 @@ fn decides(cause: &Cause, point: &Placed, write: &Write) -> bool
 }
 
 /// Whether this result is held for a reader.
-fn is_held(earlier: &[Placed], point: &Placed, write: &Write) -> bool
+fn is_held(earlier: &[PlacedInstr], point: &PlacedInstr, write: &Write) -> bool
     ensures { result ≡ is_held (reverse earlier.now) point.now write.now }
 {
     let made = point.start as usize + write.latency as usize;
@@ -67,7 +67,7 @@ fn is_held(earlier: &[Placed], point: &Placed, write: &Write) -> bool
 }
 
 /// What an instruction waited for last until it let go for this cause.
-fn before(cause: &Cause, earlier: &[Placed], point: &Placed) -> Link
+fn before(cause: &Cause, earlier: &[PlacedInstr], point: &PlacedInstr) -> Link
     ensures { result ≡ before cause.now (reverse earlier.now) point.now point.now.row.writes }
 {
     for write in point.row.writes.as_slice() {
@@ -79,7 +79,7 @@ fn before(cause: &Cause, earlier: &[Placed], point: &Placed) -> Link
 }
 
 /// Whether an instruction is where the link leads.
-fn is_linked(link: &Link, earlier: &[Placed], point: &Placed) -> bool
+fn is_linked(link: &Link, earlier: &[PlacedInstr], point: &PlacedInstr) -> bool
     ensures { result ≡ is_linked link.now (reverse earlier.now) point.now }
 {
     match link {
@@ -89,7 +89,7 @@ fn is_linked(link: &Link, earlier: &[Placed], point: &Placed) -> bool
 }
 
 /// The link from an instruction to which a link led.
-fn next_link(link: &Link, earlier: &[Placed], point: &Placed) -> Link
+fn next_link(link: &Link, earlier: &[PlacedInstr], point: &PlacedInstr) -> Link
     ensures { result ≡ next_link link.now (reverse earlier.now) point.now }
 {
     match link {
@@ -99,7 +99,7 @@ fn next_link(link: &Link, earlier: &[Placed], point: &Placed) -> Link
 }
 
 /// The numbers of the instructions from a link on, the latest first. Each of these looks back over those before it.
-fn walk(link: Link, points: &[Placed]) -> ArrayVec<u8, BLOCK_LIMIT>
+fn walk(link: Link, points: &[PlacedInstr]) -> ArrayVec<u8, BLOCK_LIMIT>
     requires { length points.now ≤ BLOCK_LIMIT }
     ensures { result.items ≡ walk link (reverse points.now) }
 {
@@ -118,7 +118,7 @@ fn walk(link: Link, points: &[Placed]) -> ArrayVec<u8, BLOCK_LIMIT>
 }
 
 /// The path to the instruction that ends last, the latest first, if the order ends then.
-pub fn path(points: &[Placed], end: u32) -> ArrayVec<u8, BLOCK_LIMIT>
+pub fn path_from_end(points: &[PlacedInstr], end: u32) -> ArrayVec<u8, BLOCK_LIMIT>
     requires few { length points.now ≤ BLOCK_LIMIT }
     requires end { end ≡ total (reverse points.now) }
     ensures { reverse result.items ≡ path (reverse points.now) }

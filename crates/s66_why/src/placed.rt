@@ -54,7 +54,7 @@ impl ResultAt {
 
 /// An instruction at its place in a timed order: its parcel from 0, and its times in minor cycles.
 #[derive(Debug, Drop)]
-pub struct Placed {
+pub struct PlacedInstr {
     pub number: u8,
     pub row: Row,
     pub parcel: u32,
@@ -68,7 +68,7 @@ pub struct Placed {
     pub reads: Registers,
 }
 
-impl Model for Placed {
+impl Model for PlacedInstr {
     ghost use Rattle.s66_model.specs.Timing.{Point};
     ghost use Rattle.s66_why.specs.KeptPoints.{IsKept};
 
@@ -79,12 +79,12 @@ impl Model for Placed {
     ghost invariant = { λ p. IsKept p.row p.parcel p.issue p.start p.results.items p.last p.reads };
 }
 
-impl Default for Placed {
+impl Default for PlacedInstr {
     /// A blank: a list makes one for each place that isn't taken.
-    fn default() -> Placed {
+    fn default() -> PlacedInstr {
         let row = Row::default();
         let reads = Registers::of(row.reads.as_slice());
-        Placed {
+        PlacedInstr {
             number: 0,
             row,
             parcel: 0,
@@ -98,7 +98,7 @@ impl Default for Placed {
     }
 }
 
-impl Placed {
+impl PlacedInstr {
     /// When its result in a register is done; 0 if it has none.
     pub fn done_at(&self, register: Reg) -> u32
         ensures { result ≡ done_at self.now register }
@@ -141,7 +141,7 @@ impl Placed {
 }
 
 /// One minor cycle after the last start of a register's readers; 0 if there is none.
-pub fn readers_wait(earlier: &[Placed], register: Reg) -> u32
+pub fn readers_wait(earlier: &[PlacedInstr], register: Reg) -> u32
     ensures value { result ≡ readers_wait (reverse earlier.now) register }
     ensures at_most { result ≤ TOTAL_LIMIT + 1 }
 {

@@ -5,13 +5,13 @@ ghost use Rattle.s66_model.specs.Timing.{points_of, result_at};
 ghost use Rattle.s66_time.specs.TimedOrder.{point_at};
 ghost use Rattle.s66_time.specs.declared.limits.TheConstants.{TOTAL_LIMIT};
 
-use crate::placed::{Placed, ResultAt, last_of, readers_wait};
+use crate::placed::{PlacedInstr, ResultAt, last_of, readers_wait};
 use arrayvec::ArrayVec;
 use s66_isa::{BLOCK_LIMIT, Registers, Row};
 use s66_time::Timed;
 
 /// When each result is done of an instruction that starts then after the earlier ones.
-fn results(earlier: &[Placed], row: &Row, start: u32) -> ArrayVec<ResultAt, 2>
+fn results(earlier: &[PlacedInstr], row: &Row, start: u32) -> ArrayVec<ResultAt, 2>
     requires { start ≤ TOTAL_LIMIT }
     ensures { result.items ≡ map (result_at (reverse earlier.now) start) row.now.writes }
 {
@@ -28,7 +28,7 @@ fn results(earlier: &[Placed], row: &Row, start: u32) -> ArrayVec<ResultAt, 2>
 }
 
 /// The instruction at a position, after the earlier ones.
-fn placed(timed: &Timed, position: usize, earlier: &[Placed]) -> Placed
+fn placed(timed: &Timed, position: usize, earlier: &[PlacedInstr]) -> PlacedInstr
     requires position { position < length timed.now.numbers }
     requires earlier { earlier.now ≡ reverse (points_of timed.now.problem (take position timed.now.numbers)) }
     ensures { result ≡ point_at timed.now position }
@@ -40,7 +40,7 @@ fn placed(timed: &Timed, position: usize, earlier: &[Placed]) -> Placed
     let results = results(earlier, &row, times.start);
     let last = last_of(results.as_slice());
     let reads = Registers::of(row.reads.as_slice());
-    Placed {
+    PlacedInstr {
         number,
         row,
         parcel: times.parcel,
@@ -54,7 +54,7 @@ fn placed(timed: &Timed, position: usize, earlier: &[Placed]) -> Placed
 }
 
 /// The instructions of a timed order, in order. Each looks back over those before it.
-pub fn points_of(timed: &Timed) -> ArrayVec<Placed, BLOCK_LIMIT>
+pub fn points_of(timed: &Timed) -> ArrayVec<PlacedInstr, BLOCK_LIMIT>
     ensures { result.items ≡ reverse (points_of timed.now.problem timed.now.numbers) }
 {
     let mut points = ArrayVec::new();

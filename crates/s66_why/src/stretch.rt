@@ -3,7 +3,7 @@ ghost use Rattle.s66_why.specs.Why.{slot, first_stretch, second_stretch, third_s
 
 use crate::cause::Holder;
 use crate::holders::{first_holder, second_holder, third_holder};
-use crate::placed::{Placed, readers_wait};
+use crate::placed::{PlacedInstr, readers_wait};
 use s66_isa::Write;
 
 /// Thornton's orders of conflict.
@@ -41,7 +41,7 @@ impl Default for Stretch {
 }
 
 /// The minor cycle in which an instruction issues if it waits only for the parcels before it.
-pub fn slot(earlier: &[Placed], point: &Placed) -> u32
+pub fn slot(earlier: &[PlacedInstr], point: &PlacedInstr) -> u32
     ensures { result ≡ slot (reverse earlier.now) point.now }
 {
     match earlier.last() {
@@ -51,7 +51,7 @@ pub fn slot(earlier: &[Placed], point: &Placed) -> u32
 }
 
 /// For how long an instruction can't issue, if its slot is past.
-pub fn first_stretch(earlier: &[Placed], point: &Placed) -> Option<Stretch>
+pub fn first_stretch(earlier: &[PlacedInstr], point: &PlacedInstr) -> Option<Stretch>
     ensures { option_to_list result ≡ first_stretch (reverse earlier.now) point.now }
 {
     let from = slot(earlier, point);
@@ -70,7 +70,7 @@ pub fn first_stretch(earlier: &[Placed], point: &Placed) -> Option<Stretch>
 }
 
 /// For how long an instruction that has issued can't start, if it waits.
-pub fn second_stretch(earlier: &[Placed], point: &Placed) -> Option<Stretch>
+pub fn second_stretch(earlier: &[PlacedInstr], point: &PlacedInstr) -> Option<Stretch>
     ensures { option_to_list result ≡ second_stretch (reverse earlier.now) point.now }
 {
     let from = point.issue;
@@ -89,7 +89,7 @@ pub fn second_stretch(earlier: &[Placed], point: &Placed) -> Option<Stretch>
 }
 
 /// For how long this result of an instruction is held, if it is.
-pub fn third_stretch(earlier: &[Placed], point: &Placed, write: &Write) -> Option<Stretch>
+pub fn third_stretch(earlier: &[PlacedInstr], point: &PlacedInstr, write: &Write) -> Option<Stretch>
     requires { write.now.latency ≤ 100 }
     ensures { option_to_list result ≡ third_stretch (reverse earlier.now) point.now write.now }
 {

@@ -8,8 +8,8 @@ ghost use Rattle.s66_why.specs.declared.stretch.Conflict.{Conflict as ConflictOf
 
 use crate::cause::Cause;
 use crate::lost::Lost;
-use crate::path::path;
-use crate::placed::Placed;
+use crate::path::path_from_end;
+use crate::placed::PlacedInstr;
 use crate::points::points_of;
 use crate::stretch::{Conflict, Stretch, first_stretch, second_stretch, third_stretch};
 use itoa::Buffer;
@@ -127,8 +127,8 @@ fn push_stretch(
 fn push_lines(
     out: &mut Vec<u8>,
     sums: &mut Lost,
-    earlier: &[Placed],
-    point: &Placed,
+    earlier: &[PlacedInstr],
+    point: &PlacedInstr,
 ) -> Result<(), AllocError>
     requires { AreAtMost (2 ^ 62) sums.old }
     ensures lines { OnOk result (out.new.items ≡ out.old.items ++ flat_map stretch_line (stretches_at (reverse earlier.now) point.now)) }
@@ -144,7 +144,7 @@ fn push_lines(
 }
 
 /// The lines of all instructions, and for how long they were kept back.
-fn push_all_lines(out: &mut Vec<u8>, points: &[Placed]) -> Result<Lost, AllocError>
+fn push_all_lines(out: &mut Vec<u8>, points: &[PlacedInstr]) -> Result<Lost, AllocError>
     requires { length points.now ≤ BLOCK_LIMIT }
     ensures lines { OnOk result (out.new.items ≡ out.old.items ++ flat_map stretch_line (stretches (reverse points.now))) }
     ensures sums { (conflict : ConflictOf) → IfOk result (λ sums. sum_of sums conflict ≡ lost conflict (stretches (reverse points.now))) }
@@ -195,6 +195,6 @@ pub fn push_why(out: &mut Vec<u8>, timed: &Timed) -> Result<(), AllocError>
     let points = points_of(timed);
     let points = points.as_slice();
     let sums = push_all_lines(out, points)?;
-    push_path_line(out, path(points, timed.total()).as_slice())?;
+    push_path_line(out, path_from_end(points, timed.total()).as_slice())?;
     push_lost_line(out, &sums)
 }

@@ -18,7 +18,7 @@ returns c =
     c.in_ok-sums.ensures.lines ∙ ap (λ (u : List Point). out ++ flat_map stretch_line (stretches u)) points in
     let second : c.push_path_line.new.out.items ≡ c.push_all_lines.new.out.items ++ path_line (path s) =
     c.in_ok-push_path_line.ensures ∙ ap (λ (ns : List ℕ). c.push_all_lines.new.out.items ++ path_line (reverse ns)) c.as_slice.ensures.value
-    ∙ ap (λ (ns : List ℕ). c.push_all_lines.new.out.items ++ path_line ns) (c.path.ensures ∙ ap path points) in
+    ∙ ap (λ (ns : List ℕ). c.push_all_lines.new.out.items ++ path_line ns) (c.path_from_end.ensures ∙ ap path points) in
     let sums : sums_line c.in_ok-sums.sums ≡ lost_line (stretches s) =
     line-of-sums c.in_ok-sums.sums (stretches s) (λ conflict. c.in_ok-sums.ensures.sums conflict ∙ ap (λ (u : List Point). lost conflict (stretches u)) points) in
     let ended : OnOk c.push_lost_line.result (c.push_lost_line.new.out.items ≡ c.push_path_line.new.out.items ++ sums_line c.in_ok-sums.sums) = c.push_lost_line.ensures in

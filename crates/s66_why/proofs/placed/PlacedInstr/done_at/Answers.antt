@@ -2,7 +2,7 @@ use Rattle.std.proofs.Common.{if◌then◌else◌, arith}
 use Rattle.s66_isa.specs.Table.{same_reg}
 use Rattle.s66_model.specs.Timing.{ResultAt}
 use Rattle.s66_time.proofs.Loops.{greatest_more}
-use Rattle.s66_why.proofs.placed.Placed.done_at.Goals as goal
+use Rattle.s66_why.proofs.placed.PlacedInstr.done_at.Goals as goal
 
 pub loop-made-preserved : goal.loop-made-preserved
 loop-made-preserved c =

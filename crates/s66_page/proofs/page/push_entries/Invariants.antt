@@ -1,11 +1,11 @@
 use Rattle.std.proofs.Common.{◌≡◌, ◌+◌, ◌++◌, length}
 use Rattle.s66_page.specs.Found.{AreOf}
-use Rattle.s66_page.specs.Page.{entries, block_entry}
-use Rattle.s66_page.proofs.page.push_blocks.Given as goal
+use Rattle.s66_page.specs.Page.{entries, entry}
+use Rattle.s66_page.proofs.page.push_entries.Given as goal
 
 abbrev pub invariant-loop-blocks : goal.invariant-loop-blocks
 invariant-loop-blocks l = record {
-  text : l.out.items ++ entries (block_entry l.fn.timer) l.number l.blocks l.found ≡ l.fn.out.items ++ entries (block_entry l.fn.timer) l.fn.before l.fn.blocks l.fn.found;
+  text : l.out.items ++ entries (entry l.fn.part l.fn.timer) l.number l.blocks l.found ≡ l.fn.out.items ++ entries (entry l.fn.part l.fn.timer) l.fn.before l.fn.blocks l.fn.found;
   profile : l.timer ≡ l.fn.timer;
   orders : AreOf l.blocks l.found;
   number : l.number + length l.blocks ≡ l.fn.before + length l.fn.blocks;

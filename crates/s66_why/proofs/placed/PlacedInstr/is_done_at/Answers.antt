@@ -3,7 +3,7 @@ use Rattle.std.proofs.lemmas.Bool.{lt-leb, ne_eqb}
 use Rattle.s66_isa.specs.Lists.{greatest}
 use Rattle.s66_model.specs.Timing.{Point, ResultAt, done_at}
 use Rattle.s66_why.proofs.Last.{done-le-last}
-use Rattle.s66_why.proofs.placed.Placed.is_done_at.Goals as goal
+use Rattle.s66_why.proofs.placed.PlacedInstr.is_done_at.Goals as goal
 
 pub returns-else-time-self : goal.returns-else-time-self
 returns-else-time-self c =
