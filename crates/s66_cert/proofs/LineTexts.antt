@@ -16,7 +16,8 @@ use Rattle.s66_model.specs.declared.rule.Rule.TheVariants.{NoneNamed, WrittenEar
 use Rattle.s66_model.specs.Leaves.{Whole, Chain, Load, Parcels}
 use Rattle.s66_model.specs.Tree.{AtTerminal, AtSplit}
 use Rattle.s66_model.specs.DominatedLeaves.{Bounding, Dominated}
-use Rattle.s66_cert.specs.Document.{AreIn, AreNumbers, kind_name, version}
+use Rattle.s66_cert.specs.Document.{AreIn, AreNumbers, version}
+use Rattle.s66_isa.specs.KindNames.{kind_name}
 use Rattle.s66_isa.specs.declared.limits.TheConstants.{PROFILE_LENGTH, PROFILE_LIMIT}
 use Rattle.s66_cert.specs.declared.limits.TheConstants.{TIME_LIMIT}
 use Rattle.s66_cert.specs.Lines.{DocumentLine, Header, Profile, Block, Instruction, Time, Bound, Order, OfTree, End, line_bytes, IsLineInRange, first_word, after_first_word, words_in, numbers_in, number_in, if_count, block_numbers, one_number, is_instruction_text, instruction_in, kind_in, alone, header_in, line_with, line_read}

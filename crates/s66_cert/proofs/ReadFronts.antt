@@ -12,7 +12,8 @@ use Rattle.s66_line.specs.InstructionText.{IsInstruction}
 use Rattle.s66_line.proofs.InstructionTexts.{instruction}
 use Rattle.s66_cert.specs.Document.{Document, IsDocumentWithin, text_before_end, documents_text, has_dominated, names_nodes}
 use Rattle.s66_cert.specs.Examples.{standard_numbers}
-use Rattle.s66_cert.specs.Faults.{HaveNoNewline, with_newlines, IsOpenWithin, BeginsWithin}
+use Rattle.s66_cert.specs.Faults.{HaveNoNewline, IsOpenWithin, BeginsWithin}
+use Rattle.s66_line.specs.Fields.{with_newlines}
 use Rattle.s66_cert.specs.Fine.{HasTree, IsPart}
 use Rattle.s66_cert.specs.Lines.{DocumentLine, Header, Profile, Block, Instruction, Time, Bound, Order, OfTree, line_bytes, IsLineInRange}
 use Rattle.s66_cert.specs.DocumentParts.{Parts, document_of}

@@ -4,7 +4,8 @@ use Rattle.std.proofs.lemmas.List.{append-nil}
 use Rattle.std.specs.Prelude.{Ok}
 use Rattle.s66_cert.specs.Document.{Document, IsTextWithin}
 use Rattle.s66_cert.proofs.DocumentLines.{documents_lines}
-use Rattle.s66_cert.specs.Faults.{HaveNoNewline, with_newlines}
+use Rattle.s66_cert.specs.Faults.{HaveNoNewline}
+use Rattle.s66_line.specs.Fields.{with_newlines}
 use Rattle.s66_cert.specs.Lines.{line_bytes}
 use Rattle.s66_cert.specs.Reading.{first_state, steps, whole_lines, last_bytes, read_within}
 use Rattle.s66_cert.proofs.TextLines.{documents-text, whole-all, last-all}

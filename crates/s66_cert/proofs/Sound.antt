@@ -12,7 +12,8 @@ use Rattle.s66_model.specs.DominatedLeaves.{Ending, Bounding}
 use Rattle.s66_line.specs.InstructionText.{IsInstruction}
 use Rattle.s66_tree.specs.Lines.{has_dominated_line}
 use Rattle.s66_cert.specs.Document.{Document, IsDocumentWithin, AreDocumentsWithin, AreNumbers, AreInstructions, IsLeafLine, SiblingsFit, TreeFits, IsTextWithin, documents_text, names_nodes}
-use Rattle.s66_cert.specs.Faults.{with_newlines, IsOpenWithin}
+use Rattle.s66_cert.specs.Faults.{IsOpenWithin}
+use Rattle.s66_line.specs.Fields.{with_newlines}
 use Rattle.s66_cert.specs.Lines.{DocumentLine, Header, Profile, Block, Instruction, Time, Bound, Order, OfTree, End, line_bytes, IsLineInRange, line_read}
 use Rattle.s66_cert.specs.DocumentParts.{Parts, document_of, tree_of_lines}
 use Rattle.s66_model.specs.Preorder.{forest, first_tree, first_siblings, later_siblings}

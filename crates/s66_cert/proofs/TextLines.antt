@@ -8,7 +8,8 @@ use Rattle.s66_model.specs.Leaves.{Whole, Chain, Load, Parcels}
 use Rattle.s66_model.specs.Tree.{Vertex, AtTerminal, AtSplit, flat}
 use Rattle.s66_model.specs.DominatedLeaves.{Ending, Bounding, Dominated}
 use Rattle.s66_cert.specs.Document.{Document, tree_lines, leaf_line, instructions_text, version, text_before_end, document_text, documents_text}
-use Rattle.s66_cert.specs.Faults.{IsLine, HaveNoNewline, with_newlines}
+use Rattle.s66_cert.specs.Faults.{IsLine, HaveNoNewline}
+use Rattle.s66_line.specs.Fields.{with_newlines}
 use Rattle.s66_cert.specs.Lines.{DocumentLine, End, line_bytes, leaf_bytes}
 use Rattle.s66_cert.specs.Reading.{whole_lines, last_bytes}
 use Rattle.s66_cert.proofs.DocumentLines.{open_lines, document_lines, documents_lines, instructions_of, vertices_of}

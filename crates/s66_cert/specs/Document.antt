@@ -1,12 +1,11 @@
 -- To be believed: certificates, and their texts.
 use Rattle.std.specs.Prelude.{◌≡◌, ℕ, Bool, true, false, List, [], ◌∷◌, ◌++◌, ◌≤◌, codes, decimal, length}
-use Rattle.s66_isa.specs.declared.instr.Kind.{Kind}
-use Rattle.s66_isa.specs.declared.instr.Kind.TheVariants.{Boolean, Shift, Add, LongAdd, Multiply, Divide, Increment}
 use Rattle.s66_model.specs.declared.rule.Rule.{Rule}
 use Rattle.s66_model.specs.declared.rule.Rule.TheVariants.{NoneNamed, WrittenEarlier, ClampedStanding}
 use Rattle.s66_model.specs.Leaves.{Whole, Chain, Load, Parcels}
 use Rattle.s66_model.specs.Tree.{Tree, Alone, Parted, Siblings, NoMore, Unsplit, Split, Vertex, AtTerminal, AtSplit, flat, splits}
 use Rattle.s66_model.specs.DominatedLeaves.{Ending, Bounding, Dominated}
+use Rattle.s66_isa.specs.KindNames.{kind_name}
 use Rattle.s66_isa.specs.Lists.{after_blanks}
 use Rattle.s66_line.specs.InstructionText.{IsInstruction}
 use Rattle.s66_isa.specs.declared.limits.TheConstants.{PROFILE_LENGTH, PROFILE_LIMIT}
@@ -88,15 +87,6 @@ abbrev pub IsDocument : ℕ → Document → Type 0
 IsDocument limit d = IsDocumentWithin limit SPLIT_LIMIT d
 
 -- THE TEXT
-
-abbrev pub kind_name : Kind → List ℕ
-kind_name Boolean = codes "BOOLEAN"
-kind_name Shift = codes "SHIFT"
-kind_name Add = codes "ADD"
-kind_name LongAdd = codes "LONGADD"
-kind_name Multiply = codes "MULTIPLY"
-kind_name Divide = codes "DIVIDE"
-kind_name Increment = codes "INCREMENT"
 
 abbrev pub leaf_line : Ending → List ℕ
 leaf_line (Bounding Whole) = codes "T\n"

@@ -3,6 +3,7 @@ use Rattle.std.specs.Prelude.{◌≡◌, ◌⊎◌, ◌+◌, ◌==◌, ℕ, true
 use Rattle.s66_isa.specs.Lists.{every}
 use Rattle.s66_isa.specs.declared.limits.TheConstants.{BLOCK_LIMIT}
 use Rattle.s66_model.specs.declared.rule.Rule.TheVariants.{NoneNamed}
+use Rattle.s66_line.specs.Fields.{with_newlines}
 use Rattle.s66_cert.specs.Document.{Document, IsDocumentWithin, AreDocumentsWithin, IsText, text_before_end, documents_text}
 use Rattle.s66_cert.specs.declared.limits.TheConstants.{SPLIT_LIMIT}
 use Rattle.s66_cert.specs.declared.error.CertError.{CertError}
@@ -15,11 +16,6 @@ IsLine line = every (λ b. not (b == 10)) line ≡ true
 abbrev pub HaveNoNewline : List (List ℕ) → Type 0
 HaveNoNewline [] = Unit {0}
 HaveNoNewline (line ∷ lines) = IsLine line × HaveNoNewline lines
-
--- each line with its newline
-abbrev pub with_newlines : List (List ℕ) → List ℕ
-with_newlines [] = []
-with_newlines (line ∷ lines) = line ++ 10 ∷ with_newlines lines
 
 -- a document whose last line is still to come: until then the dominated leaf that its rule requires may be missing
 abbrev pub IsOpenWithin : ℕ → ℕ → Document → Type 0

@@ -3,14 +3,14 @@ ghost use Rattle.s66_isa.specs.Lists.{after_blanks};
 ghost use Rattle.s66_isa.specs.declared.limits.TheConstants.{BLOCK_LIMIT};
 ghost use Rattle.s66_line.specs.declared.limits.TheConstants.{TEXT_LIMIT};
 ghost use Rattle.s66_model.specs.Tree.{AtTerminal, Vertex};
-ghost use Rattle.s66_cert.specs.Document.{kind_name, instructions_text, tree_lines};
+ghost use Rattle.s66_cert.specs.Document.{instructions_text, tree_lines};
 ghost use Rattle.s66_cert.specs.Pages.{Printed};
 ghost use Rattle.s66_tree.specs.Lines.{vertex_of, IsShort};
 
 use arrayvec::ArrayVec;
 use itoa::Buffer;
 use s66_device::{Sink, WriteError, write_all};
-use s66_isa::{BLOCK_LIMIT, Kind};
+use s66_isa::{BLOCK_LIMIT, kind_name};
 use s66_tree::TreeLine;
 use std::marker::Model;
 
@@ -171,20 +171,5 @@ impl Page {
             return Ok(());
         }
         self.write(writer)
-    }
-}
-
-/// The name of a kind of unit, in upper case.
-fn kind_name(kind: Kind) -> &'static [u8]
-    ensures { result.now ≡ kind_name kind }
-{
-    match kind {
-        Kind::Boolean => b"BOOLEAN",
-        Kind::Shift => b"SHIFT",
-        Kind::Add => b"ADD",
-        Kind::LongAdd => b"LONGADD",
-        Kind::Multiply => b"MULTIPLY",
-        Kind::Divide => b"DIVIDE",
-        Kind::Increment => b"INCREMENT",
     }
 }

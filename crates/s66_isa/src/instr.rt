@@ -1,6 +1,7 @@
 ghost use Rattle.std.specs.Prelude.{◌≡◌, ◌+◌, ◌<◌, ◌≤◌, ◌++◌, [], ◌∷◌, ℕ, map};
 ghost use Rattle.arrayvec.specs.ArrayVec.{array_vec_len};
 ghost use Rattle.s66_isa.specs.declared.instr.TheConstants.{KIND_COUNT};
+ghost use Rattle.s66_isa.specs.KindNames.{kind_name};
 ghost use Rattle.s66_isa.specs.Table.{insert, kind_number, same_kind, memory_pair, a_reg, b_reg, x_reg, idle_instr};
 
 use crate::op::Op;
@@ -58,6 +59,21 @@ pub enum Operands {
     XjBk,
     AjBk,
     BjBk,
+}
+
+/// The name of a kind in text, in upper case.
+pub fn kind_name(kind: Kind) -> &'static [u8]
+    ensures { result.now ≡ kind_name kind }
+{
+    match kind {
+        Kind::Boolean => b"BOOLEAN",
+        Kind::Shift => b"SHIFT",
+        Kind::Add => b"ADD",
+        Kind::LongAdd => b"LONGADD",
+        Kind::Multiply => b"MULTIPLY",
+        Kind::Divide => b"DIVIDE",
+        Kind::Increment => b"INCREMENT",
+    }
 }
 
 /// The number of a kind, from 0.

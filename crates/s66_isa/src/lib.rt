@@ -11,7 +11,8 @@ mod row;
 mod write;
 
 pub use instr::{
-    Instr, KIND_COUNT, KINDS, Kind, Memory, Operands, is_memory_conflict, is_same_kind, kind_number,
+    Instr, KIND_COUNT, KINDS, Kind, Memory, Operands, is_memory_conflict, is_same_kind, kind_name,
+    kind_number,
 };
 pub use limits::{BLOCK_LIMIT, PROFILE_LENGTH, PROFILE_LIMIT};
 pub use op::Op;

@@ -13,7 +13,8 @@ use Rattle.s66_why.specs.declared.cause.Cause.{Cause}
 use Rattle.s66_why.specs.declared.cause.Cause.TheVariants.{Writes, Takes, References, Reads, Ends}
 use Rattle.s66_why.specs.declared.cause.Holder.{Holder}
 use Rattle.s66_why.specs.declared.stretch.Stretch.{Stretch}
-use Rattle.s66_why.specs.Why.{bank_name, conflict_name, kind_name, in_three, path, stretches_at, why_text}
+use Rattle.s66_why.specs.Why.{bank_name, conflict_name, in_three, path, stretches_at, why_text}
+use Rattle.s66_isa.specs.KindNames.{kind_name}
 use Rattle.s66_page.specs.declared.work.Work.{Work}
 use Rattle.s66_page.specs.declared.row.Shown.{Shown}
 use Rattle.s66_page.specs.declared.row.Shown.TheVariants.{Bar, Words}

@@ -1,12 +1,13 @@
 ghost use Rattle.std.specs.Prelude.{◌≡◌, ◌-◌, ◌++◌, OnOk, codes, decimal};
 ghost use Rattle.s66_page.specs.Page.{bar, bar_start, span, cause_words, words, stretch_title, stretch_bar, stretch_words, work_title, work_bar};
-ghost use Rattle.s66_why.specs.Why.{bank_name, kind_name};
+ghost use Rattle.s66_why.specs.Why.{bank_name};
+ghost use Rattle.s66_isa.specs.KindNames.{kind_name};
 
 use crate::text::{push_number, push_text};
 use crate::work::Work;
 use s66_device::push_field;
-use s66_isa::{Kind, Reg};
-use s66_why::{Cause, Holder, Stretch, bank_name, conflict_name, kind_name};
+use s66_isa::{Kind, Reg, kind_name};
+use s66_why::{Cause, Holder, Stretch, bank_name, conflict_name};
 use std::alloc::AllocError;
 
 /// The end of a bar, after its title.

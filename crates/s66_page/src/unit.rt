@@ -8,8 +8,7 @@ use crate::bar::{BAR_END, push_bar_start};
 use crate::text::{push_number, push_text, push_two};
 use crate::work::Work;
 use arrayvec::ArrayVec;
-use s66_isa::{BLOCK_LIMIT, Kind, is_same_kind};
-use s66_why::kind_name;
+use s66_isa::{BLOCK_LIMIT, Kind, is_same_kind, kind_name};
 use std::alloc::AllocError;
 
 /// The instructions whose units are of a kind.

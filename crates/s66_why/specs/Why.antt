@@ -1,9 +1,8 @@
 -- To be believed: for how long each instruction of a timed order is kept back and what holds it, and the chain of waits that its time comes from.
 use Rattle.std.specs.Prelude.{ℕ, ◌+◌, ◌-◌, Bool, false, if◌then◌else◌, ◌&&◌, ◌||◌, ◌==◌, not, min, List, [], ◌∷◌, ◌++◌, codes, decimal, flat_map, length, map, nat_lt, replicate, reverse}
+use Rattle.s66_isa.specs.KindNames.{kind_name}
 use Rattle.s66_isa.specs.Lists.{after_blanks, weigh}
 use Rattle.s66_isa.specs.Table.{Reg, Write, same_reg, same_kind, has_reg, memory_pair}
-use Rattle.s66_isa.specs.declared.instr.Kind.{Kind}
-use Rattle.s66_isa.specs.declared.instr.Kind.TheVariants.{Boolean, Shift, Add, LongAdd, Multiply, Divide, Increment}
 use Rattle.s66_isa.specs.declared.reg.Bank.{Bank}
 use Rattle.s66_isa.specs.declared.reg.Bank.TheVariants.{A, B, X}
 use Rattle.s66_model.specs.Timing.{Point, done_at, end_of, points_of, readers_wait, total}
@@ -146,15 +145,6 @@ abbrev pub path : List Point → List ℕ
 path s = reverse (walk (Held (holder Ends (total s) s)) s)
 
 -- WHAT IS WRITTEN
-
-abbrev pub kind_name : Kind → List ℕ
-kind_name Boolean = codes "BOOLEAN"
-kind_name Shift = codes "SHIFT"
-kind_name Add = codes "ADD"
-kind_name LongAdd = codes "LONGADD"
-kind_name Multiply = codes "MULTIPLY"
-kind_name Divide = codes "DIVIDE"
-kind_name Increment = codes "INCREMENT"
 
 abbrev pub bank_name : Bank → List ℕ
 bank_name A = codes "A"

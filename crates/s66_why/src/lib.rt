@@ -19,4 +19,4 @@ pub use path::path_from_end;
 pub use placed::{PlacedInstr, ResultAt};
 pub use points::points_of;
 pub use stretch::{Conflict, Stretch, first_stretch, second_stretch, third_stretch};
-pub use text::{bank_name, conflict_name, kind_name, push_in_three, push_why};
+pub use text::{bank_name, conflict_name, push_in_three, push_why};

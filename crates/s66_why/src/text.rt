@@ -2,7 +2,7 @@ ghost use Rattle.std.specs.Prelude.{ℕ, List, ◌≡◌, ◌≤◌, ◌<◌, �
 ghost use Rattle.s66_isa.specs.declared.limits.TheConstants.{BLOCK_LIMIT};
 ghost use Rattle.s66_isa.specs.Lists.{after_blanks};
 ghost use Rattle.s66_model.specs.Timing.{total};
-ghost use Rattle.s66_why.specs.Why.{kind_name, bank_name, register_text, cause_text, conflict_name, in_three, stretch_line, path, path_line, lost, stretches_at, stretches, text_of_points, why_text};
+ghost use Rattle.s66_why.specs.Why.{bank_name, register_text, cause_text, conflict_name, in_three, stretch_line, path, path_line, lost, stretches_at, stretches, text_of_points, why_text};
 ghost use Rattle.s66_why.specs.Sums.{sum_of, sums_line, AreAtMost};
 ghost use Rattle.s66_why.specs.declared.stretch.Conflict.{Conflict as ConflictOf};
 
@@ -14,24 +14,9 @@ use crate::points::points_of;
 use crate::stretch::{Conflict, Stretch, first_stretch, second_stretch, third_stretch};
 use itoa::Buffer;
 use s66_device::push_field;
-use s66_isa::{Bank, Kind, Reg};
+use s66_isa::{Bank, Reg, kind_name};
 use s66_time::Timed;
 use std::alloc::AllocError;
-
-/// The name of a kind of unit.
-pub fn kind_name(kind: Kind) -> &'static [u8]
-    ensures { result.now ≡ kind_name kind }
-{
-    match kind {
-        Kind::Boolean => b"BOOLEAN",
-        Kind::Shift => b"SHIFT",
-        Kind::Add => b"ADD",
-        Kind::LongAdd => b"LONGADD",
-        Kind::Multiply => b"MULTIPLY",
-        Kind::Divide => b"DIVIDE",
-        Kind::Increment => b"INCREMENT",
-    }
-}
 
 /// The name of a bank.
 pub fn bank_name(bank: Bank) -> &'static [u8]
