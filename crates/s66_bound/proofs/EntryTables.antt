@@ -10,26 +10,26 @@ use Rattle.s66_dep.specs.declared.set.Set.{Set}
 use Rattle.s66_dep.specs.Members.{numbers_in}
 use Rattle.s66_dep.proofs.Sets.{within, numbers_in-filter}
 use Rattle.s66_bound.specs.declared.entry.Entry.{Entry}
-use Rattle.s66_bound.specs.InstructionCosts.{IsEntry, AreEntries}
+use Rattle.s66_bound.specs.InstructionCosts.{IsCostOf, AreCosts}
 use Rattle.s66_bound.specs.TableWords.{AreThose}
 
 -- with the entry of the next number
-pub entries-push : (b : Problem) (es : List Entry) (e : Entry) → ((i : ℕ) (d : Entry) → i < length es → IsEntry (row_at b (i + 1)) (get_or es i d)) → IsEntry (row_at b (length es + 1)) e →
-    (i : ℕ) (d : Entry) → i < length (es ++ e ∷ []) → IsEntry (row_at b (i + 1)) (get_or (es ++ e ∷ []) i d)
+pub entries-push : (b : Problem) (es : List Entry) (e : Entry) → ((i : ℕ) (d : Entry) → i < length es → IsCostOf (row_at b (i + 1)) (get_or es i d)) → IsCostOf (row_at b (length es + 1)) e →
+    (i : ℕ) (d : Entry) → i < length (es ++ e ∷ []) → IsCostOf (row_at b (i + 1)) (get_or (es ++ e ∷ []) i d)
 entries-push b es e kept last i d below =
     elim (cases_lt i (length es)) [
-      | inl before ↦ subst (IsEntry (row_at b (i + 1))) (sym (get_or_append_left es (e ∷ []) d i before)) (kept i d before)
+      | inl before ↦ subst (IsCostOf (row_at b (i + 1))) (sym (get_or_append_left es (e ∷ []) d i before)) (kept i d before)
       | inr past ↦
           let here : i ≡ length es = omega (arith, below, length-append es (e ∷ [])) in
-          subst (λ j. IsEntry (row_at b (j + 1)) (get_or (es ++ e ∷ []) j d)) (sym here)
-          (subst (IsEntry (row_at b (length es + 1))) (sym (get_or-append_seam es e [] d)) last)
+          subst (λ j. IsCostOf (row_at b (j + 1)) (get_or (es ++ e ∷ []) j d)) (sym here)
+          (subst (IsCostOf (row_at b (length es + 1))) (sym (get_or-append_seam es e [] d)) last)
     ]
 
-pub entry-at : (b : Problem) (es : List Entry) (place : ℕ) (e : Entry) → AreEntries b es → place < length es → e ≡ get_or es place e → IsEntry (row_at b (place + 1)) e
-entry-at b es place e are lt is = subst (IsEntry (row_at b (place + 1))) (sym is) (are.each place e lt)
+pub entry-at : (b : Problem) (es : List Entry) (place : ℕ) (e : Entry) → AreCosts b es → place < length es → e ≡ get_or es place e → IsCostOf (row_at b (place + 1)) e
+entry-at b es place e are lt is = subst (IsCostOf (row_at b (place + 1))) (sym is) (are.each place e lt)
 
 -- once all were looked at
-pub set-filled : (b : Problem) (es : List Entry) (test : ℕ → Bool) (set : Set) (k : ℕ) → AreEntries b es → length es ≤ BLOCK_LIMIT → k ≡ length es →
+pub set-filled : (b : Problem) (es : List Entry) (test : ℕ → Bool) (set : Set) (k : ℕ) → AreCosts b es → length es ≤ BLOCK_LIMIT → k ≡ length es →
     ((m : ℕ) → has m (numbers_in set) ≡ within test (k + 1) m) → AreThose b test set
 set-filled b es test set k are few all known =
     numbers_in-filter set test (length b.block) (omega (arith, are.count, few)) (λ m. known m ∙ ap (λ j. within test (j + 1) m) (all ∙ are.count))

@@ -8,7 +8,7 @@ use Rattle.s66_isa.proofs.RegisterBits.{has-none, index-apart}
 use Rattle.s66_isa.proofs.SameRegister.{has_reg-append, same_reg-self, same_reg-true}
 use Rattle.s66_model.specs.Timing.{Problem, row_at}
 use Rattle.s66_bound.specs.declared.entry.Entry.{Entry}
-use Rattle.s66_bound.specs.InstructionCosts.{IsEntry, AreEntries}
+use Rattle.s66_bound.specs.InstructionCosts.{IsCostOf, AreCosts}
 use Rattle.s66_bound.specs.TableWords.{AreRegisters}
 
 some-written : (ws : List Write) (w : Write) → Among w ws → some_of (λ (v : Write). same_reg v.reg w.reg) ws ≡ true
@@ -33,14 +33,14 @@ an-entry [] i lt = absurd (omega (arith, lt))
 an-entry (e ∷ es) i lt = e
 
 -- what an instruction writes, some entry does, and it is a register of the machine
-pub written-by : (b : Problem) (es : List Entry) (n : ℕ) (w : Write) → AreEntries b es → 1 ≤ n → n ≤ length b.block → Among w (row_at b n).writes →
+pub written-by : (b : Problem) (es : List Entry) (n : ℕ) (w : Write) → AreCosts b es → 1 ≤ n → n ≤ length b.block → Among w (row_at b n).writes →
     (w.reg.digit ≤ 7) × (some_of (λ (e : Entry). some_of (λ (v : Write). same_reg v.reg w.reg) e.writes.items) es ≡ true)
 written-by b es n w are low high among =
     let lt : n - 1 < length es = omega (arith, are.count, low, high) in
     let d : Entry = an-entry es (n - 1) lt in
     let e : Entry = get_or es (n - 1) d in
     let back : n - 1 + 1 ≡ n = omega (arith, low) in
-    let is : IsEntry (row_at b n) e = subst (λ m. IsEntry (row_at b m) e) back (are.each (n - 1) d lt) in
+    let is : IsCostOf (row_at b n) e = subst (λ m. IsCostOf (row_at b m) e) back (are.each (n - 1) d lt) in
     let written : some_of (λ (v : Write). same_reg v.reg w.reg) (row_at b n).writes ≡ true = some-written (row_at b n).writes w among in
     let used : has_reg w.reg (registers_in e.used) ≡ true = is.used w.reg ∙ or_right (has_reg w.reg (row_at b n).reads) (some_of (λ (v : Write). same_reg v.reg w.reg) (row_at b n).writes) written in
     let digit : w.reg.digit ≤ 7 = elim (cases_lt 7 w.reg.digit) [ inl more ↦ absurd (true≢false (sym used ∙ has-none e.used w.reg more)) | inr few ↦ omega (arith, few) ] in

@@ -6,7 +6,7 @@ use Rattle.s66_model.specs.Timing.{Problem, row_at}
 use Rattle.s66_model.specs.Leaves.{uses, tail}
 use Rattle.s66_bound.specs.declared.entry.Entry.{Entry}
 
-pub record IsEntry (r : Row) (e : Entry) : Type 0 where
+pub record IsCostOf (r : Row) (e : Entry) : Type 0 where
   pub kind : e.kind ≡ r.kind
   pub parcels : e.parcels ≡ r.parcels
   pub writes : e.writes.items ≡ r.writes
@@ -17,6 +17,6 @@ pub record IsEntry (r : Row) (e : Entry) : Type 0 where
   pub tail : e.tail ≡ tail r
 
 -- those of a block, in order
-pub record AreEntries (b : Problem) (entries : List Entry) : Type 0 where
+pub record AreCosts (b : Problem) (entries : List Entry) : Type 0 where
   pub count : length entries ≡ length b.block
-  pub each : (i : ℕ) (d : Entry) → i < length entries → IsEntry (row_at b (i + 1)) (get_or entries i d)
+  pub each : (i : ℕ) (d : Entry) → i < length entries → IsCostOf (row_at b (i + 1)) (get_or entries i d)

@@ -25,14 +25,14 @@ pub struct Bounds<'a> {
 
 impl<'a> Model for Bounds<'a> {
     ghost use Rattle.s66_model.specs.Timing.{Problem};
-    ghost use Rattle.s66_bound.specs.InstructionCosts.{AreEntries};
+    ghost use Rattle.s66_bound.specs.InstructionCosts.{AreCosts};
     ghost use Rattle.s66_bound.specs.TableWords.{timed_by, IsTables};
 
     ghost Value = { Problem };
 
     ghost view = { λ b. timed_by b.block.now b.profile };
 
-    ghost invariant = { λ b. AreEntries (timed_by b.block.now b.profile) b.entries.items × IsTables (timed_by b.block.now b.profile) b.tables };
+    ghost invariant = { λ b. AreCosts (timed_by b.block.now b.profile) b.entries.items × IsTables (timed_by b.block.now b.profile) b.tables };
 }
 
 impl<'a> Bounds<'a> {

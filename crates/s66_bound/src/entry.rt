@@ -4,7 +4,7 @@ ghost use Rattle.s66_isa.specs.Table.{Row, Write as WriteOf, Reg as RegOf, row, 
 ghost use Rattle.s66_isa.specs.Registers.{registers_in};
 ghost use Rattle.s66_line.specs.Block.{instrs_of};
 ghost use Rattle.s66_model.specs.Leaves.{uses, link, tail};
-ghost use Rattle.s66_bound.specs.InstructionCosts.{IsEntry, AreEntries};
+ghost use Rattle.s66_bound.specs.InstructionCosts.{IsCostOf, AreCosts};
 ghost use Rattle.s66_bound.specs.TableWords.{timed_by};
 
 use arrayvec::ArrayVec;
@@ -67,7 +67,7 @@ fn greatest_latency(writes: &[Write]) -> u32
 
 /// The entry of an instruction.
 pub fn entry_of(instr: &Instr, profile: &Profile) -> Entry
-    ensures { IsEntry (row profile.now instr.now) result }
+    ensures { IsCostOf (row profile.now instr.now) result }
 {
     let writes = writes_of(instr, profile);
     let work = instr.hold(profile) + 1;
@@ -85,7 +85,7 @@ pub fn entry_of(instr: &Instr, profile: &Profile) -> Entry
 
 /// The entries of a block's instructions.
 pub fn entries_of(block: &Block<'_>, profile: &Profile) -> ArrayVec<Entry, BLOCK_LIMIT>
-    ensures { AreEntries (timed_by block.now profile.now) result.items }
+    ensures { AreCosts (timed_by block.now profile.now) result.items }
 {
     let mut entries = ArrayVec::new();
     for position in 0..block.count() {
@@ -109,7 +109,7 @@ fn greatest_shared(writes: &[Write], used: &Registers) -> u32
 
 /// How long a later instruction waits at least from the start of this one, 0 if they have no link.
 pub fn link(from: &Entry, to: &Entry) -> u32
-    ensures { (r s : Row) → IsEntry r from.now → IsEntry s to.now → result ≡ link r s }
+    ensures { (r s : Row) → IsCostOf r from.now → IsCostOf s to.now → result ≡ link r s }
 {
     let shared = greatest_shared(from.writes.as_slice(), &to.used);
     if is_memory_conflict(from.memory, to.memory) {

@@ -5,7 +5,7 @@ ghost use Rattle.std.specs.Prelude.{◌≡◌, ◌<◌, IfSome, IfNone, length};
 ghost use Rattle.s66_line.specs.Block.{instrs_of};
 ghost use Rattle.s66_model.specs.Leaves.{Chain, chain, longest_chain, floor, floor_value};
 ghost use Rattle.s66_time.specs.Ticking.{problem_of};
-ghost use Rattle.s66_bound.specs.InstructionCosts.{AreEntries};
+ghost use Rattle.s66_bound.specs.InstructionCosts.{AreCosts};
 ghost use Rattle.s66_bound.specs.LeafValues.{leaf_of, value_of};
 ghost use Rattle.s66_bound.specs.TableWords.{AreRemaining, IsTables};
 
@@ -46,7 +46,7 @@ fn beyond_chain(tables: &Tables, clock: &Clock<'_>, rest: &Set, chain_value: u32
 
 /// The floor, if something remains.
 pub fn floor_of(entries: &[Entry], tables: &Tables, clock: &Clock<'_>, rest: &Set) -> Leaf
-    requires entries { AreEntries (problem_of clock.now) entries.now }
+    requires entries { AreCosts (problem_of clock.now) entries.now }
     requires tables { IsTables (problem_of clock.now) tables.now }
     requires rest { AreRemaining clock.now rest.now }
     requires some { length clock.now.numbers < length (instrs_of clock.now.block) }
@@ -71,7 +71,7 @@ pub fn floor_of_value(
     rest: &Set,
     value: u32,
 ) -> Leaf
-    requires entries { AreEntries (problem_of clock.now) entries.now }
+    requires entries { AreCosts (problem_of clock.now) entries.now }
     requires tables { IsTables (problem_of clock.now) tables.now }
     requires rest { AreRemaining clock.now rest.now }
     requires some { length clock.now.numbers < length (instrs_of clock.now.block) }

@@ -2,7 +2,7 @@ ghost use Rattle.std.specs.Prelude.{ℕ, ◌≡◌, ◌+◌, ◌-◌, ◌<◌, �
 ghost use Rattle.s66_model.specs.Timing.{Problem};
 ghost use Rattle.s66_model.specs.Tails.{longest_tail, walk_to, HasWords};
 ghost use Rattle.s66_isa.specs.declared.limits.TheConstants.{BLOCK_LIMIT};
-ghost use Rattle.s66_bound.specs.InstructionCosts.{AreEntries};
+ghost use Rattle.s66_bound.specs.InstructionCosts.{AreCosts};
 ghost use Rattle.s66_bound.specs.TableWords.{HasLater};
 
 use crate::entry::{Entry, link};
@@ -12,8 +12,8 @@ use s66_isa::BLOCK_LIMIT;
 fn walk_to(entries: &[Entry], longest: &[u32; BLOCK_LIMIT], place: usize, later: usize) -> u32
     requires few { length entries.now ≤ BLOCK_LIMIT }
     requires order { (place < later) × (later < length entries.now) }
-    requires known { (b : Problem) × AreEntries b entries.now × HasLater b place longest.now }
-    ensures { (b : Problem) → AreEntries b entries.now → HasLater b place longest.now → result ≡ walk_to b (place + 1) (later + 1) }
+    requires known { (b : Problem) × AreCosts b entries.now × HasLater b place longest.now }
+    ensures { (b : Problem) → AreCosts b entries.now → HasLater b place longest.now → result ≡ walk_to b (place + 1) (later + 1) }
 {
     let link = link(&entries[place], &entries[later]);
     if link == 0 { 0 } else { link + longest[later] }
@@ -23,8 +23,8 @@ fn walk_to(entries: &[Entry], longest: &[u32; BLOCK_LIMIT], place: usize, later:
 fn longest_from(entries: &[Entry], longest: &[u32; BLOCK_LIMIT], place: usize) -> u32
     requires few { length entries.now ≤ BLOCK_LIMIT }
     requires place { place < length entries.now }
-    requires known { (b : Problem) × AreEntries b entries.now × HasLater b place longest.now }
-    ensures { (b : Problem) → AreEntries b entries.now → HasLater b place longest.now → result ≡ longest_tail b (place + 1) }
+    requires known { (b : Problem) × AreCosts b entries.now × HasLater b place longest.now }
+    ensures { (b : Problem) → AreCosts b entries.now → HasLater b place longest.now → result ≡ longest_tail b (place + 1) }
 {
     let mut last = entries[place].tail;
     for later in place + 1..entries.len() {
@@ -36,8 +36,8 @@ fn longest_from(entries: &[Entry], longest: &[u32; BLOCK_LIMIT], place: usize) -
 /// The longest walk from each instruction of a block, in minor cycles; each pair is looked at once.
 pub fn longest_tails(entries: &[Entry]) -> [u32; BLOCK_LIMIT]
     requires few { length entries.now ≤ BLOCK_LIMIT }
-    requires known { (b : Problem) × AreEntries b entries.now }
-    ensures { (b : Problem) → AreEntries b entries.now → HasWords b (longest_tail b) result }
+    requires known { (b : Problem) × AreCosts b entries.now }
+    ensures { (b : Problem) → AreCosts b entries.now → HasWords b (longest_tail b) result }
 {
     let mut longest = [0; BLOCK_LIMIT];
     let mut place = entries.len();

@@ -10,7 +10,7 @@ ghost use Rattle.s66_model.specs.Leaves.{tail, link, is_linked, head, chain, lon
 ghost use Rattle.s66_model.specs.Tails.{longest_tail, chain_front, walk_after};
 ghost use Rattle.s66_dep.specs.Members.{numbers_in};
 ghost use Rattle.s66_time.specs.Ticking.{problem_of, points};
-ghost use Rattle.s66_bound.specs.InstructionCosts.{AreEntries};
+ghost use Rattle.s66_bound.specs.InstructionCosts.{AreCosts};
 ghost use Rattle.s66_bound.specs.TableWords.{AreRemaining, IsTables};
 
 use crate::entry::{Entry, link};
@@ -77,8 +77,8 @@ fn first_of_chain(tables: &Tables, clock: &Clock<'_>, rest: &Set, value: u32) ->
 fn goes_on(entries: &[Entry], tables: &Tables, number: u8, other: u8) -> bool
     requires numbers { (1 ≤ number) × (number ≤ length entries.now) × (1 ≤ other) × (other ≤ length entries.now) }
     requires few { length entries.now ≤ BLOCK_LIMIT }
-    requires known { (b : Problem) × AreEntries b entries.now × IsTables b tables.now }
-    ensures { (b : Problem) → AreEntries b entries.now → IsTables b tables.now → result ≡ (not (tail (row_at b number) == longest_tail b number) && (is_linked b number other && link (row_at b number) (row_at b other) + longest_tail b other == longest_tail b number)) }
+    requires known { (b : Problem) × AreCosts b entries.now × IsTables b tables.now }
+    ensures { (b : Problem) → AreCosts b entries.now → IsTables b tables.now → result ≡ (not (tail (row_at b number) == longest_tail b number) && (is_linked b number other && link (row_at b number) (row_at b other) + longest_tail b other == longest_tail b number)) }
 {
     let from = &entries[number as usize - 1];
     let longest = tables.longest[number as usize - 1];
@@ -95,8 +95,8 @@ fn walk_from(entries: &[Entry], tables: &Tables, rest: &Set, first: u8) -> Array
     requires few { length entries.now ≤ BLOCK_LIMIT }
     requires rest { (n : ℕ) → Among n (numbers_in rest.now) → (1 ≤ n) × (n ≤ length entries.now) }
     requires first { (1 ≤ first) × (first ≤ length entries.now) }
-    requires known { (b : Problem) × AreEntries b entries.now × IsTables b tables.now }
-    ensures { (b : Problem) (prefix : List ℕ) → AreEntries b entries.now → IsTables b tables.now → IsBeginning b.block prefix → numbers_in rest.now ≡ remaining b.block prefix → is_remaining b.block prefix first ≡ true → result.items ≡ first ∷ walk_after b (length b.block) first }
+    requires known { (b : Problem) × AreCosts b entries.now × IsTables b tables.now }
+    ensures { (b : Problem) (prefix : List ℕ) → AreCosts b entries.now → IsTables b tables.now → IsBeginning b.block prefix → numbers_in rest.now ≡ remaining b.block prefix → is_remaining b.block prefix first ≡ true → result.items ≡ first ∷ walk_after b (length b.block) first }
 {
     let mut numbers = ArrayVec::new();
     numbers.push(first);
@@ -119,7 +119,7 @@ pub fn chain_numbers(
     rest: &Set,
     value: u32,
 ) -> ArrayVec<u8, BLOCK_LIMIT>
-    requires entries { AreEntries (problem_of clock.now) entries.now }
+    requires entries { AreCosts (problem_of clock.now) entries.now }
     requires tables { IsTables (problem_of clock.now) tables.now }
     requires rest { AreRemaining clock.now rest.now }
     requires some { length clock.now.numbers < length (instrs_of clock.now.block) }

@@ -7,7 +7,7 @@ ghost use Rattle.s66_isa.specs.declared.limits.TheConstants.{BLOCK_LIMIT};
 ghost use Rattle.s66_model.specs.Timing.{Problem, row_at};
 ghost use Rattle.s66_model.specs.Leaves.{uses};
 ghost use Rattle.s66_model.specs.Tails.{spare, HasWords, HasWritten};
-ghost use Rattle.s66_bound.specs.InstructionCosts.{AreEntries};
+ghost use Rattle.s66_bound.specs.InstructionCosts.{AreCosts};
 ghost use Rattle.s66_bound.specs.declared.entry.Entry.{Entry as EntryOf};
 ghost use Rattle.s66_bound.specs.Ranks.{rank};
 ghost use Rattle.s66_bound.specs.TableWords.{AreThose, AreRegisters, HasWorks, HasUsers, IsTables};
@@ -49,8 +49,8 @@ impl Tables {
     /// The tables of a block of these entries.
     pub fn of(entries: &[Entry]) -> Tables
         requires few { length entries.now ≤ BLOCK_LIMIT }
-        requires known { (b : Problem) × AreEntries b entries.now }
-        ensures { (b : Problem) → AreEntries b entries.now → IsTables b result }
+        requires known { (b : Problem) × AreCosts b entries.now }
+        ensures { (b : Problem) → AreCosts b entries.now → IsTables b result }
     {
         let longest = longest_tails(entries);
         let spare = spares(entries);
@@ -73,7 +73,7 @@ impl Tables {
 /// The numbers of two parcels.
 fn long_numbers(entries: &[Entry]) -> Set
     requires few { length entries.now ≤ BLOCK_LIMIT }
-    ensures { (b : Problem) → AreEntries b entries.now → AreThose b (λ n. (row_at b n).parcels == 2) result }
+    ensures { (b : Problem) → AreCosts b entries.now → AreThose b (λ n. (row_at b n).parcels == 2) result }
 {
     let mut long = Set::empty();
     for place in 0..entries.len() {
@@ -87,7 +87,7 @@ fn long_numbers(entries: &[Entry]) -> Set
 /// By how much each tail is longer than the parcels.
 fn spares(entries: &[Entry]) -> [u32; BLOCK_LIMIT]
     requires few { length entries.now ≤ BLOCK_LIMIT }
-    ensures { (b : Problem) → AreEntries b entries.now → HasWords b (spare b) result }
+    ensures { (b : Problem) → AreCosts b entries.now → HasWords b (spare b) result }
 {
     let mut spares = [0; BLOCK_LIMIT];
     for place in 0..entries.len() {
@@ -99,8 +99,8 @@ fn spares(entries: &[Entry]) -> [u32; BLOCK_LIMIT]
 /// Of each kind, by its number, for how long the instructions take a unit, summed.
 fn works_by_kind(entries: &[Entry]) -> [u32; KIND_COUNT]
     requires few { length entries.now ≤ BLOCK_LIMIT }
-    requires known { (b : Problem) × AreEntries b entries.now }
-    ensures { (b : Problem) → AreEntries b entries.now → HasWorks b result }
+    requires known { (b : Problem) × AreCosts b entries.now }
+    ensures { (b : Problem) → AreCosts b entries.now → HasWorks b result }
 {
     let mut works = [0; KIND_COUNT];
     for place in 0..entries.len() {
@@ -113,7 +113,7 @@ fn works_by_kind(entries: &[Entry]) -> [u32; KIND_COUNT]
 /// The numbers that read or write a register.
 fn users_of(entries: &[Entry], register: Reg) -> Set
     requires few { length entries.now ≤ BLOCK_LIMIT }
-    ensures { (b : Problem) → AreEntries b entries.now → AreThose b (λ n. uses (row_at b n) register) result }
+    ensures { (b : Problem) → AreCosts b entries.now → AreThose b (λ n. uses (row_at b n) register) result }
 {
     let mut users = Set::empty();
     for place in 0..entries.len() {
@@ -136,8 +136,8 @@ fn register_at(index: usize) -> Reg
 /// The ranks of the numbers that read or write each register, by its index.
 fn users_by_rank(entries: &[Entry], ranks: &[u8; BLOCK_LIMIT]) -> [Set; REGISTER_COUNT]
     requires few { length entries.now ≤ BLOCK_LIMIT }
-    requires known { (b : Problem) × AreEntries b entries.now × HasWords b (rank b) ranks.now }
-    ensures { (b : Problem) → AreEntries b entries.now → HasWords b (rank b) ranks.now → HasUsers b result }
+    requires known { (b : Problem) × AreCosts b entries.now × HasWords b (rank b) ranks.now }
+    ensures { (b : Problem) → AreCosts b entries.now → HasWords b (rank b) ranks.now → HasUsers b result }
 {
     let mut users = [Set::empty(); REGISTER_COUNT];
     for index in 0..REGISTER_COUNT {
@@ -172,7 +172,7 @@ fn writes_register(writes: &[Write], register: Reg) -> bool
 
 /// The registers that are written, each once.
 fn written_registers(entries: &[Entry]) -> ArrayVec<Reg, REGISTER_COUNT>
-    ensures written { (b : Problem) → AreEntries b entries.now → HasWritten b result.items }
+    ensures written { (b : Problem) → AreCosts b entries.now → HasWritten b result.items }
     ensures registers { AreRegisters result.items }
 {
     let mut written = ArrayVec::new();

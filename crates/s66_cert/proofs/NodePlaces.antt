@@ -4,7 +4,7 @@ use Rattle.std.proofs.lemmas.Bool.{ne_eqb, cases_lt, cases_eq}
 use Rattle.std.proofs.lemmas.List.{drop_all, get_or_default, get_or_past, length-set, get_or-set_same, get_or-set_other, length-drop}
 use Rattle.s66_model.specs.Tree.{Siblings, NoMore, Unsplit, Split, Vertex, AtTerminal, AtSplit}
 use Rattle.s66_model.specs.DominatedLeaves.{Ending}
-use Rattle.s66_model.specs.NodeNames.{sibling_at, node_at}
+use Rattle.s66_model.specs.NodeNames.{sibling_at, node_named}
 use Rattle.s66_model.specs.Preorder.{first_siblings, later_siblings, forest}
 use Rattle.s66_cert.specs.DocumentParts.{tree_of_lines}
 use Rattle.s66_cert.specs.NodePlaces.{trees_from, IsEnd, AreTreeEnds, end_behind, sibling_count, tree_at, IsChildAt}
@@ -92,12 +92,12 @@ ends-none ends vertices past count le = record { count = count; each = λ place 
 -- past the children of other numbers: the rest of the numbers, and where the next child is
 abbrev pub IsOnTheWay : List (Vertex Ending) → ℕ → ℕ → List ℕ → ℕ → Type 0
 IsOnTheWay vertices place number numbers sibling =
-    (path : List ℕ) → sibling_at numbers (first_siblings numbers (trees_from vertices sibling)) (number ∷ path) ≡ node_at [] (tree_at vertices place) (number ∷ path)
+    (path : List ℕ) → sibling_at numbers (first_siblings numbers (trees_from vertices sibling)) (number ∷ path) ≡ node_named [] (tree_at vertices place) (number ∷ path)
 
 pub way-first : (vertices : List (Vertex Ending)) (place number : ℕ) (numbers : List ℕ) → drop place vertices ≡ AtSplit numbers ∷ drop (place + 1) vertices → IsOnTheWay vertices place number numbers (place + 1)
 way-first vertices place number numbers next = λ path. rw next refl
 
-sibling-found : (m number : ℕ) (ms path : List ℕ) (vertices : List (Vertex Ending)) → 0 < length vertices → m ≡ number → sibling_at (m ∷ ms) (first_siblings (m ∷ ms) (forest vertices)) (number ∷ path) ≡ node_at [] (tree_of_lines vertices) path
+sibling-found : (m number : ℕ) (ms path : List ℕ) (vertices : List (Vertex Ending)) → 0 < length vertices → m ≡ number → sibling_at (m ∷ ms) (first_siblings (m ∷ ms) (forest vertices)) (number ∷ path) ≡ node_named [] (tree_of_lines vertices) path
 sibling-found m number ms path [] some e = absurd (omega (arith, some))
 sibling-found m number ms path (AtTerminal ending ∷ vertices) some e = rw (eq-eqb m number e) refl
 sibling-found m number ms path (AtSplit numbers ∷ vertices) some e = rw (eq-eqb m number e) refl
@@ -130,6 +130,6 @@ pub terminal-childless : (vertices : List (Vertex Ending)) (place number : ℕ) 
 terminal-childless vertices place number ending next = λ path. rw next refl
 
 -- the node of no numbers is the line itself
-pub node-here : (vertices : List (Vertex Ending)) (place : ℕ) (vertex : Vertex Ending) → drop place vertices ≡ vertex ∷ drop (place + 1) vertices → Some vertex ≡ node_at [] (tree_at vertices place) []
+pub node-here : (vertices : List (Vertex Ending)) (place : ℕ) (vertex : Vertex Ending) → drop place vertices ≡ vertex ∷ drop (place + 1) vertices → Some vertex ≡ node_named [] (tree_at vertices place) []
 node-here vertices place (AtTerminal ending) next = rw next refl
 node-here vertices place (AtSplit numbers) next = rw next refl

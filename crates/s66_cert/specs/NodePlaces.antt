@@ -2,7 +2,7 @@
 use Rattle.std.specs.Prelude.{◌≡◌, ◌<◌, ◌≤◌, ℕ, zero, suc, List, [], ◌∷◌, length, drop, get_or, Option, None, Some}
 use Rattle.s66_model.specs.Tree.{Tree, Siblings, Vertex, AtTerminal, AtSplit}
 use Rattle.s66_model.specs.DominatedLeaves.{Ending}
-use Rattle.s66_model.specs.NodeNames.{node_at}
+use Rattle.s66_model.specs.NodeNames.{node_named}
 use Rattle.s66_model.specs.Preorder.{forest, later_siblings}
 use Rattle.s66_cert.specs.DocumentParts.{tree_of_lines}
 
@@ -41,6 +41,6 @@ tree_at vertices place = tree_of_lines (drop place vertices)
 
 -- the first child of this number of the line at a place is there; none only if it has none
 abbrev pub IsChildAt : List (Vertex Ending) → ℕ → ℕ → Option ℕ → Type 0
-IsChildAt vertices place number None = (path : List ℕ) → node_at [] (tree_at vertices place) (number ∷ path) ≡ None
+IsChildAt vertices place number None = (path : List ℕ) → node_named [] (tree_at vertices place) (number ∷ path) ≡ None
 IsChildAt vertices place number (Some sibling) =
-    (sibling < length vertices) × ((path : List ℕ) → node_at [] (tree_at vertices place) (number ∷ path) ≡ node_at [] (tree_at vertices sibling) path)
+    (sibling < length vertices) × ((path : List ℕ) → node_named [] (tree_at vertices place) (number ∷ path) ≡ node_named [] (tree_at vertices sibling) path)

@@ -59,7 +59,7 @@ impl Model for Document {
 impl Document {
     ghost use Rattle.std.specs.Prelude.{◌≡◌, []};
     ghost use Rattle.std.specs.Option.{option_map};
-    ghost use Rattle.s66_model.specs.NodeNames.{node_at};
+    ghost use Rattle.s66_model.specs.NodeNames.{node_named};
     ghost use Rattle.s66_tree.specs.Lines.{vertex_of};
     ghost use Rattle.s66_cert.specs.DocumentParts.{AreWhole, document_of};
 
@@ -149,7 +149,7 @@ impl Document {
     /// number that comes next. It is found by jumps over whole trees, one for each earlier sibling on the way.
     #[tactic(auto, using(crate::proofs::FewLines::some_lines))]
     pub fn node_at(&self, name: &[u8]) -> Option<TreeLine<'_>>
-        ensures { option_map vertex_of result ≡ node_at [] (document_of self.now).tree name.now }
+        ensures { option_map vertex_of result ≡ node_named [] (document_of self.now).tree name.now }
     {
         self.tree.node_at(name)
     }

@@ -62,7 +62,7 @@ impl Model for IndexedTree {
 impl IndexedTree {
     ghost use Rattle.std.specs.Prelude.{◌≡◌, ◌<◌, ◌≤◌, ◌^◌, [], length};
     ghost use Rattle.std.specs.Option.{option_map};
-    ghost use Rattle.s66_model.specs.NodeNames.{node_at};
+    ghost use Rattle.s66_model.specs.NodeNames.{node_named};
     ghost use Rattle.s66_tree.specs.Lines.{vertex_of};
     ghost use Rattle.s66_cert.specs.DocumentParts.{tree_of_lines};
     ghost use Rattle.s66_cert.specs.NodePlaces.{IsChildAt};
@@ -113,7 +113,7 @@ impl IndexedTree {
     /// The line of the node of this name.
     pub(crate) fn node_at(&self, name: &[u8]) -> Option<TreeLine<'_>>
         requires { 1 ≤ length self.now }
-        ensures { option_map vertex_of result ≡ node_at [] (tree_of_lines self.now) name.now }
+        ensures { option_map vertex_of result ≡ node_named [] (tree_of_lines self.now) name.now }
     {
         let mut place = 0;
         for number in name {

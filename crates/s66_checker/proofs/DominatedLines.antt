@@ -8,7 +8,7 @@ use Rattle.s66_model.specs.Timing.{Problem}
 use Rattle.s66_model.specs.LegalOrder.{IsBeginning, IsIncomplete}
 use Rattle.s66_model.specs.Digits.{HaveDigits}
 use Rattle.s66_model.specs.Dominance.{IsSameSet}
-use Rattle.s66_model.specs.NodeNames.{node_at}
+use Rattle.s66_model.specs.NodeNames.{node_named}
 use Rattle.s66_model.specs.DominatedLeaves.{Ending, Bounding, Dominated, IsEarlier, may_be_named, DominatesByRule, EndingShows}
 use Rattle.s66_model.specs.Tree.{AtTerminal}
 use Rattle.s66_cert.specs.Document.{Document}
@@ -75,7 +75,7 @@ named-by ClampedStanding b name at h = let (part, is) = h in (is.other_begins, i
 -- LINES
 
 name-parts : (d : Document) (at name : List ℕ) →
-    Decides (is_name d at name) ((((may_be_named d.rule (node_at [] d.tree name) ≡ true) × (is_early_enough d.rule name at ≡ true)) × IsBeginning (problem_of d).block name) × IsSameSet name at)
+    Decides (is_name d at name) ((((may_be_named d.rule (node_named [] d.tree name) ≡ true) × (is_early_enough d.rule name at ≡ true)) × IsBeginning (problem_of d).block name) × IsSameSet name at)
 name-parts d at name =
     Decides-and _ _ (Decides-and _ _ (Decides-and _ _ ((λ h. h), λ h. h) ((λ h. h), λ h. h)) (goes_on-Decides (problem_of d).block [] name)) (same_set-Decides name at)
 

@@ -10,7 +10,7 @@ use Rattle.s66_model.specs.Timing.{Problem, total_of}
 use Rattle.s66_model.specs.LegalOrder.{is_remaining, ready}
 use Rattle.s66_model.specs.Leaves.{Leaf, Whole, Chain, Load, Parcels, value, is_linked}
 use Rattle.s66_model.specs.Tree.{Tree, Alone, Parted, Siblings, NoMore, Unsplit, Split, Vertex, AtTerminal, AtSplit}
-use Rattle.s66_model.specs.NodeNames.{node_at}
+use Rattle.s66_model.specs.NodeNames.{node_named}
 use Rattle.s66_model.specs.DominatedLeaves.{Ending, Bounding, Dominated, may_be_named}
 use Rattle.s66_cert.specs.Document.{Document}
 use Rattle.s66_checker.specs.declared.verdict.Verdict.{Verdict}
@@ -91,7 +91,7 @@ is_early_enough ClampedStanding name at = true
 -- that of a node that the rule lets be named, and a beginning over the same set
 abbrev pub is_name : Document → List ℕ → List ℕ → Bool
 is_name d at name =
-    may_be_named d.rule (node_at [] d.tree name)
+    may_be_named d.rule (node_named [] d.tree name)
     && is_early_enough d.rule name at
     && is_beginning (problem_of d).block name
     && is_same_set name at

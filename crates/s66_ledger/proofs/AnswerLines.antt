@@ -24,9 +24,9 @@ use Rattle.s66_node.specs.declared.node.Node.{Node}
 use Rattle.s66_node.specs.declared.node.State.{State}
 use Rattle.s66_node.specs.declared.node.State.TheVariants as state
 use Rattle.s66_ledger.specs.AnswerLines.{AreOneTree, StandsAt, lines_from}
-use Rattle.s66_ledger.specs.LedgerMachine.{state_of}
+use Rattle.s66_ledger.specs.LedgerMachine.{ledger_from}
 use Rattle.s66_ledger.specs.Links.{parent_of, IsChild, HasChild}
-use Rattle.s66_ledger.specs.Nodes.{node_at, no_node, nodes_of, prefixes, name_at, seen_state}
+use Rattle.s66_ledger.specs.Nodes.{stored_at, no_stored, nodes_of, prefixes, name_at, seen_state}
 use Rattle.s66_ledger.proofs.NodePrefixes.{parent_at, prefix-at, prefix-none, name-node}
 use Rattle.s66_ledger.proofs.SeenNodes.{at-nodes, length-nodes}
 use Rattle.s66_ledger.proofs.ParentPaths.{push-same}
@@ -76,9 +76,9 @@ plain-ending b name at state.Dominated other = absurd (other refl)
 
 parent-before : (xs : List Node) (j : ℕ) → 0 < j → parent_of xs j < j
 parent-before xs j some =
-    elim (cases_le j (node_at xs j).parent) [
-      | inl le ↦ rw (le-ltb (node_at xs j).parent j le) some
-      | inr lt ↦ rw (lt-ltb (node_at xs j).parent j lt) lt
+    elim (cases_le j (stored_at xs j).parent) [
+      | inl le ↦ rw (le-ltb (stored_at xs j).parent j le) some
+      | inr lt ↦ rw (lt-ltb (stored_at xs j).parent j lt) lt
     ]
 
 parent_at-most : (i p : ℕ) → parent_at i p ≤ i
@@ -101,13 +101,13 @@ module _ (b : Problem) (xs : List Node) (tree : AreOneTree b xs) where
   cuts at = tally (is_cut_at at) seen
 
   abbrev ledger : model.Ledger
-  ledger = state_of b xs tree.best 0 [] 0
+  ledger = ledger_from b xs tree.best 0 [] 0
 
   pub some-node : 0 < length xs
   some-node = omega (arith, tree.table.root, tally-few (stands_at []) seen, length-nodes b xs)
 
   abbrev seen_at : List ℕ → ℕ → model.Node
-  seen_at at i = record { prefix = at; state = seen_state b (name_at xs i) at (node_at xs i).state }
+  seen_at at i = record { prefix = at; state = seen_state b (name_at xs i) at (stored_at xs i).state }
 
   stands-seen : (i : ℕ) (at : List ℕ) → StandsAt xs i at → model.node_at seen i ≡ seen_at at i
   stands-seen i at stands = at-nodes b xs i stands.within ∙ ap (λ p. seen_at p i) stands.over
@@ -119,30 +119,30 @@ module _ (b : Problem) (xs : List Node) (tree : AreOneTree b xs) where
   stands-begins : (i : ℕ) (at : List ℕ) → StandsAt xs i at → IsBeginning b.block at
   stands-begins i at stands = tree.begins (seen_at at i) (stands-among i at stands)
 
-  pub split-here : (i : ℕ) (at : List ℕ) → StandsAt xs i at → (node_at xs i).state ≡ state.Split → is_split_at seen at ≡ true
+  pub split-here : (i : ℕ) (at : List ℕ) → StandsAt xs i at → (stored_at xs i).state ≡ state.Split → is_split_at seen at ≡ true
   split-here i at stands is =
       lt-ltb 0 (cuts at) (cut-counts (seen_at at i) seen (stands-among i at stands) (ap (seen_state b (name_at xs i) at) is))
 
-  pub unsplit-here : (i : ℕ) (at : List ℕ) → StandsAt xs i at → (node_at xs i).state ≢ state.Split → is_split_at seen at ≡ false
+  pub unsplit-here : (i : ℕ) (at : List ℕ) → StandsAt xs i at → (stored_at xs i).state ≢ state.Split → is_split_at seen at ≡ false
   unsplit-here i at stands other =
-      let less = uncut-stands (seen_at at i) seen (stands-among i at stands) (uncut b (name_at xs i) at (node_at xs i).state other) in
+      let less = uncut-stands (seen_at at i) seen (stands-among i at stands) (uncut b (name_at xs i) at (stored_at xs i).state other) in
       le-ltb 0 (cuts at) (omega (arith, less, one-node b ledger tree.table tree.begins at (stands-begins i at stands)))
 
   -- each that isn't split or dominated has its floor
-  pub floor-here : (i : ℕ) (at : List ℕ) → StandsAt xs i at → (node_at xs i).state ≢ state.Dominated → ending_at b seen at ≡ Bounding (floor b at)
+  pub floor-here : (i : ℕ) (at : List ℕ) → StandsAt xs i at → (stored_at xs i).state ≢ state.Dominated → ending_at b seen at ≡ Bounding (floor b at)
   floor-here i at stands other =
-      ending-is b ledger tree.table tree.begins (seen_at at i) (stands-among i at stands) ∙ plain-ending b (name_at xs i) at (node_at xs i).state other
+      ending-is b ledger tree.table tree.begins (seen_at at i) (stands-among i at stands) ∙ plain-ending b (name_at xs i) at (stored_at xs i).state other
 
   -- one that is dominated has its name
-  pub name-here : (i : ℕ) (at : List ℕ) → StandsAt xs i at → (node_at xs i).state ≡ state.Dominated → ending_at b seen at ≡ Dominated (name_at xs i)
+  pub name-here : (i : ℕ) (at : List ℕ) → StandsAt xs i at → (stored_at xs i).state ≡ state.Dominated → ending_at b seen at ≡ Dominated (name_at xs i)
   name-here i at stands is =
       ending-is b ledger tree.table tree.begins (seen_at at i) (stands-among i at stands) ∙ ap (λ s. state_ending b at (seen_state b (name_at xs i) at s)) is
 
   -- which is a node's
   pub name-short : (i : ℕ) → i < length xs → length (name_at xs i) ≤ length b.block
   name-short i lt =
-      let v = parent_at i (node_at xs i).value in
-      let above : StandsAt xs v (get_or (prefixes xs) v []) = record { within = omega (arith, lt, parent_at-most i (node_at xs i).value); over = refl } in
+      let v = parent_at i (stored_at xs i).value in
+      let above : StandsAt xs v (get_or (prefixes xs) v []) = record { within = omega (arith, lt, parent_at-most i (stored_at xs i).value); over = refl } in
       let (rest, legal) = beginning-front b.block (get_or (prefixes xs) v []) (stands-begins v (get_or (prefixes xs) v []) above) in
       omega (arith, legal.whole, length-append (get_or (prefixes xs) v []) rest, ap length (name-node xs i some-node))
 
@@ -169,8 +169,8 @@ module _ (b : Problem) (xs : List Node) (tree : AreOneTree b xs) where
         | inl first ↦ absurd (none-first j first over)
         | inr lt ↦ lt
       ] in
-      let last : get_or (prefixes xs) j [] ≡ get_or (prefixes xs) (parent_of xs j) [] ++ (node_at xs j).number ∷ [] = prefix-at xs j no_node some within2 in
-      let (above, number) = push-same (get_or (prefixes xs) (parent_of xs j) []) at (node_at xs j).number n (sym last ∙ over) in
+      let last : get_or (prefixes xs) j [] ≡ get_or (prefixes xs) (parent_of xs j) [] ++ (stored_at xs j).number ∷ [] = prefix-at xs j no_stored some within2 in
+      let (above, number) = push-same (get_or (prefixes xs) (parent_of xs j) []) at (stored_at xs j).number n (sym last ∙ over) in
       record { child = j; is = record { some = some; within = within2; parent = parent-is j within2 some above; number = number } }
     where
       none-first : (j : ℕ) → j ≤ 0 → get_or (prefixes xs) j [] ≡ at ++ n ∷ [] → ⊥
@@ -193,9 +193,9 @@ pub child-stands : (xs : List Node) (i n j : ℕ) (at : List ℕ) → StandsAt x
 child-stands xs i n j at stands child = record {
   within = child.within;
   over =
-      prefix-at xs j no_node child.some child.within
-      ∙ (ap (λ p. get_or (prefixes xs) p [] ++ (node_at xs j).number ∷ []) child.parent
-      ∙ (ap (λ above. above ++ (node_at xs j).number ∷ []) stands.over
+      prefix-at xs j no_stored child.some child.within
+      ∙ (ap (λ p. get_or (prefixes xs) p [] ++ (stored_at xs j).number ∷ []) child.parent
+      ∙ (ap (λ above. above ++ (stored_at xs j).number ∷ []) stands.over
       ∙ ap (λ m. at ++ m ∷ []) child.number));
 }
 
@@ -218,7 +218,7 @@ module _ (b : Problem) (xs : List Node) (tree : AreOneTree b xs) (i : ℕ) (at :
   abbrev cut_there : List ℕ → Bool
   cut_there = is_split_at (nodes_of b xs)
 
-  pub split-line : (numbers : List ℕ) → (node_at xs i).state ≡ state.Split → numbers ≡ ready b.block at → to ≡ children at numbers ++ later b.block [] at →
+  pub split-line : (numbers : List ℕ) → (stored_at xs i).state ≡ state.Split → numbers ≡ ready b.block at → to ≡ children at numbers ++ later b.block [] at →
       lines_from b xs (at ∷ later b.block [] at) ≡ AtSplit numbers ∷ lines_from b xs to
   split-line numbers split all next =
       let is : cut_there at ≡ true = split-here b xs tree i at stands split in
@@ -227,7 +227,7 @@ module _ (b : Problem) (xs : List Node) (tree : AreOneTree b xs) (i : ℕ) (at :
       ∙ (ap (λ ns. AtSplit ns ∷ (lines_from b xs (children at ns) ++ lines_from b xs (later b.block [] at))) (sym all)
       ∙ ap (λ vertices. AtSplit numbers ∷ vertices) (sym (lines-both b.block cut_there (ending_at b (nodes_of b xs)) (children at numbers) (later b.block [] at)) ∙ ap (lines_from b xs) (sym next)))
 
-  pub terminal-line : (node_at xs i).state ≢ state.Split → to ≡ later b.block [] at →
+  pub terminal-line : (stored_at xs i).state ≢ state.Split → to ≡ later b.block [] at →
       lines_from b xs (at ∷ later b.block [] at) ≡ AtTerminal (ending_at b (nodes_of b xs) at) ∷ lines_from b xs to
   terminal-line other next =
       ap (λ vertices. vertices ++ lines_from b xs (later b.block [] at)) (lines-unsplit b.block cut_there (ending_at b (nodes_of b xs)) at (unsplit-here b xs tree i at stands other))
@@ -246,7 +246,7 @@ fewer-left {K = K} old new all rest one same =
 
 -- THE FIRST LINE
 
-pub one-tree : (b : Problem) (xs : List Node) (best : List ℕ) (spent : ℕ) → IsTable b (state_of b xs best 0 [] spent) → ((node : model.Node) → Among node (nodes_of b xs) → IsBeginning b.block node.prefix) → AreOneTree b xs
+pub one-tree : (b : Problem) (xs : List Node) (best : List ℕ) (spent : ℕ) → IsTable b (ledger_from b xs best 0 [] spent) → ((node : model.Node) → Among node (nodes_of b xs) → IsBeginning b.block node.prefix) → AreOneTree b xs
 one-tree b xs best spent table begins = record {
   best = best;
   table = record { root = table.root; children = table.children; others = table.others; splits = table.splits; best = table.best };

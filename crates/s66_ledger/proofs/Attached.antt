@@ -15,11 +15,11 @@ use Rattle.s66_node.specs.declared.node.Node.{Node}
 use Rattle.s66_node.specs.declared.node.State.{State}
 use Rattle.s66_node.specs.declared.node.State.TheVariants as state
 use Rattle.s66_node.specs.Growing.{tree_prefixes}
-use Rattle.s66_node.specs.Nodes.{has_floor, is_open_state, prefixes_over, line_of, Named, named_at, lines_at, IsNode, NodesFrom, AreNodes}
+use Rattle.s66_node.specs.Nodes.{has_floor, is_stored_open, prefixes_over, node_line, Named, named_at, node_lines, IsNode, NodesFrom, AreNodes}
 use Rattle.s66_node.specs.Pieces.{PieceOf, prefixes_of, tree_of, AreTreeNodes}
 use Rattle.s66_node.proofs.Nodes.{length-prefixes_over, length-lines}
-use Rattle.s66_ledger.specs.Nodes.{prefixes, name_at, seen_state, nodes_of, lines_of, no_node, node_at, with_state, HaveFloors, HaveDepths}
-use Rattle.s66_ledger.specs.OpenNodes.{IsOut}
+use Rattle.s66_ledger.specs.Nodes.{prefixes, name_at, seen_state, nodes_of, made_lines, no_stored, stored_at, put_state, HaveFloors, HaveDepths}
+use Rattle.s66_ledger.specs.OpenNodes.{StoresOut}
 use Rattle.s66_ledger.specs.Grafting.{placed_parent, settled_state, opened_state, IsNamed, IsGrafting, IsSplitUnder, root_line, IsAttachedAs}
 use Rattle.s66_ledger.proofs.NodePrefixes.{prefixes-set}
 use Rattle.s66_ledger.proofs.SeenNodes.{nodes-set, nodes-state, lines-state, at-nodes, length-nodes}
@@ -38,12 +38,12 @@ with_state-front (x ∷ xs) ys zero s lt = refl
 with_state-front (x ∷ xs) ys (suc i) s lt = ap (λ (zs : List model.Node). x ∷ zs) (with_state-front xs ys i s (omega arith))
 
 -- a root that is split is no less named, nor is another node
-split-named : (all : List Node) (root n : ℕ) (name : List ℕ) → root < length all → IsNamed all n name → IsNamed (with_state all root state.Split) n name
+split-named : (all : List Node) (root n : ℕ) (name : List ℕ) → root < length all → IsNamed all n name → IsNamed (put_state all root state.Split) n name
 split-named all root n name lt h =
-    let y : Node = record (node_at all root) { state = state.Split } in
+    let y : Node = record (stored_at all root) { state = state.Split } in
     record {
       within = omega (arith, h.within, length-set all root y);
-      over = ap (λ ats. get_or ats n []) (prefixes-set all root y no_node refl refl) ∙ h.over;
+      over = ap (λ ats. get_or ats n []) (prefixes-set all root y no_stored refl refl) ∙ h.over;
       standing =
           λ e.
           elim (cases_eq root n) [
@@ -52,13 +52,13 @@ split-named all root n name lt h =
           ];
     }
 
-split-line : (all : List Node) (root : ℕ) (k : Vertex Terminal) → root < length all → LineIsNamed all k → LineIsNamed (with_state all root state.Split) k
+split-line : (all : List Node) (root : ℕ) (k : Vertex Terminal) → root < length all → LineIsNamed all k → LineIsNamed (put_state all root state.Split) k
 split-line all root (AtSplit numbers) lt h = tt
 split-line all root (AtTerminal (Carries leaf)) lt h = tt
 split-line all root (AtTerminal Frontier) lt h = tt
 split-line all root (AtTerminal (Passed name)) lt (n, named) = (n, split-named all root n name lt named)
 
-split-lines : (all : List Node) (root : ℕ) (ks : List (Vertex Terminal)) → root < length all → LinesAreNamed all ks → LinesAreNamed (with_state all root state.Split) ks
+split-lines : (all : List Node) (root : ℕ) (ks : List (Vertex Terminal)) → root < length all → LinesAreNamed all ks → LinesAreNamed (put_state all root state.Split) ks
 split-lines all root [] lt h = tt
 split-lines all root (k ∷ ks) lt h = (split-line all root k lt h.0, split-lines all root ks lt h.1)
 
@@ -72,23 +72,23 @@ module _ (p : PieceOf) (are : AreTreeNodes p) (x : Node) (below : List Node) (fi
   later = later_prefixes (p.prefix ∷ []) below
 
   abbrev top : Vertex Terminal
-  top = line_of b (named_at p.names x.value).name p.prefix x.state
+  top = node_line b (named_at p.names x.value).name p.prefix x.state
 
   prefixes-are : prefixes_of p ≡ p.prefix ∷ later
   prefixes-are = ap (λ xs. prefixes_over p.prefix xs) first ∙ prefixes-later (p.prefix ∷ []) below
 
-  lines-are : flat (tree_of p) ≡ top ∷ lines_at b p.names later below
+  lines-are : flat (tree_of p) ≡ top ∷ node_lines b p.names later below
   lines-are = are.lines ∙ rw (prefixes-are, first) refl
 
   nodes-are : IsNode b p.names p.prefix x × NodesFrom b p.names (p.prefix ∷ []) below
   nodes-are = subst (AreNodes b p.names p.prefix) first are.nodes
 
   -- the root's line as it is taken
-  root-is : root_line p ≡ line_of b [] p.prefix (opened_state x.state)
-  root-is = ap (λ xs. line_of b [] p.prefix (opened_state (node_at xs 0).state)) first
+  root-is : root_line p ≡ node_line b [] p.prefix (opened_state x.state)
+  root-is = ap (λ xs. node_line b [] p.prefix (opened_state (stored_at xs 0).state)) first
 
   -- under a root that is split
-  module _ (best root : ℕ) (old : List Node) (out : IsOut old root) (over : get_or (prefixes old) root [] ≡ p.prefix) (room : length old + length p.nodes < 2 ^ 32) where
+  module _ (best root : ℕ) (old : List Node) (out : StoresOut old root) (over : get_or (prefixes old) root [] ≡ p.prefix) (room : length old + length p.nodes < 2 ^ 32) where
     made : AreMade root (length old) (p.prefix ∷ []) old
     made =
         record {
@@ -99,7 +99,7 @@ module _ (p : PieceOf) (are : AreTreeNodes p) (x : Node) (below : List Node) (fi
           same = λ j lt. (let zero_is : j ≡ 0 = omega (arith, lt) in ap (λ k. get_or (prefixes old) (placed_parent root (length old) k) []) zero_is ∙ (over ∙ ap (λ k. get_or (p.prefix ∷ []) k []) (sym zero_is)));
         }
 
-    marked : (all : List Node) (g : IsGrafting best root p.names old below all) → IsMarked b best later (lines_at b p.names later below) old g.more
+    marked : (all : List Node) (g : IsGrafting best root p.names old below all) → IsMarked b best later (node_lines b p.names later below) old g.more
     marked all g = marked-all b best root (length old) p.names (p.prefix ∷ []) old below g.more made (omega (arith, room, ap length first)) nodes-are.1 g.grafted
 
     pub grafting-depths : HaveDepths old → (all : List Node) → IsGrafting best root p.names old below all → HaveDepths all
@@ -109,7 +109,7 @@ module _ (p : PieceOf) (are : AreTreeNodes p) (x : Node) (below : List Node) (fi
       abbrev all : List Node
       all = under.all
 
-      m : IsMarked b best later (lines_at b p.names later below) old under.grafting.more
+      m : IsMarked b best later (node_lines b p.names later below) old under.grafting.more
       m = marked all under.grafting
 
       within : root < length all
@@ -117,21 +117,21 @@ module _ (p : PieceOf) (are : AreTreeNodes p) (x : Node) (below : List Node) (fi
 
       split-count : length new + 1 ≡ length old + length p.nodes
       split-count =
-          omega (arith, ap length under.split, length-set all root (record (node_at all root) { state = state.Split }), grafting-length best root p.names old below all under.grafting, ap length first)
+          omega (arith, ap length under.split, length-set all root (record (stored_at all root) { state = state.Split }), grafting-length best root p.names old below all under.grafting, ap length first)
 
       split-floors : HaveFloors b old → HaveFloors b new
       split-floors floors =
-          let there : IsOut all root = grafting-out best root p.names old below all under.grafting root out in
+          let there : StoresOut all root = grafting-out best root p.names old below all under.grafting root out in
           subst (HaveFloors b) (sym under.split) (floors-state b all root state.Split within (ap has_floor there.1) (subst (HaveFloors b) (sym under.grafting.behind) (m.floors floors)))
 
       abbrev top_line : Vertex Terminal
       top_line = AtSplit (ready b.block p.prefix)
 
       top-is : top ≡ top_line
-      top-is = ap (line_of b (named_at p.names x.value).name p.prefix) split
+      top-is = ap (node_line b (named_at p.names x.value).name p.prefix) split
 
       part : (part : Tree Terminal) × TreeOpens (tree_of p) part × (flat part ≡ top_line ∷ m.taken)
-      part = tree-taken (tree_of p) (top_line ∷ m.taken) (subst (λ ks. LinesOpen ks (top_line ∷ m.taken)) (sym (lines-are ∙ ap (λ (k : Vertex Terminal). k ∷ lines_at b p.names later below) top-is)) (refl, m.opens))
+      part = tree-taken (tree_of p) (top_line ∷ m.taken) (subst (λ ks. LinesOpen ks (top_line ∷ m.taken)) (sym (lines-are ∙ ap (λ (k : Vertex Terminal). k ∷ node_lines b p.names later below) top-is)) (refl, m.opens))
 
       pub attached-split : HaveFloors b old → IsAttachedAs p best root old new
       attached-split floors =
@@ -150,15 +150,15 @@ module _ (p : PieceOf) (are : AreTreeNodes p) (x : Node) (below : List Node) (fi
                 record {
                   opens = opens;
                   match = match;
-                  count = ap length lines ∙ (omega (arith, opens-length (lines_at b p.names later below) m.taken m.opens, ap length lines-are, piece-length p are));
-                  root = ap (take 1) lines ∙ ap (λ (k : Vertex Terminal). k ∷ []) (sym (root-is ∙ ap (λ s. line_of b [] p.prefix (opened_state s)) split));
+                  count = ap length lines ∙ (omega (arith, opens-length (node_lines b p.names later below) m.taken m.opens, ap length lines-are, piece-length p are));
+                  root = ap (take 1) lines ∙ ap (λ (k : Vertex Terminal). k ∷ []) (sym (root-is ∙ ap (λ s. node_line b [] p.prefix (opened_state s)) split));
                 };
             count = split-count;
             floors = split-floors floors;
             piece = piece;
             lines =
-                ap (lines_of b) under.split
-                ∙ (lines-state b all root state.Split ∙ (ap (lines_of b) under.grafting.behind ∙ (m.lines ∙ ap (λ ks. lines_of b old ++ ks) (sym below_lines))));
+                ap (made_lines b) under.split
+                ∙ (lines-state b all root state.Split ∙ (ap (made_lines b) under.grafting.behind ∙ (m.lines ∙ ap (λ ks. made_lines b old ++ ks) (sym below_lines))));
             nodes =
                 ap (nodes_of b) under.split
                 ∙ (nodes-state b all root state.Split model.Cut within (λ name path. refl)
@@ -178,8 +178,8 @@ module _ (p : PieceOf) (are : AreTreeNodes p) (x : Node) (below : List Node) (fi
 record IsLeftAs (b : Problem) (best : ℕ) (name at : List ℕ) (x : Node) : Type 0 where
   pub was : Terminal
   pub taken : Terminal
-  pub line : line_of b name at x.state ≡ AtTerminal was
-  pub line_taken : line_of b [] at (opened_state x.state) ≡ AtTerminal taken
+  pub line : node_line b name at x.state ≡ AtTerminal was
+  pub line_taken : node_line b [] at (opened_state x.state) ≡ AtTerminal taken
   pub opens : TerminalOpens was taken
   pub seen : (other : List ℕ) → seen_state b other at (settled_state best x.value x.state) ≡ model.state_of b best at taken
   pub named : (nodes : List Node) → LineIsNamed nodes (AtTerminal taken)
@@ -191,13 +191,13 @@ left-as b best names name at x h unsplit = by x.state refl
     closing other true = refl
     closing other false = refl
 
-    open_as : (s : State) → x.state ≡ s → (was : Terminal) → line_of b name at s ≡ AtTerminal was → line_of b [] at (opened_state s) ≡ AtTerminal Frontier → TerminalOpens was Frontier → settled_state best x.value s ≡ state.Open → IsLeftAs b best name at x
+    open_as : (s : State) → x.state ≡ s → (was : Terminal) → node_line b name at s ≡ AtTerminal was → node_line b [] at (opened_state s) ≡ AtTerminal Frontier → TerminalOpens was Frontier → settled_state best x.value s ≡ state.Open → IsLeftAs b best name at x
     open_as s is was line line_taken opens settled =
         record {
           was = was;
           taken = Frontier;
-          line = ap (line_of b name at) is ∙ line;
-          line_taken = ap (λ s. line_of b [] at (opened_state s)) is ∙ line_taken;
+          line = ap (node_line b name at) is ∙ line;
+          line_taken = ap (λ s. node_line b [] at (opened_state s)) is ∙ line_taken;
           opens = opens;
           seen = λ other. ap (λ s. seen_state b other at (settled_state best x.value s)) is ∙ ap (seen_state b other at) settled;
           named = λ nodes. tt;
@@ -212,8 +212,8 @@ left-as b best names name at x h unsplit = by x.state refl
         record {
           was = Carries (floor b at);
           taken = Carries (floor b at);
-          line = ap (line_of b name at) is;
-          line_taken = ap (λ s. line_of b [] at (opened_state s)) is;
+          line = ap (node_line b name at) is;
+          line_taken = ap (λ s. node_line b [] at (opened_state s)) is;
           opens = refl;
           seen = λ other.
               ap (λ s. seen_state b other at (settled_state best x.value s)) is
@@ -222,12 +222,12 @@ left-as b best names name at x h unsplit = by x.state refl
         }
 
 -- what isn't open then is closed
-pub not-open : (best value : ℕ) (s : State) → s ≢ state.Split → is_open_state (settled_state best value s) ≡ false → settled_state best value s ≡ state.Closed
+pub not-open : (best value : ℕ) (s : State) → s ≢ state.Split → is_stored_open (settled_state best value s) ≡ false → settled_state best value s ≡ state.Closed
 not-open best value state.Open unsplit h = absurd cc
 not-open best value state.Out unsplit h = absurd cc
 not-open best value state.Closed unsplit h = by (nat_le best value) h
   where
-    by : (t : Bool) → is_open_state (cond t state.Closed state.Open) ≡ false → cond t state.Closed state.Open ≡ state.Closed
+    by : (t : Bool) → is_stored_open (cond t state.Closed state.Open) ≡ false → cond t state.Closed state.Open ≡ state.Closed
     by true h = refl
     by false h = absurd cc
 not-open best value state.Split unsplit h = absurd (unsplit refl)
@@ -237,21 +237,21 @@ alone : (tree : Tree Terminal) (t : Terminal) (rest : List (Vertex Terminal)) �
 alone (Alone u) t rest e = let first : u ≡ t = cc in (ap Alone first, cc)
 alone (Parted ns siblings) t rest e = absurd cc
 
-module _ (p : PieceOf) (are : AreTreeNodes p) (x : Node) (below : List Node) (first : p.nodes ≡ x ∷ below) (unsplit : x.state ≢ state.Split) (best root : ℕ) (old new : List Node) (out : IsOut old root) (over : get_or (prefixes old) root [] ≡ p.prefix) (moved : new ≡ with_state old root (settled_state best x.value x.state)) where
+module _ (p : PieceOf) (are : AreTreeNodes p) (x : Node) (below : List Node) (first : p.nodes ≡ x ∷ below) (unsplit : x.state ≢ state.Split) (best root : ℕ) (old new : List Node) (out : StoresOut old root) (over : get_or (prefixes old) root [] ≡ p.prefix) (moved : new ≡ put_state old root (settled_state best x.value x.state)) where
   abbrev name : List ℕ
   name = (named_at p.names x.value).name
 
   left : IsLeftAs p.problem best name p.prefix x
   left = left-as p.problem best p.names name p.prefix x (nodes-are p are x below first).0 unsplit
 
-  only : (tree_of p ≡ Alone left.was) × (lines_at p.problem p.names (later p are x below first) below ≡ [])
-  only = alone (tree_of p) left.was (lines_at p.problem p.names (later p are x below first) below) (lines-are p are x below first ∙ ap (λ (k : Vertex Terminal). k ∷ lines_at p.problem p.names (later p are x below first) below) left.line)
+  only : (tree_of p ≡ Alone left.was) × (node_lines p.problem p.names (later p are x below first) below ≡ [])
+  only = alone (tree_of p) left.was (node_lines p.problem p.names (later p are x below first) below) (lines-are p are x below first ∙ ap (λ (k : Vertex Terminal). k ∷ node_lines p.problem p.names (later p are x below first) below) left.line)
 
   one : length p.nodes ≡ 1
   one = sym (piece-length p are) ∙ ap (λ (t : Tree Terminal). length (flat t)) only.0
 
   alone-count : length new + 1 ≡ length old + length p.nodes
-  alone-count = omega (arith, ap length moved, length-set old root (record (node_at old root) { state = settled_state best x.value x.state }), one)
+  alone-count = omega (arith, ap length moved, length-set old root (record (stored_at old root) { state = settled_state best x.value x.state }), one)
 
   alone-floors : HaveFloors p.problem old → HaveFloors p.problem new
   alone-floors floors = subst (HaveFloors p.problem) (sym moved) (floors-state p.problem old root (settled_state best x.value x.state) out.0 (ap has_floor out.1) floors)
@@ -269,10 +269,10 @@ module _ (p : PieceOf) (are : AreTreeNodes p) (x : Node) (below : List Node) (fi
         count = alone-count;
         floors = alone-floors floors;
         piece = piece;
-        lines = ap (lines_of b) moved ∙ (lines-state b old root s ∙ sym (append-nil (lines_of b old)));
+        lines = ap (made_lines b) moved ∙ (lines-state b old root s ∙ sym (append-nil (made_lines b old)));
         nodes =
             ap (nodes_of b) moved
-            ∙ (nodes-set b old root (record (node_at old root) { state = s }) no_node out.0 refl refl
+            ∙ (nodes-set b old root (record (stored_at old root) { state = s }) no_stored out.0 refl refl
             ∙ (ap (λ at. model.with_state (nodes_of b old) root (seen_state b (name_at old root) at s)) path
             ∙ (ap (model.with_state (nodes_of b old) root) (left.seen (name_at old root))
             ∙ sym (append-nil (model.with_state (nodes_of b old) root (model.state_of b best p.prefix left.taken))))));

@@ -3,7 +3,7 @@ use Rattle.std.proofs.Common.{ℕ, zero, suc, ◌+◌, ◌≤◌, ◌<◌, ◌�
 use Rattle.std.proofs.lemmas.Bool.{cases_eq, eq-eqb, ne_eqb}
 use Rattle.std.proofs.lemmas.List.{get_or-set_same, get_or-set_other}
 use Rattle.s66_node.specs.declared.node.Node.{Node}
-use Rattle.s66_ledger.specs.Nodes.{node_at}
+use Rattle.s66_ledger.specs.Nodes.{stored_at}
 use Rattle.s66_ledger.specs.Links.{parent_of, child_below, AreLinks, IsChild, HasChild}
 
 pub child-before : (nodes : List Node) (parent k : ℕ) → 0 < k → child_below nodes parent k < k
@@ -82,16 +82,16 @@ last-past nodes lasts before above last child links lt has stated =
     }
 
 module _ (nodes : List Node) (lasts before : List ℕ) (above last child next : ℕ) (links : AreLinks nodes lasts before (length nodes)) (has : HasChild nodes above last) (past : IsAtOrPast nodes above last child) where
-  pub child-here : (node_at nodes child).number ≡ last → IsChild nodes above last child
+  pub child-here : (stored_at nodes child).number ≡ last → IsChild nodes above last child
   child-here e = record { some = omega (arith, past.some has, has.is.some); within = past.within; parent = past.parent; number = e }
 
-  module _ (ne : (node_at nodes child).number ≢ last) (stated : next ≡ get_or before child 0) where
+  module _ (ne : (stored_at nodes child).number ≢ last) (stated : next ≡ get_or before child 0) where
     is-below : next ≡ child_below nodes above child
     is-below = stated ∙ (links.sibling child past.within ∙ ap (λ p. child_below nodes p child) past.parent)
 
     others : (other : HasChild nodes above last) → other.child < child
     others other =
-        let apart : other.child ≢ child = λ e. ne (ap (λ i. (node_at nodes i).number) (sym e) ∙ other.is.number) in
+        let apart : other.child ≢ child = λ e. ne (ap (λ i. (stored_at nodes i).number) (sym e) ∙ other.is.number) in
         omega (arith, past.some other, apart)
 
     pub next-below : next < child

@@ -12,7 +12,7 @@ use Rattle.s66_model.specs.Ended.{IsEnded, ended_answer}
 use Rattle.s66_dep.proofs.LongestBeginning.{beginning-few}
 use Rattle.s66_model.proofs.Histories.{run-join, reached-covers, reached-table}
 use Rattle.s66_model.proofs.EndedLedgers.{ended-finishes}
-use Rattle.s66_ledger.specs.LedgerMachine.{MachineOf, Stored, IsKept, ledger_of, machine_of}
+use Rattle.s66_ledger.specs.LedgerMachine.{MachineOf, Stored, IsKeptMachine, ledger_of, machine_of}
 use Rattle.s66_ledger.specs.Answers.{IsKeptAnswer, ended_of}
 use Rattle.s66_ledger.specs.Finishing.{Leads, IsSearched}
 use Rattle.s66_ledger.proofs.Events.{kept-covers, kept-room}
@@ -62,7 +62,7 @@ finishes old new reached (problem, budget, workers, (h, r), by) ended =
 
 -- THE ANSWER of a ledger that has ended
 
-module _ (m : Stored) (kept : IsKept m) (l : MachineOf) (view : machine_of m ≡ l) where
+module _ (m : Stored) (kept : IsKeptMachine m) (l : MachineOf) (view : machine_of m ≡ l) where
   pub kept-answer : (low : ℕ) → IsEnded l.problem l.budget l.state → low ≡ bound_of l.problem l.state → IsKeptAnswer (ended_of m.rule m.best.problem m.budget m.nodes m.best.numbers m.spent) m.nodes low
   kept-answer low ended bound =
       let b = m.problem in

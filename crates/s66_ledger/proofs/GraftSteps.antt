@@ -16,9 +16,9 @@ use Rattle.s66_model.specs.Recorded.{graft_event}
 use Rattle.s66_model.proofs.Beginnings.{length-rising}
 use Rattle.s66_node.specs.declared.node.Node.{Node}
 use Rattle.s66_node.specs.Pieces.{PieceOf, tree_of, AreTreeNodes}
-use Rattle.s66_ledger.specs.Nodes.{prefixes, nodes_of, lines_of, HaveFloors}
-use Rattle.s66_ledger.specs.OpenNodes.{IsOut}
-use Rattle.s66_ledger.specs.LedgerMachine.{MachineOf, Stored, ledger_of, machine_of, IsKept}
+use Rattle.s66_ledger.specs.Nodes.{prefixes, nodes_of, made_lines, HaveFloors}
+use Rattle.s66_ledger.specs.OpenNodes.{StoresOut}
+use Rattle.s66_ledger.specs.LedgerMachine.{MachineOf, Stored, ledger_of, machine_of, IsKeptMachine}
 use Rattle.s66_ledger.specs.Grafting.{IsAttachedAs}
 use Rattle.s66_ledger.specs.GraftMoves.{IsGraftMove, IsTakenMove}
 use Rattle.s66_ledger.proofs.SeenNodes.{at-nodes}
@@ -60,7 +60,7 @@ piece-nodes p are few = omega (arith, piece-length p are, tree-lines p.problem.b
 
 -- REPLIES
 
-module _ (m : Stored) (h : IsKept m) (l : MachineOf) (is : machine_of m ≡ l) (w : ℕ) (worker : (1 ≤ w) × (w ≤ l.workers)) (i : ℕ) (p : PieceOf) (own : Bool) (owns : IsTrue own ↔ ((p.rule ≡ l.rule) × (p.problem ≡ l.problem))) where
+module _ (m : Stored) (h : IsKeptMachine m) (l : MachineOf) (is : machine_of m ≡ l) (w : ℕ) (worker : (1 ≤ w) × (w ≤ l.workers)) (i : ℕ) (p : PieceOf) (own : Bool) (owns : IsTrue own ↔ ((p.rule ≡ l.rule) × (p.problem ≡ l.problem))) where
   abbrev b : Problem
   b = m.problem
 
@@ -82,13 +82,13 @@ module _ (m : Stored) (h : IsKept m) (l : MachineOf) (is : machine_of m ≡ l) (
       subst (λ (l : MachineOf). IsGraftMove l w i p reply l) is
       (Graft w i own p.prefix (splits tree) None, (own, tree, owned, taken-whole tree, sym event), (refl, refl, refl, (works, moves), refl))
 
-  seen-out : IsOut m.nodes i → model.IsOut (ledger_of m) i
+  seen-out : StoresOut m.nodes i → model.IsOut (ledger_of m) i
   seen-out out = is-out b m.nodes m.best.numbers m.left m.allowances m.spent i out
 
-  pub graft-not-out : ¬ IsOut m.nodes i → IsGraftMove l w i p NotOut l
+  pub graft-not-out : ¬ StoresOut m.nodes i → IsGraftMove l w i p NotOut l
   graft-not-out never = refused NotOut refl (not-out b m.nodes m.best.numbers m.left m.allowances m.spent i never, refl)
 
-  module _ (out : IsOut m.nodes i) where
+  module _ (out : StoresOut m.nodes i) where
     pub graft-other : own ≡ false → IsGraftMove l w i p OtherPrefix l
     graft-other other = refused OtherPrefix refl (seen-out out, (λ over. true≢false (sym over.0 ∙ other)), refl)
 
@@ -147,11 +147,11 @@ module _ (m : Stored) (h : IsKept m) (l : MachineOf) (is : machine_of m ≡ l) (
                 problem = piece-problem;
                 part = part;
                 taken = at.taken;
-                lines = subst (λ (r : Problem). lines_of r new ≡ lines_of r m.nodes ++ drop 1 (flat part)) piece-problem at.lines;
+                lines = subst (λ (r : Problem). made_lines r new ≡ made_lines r m.nodes ++ drop 1 (flat part)) piece-problem at.lines;
                 move = (refl, refl, length-set m.allowances (w - 1) (get_or m.allowances (w - 1) 0 - count), (works, taken-moves), refl);
               })
 
-          pub kept-taken : IsKept after
+          pub kept-taken : IsKeptMachine after
           kept-taken =
               kept-next m h new m.best m.left (set m.allowances (w - 1) (get_or m.allowances (w - 1) 0 - count)) (m.spent + count) (Graft w i true p.prefix (splits part) (Some part)) Taken h.own
               (subst (λ (r : Problem). HaveFloors r new) piece-problem at.floors) (omega (arith, at.count, nodes-few, counts, h.room)) (length-set m.allowances (w - 1) (get_or m.allowances (w - 1) 0 - count)) (works, taken-moves)

@@ -12,10 +12,10 @@ use Rattle.s66_model.specs.Ledger as model
 use Rattle.s66_node.specs.declared.node.Node.{Node}
 use Rattle.s66_node.specs.declared.node.State.{State}
 use Rattle.s66_node.specs.declared.node.State.TheVariants as state
-use Rattle.s66_node.specs.Nodes.{has_floor, prefixes_from, line_of, Named, named_at, lines_at, IsNode, NodesFrom, AreNodes}
+use Rattle.s66_node.specs.Nodes.{has_floor, prefixes_from, node_line, Named, named_at, node_lines, IsNode, NodesFrom, AreNodes}
 use Rattle.s66_node.proofs.Nodes.{get_or-front, get_or-last}
-use Rattle.s66_ledger.specs.Nodes.{prefixes, seen_state, seen_node, made_line, nodes_of, lines_of, no_node, node_at, is_out_state, is_out, HaveFloors, HaveDepths}
-use Rattle.s66_ledger.specs.OpenNodes.{IsOut}
+use Rattle.s66_ledger.specs.Nodes.{prefixes, seen_state, seen_node, made_line, nodes_of, made_lines, no_stored, stored_at, is_stored_out, stores_out, HaveFloors, HaveDepths}
+use Rattle.s66_ledger.specs.OpenNodes.{StoresOut}
 use Rattle.s66_ledger.specs.Grafting.{placed_parent, placed, IsNamed, GraftsIn, Grafts, AreGrafted, IsGrafting, HaveNames}
 use Rattle.s66_ledger.proofs.NodePrefixes.{get_or-any, push-front, push-last}
 use Rattle.s66_ledger.proofs.SeenNodes.{nodes-push, lines-push}
@@ -25,7 +25,7 @@ use Rattle.s66_ledger.proofs.Taken.{LineOpens, LinesOpen, line_node, line_nodes,
 
 -- STILL NAMED after more nodes
 
-front-at : (made more : List Node) (i : ℕ) → i < length made → node_at (made ++ more) i ≡ node_at made i
+front-at : (made more : List Node) (i : ℕ) → i < length made → stored_at (made ++ more) i ≡ stored_at made i
 front-at [] more i lt = absurd (omega (arith, lt))
 front-at (x ∷ made) more zero lt = refl
 front-at (x ∷ made) more (suc i) lt = front-at made more i (omega (arith, lt))
@@ -49,7 +49,7 @@ still-named made more (AtTerminal (Carries leaf)) h = tt
 still-named made more (AtTerminal Frontier) h = tt
 still-named made more (AtTerminal (Passed name)) (n, named) = (n, named-behind made more n name named)
 
-pub still-out : (made more : List Node) (i : ℕ) → IsOut made i → IsOut (made ++ more) i
+pub still-out : (made more : List Node) (i : ℕ) → StoresOut made i → StoresOut (made ++ more) i
 still-out made more i out = (omega (arith, out.0, length-append made more), ap (λ (x : Node). x.state) (front-at made more i out.0) ∙ out.1)
 
 -- ONE NODE, at its prefix, after those that are made
@@ -64,19 +64,19 @@ pub record IsGraftedAs (b : Problem) (best : ℕ) (made : List Node) (at : List 
   pub floor : has_floor y.state ≡ true → y.value ≡ floor_value b at
   pub depth : y.depth ≡ length at
   pub short : y.depth ≤ 255
-  pub in_table : is_out y ≡ false
+  pub in_table : stores_out y ≡ false
 
 settled-seen : (b : Problem) (name at : List ℕ) (t : Bool) → seen_state b name at (cond t state.Closed state.Open) ≡ cond t (model.Closed (Bounding (floor b at))) model.Open
 settled-seen b name at true = refl
 settled-seen b name at false = refl
 
-settled-in : (t : Bool) → is_out_state (cond t state.Closed state.Open) ≡ false
+settled-in : (t : Bool) → is_stored_out (cond t state.Closed state.Open) ≡ false
 settled-in true = refl
 settled-in false = refl
 
 module _ (b : Problem) (best root first : ℕ) (names : List Named) (made : List Node) (at : List ℕ) (x y : Node) (h : IsNode b names at x) where
   abbrev AsGrafted : State → Type 0
-  AsGrafted s = x.state ≡ s → GraftsIn s best root first names made x y → IsGraftedAs b best made at (line_of b (named_at names x.value).name at s) x y
+  AsGrafted s = x.state ≡ s → GraftsIn s best root first names made x y → IsGraftedAs b best made at (node_line b (named_at names x.value).name at s) x y
 
   -- it stays open
   left-open : (k : Vertex Terminal) (floor : ℕ) → LineOpens k (AtTerminal Frontier) → floor ≡ floor_value b at → y ≡ record (placed root first x) { value = floor; made = state.Open; state = state.Open } → IsGraftedAs b best made at k x y
@@ -86,7 +86,7 @@ module _ (b : Problem) (best root first : ℕ) (names : List Named) (made : List
   as-open is e = left-open (AtTerminal Frontier) x.value (Frontier, refl, refl) (h.floor (ap has_floor is)) (e ∙ ap (λ s. record (placed root first x) { made = s; state = state.Open }) (h.made ∙ is))
 
   as-out : AsGrafted state.Out
-  as-out is e = rw e (record { line = AtTerminal Frontier; opens = (Frontier, refl, refl); lined = ap (line_of b (get_or (prefixes made) x.value []) at) (h.made ∙ is); seen = refl; named = tt; floor = λ of. h.floor (ap has_floor is); depth = h.depth; short = h.short; in_table = refl })
+  as-out is e = rw e (record { line = AtTerminal Frontier; opens = (Frontier, refl, refl); lined = ap (node_line b (get_or (prefixes made) x.value []) at) (h.made ∙ is); seen = refl; named = tt; floor = λ of. h.floor (ap has_floor is); depth = h.depth; short = h.short; in_table = refl })
 
   as-closed : AsGrafted state.Closed
   as-closed is e =
@@ -94,7 +94,7 @@ module _ (b : Problem) (best root first : ℕ) (names : List Named) (made : List
       (record {
         line = AtTerminal (Carries (floor b at));
         opens = (Carries (floor b at), refl, refl);
-        lined = ap (line_of b (get_or (prefixes made) x.value []) at) (h.made ∙ is);
+        lined = ap (node_line b (get_or (prefixes made) x.value []) at) (h.made ∙ is);
         seen =
             ap (λ s. record { prefix = at; state = s })
             (settled-seen b (get_or (prefixes made) x.value []) at (nat_le best x.value)
@@ -112,7 +112,7 @@ module _ (b : Problem) (best root first : ℕ) (names : List Named) (made : List
       (record {
         line = AtSplit (ready b.block at);
         opens = refl;
-        lined = ap (line_of b (get_or (prefixes made) x.value []) at) (h.made ∙ is);
+        lined = ap (node_line b (get_or (prefixes made) x.value []) at) (h.made ∙ is);
         seen = refl;
         named = tt;
         floor = λ of. absurd cc;
@@ -129,7 +129,7 @@ module _ (b : Problem) (best root first : ℕ) (names : List Named) (made : List
       (record {
         line = AtTerminal (Passed name);
         opens = (Passed name, refl, inl refl);
-        lined = ap (line_of b (get_or (prefixes made) n []) at) (h.made ∙ is) ∙ ap (λ ns. AtTerminal (Passed ns)) named.over;
+        lined = ap (node_line b (get_or (prefixes made) n []) at) (h.made ∙ is) ∙ ap (λ ns. AtTerminal (Passed ns)) named.over;
         seen = ap (λ ns. record { prefix = at; state = seen_state b ns at state.Dominated }) named.over;
         named = (n, named);
         floor = λ of. absurd cc;
@@ -138,7 +138,7 @@ module _ (b : Problem) (best root first : ℕ) (names : List Named) (made : List
         in_table = refl;
       })
 
-  pub grafted-as : Grafts best root first names made x y → IsGraftedAs b best made at (line_of b (named_at names x.value).name at x.state) x y
+  pub grafted-as : Grafts best root first names made x y → IsGraftedAs b best made at (node_line b (named_at names x.value).name at x.state) x y
   grafted-as g = by x.state refl g
     where
       by : (s : State) → AsGrafted s
@@ -159,16 +159,16 @@ grafts-at best root first names made x y g = by x.state g
     by state.Dominated (inl e) = (ap (λ (z : Node). z.parent) e, ap (λ (z : Node). z.number) e)
     by state.Dominated (inr (n, named, e)) = (ap (λ (z : Node). z.parent) e, ap (λ (z : Node). z.number) e)
 
-pub grafts-in : (best root first : ℕ) (names : List Named) (made : List Node) (x y : Node) → Grafts best root first names made x y → is_out y ≡ false
+pub grafts-in : (best root first : ℕ) (names : List Named) (made : List Node) (x y : Node) → Grafts best root first names made x y → stores_out y ≡ false
 grafts-in best root first names made x y g = by x.state g
   where
-    by : (s : State) → GraftsIn s best root first names made x y → is_out y ≡ false
-    by state.Open e = ap is_out e
-    by state.Out e = ap is_out e
-    by state.Closed e = ap is_out e ∙ settled-in (nat_le best x.value)
-    by state.Split e = ap is_out e
-    by state.Dominated (inl e) = ap is_out e
-    by state.Dominated (inr (n, named, e)) = ap is_out e
+    by : (s : State) → GraftsIn s best root first names made x y → stores_out y ≡ false
+    by state.Open e = ap stores_out e
+    by state.Out e = ap stores_out e
+    by state.Closed e = ap stores_out e ∙ settled-in (nat_le best x.value)
+    by state.Split e = ap stores_out e
+    by state.Dominated (inl e) = ap stores_out e
+    by state.Dominated (inr (n, named, e)) = ap stores_out e
 
 -- THOSE BELOW A ROOT
 
@@ -199,7 +199,7 @@ placed-within root first (suc j) pieces made h lt = omega (arith, h.count, lt)
 pub record IsMarked (b : Problem) (best : ℕ) (news : List (List ℕ)) (ks : List (Vertex Terminal)) (made ys : List Node) : Type 0 where
   pub taken : List (Vertex Terminal)
   pub opens : LinesOpen ks taken
-  pub lines : lines_of b (made ++ ys) ≡ lines_of b made ++ taken
+  pub lines : made_lines b (made ++ ys) ≡ made_lines b made ++ taken
   pub nodes : nodes_of b (made ++ ys) ≡ nodes_of b made ++ line_nodes b best news taken
   pub named : LinesAreNamed (made ++ ys) taken
   pub floors : HaveFloors b made → HaveFloors b (made ++ ys)
@@ -236,12 +236,12 @@ module _ (b : Problem) (best root first : ℕ) (names : List Named) where
       last-place (suc n) some e = omega (arith, e, h.room)
 
   pub marked-all : (pieces : List (List ℕ)) (made xs ys : List Node) → AreMade root first pieces made → length made + length xs < 2 ^ 32 → NodesFrom b names pieces xs → AreGrafted best root first names made xs ys →
-      IsMarked b best (later_prefixes pieces xs) (lines_at b names (later_prefixes pieces xs) xs) made ys
+      IsMarked b best (later_prefixes pieces xs) (node_lines b names (later_prefixes pieces xs) xs) made ys
   marked-all pieces made [] [] are room h g =
       record {
         taken = [];
         opens = tt;
-        lines = ap (lines_of b) (append-nil made) ∙ sym (append-nil (lines_of b made));
+        lines = ap (made_lines b) (append-nil made) ∙ sym (append-nil (made_lines b made));
         nodes = ap (nodes_of b) (append-nil made) ∙ sym (append-nil (nodes_of b made));
         named = tt;
         floors = λ floors. subst (HaveFloors b) (sym (append-nil made)) floors;
@@ -265,11 +265,11 @@ module _ (b : Problem) (best root first : ℕ) (names : List Named) where
         taken = l.line ∷ r.taken;
         opens = (l.opens, r.opens);
         lines =
-            ap (lines_of b) (sym (append_assoc made (y ∷ []) ys))
+            ap (made_lines b) (sym (append_assoc made (y ∷ []) ys))
             ∙ (r.lines
             ∙ (ap (λ ks. ks ++ r.taken) (lines-push b made y at some path)
-            ∙ (append_assoc (lines_of b made) (made_line b name at y ∷ []) r.taken
-            ∙ ap (λ (k : Vertex Terminal). lines_of b made ++ k ∷ r.taken) l.lined)));
+            ∙ (append_assoc (made_lines b made) (made_line b name at y ∷ []) r.taken
+            ∙ ap (λ (k : Vertex Terminal). made_lines b made ++ k ∷ r.taken) l.lined)));
         nodes =
             ap (nodes_of b) (sym (append_assoc made (y ∷ []) ys))
             ∙ (r.nodes
@@ -282,7 +282,7 @@ module _ (b : Problem) (best root first : ℕ) (names : List Named) where
             subst (HaveFloors b) (append_assoc made (y ∷ []) ys) (r.floors (floors-push b made y some floors (λ kept. l.floor kept ∙ ap (floor_value b) (sym path))));
         depths = λ depths.
             let above = get_or (prefixes made) y.parent [] in
-            let own : y.depth ≡ min 255 ((node_at made y.parent).depth + 1) =
+            let own : y.depth ≡ min 255 ((stored_at made y.parent).depth + 1) =
             omega (arith, l.depth, ap length (sym path), length-append above (y.number ∷ []), depths y.parent within, l.short) in
             subst HaveDepths (append_assoc made (y ∷ []) ys) (r.depths (depths-push made y within own depths));
       }
@@ -306,26 +306,26 @@ module _ (best root : ℕ) (names : List Named) (made below all : List Node) whe
   pub grafting-length : IsGrafting best root names made below all → length all ≡ length made + length below
   grafting-length h = omega (arith, ap length h.behind, length-append made h.more, grafted-length best root (length made) names made below h.more h.grafted)
 
-  pub grafting-out : IsGrafting best root names made below all → (i : ℕ) → IsOut made i → IsOut all i
-  grafting-out h i out = subst (λ ns. IsOut ns i) (sym h.behind) (still-out made h.more i out)
+  pub grafting-out : IsGrafting best root names made below all → (i : ℕ) → StoresOut made i → StoresOut all i
+  grafting-out h i out = subst (λ ns. StoresOut ns i) (sym h.behind) (still-out made h.more i out)
 
-pub grafting-more : (best root : ℕ) (names : List Named) (made below all : List Node) (i : ℕ) (y : Node) → IsGrafting best root names made (take i below) all → i < length below → Grafts best root (length made) names all (node_at below i) y → IsGrafting best root names made (take (i + 1) below) (all ++ y ∷ [])
+pub grafting-more : (best root : ℕ) (names : List Named) (made below all : List Node) (i : ℕ) (y : Node) → IsGrafting best root names made (take i below) all → i < length below → Grafts best root (length made) names all (stored_at below i) y → IsGrafting best root names made (take (i + 1) below) (all ++ y ∷ [])
 grafting-more best root names made below all i y h lt g =
     record {
       more = h.more ++ y ∷ [];
       behind = ap (λ xs. xs ++ y ∷ []) h.behind ∙ append_assoc made h.more (y ∷ []);
       grafted =
-          subst (λ xs. AreGrafted best root (length made) names made xs (h.more ++ y ∷ [])) (sym (take_more below i no_node lt))
-          (grafted-push best root (length made) names made (take i below) h.more (node_at below i) y h.grafted (subst (λ (ms : List Node). Grafts best root (length made) names ms (node_at below i) y) h.behind g));
+          subst (λ xs. AreGrafted best root (length made) names made xs (h.more ++ y ∷ [])) (sym (take_more below i no_stored lt))
+          (grafted-push best root (length made) names made (take i below) h.more (stored_at below i) y h.grafted (subst (λ (ms : List Node). Grafts best root (length made) names ms (stored_at below i) y) h.behind g));
     }
 
 -- the node at a place
-pub grafts-index : (best root first : ℕ) (names : List Named) (made below : List Node) (i : ℕ) (d y : Node) → i < length below → Grafts best root first names made (get_or below i d) y → Grafts best root first names made (node_at below i) y
-grafts-index best root first names made below i d y lt g = subst (λ (x : Node). Grafts best root first names made x y) (get_or-any below i d no_node (λ x. x) lt) g
+pub grafts-index : (best root first : ℕ) (names : List Named) (made below : List Node) (i : ℕ) (d y : Node) → i < length below → Grafts best root first names made (get_or below i d) y → Grafts best root first names made (stored_at below i) y
+grafts-index best root first names made below i d y lt g = subst (λ (x : Node). Grafts best root first names made x y) (get_or-any below i d no_stored (λ x. x) lt) g
 
 pub names-index : (count : ℕ) (below : List Node) (i : ℕ) (d : Node) → HaveNames count below → i < length below → (get_or below i d).state ≡ state.Dominated → (get_or below i d).value < count
 names-index count below i d h lt is =
-    let same = get_or-any below i d no_node (λ x. x) lt in
+    let same = get_or-any below i d no_stored (λ x. x) lt in
     omega (arith, h i lt (ap (λ (x : Node). x.state) (sym same) ∙ is), ap (λ (x : Node). x.value) same)
 
 -- a dominated node of a piece has a name

@@ -8,12 +8,12 @@ use Rattle.s66_model.specs.Leaves.{floor_value}
 use Rattle.s66_node.specs.declared.node.Node.{Node}
 use Rattle.s66_node.specs.declared.node.State.{State}
 use Rattle.s66_node.specs.Nodes.{has_floor}
-use Rattle.s66_ledger.specs.Nodes.{prefixes, node_at, no_node, with_state, HaveFloors}
+use Rattle.s66_ledger.specs.Nodes.{prefixes, stored_at, no_stored, put_state, HaveFloors}
 use Rattle.s66_node.proofs.Nodes.{get_or-front, get_or-last}
 use Rattle.s66_ledger.proofs.NodePrefixes.{push-front, push-last, prefixes-set}
 use Rattle.s66_ledger.proofs.OpenHeap.{set-here, set-other}
 
-at-front : (xs : List Node) (x : Node) (i : ℕ) → i < length xs → node_at (xs ++ x ∷ []) i ≡ node_at xs i
+at-front : (xs : List Node) (x : Node) (i : ℕ) → i < length xs → stored_at (xs ++ x ∷ []) i ≡ stored_at xs i
 at-front xs x i lt = get_or-front xs x i _ lt
 
 pub floors-push : (b : Problem) (xs : List Node) (x : Node) → 0 < length xs → HaveFloors b xs → (has_floor x.state ≡ true → x.value ≡ floor_value b (get_or (prefixes xs) x.parent [] ++ x.number ∷ [])) → HaveFloors b (xs ++ x ∷ [])
@@ -21,7 +21,7 @@ floors-push b xs x some floors own i lt live =
     elim (cases_le (length xs) i) [
       | inl le ↦
           (let last : i ≡ length xs = omega (arith, le, lt, length-append xs (x ∷ [])) in
-          let here : node_at (xs ++ x ∷ []) i ≡ x = ap (node_at (xs ++ x ∷ [])) last ∙ get_or-last xs x _ in
+          let here : stored_at (xs ++ x ∷ []) i ≡ x = ap (stored_at (xs ++ x ∷ [])) last ∙ get_or-last xs x _ in
           let there = ap (λ k. get_or (prefixes (xs ++ x ∷ [])) k []) last ∙ push-last xs x some in
           ap (λ (n : Node). n.value) here ∙ (own (subst (λ (n : Node). has_floor n.state ≡ true) here live) ∙ ap (floor_value b) (sym there)))
       | inr within ↦
@@ -42,5 +42,5 @@ floors-set b nodes i y d lt e f own floors j within live =
     ]
 
 -- a node that keeps its floor's value takes another state
-pub floors-state : (b : Problem) (nodes : List Node) (i : ℕ) (s : State) → i < length nodes → has_floor (node_at nodes i).state ≡ true → HaveFloors b nodes → HaveFloors b (with_state nodes i s)
-floors-state b nodes i s lt kept floors = floors-set b nodes i (record (node_at nodes i) { state = s }) no_node lt refl refl (λ live. floors i lt kept) floors
+pub floors-state : (b : Problem) (nodes : List Node) (i : ℕ) (s : State) → i < length nodes → has_floor (stored_at nodes i).state ≡ true → HaveFloors b nodes → HaveFloors b (put_state nodes i s)
+floors-state b nodes i s lt kept floors = floors-set b nodes i (record (stored_at nodes i) { state = s }) no_stored lt refl refl (λ live. floors i lt kept) floors

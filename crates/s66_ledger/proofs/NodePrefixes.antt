@@ -5,7 +5,7 @@ use Rattle.std.proofs.lemmas.List.{length-take}
 use Rattle.s66_isa.proofs.Lists.{cases_le}
 use Rattle.s66_node.specs.declared.node.Node.{Node}
 use Rattle.s66_node.specs.Nodes.{prefixes_from}
-use Rattle.s66_ledger.specs.Nodes.{prefixes, name_at, node_at}
+use Rattle.s66_ledger.specs.Nodes.{prefixes, name_at, stored_at}
 use Rattle.s66_node.proofs.Nodes.{get_or-front, get_or-last, prefixes_from-push, length-prefixes_from}
 
 -- LISTS
@@ -129,15 +129,15 @@ take-at (a ∷ ats) (suc i) zero lt = refl
 take-at (a ∷ ats) (suc i) (suc k) lt = take-at ats i k (omega arith)
 
 -- a name is the prefix of a node before it, else the root's
-pub name-node : (xs : List Node) (i : ℕ) → 0 < length xs → name_at xs i ≡ get_or (prefixes xs) (parent_at i (node_at xs i).value) []
+pub name-node : (xs : List Node) (i : ℕ) → 0 < length xs → name_at xs i ≡ get_or (prefixes xs) (parent_at i (stored_at xs i).value) []
 name-node xs i some =
-    let v = (node_at xs i).value in
+    let v = (stored_at xs i).value in
     elim (cases_le i v) [
       | inl le ↦ rw (not-below i v le) (get_or-past (take i (prefixes xs)) v [] (omega (arith, le, length-take i (prefixes xs))) ∙ sym (prefix-none xs some))
       | inr lt ↦ rw (lt-ltb v i lt) (take-at (prefixes xs) i v lt)
     ]
 
-module _ (xs : List Node) (i v : ℕ) (within : i < length xs) (is : v ≡ (node_at xs i).value) where
+module _ (xs : List Node) (i v : ℕ) (within : i < length xs) (is : v ≡ (stored_at xs i).value) where
   pub name-below : v < i → name_at xs i ≡ get_or (prefixes xs) v []
   name-below lt =
       name-node xs i (omega (arith, within))

@@ -13,8 +13,8 @@ use Rattle.s66_node.specs.declared.node.Node.{Node}
 use Rattle.s66_node.specs.declared.node.State.{State}
 use Rattle.s66_node.specs.declared.node.State.TheVariants as state
 use Rattle.s66_ledger.specs.declared.limits.TheConstants.{DEPTH_RANKS}
-use Rattle.s66_node.specs.Nodes.{is_open_state}
-use Rattle.s66_ledger.specs.Nodes.{no_node, node_at, is_open}
+use Rattle.s66_node.specs.Nodes.{is_stored_open}
+use Rattle.s66_ledger.specs.Nodes.{no_stored, stored_at, stores_open}
 use Rattle.s66_node.proofs.Nodes.{get_or-front, get_or-last}
 use Rattle.s66_ledger.proofs.NodePrefixes.{get_or-past}
 use Rattle.s66_ledger.specs.OpenNodes.{ranked, rank_of, IsRanked, AreOpenNodes}
@@ -31,41 +31,41 @@ tally-permutation test xs ys same = sym (tally-sum test ys) ∙ (sum_by-IsPermut
 
 -- NODES
 
-pub is-open : (s : State) → is_open_state s ≡ true → s ≡ state.Open
+pub is-open : (s : State) → is_stored_open s ≡ true → s ≡ state.Open
 is-open state.Open h = refl
 is-open state.Out h = absurd cc
 is-open state.Closed h = absurd cc
 is-open state.Split h = absurd cc
 is-open state.Dominated h = absurd cc
 
-in-range : (nodes : List Node) (i : ℕ) → is_open (node_at nodes i) ≡ true → i < length nodes
+in-range : (nodes : List Node) (i : ℕ) → stores_open (stored_at nodes i) ≡ true → i < length nodes
 in-range [] i h = absurd cc
 in-range (x ∷ nodes) zero h = omega arith
 in-range (x ∷ nodes) (suc i) h = omega (arith, in-range nodes i h)
 
-set-same : (nodes : List Node) (i : ℕ) (y : Node) → i < length nodes → node_at (set nodes i y) i ≡ y
+set-same : (nodes : List Node) (i : ℕ) (y : Node) → i < length nodes → stored_at (set nodes i y) i ≡ y
 set-same [] i y lt = absurd (omega arith)
 set-same (x ∷ nodes) zero y lt = refl
 set-same (x ∷ nodes) (suc i) y lt = set-same nodes i y (omega arith)
 
-pub set-other : (nodes : List Node) (i j : ℕ) (y : Node) → i ≢ j → node_at (set nodes i y) j ≡ node_at nodes j
+pub set-other : (nodes : List Node) (i j : ℕ) (y : Node) → i ≢ j → stored_at (set nodes i y) j ≡ stored_at nodes j
 set-other [] i j y ne = refl
 set-other (x ∷ nodes) zero zero y ne = absurd (ne refl)
 set-other (x ∷ nodes) zero (suc j) y ne = refl
 set-other (x ∷ nodes) (suc i) zero y ne = refl
 set-other (x ∷ nodes) (suc i) (suc j) y ne = set-other nodes i j y (λ e. ne (ap suc e))
 
-pub set-here : (nodes : List Node) (i j : ℕ) (y : Node) → i < length nodes → i ≡ j → node_at (set nodes i y) j ≡ y
-set-here nodes i j y lt e = ap (node_at (set nodes i y)) (sym e) ∙ set-same nodes i y lt
+pub set-here : (nodes : List Node) (i j : ℕ) (y : Node) → i < length nodes → i ≡ j → stored_at (set nodes i y) j ≡ y
+set-here nodes i j y lt e = ap (stored_at (set nodes i y)) (sym e) ∙ set-same nodes i y lt
 
 -- a node of the same value is ranked alike
-ranks-set : (nodes : List Node) (i : ℕ) (y : Node) (entries : List Entry) → y.value ≡ (node_at nodes i).value → All (IsRanked nodes) entries → All (IsRanked (set nodes i y)) entries
+ranks-set : (nodes : List Node) (i : ℕ) (y : Node) (entries : List Entry) → y.value ≡ (stored_at nodes i).value → All (IsRanked nodes) entries → All (IsRanked (set nodes i y)) entries
 ranks-set nodes i y entries same all = All-weaker (IsRanked nodes) (IsRanked (set nodes i y)) alike entries all
   where
-    value-same : (j : ℕ) → j < length nodes → (node_at (set nodes i y) j).value ≡ (node_at nodes j).value
+    value-same : (j : ℕ) → j < length nodes → (stored_at (set nodes i y) j).value ≡ (stored_at nodes j).value
     value-same j lt =
         elim (cases_eq i j) [
-          | inl e ↦ ap (λ (x : Node). x.value) (set-here nodes i j y (omega (arith, lt, e)) e) ∙ (same ∙ ap (λ k. (node_at nodes k).value) e)
+          | inl e ↦ ap (λ (x : Node). x.value) (set-here nodes i j y (omega (arith, lt, e)) e) ∙ (same ∙ ap (λ k. (stored_at nodes k).value) e)
           | inr ne ↦ ap (λ (x : Node). x.value) (set-other nodes i j y ne)
         ]
 
@@ -88,11 +88,11 @@ one b c e = ap (λ t. cond {A = ℕ} t 1 0) e
 
 module _ (nodes : List Node) (entries : List Entry) (are : AreOpenNodes nodes entries) where
   module _ (rest : List Entry) (r i : ℕ) (popped : IsPermutation entries ((r, i) ∷ rest)) where
-    counted : (k : ℕ) → tally (λ (e : Entry). e.1 == k) rest + cond (i == k) 1 0 ≡ cond (is_open (node_at nodes k)) 1 0
+    counted : (k : ℕ) → tally (λ (e : Entry). e.1 == k) rest + cond (i == k) 1 0 ≡ cond (stores_open (stored_at nodes k)) 1 0
     counted k = omega (arith, are.once k, tally-permutation (λ (e : Entry). e.1 == k) entries ((r, i) ∷ rest) popped)
 
-    open-there : is_open (node_at nodes i) ≡ true
-    open-there = open-true (is_open (node_at nodes i)) (tally (λ (e : Entry). e.1 == i) rest) (omega (arith, counted i, one (i == i) true (eq-eqb i i refl)))
+    open-there : stores_open (stored_at nodes i) ≡ true
+    open-there = open-true (stores_open (stored_at nodes i)) (tally (λ (e : Entry). e.1 == i) rest) (omega (arith, counted i, one (i == i) true (eq-eqb i i refl)))
 
     all-ranked : All (IsRanked nodes) ((r, i) ∷ rest)
     all-ranked = All-permutation (IsRanked nodes) entries ((r, i) ∷ rest) popped are.ranks
@@ -100,10 +100,10 @@ module _ (nodes : List Node) (entries : List Entry) (are : AreOpenNodes nodes en
     pub taken-within : i < length nodes
     taken-within = in-range nodes i open-there
 
-    pub taken-open : (node_at nodes i).state ≡ state.Open
-    taken-open = is-open (node_at nodes i).state open-there
+    pub taken-open : (stored_at nodes i).state ≡ state.Open
+    taken-open = is-open (stored_at nodes i).state open-there
 
-    pub taken : (y : Node) → is_open_state y.state ≡ false → y.value ≡ (node_at nodes i).value → AreOpenNodes (set nodes i y) rest
+    pub taken : (y : Node) → is_stored_open y.state ≡ false → y.value ≡ (stored_at nodes i).value → AreOpenNodes (set nodes i y) rest
     taken y shut same =
         record {
           once =
@@ -111,16 +111,16 @@ module _ (nodes : List Node) (entries : List Entry) (are : AreOpenNodes nodes en
               elim (cases_eq i k) [
                 | inl e ↦
                     (let here = set-here nodes i k y taken-within e in
-                    omega (arith, counted k, at-most (is_open (node_at nodes k)), one (i == k) true (eq-eqb i k e), ap (λ (x : Node). cond {A = ℕ} (is_open x) 1 0) here, one (is_open_state y.state) false shut))
-                | inr ne ↦ omega (arith, counted k, one (i == k) false (ne_eqb i k ne), ap (λ (x : Node). cond {A = ℕ} (is_open x) 1 0) (set-other nodes i k y ne))
+                    omega (arith, counted k, at-most (stores_open (stored_at nodes k)), one (i == k) true (eq-eqb i k e), ap (λ (x : Node). cond {A = ℕ} (stores_open x) 1 0) here, one (is_stored_open y.state) false shut))
+                | inr ne ↦ omega (arith, counted k, one (i == k) false (ne_eqb i k ne), ap (λ (x : Node). cond {A = ℕ} (stores_open x) 1 0) (set-other nodes i k y ne))
               ];
-          count = omega (arith, are.count, length_permutation entries ((r, i) ∷ rest) popped, tally-set is_open nodes i y no_node taken-within, one (is_open (node_at nodes i)) true open-there, one (is_open_state y.state) false shut);
+          count = omega (arith, are.count, length_permutation entries ((r, i) ∷ rest) popped, tally-set stores_open nodes i y no_stored taken-within, one (stores_open (stored_at nodes i)) true open-there, one (is_stored_open y.state) false shut);
           ranks = ranks-set nodes i y rest same (All-tail (IsRanked nodes) (r, i) rest all-ranked);
         }
 
-  module _ (i : ℕ) (y : Node) (lt : i < length nodes) (shut : is_open (node_at nodes i) ≡ false) (same : y.value ≡ (node_at nodes i).value) where
+  module _ (i : ℕ) (y : Node) (lt : i < length nodes) (shut : stores_open (stored_at nodes i) ≡ false) (same : y.value ≡ (stored_at nodes i).value) where
     -- one that wasn't open is
-    pub put-in : (more : List Entry) (depth : ℕ) → is_open_state y.state ≡ true → depth < DEPTH_RANKS → IsPermutation ((rank_of y.value depth, i) ∷ entries) more → AreOpenNodes (set nodes i y) more
+    pub put-in : (more : List Entry) (depth : ℕ) → is_stored_open y.state ≡ true → depth < DEPTH_RANKS → IsPermutation ((rank_of y.value depth, i) ∷ entries) more → AreOpenNodes (set nodes i y) more
     put-in more depth opens few pushed =
         record {
           once =
@@ -129,11 +129,11 @@ module _ (nodes : List Node) (entries : List Entry) (are : AreOpenNodes nodes en
               elim (cases_eq i k) [
                 | inl e ↦
                     (let here = set-here nodes i k y lt e in
-                    let was : is_open (node_at nodes k) ≡ false = ap (λ j. is_open (node_at nodes j)) (sym e) ∙ shut in
-                    omega (arith, all, are.once k, one (is_open (node_at nodes k)) false was, one (i == k) true (eq-eqb i k e), ap (λ (x : Node). cond {A = ℕ} (is_open x) 1 0) here, one (is_open_state y.state) true opens))
-                | inr ne ↦ omega (arith, all, are.once k, one (i == k) false (ne_eqb i k ne), ap (λ (x : Node). cond {A = ℕ} (is_open x) 1 0) (set-other nodes i k y ne))
+                    let was : stores_open (stored_at nodes k) ≡ false = ap (λ j. stores_open (stored_at nodes j)) (sym e) ∙ shut in
+                    omega (arith, all, are.once k, one (stores_open (stored_at nodes k)) false was, one (i == k) true (eq-eqb i k e), ap (λ (x : Node). cond {A = ℕ} (stores_open x) 1 0) here, one (is_stored_open y.state) true opens))
+                | inr ne ↦ omega (arith, all, are.once k, one (i == k) false (ne_eqb i k ne), ap (λ (x : Node). cond {A = ℕ} (stores_open x) 1 0) (set-other nodes i k y ne))
               ]);
-          count = omega (arith, are.count, length_permutation ((rank_of y.value depth, i) ∷ entries) more pushed, tally-set is_open nodes i y no_node lt, one (is_open (node_at nodes i)) false shut, one (is_open_state y.state) true opens);
+          count = omega (arith, are.count, length_permutation ((rank_of y.value depth, i) ∷ entries) more pushed, tally-set stores_open nodes i y no_stored lt, one (stores_open (stored_at nodes i)) false shut, one (is_stored_open y.state) true opens);
           ranks =
               All-permutation (IsRanked (set nodes i y)) ((rank_of y.value depth, i) ∷ entries) more pushed
               (All-cons (IsRanked (set nodes i y)) (rank_of y.value depth, i) entries
@@ -142,7 +142,7 @@ module _ (nodes : List Node) (entries : List Entry) (are : AreOpenNodes nodes en
         }
 
     -- one that wasn't open isn't
-    pub still-shut : is_open_state y.state ≡ false → AreOpenNodes (set nodes i y) entries
+    pub still-shut : is_stored_open y.state ≡ false → AreOpenNodes (set nodes i y) entries
     still-shut shuts =
         record {
           once =
@@ -150,30 +150,30 @@ module _ (nodes : List Node) (entries : List Entry) (are : AreOpenNodes nodes en
               elim (cases_eq i k) [
                 | inl e ↦
                     (let here = set-here nodes i k y lt e in
-                    let was : is_open (node_at nodes k) ≡ false = ap (λ j. is_open (node_at nodes j)) (sym e) ∙ shut in
-                    omega (arith, are.once k, one (is_open (node_at nodes k)) false was, ap (λ (x : Node). cond {A = ℕ} (is_open x) 1 0) here, one (is_open_state y.state) false shuts))
-                | inr ne ↦ omega (arith, are.once k, ap (λ (x : Node). cond {A = ℕ} (is_open x) 1 0) (set-other nodes i k y ne))
+                    let was : stores_open (stored_at nodes k) ≡ false = ap (λ j. stores_open (stored_at nodes j)) (sym e) ∙ shut in
+                    omega (arith, are.once k, one (stores_open (stored_at nodes k)) false was, ap (λ (x : Node). cond {A = ℕ} (stores_open x) 1 0) here, one (is_stored_open y.state) false shuts))
+                | inr ne ↦ omega (arith, are.once k, ap (λ (x : Node). cond {A = ℕ} (stores_open x) 1 0) (set-other nodes i k y ne))
               ];
-          count = omega (arith, are.count, tally-set is_open nodes i y no_node lt, one (is_open (node_at nodes i)) false shut, one (is_open_state y.state) false shuts);
+          count = omega (arith, are.count, tally-set stores_open nodes i y no_stored lt, one (stores_open (stored_at nodes i)) false shut, one (is_stored_open y.state) false shuts);
           ranks = ranks-set nodes i y entries same are.ranks;
         }
 
-pub out-shut : (nodes : List Node) (i : ℕ) → (node_at nodes i).state ≡ state.Out → is_open (node_at nodes i) ≡ false
-out-shut nodes i out = ap is_open_state out
+pub out-shut : (nodes : List Node) (i : ℕ) → (stored_at nodes i).state ≡ state.Out → stores_open (stored_at nodes i) ≡ false
+out-shut nodes i out = ap is_stored_open out
 
 -- ONE NODE MORE
 
-at-new : (nodes : List Node) (x : Node) (k : ℕ) → k ≡ length nodes → node_at (nodes ++ x ∷ []) k ≡ x
-at-new nodes x k e = ap (node_at (nodes ++ x ∷ [])) e ∙ get_or-last nodes x no_node
+at-new : (nodes : List Node) (x : Node) (k : ℕ) → k ≡ length nodes → stored_at (nodes ++ x ∷ []) k ≡ x
+at-new nodes x k e = ap (stored_at (nodes ++ x ∷ [])) e ∙ get_or-last nodes x no_stored
 
-past : (nodes : List Node) (k : ℕ) → k ≡ length nodes → is_open (node_at nodes k) ≡ false
-past nodes k e = ap is_open (get_or-past nodes k no_node (omega (arith, e)))
+past : (nodes : List Node) (k : ℕ) → k ≡ length nodes → stores_open (stored_at nodes k) ≡ false
+past nodes k e = ap stores_open (get_or-past nodes k no_stored (omega (arith, e)))
 
-at-old : (nodes : List Node) (x : Node) (k : ℕ) → k ≢ length nodes → node_at (nodes ++ x ∷ []) k ≡ node_at nodes k
+at-old : (nodes : List Node) (x : Node) (k : ℕ) → k ≢ length nodes → stored_at (nodes ++ x ∷ []) k ≡ stored_at nodes k
 at-old nodes x k ne =
     elim (cases_le (length nodes) k) [
-      | inl le ↦ get_or-past (nodes ++ x ∷ []) k no_node (omega (arith, le, ne, length-append nodes (x ∷ []))) ∙ sym (get_or-past nodes k no_node le)
-      | inr lt ↦ get_or-front nodes x k no_node lt
+      | inl le ↦ get_or-past (nodes ++ x ∷ []) k no_stored (omega (arith, le, ne, length-append nodes (x ∷ []))) ∙ sym (get_or-past nodes k no_stored le)
+      | inr lt ↦ get_or-front nodes x k no_stored lt
     ]
 
 ranks-push : (nodes : List Node) (x : Node) (entries : List Entry) → All (IsRanked nodes) entries → All (IsRanked (nodes ++ x ∷ [])) entries
@@ -181,20 +181,20 @@ ranks-push nodes x entries all = All-weaker (IsRanked nodes) (IsRanked (nodes ++
   where
     alike : (e : Entry) → IsRanked nodes e → IsRanked (nodes ++ x ∷ []) e
     alike e (lt, (depth, few, is)) =
-        (omega (arith, lt, length-append nodes (x ∷ [])), (depth, few, is ∙ ap (λ (n : Node). rank_of n.value depth) (sym (get_or-front nodes x e.1 no_node lt))))
+        (omega (arith, lt, length-append nodes (x ∷ [])), (depth, few, is ∙ ap (λ (n : Node). rank_of n.value depth) (sym (get_or-front nodes x e.1 no_stored lt))))
 
 module _ (nodes : List Node) (x : Node) (entries : List Entry) (are : AreOpenNodes nodes entries) where
-  pub more-open : (more : List Entry) (depth : ℕ) → is_open_state x.state ≡ true → depth < DEPTH_RANKS → IsPermutation ((rank_of x.value depth, length nodes) ∷ entries) more → AreOpenNodes (nodes ++ x ∷ []) more
+  pub more-open : (more : List Entry) (depth : ℕ) → is_stored_open x.state ≡ true → depth < DEPTH_RANKS → IsPermutation ((rank_of x.value depth, length nodes) ∷ entries) more → AreOpenNodes (nodes ++ x ∷ []) more
   more-open more depth opens few pushed =
       record {
         once =
             λ k.
             (let all = tally-permutation (λ (e : Entry). e.1 == k) ((rank_of x.value depth, length nodes) ∷ entries) more pushed in
             elim (cases_eq (length nodes) k) [
-              | inl e ↦ omega (arith, all, are.once k, one (is_open (node_at nodes k)) false (past nodes k (sym e)), one (length nodes == k) true (eq-eqb (length nodes) k e), ap (λ (n : Node). cond {A = ℕ} (is_open n) 1 0) (at-new nodes x k (sym e)), one (is_open_state x.state) true opens)
-              | inr ne ↦ omega (arith, all, are.once k, one (length nodes == k) false (ne_eqb (length nodes) k ne), ap (λ (n : Node). cond {A = ℕ} (is_open n) 1 0) (at-old nodes x k (λ e. ne (sym e))))
+              | inl e ↦ omega (arith, all, are.once k, one (stores_open (stored_at nodes k)) false (past nodes k (sym e)), one (length nodes == k) true (eq-eqb (length nodes) k e), ap (λ (n : Node). cond {A = ℕ} (stores_open n) 1 0) (at-new nodes x k (sym e)), one (is_stored_open x.state) true opens)
+              | inr ne ↦ omega (arith, all, are.once k, one (length nodes == k) false (ne_eqb (length nodes) k ne), ap (λ (n : Node). cond {A = ℕ} (stores_open n) 1 0) (at-old nodes x k (λ e. ne (sym e))))
             ]);
-        count = omega (arith, are.count, length_permutation ((rank_of x.value depth, length nodes) ∷ entries) more pushed, tally-append is_open nodes (x ∷ []), one (is_open_state x.state) true opens);
+        count = omega (arith, are.count, length_permutation ((rank_of x.value depth, length nodes) ∷ entries) more pushed, tally-append stores_open nodes (x ∷ []), one (is_stored_open x.state) true opens);
         ranks =
             All-permutation (IsRanked (nodes ++ x ∷ [])) ((rank_of x.value depth, length nodes) ∷ entries) more pushed
             (All-cons (IsRanked (nodes ++ x ∷ [])) (rank_of x.value depth, length nodes) entries
@@ -202,16 +202,16 @@ module _ (nodes : List Node) (x : Node) (entries : List Entry) (are : AreOpenNod
             (ranks-push nodes x entries are.ranks));
       }
 
-  pub more-shut : is_open_state x.state ≡ false → AreOpenNodes (nodes ++ x ∷ []) entries
+  pub more-shut : is_stored_open x.state ≡ false → AreOpenNodes (nodes ++ x ∷ []) entries
   more-shut shuts =
       record {
         once =
             λ k.
             elim (cases_eq (length nodes) k) [
-              | inl e ↦ omega (arith, are.once k, one (is_open (node_at nodes k)) false (past nodes k (sym e)), ap (λ (n : Node). cond {A = ℕ} (is_open n) 1 0) (at-new nodes x k (sym e)), one (is_open_state x.state) false shuts)
-              | inr ne ↦ omega (arith, are.once k, ap (λ (n : Node). cond {A = ℕ} (is_open n) 1 0) (at-old nodes x k (λ e. ne (sym e))))
+              | inl e ↦ omega (arith, are.once k, one (stores_open (stored_at nodes k)) false (past nodes k (sym e)), ap (λ (n : Node). cond {A = ℕ} (stores_open n) 1 0) (at-new nodes x k (sym e)), one (is_stored_open x.state) false shuts)
+              | inr ne ↦ omega (arith, are.once k, ap (λ (n : Node). cond {A = ℕ} (stores_open n) 1 0) (at-old nodes x k (λ e. ne (sym e))))
             ];
-        count = omega (arith, are.count, tally-append is_open nodes (x ∷ []), one (is_open_state x.state) false shuts);
+        count = omega (arith, are.count, tally-append stores_open nodes (x ∷ []), one (is_stored_open x.state) false shuts);
         ranks = ranks-push nodes x entries are.ranks;
       }
 
@@ -222,14 +222,14 @@ first-open node none more state-is empty pushed =
     let same : IsPermutation ((rank_of node.value 0, 0) ∷ []) more = subst (λ xs. IsPermutation ((rank_of node.value 0, 0) ∷ xs) more) empty pushed in
     record {
       once = λ k. tally-permutation (λ (e : Entry). e.1 == k) ((rank_of node.value 0, 0) ∷ []) more same ∙ opening k;
-      count = omega (arith, length_permutation ((rank_of node.value 0, 0) ∷ []) more same, one (is_open node) true (ap is_open_state state-is));
+      count = omega (arith, length_permutation ((rank_of node.value 0, 0) ∷ []) more same, one (stores_open node) true (ap is_stored_open state-is));
       ranks =
           All-permutation (IsRanked (node ∷ [])) ((rank_of node.value 0, 0) ∷ []) more same
           (All-cons (IsRanked (node ∷ [])) (rank_of node.value 0, 0) [] (omega arith, (0, omega arith, refl)) (All-nil (IsRanked (node ∷ []))));
     }
   where
-    opening : (k : ℕ) → tally (λ (e : Entry). e.1 == k) ((rank_of node.value 0, 0) ∷ []) ≡ cond (is_open (node_at (node ∷ []) k)) 1 0
-    opening zero = omega (arith, one (is_open node) true (ap is_open_state state-is))
+    opening : (k : ℕ) → tally (λ (e : Entry). e.1 == k) ((rank_of node.value 0, 0) ∷ []) ≡ cond (stores_open (stored_at (node ∷ []) k)) 1 0
+    opening zero = omega (arith, one (stores_open node) true (ap is_stored_open state-is))
     opening (suc k) = omega (arith, one (eqb 0 (suc k)) false (ne_eqb 0 (suc k) (omega arith)))
 
 -- THE GREATEST RANK is of the least value
@@ -245,13 +245,13 @@ among-tally (x ∷ entries) P j all some =
       | inr is ↦ among-tally entries P j (All-tail P x entries all) (omega (arith, some, one (x.1 == j) false is))
     ]
 
-pub greatest-least : (nodes : List Node) (entries rest : List Entry) (r i : ℕ) → AreOpenNodes nodes entries → IsPermutation entries ((r, i) ∷ rest) → All (λ (e : Entry). e.0 ≤ r) entries → (j : ℕ) → is_open (node_at nodes j) ≡ true → ranked (node_at nodes i).value ≤ ranked (node_at nodes j).value
+pub greatest-least : (nodes : List Node) (entries rest : List Entry) (r i : ℕ) → AreOpenNodes nodes entries → IsPermutation entries ((r, i) ∷ rest) → All (λ (e : Entry). e.0 ≤ r) entries → (j : ℕ) → stores_open (stored_at nodes j) ≡ true → ranked (stored_at nodes i).value ≤ ranked (stored_at nodes j).value
 greatest-least nodes entries rest r i are popped top j opens =
     let (lt, (d, few, is)) = All-head (IsRanked nodes) (r, i) rest (All-permutation (IsRanked nodes) entries ((r, i) ∷ rest) popped are.ranks) in
     let both : All (λ (e : Entry). IsRanked nodes e × (e.0 ≤ r)) entries = All-both entries are.ranks top in
-    let (e, (ranked-there, le), there) = among-tally entries (λ (e : Entry). IsRanked nodes e × (e.0 ≤ r)) j both (omega (arith, are.once j, one (is_open (node_at nodes j)) true opens)) in
-    let value : e.0 ≡ rank_of (node_at nodes j).value ranked-there.1.0 = ranked-there.1.2 ∙ ap (λ k. rank_of (node_at nodes k).value ranked-there.1.0) there in
-    rank-value (node_at nodes i).value (node_at nodes j).value d ranked-there.1.0 few ranked-there.1.1 (omega (arith, le, value, is))
+    let (e, (ranked-there, le), there) = among-tally entries (λ (e : Entry). IsRanked nodes e × (e.0 ≤ r)) j both (omega (arith, are.once j, one (stores_open (stored_at nodes j)) true opens)) in
+    let value : e.0 ≡ rank_of (stored_at nodes j).value ranked-there.1.0 = ranked-there.1.2 ∙ ap (λ k. rank_of (stored_at nodes k).value ranked-there.1.0) there in
+    rank-value (stored_at nodes i).value (stored_at nodes j).value d ranked-there.1.0 few ranked-there.1.1 (omega (arith, le, value, is))
   where
     All-both : (es : List Entry) → All (IsRanked nodes) es → All (λ (e : Entry). e.0 ≤ r) es → All (λ (e : Entry). IsRanked nodes e × (e.0 ≤ r)) es
     All-both [] a b = All-nil (λ (e : Entry). IsRanked nodes e × (e.0 ≤ r))

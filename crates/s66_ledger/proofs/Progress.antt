@@ -21,7 +21,7 @@ use Rattle.s66_model.proofs.LedgerSteps.{root-stands}
 use Rattle.s66_ledger.proofs.Taken.{same-splits}
 use Rattle.s66_ledger.specs.GraftMoves.{IsTakenMove}
 use Rattle.s66_ledger.specs.PieceSplits.{piece_splits}
-use Rattle.s66_ledger.specs.Finishing.{IsSearched, IsBetween, IsOffering, still_to_go}
+use Rattle.s66_ledger.specs.Finishing.{IsSearched, IsBetweenRounds, IsOffering, still_to_go}
 use Rattle.s66_ledger.proofs.Events.{at-most-all}
 use Rattle.s66_ledger.proofs.Rounds.{leads-graft, claim-within, claim-back, graft-step}
 
@@ -112,7 +112,7 @@ open-counted (x ∷ nodes) node (inl e) opens =
     omega (arith, ap (λ t. cond {A = ℕ} t 1 0) (sym (ap is_open e) ∙ opens))
 open-counted (x ∷ nodes) node (inr later) opens = omega (arith, open-counted nodes node later opens)
 
-pub none-searched : (old new : MachineOf) → IsBetween old.problem old.state → IsMove old (Claim 1) (Claimed None) new → IsSearched new.problem new.budget new.state
+pub none-searched : (old new : MachineOf) → IsBetweenRounds old.problem old.state → IsMove old (Claim 1) (Claimed None) new → IsSearched new.problem new.budget new.state
 none-searched old new between h =
     subst (λ (b : Problem). IsSearched b new.budget new.state) (sym h.0)
     (subst (IsSearched old.problem new.budget) (sym h.3.1.1)
@@ -123,7 +123,7 @@ none-searched old new between h =
     }))
 
 -- the least floor of an open node isn't below the best time
-least-searched : (b : Problem) (budget : ℕ) (l : Ledger) (ticket : TicketOf) → IsBetween b l → IsLeastOpen b l (Some ticket) → best_time b l ≤ floor_value b ticket.prefix → IsSearched b budget l
+least-searched : (b : Problem) (budget : ℕ) (l : Ledger) (ticket : TicketOf) → IsBetweenRounds b l → IsLeastOpen b l (Some ticket) → best_time b l ≤ floor_value b ticket.prefix → IsSearched b budget l
 least-searched b budget l ticket between least reached =
     record {
       none_out = between.none_out;
@@ -135,7 +135,7 @@ least-searched b budget l ticket between least reached =
 
 -- if a node that was claimed for its least floor is given back, and that isn't below the best time
 pub back-searched : (old mid new : MachineOf) (ticket : TicketOf) (best floor : ℕ) →
-    IsBetween old.problem old.state → IsMove old (Claim 1) (Claimed (Some ticket.node)) mid → ticket.prefix ≡ (node_at old.state.nodes ticket.node).prefix →
+    IsBetweenRounds old.problem old.state → IsMove old (Claim 1) (Claimed (Some ticket.node)) mid → ticket.prefix ≡ (node_at old.state.nodes ticket.node).prefix →
     IsLeastOpen old.problem old.state (Some ticket) →
     best ≡ best_time mid.problem mid.state → floor ≡ floor_value mid.problem (node_at mid.state.nodes ticket.node).prefix → best ≤ floor →
     IsMove mid (Back 1 ticket.node) Returned new → IsSearched new.problem new.budget new.state

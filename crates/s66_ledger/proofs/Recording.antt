@@ -16,7 +16,7 @@ use Rattle.s66_model.specs.Preorder.{read_tree}
 use Rattle.s66_model.proofs.Forests.{read-flat}
 use Rattle.s66_node.specs.declared.node.Node.{Node}
 use Rattle.s66_node.specs.declared.node.State.{State}
-use Rattle.s66_node.specs.Nodes.{line_of}
+use Rattle.s66_node.specs.Nodes.{node_line}
 use Rattle.s66_node.specs.Pieces.{PieceOf, tree_of}
 use Rattle.s66_ledger.specs.declared.entry.Entry.{Entry}
 use Rattle.s66_ledger.specs.declared.entry.Refusal.{Refusal}
@@ -28,7 +28,7 @@ use Rattle.s66_ledger.specs.HistoryEntries.{byte_count, line_count, entry_of, en
 use Rattle.s66_ledger.specs.LedgerMachine.{MachineOf, IsMove}
 use Rattle.s66_ledger.specs.GraftMoves.{IsGraftMove, IsRefusedMove, taken_event, IsTakenMove}
 use Rattle.s66_ledger.specs.Grafts.{IsGraftAt, IsRefusedGraftAt}
-use Rattle.s66_ledger.specs.Nodes.{no_node, node_at}
+use Rattle.s66_ledger.specs.Nodes.{no_stored, stored_at}
 use Rattle.s66_ledger.specs.Grafting.{opened_state, IsTakenAs}
 use Rattle.s66_ledger.proofs.NodePrefixes.{get_or-any}
 use Rattle.s66_ledger.proofs.Taken.{same-splits}
@@ -133,19 +133,19 @@ offer-entry b p w order numbers own time reply event owns same total (other, oth
     ∙ ap (λ e. stated e reply) (sym is)))
 
 -- a piece has a root
-pub root-state : (p : PieceOf) (nodes : List Node) (d : Node) (part : Tree Terminal) → IsTakenAs p part → nodes ≡ p.nodes → opened_state (get_or nodes 0 d).state ≡ opened_state (node_at p.nodes 0).state
+pub root-state : (p : PieceOf) (nodes : List Node) (d : Node) (part : Tree Terminal) → IsTakenAs p part → nodes ≡ p.nodes → opened_state (get_or nodes 0 d).state ≡ opened_state (stored_at p.nodes 0).state
 root-state p nodes d part h is =
     let some : 0 < length nodes = omega (arith, ap length is, h.count, ap length h.root, length-take 1 (flat part)) in
-    get_or-any nodes 0 d no_node (λ (n : Node). opened_state n.state) some ∙ ap (λ xs. opened_state (node_at xs 0).state) is
+    get_or-any nodes 0 d no_stored (λ (n : Node). opened_state n.state) some ∙ ap (λ xs. opened_state (stored_at xs 0).state) is
 
 module _ (m next : MachineOf) (w i : ℕ) (p : PieceOf) (count : ℕ) (counts : count ≡ splits (tree_of p)) where
   -- the root's state and the lines below it determine what is taken of the piece
-  pub taken-entry : (prefix : List ℕ) (root : State) (h : IsTakenMove m w i p next) → prefix ≡ p.prefix → root ≡ opened_state (node_at p.nodes 0).state →
-      stated (Graft w i true prefix count (Some (read_tree Frontier (line_of m.problem [] prefix root ∷ drop 1 (flat h.part))))) Taken ≡ stated (taken_event w i p h.part) Taken
+  pub taken-entry : (prefix : List ℕ) (root : State) (h : IsTakenMove m w i p next) → prefix ≡ p.prefix → root ≡ opened_state (stored_at p.nodes 0).state →
+      stated (Graft w i true prefix count (Some (read_tree Frontier (node_line m.problem [] prefix root ∷ drop 1 (flat h.part))))) Taken ≡ stated (taken_event w i p h.part) Taken
   taken-entry prefix root h over is =
-      let all : line_of m.problem [] prefix root ∷ drop 1 (flat h.part) ≡ flat h.part =
+      let all : node_line m.problem [] prefix root ∷ drop 1 (flat h.part) ≡ flat h.part =
       rw (over, is, sym h.problem) (ap (λ ks. ks ++ drop 1 (flat h.part)) (sym h.taken.root) ∙ take-append-drop 1 (flat h.part)) in
-      let tree : read_tree Frontier (line_of m.problem [] prefix root ∷ drop 1 (flat h.part)) ≡ h.part = ap (read_tree Frontier) all ∙ read-flat Frontier h.part h.taken.match in
+      let tree : read_tree Frontier (node_line m.problem [] prefix root ∷ drop 1 (flat h.part)) ≡ h.part = ap (read_tree Frontier) all ∙ read-flat Frontier h.part h.taken.match in
       ap (λ t. stated (Graft w i true prefix count (Some t)) Taken) tree
       ∙ (ap (λ n. stated (Graft w i true prefix n (Some h.part)) Taken) (counts ∙ same-splits (tree_of p) h.part h.taken.opens)
       ∙ ap (λ at. stated (Graft w i true at (splits h.part) (Some h.part)) Taken) over)

@@ -23,7 +23,7 @@ use Rattle.s66_model.specs.Tickets.{TicketOf}
 use Rattle.s66_ledger.specs.LedgerMachine.{MachineOf, IsMove}
 use Rattle.s66_ledger.specs.GraftMoves.{IsGraftMove, taken_event, IsTakenMove}
 use Rattle.s66_ledger.proofs.Taken.{same-splits, same-wholes}
-use Rattle.s66_ledger.specs.Finishing.{Leads, NoneOut, IsIdle, IsBetween, IsWithin, IsOffering, still_to_go}
+use Rattle.s66_ledger.specs.Finishing.{Leads, NoneOut, IsIdle, IsBetweenRounds, IsWithinRound, IsOffering, still_to_go}
 use Rattle.s66_ledger.proofs.Leading.{event-leads, leads-on, leads-fall}
 use Rattle.s66_ledger.proofs.TimedWholes.{wholes-offered, wholes-moved, wholes-grafted}
 
@@ -88,10 +88,10 @@ alone-set : (xs : List ℕ) (v : ℕ) → 1 ≤ length xs → weigh (λ n. n) xs
 alone-set xs v some alone = omega (arith, sum-set xs v some, alone, get_or-set_same xs 0 v 0 (omega (arith, some)))
 
 module _ (old new : MachineOf) (n : ℕ) (h : IsMove old (Grant 1) (Granted n) new) where
-  pub grant-between : IsBetween old.problem old.state → IsBetween new.problem new.state
+  pub grant-between : IsBetweenRounds old.problem old.state → IsBetweenRounds new.problem new.state
   grant-between between =
-      subst (λ (b : Problem). IsBetween b new.state) (sym h.0)
-      (subst (IsBetween old.problem) (sym h.3.1.1)
+      subst (λ (b : Problem). IsBetweenRounds b new.state) (sym h.0)
+      (subst (IsBetweenRounds old.problem) (sym h.3.1.1)
       (record {
         none_out = between.none_out;
         alone = alone-set old.state.allowances (allowance old.state 1 + share_of old.state) h.3.0.1 between.alone;
@@ -99,7 +99,7 @@ module _ (old new : MachineOf) (n : ℕ) (h : IsMove old (Grant 1) (Granted n) n
       }))
 
   -- nothing more is granted if all is spent
-  pub grant-spent : Covers old.rule old.problem old.budget old.state → IsBetween old.problem old.state → allowance old.state 1 ≡ 0 → n ≡ 0 → new.state.spent ≡ new.budget
+  pub grant-spent : Covers old.rule old.problem old.budget old.state → IsBetweenRounds old.problem old.state → allowance old.state 1 ≡ 0 → n ≡ 0 → new.state.spent ≡ new.budget
   grant-spent covers between none nothing =
       omega (arith, covers.sum, between.alone, none, nothing, h.3.1.0, h.1, ap (λ (l : Ledger). l.spent) h.3.1.1)
 
@@ -118,10 +118,10 @@ module _ (old new : MachineOf) (ticket : TicketOf) (h : IsMove old (Claim 1) (Cl
   here : node_at (with_state old.state.nodes i Out) i ≡ node
   here = get_or-set_same old.state.nodes i node no_node lt
 
-  pub claim-within : IsBetween old.problem old.state → IsWithin new.problem new.state ticket
+  pub claim-within : IsBetweenRounds old.problem old.state → IsWithinRound new.problem new.state ticket
   claim-within between =
-      subst (λ (b : Problem). IsWithin b new.state ticket) (sym h.0)
-      (subst (λ l. IsWithin old.problem l ticket) (sym h.3.1.2)
+      subst (λ (b : Problem). IsWithinRound b new.state ticket) (sym h.0)
+      (subst (λ l. IsWithinRound old.problem l ticket) (sym h.3.1.2)
       (record {
         out = (omega (arith, lt, length-set old.state.nodes i node), ap (λ (x : Node). x.state) here);
         prefix = prefix ∙ sym (ap (λ (x : Node). x.prefix) here);
@@ -167,7 +167,7 @@ module _ (old new : MachineOf) (offers : IsOffering old new) where
   pub offer-idle : IsIdle old.state → IsIdle new.state
   offer-idle idle = record { none_out = still-none-out idle.none_out; no_allowance = ap (weigh (λ n. n)) same-allowances ∙ idle.no_allowance }
 
-  pub offer-within : (ticket : TicketOf) → IsWithin old.problem old.state ticket → IsWithin new.problem new.state ticket
+  pub offer-within : (ticket : TicketOf) → IsWithinRound old.problem old.state ticket → IsWithinRound new.problem new.state ticket
   offer-within ticket within =
       record {
         out = subst (λ ns. (ticket.node < length ns) × ((node_at ns ticket.node).state ≡ Out)) (sym same-nodes) within.out;
@@ -177,7 +177,7 @@ module _ (old new : MachineOf) (offers : IsOffering old new) where
         wholes = wholes-offered old new offers within.wholes;
       }
 
-  pub offer-between : IsBetween old.problem old.state → IsBetween new.problem new.state
+  pub offer-between : IsBetweenRounds old.problem old.state → IsBetweenRounds new.problem new.state
   offer-between between =
       record { none_out = still-none-out between.none_out; alone = still-alone between.alone; wholes = wholes-offered old new offers between.wholes }
 
@@ -217,7 +217,7 @@ pub leads-graft : (old new : MachineOf) (ticket : TicketOf) (piece : PieceOf) �
 leads-graft old new ticket piece h = event-leads old new (taken_event 1 ticket.node piece h.part) Taken h.move
 
 -- of a piece whose whole orders aren't below the best time
-pub graft-between : (old new : MachineOf) (ticket : TicketOf) (piece : PieceOf) → IsWithin old.problem old.state ticket → ((order : List ℕ) → Among order (whole_orders piece.prefix (tree_of piece)) → best_time old.problem old.state ≤ total_of old.problem order) → IsTakenMove old 1 ticket.node piece new → IsBetween new.problem new.state
+pub graft-between : (old new : MachineOf) (ticket : TicketOf) (piece : PieceOf) → IsWithinRound old.problem old.state ticket → ((order : List ℕ) → Among order (whole_orders piece.prefix (tree_of piece)) → best_time old.problem old.state ≤ total_of old.problem order) → IsTakenMove old 1 ticket.node piece new → IsBetweenRounds new.problem new.state
 graft-between old new ticket piece within each h =
     let b = old.problem in
     let l = old.state in
@@ -238,8 +238,8 @@ graft-between old new ticket piece within each h =
       ap (λ s. cond {A = ℕ} (is_out_state s) 1 0) within.out.1,
       ap (λ t. cond {A = ℕ} t 1 0) (root-not-out b best piece.prefix tree),
     ) in
-    subst (λ (p : Problem). IsBetween p new.state) (sym (leads-graft old new ticket piece h).0)
-    (subst (IsBetween b) (sym taken.3)
+    subst (λ (p : Problem). IsBetweenRounds p new.state) (sym (leads-graft old new ticket piece h).0)
+    (subst (IsBetweenRounds b) (sym taken.3)
     (record {
       none_out = none-among (with_state l.nodes i (root_state b best piece.prefix tree) ++ made) none;
       alone = alone-set l.allowances (allowance l 1 - splits tree) taken.0 within.alone;

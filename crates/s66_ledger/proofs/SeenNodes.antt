@@ -10,8 +10,8 @@ use Rattle.s66_model.specs.Ledger as model
 use Rattle.s66_node.specs.declared.node.Node.{Node}
 use Rattle.s66_node.specs.declared.node.State.{State}
 use Rattle.s66_node.specs.declared.node.State.TheVariants as state
-use Rattle.s66_node.specs.Nodes.{is_open_state, line_of}
-use Rattle.s66_ledger.specs.Nodes.{prefixes, name_at, seen_state, seen_node, made_line, seen_at, nodes_of, lines_of, no_node, node_at, with_state, is_open}
+use Rattle.s66_node.specs.Nodes.{is_stored_open, node_line}
+use Rattle.s66_ledger.specs.Nodes.{prefixes, name_at, seen_state, seen_node, made_line, seen_at, nodes_of, made_lines, no_stored, stored_at, put_state, stores_open}
 use Rattle.s66_ledger.specs.LedgerMachine.{IsMadeAs}
 use Rattle.s66_ledger.proofs.NodePrefixes.{length-prefixes, prefixes-push, prefixes-set}
 
@@ -34,7 +34,7 @@ seen-push f xs x at some is =
 pub nodes-push : (b : Problem) (xs : List Node) (x : Node) (at : List ℕ) → 0 < length xs → get_or (prefixes xs) x.parent [] ++ x.number ∷ [] ≡ at → nodes_of b (xs ++ x ∷ []) ≡ nodes_of b xs ++ seen_node b (get_or (prefixes xs) x.value []) at x ∷ []
 nodes-push b = seen-push (seen_node b)
 
-pub lines-push : (b : Problem) (xs : List Node) (x : Node) (at : List ℕ) → 0 < length xs → get_or (prefixes xs) x.parent [] ++ x.number ∷ [] ≡ at → lines_of b (xs ++ x ∷ []) ≡ lines_of b xs ++ made_line b (get_or (prefixes xs) x.value []) at x ∷ []
+pub lines-push : (b : Problem) (xs : List Node) (x : Node) (at : List ℕ) → 0 < length xs → get_or (prefixes xs) x.parent [] ++ x.number ∷ [] ≡ at → made_lines b (xs ++ x ∷ []) ≡ made_lines b xs ++ made_line b (get_or (prefixes xs) x.value []) at x ∷ []
 lines-push b = seen-push (made_line b)
 
 -- ANOTHER STATE
@@ -54,20 +54,20 @@ nodes_at-set b before (a ∷ ats) (x ∷ xs) (suc i) y e lt =
 pub nodes-set : (b : Problem) (xs : List Node) (i : ℕ) (y d : Node) → i < length xs → y.parent ≡ (get_or xs i d).parent → y.number ≡ (get_or xs i d).number → nodes_of b (set xs i y) ≡ model.with_state (nodes_of b xs) i (seen_state b (get_or (take i (prefixes xs)) y.value []) (model.node_at (nodes_of b xs) i).prefix y.state)
 nodes-set b xs i y d lt e f = ap (λ ats. seen_at (seen_node b) [] ats (set xs i y)) (prefixes-set xs i y d e f) ∙ nodes_at-set b [] (prefixes xs) xs i y (length-prefixes xs) lt
 
-pub nodes-state : (b : Problem) (xs : List Node) (i : ℕ) (s : State) (seen : model.State) → i < length xs → ((name at : List ℕ) → seen_state b name at s ≡ seen) → nodes_of b (with_state xs i s) ≡ model.with_state (nodes_of b xs) i seen
+pub nodes-state : (b : Problem) (xs : List Node) (i : ℕ) (s : State) (seen : model.State) → i < length xs → ((name at : List ℕ) → seen_state b name at s ≡ seen) → nodes_of b (put_state xs i s) ≡ model.with_state (nodes_of b xs) i seen
 nodes-state b xs i s seen lt is =
-    nodes-set b xs i (record (node_at xs i) { state = s }) no_node lt refl refl ∙ ap (λ y. model.with_state (nodes_of b xs) i y) (is (name_at xs i) (model.node_at (nodes_of b xs) i).prefix)
+    nodes-set b xs i (record (stored_at xs i) { state = s }) no_stored lt refl refl ∙ ap (λ y. model.with_state (nodes_of b xs) i y) (is (name_at xs i) (model.node_at (nodes_of b xs) i).prefix)
 
 -- its line stays
-lines_at-state : (b : Problem) (before ats : List (List ℕ)) (xs : List Node) (i : ℕ) (s : State) → seen_at (made_line b) before ats (with_state xs i s) ≡ seen_at (made_line b) before ats xs
+lines_at-state : (b : Problem) (before ats : List (List ℕ)) (xs : List Node) (i : ℕ) (s : State) → seen_at (made_line b) before ats (put_state xs i s) ≡ seen_at (made_line b) before ats xs
 lines_at-state b before [] xs i s = refl
 lines_at-state b before (a ∷ ats) [] i s = refl
 lines_at-state b before (a ∷ ats) (x ∷ xs) zero s = refl
 lines_at-state b before (a ∷ ats) (x ∷ xs) (suc i) s = ap (λ ks. made_line b (get_or before x.value []) a x ∷ ks) (lines_at-state b (before ++ a ∷ []) ats xs i s)
 
-pub lines-state : (b : Problem) (xs : List Node) (i : ℕ) (s : State) → lines_of b (with_state xs i s) ≡ lines_of b xs
+pub lines-state : (b : Problem) (xs : List Node) (i : ℕ) (s : State) → made_lines b (put_state xs i s) ≡ made_lines b xs
 lines-state b xs i s =
-    ap (λ ats. seen_at (made_line b) [] ats (with_state xs i s)) (prefixes-set xs i (record (node_at xs i) { state = s }) no_node refl refl) ∙ lines_at-state b [] (prefixes xs) xs i s
+    ap (λ ats. seen_at (made_line b) [] ats (put_state xs i s)) (prefixes-set xs i (record (stored_at xs i) { state = s }) no_stored refl refl) ∙ lines_at-state b [] (prefixes xs) xs i s
 
 -- WHAT IS SEEN
 
@@ -80,52 +80,52 @@ length-seen_at f before (a ∷ ats) (x ∷ xs) e = omega (arith, length-seen_at 
 pub length-nodes : (b : Problem) (xs : List Node) → length (nodes_of b xs) ≡ length xs
 length-nodes b xs = length-seen_at (seen_node b) [] (prefixes xs) xs (length-prefixes xs)
 
-pub length-lines : (b : Problem) (xs : List Node) → length (lines_of b xs) ≡ length xs
+pub length-lines : (b : Problem) (xs : List Node) → length (made_lines b xs) ≡ length xs
 length-lines b xs = length-seen_at (made_line b) [] (prefixes xs) xs (length-prefixes xs)
 
-at-seen_at : {V : Type 0} (f : (name at : List ℕ) → Node → V) (before ats : List (List ℕ)) (xs : List Node) (i : ℕ) (d : V) → length ats ≡ length xs → i < length xs → get_or (seen_at f before ats xs) i d ≡ f (get_or (before ++ take i ats) (node_at xs i).value []) (get_or ats i []) (node_at xs i)
+at-seen_at : {V : Type 0} (f : (name at : List ℕ) → Node → V) (before ats : List (List ℕ)) (xs : List Node) (i : ℕ) (d : V) → length ats ≡ length xs → i < length xs → get_or (seen_at f before ats xs) i d ≡ f (get_or (before ++ take i ats) (stored_at xs i).value []) (get_or ats i []) (stored_at xs i)
 at-seen_at f before [] [] i d e lt = absurd (omega arith)
 at-seen_at f before [] (x ∷ xs) i d e lt = absurd (omega arith)
 at-seen_at f before (a ∷ ats) [] i d e lt = absurd (omega arith)
 at-seen_at f before (a ∷ ats) (x ∷ xs) zero d e lt = ap (λ (all : List (List ℕ)). f (get_or all x.value []) a x) (sym (append-nil before))
 at-seen_at f before (a ∷ ats) (x ∷ xs) (suc i) d e lt =
     at-seen_at f (before ++ a ∷ []) ats xs i d (omega arith) (omega arith)
-    ∙ ap (λ (all : List (List ℕ)). f (get_or all (node_at xs i).value []) (get_or ats i []) (node_at xs i)) (append_assoc before (a ∷ []) (take i ats))
+    ∙ ap (λ (all : List (List ℕ)). f (get_or all (stored_at xs i).value []) (get_or ats i []) (stored_at xs i)) (append_assoc before (a ∷ []) (take i ats))
 
-pub at-nodes : (b : Problem) (xs : List Node) (i : ℕ) → i < length xs → model.node_at (nodes_of b xs) i ≡ seen_node b (name_at xs i) (get_or (prefixes xs) i []) (node_at xs i)
+pub at-nodes : (b : Problem) (xs : List Node) (i : ℕ) → i < length xs → model.node_at (nodes_of b xs) i ≡ seen_node b (name_at xs i) (get_or (prefixes xs) i []) (stored_at xs i)
 at-nodes b xs i lt = at-seen_at (seen_node b) [] (prefixes xs) xs i model.no_node (length-prefixes xs) lt
 
-pub at-lines : (b : Problem) (xs : List Node) (i : ℕ) (d : Vertex Terminal) → i < length xs → get_or (lines_of b xs) i d ≡ made_line b (name_at xs i) (get_or (prefixes xs) i []) (node_at xs i)
+pub at-lines : (b : Problem) (xs : List Node) (i : ℕ) (d : Vertex Terminal) → i < length xs → get_or (made_lines b xs) i d ≡ made_line b (name_at xs i) (get_or (prefixes xs) i []) (stored_at xs i)
 at-lines b xs i d lt = at-seen_at (made_line b) [] (prefixes xs) xs i d (length-prefixes xs) lt
 
 -- how a node was made
-pub made-as : (b : Problem) (xs : List Node) (i : ℕ) (r : Option State) → IfSome r (λ s. (i < length xs) × (s ≡ (node_at xs i).made)) → IfNone r (length xs ≤ i) → IsMadeAs b (nodes_of b xs) (lines_of b xs) i r
+pub made-as : (b : Problem) (xs : List Node) (i : ℕ) (r : Option State) → IfSome r (λ s. (i < length xs) × (s ≡ (stored_at xs i).made)) → IfNone r (length xs ≤ i) → IsMadeAs b (nodes_of b xs) (made_lines b xs) i r
 made-as b xs i None some none = omega (arith, none, length-lines b xs)
 made-as b xs i (Some s) some none = (
   omega (arith, some.0, length-lines b xs),
   (
     name_at xs i,
     at-lines b xs i (AtTerminal Frontier) some.0
-        ∙ (ap (line_of b (name_at xs i) (get_or (prefixes xs) i [])) (sym some.1)
-        ∙ ap (λ at. line_of b (name_at xs i) at s) (sym (ap (λ (n : model.Node). n.prefix) (at-nodes b xs i some.0)))),
+        ∙ (ap (node_line b (name_at xs i) (get_or (prefixes xs) i [])) (sym some.1)
+        ∙ ap (λ at. node_line b (name_at xs i) at s) (sym (ap (λ (n : model.Node). n.prefix) (at-nodes b xs i some.0)))),
   ),
 )
 
-pub open-seen : (b : Problem) (name at : List ℕ) (s : State) → model.is_open_state (seen_state b name at s) ≡ is_open_state s
+pub open-seen : (b : Problem) (name at : List ℕ) (s : State) → model.is_open_state (seen_state b name at s) ≡ is_stored_open s
 open-seen b name at state.Open = refl
 open-seen b name at state.Out = refl
 open-seen b name at state.Closed = refl
 open-seen b name at state.Split = refl
 open-seen b name at state.Dominated = refl
 
-open-nodes_at : (b : Problem) (before ats : List (List ℕ)) (xs : List Node) → length ats ≡ length xs → tally model.is_open (seen_at (seen_node b) before ats xs) ≡ tally is_open xs
+open-nodes_at : (b : Problem) (before ats : List (List ℕ)) (xs : List Node) → length ats ≡ length xs → tally model.is_open (seen_at (seen_node b) before ats xs) ≡ tally stores_open xs
 open-nodes_at b before [] [] e = refl
 open-nodes_at b before [] (x ∷ xs) e = absurd (omega arith)
 open-nodes_at b before (a ∷ ats) [] e = absurd (omega arith)
 open-nodes_at b before (a ∷ ats) (x ∷ xs) e =
     omega (arith, open-nodes_at b (before ++ a ∷ []) ats xs (omega arith), ap (λ t. cond {A = ℕ} t 1 0) (open-seen b (get_or before x.value []) a x.state))
 
-pub open-nodes : (b : Problem) (xs : List Node) → tally model.is_open (nodes_of b xs) ≡ tally is_open xs
+pub open-nodes : (b : Problem) (xs : List Node) → tally model.is_open (nodes_of b xs) ≡ tally stores_open xs
 open-nodes b xs = open-nodes_at b [] (prefixes xs) xs (length-prefixes xs)
 
 pub dominated-seen : (b : Problem) (name at : List ℕ) (s : State) (is : List ℕ) → seen_state b name at s ≡ model.Closed (Dominated is) → s ≡ state.Dominated

@@ -21,7 +21,7 @@ use Rattle.s66_node.specs.Growing.{sibling_prefixes, tree_prefixes}
 use Rattle.s66_node.specs.declared.node.Node.{Node}
 use Rattle.s66_node.specs.declared.node.State.{State}
 use Rattle.s66_node.specs.declared.node.State.TheVariants as state
-use Rattle.s66_ledger.specs.Nodes.{prefixes, name_at, node_at, seen_state, nodes_of}
+use Rattle.s66_ledger.specs.Nodes.{prefixes, name_at, stored_at, seen_state, nodes_of}
 use Rattle.s66_ledger.specs.Grafting.{IsNamed}
 use Rattle.s66_ledger.proofs.SeenNodes.{at-nodes, length-nodes}
 
@@ -185,12 +185,12 @@ siblings-node (Split numbers sub siblings) (Split ks under others) (m ∷ ms) (n
     (siblings-node siblings others ms (n ∷ path) k.2)
 siblings-node siblings others (m ∷ ms) (n ∷ path) k = absurd k
 
-tree-node : (tree part : Tree Terminal) (prefix name : List ℕ) → TreeOpens tree part → is_node (names.node_at prefix tree name) ≡ is_node (names.node_at prefix part name)
+tree-node : (tree part : Tree Terminal) (prefix name : List ℕ) → TreeOpens tree part → is_node (names.node_named prefix tree name) ≡ is_node (names.node_named prefix part name)
 tree-node (Alone terminal) (Alone taken) [] name k = terminal-node terminal taken name
 tree-node (Parted numbers siblings) (Parted ns others) [] name k = siblings-node siblings others numbers name k.1 ∙ ap (λ xs. is_node (sibling_at xs others name)) k.0
 tree-node tree part (n ∷ prefix) [] k = refl
 tree-node tree part (n ∷ prefix) (m ∷ name) k =
-    either-node (eqb n m) (names.node_at prefix tree name) None (names.node_at prefix part name) None (tree-node tree part prefix name k) refl
+    either-node (eqb n m) (names.node_named prefix tree name) None (names.node_named prefix part name) None (tree-node tree part prefix name k) refl
 tree-node tree part [] name k = absurd k
 
 still-in : (rule : Rule) (prefix : List ℕ) (tree part : Tree Terminal) (at name : List ℕ) → TreeOpens tree part → IsNamedIn rule prefix tree at name → IsNamedIn rule prefix part at name
@@ -297,7 +297,7 @@ module _ (rule : Rule) (b : Problem) (root : List ℕ) (tree : Tree Terminal) (n
         model.node_at (nodes_of b nodes) n,
         among-at (nodes_of b nodes) n model.no_node (omega (arith, named.within, length-nodes b nodes)),
         ap (λ (x : model.Node). x.prefix) is ∙ named.over,
-        ap (λ (x : model.Node). may_name rule x.state) is ∙ may-standing rule b name at (name_at nodes n) (get_or (prefixes nodes) n []) (node_at nodes n).state h.0 named.standing,
+        ap (λ (x : model.Node). may_name rule x.state) is ∙ may-standing rule b name at (name_at nodes n) (get_or (prefixes nodes) n []) (stored_at nodes n).state h.0 named.standing,
       )
 
   siblings-named : (siblings : Siblings Terminal) (prefix ns : List ℕ) → SiblingsHold b.block (TerminalHolds rule b root tree) prefix ns siblings → LinesAreNamed nodes (flat_siblings siblings) → SiblingsHold b.block (TerminalIsNamed rule (nodes_of b nodes)) prefix ns siblings

@@ -5,7 +5,7 @@ use Rattle.std.proofs.lemmas.List.{length-set, get_or-set_other, get_or-set_same
 use Rattle.s66_isa.specs.Lists.{weigh}
 use Rattle.s66_model.specs.Ledger.{Ledger, Node, State, Open, Out, no_node, node_at, with_state, Back, Retire, Returned, Retired, IsOut}
 use Rattle.s66_ledger.specs.Finishing.{NoneOut, NoneOutBelow, IsIdle, IsReopening}
-use Rattle.s66_ledger.specs.LedgerMachine.{MachineOf, IsMove, state_of}
+use Rattle.s66_ledger.specs.LedgerMachine.{MachineOf, IsMove, ledger_from}
 use Rattle.s66_ledger.specs.Nodes.{nodes_of}
 use Rattle.s66_ledger.specs.OpenNodes as OpenNodes
 use Rattle.s66_node.specs.declared.node.Node as kept
@@ -88,6 +88,6 @@ idle-after l count none is nothing =
     }
 
 -- none of the nodes that are stored is out
-pub none-kept-out : (b : Problem) (nodes : List kept.Node) (best : List ℕ) (left : ℕ) (allowances : List ℕ) (spent : ℕ) → ((i : ℕ) → ¬ OpenNodes.IsOut nodes i) → NoneOut (state_of b nodes best left allowances spent)
+pub none-kept-out : (b : Problem) (nodes : List kept.Node) (best : List ℕ) (left : ℕ) (allowances : List ℕ) (spent : ℕ) → ((i : ℕ) → ¬ OpenNodes.StoresOut nodes i) → NoneOut (ledger_from b nodes best left allowances spent)
 none-kept-out b nodes best left allowances spent none =
     each-among (λ (n : Node). n.state ≢ Out) no_node (nodes_of b nodes) (λ i lt out. not-out b nodes best left allowances spent i (none i) (lt, out))

@@ -16,9 +16,9 @@ use Rattle.s66_time.specs.TimedOrder.{TimedOrder}
 use Rattle.s66_ledger.specs.declared.reply.Offered.{Offered}
 use Rattle.s66_ledger.specs.declared.reply.Offered.TheVariants as offered
 use Rattle.s66_ledger.specs.Finishing.{WholesAreTimed, IsTimedAt, IsOffering, IsTiming}
-use Rattle.s66_ledger.specs.LedgerMachine.{MachineOf, IsMove, Stored, IsKept, machine_of, state_of}
-use Rattle.s66_node.specs.Nodes.{has_floor, is_live_state}
-use Rattle.s66_ledger.specs.Nodes.{prefixes, name_at, node_at, nodes_of, seen_state}
+use Rattle.s66_ledger.specs.LedgerMachine.{MachineOf, IsMove, Stored, IsKeptMachine, machine_of, ledger_from}
+use Rattle.s66_node.specs.Nodes.{has_floor, is_stored_live}
+use Rattle.s66_ledger.specs.Nodes.{prefixes, name_at, stored_at, nodes_of, seen_state}
 use Rattle.s66_node.specs.declared.node.Node.{Node}
 use Rattle.s66_node.specs.declared.node.State.{State}
 use Rattle.s66_node.specs.declared.node.State.TheVariants as state
@@ -74,14 +74,14 @@ timed-now old new w i timed answer is (event, (own, iff, stated), h) =
 
 -- WHAT IS NOT OFFERED
 
-live-seen : (b : Problem) (name at : List ℕ) (s : State) → model.is_live_state (seen_state b name at s) ≡ is_live_state s
+live-seen : (b : Problem) (name at : List ℕ) (s : State) → model.is_live_state (seen_state b name at s) ≡ is_stored_live s
 live-seen b name at state.Open = refl
 live-seen b name at state.Out = refl
 live-seen b name at state.Closed = refl
 live-seen b name at state.Split = refl
 live-seen b name at state.Dominated = refl
 
-live-floor : (s : State) → is_live_state s ≡ true → has_floor s ≡ true
+live-floor : (s : State) → is_stored_live s ≡ true → has_floor s ≡ true
 live-floor state.Open live = refl
 live-floor state.Out live = refl
 live-floor state.Closed live = refl
@@ -89,27 +89,27 @@ live-floor state.Split live = absurd cc
 live-floor state.Dominated live = absurd cc
 
 -- a node that is open or out, and isn't below the best
-pub not-below : (m : Stored) → IsKept m → (l : MachineOf) → machine_of m ≡ l → (i time : ℕ) → i < length m.nodes → time ≡ total_of m.best.problem m.best.numbers → ¬ ((is_live_state (node_at m.nodes i).state ≡ true) × ((node_at m.nodes i).value < time)) → is_live (model.node_at l.state.nodes i) ≡ true → best_time l.problem l.state ≤ floor_value l.problem (model.node_at l.state.nodes i).prefix
+pub not-below : (m : Stored) → IsKeptMachine m → (l : MachineOf) → machine_of m ≡ l → (i time : ℕ) → i < length m.nodes → time ≡ total_of m.best.problem m.best.numbers → ¬ ((is_stored_live (stored_at m.nodes i).state ≡ true) × ((stored_at m.nodes i).value < time)) → is_live (model.node_at l.state.nodes i) ≡ true → best_time l.problem l.state ≤ floor_value l.problem (model.node_at l.state.nodes i).prefix
 not-below m h l is i time lt total never =
     let b = m.problem in
     let at = get_or (prefixes m.nodes) i [] in
-    let s = (node_at m.nodes i).state in
+    let s = (stored_at m.nodes i).state in
     subst (λ (l : MachineOf). is_live (model.node_at l.state.nodes i) ≡ true → best_time l.problem l.state ≤ floor_value l.problem (model.node_at l.state.nodes i).prefix) is
     (subst (λ (n : model.Node). is_live n ≡ true → total_of b m.best.numbers ≤ floor_value b n.prefix) (sym (at-nodes b m.nodes i lt))
     (λ live.
-    let here : is_live_state s ≡ true = sym (live-seen b (name_at m.nodes i) at s) ∙ live in
-    elim (cases_le time (node_at m.nodes i).value) [
+    let here : is_stored_live s ≡ true = sym (live-seen b (name_at m.nodes i) at s) ∙ live in
+    elim (cases_le time (stored_at m.nodes i).value) [
       | inr below ↦ absurd (never (here, below))
       | inl ge ↦ omega (arith, ge, total, ap (λ p. total_of p m.best.numbers) h.own, h.floors i lt (live-floor s here))
     ]))
 
 -- no node that is open or out has a whole order
-pub none-whole : (b : Problem) (nodes : List Node) (best : List ℕ) (left : ℕ) (allowances : List ℕ) (spent : ℕ) → ((i : ℕ) → i < length nodes → is_live_state (node_at nodes i).state ≡ true → length (get_or (prefixes nodes) i []) < length b.block) → WholesAreTimed b (state_of b nodes best left allowances spent)
-none-whole b nodes best left allowances spent short = all-timed b (state_of b nodes best left allowances spent) never
+pub none-whole : (b : Problem) (nodes : List Node) (best : List ℕ) (left : ℕ) (allowances : List ℕ) (spent : ℕ) → ((i : ℕ) → i < length nodes → is_stored_live (stored_at nodes i).state ≡ true → length (get_or (prefixes nodes) i []) < length b.block) → WholesAreTimed b (ledger_from b nodes best left allowances spent)
+none-whole b nodes best left allowances spent short = all-timed b (ledger_from b nodes best left allowances spent) never
   where
-    never : (i : ℕ) → i < length (nodes_of b nodes) → IsTimedAt b (state_of b nodes best left allowances spent) i
+    never : (i : ℕ) → i < length (nodes_of b nodes) → IsTimedAt b (ledger_from b nodes best left allowances spent) i
     never i lt live whole =
         let within : i < length nodes = omega (arith, lt, length-nodes b nodes) in
         let at = get_or (prefixes nodes) i [] in
         let is = at-nodes b nodes i within in
-        absurd (omega (arith, short i within (sym (live-seen b (name_at nodes i) at (node_at nodes i).state) ∙ (sym (ap is_live is) ∙ live)), whole, ap (λ (n : model.Node). length n.prefix) is))
+        absurd (omega (arith, short i within (sym (live-seen b (name_at nodes i) at (stored_at nodes i).state) ∙ (sym (ap is_live is) ∙ live)), whole, ap (λ (n : model.Node). length n.prefix) is))

@@ -12,7 +12,7 @@ use Rattle.s66_model.specs.NodeTable.{IsTable}
 use Rattle.s66_model.specs.NodeTree.{is_split_at, ending_at}
 use Rattle.s66_model.specs.TreeLines.{lines_of}
 use Rattle.s66_node.specs.declared.node.Node.{Node}
-use Rattle.s66_ledger.specs.LedgerMachine.{state_of}
+use Rattle.s66_ledger.specs.LedgerMachine.{ledger_from}
 use Rattle.s66_ledger.specs.Nodes.{nodes_of, prefixes}
 
 -- of the trees that the nodes have at these prefixes
@@ -33,7 +33,7 @@ lines_left b nodes more prefix = lines_from b nodes (to_come b.block more prefix
 -- they are those of one tree
 pub record AreOneTree (b : Problem) (nodes : List Node) : Type 0 where
   pub best : List ℕ
-  pub table : IsTable b (state_of b nodes best 0 [] 0)
+  pub table : IsTable b (ledger_from b nodes best 0 [] 0)
   pub begins : (node : model.Node) → Among node (nodes_of b nodes) → IsBeginning b.block node.prefix
 
 -- the prefix has this node

@@ -10,7 +10,7 @@ use Rattle.s66_model.specs.NodeTable.{IsTable}
 use Rattle.s66_model.specs.Ended.{ended_answer}
 use Rattle.s66_model.specs.declared.limits.TheConstants.{BUDGET_LIMIT}
 use Rattle.s66_node.specs.declared.node.Node as declared
-use Rattle.s66_ledger.specs.LedgerMachine.{state_of}
+use Rattle.s66_ledger.specs.LedgerMachine.{ledger_from}
 use Rattle.s66_ledger.specs.Nodes.{HaveFloors}
 
 pub record AnswerOf : Type 0 where
@@ -27,7 +27,7 @@ answer_of a = ended_answer a.problem a.state
 
 -- of a ledger that ended with these nodes, this best order and this many splits
 abbrev pub ended_of : Rule → Problem → ℕ → List declared.Node → List ℕ → ℕ → AnswerOf
-ended_of rule b budget nodes best spent = record { rule = rule; problem = b; budget = budget; state = state_of b nodes best 0 [] spent }
+ended_of rule b budget nodes best spent = record { rule = rule; problem = b; budget = budget; state = ledger_from b nodes best 0 [] spent }
 
 pub record IsKeptAnswer (a : AnswerOf) (nodes : List declared.Node) (low : ℕ) : Type 0 where
   pub answer : IsAnswer a.rule a.problem a.budget (answer_of a)

@@ -65,13 +65,13 @@ pub record IsTiming (old : MachineOf) (node : ℕ) (new : MachineOf) : Type 0 wh
 -- ROUNDS of worker 1
 
 -- between two rounds: no node is out, no other worker has an allowance, and no whole order is below the best time
-pub record IsBetween (b : Problem) (l : Ledger) : Type 0 where
+pub record IsBetweenRounds (b : Problem) (l : Ledger) : Type 0 where
   pub none_out : NoneOut l
   pub alone : weigh (λ n. n) l.allowances ≡ allowance l 1
   pub wholes : WholesAreTimed b l
 
 -- within a round: the ticket's node is out and no other is, no other worker has an allowance, and no whole order is below the best time
-pub record IsWithin (b : Problem) (l : Ledger) (ticket : TicketOf) : Type 0 where
+pub record IsWithinRound (b : Problem) (l : Ledger) (ticket : TicketOf) : Type 0 where
   pub out : IsOut l ticket.node
   pub prefix : ticket.prefix ≡ (node_at l.nodes ticket.node).prefix
   pub one_out : tally is_out l.nodes ≡ 1

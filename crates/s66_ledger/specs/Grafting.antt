@@ -9,9 +9,9 @@ use Rattle.s66_model.specs.Ledger.{root_state, new_nodes, AreNamed}
 use Rattle.s66_node.specs.declared.node.Node.{Node}
 use Rattle.s66_node.specs.declared.node.State.{State}
 use Rattle.s66_node.specs.declared.node.State.TheVariants as state
-use Rattle.s66_node.specs.Nodes.{Named, named_at, line_of}
+use Rattle.s66_node.specs.Nodes.{Named, named_at, node_line}
 use Rattle.s66_node.specs.Pieces.{PieceOf, tree_of}
-use Rattle.s66_ledger.specs.Nodes.{node_at, prefixes, nodes_of, lines_of, with_state, HaveFloors}
+use Rattle.s66_ledger.specs.Nodes.{stored_at, prefixes, nodes_of, made_lines, put_state, HaveFloors}
 
 -- A NODE
 
@@ -40,7 +40,7 @@ opened_state state.Dominated = state.Open
 pub record IsNamed (nodes : List Node) (n : ℕ) (name : List ℕ) : Type 0 where
   pub within : n < length nodes
   pub over : get_or (prefixes nodes) n [] ≡ name
-  pub standing : (node_at nodes n).state ≢ state.Dominated
+  pub standing : (stored_at nodes n).state ≢ state.Dominated
 
 abbrev pub placed : (root first : ℕ) → Node → Node
 placed root first x = record x { parent = placed_parent root first x.parent }
@@ -77,17 +77,17 @@ pub record IsGrafting (best root : ℕ) (names : List Named) (made below all : L
 pub record IsSplitUnder (best root : ℕ) (names : List Named) (made below new : List Node) : Type 0 where
   pub all : List Node
   pub grafting : IsGrafting best root names made below all
-  pub split : new ≡ with_state all root state.Split
+  pub split : new ≡ put_state all root state.Split
 
 -- each of these nodes that is dominated has a name
 abbrev pub HaveNames : ℕ → List Node → Type 0
-HaveNames count nodes = (i : ℕ) → i < length nodes → (node_at nodes i).state ≡ state.Dominated → (node_at nodes i).value < count
+HaveNames count nodes = (i : ℕ) → i < length nodes → (stored_at nodes i).state ≡ state.Dominated → (stored_at nodes i).value < count
 
 -- THE PIECE
 
 -- how its root's line is taken
 abbrev pub root_line : PieceOf → Vertex Terminal
-root_line p = line_of p.problem [] p.prefix (opened_state (node_at p.nodes 0).state)
+root_line p = node_line p.problem [] p.prefix (opened_state (stored_at p.nodes 0).state)
 
 -- it is taken so
 pub record IsTakenAs (p : PieceOf) (part : Tree Terminal) : Type 0 where
@@ -103,6 +103,6 @@ pub record IsAttachedAs (p : PieceOf) (best root : ℕ) (old new : List Node) : 
   pub count : length new + 1 ≡ length old + length p.nodes
   pub floors : HaveFloors p.problem new
   pub piece : IsPiece p.rule p.problem p.prefix part
-  pub lines : lines_of p.problem new ≡ lines_of p.problem old ++ drop 1 (flat part)
+  pub lines : made_lines p.problem new ≡ made_lines p.problem old ++ drop 1 (flat part)
   pub nodes : nodes_of p.problem new ≡ model.with_state (nodes_of p.problem old) root (root_state p.problem best p.prefix part) ++ new_nodes p.problem best p.prefix part
   pub named : AreNamed p.rule p.problem (nodes_of p.problem new) p.prefix part

@@ -6,7 +6,7 @@ use Rattle.s66_model.specs.Preorder.{read_tree}
 use Rattle.s66_model.specs.Piece.{Terminal, Frontier}
 use Rattle.s66_model.specs.Ledger as model
 use Rattle.s66_model.specs.Ledger.{Event, Reply, Granted, Claimed, Returned, NotOut, Retired, Taken}
-use Rattle.s66_node.specs.Nodes.{line_of}
+use Rattle.s66_node.specs.Nodes.{node_line}
 use Rattle.s66_ledger.specs.declared.entry.Entry.{Entry}
 use Rattle.s66_ledger.specs.declared.entry.Entry.TheVariants as entry
 use Rattle.s66_ledger.specs.declared.entry.Refusal.{Refusal}
@@ -50,7 +50,7 @@ abbrev pub entry_of : Problem → Entry → List ℕ → List (Vertex Terminal) 
 entry_of b (entry.Grant w splits) own_bytes own_lines = (model.Grant w, Granted splits)
 entry_of b (entry.Claim w node) own_bytes own_lines = (model.Claim w, Claimed node)
 entry_of b (entry.Taken w node depth root nodes splits) own_bytes own_lines =
-    (model.Graft w node true own_bytes splits (Some (read_tree Frontier (line_of b [] own_bytes root ∷ own_lines))), Taken)
+    (model.Graft w node true own_bytes splits (Some (read_tree Frontier (node_line b [] own_bytes root ∷ own_lines))), Taken)
 entry_of b (entry.Refused w node own depth splits why) own_bytes own_lines = (model.Graft w node own own_bytes splits None, refusal_reply why)
 entry_of b (entry.Offer w own count time offered) own_bytes own_lines = (model.Offer w own own_bytes time, offered_reply offered)
 entry_of b (entry.Back w node returned) own_bytes own_lines = (model.Back w node, if returned then Returned else NotOut)

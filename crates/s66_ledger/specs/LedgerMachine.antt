@@ -10,9 +10,9 @@ use Rattle.s66_model.specs.Reached.{IsReached}
 use Rattle.s66_time.specs.TimedOrder.{TimedOrder}
 use Rattle.s66_node.specs.declared.node.Node as code
 use Rattle.s66_node.specs.declared.node.State.{State}
-use Rattle.s66_node.specs.Nodes.{line_of}
+use Rattle.s66_node.specs.Nodes.{node_line}
 use Rattle.s66_model.specs.declared.limits.TheConstants.{BUDGET_LIMIT}
-use Rattle.s66_ledger.specs.Nodes.{nodes_of, lines_of, HaveFloors}
+use Rattle.s66_ledger.specs.Nodes.{nodes_of, made_lines, HaveFloors}
 
 -- a ledger without its history, for a budget and this many workers
 pub record MachineOf : Type 0 where
@@ -31,15 +31,15 @@ IsMove old event reply new =
     (new.problem ≡ old.problem) × (new.budget ≡ old.budget) × (new.workers ≡ old.workers)
     × Step old.rule old.problem old.state event reply new.state × (new.rule ≡ old.rule)
 
-abbrev pub state_of : Problem → List code.Node → List ℕ → ℕ → List ℕ → ℕ → Ledger
-state_of b nodes best left allowances spent =
+abbrev pub ledger_from : Problem → List code.Node → List ℕ → ℕ → List ℕ → ℕ → Ledger
+ledger_from b nodes best left allowances spent =
     record { nodes = nodes_of b nodes; best = best; left = left; allowances = allowances; spent = spent }
 
 -- a node of this number was made so, by its line; none if there is none
 abbrev pub IsMadeAs : Problem → List Node → List (Vertex Terminal) → ℕ → Option State → Type 0
 IsMadeAs b nodes lines i None = length lines ≤ i
 IsMadeAs b nodes lines i (Some s) =
-    (i < length lines) × ((name : List ℕ) × (get_or lines i (AtTerminal Frontier) ≡ line_of b name (node_at nodes i).prefix s))
+    (i < length lines) × ((name : List ℕ) × (get_or lines i (AtTerminal Frontier) ≡ node_line b name (node_at nodes i).prefix s))
 
 -- a machine as code stores it
 pub record Stored : Type 0 where
@@ -53,13 +53,13 @@ pub record Stored : Type 0 where
   pub spent : ℕ
 
 abbrev pub ledger_of : Stored → Ledger
-ledger_of m = state_of m.problem m.nodes m.best.numbers m.left m.allowances m.spent
+ledger_of m = ledger_from m.problem m.nodes m.best.numbers m.left m.allowances m.spent
 
 abbrev pub machine_of : Stored → MachineOf
 machine_of m =
-    record { rule = m.rule; problem = m.problem; budget = m.budget; workers = length m.allowances; state = ledger_of m; lines = lines_of m.problem m.nodes }
+    record { rule = m.rule; problem = m.problem; budget = m.budget; workers = length m.allowances; state = ledger_of m; lines = made_lines m.problem m.nodes }
 
-pub record IsKept (m : Stored) : Type 0 where
+pub record IsKeptMachine (m : Stored) : Type 0 where
   -- some history leads here from the opening
   pub reached : IsReached m.rule m.problem m.budget (length m.allowances) (ledger_of m)
   pub own : m.best.problem ≡ m.problem

@@ -1,11 +1,11 @@
 -- Used by contracts: from a node to the last made of its children, and from each child to the one made before it.
 use Rattle.std.specs.Prelude.{ℕ, zero, suc, ◌≡◌, ◌<◌, ◌==◌, if◌then◌else◌, List, get_or, length, nat_lt}
 use Rattle.s66_node.specs.declared.node.Node.{Node}
-use Rattle.s66_ledger.specs.Nodes.{node_at}
+use Rattle.s66_ledger.specs.Nodes.{stored_at}
 
 -- a parent comes before its children; else the root is taken for it
 abbrev pub parent_of : List Node → ℕ → ℕ
-parent_of nodes i = if nat_lt (node_at nodes i).parent i then (node_at nodes i).parent else 0
+parent_of nodes i = if nat_lt (stored_at nodes i).parent i then (stored_at nodes i).parent else 0
 
 -- the greatest number below k of a child of this node; 0 if it has none there
 abbrev pub child_below : List Node → ℕ → ℕ → ℕ
@@ -24,7 +24,7 @@ pub record IsChild (nodes : List Node) (above last child : ℕ) : Type 0 where
   pub some : 0 < child
   pub within : child < length nodes
   pub parent : parent_of nodes child ≡ above
-  pub number : (node_at nodes child).number ≡ last
+  pub number : (stored_at nodes child).number ≡ last
 
 pub record HasChild (nodes : List Node) (above last : ℕ) : Type 0 where
   pub child : ℕ

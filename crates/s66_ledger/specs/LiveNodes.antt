@@ -2,15 +2,15 @@
 use Rattle.std.specs.Prelude.{ℕ, ◌≡◌, ◌≤◌, true, if◌then◌else◌, List, [], ◌∷◌, ◌++◌}
 use Rattle.s66_isa.specs.Lists.{tally}
 use Rattle.s66_node.specs.declared.node.Node.{Node}
-use Rattle.s66_node.specs.Nodes.{is_live_state}
-use Rattle.s66_ledger.specs.Nodes.{node_at, is_out}
+use Rattle.s66_node.specs.Nodes.{is_stored_live}
+use Rattle.s66_ledger.specs.Nodes.{stored_at, stores_out}
 
 abbrev pub live_values : List Node → List ℕ
 live_values [] = []
-live_values (node ∷ nodes) = (if is_live_state node.state then node.value ∷ [] else []) ++ live_values nodes
+live_values (node ∷ nodes) = (if is_stored_live node.state then node.value ∷ [] else []) ++ live_values nodes
 
 pub record AreCounted (nodes : List Node) (out deepest : ℕ) : Type 0 where
   -- this many nodes are out
-  pub count : tally is_out nodes ≡ out
+  pub count : tally stores_out nodes ≡ out
   -- none that is open or out is deeper
-  pub within : (i : ℕ) → is_live_state (node_at nodes i).state ≡ true → (node_at nodes i).depth ≤ deepest
+  pub within : (i : ℕ) → is_stored_live (stored_at nodes i).state ≡ true → (stored_at nodes i).depth ≤ deepest

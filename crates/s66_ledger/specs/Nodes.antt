@@ -10,17 +10,17 @@ use Rattle.s66_model.specs.Ledger as model
 use Rattle.s66_node.specs.declared.node.Node.{Node}
 use Rattle.s66_node.specs.declared.node.State.{State}
 use Rattle.s66_node.specs.declared.node.State.TheVariants as state
-use Rattle.s66_node.specs.Nodes.{is_open_state, has_floor, prefixes_over, line_of}
+use Rattle.s66_node.specs.Nodes.{is_stored_open, has_floor, prefixes_over, node_line}
 
 -- past the last one is a node that is split
-abbrev pub no_node : Node
-no_node = record { parent = 0; value = 0; number = 0; depth = 0; made = state.Split; state = state.Split }
+abbrev pub no_stored : Node
+no_stored = record { parent = 0; value = 0; number = 0; depth = 0; made = state.Split; state = state.Split }
 
-abbrev pub node_at : List Node → ℕ → Node
-node_at nodes i = get_or nodes i no_node
+abbrev pub stored_at : List Node → ℕ → Node
+stored_at nodes i = get_or nodes i no_stored
 
-abbrev pub with_state : List Node → ℕ → State → List Node
-with_state nodes i s = set nodes i (record (node_at nodes i) { state = s })
+abbrev pub put_state : List Node → ℕ → State → List Node
+put_state nodes i s = set nodes i (record (stored_at nodes i) { state = s })
 
 -- PREFIXES
 
@@ -30,22 +30,22 @@ prefixes nodes = prefixes_over [] nodes
 
 -- the name that a node has if it is dominated
 abbrev pub name_at : List Node → ℕ → List ℕ
-name_at xs i = get_or (take i (prefixes xs)) (node_at xs i).value []
+name_at xs i = get_or (take i (prefixes xs)) (stored_at xs i).value []
 
 -- STATES
 
-abbrev pub is_out_state : State → Bool
-is_out_state state.Open = false
-is_out_state state.Out = true
-is_out_state state.Closed = false
-is_out_state state.Split = false
-is_out_state state.Dominated = false
+abbrev pub is_stored_out : State → Bool
+is_stored_out state.Open = false
+is_stored_out state.Out = true
+is_stored_out state.Closed = false
+is_stored_out state.Split = false
+is_stored_out state.Dominated = false
 
-abbrev pub is_open : Node → Bool
-is_open node = is_open_state node.state
+abbrev pub stores_open : Node → Bool
+stores_open node = is_stored_open node.state
 
-abbrev pub is_out : Node → Bool
-is_out node = is_out_state node.state
+abbrev pub stores_out : Node → Bool
+stores_out node = is_stored_out node.state
 
 -- AS THE DEFINITION HAS THEM
 
@@ -62,7 +62,7 @@ seen_node b name at x = record { prefix = at; state = seen_state b name at x.sta
 
 -- the line of the piece that made it
 abbrev pub made_line : Problem → (name at : List ℕ) → Node → Vertex Terminal
-made_line b name at x = line_of b name at x.made
+made_line b name at x = node_line b name at x.made
 
 -- what f makes of each; its name is the prefix of the node whose number is the value, which comes before it
 abbrev pub seen_at : {V : Type 0} → ((name at : List ℕ) → Node → V) → (before : List (List ℕ)) → List (List ℕ) → List Node → List V
@@ -73,19 +73,19 @@ seen_at f before (at ∷ ats) (x ∷ xs) = f (get_or before x.value []) at x ∷
 abbrev pub nodes_of : Problem → List Node → List model.Node
 nodes_of b xs = seen_at (seen_node b) [] (prefixes xs) xs
 
-abbrev pub lines_of : Problem → List Node → List (Vertex Terminal)
-lines_of b xs = seen_at (made_line b) [] (prefixes xs) xs
+abbrev pub made_lines : Problem → List Node → List (Vertex Terminal)
+made_lines b xs = seen_at (made_line b) [] (prefixes xs) xs
 
 -- FLOORS
 
 -- of each node that isn't split or dominated the value is the floor's
 abbrev pub HaveFloors : Problem → List Node → Type 0
 HaveFloors b nodes =
-    (i : ℕ) → i < length nodes → has_floor (node_at nodes i).state ≡ true → (node_at nodes i).value ≡ floor_value b (get_or (prefixes nodes) i [])
+    (i : ℕ) → i < length nodes → has_floor (stored_at nodes i).state ≡ true → (stored_at nodes i).value ≡ floor_value b (get_or (prefixes nodes) i [])
 
 -- DEPTHS
 
 -- each is the length of the node's prefix, and 255 if that is more
 abbrev pub HaveDepths : List Node → Type 0
 HaveDepths nodes =
-    (i : ℕ) → i < length nodes → (node_at nodes i).depth ≡ min 255 (length (get_or (prefixes nodes) i []))
+    (i : ℕ) → i < length nodes → (stored_at nodes i).depth ≡ min 255 (length (get_or (prefixes nodes) i []))

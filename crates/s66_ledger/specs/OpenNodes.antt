@@ -7,11 +7,11 @@ use Rattle.s66_isa.specs.Lists.{tally}
 use Rattle.s66_node.specs.declared.node.Node.{Node}
 use Rattle.s66_node.specs.declared.node.State.TheVariants as state
 use Rattle.s66_ledger.specs.declared.limits.TheConstants.{RANKED_LIMIT, DEPTH_RANKS}
-use Rattle.s66_ledger.specs.Nodes.{node_at, is_open}
+use Rattle.s66_ledger.specs.Nodes.{stored_at, stores_open}
 
 -- the node is handed out
-abbrev pub IsOut : List Node → ℕ → Type 0
-IsOut nodes i = (i < length nodes) × ((node_at nodes i).state ≡ state.Out)
+abbrev pub StoresOut : List Node → ℕ → Type 0
+StoresOut nodes i = (i < length nodes) × ((stored_at nodes i).state ≡ state.Out)
 
 -- floors past the limit count as the limit
 abbrev pub ranked : ℕ → ℕ
@@ -28,10 +28,10 @@ compare_ranked x y = ordering_then (nat_cmp x.0 y.0) (nat_cmp x.1 y.1)
 -- of an open node, with the length of its prefix
 abbrev pub IsRanked : List Node → ℕ × ℕ → Type 0
 IsRanked nodes entry =
-    (entry.1 < length nodes) × ((depth : ℕ) × (depth < DEPTH_RANKS) × (entry.0 ≡ rank_of (node_at nodes entry.1).value depth))
+    (entry.1 < length nodes) × ((depth : ℕ) × (depth < DEPTH_RANKS) × (entry.0 ≡ rank_of (stored_at nodes entry.1).value depth))
 
 pub record AreOpenNodes (nodes : List Node) (entries : List (ℕ × ℕ)) : Type 0 where
   -- a number is there once if its node is open, and not else
-  pub once : (i : ℕ) → tally (λ (entry : ℕ × ℕ). entry.1 == i) entries ≡ (if is_open (node_at nodes i) then 1 else 0)
-  pub count : length entries ≡ tally is_open nodes
+  pub once : (i : ℕ) → tally (λ (entry : ℕ × ℕ). entry.1 == i) entries ≡ (if stores_open (stored_at nodes i) then 1 else 0)
+  pub count : length entries ≡ tally stores_open nodes
   pub ranks : All (IsRanked nodes) entries

@@ -3,7 +3,7 @@ ghost use Rattle.std.specs.BinaryHeap.{IsHeap, heap_items};
 ghost use Rattle.s66_node.specs.declared.node.State.TheVariants as state;
 ghost use Rattle.s66_node.specs.Nodes.{named};
 ghost use Rattle.s66_ledger.specs.LiveNodes.{AreCounted};
-ghost use Rattle.s66_ledger.specs.Nodes.{with_state};
+ghost use Rattle.s66_ledger.specs.Nodes.{put_state};
 ghost use Rattle.s66_ledger.specs.OpenNodes.{AreOpenNodes, compare_ranked};
 ghost use Rattle.s66_ledger.specs.Grafting.{placed_parent, placed, settled_state, opened_state, IsNamed, Grafts, IsGrafting, HaveNames};
 
@@ -16,7 +16,7 @@ use std::collections::BinaryHeap;
 /// Gives the node of this number another state.
 pub fn set_state(nodes: &mut Vec<Node>, i: usize, state: State)
     requires { i < length nodes.old.items }
-    ensures { nodes.new.items ≡ with_state nodes.old.items i state }
+    ensures { nodes.new.items ≡ put_state nodes.old.items i state }
 {
     nodes[i].state = state;
 }

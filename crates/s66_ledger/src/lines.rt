@@ -8,7 +8,7 @@ ghost use Rattle.s66_model.specs.DominatedLeaves.{Bounding};
 ghost use Rattle.s66_model.specs.Tree.{AtTerminal};
 ghost use Rattle.s66_ledger.specs.AnswerLines.{AreOneTree, StandsAt, lines_left, to_come};
 ghost use Rattle.s66_ledger.specs.Links.{AreLinks};
-ghost use Rattle.s66_ledger.specs.Nodes.{node_at, nodes_of, HaveFloors};
+ghost use Rattle.s66_ledger.specs.Nodes.{stored_at, nodes_of, HaveFloors};
 ghost use Rattle.s66_node.specs.declared.node.State.TheVariants as state;
 
 use crate::links::Links;
@@ -41,7 +41,7 @@ fn push_terminal(
     requires tree { AreOneTree walk.now.problem nodes.now }
     requires floors { HaveFloors walk.now.problem nodes.now }
     requires stands { StandsAt nodes.now node walk.now.numbers }
-    requires unsplit { (node_at nodes.now node).state ≢ state.Split }
+    requires unsplit { (stored_at nodes.now node).state ≢ state.Split }
     ensures { OnOk result (tree.new ≡ tree.old ++ AtTerminal (ending_at walk.now.problem (nodes_of walk.now.problem nodes.now) walk.now.numbers) ∷ []) }
 {
     if let State::Dominated = nodes[node].state {

@@ -29,13 +29,13 @@ pub(crate) struct Machine<'a> {
 
 impl<'a> Model for Machine<'a> {
     ghost use Rattle.s66_line.specs.Block.{instrs_of};
-    ghost use Rattle.s66_ledger.specs.LedgerMachine.{MachineOf, machine_of, IsKept};
+    ghost use Rattle.s66_ledger.specs.LedgerMachine.{MachineOf, machine_of, IsKeptMachine};
 
     ghost Value = { MachineOf };
 
     ghost view = { λ l. machine_of (record { rule = l.rule; problem = record { block = instrs_of l.block.now; profile = l.profile }; budget = l.budget; nodes = l.table; best = l.best; left = l.left; allowances = l.allowances.items; spent = l.spent }) };
 
-    ghost invariant = { λ l. IsKept (record { rule = l.rule; problem = record { block = instrs_of l.block.now; profile = l.profile }; budget = l.budget; nodes = l.table; best = l.best; left = l.left; allowances = l.allowances.items; spent = l.spent }) };
+    ghost invariant = { λ l. IsKeptMachine (record { rule = l.rule; problem = record { block = instrs_of l.block.now; profile = l.profile }; budget = l.budget; nodes = l.table; best = l.best; left = l.left; allowances = l.allowances.items; spent = l.spent }) };
 }
 
 impl<'a> Machine<'a> {

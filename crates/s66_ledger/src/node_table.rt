@@ -44,9 +44,9 @@ impl NodeTable {
     ghost use Rattle.s66_node.specs.declared.node.State.{State};
     ghost use Rattle.s66_node.specs.Nodes.{named};
     ghost use Rattle.s66_ledger.specs.Grafting.{IsGrafting, IsSplitUnder, IsAttachedAs, HaveNames};
-    ghost use Rattle.s66_node.specs.Nodes.{is_live_state};
-    ghost use Rattle.s66_ledger.specs.Nodes.{is_open, name_at, node_at, with_state, prefixes, HaveFloors, HaveDepths};
-    ghost use Rattle.s66_ledger.specs.OpenNodes.{IsOut, ranked};
+    ghost use Rattle.s66_node.specs.Nodes.{is_stored_live};
+    ghost use Rattle.s66_ledger.specs.Nodes.{stores_open, name_at, stored_at, put_state, prefixes, HaveFloors, HaveDepths};
+    ghost use Rattle.s66_ledger.specs.OpenNodes.{StoresOut, ranked};
 
     /// One node, the empty prefix with its floor, open.
     pub fn new(alloc: Global, floor: u32) -> Result<NodeTable, AllocError>
@@ -73,7 +73,7 @@ impl NodeTable {
 
     /// How many nodes are open.
     pub fn open_count(&self) -> usize
-        ensures { result ≡ tally is_open self.now }
+        ensures { result ≡ tally stores_open self.now }
     {
         self.open.len()
     }
@@ -94,7 +94,7 @@ impl NodeTable {
 
     /// Whether any node is handed out.
     pub fn has_out(&self) -> bool
-        ensures { result ≡ false → (i : ℕ) → ¬ IsOut self.now i }
+        ensures { result ≡ false → (i : ℕ) → ¬ StoresOut self.now i }
     {
         self.out != 0
     }
@@ -102,14 +102,14 @@ impl NodeTable {
     /// Whether some prefix of `count` numbers may be open or out.
     pub fn may_reach(&self, count: usize) -> bool
         requires { count ≤ BLOCK_LIMIT }
-        ensures { result ≡ false → (i : ℕ) → i < length self.now → is_live_state (node_at self.now i).state ≡ true → length (get_or (prefixes self.now) i []) < count }
+        ensures { result ≡ false → (i : ℕ) → i < length self.now → is_stored_live (stored_at self.now i).state ≡ true → length (get_or (prefixes self.now) i []) < count }
     {
         count <= self.deepest as usize
     }
 
     /// Whether this node is handed out.
     pub fn is_out(&self, node: u32) -> bool
-        ensures { IsTrue result ↔ IsOut self.now node }
+        ensures { IsTrue result ↔ StoresOut self.now node }
     {
         let i = node as usize;
         i < self.nodes.len() && self.nodes[i].state == State::Out
@@ -118,7 +118,7 @@ impl NodeTable {
     /// Whether a node is open or out, with a floor below this value.
     pub fn is_live_below(&self, node: u32, value: u32) -> bool
         requires { node < length self.now }
-        ensures { IsTrue result ↔ (IsTrue (is_live_state (node_at self.now node).state) × ((node_at self.now node).value < value)) }
+        ensures { IsTrue result ↔ (IsTrue (is_stored_live (stored_at self.now node).state) × ((stored_at self.now node).value < value)) }
     {
         let node = &self.nodes[node as usize];
         node.state.is_live() && node.value < value
@@ -153,14 +153,14 @@ impl NodeTable {
     /// The value that a node has: its floor's, if it isn't split.
     pub fn value_of(&self, node: u32) -> u32
         requires { node < length self.now }
-        ensures { result ≡ (node_at self.now node).value }
+        ensures { result ≡ (stored_at self.now node).value }
     {
         self.nodes[node as usize].value
     }
 
     /// What a node was in the piece that made it, if there is one of this number.
     pub fn made(&self, node: u32) -> Option<State>
-        ensures some { IfSome result (λ s. (node < length self.now) × (s ≡ (node_at self.now node).made)) }
+        ensures some { IfSome result (λ s. (node < length self.now) × (s ≡ (stored_at self.now node).made)) }
         ensures none { IfNone result (length self.now ≤ node) }
     {
         Some(self.nodes.get(node as usize)?.made)
@@ -169,8 +169,8 @@ impl NodeTable {
     /// The name of a node, if there is one of this number and it is dominated, in time linear in its length.
     pub fn name_of(&self, node: u32) -> Option<ArrayVec<u8, BLOCK_LIMIT>>
         requires { (node < length self.now) → length (name_at self.now node) ≤ BLOCK_LIMIT }
-        ensures some { IfSome result (λ name. (node < length self.now) × ((node_at self.now node).state ≡ State.Dominated) × (name.items ≡ name_at self.now node)) }
-        ensures none { IfNone result ((node_at self.now node).state ≢ State.Dominated) }
+        ensures some { IfSome result (λ name. (node < length self.now) × ((stored_at self.now node).state ≡ State.Dominated) × (name.items ≡ name_at self.now node)) }
+        ensures none { IfNone result ((stored_at self.now node).state ≢ State.Dominated) }
     {
         let node = node as usize;
         if node < self.nodes.len() && self.nodes[node].state == State::Dominated {
@@ -184,10 +184,10 @@ impl NodeTable {
     /// open. In time logarithmic in the number of open nodes.
     pub fn claim(&mut self) -> Option<u32>
         ensures within { IfSome result (λ i. i < length self.old) }
-        ensures was { IfSome result (λ i. (node_at self.old i).state ≡ State.Open) }
-        ensures moved { IfSome result (λ i. self.new ≡ with_state self.old i State.Out) }
-        ensures least { IfSome result (λ i. (j : ℕ) → is_open (node_at self.old j) ≡ true → ranked (node_at self.old i).value ≤ ranked (node_at self.old j).value) }
-        ensures none { IfNone result (tally is_open self.old ≡ 0) }
+        ensures was { IfSome result (λ i. (stored_at self.old i).state ≡ State.Open) }
+        ensures moved { IfSome result (λ i. self.new ≡ put_state self.old i State.Out) }
+        ensures least { IfSome result (λ i. (j : ℕ) → stores_open (stored_at self.old j) ≡ true → ranked (stored_at self.old i).value ≤ ranked (stored_at self.old j).value) }
+        ensures none { IfNone result (tally stores_open self.old ≡ 0) }
         ensures same { IfNone result (self.new ≡ self.old) }
     {
         let (_, node) = self.open.pop()?;
@@ -200,8 +200,8 @@ impl NodeTable {
 
     /// Opens a node that is handed out, in time logarithmic in the number of open nodes.
     pub fn give_back(&mut self, node: u32) -> Result<(), AllocError>
-        requires { IsOut self.old node }
-        ensures ok { OnOk result (self.new ≡ with_state self.old node State.Open) }
+        requires { StoresOut self.old node }
+        ensures ok { OnOk result (self.new ≡ put_state self.old node State.Open) }
         ensures err { OnErr result (self.new ≡ self.old) }
     {
         let i = node as usize;
@@ -217,7 +217,7 @@ impl NodeTable {
     /// takes time linear in the piece's nodes and their names, with a logarithm of the number of open nodes for each that is open.
     /// `Err` leaves all as it was.
     pub fn attach(&mut self, root: u32, best: u32, piece: &Piece) -> Result<(), AllocError>
-        requires out { IsOut self.old root }
+        requires out { StoresOut self.old root }
         requires over { get_or (prefixes self.old) root [] ≡ piece.now.prefix }
         requires floors { HaveFloors piece.now.problem self.old }
         requires room { length self.old + length piece.now.nodes < 2 ^ 32 }
@@ -249,7 +249,7 @@ impl NodeTable {
         below: &[Node],
         dominances: &[Dominance],
     ) -> Result<(), AllocError>
-        requires out { IsOut self.old root }
+        requires out { StoresOut self.old root }
         requires room { length self.old + length below.now < 2 ^ 32 }
         requires names { HaveNames (length dominances.now) below.now }
         requires depths { (all : List Node) → IsGrafting best root (map named dominances.now) self.old below.now all → HaveDepths all }

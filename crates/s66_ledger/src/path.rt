@@ -1,6 +1,6 @@
 ghost use Rattle.std.specs.Prelude.{[], ◌∷◌, ◌++◌, ◌≡◌, ◌<◌, ◌≤◌, ◌↔◌, length, get_or, IsTrue};
 ghost use Rattle.s66_isa.specs.declared.limits.TheConstants.{BLOCK_LIMIT};
-ghost use Rattle.s66_ledger.specs.Nodes.{name_at, node_at, prefixes};
+ghost use Rattle.s66_ledger.specs.Nodes.{name_at, stored_at, prefixes};
 ghost use Rattle.s66_ledger.specs.Links.{parent_of};
 
 use arrayvec::ArrayVec;
@@ -61,7 +61,7 @@ pub fn up(nodes: &[Node], i: usize) -> usize
     requires within { i < length nodes.now }
     ensures before { result < i }
     ensures parent { result ≡ parent_of nodes.now i }
-    ensures prefix { get_or (prefixes nodes.now) i [] ≡ get_or (prefixes nodes.now) result [] ++ (node_at nodes.now i).number ∷ [] }
+    ensures prefix { get_or (prefixes nodes.now) i [] ≡ get_or (prefixes nodes.now) result [] ++ (stored_at nodes.now i).number ∷ [] }
 {
     let parent = nodes[i].parent as usize;
     if parent < i { parent } else { 0 }

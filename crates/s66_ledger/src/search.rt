@@ -66,7 +66,7 @@ impl<'a> Machine<'a> {
     ghost use Rattle.s66_model.specs.Expansion.{IsExpansion};
     ghost use Rattle.s66_node.specs.Pieces.{tree_of, IsBestTimed};
     ghost use Rattle.s66_ledger.specs.PieceSplits.{piece_splits};
-    ghost use Rattle.s66_ledger.specs.Finishing.{Leads, IsIdle, WholesAreTimed, IsSearched, IsBetween, IsWithin, IsOffering, still_to_go};
+    ghost use Rattle.s66_ledger.specs.Finishing.{Leads, IsIdle, WholesAreTimed, IsSearched, IsBetweenRounds, IsWithinRound, IsOffering, still_to_go};
 
     /// Goes on, as worker 1, until no open node's floor is below the best time or the budget is spent. Each round claims the open
     /// node of the least floor, expands it by what the worker may spend, offers the best of its whole orders and grafts the
@@ -105,11 +105,11 @@ impl<'a> Machine<'a> {
         requires walk { walk.old.problem ≡ self.old.problem }
         requires marks { marks.old.problem ≡ self.old.problem }
         requires workers { 1 ≤ self.old.workers }
-        requires between { IsBetween self.old.problem self.old.state }
+        requires between { IsBetweenRounds self.old.problem self.old.state }
         ensures same { walk.new.problem ≡ walk.old.problem }
         ensures marks { marks.new.problem ≡ marks.old.problem }
         ensures leads { IfOk result (λ on. Leads self.old self.new) }
-        ensures goes_on { IfOk result (λ on. on ≡ true → IsBetween self.new.problem self.new.state × (still_to_go self.new < still_to_go self.old)) }
+        ensures goes_on { IfOk result (λ on. on ≡ true → IsBetweenRounds self.new.problem self.new.state × (still_to_go self.new < still_to_go self.old)) }
         ensures ends { IfOk result (λ on. on ≡ false → IsSearched self.new.problem self.new.budget self.new.state) }
     {
         let allowance = self.allowance_or_grant();
@@ -171,10 +171,10 @@ impl<'a> Machine<'a> {
     /// How many splits worker 1 may spend, after a grant if it has none; 0 only if the budget is spent.
     fn allowance_or_grant(&mut self) -> u32
         requires workers { 1 ≤ self.old.workers }
-        requires between { IsBetween self.old.problem self.old.state }
+        requires between { IsBetweenRounds self.old.problem self.old.state }
         ensures value { result ≡ allowance self.new.state 1 }
         ensures leads { Leads self.old self.new }
-        ensures between { IsBetween self.new.problem self.new.state }
+        ensures between { IsBetweenRounds self.new.problem self.new.state }
         ensures same { still_to_go self.new ≡ still_to_go self.old }
         ensures spent { result ≡ 0 → self.new.state.spent ≡ self.new.budget }
     {
@@ -219,7 +219,7 @@ impl<'a> Machine<'a> {
     fn take_in(&mut self, ticket: Ticket, piece: Piece) -> Result<(), AllocError>
         requires workers { 1 ≤ self.old.workers }
         requires covers { Covers self.old.rule self.old.problem self.old.budget self.old.state }
-        requires within { IsWithin self.old.problem self.old.state ticket }
+        requires within { IsWithinRound self.old.problem self.old.state ticket }
         requires rule { piece.rule ≡ self.old.rule }
         requires problem { piece.problem ≡ self.old.problem }
         requires prefix { piece.prefix ≡ ticket.prefix }
@@ -228,7 +228,7 @@ impl<'a> Machine<'a> {
         requires some { 1 ≤ allowance self.old.state 1 }
         requires below { floor_value self.old.problem piece.prefix < best_time self.old.problem self.old.state }
         ensures leads { OnOk result (Leads self.old self.new) }
-        ensures between { OnOk result (IsBetween self.new.problem self.new.state) }
+        ensures between { OnOk result (IsBetweenRounds self.new.problem self.new.state) }
         ensures less { OnOk result (still_to_go self.new < still_to_go self.old) }
     {
         // first, so that no whole order is left open below the best time

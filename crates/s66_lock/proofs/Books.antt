@@ -6,7 +6,7 @@ use Rattle.std.proofs.lemmas.Bool.{eq-eqb, ne_eqb}
 use Rattle.std.proofs.lemmas.List.Elements.{All-nil, All-cons, All-head, All-tail}
 use Rattle.s66_isa.specs.Lists.{rising}
 use Rattle.s66_model.specs.Accounts.{Summary, SeatRecord, Agrees, opened}
-use Rattle.s66_lock.specs.SeatViews.{books_of, all_opened, first_of, rest_of, Follows}
+use Rattle.s66_lock.specs.SeatViews.{books_of, all_opened, first_of, rest_of, MayBecome}
 
 counted : (n : ℕ) (p : SeatRecord) (ps : List SeatRecord) → p.who ≡ n → books_of n (p ∷ ps) ≡ 1 + books_of n ps
 counted n p ps e = ap (λ b. cond b 1 0 + books_of n ps) (eq-eqb p.who n e)
@@ -34,7 +34,7 @@ first-agree s (p ∷ ps) h = All-cons (Agrees s) p [] (All-head (Agrees s) p ps 
 -- AFTER A CALL
 
 -- the seat records of other workers still agree
-pub others-agree : (who : ℕ) (s t : Summary) (ps : List SeatRecord) → Follows who s t → books_of who ps ≡ 0 → All (Agrees s) ps → All (Agrees t) ps
+pub others-agree : (who : ℕ) (s t : Summary) (ps : List SeatRecord) → MayBecome who s t → books_of who ps ≡ 0 → All (Agrees s) ps → All (Agrees t) ps
 others-agree who s t [] follows none agree = All-nil (Agrees t)
 others-agree who s t (p ∷ ps) follows none agree =
     let other : p.who ≢ who = λ e. omega (arith, counted who p ps e) in

@@ -11,9 +11,9 @@ use Rattle.atomic_table.specs.Table.{State, Me, keeps, takes, gives, Allows, Spl
 use Rattle.atomic_table.proofs.Lists.{at_set, set_here, set_else, set_again, at_longer}
 use Rattle.s66_isa.proofs.Lists.{weigh-append, tally-append}
 use Rattle.s66_model.specs.Accounts.{Summary, SeatRecord, Agrees, opened}
-use Rattle.s66_lock.specs.SeatViews.{View, Stage, Idle, Founding, Holding, idle, holding, founding, first_of, rest_of, books_of, found_at, first_book, renewed, IsSameSearch, Follows}
+use Rattle.s66_lock.specs.SeatViews.{View, Stage, Idle, Founding, Holding, idle, holding, founding, first_of, rest_of, books_of, found_at, first_book, renewed, IsSameSearch, MayBecome}
 use Rattle.s66_lock.specs.LockTokens.{HaveEvery}
-use Rattle.s66_lock.specs.Locked.{AllAgree, IsOnce, Has, IsFree, IsOut, Locked, keep_least, read_best, keep_books, GaveFirst, FoundedAt}
+use Rattle.s66_lock.specs.Locked.{AllAgree, IsOnce, Has, IsFree, IsTaken, Locked, keep_least, read_best, keep_books, GaveFirst, FoundedAt}
 use Rattle.s66_lock.proofs.Seats.{inside, each-set, each-snoc, each-one, weigh-replaced, le-weigh_at, two-le-weigh, one_item}
 use Rattle.s66_lock.proofs.Books.{own, cut, rest-agree, first-agree, others-agree, opened_once, opened-agrees, opened-agree, some_opened, has_book}
 
@@ -72,7 +72,7 @@ module _ {X : Type 0} (summary : X → Summary) (key : X) where
         ),
         ((λ is. (x, refl, f.agree id me.0 at)), λ isnt. absurd (isnt now)),
       ))
-      (λ (o : IsOut (summary key) s).
+      (λ (o : IsTaken (summary key) s).
       let now : get_or s.words 0 0 ≡ 1 = ap (λ ws. get_or ws 0 0) o.word in
       let again : set s.views id me.0 ≡ s.views = set_again s.views id me.0 at in
       let ws : set s.words 0 (either (eqb (get_or s.words 0 0) 0) 1 (get_or s.words 0 0)) ≡ 1 ∷ [] = ap (λ l. set l 0 (either (eqb (get_or l 0 0) 0) 1 (get_or l 0 0))) o.word in
@@ -93,7 +93,7 @@ module _ {X : Type 0} (summary : X → Summary) (key : X) where
       → Allows (Locked summary key) slots id (record { stage = Founding y; books = bs }, []) 0 (λ n. n) (λ word after. after ≡ (holding y bs, (0, None) ∷ []))
   begins slots id y bs s h long at small = let v : View = record { stage = Founding y; books = bs } in ⊎_elim
       (λ (f : IsFree summary (summary key) s). absurd (let e : Founding y ≡ Idle = f.idles id v at in cc))
-      (λ (o : IsOut (summary key) s).
+      (λ (o : IsTaken (summary key) s).
       let here : id ≡ o.holder = the_holder s.views id o.holder v (λ e. cc) at o.others in
       let same : o.view ≡ v = some-injective o.view v (sym o.at ∙ ap (λ k. get_elem? s.views k) (sym here) ∙ at) in
       let has : (y ≡ o.found) × (s.homes ≡ some None ∷ []) = subst (λ (u : View). Has o.found s.homes u.stage) same o.has in
@@ -128,7 +128,7 @@ module _ {X : Type 0} (summary : X → Summary) (key : X) where
       → Allows (Locked summary key) slots id (holding y bs, (0, Some x) ∷ []) 0 (λ n. 0) (λ word after. after ≡ (idle cs, []))
   gives_it slots id y bs cs x one search same agree others s h long at small = let v : View = holding y bs in let w : View = idle cs in ⊎_elim
       (λ (f : IsFree summary (summary key) s). absurd (let e : Holding y ≡ Idle = f.idles id v at in cc))
-      (λ (o : IsOut (summary key) s).
+      (λ (o : IsTaken (summary key) s).
       let here : id ≡ o.holder = the_holder s.views id o.holder v (λ e. cc) at o.others in
       let it : o.view ≡ v = some-injective o.view v (sym o.at ∙ ap (λ k. get_elem? s.views k) (sym here) ∙ at) in
       let has : y ≡ o.found = subst (λ (u : View). Has o.found s.homes u.stage) it o.has in
@@ -171,7 +171,7 @@ module _ {X : Type 0} (summary : X → Summary) (key : X) where
               agree = agree (summary f.value) f.agree;
               idles = each-snoc (λ j u. u.stage ≡ Idle) vs r (each-set (λ j u. u.stage ≡ Idle) s.views id l refl (λ j u ne e. f.idles j u e)) (λ j. refl);
             })
-            (λ (o : IsOut (summary key) s).
+            (λ (o : IsTaken (summary key) s).
             let away : o.holder ≢ id = λ e. other_stage o.found s.homes o.view v (sym o.at ∙ ap (λ k. get_elem? s.views k) e ∙ at) o.has is_idle in inr record {
               found = o.found;
               holder = o.holder;
@@ -205,7 +205,7 @@ module _ {X : Type 0} (summary : X → Summary) (key : X) where
               agree = agree (summary f.value) f.agree;
               idles = each-set (λ j w. w.stage ≡ Idle) vs other spent refl (λ j w ne e. each-set (λ i z. z.stage ≡ Idle) s.views id both refl (λ i z _ e'. f.idles i z e') j w e);
             })
-            (λ (o : IsOut (summary key) s).
+            (λ (o : IsTaken (summary key) s).
             let away : o.holder ≢ id = λ e. other_stage o.found s.homes o.view v (sym o.at ∙ ap (λ k. get_elem? s.views k) e ∙ at) o.has v_idle in
             let away' : o.holder ≢ other = λ e. other_stage o.found s.homes o.view u (sym o.at ∙ ap (λ k. get_elem? s.views k) e ∙ was) o.has u_idle in inr record {
               found = o.found;
@@ -224,7 +224,7 @@ module _ {X : Type 0} (summary : X → Summary) (key : X) where
       )
 
   -- after a call of the worker whose seat record alone the seat has
-  gives_one : (slots id : ℕ) (y : Summary) (p q : SeatRecord) (x : X) → slots ≡ 1 → Agrees y p → Follows p.who y (summary x) → q.who ≡ p.who → Agrees (summary x) q
+  gives_one : (slots id : ℕ) (y : Summary) (p q : SeatRecord) (x : X) → slots ≡ 1 → Agrees y p → MayBecome p.who y (summary x) → q.who ≡ p.who → Agrees (summary x) q
       → Allows (Locked summary key) slots id (holding y (p ∷ []), (0, Some x) ∷ []) 0 (λ n. 0) (λ word after. after ≡ (idle (q ∷ []), []))
   gives_one slots id y p q x one agrees follows who now =
       gives_it slots id y (p ∷ []) (q ∷ []) x one follows.search (λ n. ap (λ (w : ℕ). books_of n (record q { who = w } ∷ [])) who)
@@ -261,7 +261,7 @@ module _ {X : Type 0} (summary : X → Summary) (key : X) where
       → (x : X) × (get_elem? xs 0 ≡ some (Some x)) × IsSameSearch (summary key) (summary x) × All (Agrees (summary x)) v.books
   closes id v ws xs is_idle every f = let s : S = f.0 in let h = f.1.0 in let at = f.1.1 in ⊎_elim
       (λ (free : IsFree summary (summary key) s). (free.value, f.4 0 (Some free.value) (ap (λ hs. get_elem? hs 0) free.home), free.search, free.agree id v at))
-      (λ (o : IsOut (summary key) s).
+      (λ (o : IsTaken (summary key) s).
       let away : o.holder ≢ id = λ e. other_stage o.found s.homes o.view v (sym o.at ∙ ap (λ k. get_elem? s.views k) e ∙ at) o.has is_idle in
       let b = has_book o.found o.view.books o.some_book (o.agree o.holder o.view o.at) in
       absurd (twice s.views id o.holder b.0 v o.view h.0 at o.at away (every b.0 b.1 (omega (arith, b.2, o.search.workers))) b.3))
@@ -274,7 +274,7 @@ module _ {X : Type 0} (summary : X → Summary) (key : X) where
     written y bs is = then ∙ ap (λ (m : Me (Option X) View). (m.0, (0, Some x) ∷ rest m.1)) is
 
     module _ (is : old ≡ (holding (found_at old.0.stage) (first_book old.0.books ∷ []), (0, None) ∷ [])) (agrees : Agrees (found_at old.0.stage) (first_book old.0.books))
-        (follows : Follows (first_book old.0.books).who (found_at old.0.stage) (summary x)) where
+        (follows : MayBecome (first_book old.0.books).who (found_at old.0.stage) (summary x)) where
       pub gives_left : Allows (Locked summary key) slots id new 0 (λ n. 0) (λ word after. GaveFirst (keep_least summary) new.0 new.1 after)
       gives_left =
           let y = found_at old.0.stage in let p = first_book old.0.books in

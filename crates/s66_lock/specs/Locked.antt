@@ -32,7 +32,7 @@ pub record IsFree {X : Type 0} (summary : X → Summary) (about : Summary) (s : 
   pub idles : (seat : ℕ) (v : View) → get_elem? s.views seat ≡ some v → v.stage ≡ Idle
 
 -- One seat, which has a seat record, has the lock; with the summary that it found every seat record agrees
-pub record IsOut {X : Type 0} (about : Summary) (s : State (Option X) View) : Type 0 where
+pub record IsTaken {X : Type 0} (about : Summary) (s : State (Option X) View) : Type 0 where
   pub found : Summary
   pub holder : ℕ
   pub view : View
@@ -46,7 +46,7 @@ pub record IsOut {X : Type 0} (about : Summary) (s : State (Option X) View) : Ty
 
 module _ {X : Type 0} (summary : X → Summary) where
   abbrev pub Locked : X → State (Option X) View → Type 0
-  Locked key s = IsOnce s.views × (IsFree summary (summary key) s ⊎ IsOut (summary key) s)
+  Locked key s = IsOnce s.views × (IsFree summary (summary key) s ⊎ IsTaken (summary key) s)
 
   -- the lock was free and is now the seat's, with the value; or it was out, and nothing changed
   abbrev pub Took : Step (Option X) → Me (Option X) View → ℕ → Me (Option X) View → Type 0

@@ -53,7 +53,7 @@ pub record IsSameSearch (s t : Summary) : Type 0 where
   pub workers : length t.accounts ≡ length s.accounts
 
 -- what a call of the worker may make of a summary: the seat records of all others still agree
-pub record Follows (who : ℕ) (s t : Summary) : Type 0 where
+pub record MayBecome (who : ℕ) (s t : Summary) : Type 0 where
   pub search : IsSameSearch s t
   pub lower : t.best ≤ s.best
   pub others : (p : SeatRecord) → p.who ≢ who → Agrees s p → Agrees t p

@@ -102,7 +102,7 @@ impl Join<View> for Collects {
 impl<S: Summed + Drop> Lock<S> {
     ghost use Rattle.std.specs.Prelude.{◌≡◌, ℕ, ◌<◌, ◌≤◌, [], ◌∷◌, ◌++◌, length, All, IfOk, None};
     ghost use Rattle.s66_model.specs.Accounts.{Agrees, opened};
-    ghost use Rattle.s66_lock.specs.SeatViews.{IsSameSearch, Follows, all_opened, books_of, renewed, idle, holding, first_of, rest_of, first_book};
+    ghost use Rattle.s66_lock.specs.SeatViews.{IsSameSearch, MayBecome, all_opened, books_of, renewed, idle, holding, first_of, rest_of, first_book};
     ghost use Rattle.s66_lock.specs.LockTokens.{book, found, IsResting, IsHolding, IsIdle, HaveEvery};
 
     /// Waits until the lock is free, and takes the value.
@@ -141,7 +141,7 @@ impl<S: Summed + Drop> Lock<S> {
         requires here { token.old.table_id ≡ self.now.table.shared.table_id }
         requires holding { IsHolding token.old }
         requires agrees { Agrees (found token.old) (book token.old) }
-        requires follows { Follows (book token.old).who (found token.old) (S.summary value) }
+        requires follows { MayBecome (book token.old).who (found token.old) (S.summary value) }
         ensures here { token.new.table_id ≡ token.old.table_id }
         ensures resting { token.new.me ≡ (idle (renewed (S.summary value) (book token.old) (book token.old).least ∷ []), []) }
     {
@@ -156,7 +156,7 @@ impl<S: Summed + Drop> Lock<S> {
         requires here { token.old.table_id ≡ self.now.table.shared.table_id }
         requires holding { IsHolding token.old }
         requires agrees { Agrees (found token.old) (book token.old) }
-        requires follows { Follows (book token.old).who (found token.old) (S.summary value) }
+        requires follows { MayBecome (book token.old).who (found token.old) (S.summary value) }
         ensures here { token.new.table_id ≡ token.old.table_id }
         ensures resting { token.new.me ≡ (idle (opened (S.summary value) (book token.old).who ∷ []), []) }
     {

@@ -1,12 +1,12 @@
 -- The order of a dictionary: each list is no later than itself, it passes on, and of two lists one is later.
 use Rattle.std.proofs.Common.{ℕ, ◌≡◌, List, [], ◌∷◌, refl, ap₂, arith, inl, inr}
-use Rattle.s66_model.specs.Floor.{IsNoLater}
+use Rattle.s66_model.specs.Floor.{InDictionaryOrder}
 
-pub IsNoLater-itself : (ns : List ℕ) → IsNoLater ns ns
+pub IsNoLater-itself : (ns : List ℕ) → InDictionaryOrder ns ns
 IsNoLater-itself [] = tt
 IsNoLater-itself (n ∷ ns) = inr (refl, IsNoLater-itself ns)
 
-pub IsNoLater-through : (ks ms ns : List ℕ) → IsNoLater ks ms → IsNoLater ms ns → IsNoLater ks ns
+pub IsNoLater-through : (ks ms ns : List ℕ) → InDictionaryOrder ks ms → InDictionaryOrder ms ns → InDictionaryOrder ks ns
 IsNoLater-through [] ms ns h1 h2 = tt
 IsNoLater-through (k ∷ ks) [] ns h1 h2 = absurd h1
 IsNoLater-through (k ∷ ks) (m ∷ ms) [] h1 h2 = absurd h2
@@ -25,7 +25,7 @@ IsNoLater-through (k ∷ ks) (m ∷ ms) (n ∷ ns) h1 h2 =
     ]
 
 -- lists of which neither is later are one
-pub IsNoLater-both : (ms ns : List ℕ) → IsNoLater ms ns → IsNoLater ns ms → ms ≡ ns
+pub IsNoLater-both : (ms ns : List ℕ) → InDictionaryOrder ms ns → InDictionaryOrder ns ms → ms ≡ ns
 IsNoLater-both [] [] h1 h2 = refl
 IsNoLater-both [] (n ∷ ns) h1 h2 = absurd h2
 IsNoLater-both (m ∷ ms) [] h1 h2 = absurd h1

@@ -9,7 +9,7 @@ use Rattle.s66_model.specs.Leaves.{Leaf}
 use Rattle.s66_model.specs.Tree.{Siblings, NoMore, Unsplit, Split, Tree, Alone, Parted, Vertex, AtTerminal, AtSplit, SiblingsHold, TreeHolds, LeafShows, Shows}
 use Rattle.s66_model.specs.Dominance.{IsNoWorse, clamp_at}
 use Rattle.s66_model.specs.DominatedLeaves.{Ending, Bounding, Dominated, IsEarlier, may_be_named, DominatesByRule, EndingShows, ShowsBy, siblings_bounding, tree_bounding}
-use Rattle.s66_model.specs.NodeNames.{node_at, is_node}
+use Rattle.s66_model.specs.NodeNames.{node_named, is_node}
 use Rattle.s66_model.proofs.LegalOrders.{GoesOn-join, order-legal, legal-order}
 use Rattle.s66_model.proofs.Remaining.{legal-parts}
 use Rattle.s66_model.proofs.Trees.{leaf-sound}
@@ -40,7 +40,7 @@ may_name closes ClampedStanding vertex = stands closes vertex
 
 -- a node that dominates it may be named there
 abbrev pub IsNamed : {M : Type 0} → (M → Bool) → Rule → Problem → List ℕ → Tree M → List ℕ → Type 0
-IsNamed closes rule b prefix tree at = (name : List ℕ) × DominatesByRule rule b name at × (may_name closes rule (node_at prefix tree name) ≡ true)
+IsNamed closes rule b prefix tree at = (name : List ℕ) × DominatesByRule rule b name at × (may_name closes rule (node_named prefix tree name) ≡ true)
 
 module _ {M : Type 0} (closes : M → Bool) (b : Problem) (low : ℕ) (Q : List ℕ → M → Type 0) (prefix : List ℕ) (tree : Tree M) (shows : TreeHolds b.block Q prefix tree) where
   -- EARLIER NODES
@@ -145,7 +145,7 @@ may-name ClampedStanding (Some (AtTerminal (Dominated name))) = refl
 module _ (rule : Rule) (b : Problem) (low : ℕ) (prefix : List ℕ) (tree : Tree Ending) where
   ending-says : (at : List ℕ) (ending : Ending) → EndingShows rule b low prefix tree at ending → IsShut b low at ⊎ IsNamed bounds rule b prefix tree at
   ending-says at (Bounding leaf) h = inl (leaf-shuts b low at leaf h)
-  ending-says at (Dominated name) h = inr (name, h.0, sym (may-name rule (node_at prefix tree name)) ∙ h.1)
+  ending-says at (Dominated name) h = inr (name, h.0, sym (may-name rule (node_named prefix tree name)) ∙ h.1)
 
   ending-shuts : (at : List ℕ) (ending : Ending) → bounds ending ≡ true → EndingShows rule b low prefix tree at ending → IsShut b low at
   ending-shuts at (Bounding leaf) closed h = leaf-shuts b low at leaf h

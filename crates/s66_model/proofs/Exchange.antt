@@ -8,7 +8,7 @@ use Rattle.s66_isa.specs.declared.instr.Memory.TheVariants.{None, Load, Store}
 use Rattle.s66_isa.specs.declared.reg.Reg.{Reg}
 use Rattle.s66_isa.specs.Table.{same_reg, has_reg, x_reg, operands_of, stored_registers, reads_of, held_registers, results_of, memory_of, touches, stores, memory_pair}
 use Rattle.s66_model.specs.Dependence.{share, conflict}
-use Rattle.s66_model.specs.Meaning.{Term, Terms, Storage, Stored, Operation, Contents, value_of, values_of, results_computed, words_loaded, writes, after_writes, address_of, storage_after, after}
+use Rattle.s66_model.specs.Meaning.{Term, Terms, Storage, Stored, Operation, Contents, register_value, values_of, results_computed, words_loaded, writes, after_writes, address_of, storage_after, after}
 use Rattle.s66_isa.proofs.SameRegister.{same_reg-self}
 use Rattle.s66_isa.proofs.SameRegister.{has_reg-reads}
 use Rattle.s66_model.proofs.Registers.{share-none, share-none_back, writes-other, value-other, values-other}
@@ -83,7 +83,7 @@ operands-same c a b h =
     values-other a (values_of c.registers (operands_of a.instr)) c.storage c.registers (operands_of b.instr)
     (λ q named is. h q (has_reg-reads q named b.instr ∙ or_left (has_reg q (operands_of b.instr)) (has_reg q (stored_registers (memory_of b.instr) b.instr)) is))
 
-stored-same : (c : Contents) (a b : Operation) → IsApart a b → memory_of b.instr ≡ Store → value_of (after c a).registers (x_reg b.instr.i) ≡ value_of c.registers (x_reg b.instr.i)
+stored-same : (c : Contents) (a b : Operation) → IsApart a b → memory_of b.instr ≡ Store → register_value (after c a).registers (x_reg b.instr.i) ≡ register_value c.registers (x_reg b.instr.i)
 stored-same c a b h store =
     let x = x_reg b.instr.i in
     let stored = has_reg-stored (memory_of b.instr) b.instr store in
@@ -96,7 +96,7 @@ unfolding operands_in
 writes-same c a b h free =
     ap (λ t. writes b t (after c a).storage) (operands-same c a b h)
     ∙ ap (λ t. results_computed b (operands_in c b) 0 (held_registers b.instr) ++ t)
-    (words_loaded-same (memory_of a.instr) (memory_of b.instr) b.instr c.storage (address_of a (operands_in c a)) (value_of c.registers (x_reg a.instr.i)) (address_of b (operands_in c b)) free)
+    (words_loaded-same (memory_of a.instr) (memory_of b.instr) b.instr c.storage (address_of a (operands_in c a)) (register_value c.registers (x_reg a.instr.i)) (address_of b (operands_in c b)) free)
 
 pub exchange : (c : Contents) (a b : Operation) → conflict a.instr b.instr ≡ false → after (after c a) b ≡ after (after c b) a
 unfolding operands_in conflict
@@ -117,6 +117,6 @@ exchange c a b h =
     ap (λ t. after_writes t (after c a).registers q) (writes-same c a b ahead no_pair)
     ∙ (registers-exchange a b x y c.storage c.registers q not_twice
     ∙ sym (ap (λ t. after_writes t (after c b).registers q) (writes-same c b a back no_pair_back))))
-    (ap (λ t. storage_after (memory_of b.instr) (after c a).storage (address_of b t) (value_of (after c a).registers (x_reg b.instr.i))) (operands-same c a b ahead)
-    ∙ (storage-exchange (memory_of a.instr) (memory_of b.instr) c.storage (address_of a x) (value_of c.registers (x_reg a.instr.i)) (value_of (after c b).registers (x_reg a.instr.i)) (address_of b y) (value_of c.registers (x_reg b.instr.i)) (value_of (after c a).registers (x_reg b.instr.i)) no_pair (stored-same c b a back) (stored-same c a b ahead)
-    ∙ sym (ap (λ t. storage_after (memory_of a.instr) (after c b).storage (address_of a t) (value_of (after c b).registers (x_reg a.instr.i))) (operands-same c b a back))))
+    (ap (λ t. storage_after (memory_of b.instr) (after c a).storage (address_of b t) (register_value (after c a).registers (x_reg b.instr.i))) (operands-same c a b ahead)
+    ∙ (storage-exchange (memory_of a.instr) (memory_of b.instr) c.storage (address_of a x) (register_value c.registers (x_reg a.instr.i)) (register_value (after c b).registers (x_reg a.instr.i)) (address_of b y) (register_value c.registers (x_reg b.instr.i)) (register_value (after c a).registers (x_reg b.instr.i)) no_pair (stored-same c b a back) (stored-same c a b ahead)
+    ∙ sym (ap (λ t. storage_after (memory_of a.instr) (after c b).storage (address_of a t) (register_value (after c b).registers (x_reg a.instr.i))) (operands-same c b a back))))

@@ -9,7 +9,7 @@ use Rattle.s66_isa.specs.Table.{kind_number, all_kinds}
 use Rattle.s66_model.specs.Timing.{Problem}
 use Rattle.s66_model.specs.LegalOrder.{is_remaining, needs_met, GoesOn, IsBeginning, IsIncomplete, IsComplete}
 use Rattle.s66_model.specs.Leaves.{Leaf, Whole, Chain, Load, Parcels, value, chain_value, chain, MayStand, longest_chain, first_greatest, after_chain, floor}
-use Rattle.s66_model.specs.Floor.{IsNoLater, rank, IsFloor}
+use Rattle.s66_model.specs.Floor.{InDictionaryOrder, rank, IsFloor}
 use Rattle.s66_model.proofs.LegalOrders.{legal-order, GoesOn-append}
 use Rattle.s66_model.proofs.Beginnings.{beginning-front}
 use Rattle.s66_model.proofs.LongestChain.{longest-is_chain, longest-first, chain-le}
@@ -69,7 +69,7 @@ each-parcels P (boolean, (shift, (add, (long_add, (multiply, (divide, (increment
 
 -- the leaf is greater than the other, or as great and no later
 abbrev GoesBefore : (Leaf → ℕ) → Leaf → Leaf → Type 0
-GoesBefore f leaf other = (f other ≤ f leaf) × (f other ≡ f leaf → IsNoLater (rank leaf) (rank other))
+GoesBefore f leaf other = (f other ≤ f leaf) × (f other ≡ f leaf → InDictionaryOrder (rank leaf) (rank other))
 
 before-itself : (f : Leaf → ℕ) (leaf : Leaf) → GoesBefore f leaf leaf
 before-itself f leaf = (omega arith, λ same. IsNoLater-itself (rank leaf))
@@ -81,7 +81,7 @@ before-through f x y z h1 h2 =
 -- each leaf is no later than the next
 abbrev Ordered : Leaf → List Leaf → Type 0
 Ordered leaf [] = Unit {0}
-Ordered leaf (other ∷ others) = IsNoLater (rank leaf) (rank other) × Ordered other others
+Ordered leaf (other ∷ others) = InDictionaryOrder (rank leaf) (rank other) × Ordered other others
 
 ordered-without : (leaf other : Leaf) (others : List Leaf) → Ordered leaf (other ∷ others) → Ordered leaf others
 ordered-without leaf other [] h = tt
@@ -104,7 +104,7 @@ leaves-ordered : (ns : List ℕ) → Ordered (Chain ns) after_chain
 leaves-ordered ns =
     (inl (omega arith), (next Boolean Shift (omega arith), (next Shift Add (omega arith), (next Add LongAdd (omega arith), (next LongAdd Multiply (omega arith), (next Multiply Divide (omega arith), (next Divide Increment (omega arith), (inl (omega arith), tt))))))))
   where
-    next : (kind other : Kind) → kind_number kind < kind_number other → IsNoLater (rank (Load kind)) (rank (Load other))
+    next : (kind other : Kind) → kind_number kind < kind_number other → InDictionaryOrder (rank (Load kind)) (rank (Load other))
     next kind other lt = inr (refl, inl lt)
 
 -- if the first greatest goes before the printed chain and all leaves after it, it goes before all that may stand

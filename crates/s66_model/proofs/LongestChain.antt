@@ -8,7 +8,7 @@ use Rattle.s66_isa.specs.Table.{numbers}
 use Rattle.s66_model.specs.Timing.{Problem, row_at, points_of}
 use Rattle.s66_model.specs.LegalOrder.{is_remaining, remaining}
 use Rattle.s66_model.specs.Leaves.{tail, link, is_linked, head, walk, chain_value, IsWalk, IsChain, links_from, longest, chain, longest_walk, longest_chain}
-use Rattle.s66_model.specs.Floor.{IsNoLater}
+use Rattle.s66_model.specs.Floor.{InDictionaryOrder}
 use Rattle.s66_isa.proofs.Lists.{cases_le, le-greatest}
 use Rattle.s66_model.proofs.Remaining.{remaining-parts, among-filter, filter-among, among-remaining, remaining-among}
 
@@ -199,12 +199,12 @@ chain-le b prefix (n ∷ ns) goes =
 links_from-rises : (b : Problem) (prefix : List ℕ) (n : ℕ) → Rises 1 (links_from b prefix n)
 links_from-rises b prefix n = Rises-filter (is_linked b n) 1 (remaining b.block prefix) (remaining-rises b.block prefix)
 
-walk-first : (b : Problem) (prefix : List ℕ) (links n time : ℕ) (ns : List ℕ) → time ≡ longest b prefix links n → length ns ≤ links → IsWalk b prefix n ns → walk b n ns ≡ time → IsNoLater (longest_walk b prefix links n time) ns
+walk-first : (b : Problem) (prefix : List ℕ) (links n time : ℕ) (ns : List ℕ) → time ≡ longest b prefix links n → length ns ≤ links → IsWalk b prefix n ns → walk b n ns ≡ time → InDictionaryOrder (longest_walk b prefix links n time) ns
 walk-first b prefix zero n time ns is short goes takes = tt
-walk-first b prefix (suc links) n time [] is short goes takes = subst (λ ms. IsNoLater ms []) (sym (walk-ends b prefix links n time takes)) tt
+walk-first b prefix (suc links) n time [] is short goes takes = subst (λ ms. InDictionaryOrder ms []) (sym (walk-ends b prefix links n time takes)) tt
 walk-first b prefix (suc links) n time (m ∷ ms) is short goes takes =
     elim (cases_eq (tail (row_at b n)) time) [
-      | inl here ↦ subst (λ ks. IsNoLater ks (m ∷ ms)) (sym (walk-ends b prefix links n time here)) tt
+      | inl here ↦ subst (λ ks. InDictionaryOrder ks (m ∷ ms)) (sym (walk-ends b prefix links n time here)) tt
       | inr past ↦
           let (stays, is_link, rest) = goes in
           let among = walk-links_from b prefix n m ms is_link rest in
@@ -212,17 +212,17 @@ walk-first b prefix (suc links) n time (m ∷ ms) is short goes takes =
           let at_most : link (row_at b n) (row_at b m) + longest b prefix links m ≤ longest b prefix (suc links) n = link-le b prefix links n m among in
           let takes_it : link (row_at b n) (row_at b m) + longest b prefix links m ≡ time = omega (arith, le, at_most, is, takes) in
           let lowest : onward b prefix links n time ≤ m = first-lowest (keeps b prefix links n time) 1 m (links_from b prefix n) (links_from-rises b prefix n) among (eq-eqb (link (row_at b n) (row_at b m) + longest b prefix links m) time takes_it) in
-          subst (λ ks. IsNoLater ks (m ∷ ms)) (sym (walk-goes b prefix links n time past))
+          subst (λ ks. InDictionaryOrder ks (m ∷ ms)) (sym (walk-goes b prefix links n time past))
           (elim (cases_eq (onward b prefix links n time) m) [
             | inl same ↦
-                let after : IsNoLater (longest_walk b prefix links m (time - link (row_at b n) (row_at b m))) ms =
+                let after : InDictionaryOrder (longest_walk b prefix links m (time - link (row_at b n) (row_at b m))) ms =
                 walk-first b prefix links m (time - link (row_at b n) (row_at b m)) ms (omega (arith, takes_it)) (omega (arith, short)) rest (omega (arith, takes)) in
-                inr (same, subst (λ k. IsNoLater (longest_walk b prefix links k (time - link (row_at b n) (row_at b k))) ms) (sym same) after)
+                inr (same, subst (λ k. InDictionaryOrder (longest_walk b prefix links k (time - link (row_at b n) (row_at b k))) ms) (sym same) after)
             | inr other ↦ inl (omega (arith, lowest, other))
           ])
     ]
 
-pub longest-first : (b : Problem) (prefix ns : List ℕ) → IsChain b prefix ns → chain_value b prefix ns ≡ chain b prefix → IsNoLater (longest_chain b prefix) ns
+pub longest-first : (b : Problem) (prefix ns : List ℕ) → IsChain b prefix ns → chain_value b prefix ns ≡ chain b prefix → InDictionaryOrder (longest_chain b prefix) ns
 longest-first b prefix [] goes takes = absurd goes
 longest-first b prefix (n ∷ ns) goes takes =
     let short = chain-short b prefix n ns goes in
@@ -233,8 +233,8 @@ longest-first b prefix (n ∷ ns) goes takes =
     let lowest : front b prefix ≤ n = first-lowest (heads b prefix) 1 n (remaining b.block prefix) (remaining-rises b.block prefix) among (eq-eqb (head (points_of b prefix) (row_at b n) + longest b prefix (length b.block) n) (chain b prefix) takes_it) in
     elim (cases_eq (front b prefix) n) [
       | inl same ↦
-          let after : IsNoLater (longest_walk b prefix (length b.block) n (chain b prefix - head (points_of b prefix) (row_at b n))) ns =
+          let after : InDictionaryOrder (longest_walk b prefix (length b.block) n (chain b prefix - head (points_of b prefix) (row_at b n))) ns =
           walk-first b prefix (length b.block) n (chain b prefix - head (points_of b prefix) (row_at b n)) ns (omega (arith, takes_it)) short goes (omega (arith, takes)) in
-          inr (same, subst (λ k. IsNoLater (longest_walk b prefix (length b.block) k (chain b prefix - head (points_of b prefix) (row_at b k))) ns) (sym same) after)
+          inr (same, subst (λ k. InDictionaryOrder (longest_walk b prefix (length b.block) k (chain b prefix - head (points_of b prefix) (row_at b k))) ns) (sym same) after)
       | inr other ↦ inl (omega (arith, lowest, other))
     ]

@@ -8,7 +8,7 @@ use Rattle.s66_model.specs.declared.rule.Rule.TheVariants.{NoneNamed, WrittenEar
 use Rattle.s66_model.specs.Timing.{Problem}
 use Rattle.s66_model.specs.LegalOrder.{ready, GoesOn, IsBeginning}
 use Rattle.s66_model.specs.Tree.{Siblings, NoMore, Unsplit, Split, Tree, Alone, Parted, Vertex, AtTerminal, AtSplit}
-use Rattle.s66_model.specs.NodeNames.{terminal_at, sibling_at, node_at}
+use Rattle.s66_model.specs.NodeNames.{terminal_at, sibling_at, node_named}
 use Rattle.s66_model.specs.DominatedLeaves.{Ending, Bounding, Dominated, may_be_named}
 use Rattle.s66_model.specs.Ledger.{Ledger, Node, State, Open, Out, Cut, Closed, may_name, HasNamed}
 use Rattle.s66_model.specs.NodeTable.{stands_at, IsTable}
@@ -76,7 +76,7 @@ module _ (b : Problem) (l : Ledger) (table : IsTable b l) (beginnings : (node : 
           subst (λ x. sibling_at numbers sub (m ∷ ms) ≡ Some (vertex_at x)) same
           (lead m ms fit next goes.1 (subst (λ x. 0 < standing x) (sym same) some))
 
-  tree-leads : (tree : Tree Ending) → TreeFits b is_split ending tree → (x : List ℕ) → IsBeginning b.block x → 0 < standing x → node_at [] tree x ≡ Some (vertex_at x)
+  tree-leads : (tree : Tree Ending) → TreeFits b is_split ending tree → (x : List ℕ) → IsBeginning b.block x → 0 < standing x → node_named [] tree x ≡ Some (vertex_at x)
   tree-leads (Alone terminal) h x goes some = terminal-there [] x terminal h.0 h.1 goes some
   tree-leads (Parted numbers siblings) h [] goes some = rw h.0 (ap (λ ks. Some (AtSplit ks)) h.1)
   tree-leads (Parted numbers siblings) h (n ∷ ns) goes some =
@@ -93,10 +93,10 @@ module _ (b : Problem) (l : Ledger) (table : IsTable b l) (beginnings : (node : 
   named-vertex ClampedStanding (Closed (Bounding leaf)) at false h = refl
   named-vertex ClampedStanding (Closed (Dominated name)) at false h = absurd cc
 
-  pub named-there : (rule : Rule) (name : List ℕ) → HasNamed rule l.nodes name → may_be_named rule (node_at [] (node_tree b l.nodes) name) ≡ true
+  pub named-there : (rule : Rule) (name : List ℕ) → HasNamed rule l.nodes name → may_be_named rule (node_named [] (node_tree b l.nodes) name) ≡ true
   named-there rule name (node, among, is, may) =
       let some : 0 < standing node.prefix = passes-some (stands_at node.prefix) node l.nodes among (is-same node.prefix) in
-      let leads : node_at [] (node_tree b l.nodes) node.prefix ≡ Some (vertex_at node.prefix) = tree-leads (node_tree b l.nodes) (fits b l table beginnings) node.prefix (beginnings node among) some in
+      let leads : node_named [] (node_tree b l.nodes) node.prefix ≡ Some (vertex_at node.prefix) = tree-leads (node_tree b l.nodes) (fits b l table beginnings) node.prefix (beginnings node among) some in
       let vertex : may_be_named rule (Some (vertex_at node.prefix)) ≡ true =
       subst (λ e. may_be_named rule (Some (cond (is_split node.prefix) (AtSplit (ready b.block node.prefix)) (AtTerminal e))) ≡ true) (sym (ending-is b l table beginnings node among)) (named-vertex rule node.state node.prefix (is_split node.prefix) may) in
-      subst (λ x. may_be_named rule (node_at [] (node_tree b l.nodes) x) ≡ true) is (ap (may_be_named rule) leads ∙ vertex)
+      subst (λ x. may_be_named rule (node_named [] (node_tree b l.nodes) x) ≡ true) is (ap (may_be_named rule) leads ∙ vertex)

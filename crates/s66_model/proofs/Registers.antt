@@ -7,7 +7,7 @@ use Rattle.s66_isa.specs.declared.instr.Memory.{Memory}
 use Rattle.s66_isa.specs.declared.reg.Reg.{Reg}
 use Rattle.s66_isa.specs.Table.{same_reg, is_b0, has_reg, held_registers, loaded_registers, results_of, memory_of}
 use Rattle.s66_model.specs.Dependence.{share}
-use Rattle.s66_model.specs.Meaning.{Term, Terms, Storage, Loaded, Operation, value_of, values_of, results_computed, words_loaded, writes, after_writes, address_of}
+use Rattle.s66_model.specs.Meaning.{Term, Terms, Storage, Loaded, Operation, register_value, values_of, results_computed, words_loaded, writes, after_writes, address_of}
 use Rattle.s66_isa.proofs.SameRegister.{same_reg-self, same_reg-sym, has_reg-at}
 
 -- WHICH STAND IN TWO SETS
@@ -59,7 +59,7 @@ writes-other o operands storage registers q h =
     after_writes-other (writes o operands storage) registers q (ap (λ t. has_reg q t) (writes-registers o operands storage) ∙ h)
 
 pub value-other : (o : Operation) (operands : Terms) (storage : Storage) (registers : Reg → Term) (q : Reg) → has_reg q (results_of o.instr) ≡ false →
-    value_of (after_writes (writes o operands storage) registers) q ≡ value_of registers q
+    register_value (after_writes (writes o operands storage) registers) q ≡ register_value registers q
 value-other o operands storage registers q h = rw (writes-other o operands storage registers q h) refl
 
 -- operands that it does not write have the values that they had, and B0 is zero

@@ -5,10 +5,10 @@ use Rattle.std.proofs.lemmas.List.{append-nil}
 use Rattle.s66_isa.specs.declared.instr.Instr.{Instr}
 use Rattle.s66_model.specs.LegalOrder.{ready, IsIncomplete}
 use Rattle.s66_model.specs.Tree.{Siblings, NoMore, Unsplit, Split, Tree, Alone, Parted, Vertex, AtTerminal, AtSplit, SiblingsHold, TreeHolds}
-use Rattle.s66_model.specs.NodeNames.{terminal_at, sibling_at, node_at, is_node}
+use Rattle.s66_model.specs.NodeNames.{terminal_at, sibling_at, node_named, is_node}
 
 -- a node's name goes on from the prefix
-pub node-begins : {M : Type 0} (prefix : List ℕ) (tree : Tree M) (name : List ℕ) → is_node (node_at prefix tree name) ≡ true → (path : List ℕ) × (name ≡ prefix ++ path)
+pub node-begins : {M : Type 0} (prefix : List ℕ) (tree : Tree M) (name : List ℕ) → is_node (node_named prefix tree name) ≡ true → (path : List ℕ) × (name ≡ prefix ++ path)
 node-begins [] tree name h = (name, refl)
 node-begins (n ∷ prefix) tree [] h = absurd cc
 node-begins (n ∷ prefix) tree (m ∷ name) h =
@@ -66,7 +66,7 @@ module _ {M : Type 0} (closes : M → Bool) (block : List Instr) (Q : List ℕ �
         | inr is ↦ sibling-stands siblings at ns n (k ∷ path) holds.3 (rw is at h)
       ]
 
-  stands-after : (prefix front : List ℕ) (tree : Tree M) (name : List ℕ) → TreeHolds block Q (front ++ prefix) tree → stands closes (node_at prefix tree name) ≡ true → Standing closes Q block (front ++ name)
+  stands-after : (prefix front : List ℕ) (tree : Tree M) (name : List ℕ) → TreeHolds block Q (front ++ prefix) tree → stands closes (node_named prefix tree name) ≡ true → Standing closes Q block (front ++ name)
   stands-after [] front (Alone terminal) name holds h = terminal-stands terminal front name (rw (append-nil front) at holds) h
   stands-after [] front (Parted numbers siblings) [] holds h = inr (numbers, siblings, holds.0, holds.1, holds.2)
   stands-after [] front (Parted numbers siblings) (n ∷ path) holds h =
@@ -81,5 +81,5 @@ module _ {M : Type 0} (closes : M → Bool) (block : List Instr) (Q : List ℕ �
         | inr is ↦ (let no : false ≡ true = rw is at h in absurd cc)
       ]
 
-  pub node-stands : (prefix : List ℕ) (tree : Tree M) (name : List ℕ) → TreeHolds block Q prefix tree → stands closes (node_at prefix tree name) ≡ true → Standing closes Q block name
+  pub node-stands : (prefix : List ℕ) (tree : Tree M) (name : List ℕ) → TreeHolds block Q prefix tree → stands closes (node_named prefix tree name) ≡ true → Standing closes Q block name
   node-stands prefix tree name holds h = stands-after prefix [] tree name holds h

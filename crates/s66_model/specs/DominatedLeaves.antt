@@ -7,7 +7,7 @@ use Rattle.s66_model.specs.LegalOrder.{IsIncomplete}
 use Rattle.s66_model.specs.Leaves.{Leaf}
 use Rattle.s66_model.specs.Tree.{Siblings, NoMore, Unsplit, Split, Tree, Alone, Parted, Vertex, AtTerminal, AtSplit, TreeHolds, LeafShows}
 use Rattle.s66_model.specs.Dominance.{Dominates, DominatesClamped}
-use Rattle.s66_model.specs.NodeNames.{node_at, is_node}
+use Rattle.s66_model.specs.NodeNames.{node_named, is_node}
 
 -- what a prefix has that isn't split: a leaf that bounds, or the name of a node that dominates the prefix
 pub data Ending : Type 0 where
@@ -43,7 +43,7 @@ DominatesByRule ClampedStanding b name at = IsIncomplete b.block at × Dominates
 
 -- a dominated leaf with this name may stand there, in a tree over the prefix
 abbrev pub MayBeDominated : Rule → Problem → List ℕ → Tree Ending → List ℕ → List ℕ → Type 0
-MayBeDominated rule b prefix tree at name = DominatesByRule rule b name at × (may_be_named rule (node_at prefix tree name) ≡ true)
+MayBeDominated rule b prefix tree at name = DominatesByRule rule b name at × (may_be_named rule (node_named prefix tree name) ≡ true)
 
 -- WHAT A TREE SHOWS over a prefix: dominated leaves are passed over
 

@@ -5,10 +5,10 @@ use Rattle.s66_model.specs.Timing.{Problem}
 use Rattle.s66_model.specs.Leaves.{Leaf, Whole, Chain, Load, Parcels, value, MayStand}
 
 -- the first list comes before the other in a dictionary, or is the same
-abbrev pub IsNoLater : List ℕ → List ℕ → Type 0
-IsNoLater [] ms = Unit {0}
-IsNoLater (n ∷ ns) [] = ⊥
-IsNoLater (n ∷ ns) (m ∷ ms) = (n < m) ⊎ ((n ≡ m) × IsNoLater ns ms)
+abbrev pub InDictionaryOrder : List ℕ → List ℕ → Type 0
+InDictionaryOrder [] ms = Unit {0}
+InDictionaryOrder (n ∷ ns) [] = ⊥
+InDictionaryOrder (n ∷ ns) (m ∷ ms) = (n < m) ⊎ ((n ≡ m) × InDictionaryOrder ns ms)
 
 -- C goes before U and U before P; chains go as in a dictionary, and kinds as in the list of copies
 abbrev pub rank : Leaf → List ℕ
@@ -22,4 +22,4 @@ pub record IsFloor (b : Problem) (prefix : List ℕ) (leaf : Leaf) : Type 0 wher
   -- no other leaf that may stand there is greater
   pub greatest : (other : Leaf) → MayStand b prefix other → value b prefix other ≤ value b prefix leaf
   -- and of equal ones it goes first
-  pub first : (other : Leaf) → MayStand b prefix other → value b prefix other ≡ value b prefix leaf → IsNoLater (rank leaf) (rank other)
+  pub first : (other : Leaf) → MayStand b prefix other → value b prefix other ≡ value b prefix leaf → InDictionaryOrder (rank leaf) (rank other)

@@ -29,12 +29,12 @@ pub record Contents : Type 0 where
   pub storage : Storage
 
 -- B0 is zero
-abbrev pub value_of : (Reg → Term) → Reg → Term
-value_of registers r = if is_b0 r then Zero else registers r
+abbrev pub register_value : (Reg → Term) → Reg → Term
+register_value registers r = if is_b0 r then Zero else registers r
 
 abbrev pub values_of : (Reg → Term) → List Reg → Terms
 values_of registers [] = NoTerms
-values_of registers (r ∷ rs) = Then (value_of registers r) (values_of registers rs)
+values_of registers (r ∷ rs) = Then (register_value registers r) (values_of registers rs)
 
 -- an instruction with the text of its constant
 pub record Operation : Type 0 where
@@ -75,12 +75,12 @@ after c o =
     let operands = values_of c.registers (operands_of o.instr) in
     record {
       registers = after_writes (writes o operands c.storage) c.registers;
-      storage = storage_after (memory_of o.instr) c.storage (address_of o operands) (value_of c.registers (x_reg o.instr.i));
+      storage = storage_after (memory_of o.instr) c.storage (address_of o operands) (register_value c.registers (x_reg o.instr.i));
     }
 
 -- before the first instruction
 abbrev pub at_start : Contents
-at_start = record { registers = value_of Initial; storage = InitialStorage }
+at_start = record { registers = register_value Initial; storage = InitialStorage }
 
 -- the texts of the constants, by number
 abbrev pub operation_at : List Instr → (ℕ → List ℕ) → ℕ → Operation

@@ -16,11 +16,11 @@ sibling_at (m ∷ ms) (Unsplit terminal siblings) (n ∷ path) = if m == n then 
 sibling_at (m ∷ ms) (Split numbers sub siblings) (n ∷ path) = if m == n then sibling_at numbers sub path else sibling_at ms siblings (n ∷ path)
 
 -- the node of this name; each name begins with the prefix that the tree is over
-abbrev pub node_at : {M : Type 0} → List ℕ → Tree M → List ℕ → Option (Vertex M)
-node_at [] (Alone terminal) name = terminal_at terminal name
-node_at [] (Parted numbers siblings) name = sibling_at numbers siblings name
-node_at (n ∷ prefix) tree [] = None
-node_at (n ∷ prefix) tree (m ∷ name) = if n == m then node_at prefix tree name else None
+abbrev pub node_named : {M : Type 0} → List ℕ → Tree M → List ℕ → Option (Vertex M)
+node_named [] (Alone terminal) name = terminal_at terminal name
+node_named [] (Parted numbers siblings) name = sibling_at numbers siblings name
+node_named (n ∷ prefix) tree [] = None
+node_named (n ∷ prefix) tree (m ∷ name) = if n == m then node_named prefix tree name else None
 
 -- there is one
 abbrev pub is_node : {M : Type 0} → Option (Vertex M) → Bool

@@ -6,7 +6,7 @@ use Rattle.s66_model.specs.Timing.{Problem}
 use Rattle.s66_model.specs.LegalOrder.{IsIncomplete}
 use Rattle.s66_model.specs.Leaves.{Leaf, floor}
 use Rattle.s66_model.specs.Tree.{Tree, TreeHolds}
-use Rattle.s66_model.specs.NodeNames.{node_at, is_node}
+use Rattle.s66_model.specs.NodeNames.{node_named, is_node}
 use Rattle.s66_model.specs.DominatedLeaves.{DominatesByRule}
 
 -- what a prefix that isn't split has: a leaf, a place in the frontier, or the name of a node that dominates it
@@ -18,7 +18,7 @@ pub data Terminal : Type 0 where
 -- where a name is looked for: earlier nodes in the piece itself, others in the ledger that takes it, which closes no node as dominated after it was made
 abbrev pub IsNamedIn : Rule → List ℕ → Tree Terminal → List ℕ → List ℕ → Type 0
 IsNamedIn NoneNamed prefix tree at name = ⊥
-IsNamedIn WrittenEarlier prefix tree at name = is_node (node_at prefix tree name) ≡ true
+IsNamedIn WrittenEarlier prefix tree at name = is_node (node_named prefix tree name) ≡ true
 IsNamedIn ClampedStanding prefix tree at name = length prefix < length at
 
 -- in a tree over the prefix

@@ -7,7 +7,7 @@ use Rattle.s66_model.specs.Timing.{Problem, total_of}
 use Rattle.s66_model.specs.LegalOrder.{IsLegal}
 use Rattle.s66_model.specs.Leaves.{Leaf}
 use Rattle.s66_model.specs.Tree.{Tree, Vertex, AtTerminal, AtSplit, LeafShows}
-use Rattle.s66_model.specs.NodeNames.{node_at}
+use Rattle.s66_model.specs.NodeNames.{node_named}
 use Rattle.s66_moments.specs.declared.moment.Moment.TheVariants.{Origin, End}
 use Rattle.s66_moments.specs.Facts.{Fact, Begins, AreSo, NoOrder}
 use Rattle.s66_moments.specs.FactLines.{Line, facts_after}
@@ -56,7 +56,7 @@ module _ (rule : Rule) (b : Problem) (low : ℕ) (known : List Fact) (so : (orde
   ending-says : (at : List ℕ) (ending : LineEnding) → LineEndingShows rule b low known prefix tree at ending → IsShut b low at ⊎ IsNamed closes rule b prefix tree at
   ending-says at (AtLeaf leaf) h = inl (leaf-shuts at leaf h)
   ending-says at (AtLines lines) h = inl (lines-shut at lines h)
-  ending-says at (DominatedBy name) h = inr (name, h.0, sym (may-name rule (node_at prefix tree name)) ∙ h.1)
+  ending-says at (DominatedBy name) h = inr (name, h.0, sym (may-name rule (node_named prefix tree name)) ∙ h.1)
 
   ending-shuts : (at : List ℕ) (ending : LineEnding) → closes ending ≡ true → LineEndingShows rule b low known prefix tree at ending → IsShut b low at
   ending-shuts at (AtLeaf leaf) closed h = leaf-shuts at leaf h

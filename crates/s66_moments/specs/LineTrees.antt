@@ -5,7 +5,7 @@ use Rattle.s66_model.specs.declared.rule.Rule.TheVariants.{NoneNamed, WrittenEar
 use Rattle.s66_model.specs.Timing.{Problem}
 use Rattle.s66_model.specs.Leaves.{Leaf}
 use Rattle.s66_model.specs.Tree.{Tree, Vertex, AtTerminal, AtSplit, TreeHolds, LeafShows}
-use Rattle.s66_model.specs.NodeNames.{node_at, is_node}
+use Rattle.s66_model.specs.NodeNames.{node_named, is_node}
 use Rattle.s66_model.specs.DominatedLeaves.{DominatesByRule}
 use Rattle.s66_moments.specs.declared.moment.Moment.TheVariants.{Origin, End}
 use Rattle.s66_moments.specs.Facts.{Fact, Begins, IsNumber}
@@ -50,7 +50,7 @@ abbrev pub LineEndingShows : Rule → Problem → ℕ → List Fact → List ℕ
 LineEndingShows rule b low known prefix tree at (AtLeaf leaf) = LeafShows b low at leaf
 LineEndingShows rule b low known prefix tree at (AtLines lines) = IsClosedByLines b low known at lines
 LineEndingShows rule b low known prefix tree at (DominatedBy name) =
-    DominatesByRule rule b name at × (may_be_named rule (node_at prefix tree name) ≡ true)
+    DominatesByRule rule b name at × (may_be_named rule (node_named prefix tree name) ≡ true)
 
 abbrev pub ShowsByLines : Rule → Problem → ℕ → List Line → List ℕ → Tree LineEnding → Type 0
 ShowsByLines rule b low lines prefix tree =

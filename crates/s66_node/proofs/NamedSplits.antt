@@ -8,7 +8,7 @@ use Rattle.s66_isa.specs.Lists.{Among, rising}
 use Rattle.s66_isa.proofs.Lists.{among-front, among-rest}
 use Rattle.s66_model.specs.LegalOrder.{is_ready, ready}
 use Rattle.s66_model.specs.Tree.{Tree, Alone, Parted, Siblings, NoMore, Unsplit, Split, AtTerminal, SiblingsHold, TreeHolds, flat_siblings, flat, siblings_split_at, split_at}
-use Rattle.s66_model.specs.NodeNames.{sibling_at, node_at, is_node}
+use Rattle.s66_model.specs.NodeNames.{sibling_at, node_named, is_node}
 use Rattle.s66_node.proofs.Leasts.{among-either}
 
 -- EACH NUMBER COMES ONCE among those that are ready
@@ -39,7 +39,7 @@ ready-rises block prefix = filter-rises (is_ready block prefix) (length block) 1
 
 -- THE NODE OF A SPLIT
 
-node-over : {M : Type 0} (prefix : List ℕ) (tree : Tree M) (path : List ℕ) → node_at prefix tree (prefix ++ path) ≡ node_at [] tree path
+node-over : {M : Type 0} (prefix : List ℕ) (tree : Tree M) (path : List ℕ) → node_named prefix tree (prefix ++ path) ≡ node_named [] tree path
 node-over [] tree path = refl
 node-over (n ∷ prefix) tree path = rw (eq-eqb n n refl) (node-over prefix tree path)
 
@@ -81,13 +81,13 @@ module _ {M : Type 0} (block : List Instr) (Q : List ℕ → M → Type 0) where
       (λ inside. below-split prefix ns numbers m sub siblings x (siblings-lead below numbers 1 sub (subst (Rises 1) (sym h.1) (ready-rises block below)) h.2 x inside))
       (λ later. past-split prefix ns numbers m low sub siblings x rises (siblings-lead prefix ns (suc m) siblings rises.1 h.3 x later)) among
 
-  pub split-node : (prefix : List ℕ) (tree : Tree M) → TreeHolds block Q prefix tree → (x : List ℕ) → Among x (split_at prefix tree) → is_node (node_at prefix tree x) ≡ true
+  pub split-node : (prefix : List ℕ) (tree : Tree M) → TreeHolds block Q prefix tree → (x : List ℕ) → Among x (split_at prefix tree) → is_node (node_named prefix tree x) ≡ true
   split-node prefix (Alone terminal) h x among = absurd among
   split-node prefix (Parted numbers siblings) h x (inl is) =
-      subst (λ y. is_node (node_at prefix (Parted numbers siblings) y) ≡ true) (sym (is ∙ sym (append-nil prefix))) (ap is_node (node-over prefix (Parted numbers siblings) []))
+      subst (λ y. is_node (node_named prefix (Parted numbers siblings) y) ≡ true) (sym (is ∙ sym (append-nil prefix))) (ap is_node (node-over prefix (Parted numbers siblings) []))
   split-node prefix (Parted numbers siblings) h x (inr among) =
       let (n, path, is, near, leads) = siblings-lead prefix numbers 1 siblings (subst (Rises 1) (sym h.1) (ready-rises block prefix)) h.2 x among in
-      subst (λ y. is_node (node_at prefix (Parted numbers siblings) y) ≡ true) (sym is) (ap is_node (node-over prefix (Parted numbers siblings) (n ∷ path)) ∙ leads)
+      subst (λ y. is_node (node_named prefix (Parted numbers siblings) y) ≡ true) (sym is) (ap is_node (node-over prefix (Parted numbers siblings) (n ∷ path)) ∙ leads)
 
 -- WHAT HOLDS OF THE TERMINALS by their place in the tree and by its lines
 module _ {M : Type 0} (block : List Instr) (Q R : List ℕ → M → Type 0) (root : List ℕ) where

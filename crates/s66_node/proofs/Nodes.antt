@@ -6,7 +6,7 @@ use Rattle.s66_model.specs.Piece.{Terminal}
 use Rattle.s66_node.specs.declared.node.Node.{Node}
 use Rattle.s66_node.specs.declared.node.State.{State}
 use Rattle.s66_node.specs.declared.node.State.TheVariants as state
-use Rattle.s66_node.specs.Nodes.{prefixes_from, prefixes_over, line_of, Named, no_named, named_at, lines_at, IsNode, NodesFrom, AreNodes}
+use Rattle.s66_node.specs.Nodes.{prefixes_from, prefixes_over, node_line, Named, no_named, named_at, node_lines, IsNode, NodesFrom, AreNodes}
 
 -- LISTS
 
@@ -46,13 +46,13 @@ prefixes_over-push root (y ∷ xs) x some = prefixes_from-push (root ∷ []) xs 
 
 -- LINES
 
-lines-push : (b : Problem) (names : List Named) (ats : List (List ℕ)) (xs : List Node) (at : List ℕ) (x : Node) → length ats ≡ length xs → lines_at b names (ats ++ at ∷ []) (xs ++ x ∷ []) ≡ lines_at b names ats xs ++ line_of b (named_at names x.value).name at x.state ∷ []
+lines-push : (b : Problem) (names : List Named) (ats : List (List ℕ)) (xs : List Node) (at : List ℕ) (x : Node) → length ats ≡ length xs → node_lines b names (ats ++ at ∷ []) (xs ++ x ∷ []) ≡ node_lines b names ats xs ++ node_line b (named_at names x.value).name at x.state ∷ []
 lines-push b names [] [] at x same = refl
 lines-push b names [] (y ∷ xs) at x same = absurd (omega (arith, same))
 lines-push b names (a ∷ ats) [] at x same = absurd (omega (arith, same))
-lines-push b names (a ∷ ats) (y ∷ xs) at x same = ap (λ (ks : List (Vertex Terminal)). line_of b (named_at names y.value).name a y.state ∷ ks) (lines-push b names ats xs at x (omega (arith, same)))
+lines-push b names (a ∷ ats) (y ∷ xs) at x same = ap (λ (ks : List (Vertex Terminal)). node_line b (named_at names y.value).name a y.state ∷ ks) (lines-push b names ats xs at x (omega (arith, same)))
 
-pub length-lines : (b : Problem) (names : List Named) (ats : List (List ℕ)) (xs : List Node) → length ats ≡ length xs → length (lines_at b names ats xs) ≡ length xs
+pub length-lines : (b : Problem) (names : List Named) (ats : List (List ℕ)) (xs : List Node) → length ats ≡ length xs → length (node_lines b names ats xs) ≡ length xs
 length-lines b names [] [] same = refl
 length-lines b names [] (x ∷ xs) same = absurd (omega (arith, same))
 length-lines b names (at ∷ ats) [] same = absurd (omega (arith, same))
@@ -76,23 +76,23 @@ module _ (b : Problem) (names more : List Named) where
   still-nodes made [] h = tt
   still-nodes made (x ∷ xs) h = (h.0, still-node (get_or made x.parent [] ++ x.number ∷ []) x h.1, still-nodes (made ++ (get_or made x.parent [] ++ x.number ∷ []) ∷ []) xs h.2)
 
-  still-line : (at : List ℕ) (x : Node) → (x.state ≡ state.Dominated → x.value < length names) → line_of b (named_at (names ++ more) x.value).name at x.state ≡ line_of b (named_at names x.value).name at x.state
+  still-line : (at : List ℕ) (x : Node) → (x.state ≡ state.Dominated → x.value < length names) → node_line b (named_at (names ++ more) x.value).name at x.state ≡ node_line b (named_at names x.value).name at x.state
   still-line at x within = by x.state within
     where
-      by : (s : State) → (s ≡ state.Dominated → x.value < length names) → line_of b (named_at (names ++ more) x.value).name at s ≡ line_of b (named_at names x.value).name at s
+      by : (s : State) → (s ≡ state.Dominated → x.value < length names) → node_line b (named_at (names ++ more) x.value).name at s ≡ node_line b (named_at names x.value).name at s
       by state.Open h = refl
       by state.Out h = refl
       by state.Closed h = refl
       by state.Split h = refl
-      by state.Dominated h = ap (λ (d : Named). line_of b d.name at state.Dominated) (get_or-longer names more x.value no_named (h refl))
+      by state.Dominated h = ap (λ (d : Named). node_line b d.name at state.Dominated) (get_or-longer names more x.value no_named (h refl))
 
-  still-lines_from : (made ats : List (List ℕ)) (xs : List Node) → NodesFrom b names made xs → lines_at b (names ++ more) ats xs ≡ lines_at b names ats xs
+  still-lines_from : (made ats : List (List ℕ)) (xs : List Node) → NodesFrom b names made xs → node_lines b (names ++ more) ats xs ≡ node_lines b names ats xs
   still-lines_from made [] xs h = refl
   still-lines_from made (at ∷ ats) [] h = refl
   still-lines_from made (at ∷ ats) (x ∷ xs) h =
       rw (still-line at x h.1.within, still-lines_from (made ++ (get_or made x.parent [] ++ x.number ∷ []) ∷ []) ats xs h.2) refl
 
-  still-lines : (root : List ℕ) (ats : List (List ℕ)) (xs : List Node) → AreNodes b names root xs → lines_at b (names ++ more) ats xs ≡ lines_at b names ats xs
+  still-lines : (root : List ℕ) (ats : List (List ℕ)) (xs : List Node) → AreNodes b names root xs → node_lines b (names ++ more) ats xs ≡ node_lines b names ats xs
   still-lines root ats [] h = absurd h
   still-lines root [] (x ∷ xs) h = refl
   still-lines root (at ∷ ats) (x ∷ xs) h = rw (still-line at x h.0.within, still-lines_from (root ∷ []) ats xs h.1) refl
@@ -107,7 +107,7 @@ nodes_from-push b names made (y ∷ xs) x h lt is = (h.0, h.1, nodes_from-push b
 pub record ArePushed (b : Problem) (root : List ℕ) (names all : List Named) (nodes new : List Node) (at : List ℕ) (line : Vertex Terminal) : Type 0 where
   pub stand : AreNodes b all root new
   pub prefixes : prefixes_over root new ≡ prefixes_over root nodes ++ at ∷ []
-  pub lines : lines_at b all (prefixes_over root new) new ≡ lines_at b names (prefixes_over root nodes) nodes ++ line ∷ []
+  pub lines : node_lines b all (prefixes_over root new) new ≡ node_lines b names (prefixes_over root nodes) nodes ++ line ∷ []
 
 module _ (b : Problem) (root : List ℕ) (names more all : List Named) (nodes new : List Node) (x : Node) (at : List ℕ) (h : AreNodes b names root nodes) (called : all ≡ names ++ more) (put : new ≡ nodes ++ x ∷ []) (within : x.parent < length (prefixes_over root nodes)) (path : get_or (prefixes_over root nodes) x.parent [] ++ x.number ∷ [] ≡ at) (is : IsNode b all at x) where
   some : 0 < length nodes
@@ -120,7 +120,7 @@ module _ (b : Problem) (root : List ℕ) (names more all : List Named) (nodes ne
   more_nodes [] are lt of = absurd are
   more_nodes (y ∷ xs) are lt of = (still-node b names more root y are.0, nodes_from-push b (names ++ more) (root ∷ []) xs x (still-nodes b names more (root ∷ []) xs are.1) lt of)
 
-  pub are-pushed : ArePushed b root names all nodes new at (line_of b (named_at all x.value).name at x.state)
+  pub are-pushed : ArePushed b root names all nodes new at (node_line b (named_at all x.value).name at x.state)
   are-pushed =
       record {
         stand = rw (put, called) (more_nodes nodes h within (subst (λ a. IsNode b (names ++ more) a x) (sym path) (subst (λ ns. IsNode b ns at x) called is)));
@@ -128,5 +128,5 @@ module _ (b : Problem) (root : List ℕ) (names more all : List Named) (nodes ne
         lines =
             rw (more_prefixes, put, called)
             (lines-push b (names ++ more) (prefixes_over root nodes) nodes at x (length-prefixes_over root nodes)
-            ∙ ap (λ (ks : List (Vertex Terminal)). ks ++ line_of b (named_at (names ++ more) x.value).name at x.state ∷ []) (still-lines b names more root (prefixes_over root nodes) nodes h));
+            ∙ ap (λ (ks : List (Vertex Terminal)). ks ++ node_line b (named_at (names ++ more) x.value).name at x.state ∷ []) (still-lines b names more root (prefixes_over root nodes) nodes h));
       }

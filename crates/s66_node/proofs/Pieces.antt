@@ -8,14 +8,14 @@ use Rattle.s66_model.specs.Tree.{Tree, Alone, AtTerminal, TreeHolds, flat, split
 use Rattle.s66_model.specs.DominatedLeaves.{DominatesByRule}
 use Rattle.s66_model.specs.Piece.{Terminal, Carries, Frontier, Passed, TerminalHolds, IsNamedIn, IsPiece}
 use Rattle.s66_model.specs.Expansion.{TerminalHoldsWhile, IsExpansion}
-use Rattle.s66_model.specs.NodeNames.{node_at, is_node}
+use Rattle.s66_model.specs.NodeNames.{node_named, is_node}
 use Rattle.s66_model.specs.Preorder.{read_tree, TreeMatches}
 use Rattle.s66_model.proofs.Forests.{read-flat, tree-match}
 use Rattle.s66_model.proofs.TreesHold.{tree-weaken}
 use Rattle.s66_node.specs.declared.grow.Grown.{Grown}
 use Rattle.s66_node.specs.Nodes.{prefixes_over}
 use Rattle.s66_node.specs.Growing.{tree_prefixes}
-use Rattle.s66_node.specs.Pieces.{PieceOf, lines_of, tree_of, IsBestTimed, AreTreeNodes, IsKept}
+use Rattle.s66_node.specs.Pieces.{PieceOf, piece_lines, tree_of, IsBestTimed, AreTreeNodes, IsKeptPiece}
 use Rattle.s66_node.specs.Walking.{Span, IsDue, IsLeft, IsGrown, NameSplits, names_of}
 use Rattle.s66_node.proofs.Growing.{tree-holds, tree-splits}
 use Rattle.s66_node.proofs.NamedSplits.{split-node, tree-within}
@@ -29,7 +29,7 @@ module _ (rule : Rule) (b : Problem) (best : Span) (allowance : ℕ) (root : Lis
   grown-match = tree-match b.block (IsLeft rule b best) tree root grown-left
 
   -- a dominated leaf has a name as the rule asks
-  grown-node : NameSplits WrittenEarlier (split_at root tree) (flat tree) → (name : List ℕ) → Among (AtTerminal (Passed name)) (flat tree) → is_node (node_at root tree name) ≡ true
+  grown-node : NameSplits WrittenEarlier (split_at root tree) (flat tree) → (name : List ℕ) → Among (AtTerminal (Passed name)) (flat tree) → is_node (node_named root tree name) ≡ true
   grown-node names name among = split-node b.block (IsLeft rule b best) root tree grown-left name (names refl name among)
 
   named-by : (by : Rule) → NameSplits by (split_at root tree) (flat tree) → (at name : List ℕ) → (length root < length at) ⊎ (tree ≡ Alone (Passed name)) → Among (AtTerminal (Passed name)) (flat tree) → DominatesByRule by b name at → IsNamedIn by root tree at name
@@ -62,7 +62,7 @@ module _ (rule : Rule) (b : Problem) (best : Span) (allowance : ℕ) (root : Lis
   is_piece = tree-weaken b.block NamedLeft (TerminalHolds rule b root tree) (left-holds rule b root tree best) tree root named-left
 
   module _ (p : PieceOf) (by : p.rule ≡ rule) (own : p.problem ≡ b) (over : p.prefix ≡ root) (nodes : p.nodes ≡ grown.nodes.items) (names : p.names ≡ names_of grown) where
-    piece-lines : lines_of p ≡ flat tree
+    piece-lines : piece_lines p ≡ flat tree
     piece-lines = rw (own, over, nodes, names) (sym h.lines)
 
     -- it is the tree that was grown
@@ -72,7 +72,7 @@ module _ (rule : Rule) (b : Problem) (best : Span) (allowance : ℕ) (root : Lis
     pub piece-expansion : IsExpansion rule b best.high best.low allowance root (tree_of p)
     piece-expansion = subst (IsExpansion rule b best.high best.low allowance root) (sym piece-tree) expansion
 
-    pub piece-kept : IsBestTimed b root tree p.timed → IsKept p grown.splits
+    pub piece-kept : IsBestTimed b root tree p.timed → IsKeptPiece p grown.splits
     piece-kept timed =
         record {
           nodes =
@@ -88,11 +88,11 @@ module _ (rule : Rule) (b : Problem) (best : Span) (allowance : ℕ) (root : Lis
           timed = rw (piece-tree, own, over) timed;
         }
 
-pub kept-nodes : (p q : PieceOf) (count : ℕ) → IsKept p count → p ≡ q → AreTreeNodes q
+pub kept-nodes : (p q : PieceOf) (count : ℕ) → IsKeptPiece p count → p ≡ q → AreTreeNodes q
 kept-nodes p q count kept is = subst AreTreeNodes is kept.nodes
 
-pub kept-splits : (p q : PieceOf) (count : ℕ) → IsKept p count → p ≡ q → count ≡ splits (tree_of q)
+pub kept-splits : (p q : PieceOf) (count : ℕ) → IsKeptPiece p count → p ≡ q → count ≡ splits (tree_of q)
 kept-splits p q count kept is = subst (λ (r : PieceOf). count ≡ splits (tree_of r)) is (sym kept.splits)
 
-pub kept-timed : (p q : PieceOf) (count : ℕ) → IsKept p count → p ≡ q → IsBestTimed q.problem q.prefix (tree_of q) q.timed
+pub kept-timed : (p q : PieceOf) (count : ℕ) → IsKeptPiece p count → p ≡ q → IsBestTimed q.problem q.prefix (tree_of q) q.timed
 kept-timed p q count kept is = subst (λ (r : PieceOf). IsBestTimed r.problem r.prefix (tree_of r) r.timed) is kept.timed

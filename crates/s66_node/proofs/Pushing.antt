@@ -12,7 +12,7 @@ use Rattle.s66_node.specs.declared.node.Node.{Node}
 use Rattle.s66_node.specs.declared.node.State.TheVariants as state
 use Rattle.s66_node.specs.declared.grow.Unsplit.{Unsplit}
 use Rattle.s66_node.specs.declared.grow.Unsplit.TheVariants as unsplit
-use Rattle.s66_node.specs.Nodes.{has_floor, Named, named, named_at, line_of, prefixes_over, lines_at, IsNode, AreNodes}
+use Rattle.s66_node.specs.Nodes.{has_floor, Named, named, named_at, node_line, prefixes_over, node_lines, IsNode, AreNodes}
 use Rattle.s66_node.specs.Walking.{Span, span, IsFound, HasValue, IsPushed, state_by, value_by, named_by, terminal_by}
 use Rattle.s66_node.proofs.Nodes.{ArePushed, are-pushed}
 use Rattle.s66_node.proofs.Terminals.{left-wider}
@@ -41,10 +41,10 @@ module _ (b : Problem) (at : List ℕ) (u : Unsplit) (floor : value_by u ≡ flo
       by (unsplit.Dominated v name) e h =
           record { depth = deep; short = short; made = refl; floor = λ is. absurd cc; within = λ is. h.0; named = λ is. ap (λ (d : Named). d.floor) h.1 ∙ e }
 
-  found-line : line_of b (named_at all value).name at (state_by u) ≡ AtTerminal (terminal_by b at u)
+  found-line : node_line b (named_at all value).name at (state_by u) ≡ AtTerminal (terminal_by b at u)
   found-line = by u valued
     where
-      by : (v : Unsplit) → HasValue all value (value_by v) (named_by v) → line_of b (named_at all value).name at (state_by v) ≡ AtTerminal (terminal_by b at v)
+      by : (v : Unsplit) → HasValue all value (value_by v) (named_by v) → node_line b (named_at all value).name at (state_by v) ≡ AtTerminal (terminal_by b at v)
       by (unsplit.Leaf v) h = refl
       by (unsplit.Open v) h = refl
       by (unsplit.Dominated v name) h = ap (λ (d : Named). AtTerminal (Passed d.name)) h.1
@@ -63,10 +63,10 @@ module _ (rule : Rule) (b : Problem) (best : Span) (root : List ℕ) (known : Li
   pub root-prefixes : root ∷ [] ≡ prefixes_over root new
   root-prefixes = ap (prefixes_over root) (sym only)
 
-  pub root-lines : AtTerminal (terminal_by b root u) ∷ [] ≡ lines_at b (map named all) (prefixes_over root new) new
+  pub root-lines : AtTerminal (terminal_by b root u) ∷ [] ≡ node_lines b (map named all) (prefixes_over root new) new
   root-lines =
       ap (λ (k : Vertex Terminal). k ∷ []) (sym (found-line b root u h.value (map named all) 0 put.value 0 depth deep short put.valued.valued))
-      ∙ ap (λ xs. lines_at b (map named all) (prefixes_over root xs) xs) (sym only)
+      ∙ ap (λ xs. node_lines b (map named all) (prefixes_over root xs) xs) (sym only)
 
 -- a child that isn't split
 module _ (rule : Rule) (b : Problem) (best : Span) (root at : List ℕ) (n : ℕ) (known : List (List ℕ)) (u : Unsplit) (nodes new : List Node) (dominances all : List Dominance) (parent depth : ℕ) (deep : depth ≡ length (at ++ n ∷ [])) (short : depth ≤ 255) (are : AreNodes b (map named dominances) root nodes) (within : parent < length (prefixes_over root nodes)) (over : get_or (prefixes_over root nodes) parent [] ≡ at) (h : IsFound rule b best (at ++ n ∷ []) known u) (put : IsPushed nodes dominances parent n depth u new all) where

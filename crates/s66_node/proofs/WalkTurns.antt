@@ -19,7 +19,7 @@ use Rattle.s66_node.specs.Growing.{TreeGrows, tree_prefixes}
 use Rattle.s66_model.specs.Piece.{Terminal, Frontier, Passed}
 use Rattle.s66_model.specs.Expansion.{whole_at}
 use Rattle.s66_node.specs.declared.grow.OpenSplit.{OpenSplit}
-use Rattle.s66_node.specs.Walking.{Span, AreOpen, FramesStand, IsDue, IsLeft, IsKnown, IsLeast, IsWalk, GrowsFor, AreOfSplits, NameSplits, lefts}
+use Rattle.s66_node.specs.Walking.{Span, AreOpen, FramesStand, IsDue, IsLeft, IsKnown, IsLeast, IsBeingMade, GrowsFor, AreOfSplits, NameSplits, lefts}
 use Rattle.s66_node.proofs.Nodes.{get_or-front, get_or-last}
 use Rattle.s66_node.proofs.Frontiers.{spent-split, spent-terminal}
 use Rattle.s66_node.proofs.Leasts.{among-either}
@@ -82,7 +82,7 @@ parted name (Alone terminal) some is = absurd (omega (arith, some))
 parted name (Parted numbers siblings) some is = cc
 
 module _ (rule : Rule) (b : Problem) (best : Span) (allowance : ℕ) (root : List ℕ) where
-  pub walk-root : (frame : OpenSplit) (before names : List (List ℕ)) → (rule ≡ WrittenEarlier → before ≡ []) → ((name : List ℕ) → Among name names → (name ≡ root) ⊎ Among name before) → 1 ≤ allowance → IsBeginning b.block root → IsDue b best.high root → frame.node ≡ 0 → numbers_in frame.left ≡ ready b.block root → IsWalk rule b best allowance root root (frame ∷ []) (AtSplit (ready b.block root) ∷ []) (root ∷ []) 1 None names
+  pub walk-root : (frame : OpenSplit) (before names : List (List ℕ)) → (rule ≡ WrittenEarlier → before ≡ []) → ((name : List ℕ) → Among name names → (name ≡ root) ⊎ Among name before) → 1 ≤ allowance → IsBeginning b.block root → IsDue b best.high root → frame.node ≡ 0 → numbers_in frame.left ≡ ready b.block root → IsBeingMade rule b best allowance root root (frame ∷ []) (AtSplit (ready b.block root) ∷ []) (root ∷ []) 1 None names
   walk-root frame before names empty new le begins due first is =
       let stand : AreOpen b.block root (ready b.block root ∷ []) = (begins, (λ n among. ready-among b.block root n among), tt) in
       let grown = grows-root b.block (IsDue b best.high) (IsLeft rule b best) whole_at root due in
@@ -96,7 +96,7 @@ module _ (rule : Rule) (b : Problem) (best : Span) (allowance : ℕ) (root : Lis
         grows = ([], root ∷ [], subst (λ ns. GrowsFor rule b best root root (ns ∷ []) (AtSplit (ready b.block root) ∷ []) (root ∷ []) [] (root ∷ [])) (sym is) grown, refl, refl, names-split rule [] before names root (λ by name among. absurd (subst (Among name) (empty by) among)) new, lines-split rule [] root (ready b.block root) [] (λ by name none. absurd none));
       }
 
-  module _ (at : List ℕ) (old fs : List OpenSplit) (f : OpenSplit) (lines : List (Vertex Terminal)) (prefixes : List (List ℕ)) (count : ℕ) (least : Option WholeOrder) (names : List (List ℕ)) (walk : IsWalk rule b best allowance root at old lines prefixes count least names) (popped : old ≡ fs ++ f ∷ []) where
+  module _ (at : List ℕ) (old fs : List OpenSplit) (f : OpenSplit) (lines : List (Vertex Terminal)) (prefixes : List (List ℕ)) (count : ℕ) (least : Option WholeOrder) (names : List (List ℕ)) (walk : IsBeingMade rule b best allowance root at old lines prefixes count least names) (popped : old ≡ fs ++ f ∷ []) where
     stands : AreOpen b.block at (numbers_in f.left ∷ lefts fs)
     stands = subst (AreOpen b.block at) (ap lefts popped ∙ lefts-push fs f) walk.standing
 
@@ -146,7 +146,7 @@ module _ (rule : Rule) (b : Problem) (best : Span) (allowance : ℕ) (root : Lis
           subst (λ x. GrowsFor rule b best root at x lines prefixes found cuts) e g
 
       -- a child that isn't split
-      pub walk-terminal : (new : List OpenSplit) (more : List (Vertex Terminal)) (prefixes2 : List (List ℕ)) (least2 : Option WholeOrder) (names2 : List (List ℕ)) (terminal : Terminal) (back : List ℕ) → (rule ≡ WrittenEarlier → names2 ≡ names) → IsKnown rule names terminal → new ≡ fs ++ f2 ∷ [] → back ≡ at → IsLeft rule b best (at ++ n ∷ []) terminal → more ≡ lines ++ AtTerminal terminal ∷ [] → prefixes2 ≡ prefixes ++ (at ++ n ∷ []) ∷ [] → ((found : List (List ℕ)) → IsLeast b found least → IsLeast b (found ++ whole_at (at ++ n ∷ []) terminal) least2) → (terminal ≡ Frontier → ¬ (count < allowance)) → IsWalk rule b best allowance root back new more prefixes2 count least2 names2
+      pub walk-terminal : (new : List OpenSplit) (more : List (Vertex Terminal)) (prefixes2 : List (List ℕ)) (least2 : Option WholeOrder) (names2 : List (List ℕ)) (terminal : Terminal) (back : List ℕ) → (rule ≡ WrittenEarlier → names2 ≡ names) → IsKnown rule names terminal → new ≡ fs ++ f2 ∷ [] → back ≡ at → IsLeft rule b best (at ++ n ∷ []) terminal → more ≡ lines ++ AtTerminal terminal ∷ [] → prefixes2 ≡ prefixes ++ (at ++ n ∷ []) ∷ [] → ((found : List (List ℕ)) → IsLeast b found least → IsLeast b (found ++ whole_at (at ++ n ∷ []) terminal) least2) → (terminal ≡ Frontier → ¬ (count < allowance)) → IsBeingMade rule b best allowance root back new more prefixes2 count least2 names2
       walk-terminal new more prefixes2 least2 names2 terminal back same known pushed back_is holds lines_are prefixes_are lower left =
           let here = at ++ n ∷ [] in
           let (found, cuts, g, count_is, l, are, have) = walk.grows in
@@ -164,7 +164,7 @@ module _ (rule : Rule) (b : Problem) (best : Span) (allowance : ℕ) (root : Lis
           })
 
       -- a child that is split
-      pub walk-split : (f3 : OpenSplit) (new : List OpenSplit) (more : List (Vertex Terminal)) (prefixes2 : List (List ℕ)) (names2 : List (List ℕ)) (now : List ℕ) → ((name : List ℕ) → Among name names2 → (name ≡ at ++ n ∷ []) ⊎ Among name names) → new ≡ (fs ++ f2 ∷ []) ++ f3 ∷ [] → now ≡ at ++ n ∷ [] → IsDue b best.high (at ++ n ∷ []) → numbers_in f3.left ≡ ready b.block (at ++ n ∷ []) → f3.node ≡ length prefixes → more ≡ lines ++ AtSplit (ready b.block (at ++ n ∷ [])) ∷ [] → prefixes2 ≡ prefixes ++ (at ++ n ∷ []) ∷ [] → count < allowance → IsWalk rule b best allowance root now new more prefixes2 (count + 1) least names2
+      pub walk-split : (f3 : OpenSplit) (new : List OpenSplit) (more : List (Vertex Terminal)) (prefixes2 : List (List ℕ)) (names2 : List (List ℕ)) (now : List ℕ) → ((name : List ℕ) → Among name names2 → (name ≡ at ++ n ∷ []) ⊎ Among name names) → new ≡ (fs ++ f2 ∷ []) ++ f3 ∷ [] → now ≡ at ++ n ∷ [] → IsDue b best.high (at ++ n ∷ []) → numbers_in f3.left ≡ ready b.block (at ++ n ∷ []) → f3.node ≡ length prefixes → more ≡ lines ++ AtSplit (ready b.block (at ++ n ∷ [])) ∷ [] → prefixes2 ≡ prefixes ++ (at ++ n ∷ []) ∷ [] → count < allowance → IsBeingMade rule b best allowance root now new more prefixes2 (count + 1) least names2
       walk-split f3 new more prefixes2 names2 now fresh pushed next due numbers_are last lines_are prefixes_are lt =
           let here = at ++ n ∷ [] in
           let (found, cuts, g, count_is, l, are, have) = walk.grows in
@@ -193,7 +193,7 @@ module _ (rule : Rule) (b : Problem) (best : Span) (allowance : ℕ) (root : Lis
         let e : lefts old ≡ [] ∷ lefts fs = ap lefts popped ∙ (lefts-push fs f ∙ ap (λ ns. ns ∷ lefts fs) is) in
         grows-up b.block (IsDue b best.high) (IsLeft rule b best) whole_at root at (lefts fs) (record { vertices = lines; prefixes = prefixes; found = found; cuts = cuts }) (subst (λ x. GrowsFor rule b best root at x lines prefixes found cuts) e g)
 
-    pub walk-up : (back : List ℕ) → numbers_in f.left ≡ [] → 0 < length fs → back ≡ front at → IsWalk rule b best allowance root back fs lines prefixes count least names
+    pub walk-up : (back : List ℕ) → numbers_in f.left ≡ [] → 0 < length fs → back ≡ front at → IsBeingMade rule b best allowance root back fs lines prefixes count least names
     walk-up back is some up =
         let (found, cuts, g, count_is, l, are, have) = walk.grows in
         rw up
@@ -207,7 +207,7 @@ module _ (rule : Rule) (b : Problem) (best : Span) (allowance : ℕ) (root : Lis
           grows = (found, cuts, ups is found cuts g, count_is, l, are, have);
         })
 
-    pub walk-last : numbers_in f.left ≡ [] → fs ≡ [] → IsWalk rule b best allowance root at fs lines prefixes count least names
+    pub walk-last : numbers_in f.left ≡ [] → fs ≡ [] → IsBeingMade rule b best allowance root at fs lines prefixes count least names
     walk-last is none =
         let (found, cuts, g, count_is, l, are, have) = walk.grows in
         let g2 : GrowsFor rule b best root (front at) [] lines prefixes found cuts = subst (λ (x : List OpenSplit). GrowsFor rule b best root (front at) (lefts x) lines prefixes found cuts) none (ups is found cuts g) in
@@ -222,7 +222,7 @@ module _ (rule : Rule) (b : Problem) (best : Span) (allowance : ℕ) (root : Lis
           grows = (found, cuts, nowhere rule b best root at lines prefixes found cuts g2, count_is, l, are, have);
         })
 
-  pub walk-done : (at : List ℕ) (frames : List OpenSplit) (lines : List (Vertex Terminal)) (prefixes : List (List ℕ)) (count : ℕ) (least : Option WholeOrder) (names : List (List ℕ)) → frames ≡ [] → IsWalk rule b best allowance root at frames lines prefixes count least names →
+  pub walk-done : (at : List ℕ) (frames : List OpenSplit) (lines : List (Vertex Terminal)) (prefixes : List (List ℕ)) (count : ℕ) (least : Option WholeOrder) (names : List (List ℕ)) → frames ≡ [] → IsBeingMade rule b best allowance root at frames lines prefixes count least names →
       (tree : Tree Terminal) × TreeGrows b.block (IsDue b best.high) (IsLeft rule b best) root tree × (flat tree ≡ lines) × (tree_prefixes root tree ≡ prefixes) × (splits tree ≡ count) × IsLeast b (tree_values whole_at root tree) least × ((name : List ℕ) → ¬ (tree ≡ Alone (Passed name))) × NameSplits rule (split_at root tree) (flat tree)
   walk-done at frames lines prefixes count least names none walk =
       let (found, cuts, g, count_is, l, are, have) = walk.grows in

@@ -12,20 +12,20 @@ use Rattle.s66_node.specs.declared.name.Dominance.{Dominance}
 
 -- STATES
 
-abbrev pub is_open_state : State → Bool
-is_open_state state.Open = true
-is_open_state state.Out = false
-is_open_state state.Closed = false
-is_open_state state.Split = false
-is_open_state state.Dominated = false
+abbrev pub is_stored_open : State → Bool
+is_stored_open state.Open = true
+is_stored_open state.Out = false
+is_stored_open state.Closed = false
+is_stored_open state.Split = false
+is_stored_open state.Dominated = false
 
 -- open or out
-abbrev pub is_live_state : State → Bool
-is_live_state state.Open = true
-is_live_state state.Out = true
-is_live_state state.Closed = false
-is_live_state state.Split = false
-is_live_state state.Dominated = false
+abbrev pub is_stored_live : State → Bool
+is_stored_live state.Open = true
+is_stored_live state.Out = true
+is_stored_live state.Closed = false
+is_stored_live state.Split = false
+is_stored_live state.Dominated = false
 
 -- it keeps its floor's value
 abbrev pub has_floor : State → Bool
@@ -50,12 +50,12 @@ prefixes_over prefix (x ∷ xs) = prefixes_from (prefix ∷ []) xs
 -- LINES
 
 -- what a prefix is in a tree if its node is made in this state, with the name that it has if it is dominated
-abbrev pub line_of : Problem → (name at : List ℕ) → State → Vertex Terminal
-line_of b name at state.Open = AtTerminal Frontier
-line_of b name at state.Out = AtTerminal Frontier
-line_of b name at state.Closed = AtTerminal (Carries (floor b at))
-line_of b name at state.Split = AtSplit (ready b.block at)
-line_of b name at state.Dominated = AtTerminal (Passed name)
+abbrev pub node_line : Problem → (name at : List ℕ) → State → Vertex Terminal
+node_line b name at state.Open = AtTerminal Frontier
+node_line b name at state.Out = AtTerminal Frontier
+node_line b name at state.Closed = AtTerminal (Carries (floor b at))
+node_line b name at state.Split = AtSplit (ready b.block at)
+node_line b name at state.Dominated = AtTerminal (Passed name)
 
 -- THE NODES OF A PIECE
 
@@ -74,10 +74,10 @@ abbrev pub named_at : List Named → ℕ → Named
 named_at names i = get_or names i no_named
 
 -- of nodes at these prefixes
-abbrev pub lines_at : Problem → List Named → List (List ℕ) → List Node → List (Vertex Terminal)
-lines_at b names [] xs = []
-lines_at b names (at ∷ ats) [] = []
-lines_at b names (at ∷ ats) (x ∷ xs) = line_of b (named_at names x.value).name at x.state ∷ lines_at b names ats xs
+abbrev pub node_lines : Problem → List Named → List (List ℕ) → List Node → List (Vertex Terminal)
+node_lines b names [] xs = []
+node_lines b names (at ∷ ats) [] = []
+node_lines b names (at ∷ ats) (x ∷ xs) = node_line b (named_at names x.value).name at x.state ∷ node_lines b names ats xs
 
 -- a node of a piece, at its prefix
 pub record IsNode (b : Problem) (names : List Named) (at : List ℕ) (x : Node) : Type 0 where

@@ -8,7 +8,7 @@ use Rattle.s66_model.specs.Piece.{Terminal, Frontier, IsPiece}
 use Rattle.s66_model.specs.Expansion.{IsBestWhole}
 use Rattle.s66_time.specs.TimedOrder.{TimedOrder}
 use Rattle.s66_node.specs.declared.node.Node.{Node}
-use Rattle.s66_node.specs.Nodes.{Named, prefixes_over, lines_at, AreNodes}
+use Rattle.s66_node.specs.Nodes.{Named, prefixes_over, node_lines, AreNodes}
 use Rattle.s66_node.specs.Growing.{tree_prefixes}
 
 pub record PieceOf : Type 0 where
@@ -26,12 +26,12 @@ abbrev pub prefixes_of : PieceOf → List (List ℕ)
 prefixes_of p = prefixes_over p.prefix p.nodes
 
 -- its tree's lines in preorder
-abbrev pub lines_of : PieceOf → List (Vertex Terminal)
-lines_of p = lines_at p.problem p.names (prefixes_of p) p.nodes
+abbrev pub piece_lines : PieceOf → List (Vertex Terminal)
+piece_lines p = node_lines p.problem p.names (prefixes_of p) p.nodes
 
 -- its tree
 abbrev pub tree_of : PieceOf → Tree Terminal
-tree_of p = read_tree Frontier (lines_of p)
+tree_of p = read_tree Frontier (piece_lines p)
 
 -- a timed order of the problem that is one of the least whole orders of the tree; none if it has none
 abbrev pub IsBestTimed : Problem → List ℕ → Tree Terminal → Option TimedOrder → Type 0
@@ -41,12 +41,12 @@ IsBestTimed b prefix tree (Some timed) = (timed.problem ≡ b) × IsBestWhole b 
 -- its nodes are those of its tree in preorder
 pub record AreTreeNodes (p : PieceOf) : Type 0 where
   pub piece : IsPiece p.rule p.problem p.prefix (tree_of p)
-  pub lines : flat (tree_of p) ≡ lines_of p
+  pub lines : flat (tree_of p) ≡ piece_lines p
   pub prefixes : tree_prefixes p.prefix (tree_of p) ≡ prefixes_of p
   pub nodes : AreNodes p.problem p.names p.prefix p.nodes
 
 -- what is true of every piece with this many splits
-pub record IsKept (p : PieceOf) (count : ℕ) : Type 0 where
+pub record IsKeptPiece (p : PieceOf) (count : ℕ) : Type 0 where
   pub nodes : AreTreeNodes p
   pub splits : splits (tree_of p) ≡ count
   pub timed : IsBestTimed p.problem p.prefix (tree_of p) p.timed

@@ -14,7 +14,7 @@ use Rattle.s66_model.specs.Expansion.{whole_at}
 use Rattle.s66_dep.specs.Members.{numbers_in}
 use Rattle.s66_node.specs.Walked.{front}
 use Rattle.s66_node.specs.Growing.{TreeGrows, Grows, tree_prefixes}
-use Rattle.s66_node.specs.Nodes.{Named, named, named_at, prefixes_over, lines_at, AreNodes}
+use Rattle.s66_node.specs.Nodes.{Named, named, named_at, prefixes_over, node_lines, AreNodes}
 use Rattle.s66_node.specs.declared.name.Dominance.{Dominance}
 use Rattle.s66_node.specs.declared.node.Node.{Node}
 use Rattle.s66_node.specs.declared.node.State.{State}
@@ -125,7 +125,7 @@ pub record IsGrown (rule : Rule) (b : Problem) (best : Span) (allowance : ℕ) (
   pub grows : TreeGrows b.block (IsDue b best.high) (IsLeft rule b best) root tree
   pub nodes : AreNodes b (names_of grown) root grown.nodes.items
   pub prefixes : tree_prefixes root tree ≡ prefixes_over root grown.nodes.items
-  pub lines : flat tree ≡ lines_at b (names_of grown) (prefixes_over root grown.nodes.items) grown.nodes.items
+  pub lines : flat tree ≡ node_lines b (names_of grown) (prefixes_over root grown.nodes.items) grown.nodes.items
   pub splits : splits tree ≡ grown.splits
   pub least : IsLeast b (tree_values whole_at root tree) grown.least
   pub within : grown.splits ≤ allowance
@@ -158,7 +158,7 @@ GrowsFor rule b best root at frames lines prefixes found cuts =
 
 -- a tree over the root is being made: the walk is at a prefix with these frames, the last on top, one for each prefix from the
 -- root down to it; these names may be given
-pub record IsWalk (rule : Rule) (b : Problem) (best : Span) (allowance : ℕ) (root at : List ℕ) (frames : List OpenSplit) (lines : List (Vertex Terminal)) (prefixes : List (List ℕ)) (count : ℕ) (least : Option WholeOrder) (names : List (List ℕ)) : Type 0 where
+pub record IsBeingMade (rule : Rule) (b : Problem) (best : Span) (allowance : ℕ) (root at : List ℕ) (frames : List OpenSplit) (lines : List (Vertex Terminal)) (prefixes : List (List ℕ)) (count : ℕ) (least : Option WholeOrder) (names : List (List ℕ)) : Type 0 where
   pub standing : AreOpen b.block at (lefts frames)
   pub made : FramesStand prefixes at (reverse frames)
   pub depth : length root + length frames ≤ length at + 1

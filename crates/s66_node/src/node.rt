@@ -11,18 +11,18 @@ pub enum State {
 
 impl State {
     ghost use Rattle.std.specs.Prelude.{◌≡◌};
-    ghost use Rattle.s66_node.specs.Nodes.{is_open_state, is_live_state};
+    ghost use Rattle.s66_node.specs.Nodes.{is_stored_open, is_stored_live};
 
     /// Whether it can be claimed.
     pub fn is_open(self) -> bool
-        ensures { result ≡ is_open_state self }
+        ensures { result ≡ is_stored_open self }
     {
         matches!(self, State::Open)
     }
 
     /// Whether it is open or out.
     pub fn is_live(self) -> bool
-        ensures { result ≡ is_live_state self }
+        ensures { result ≡ is_stored_live self }
     {
         matches!(self, State::Open | State::Out)
     }

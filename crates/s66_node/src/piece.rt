@@ -28,13 +28,13 @@ impl Model for Piece {
     ghost use Rattle.std.specs.Prelude.{map};
     ghost use Rattle.std.specs.Option.{option_map};
     ghost use Rattle.s66_node.specs.Nodes.{named};
-    ghost use Rattle.s66_node.specs.Pieces.{PieceOf, IsKept};
+    ghost use Rattle.s66_node.specs.Pieces.{PieceOf, IsKeptPiece};
 
     ghost Value = { PieceOf };
 
     ghost view = { λ p. record { rule = p.rule; problem = record { block = p.source.block; profile = p.profile }; prefix = p.prefix.items; nodes = p.nodes.items; names = map named p.dominances.items; timed = option_map (λ t. t.value) p.timed } };
 
-    ghost invariant = { λ p. IsKept (record { rule = p.rule; problem = record { block = p.source.block; profile = p.profile }; prefix = p.prefix.items; nodes = p.nodes.items; names = map named p.dominances.items; timed = option_map (λ t. t.value) p.timed }) p.splits };
+    ghost invariant = { λ p. IsKeptPiece (record { rule = p.rule; problem = record { block = p.source.block; profile = p.profile }; prefix = p.prefix.items; nodes = p.nodes.items; names = map named p.dominances.items; timed = option_map (λ t. t.value) p.timed }) p.splits };
 }
 
 impl Piece {

@@ -23,7 +23,7 @@ use Rattle.s66_ledger.specs.declared.reply.GraftError.TheVariants as refused
 use Rattle.s66_ledger.specs.declared.reply.BackError.{BackError}
 use Rattle.s66_ledger.specs.declared.reply.BackError.TheVariants as kept
 use Rattle.s66_ledger.proofs.Taken.{same-splits}
-use Rattle.s66_lock.specs.SeatViews.{View, Follows, renewed, idle, holding, first_book}
+use Rattle.s66_lock.specs.SeatViews.{View, MayBecome, renewed, idle, holding, first_book}
 use Rattle.s66_pool.specs.Hubs.{SeatOf, HasGrafted, HasBeenRefused, HasOffered, IsKnown}
 use Rattle.s66_pool.proofs.SeatEvents.{renewed-agrees, same-follows, same-book, event-follows, quiet-book, stated-book, lower-stated, answer-stated, gave-book, gave-opened}
 
@@ -47,7 +47,7 @@ seat-same old hub now p q is here same = (λ i. record { hub = here i; book = sa
 
 -- what a call keeps: the others' seat records, and this many splits in its own
 abbrev pub Keeps : LedgerOf → LedgerOf → SeatRecord → ℕ → Type 0
-Keeps l new p count = Follows p.who (account_summary l) (account_summary new) × ((renewed (account_summary new) p p.least).account.splits ≡ count)
+Keeps l new p count = MayBecome p.who (account_summary l) (account_summary new) × ((renewed (account_summary new) p p.least).account.splits ≡ count)
 
 module _ (l old new : LedgerOf) (e : old ≡ l) (p : SeatRecord) (number : ℕ) (who : p.who ≡ number) (agrees : Agrees (account_summary l) p) where
   pub called : (event : ℕ → Event) (reply : Reply) → IsEvent old (event number) reply new → IsEvent l (event p.who) reply new
@@ -182,7 +182,7 @@ module _ (l old new : LedgerOf) (e : old ≡ l) (p : SeatRecord) (number : ℕ) 
   other-offered s after (offered.NotLower n) is at gave h = absurd (let no : offered.NotLower n ≡ offered.OtherBlock = is in cc)
 
   -- of this one
-  pub stated-follows : (o : Offered) → Recorded (offered_reply o) → Follows p.who (account_summary l) (account_summary new)
+  pub stated-follows : (o : Offered) → Recorded (offered_reply o) → MayBecome p.who (account_summary l) (account_summary new)
   stated-follows o h =
       let (own, of, now) = offered-as (offered_reply o) h in event-follows l new p (named own p.who) (offered_reply o) now refl
 

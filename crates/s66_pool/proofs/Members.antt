@@ -11,7 +11,7 @@ use Rattle.s66_pool.specs.Hubs.{SeatOf}
 use Rattle.s66_pool.specs.Victims.{VictimOf}
 use Rattle.s66_pool.specs.declared.member.Local.{Local}
 use Rattle.s66_pool.specs.declared.member.Member.{Member}
-use Rattle.s66_pool.specs.Workers.{IsSameSeat, AreSameSeats, IsSameMember, IsPlaced, AllPlaced, ArePlaced, ids_of, seats_of, locals_of, lanes_of, victims_of}
+use Rattle.s66_pool.specs.Workers.{IsSameSeat, AreSameSeats, IsSameMember, MatchesLane, AllMatchLanes, VictimsMatchLanes, ids_of, seats_of, locals_of, lanes_of, victims_of}
 
 -- WHAT IS DONE AND WHAT IS LEFT
 
@@ -35,26 +35,26 @@ module _ {X Y Z : Type 0} where
 
 -- once nothing is left
 pub all-moved : (locals : List Local) (lanes : List LaneOf) (victims start : List (Vec VictimOf Global)) (first : List LaneOf) (thieves : List LaneId) → length lanes ≡ 0 → length victims ≡ 0 →
-    lanes_of locals ++ ids_of lanes ≡ thieves → thieves ≡ ids_of first → victims_of locals ++ victims ≡ start → AllPlaced thieves start → (length locals ≡ length first) × ArePlaced locals
+    lanes_of locals ++ ids_of lanes ≡ thieves → thieves ≡ ids_of first → victims_of locals ++ victims ≡ start → AllMatchLanes thieves start → (length locals ≡ length first) × VictimsMatchLanes locals
 all-moved locals (x ∷ xs) victims start first thieves none none' is ids those placed = absurd (omega arith)
 all-moved locals [] (x ∷ xs) start first thieves none none' is ids those placed = absurd (omega arith)
 all-moved locals [] [] start first thieves none none' is ids those placed =
     let lanes : lanes_of locals ≡ thieves = sym (append-nil (lanes_of locals)) ∙ is in
     let from : victims_of locals ≡ start = sym (append-nil (victims_of locals)) ∙ those in (
       sym (length-map locals (λ (l : Local). l.lane.id)) ∙ (ap (λ (a : List LaneId). length a) (lanes ∙ ids) ∙ length-map first (λ (l : LaneOf). l.id)),
-      subst (λ (a : List LaneId). AllPlaced a (victims_of locals)) (sym lanes) (subst (λ (a : List (Vec VictimOf Global)). AllPlaced thieves a) (sym from) placed),
+      subst (λ (a : List LaneId). AllMatchLanes a (victims_of locals)) (sym lanes) (subst (λ (a : List (Vec VictimOf Global)). AllMatchLanes thieves a) (sym from) placed),
     )
 
 -- LANES THAT ARE DEALT
 
-pub placed-new : (lanes : List LaneId) (v : VictimOf) (place : ℕ) (lane : LaneId) → v ≡ record { place = place; lane = lane } → place < length lanes → lane ≡ get_or lanes place lane → IsPlaced lanes v
-placed-new lanes v place lane is within at = subst (λ (a : VictimOf). IsPlaced lanes a) (sym is) (within, λ d. get_or_default lanes place d lane within ∙ sym at)
+pub placed-new : (lanes : List LaneId) (v : VictimOf) (place : ℕ) (lane : LaneId) → v ≡ record { place = place; lane = lane } → place < length lanes → lane ≡ get_or lanes place lane → MatchesLane lanes v
+placed-new lanes v place lane is within at = subst (λ (a : VictimOf). MatchesLane lanes a) (sym is) (within, λ d. get_or_default lanes place d lane within ∙ sym at)
 
-pub placed-push : (lanes : List LaneId) (all : List (Vec VictimOf Global)) (i : ℕ) (d now : Vec VictimOf Global) (v : VictimOf) → now.items ≡ (get_or all i d).items ++ v ∷ [] → IsPlaced lanes v → i < length all →
-    AllPlaced lanes all → AllPlaced lanes (set all i now)
+pub placed-push : (lanes : List LaneId) (all : List (Vec VictimOf Global)) (i : ℕ) (d now : Vec VictimOf Global) (v : VictimOf) → now.items ≡ (get_or all i d).items ++ v ∷ [] → MatchesLane lanes v → i < length all →
+    AllMatchLanes lanes all → AllMatchLanes lanes (set all i now)
 placed-push lanes all i d now v is this within placed =
-    All-set (λ (a : Vec VictimOf Global). All (IsPlaced lanes) a.items) all i now
-    (All-same (IsPlaced lanes) now.items ((get_or all i d).items ++ v ∷ []) is (All-push (IsPlaced lanes) (get_or all i d).items v (placed i d within) this)) placed
+    All-set (λ (a : Vec VictimOf Global). All (MatchesLane lanes) a.items) all i now
+    (All-same (MatchesLane lanes) now.items ((get_or all i d).items ++ v ∷ []) is (All-push (MatchesLane lanes) (get_or all i d).items v (placed i d within) this)) placed
 
 pub ids-set : (lanes : List LaneOf) (i : ℕ) (l d : LaneOf) → l.id ≡ (get_or lanes i d).id → ids_of (set lanes i l) ≡ ids_of lanes
 ids-set [] i l d same = refl
@@ -123,34 +123,34 @@ abbrev pub with_victims : Member → Vec VictimOf Global → Member
 with_victims m victims = record { seat = m.seat; local = record { incumbent = m.local.incumbent; lane = m.local.lane; victims = victims } }
 
 pub placed-pop : (ms : List Member) (i : ℕ) (d : Member) (now : Vec VictimOf Global) (popped : Option VictimOf) → i < length ms → (get_or ms i d).local.victims.items ≡ now.items ++ option_to_list popped →
-    ArePlaced (locals_of ms) →
-    ArePlaced (locals_of (set ms i (with_victims (get_or ms i d) now))) × IfSome popped (IsPlaced (lanes_of (locals_of (set ms i (with_victims (get_or ms i d) now)))))
+    VictimsMatchLanes (locals_of ms) →
+    VictimsMatchLanes (locals_of (set ms i (with_victims (get_or ms i d) now))) × IfSome popped (MatchesLane (lanes_of (locals_of (set ms i (with_victims (get_or ms i d) now)))))
 placed-pop ms i d now popped within is placed =
     let ns : List Member = set ms i (with_victims (get_or ms i d) now) in
     let lanes : List LaneId = lanes_of (locals_of ms) in
     let same : lanes_of (locals_of ns) ≡ lanes = lanes-set ms i (with_victims (get_or ms i d) now) d refl in
-    let at : All (IsPlaced lanes) (get_or ms i d).local.victims.items =
-    subst (λ (a : Vec VictimOf Global). All (IsPlaced lanes) a.items) (victims-get ms i d) (placed i d.local.victims (omega (arith, count-locals ms))) in
-    let parts = All-pop (IsPlaced lanes) (get_or ms i d).local.victims.items now.items popped is at in
-    let those : AllPlaced lanes (victims_of (locals_of ns)) =
-    subst (λ (a : List (Vec VictimOf Global)). AllPlaced lanes a) (sym (victims-put ms i (with_victims (get_or ms i d) now)))
-    (All-set (λ (a : Vec VictimOf Global). All (IsPlaced lanes) a.items) (victims_of (locals_of ms)) i now parts.0 placed) in
-    (subst (λ (a : List LaneId). AllPlaced a (victims_of (locals_of ns))) (sym same) those, subst (λ (a : List LaneId). IfSome popped (IsPlaced a)) (sym same) parts.1)
+    let at : All (MatchesLane lanes) (get_or ms i d).local.victims.items =
+    subst (λ (a : Vec VictimOf Global). All (MatchesLane lanes) a.items) (victims-get ms i d) (placed i d.local.victims (omega (arith, count-locals ms))) in
+    let parts = All-pop (MatchesLane lanes) (get_or ms i d).local.victims.items now.items popped is at in
+    let those : AllMatchLanes lanes (victims_of (locals_of ns)) =
+    subst (λ (a : List (Vec VictimOf Global)). AllMatchLanes lanes a) (sym (victims-put ms i (with_victims (get_or ms i d) now)))
+    (All-set (λ (a : Vec VictimOf Global). All (MatchesLane lanes) a.items) (victims_of (locals_of ms)) i now parts.0 placed) in
+    (subst (λ (a : List LaneId). AllMatchLanes a (victims_of (locals_of ns))) (sym same) those, subst (λ (a : List LaneId). IfSome popped (MatchesLane a)) (sym same) parts.1)
 
-pub victim-within : (ms : List Member) (popped : Option VictimOf) (v : VictimOf) → popped ≡ Some v → IfSome popped (IsPlaced (lanes_of (locals_of ms))) → v.place < length ms
+pub victim-within : (ms : List Member) (popped : Option VictimOf) (v : VictimOf) → popped ≡ Some v → IfSome popped (MatchesLane (lanes_of (locals_of ms))) → v.place < length ms
 victim-within ms popped v is placed =
-    let this : IsPlaced (lanes_of (locals_of ms)) v = subst (λ (o : Option VictimOf). IfSome o (IsPlaced (lanes_of (locals_of ms)))) is placed in
+    let this : MatchesLane (lanes_of (locals_of ms)) v = subst (λ (o : Option VictimOf). IfSome o (MatchesLane (lanes_of (locals_of ms)))) is placed in
     omega (arith, this.0, count-lanes ms)
 
-pub victim-here : (ms : List Member) (popped : Option VictimOf) (v : VictimOf) → popped ≡ Some v → IfSome popped (IsPlaced (lanes_of (locals_of ms))) → (d : LaneId) → get_or (lanes_of (locals_of ms)) v.place d ≡ v.lane
+pub victim-here : (ms : List Member) (popped : Option VictimOf) (v : VictimOf) → popped ≡ Some v → IfSome popped (MatchesLane (lanes_of (locals_of ms))) → (d : LaneId) → get_or (lanes_of (locals_of ms)) v.place d ≡ v.lane
 victim-here ms popped v is placed =
-    let this : IsPlaced (lanes_of (locals_of ms)) v = subst (λ (o : Option VictimOf). IfSome o (IsPlaced (lanes_of (locals_of ms)))) is placed in
+    let this : MatchesLane (lanes_of (locals_of ms)) v = subst (λ (o : Option VictimOf). IfSome o (MatchesLane (lanes_of (locals_of ms)))) is placed in
     this.1
 
-pub placed-same : (ms ns : List Member) → lanes_of (locals_of ns) ≡ lanes_of (locals_of ms) → victims_of (locals_of ns) ≡ victims_of (locals_of ms) → ArePlaced (locals_of ms) → ArePlaced (locals_of ns)
+pub placed-same : (ms ns : List Member) → lanes_of (locals_of ns) ≡ lanes_of (locals_of ms) → victims_of (locals_of ns) ≡ victims_of (locals_of ms) → VictimsMatchLanes (locals_of ms) → VictimsMatchLanes (locals_of ns)
 placed-same ms ns lanes victims placed =
-    subst (λ (a : List LaneId). AllPlaced a (victims_of (locals_of ns))) (sym lanes)
-    (subst (λ (a : List (Vec VictimOf Global)). AllPlaced (lanes_of (locals_of ms)) a) (sym victims) placed)
+    subst (λ (a : List LaneId). AllMatchLanes a (victims_of (locals_of ns))) (sym lanes)
+    (subst (λ (a : List (Vec VictimOf Global)). AllMatchLanes (lanes_of (locals_of ms)) a) (sym victims) placed)
 
 -- how many victims the member at this place has
 abbrev pub victims_at : List Member → ℕ → ℕ
@@ -244,15 +244,15 @@ worked-lanes (m ∷ ms) [] len each = absurd (omega arith)
 worked-lanes (m ∷ ms) (n ∷ ns) len each =
     ap₂ (λ (a : LaneId) (b : List LaneId). a ∷ b) (each 0 m (omega arith)).1.0 (worked-lanes ms ns (omega arith) (λ j e lt. each (suc j) e (omega arith)))
 
-worked-victims : (lanes : List LaneId) (old new : List Member) → length new ≡ length old → AreSameMembers old new → AllPlaced lanes (victims_of (locals_of old)) → AllPlaced lanes (victims_of (locals_of new))
-worked-victims lanes old [] len each placed = All-nil (λ (a : Vec VictimOf Global). All (IsPlaced lanes) a.items)
+worked-victims : (lanes : List LaneId) (old new : List Member) → length new ≡ length old → AreSameMembers old new → AllMatchLanes lanes (victims_of (locals_of old)) → AllMatchLanes lanes (victims_of (locals_of new))
+worked-victims lanes old [] len each placed = All-nil (λ (a : Vec VictimOf Global). All (MatchesLane lanes) a.items)
 worked-victims lanes [] (n ∷ ns) len each placed = absurd (omega arith)
 worked-victims lanes (m ∷ ms) (n ∷ ns) len each placed =
-    let P : Vec VictimOf Global → Type 0 = λ a. All (IsPlaced lanes) a.items in
+    let P : Vec VictimOf Global → Type 0 = λ a. All (MatchesLane lanes) a.items in
     All-cons P n.local.victims (victims_of (locals_of ns))
-    (All-same (IsPlaced lanes) n.local.victims.items m.local.victims.items (each 0 m (omega arith)).1.1 (All-head P m.local.victims (victims_of (locals_of ms)) placed))
+    (All-same (MatchesLane lanes) n.local.victims.items m.local.victims.items (each 0 m (omega arith)).1.1 (All-head P m.local.victims (victims_of (locals_of ms)) placed))
     (worked-victims lanes ms ns (omega arith) (λ j e lt. each (suc j) e (omega arith)) (All-tail P m.local.victims (victims_of (locals_of ms)) placed))
 
-pub worked-placed : (old new : List Member) → length new ≡ length old → AreSameMembers old new → ArePlaced (locals_of old) → ArePlaced (locals_of new)
+pub worked-placed : (old new : List Member) → length new ≡ length old → AreSameMembers old new → VictimsMatchLanes (locals_of old) → VictimsMatchLanes (locals_of new)
 worked-placed old new len each placed =
-    subst (λ (a : List LaneId). AllPlaced a (victims_of (locals_of new))) (sym (worked-lanes old new len each)) (worked-victims (lanes_of (locals_of old)) old new len each placed)
+    subst (λ (a : List LaneId). AllMatchLanes a (victims_of (locals_of new))) (sym (worked-lanes old new len each)) (worked-victims (lanes_of (locals_of old)) old new len each placed)

@@ -7,7 +7,7 @@ use Rattle.s66_model.specs.Accounts.{Summary, SeatRecord, Agrees, summary_of, op
 use Rattle.s66_model.proofs.AccountLaws.{agrees-own, agrees-other, accounts-count}
 use Rattle.s66_model.proofs.LedgerRuns.{step-falls}
 use Rattle.s66_ledger.specs.Ledgers.{LedgerOf, IsEvent, events_of, account_summary}
-use Rattle.s66_lock.specs.SeatViews.{View, Follows, renewed, idle, holding, first_book, found_at}
+use Rattle.s66_lock.specs.SeatViews.{View, MayBecome, renewed, idle, holding, first_book, found_at}
 
 -- in either case
 pub settled : {T E F : Type 0} (r : Result T E) (P : T → Type 0) (Q : E → Type 0) → ((x : T) → P x → F) → ((e : E) → Q e → F) → IfOk r P → IfErr r Q → F
@@ -20,10 +20,10 @@ number_within l found at p number is who =
     let count = accounts-count l.rule l.problem l.budget l.workers (events_of l) l.state in
     (omega (arith, is.worker.0, who), omega (arith, is.worker.1, who, count, ap (λ (k : LedgerOf). k.workers) at))
 
-pub follows-itself : (w : ℕ) (s : Summary) → Follows w s s
+pub follows-itself : (w : ℕ) (s : Summary) → MayBecome w s s
 follows-itself w s = record { search = record { rule = refl; problem = refl; budget = refl; workers = refl }; lower = omega arith; others = λ p ne is. is }
 
-pub follows-on : (w : ℕ) (s t u : Summary) → Follows w s t → Follows w t u → Follows w s u
+pub follows-on : (w : ℕ) (s t u : Summary) → MayBecome w s t → MayBecome w t u → MayBecome w s u
 follows-on w s t u f g = record {
   search = record { rule = g.search.rule ∙ f.search.rule; problem = g.search.problem ∙ f.search.problem; budget = g.search.budget ∙ f.search.budget; workers = g.search.workers ∙ f.search.workers };
   lower = omega (arith, f.lower, g.lower);
@@ -31,7 +31,7 @@ follows-on w s t u f g = record {
 }
 
 -- a call leaves a worker's seat record that agrees, if it is opened anew
-pub renewed-agrees : (s t : Summary) (p : SeatRecord) → Agrees s p → Follows p.who s t → Agrees t (renewed t p p.least)
+pub renewed-agrees : (s t : Summary) (p : SeatRecord) → Agrees s p → MayBecome p.who s t → Agrees t (renewed t p p.least)
 renewed-agrees s t p is follows = record {
   worker = (is.worker.0, omega (arith, is.worker.1, follows.search.workers));
   rule = refl;
@@ -48,8 +48,8 @@ renewed-is s p is = λ i. record { who = p.who; rule = sym is.rule i; problem = 
 module _ (old new : LedgerOf) (p : SeatRecord) where
   -- THE LEDGER IS AS IT WAS
 
-  pub same-follows : new ≡ old → Follows p.who (account_summary old) (account_summary new)
-  same-follows same = subst (λ (l : LedgerOf). Follows p.who (account_summary old) (account_summary l)) (sym same) (follows-itself p.who (account_summary old))
+  pub same-follows : new ≡ old → MayBecome p.who (account_summary old) (account_summary new)
+  same-follows same = subst (λ (l : LedgerOf). MayBecome p.who (account_summary old) (account_summary l)) (sym same) (follows-itself p.who (account_summary old))
 
   pub same-book : new ≡ old → Agrees (account_summary old) p → renewed (account_summary new) p p.least ≡ p
   same-book same is = ap (λ (l : LedgerOf). renewed (account_summary l) p p.least) same ∙ renewed-is (account_summary old) p is
@@ -61,7 +61,7 @@ module _ (old new : LedgerOf) (p : SeatRecord) where
     summary-after = λ i. summary_of (h.5 i) (h.0 i) (h.1 i) (h.2 i) (h.4 i) new.state
 
     module _ (own : worker event ≡ p.who) where
-      pub event-follows : Follows p.who (account_summary old) (account_summary new)
+      pub event-follows : MayBecome p.who (account_summary old) (account_summary new)
       event-follows =
           let before = accounts-count old.rule old.problem old.budget old.workers (events_of old) old.state in
           let now = accounts-count new.rule new.problem new.budget new.workers (events_of new) new.state in
@@ -105,8 +105,8 @@ module _ (old new : LedgerOf) (p : SeatRecord) where
 -- THE TOKEN
 
 module _ {X : Type 0} (m : Me (Option X) View) (y : Summary) (p : SeatRecord) (held : m ≡ (holding y (p ∷ []), (0, None) ∷ [])) where
-  pub follows-at : (z : Summary) → Follows p.who y z → Follows (first_book m.0.books).who (found_at m.0.stage) z
-  follows-at z h = subst (λ (k : Me (Option X) View). Follows (first_book k.0.books).who (found_at k.0.stage) z) (sym held) h
+  pub follows-at : (z : Summary) → MayBecome p.who y z → MayBecome (first_book m.0.books).who (found_at m.0.stage) z
+  follows-at z h = subst (λ (k : Me (Option X) View). MayBecome (first_book k.0.books).who (found_at k.0.stage) z) (sym held) h
 
   pub gave-book : (z : Summary) (n : Me (Option X) View) → n ≡ (idle (renewed z (first_book m.0.books) (first_book m.0.books).least ∷ []), []) → first_book n.0.books ≡ renewed z p p.least
   gave-book z n rests = ap (λ (k : Me (Option X) View). first_book k.0.books) rests ∙ ap (λ (k : Me (Option X) View). renewed z (first_book k.0.books) (first_book k.0.books).least) held

@@ -11,7 +11,7 @@ use Rattle.s66_ledger.specs.Ledgers.{LedgerOf, IsEvent, account_summary}
 use Rattle.s66_ledger.specs.Grafts.{IsGraftAt}
 use Rattle.s66_pool.specs.declared.supply.Supply.{Supply}
 use Rattle.s66_pool.specs.Supplies.{AreEvents, after_events, grants, claims, last_claim, supplied}
-use Rattle.s66_lock.specs.SeatViews.{Follows, renewed}
+use Rattle.s66_lock.specs.SeatViews.{MayBecome, renewed}
 use Rattle.s66_pool.specs.Hubs.{SeatOf, HasSupply, HasGrafted, HasGraftedAndSupply}
 use Rattle.s66_pool.proofs.SeatEvents.{event-follows, event-agrees, follows-itself, follows-on, renewed-is, renewed-agrees}
 use Rattle.s66_pool.proofs.AfterCalls.{Keeps, grafted}
@@ -62,7 +62,7 @@ quiet-supply w supply tickets =
 
 -- what they leave of the ledger and of the worker's seat record
 record IsAfterQuiet (l new : LedgerOf) (p q : SeatRecord) : Type 0 where
-  pub follows : Follows p.who (account_summary l) (account_summary new)
+  pub follows : MayBecome p.who (account_summary l) (account_summary new)
   pub agrees : Agrees (account_summary new) q
   pub who : q.who ≡ p.who
   pub least : q.least ≡ p.least
@@ -70,7 +70,7 @@ record IsAfterQuiet (l new : LedgerOf) (p q : SeatRecord) : Type 0 where
 
 quiet-events : (es : List (Event × Reply)) (l new : LedgerOf) (p : SeatRecord) → AreQuiet p.who es → Agrees (account_summary l) p → AreEvents l es new → IsAfterQuiet l new p (after_events p es)
 quiet-events [] l new p quiet agrees same = record {
-  follows = subst (λ (k : LedgerOf). Follows p.who (account_summary l) (account_summary k)) (sym same) (follows-itself p.who (account_summary l));
+  follows = subst (λ (k : LedgerOf). MayBecome p.who (account_summary l) (account_summary k)) (sym same) (follows-itself p.who (account_summary l));
   agrees = subst (λ (k : LedgerOf). Agrees (account_summary k) p) (sym same) agrees;
   who = refl;
   least = refl;

@@ -50,12 +50,12 @@ abbrev pub victims_of : List Local → List (Vec VictimOf Global)
 victims_of locals = map (λ (l : Local). l.victims) locals
 
 -- a victim's lane is that of the worker at its place
-abbrev pub IsPlaced : List LaneId → VictimOf → Type 0
-IsPlaced lanes v = (v.place < length lanes) × ((d : LaneId) → slice_index_or lanes v.place d ≡ v.lane)
+abbrev pub MatchesLane : List LaneId → VictimOf → Type 0
+MatchesLane lanes v = (v.place < length lanes) × ((d : LaneId) → slice_index_or lanes v.place d ≡ v.lane)
 
-abbrev pub AllPlaced : List LaneId → List (Vec VictimOf Global) → Type 0
-AllPlaced lanes victims = All (λ (v : Vec VictimOf Global). All (IsPlaced lanes) v.items) victims
+abbrev pub AllMatchLanes : List LaneId → List (Vec VictimOf Global) → Type 0
+AllMatchLanes lanes victims = All (λ (v : Vec VictimOf Global). All (MatchesLane lanes) v.items) victims
 
 -- each steals from lanes of these
-abbrev pub ArePlaced : List Local → Type 0
-ArePlaced locals = AllPlaced (lanes_of locals) (victims_of locals)
+abbrev pub VictimsMatchLanes : List Local → Type 0
+VictimsMatchLanes locals = AllMatchLanes (lanes_of locals) (victims_of locals)

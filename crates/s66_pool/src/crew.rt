@@ -1,7 +1,7 @@
 ghost use Rattle.std.specs.Prelude.{◌≡◌, ◌<◌, ◌≤◌, ℕ, [], IfOk, IfErr, All, length, slice_index_or, vec_capacity, vec_len};
 ghost use Rattle.s66_line.specs.Block.{instrs_of};
 ghost use Rattle.s66_steal.specs.Lanes.{LaneId};
-ghost use Rattle.s66_pool.specs.Workers.{AreSameSeats, ArePlaced, IsSameMember, IsSameSeat, lanes_of, locals_of, seats_of, victims_of};
+ghost use Rattle.s66_pool.specs.Workers.{AreSameSeats, VictimsMatchLanes, IsSameMember, IsSameSeat, lanes_of, locals_of, seats_of, victims_of};
 
 use crate::gate::Gate;
 use crate::hub::Hub;
@@ -155,10 +155,10 @@ fn work_at_each<'a, R: AllocGlobal + Threads + Wait + Sync, G: Gate + Sync>(
     gate: &G,
 )
     requires here { All (λ m. m.seat.hub ≡ hub.now.id) members.old }
-    requires placed { ArePlaced (locals_of members.old) }
+    requires placed { VictimsMatchLanes (locals_of members.old) }
     ensures same { AreSameSeats (seats_of members.old) (seats_of members.new) }
     ensures here { All (λ s. s.hub ≡ hub.now.id) (seats_of members.new) }
-    ensures placed { ArePlaced (locals_of members.new) }
+    ensures placed { VictimsMatchLanes (locals_of members.new) }
 {
     let task = MemberWork {
         site: Site {
@@ -176,7 +176,7 @@ fn work_at_each<'a, R: AllocGlobal + Threads + Wait + Sync, G: Gate + Sync>(
 /// Gives each pass back to its lane, and each node that is left in a lane back to the hub.
 fn settle<'a, R: Wait>(rt: &R, hub: &Hub<'a>, members: &mut [Member<'_, 'a>])
     requires here { All (λ s. s.hub ≡ hub.now.id) (seats_of members.old) }
-    requires placed { ArePlaced (locals_of members.old) }
+    requires placed { VictimsMatchLanes (locals_of members.old) }
     ensures { AreSameSeats (seats_of members.old) (seats_of members.new) }
 {
     for worker in 0..members.len() {
@@ -190,9 +190,9 @@ fn settle<'a, R: Wait>(rt: &R, hub: &Hub<'a>, members: &mut [Member<'_, 'a>])
 /// Gives each pass of a worker back to its lane.
 fn leave_victims<'a>(members: &mut [Member<'_, 'a>], worker: usize)
     requires within { worker < length members.old }
-    requires placed { ArePlaced (locals_of members.old) }
+    requires placed { VictimsMatchLanes (locals_of members.old) }
     ensures seats { seats_of members.new ≡ seats_of members.old }
-    ensures placed { ArePlaced (locals_of members.new) }
+    ensures placed { VictimsMatchLanes (locals_of members.new) }
 {
     while let Some(victim) = members[worker].local.victims.pop() {
         leave_lane(members, victim);

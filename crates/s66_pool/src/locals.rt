@@ -2,7 +2,7 @@
 
 ghost use Rattle.std.specs.Prelude.{◌≡◌, ◌≤◌, ◌<◌, All, IfOk, [], length, slice_index_or};
 ghost use Rattle.s66_steal.specs.Lanes.{LaneId, LaneOf};
-ghost use Rattle.s66_pool.specs.Workers.{AllPlaced, ArePlaced, ids_of};
+ghost use Rattle.s66_pool.specs.Workers.{AllMatchLanes, VictimsMatchLanes, ids_of};
 
 use crate::incumbent::Incumbent;
 use crate::member::Local;
@@ -52,10 +52,10 @@ fn deal<'t>(
     requires new { (lane.old.passes ≡ 0) × (lane.old.put ≡ []) }
     requires within { place < length thieves.now }
     requires here { (d : LaneId) → slice_index_or thieves.now place d ≡ lane.old.id }
-    requires placed { AllPlaced thieves.now victims.old }
+    requires placed { AllMatchLanes thieves.now victims.old }
     ensures lane { lane.new.id ≡ lane.old.id }
     ensures count { length victims.new ≡ length victims.old }
-    ensures placed { AllPlaced thieves.now victims.new }
+    ensures placed { AllMatchLanes thieves.now victims.new }
 {
     let mut passes = lane.passes(passes_for(victims.len()))?;
     for worker in 0..victims.len() {
@@ -81,7 +81,7 @@ fn victims_for<'t>(
     requires new { All (λ (l : LaneOf). (l.passes ≡ 0) × (l.put ≡ [])) lanes.old }
     ensures lanes { ids_of lanes.new ≡ ids_of lanes.old }
     ensures count { IfOk result (λ r. length r.items ≡ length lanes.old) }
-    ensures placed { IfOk result (λ r. AllPlaced thieves.now r.items) }
+    ensures placed { IfOk result (λ r. AllMatchLanes thieves.now r.items) }
 {
     let workers = lanes.len();
     let mut victims = Vec::with_capacity(alloc, workers)?;
@@ -107,7 +107,7 @@ pub(crate) fn locals_for<'t>(
     requires thieves { thieves.now ≡ ids_of lanes.items }
     requires new { All (λ (l : LaneOf). (l.passes ≡ 0) × (l.put ≡ [])) lanes.items }
     ensures count { IfOk result (λ locals. length locals.items ≡ length lanes.items) }
-    ensures placed { IfOk result (λ locals. ArePlaced locals.items) }
+    ensures placed { IfOk result (λ locals. VictimsMatchLanes locals.items) }
 {
     let workers = lanes.len();
     let mut victims = victims_for(alloc, lanes.as_mut_slice(), thieves)?;

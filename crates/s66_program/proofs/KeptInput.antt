@@ -11,15 +11,15 @@ use Rattle.s66_program.specs.declared.limits.TheConstants.{SOURCE_FRONT}
 use Rattle.s66_program.specs.declared.outcome.Fault.{Fault}
 use Rattle.s66_program.specs.declared.outcome.Fault.TheVariants as fault
 use Rattle.s66_program.specs.declared.outcome.Status.{Status}
-use Rattle.s66_program.specs.Kept.{IsFull, IsKept, Puts}
+use Rattle.s66_program.specs.Kept.{IsFull, IsKeptInput, Puts}
 use Rattle.s66_program.specs.Output.{IsOutput, is_cut, reads_documents, reads_source, source_in}
 use Rattle.s66_program.specs.Run.{IsRefusal}
 use Rattle.s66_program.proofs.Fronts.{front-refused}
 
-pub kept-none : (most : Option ℕ) → IsKept most [] []
+pub kept-none : (most : Option ℕ) → IsKeptInput most [] []
 kept-none most = ([], refl, inl refl)
 
-pub kept-more : (most : Option ℕ) (input bytes old new : List ℕ) → IsKept most input old → Puts most bytes old new → IsKept most (input ++ bytes) new
+pub kept-more : (most : Option ℕ) (input bytes old new : List ℕ) → IsKeptInput most input old → Puts most bytes old new → IsKeptInput most (input ++ bytes) new
 kept-more most input bytes old new (rest, is, inl none) (inl (room, more)) =
     let whole : input ≡ old = is ∙ ap (λ r. old ++ r) none ∙ append-nil old in
     ([], ap (λ l. l ++ bytes) whole ∙ sym more ∙ sym (append-nil new), inl refl)
@@ -48,7 +48,7 @@ full-refused : (command : Command) (most : Option ℕ) (held rest : List ℕ) �
 full-refused command None held rest is full = absurd full
 full-refused command (Some n) held rest (limit, reads) full = (reads, front-refused (is_cut command) held rest (subst (λ k. k ≤ length held) limit full))
 
-pub whole-output : (p : Profile) (command : Command) (most : Option ℕ) (input held text : List ℕ) (status : Status) → IsMost command most → IsKept most input held → IsOutput p command held text status → IsOutput p command input text status
+pub whole-output : (p : Profile) (command : Command) (most : Option ℕ) (input held text : List ℕ) (status : Status) → IsMost command most → IsKeptInput most input held → IsOutput p command held text status → IsOutput p command input text status
 whole-output p command most input held text status most-is (rest, is, inl none) output =
     subst (λ i. IsOutput p command i text status) (sym (is ∙ ap (λ r. held ++ r) none ∙ append-nil held)) output
 whole-output p command most input held text status most-is (rest, is, inr full) output =
@@ -75,7 +75,7 @@ refused-for command input held fault.Memory reads same h = h
 refused-for command input held fault.Read reads same h = h
 refused-for command input held fault.Write reads same h = h
 
-pub whole-refusal : (command : Command) (most : Option ℕ) (input held : List ℕ) (f : Fault) → IsMost command most → IsKept most input held → IsRefusal command held f → IsRefusal command input f
+pub whole-refusal : (command : Command) (most : Option ℕ) (input held : List ℕ) (f : Fault) → IsMost command most → IsKeptInput most input held → IsRefusal command held f → IsRefusal command input f
 whole-refusal command most input held f most-is (rest, is, inl none) refusal =
     subst (λ i. IsRefusal command i f) (sym (is ∙ ap (λ r. held ++ r) none ∙ append-nil held)) refusal
 whole-refusal command most input held f most-is (rest, is, inr full) refusal =

@@ -16,11 +16,11 @@ use Rattle.s66_model.proofs.LegalOrders.{legal-order, ready-parts}
 use Rattle.s66_program.specs.declared.outcome.Status.{Status}
 use Rattle.s66_program.specs.declared.outcome.Status.TheVariants.{Done, Bounded}
 use Rattle.s66_program.specs.OrderText.{AreAnswers, IsOrderOutput, all_best, all_placed}
-use Rattle.s66_program.specs.PlacedAnswers.{AreAllPlaced, IsPlaced, tell_best}
+use Rattle.s66_program.specs.PlacedAnswers.{AreAllPlaced, IsPlacedAnswer, tell_best}
 
 -- ONE BLOCK AFTER THE OTHER
 
-placed-more : (rule : Rule) (profile : Profile) (nodes : ℕ) (trace : Bool) (block : Block) (blocks : List Block) (p : Placed) (ps : List Placed) → IsPlaced rule profile nodes trace block p → AreAllPlaced rule profile nodes trace blocks ps →
+placed-more : (rule : Rule) (profile : Profile) (nodes : ℕ) (trace : Bool) (block : Block) (blocks : List Block) (p : Placed) (ps : List Placed) → IsPlacedAnswer rule profile nodes trace block p → AreAllPlaced rule profile nodes trace blocks ps →
     AreAllPlaced rule profile nodes trace (block ∷ blocks) (p ∷ ps)
 placed-more rule profile nodes trace block blocks p ps (a, is, same) (answers, are, all) = (a ∷ answers, (is, are), ap₂ (λ x xs. x ∷ xs) same all)
 
@@ -29,7 +29,7 @@ abbrev pub GoesOnAt : Rule → Profile → ℕ → Bool → List Block → ℕ �
 GoesOnAt rule profile nodes trace blocks i ps = (rest : List Placed) → AreAllPlaced rule profile nodes trace (drop i blocks) rest → AreAllPlaced rule profile nodes trace blocks (ps ++ rest)
 
 pub goes-on : (rule : Rule) (profile : Profile) (nodes : ℕ) (trace : Bool) (blocks : List Block) (i : ℕ) (block : Block) (ps new : List Placed) (p : Placed) → i < length blocks → block ≡ slice_index_or blocks i block →
-    IsPlaced rule profile nodes trace block p → new ≡ ps ++ p ∷ [] → GoesOnAt rule profile nodes trace blocks i ps → GoesOnAt rule profile nodes trace blocks (i + 1) new
+    IsPlacedAnswer rule profile nodes trace block p → new ≡ ps ++ p ∷ [] → GoesOnAt rule profile nodes trace blocks i ps → GoesOnAt rule profile nodes trace blocks (i + 1) new
 goes-on rule profile nodes trace blocks i block ps new p within at is pushed so_far = λ rest are.
     let left : block ∷ drop (i + 1) blocks ≡ drop i blocks = ap (λ b. b ∷ drop (i + 1) blocks) at ∙ sym (drop_more blocks i block within) in
     let there = subst (λ bs. AreAllPlaced rule profile nodes trace bs (p ∷ rest)) left (placed-more rule profile nodes trace block (drop (i + 1) blocks) p rest is are) in

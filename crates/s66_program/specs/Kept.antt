@@ -7,8 +7,8 @@ IsFull None held = ⊥
 IsFull (Some most) held = most ≤ length held
 
 -- of an input this is kept: all of it, or a front that is full
-abbrev pub IsKept : Option ℕ → (input held : List ℕ) → Type 0
-IsKept most input held = (rest : List ℕ) × (input ≡ held ++ rest) × ((rest ≡ []) ⊎ IsFull most held)
+abbrev pub IsKeptInput : Option ℕ → (input held : List ℕ) → Type 0
+IsKeptInput most input held = (rest : List ℕ) × (input ≡ held ++ rest) × ((rest ≡ []) ⊎ IsFull most held)
 
 -- more bytes were put to what is kept, or that is full
 abbrev pub Puts : Option ℕ → (bytes old new : List ℕ) → Type 0

@@ -9,8 +9,8 @@ use Rattle.s66_model.specs.Answer.{Answer, IsAnswer}
 use Rattle.s66_program.specs.OrderText.{AreAnswers, all_placed, placed_by, problem_of}
 
 -- an answer to the block
-abbrev pub IsPlaced : Rule → Profile → ℕ → Bool → Block → Placed → Type 0
-IsPlaced rule p nodes trace block placed = (a : Answer) × IsAnswer rule (problem_of p block) nodes a × (placed ≡ placed_by p trace block a)
+abbrev pub IsPlacedAnswer : Rule → Profile → ℕ → Bool → Block → Placed → Type 0
+IsPlacedAnswer rule p nodes trace block placed = (a : Answer) × IsAnswer rule (problem_of p block) nodes a × (placed ≡ placed_by p trace block a)
 
 -- an answer to each block
 abbrev pub AreAllPlaced : Rule → Profile → ℕ → Bool → List Block → List Placed → Type 0

@@ -2,7 +2,7 @@ ghost use Rattle.std.specs.Prelude.{◌≡◌, if◌then◌else◌, IfOk};
 ghost use Rattle.s66_program.specs.declared.outcome.Status.TheVariants.{Done, Bounded};
 ghost use Rattle.s66_program.specs.OrderText.{IsOrderOutput};
 ghost use Rattle.s66_program.specs.Output.{IsSearchWithin};
-ghost use Rattle.s66_program.specs.PlacedAnswers.{AreAllPlaced, IsPlaced, tell_best};
+ghost use Rattle.s66_program.specs.PlacedAnswers.{AreAllPlaced, IsPlacedAnswer, tell_best};
 
 use crate::observer::Observer;
 use crate::outcome::{Output, Status};
@@ -27,7 +27,7 @@ fn search<R: AllocGlobal + Threads + Wait + Sync>(
     trace: bool,
 ) -> Result<Placed, AllocError>
     requires { IsSearchWithin options.workers options.nodes }
-    ensures { IfOk result (λ found. IsPlaced options.rule profile.now options.nodes trace block.now found) }
+    ensures { IfOk result (λ found. IsPlacedAnswer options.rule profile.now options.nodes trace block.now found) }
 {
     let source = time_of(block, profile, &Order::source(block)).total();
     let answer = run(rt, block, profile, options, &Free)?;

@@ -1,6 +1,6 @@
 ghost use Rattle.std.specs.Prelude.{◌≡◌, ◌++◌, OnOk, IfOk, IfErr};
 ghost use Rattle.s66_program.specs.declared.outcome.Status.TheVariants.{Done};
-ghost use Rattle.s66_program.specs.Output.{IsListing, IsOutput, IsWithin, block_lines, lines_of_blocks};
+ghost use Rattle.s66_program.specs.Output.{IsListing, IsOutput, IsWithinLimits, block_lines, lines_of_blocks};
 ghost use Rattle.s66_program.specs.Run.{IsRefusal};
 
 use crate::chart_text::push_chart_lines;
@@ -96,7 +96,7 @@ pub fn output_for<R: AllocGlobal + Threads + Wait + Sync, O: Observer>(
     input: &[u8],
     observer: &mut O,
 ) -> Result<Output, Fault>
-    requires { IsWithin command }
+    requires { IsWithinLimits command }
     ensures ok { IfOk result (λ output. IsOutput profile.now command.entry input.now output.text.items output.status) }
     ensures err { IfErr result (IsRefusal command.entry input.now) }
 {

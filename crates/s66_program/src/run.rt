@@ -1,7 +1,7 @@
 ghost use Rattle.std.specs.Prelude.{ℕ, List, true, ◌≡◌, ◌-◌, ◌^◌, ◌<◌, ◌↔◌, length, vec_len, IfOk, IfErr, IfSome, IsTrue, OnOk};
 ghost use Rattle.s66_program.specs.Device.{ReadsAll};
-ghost use Rattle.s66_program.specs.Kept.{IsFull, IsKept, Puts};
-ghost use Rattle.s66_program.specs.Output.{IsUnder, IsWithin, reads_source};
+ghost use Rattle.s66_program.specs.Kept.{IsFull, IsKeptInput, Puts};
+ghost use Rattle.s66_program.specs.Output.{IsUnder, IsWithinLimits, reads_source};
 ghost use Rattle.s66_program.specs.declared.limits.TheConstants.{SOURCE_FRONT};
 ghost use Rattle.s66_program.specs.Run.{IsOutcome, IsOutcomeUnder, IsProfileFault, IsReadFault};
 
@@ -82,7 +82,7 @@ fn read_through<F: Feed>(
 ) -> Result<Vec<u8>, Fault>
     requires calls { (F.seen reader.old).failures < 2 ^ 64 - 1 }
     requires room { length buffer.old ≡ FEED_ROOM }
-    ensures ok { IfOk result (λ held. (input : List ℕ) × ReadsAll (F.seen reader.old) (F.seen reader.new) input × IsKept most input held.items) }
+    ensures ok { IfOk result (λ held. (input : List ℕ) × ReadsAll (F.seen reader.old) (F.seen reader.new) input × IsKeptInput most input held.items) }
     ensures err { IfErr result (IsReadFault (F.seen reader.old) (F.seen reader.new)) }
 {
     let mut held = Vec::new(alloc);
@@ -103,7 +103,7 @@ fn read_through<F: Feed>(
 /// Reads to the end, and keeps what the command needs.
 fn read_all<F: Feed>(alloc: Global, reader: &mut F, most: Option<usize>) -> Result<Vec<u8>, Fault>
     requires { (F.seen reader.old).failures < 2 ^ 64 - 1 }
-    ensures ok { IfOk result (λ held. (input : List ℕ) × ReadsAll (F.seen reader.old) (F.seen reader.new) input × IsKept most input held.items) }
+    ensures ok { IfOk result (λ held. (input : List ℕ) × ReadsAll (F.seen reader.old) (F.seen reader.new) input × IsKeptInput most input held.items) }
     ensures err { IfErr result (IsReadFault (F.seen reader.old) (F.seen reader.new)) }
 {
     let mut buffer = room(alloc)?;
@@ -119,7 +119,7 @@ fn run_under<R: AllocGlobal + Threads + Wait + Sync, F: Feed, S: Sink, O: Observ
     writer: &mut S,
     observer: &mut O,
 ) -> Result<Status, Fault>
-    requires within { IsWithin command }
+    requires within { IsWithinLimits command }
     requires reads { (F.seen reader.old).failures < 2 ^ 64 - 1 }
     requires writes { (S.seen writer.old).failures < 2 ^ 64 - 1 }
     ensures { IsOutcomeUnder profile.now command.entry (F.seen reader.old) (F.seen reader.new) (S.seen writer.old) (S.seen writer.new) result }
@@ -147,7 +147,7 @@ pub fn run_command<R: AllocGlobal + Threads + Wait + Sync, F: Feed, S: Sink>(
     reader: &mut F,
     writer: &mut S,
 ) -> Result<Status, Fault>
-    requires within { IsWithin command }
+    requires within { IsWithinLimits command }
     requires reads { (F.seen reader.old).failures < 2 ^ 64 - 1 }
     requires writes { (S.seen writer.old).failures < 2 ^ 64 - 1 }
     ensures { IsOutcome command.entry (F.seen reader.old) (F.seen reader.new) (S.seen writer.old) (S.seen writer.new) result }
@@ -164,7 +164,7 @@ pub fn run_observed<R: AllocGlobal + Threads + Wait + Sync, F: Feed, S: Sink, O:
     writer: &mut S,
     observer: &mut O,
 ) -> Result<Status, Fault>
-    requires within { IsWithin command }
+    requires within { IsWithinLimits command }
     requires reads { (F.seen reader.old).failures < 2 ^ 64 - 1 }
     requires writes { (S.seen writer.old).failures < 2 ^ 64 - 1 }
     ensures { IsOutcome command.entry (F.seen reader.old) (F.seen reader.new) (S.seen writer.old) (S.seen writer.new) result }

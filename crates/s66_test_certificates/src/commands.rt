@@ -1,4 +1,4 @@
-ghost use Rattle.s66_program.specs.Output.{IsWithin};
+ghost use Rattle.s66_program.specs.Output.{IsWithinLimits};
 
 use s66_device::{OverRead, OverWrite};
 use s66_program::{Command, Fault, Status, run_command};
@@ -12,7 +12,7 @@ pub fn run<R: AllocGlobal + Threads + Wait + Sync>(
     command: Command,
     text: &[u8],
 ) -> (Result<Status, Fault>, Vec<u8>)
-    requires { IsWithin command }
+    requires { IsWithinLimits command }
 {
     let mut reader = OverRead::new(text);
     let mut writer = OverWrite::new(Vec::new(rt.alloc()));
@@ -28,7 +28,7 @@ pub fn check_output<R: AllocGlobal + Abort + Threads + Wait + Sync>(
     status: Status,
     output: &str,
 )
-    requires { IsWithin command }
+    requires { IsWithinLimits command }
 {
     let (result, written) = run(rt, command, text.as_bytes());
     assert_eq!(rt; result, Ok(status), "{text}");

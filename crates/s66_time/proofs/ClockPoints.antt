@@ -10,13 +10,14 @@ use Rattle.s66_isa.specs.declared.instr.Memory.{Memory}
 use Rattle.s66_isa.specs.declared.instr.Memory.TheVariants as memory
 use Rattle.s66_isa.specs.declared.profile.Profile.{Profile}
 use Rattle.s66_isa.specs.Lists.{greatest, tally, weigh}
+use Rattle.s66_model.specs.Dominance.{references_wait, stores_wait}
 use Rattle.s66_model.specs.Packing.{fits_at}
 use Rattle.s66_isa.specs.Rows.{IsInRange}
 use Rattle.s66_model.specs.Timing.{Point, ResultAt, slot_of, next, next_parcel, done_of, last_done, busy_at, issue_of, start_of, total, point, result_at, free_after}
 use Rattle.s66_time.specs.declared.words.Words.{Words}
 use Rattle.s66_time.specs.declared.limits.TheConstants.{COPIES_LIMIT, TOTAL_LIMIT, UNIT_LIMIT}
 use Rattle.s66_time.specs.Places.{first_unit, units_of, put_back}
-use Rattle.s66_time.specs.ClockWords.{under, refs_wait, stores_wait, wait_of, IsWords, InTurn, IsSoonest, Follows, Takes}
+use Rattle.s66_time.specs.ClockWords.{under, wait_of, IsWords, InTurn, IsSoonest, AreWordsInTurn, Takes}
 use Rattle.s66_model.specs.Leaves.{rest_busy}
 use Rattle.s66_model.proofs.Issue.{none_busy, issue-join}
 use Rattle.s66_model.proofs.LoadBound.{same_kind-true}
@@ -121,14 +122,14 @@ wait-none memory.None = refl
 wait-none memory.Load = refl
 wait-none memory.Store = refl
 
-pub memory-is : (n : Memory) (s : List Point) → greatest (λ (p : Point). cond (memory_pair p.row.memory n) (p.start + 1) 0) s ≡ wait_of n (refs_wait s) (stores_wait s)
+pub memory-is : (n : Memory) (s : List Point) → greatest (λ (p : Point). cond (memory_pair p.row.memory n) (p.start + 1) 0) s ≡ wait_of n (references_wait s) (stores_wait s)
 memory-is n [] = sym (wait-none n)
 memory-is n (p ∷ s) =
     omega (
       arith,
       wait-one p.row.memory n (p.start + 1),
       memory-is n s,
-      wait-max n (cond (touches p.row.memory) (p.start + 1) 0) (cond (stores p.row.memory) (p.start + 1) 0) (refs_wait s) (stores_wait s),
+      wait-max n (cond (touches p.row.memory) (p.start + 1) 0) (cond (stores p.row.memory) (p.start + 1) 0) (references_wait s) (stores_wait s),
     )
 
 pub start-words : (p : Profile) (s : List Point) (w : Words) (r : Row) (issue done wait : ℕ) → IsWords p s w → InTurn s →
@@ -138,7 +139,7 @@ unfolding start_of
 start-words p s w r issue done wait is turn e1 e2 e3 =
     let reads : done ≡ greatest (λ x. last_done x s) r.reads = e2 ∙ greatest-same (λ x. done_of s x) (λ x. last_done x s) (λ x. sym (turn.latest x)) r.reads in
     let memory : wait ≡ greatest (λ (q : Point). cond (memory_pair q.row.memory r.memory) (q.start + 1) 0) s =
-    e3 ∙ ap (λ x. wait_of r.memory x w.progress.stores) is.refs ∙ ap (λ x. wait_of r.memory (refs_wait s) x) is.stores ∙ sym (memory-is r.memory s) in
+    e3 ∙ ap (λ x. wait_of r.memory x w.progress.stores) is.refs ∙ ap (λ x. wait_of r.memory (references_wait s) x) is.stores ∙ sym (memory-is r.memory s) in
     rw (e1, reads, memory) refl
 
 -- WHAT A PUSH CHANGES
@@ -213,7 +214,7 @@ next-small : (s : List Point) → InTurn s → next s ≤ total s + 2
 next-small [] turn = omega arith
 next-small (p ∷ s) turn = omega (arith, turn.starts, turn.parcels)
 
-pub follows-small : (p : Profile) (w : Words) → Follows p w → (w.progress.next ≤ TOTAL_LIMIT + 2) × (w.progress.parcel ≤ TOTAL_LIMIT + 2)
+pub follows-small : (p : Profile) (w : Words) → AreWordsInTurn p w → (w.progress.next ≤ TOTAL_LIMIT + 2) × (w.progress.parcel ≤ TOTAL_LIMIT + 2)
 follows-small p w (s, is, turn) = (omega (arith, is.next, next-small s turn, turn.early), omega (arith, is.parcel, next-small s turn, turn.early, turn.parcel))
 
 pub slot-words : (p : Profile) (s : List Point) (w : Words) (r : Row) → IsWords p s w → w.progress.next + (fits_at w.progress.parcel r.parcels - w.progress.parcel) ≡ slot_of s r.parcels

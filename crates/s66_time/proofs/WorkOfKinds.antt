@@ -11,7 +11,7 @@ use Rattle.s66_model.specs.Timing.{Point}
 use Rattle.s66_model.specs.Leaves.{work_of}
 use Rattle.s66_time.specs.declared.words.Words.{Words}
 use Rattle.s66_time.specs.declared.limits.TheConstants.{WORK_LIMIT}
-use Rattle.s66_time.specs.ClockWords.{worked_of, Follows}
+use Rattle.s66_time.specs.ClockWords.{worked_of, AreWordsInTurn}
 
 pub kinds-few : (kind : Kind) → kind_number kind ≤ 6
 kinds-few Boolean = omega arith
@@ -50,5 +50,5 @@ worked-most kind (p ∷ s) small =
     let own : work_of kind p.row ≤ 101 = cond_both (same_kind p.row.kind kind) (p.row.hold + 1) 0 (λ k. k ≤ 101) (λ is. omega (arith, small)) (λ off. omega arith) in
     omega (arith, own, worked-most kind s (omega (arith, small)))
 
-pub worked-few : (p : Profile) (w : Words) (kind : Kind) → Follows p w → get_or w.worked (kind_number kind) 0 ≤ WORK_LIMIT
+pub worked-few : (p : Profile) (w : Words) (kind : Kind) → AreWordsInTurn p w → get_or w.worked (kind_number kind) 0 ≤ WORK_LIMIT
 worked-few p w kind (s, is, turn) = omega (arith, is.worked kind, worked-most kind s turn.holds, turn.few)

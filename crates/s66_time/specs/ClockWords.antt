@@ -10,6 +10,7 @@ use Rattle.s66_isa.specs.Lists.{greatest, tally, weigh, has}
 use Rattle.s66_model.specs.Timing.{Problem, Point, ResultAt, end_of, done_of, last_done, readers_wait, busy_at, next, next_parcel, total, point_of}
 use Rattle.s66_isa.specs.declared.limits.TheConstants.{BLOCK_LIMIT}
 use Rattle.s66_model.specs.Leaves.{work_of}
+use Rattle.s66_model.specs.Dominance.{references_wait, stores_wait}
 use Rattle.s66_dep.specs.Members.{numbers_in}
 use Rattle.s66_time.specs.declared.limits.TheConstants.{TOTAL_LIMIT, UNIT_LIMIT}
 use Rattle.s66_isa.specs.Registers.{word_of}
@@ -22,13 +23,6 @@ use Rattle.s66_time.specs.declared.step.Step.{Step}
 -- a point depends on the block only by its row
 abbrev pub under : Profile → Problem
 under p = record { block = []; profile = p }
-
--- one after the greatest start of references, and of stores; 0 if there is none
-abbrev pub refs_wait : List Point → ℕ
-refs_wait s = greatest (λ (p : Point). if touches p.row.memory then p.start + 1 else 0) s
-
-abbrev pub stores_wait : List Point → ℕ
-stores_wait s = greatest (λ (p : Point). if stores p.row.memory then p.start + 1 else 0) s
 
 -- what a reference waits for
 abbrev pub wait_of : Memory → ℕ → ℕ → ℕ
@@ -56,7 +50,7 @@ pub record IsWords (p : Profile) (s : List Point) (w : Words) : Type 0 where
   pub size : length w.units.words ≡ UNIT_LIMIT
   pub kinds : length w.worked ≡ KIND_COUNT
   pub worked : (kind : Kind) → get_or w.worked (kind_number kind) 0 ≡ worked_of kind s
-  pub refs : w.progress.refs ≡ refs_wait s
+  pub refs : w.progress.refs ≡ references_wait s
   pub stores : w.progress.stores ≡ stores_wait s
   pub parcel : w.progress.parcel ≡ next_parcel s
   pub next : w.progress.next ≡ next s
@@ -80,8 +74,8 @@ pub record InTurn (s : List Point) : Type 0 where
   pub holds : greatest (λ (p : Point). p.row.hold) s ≤ 100
 
 -- the words are those of some points
-abbrev pub Follows : Profile → Words → Type 0
-Follows p w = (s : List Point) × IsWords p s w × InTurn s
+abbrev pub AreWordsInTurn : Profile → Words → Type 0
+AreWordsInTurn p w = (s : List Point) × IsWords p s w × InTurn s
 
 -- what contracts see of a tick
 abbrev pub point_of_tick : ℕ → Row → Tick → Point

@@ -13,7 +13,7 @@ abbrev pub times_in : List Point → List Times
 times_in s = map times_of (reverse s)
 
 -- what is true of every timed order
-pub record IsTimed (b : Problem) (numbers : List ℕ) (times : List Times) (end : ℕ) : Type 0 where
+pub record IsKeptTimed (b : Problem) (numbers : List ℕ) (times : List Times) (end : ℕ) : Type 0 where
   pub legal : IsLegal b.block numbers
   pub few : length numbers ≤ BLOCK_LIMIT
   pub kept : times ≡ times_in (points_of b numbers)

@@ -2,7 +2,7 @@ ghost use Rattle.std.specs.Prelude.{◌+◌, ◌%◌, ◌≡◌, ◌≤◌, get_
 ghost use Rattle.s66_isa.specs.Table.{Reg};
 ghost use Rattle.s66_isa.specs.Registers.{index_of, word_of};
 ghost use Rattle.s66_isa.specs.declared.instr.Kind.{Kind};
-ghost use Rattle.s66_time.specs.ClockWords.{AreCopies, Follows};
+ghost use Rattle.s66_time.specs.ClockWords.{AreCopies, AreWordsInTurn};
 ghost use Rattle.s66_time.specs.KeptUnits.{first_kept, word_count};
 ghost use Rattle.s66_time.specs.LatestWords.{words_from, kept_in, AreLatest};
 ghost use Rattle.s66_time.specs.Places.{units_of};
@@ -35,7 +35,7 @@ pub struct Mark {
 impl Mark {
     /// The mark of a clock's words, under a profile with these copies.
     pub(crate) fn of(words: &Words, profile: &Profile, copies: &Copies, shape: &MarkShape) -> Mark
-        requires follows { Follows profile.now words.now }
+        requires follows { AreWordsInTurn profile.now words.now }
         requires copies { AreCopies profile.now copies.now }
         ensures progress { (result.next ≡ words.now.progress.next) × (result.total ≡ words.now.progress.total) × (result.place ≡ words.now.progress.parcel % 4) }
         ensures count { result.count ≡ word_count (kept_in shape.now.kept) }

@@ -32,7 +32,7 @@ impl Steps {
     ghost use Rattle.s66_model.specs.Timing.{Point, point};
     ghost use Rattle.s66_time.specs.declared.limits.TheConstants.{COPIES_LIMIT};
     ghost use Rattle.s66_time.specs.declared.step.Step.{Step as StepOf};
-    ghost use Rattle.s66_time.specs.ClockWords.{under, IsWords, InTurn, Follows, after_undo};
+    ghost use Rattle.s66_time.specs.ClockWords.{under, IsWords, InTurn, AreWordsInTurn, after_undo};
 
     /// No step.
     pub fn new() -> Steps
@@ -52,7 +52,7 @@ impl Steps {
         requires copies { copies ≡ copies_of profile.now row.now.kind }
         requires some { (1 ≤ copies) × (copies ≤ COPIES_LIMIT) }
         requires number { (1 ≤ number) × (number ≤ BLOCK_LIMIT) }
-        requires follows { Follows profile.now words.old }
+        requires follows { AreWordsInTurn profile.now words.old }
         ensures step { (step : StepOf) × (self.new ≡ self.old ++ step ∷ []) × (step.number ≡ number) × (after_undo words.new step ≡ words.old) }
         ensures words { (s : List Point) → IsWords profile.now s words.old → InTurn s → IsWords profile.now (point (under profile.now) s number row.now ∷ s) words.new }
     {

@@ -6,7 +6,7 @@ ghost use Rattle.s66_model.specs.Packing.{fits_at};
 ghost use Rattle.s66_isa.specs.Rows.{IsInRange};
 ghost use Rattle.s66_model.specs.Timing.{Point, issue_of, start_of, point};
 ghost use Rattle.s66_time.specs.declared.limits.TheConstants.{COPIES_LIMIT, TOTAL_LIMIT, UNIT_LIMIT, WORK_LIMIT};
-ghost use Rattle.s66_time.specs.ClockWords.{under, IsWords, InTurn, IsSoonest, Follows, wait_of, point_of_tick, after_undo, Takes};
+ghost use Rattle.s66_time.specs.ClockWords.{under, IsWords, InTurn, IsSoonest, AreWordsInTurn, wait_of, point_of_tick, after_undo, Takes};
 
 use crate::packing::fits_at;
 use crate::progress::Progress;
@@ -78,7 +78,7 @@ impl Words {
 
     /// When the instruction issues that takes this unit, the soonest of its kind.
     fn issue(&self, profile: &Profile, row: &Row, unit: usize) -> u32
-        requires follows { Follows profile.now self.now }
+        requires follows { AreWordsInTurn profile.now self.now }
         requires within { unit < UNIT_LIMIT }
         requires soonest { IsSoonest profile.now row.now.kind self.now.units.words unit }
         ensures { (s : List Point) → IsWords profile.now s self.now → result ≡ issue_of (under profile.now) s row.now }
@@ -98,7 +98,7 @@ impl Words {
 
     /// Where and when the instruction is placed next.
     pub fn tick(&self, profile: &Profile, row: &Row) -> Tick
-        requires follows { Follows profile.now self.now }
+        requires follows { AreWordsInTurn profile.now self.now }
         ensures soonest { IsSoonest profile.now row.now.kind self.now.units.words result.unit }
         ensures value { (s : List Point) (n : ℕ) → IsWords profile.now s self.now → InTurn s → point_of_tick n row.now result ≡ point (under profile.now) s n row.now }
         ensures good { IsInRange row.now }
@@ -112,7 +112,7 @@ impl Words {
     fn tick_among(&self, profile: &Profile, copies: u32, row: &Row) -> Tick
         requires copies { copies ≡ copies_of profile.now row.now.kind }
         requires some { (1 ≤ copies) × (copies ≤ COPIES_LIMIT) }
-        requires follows { Follows profile.now self.now }
+        requires follows { AreWordsInTurn profile.now self.now }
         ensures soonest { IsSoonest profile.now row.now.kind self.now.units.words result.unit }
         ensures value { (s : List Point) (n : ℕ) → IsWords profile.now s self.now → InTurn s → point_of_tick n row.now result ≡ point (under profile.now) s n row.now }
         ensures good { IsInRange row.now }
@@ -168,7 +168,7 @@ impl Words {
         requires copies { copies ≡ copies_of profile.now row.now.kind }
         requires some { (1 ≤ copies) × (copies ≤ COPIES_LIMIT) }
         requires number { (1 ≤ number) × (number ≤ BLOCK_LIMIT) }
-        requires follows { Follows profile.now self.old }
+        requires follows { AreWordsInTurn profile.now self.old }
         ensures number { step.new.number ≡ number }
         ensures back { after_undo self.new step.new ≡ self.old }
         ensures words { (s : List Point) → IsWords profile.now s self.old → InTurn s → IsWords profile.now (point (under profile.now) s number row.now ∷ s) self.new }

@@ -70,13 +70,13 @@ pub struct PlacedInstr {
 
 impl Model for PlacedInstr {
     ghost use Rattle.s66_model.specs.Timing.{Point};
-    ghost use Rattle.s66_why.specs.KeptPoints.{IsKept};
+    ghost use Rattle.s66_why.specs.KeptPoints.{IsKeptPoint};
 
     ghost Value = { Point };
 
     ghost view = { λ p. record { number = p.number; row = p.row; parcel = p.parcel; issue = p.issue; start = p.start; results = p.results.items; free = p.free } };
 
-    ghost invariant = { λ p. IsKept p.row p.parcel p.issue p.start p.results.items p.last p.reads };
+    ghost invariant = { λ p. IsKeptPoint p.row p.parcel p.issue p.start p.results.items p.last p.reads };
 }
 
 impl Default for PlacedInstr {

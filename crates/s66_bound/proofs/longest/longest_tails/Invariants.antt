@@ -2,7 +2,7 @@ use Rattle.std.proofs.Common.{ℕ, ◌≡◌, ◌-◌, ◌<◌, ◌≤◌, lengt
 use Rattle.s66_isa.specs.declared.limits.TheConstants.{BLOCK_LIMIT}
 use Rattle.s66_model.specs.Timing.{Problem}
 use Rattle.s66_model.specs.Tails.{longest_tail}
-use Rattle.s66_bound.specs.InstructionCosts.{AreEntries}
+use Rattle.s66_bound.specs.InstructionCosts.{AreCosts}
 use Rattle.s66_bound.proofs.longest.longest_tails.Given as goal
 
 abbrev pub decreases-loop-place : goal.decreases-loop-place
@@ -12,5 +12,5 @@ abbrev pub invariant-loop-place : goal.invariant-loop-place
 invariant-loop-place l = record {
   size : length l.longest ≡ BLOCK_LIMIT;
   within : l.place ≤ length l.entries;
-  known : (b : Problem) → AreEntries b l.entries → (n : ℕ) → l.place < n → n ≤ length b.block → get_or l.longest (n - 1) 0 ≡ longest_tail b n;
+  known : (b : Problem) → AreCosts b l.entries → (n : ℕ) → l.place < n → n ≤ length b.block → get_or l.longest (n - 1) 0 ≡ longest_tail b n;
 }

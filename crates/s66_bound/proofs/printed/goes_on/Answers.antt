@@ -4,7 +4,7 @@ use Rattle.s66_model.specs.Timing.{Problem, row_at}
 use Rattle.s66_model.specs.Leaves.{tail, link, is_linked}
 use Rattle.s66_model.specs.Tails.{longest_tail}
 use Rattle.s66_model.proofs.TailTable.{link-small, tail-fits}
-use Rattle.s66_bound.specs.InstructionCosts.{IsEntry}
+use Rattle.s66_bound.specs.InstructionCosts.{IsCostOf}
 use Rattle.s66_bound.proofs.EntryOfNumber.{entry-of}
 use Rattle.s66_bound.proofs.printed.goes_on.Goals.{then-from-longest-via-then-from-longest, then-from-longest-via-else-from-longest+then-other-number}
 use Rattle.s66_bound.proofs.printed.goes_on.Goals as goal
@@ -33,7 +33,7 @@ returns-then-from-longest c = λ b entries tables.
     let n : ℕ = c.args.number in
     let m : ℕ = c.args.other in
     let (low, high, other_low, other_high) = c.requires.numbers in
-    let from : IsEntry (row_at b n) c.index-entries-number.result = entry-of b c.args.entries.now n c.index-entries-number.result entries low high c.index-entries-number.is in
+    let from : IsCostOf (row_at b n) c.index-entries-number.result = entry-of b c.args.entries.now n c.index-entries-number.result entries low high c.index-entries-number.is in
     let own = tables.longest n low (omega (arith, high, entries.count)) in
     elim c.then-from-longest.branch [
       | then-from-longest-via-then-from-longest w ↦
@@ -50,8 +50,8 @@ returns-then-link-gt0 c = λ b entries tables.
     let n : ℕ = c.args.number in
     let m : ℕ = c.args.other in
     let (low, high, other_low, other_high) = c.requires.numbers in
-    let from : IsEntry (row_at b n) c.index-entries-number.result = entry-of b c.args.entries.now n c.index-entries-number.result entries low high c.index-entries-number.is in
-    let to : IsEntry (row_at b m) c.index-entries-other.result = entry-of b c.args.entries.now m c.index-entries-other.result entries other_low other_high c.index-entries-other.is in
+    let from : IsCostOf (row_at b n) c.index-entries-number.result = entry-of b c.args.entries.now n c.index-entries-number.result entries low high c.index-entries-number.is in
+    let to : IsCostOf (row_at b m) c.index-entries-other.result = entry-of b c.args.entries.now m c.index-entries-other.result entries other_low other_high c.index-entries-other.is in
     let own = tables.longest n low (omega (arith, high, entries.count)) in
     let others = tables.longest m other_low (omega (arith, other_high, entries.count)) in
     let linked = c.link-link.ensures (row_at b n) (row_at b m) from to in
@@ -66,8 +66,8 @@ returns-else-link-gt0 c = λ b entries tables.
     let n : ℕ = c.args.number in
     let m : ℕ = c.args.other in
     let (low, high, other_low, other_high) = c.requires.numbers in
-    let from : IsEntry (row_at b n) c.index-entries-number.result = entry-of b c.args.entries.now n c.index-entries-number.result entries low high c.index-entries-number.is in
-    let to : IsEntry (row_at b m) c.index-entries-other.result = entry-of b c.args.entries.now m c.index-entries-other.result entries other_low other_high c.index-entries-other.is in
+    let from : IsCostOf (row_at b n) c.index-entries-number.result = entry-of b c.args.entries.now n c.index-entries-number.result entries low high c.index-entries-number.is in
+    let to : IsCostOf (row_at b m) c.index-entries-other.result = entry-of b c.args.entries.now m c.index-entries-other.result entries other_low other_high c.index-entries-other.is in
     let linked = c.link-link.ensures (row_at b n) (row_at b m) from to in
     le-ltb 0 c.link-link.result (omega (arith, c.if-link-gt0.false))
     ∙ sym (and_right (not (ends b n)) (is_linked b n m && keeps b n m) (and_left (is_linked b n m) (keeps b n m) (and_right (ltb n m) (ltb 0 (link (row_at b n) (row_at b m))) (le-ltb 0 (link (row_at b n) (row_at b m)) (omega (arith, linked, c.if-link-gt0.false))))))

@@ -3,7 +3,7 @@ use Rattle.s66_isa.specs.Lists.{Among}
 use Rattle.s66_model.specs.Timing.{Problem}
 use Rattle.s66_model.proofs.WalkOver.{walk_over}
 use Rattle.s66_dep.specs.Members.{numbers_in}
-use Rattle.s66_bound.specs.InstructionCosts.{AreEntries}
+use Rattle.s66_bound.specs.InstructionCosts.{AreCosts}
 use Rattle.s66_bound.specs.TableWords.{IsTables}
 use Rattle.s66_bound.proofs.printed.walk_from.Given as goal
 
@@ -12,7 +12,7 @@ invariant-loop-number l = record {
   range : (1 ≤ l.last) × (l.last ≤ length l.entries);
   few : length l.numbers.items ≤ l.last;
   within : (n : ℕ) → Among n (numbers_in l.others) → (1 ≤ n) × (n ≤ length l.entries);
-  walked : (b : Problem) → AreEntries b l.entries → IsTables b l.tables → l.numbers.items ++ walk_over b l.last (numbers_in l.others) ≡ l.first ∷ walk_over b l.first (numbers_in l.fn.rest);
+  walked : (b : Problem) → AreCosts b l.entries → IsTables b l.tables → l.numbers.items ++ walk_over b l.last (numbers_in l.others) ≡ l.first ∷ walk_over b l.first (numbers_in l.fn.rest);
 }
 
 abbrev pub decreases-loop-number : goal.decreases-loop-number

@@ -3,8 +3,8 @@ use Rattle.s66_isa.specs.Lists.{has}
 use Rattle.s66_model.specs.Timing.{Problem, row_at}
 use Rattle.s66_dep.specs.Members.{numbers_in}
 use Rattle.s66_dep.proofs.Sets.{within}
-use Rattle.s66_bound.specs.InstructionCosts.{AreEntries}
+use Rattle.s66_bound.specs.InstructionCosts.{AreCosts}
 use Rattle.s66_bound.proofs.tables.long_numbers.Given as goal
 
 abbrev pub invariant-loop-place : goal.invariant-loop-place
-invariant-loop-place l = (b : Problem) → AreEntries b l.entries → (m : ℕ) → has m (numbers_in l.long) ≡ within (λ n. (row_at b n).parcels == 2) (l.place + 1) m
+invariant-loop-place l = (b : Problem) → AreCosts b l.entries → (m : ℕ) → has m (numbers_in l.long) ≡ within (λ n. (row_at b n).parcels == 2) (l.place + 1) m

@@ -2,11 +2,11 @@ use Rattle.std.proofs.Common.{ℕ, ◌≡◌, ◌-◌, ◌≤◌, length, get_or
 use Rattle.s66_isa.specs.declared.limits.TheConstants.{BLOCK_LIMIT}
 use Rattle.s66_model.specs.Timing.{Problem}
 use Rattle.s66_model.specs.Tails.{spare}
-use Rattle.s66_bound.specs.InstructionCosts.{AreEntries}
+use Rattle.s66_bound.specs.InstructionCosts.{AreCosts}
 use Rattle.s66_bound.proofs.tables.spares.Given as goal
 
 abbrev pub invariant-loop-place : goal.invariant-loop-place
 invariant-loop-place l = record {
   size : length l.spares ≡ BLOCK_LIMIT;
-  known : (b : Problem) → AreEntries b l.entries → (n : ℕ) → 1 ≤ n → n ≤ l.place → get_or l.spares (n - 1) 0 ≡ (spare b n);
+  known : (b : Problem) → AreCosts b l.entries → (n : ℕ) → 1 ≤ n → n ≤ l.place → get_or l.spares (n - 1) 0 ≡ (spare b n);
 }

@@ -4,8 +4,8 @@ use Rattle.s66_model.specs.Timing.{Problem, row_at}
 use Rattle.s66_model.specs.Leaves.{uses}
 use Rattle.s66_dep.specs.Members.{numbers_in}
 use Rattle.s66_dep.proofs.Sets.{within}
-use Rattle.s66_bound.specs.InstructionCosts.{AreEntries}
+use Rattle.s66_bound.specs.InstructionCosts.{AreCosts}
 use Rattle.s66_bound.proofs.tables.users_of.Given as goal
 
 abbrev pub invariant-loop-place : goal.invariant-loop-place
-invariant-loop-place l = (b : Problem) → AreEntries b l.entries → (m : ℕ) → has m (numbers_in l.users) ≡ within (λ n. uses (row_at b n) l.register) (l.place + 1) m
+invariant-loop-place l = (b : Problem) → AreCosts b l.entries → (m : ℕ) → has m (numbers_in l.users) ≡ within (λ n. uses (row_at b n) l.register) (l.place + 1) m

@@ -1,11 +1,11 @@
 use Rattle.std.proofs.Common.{◌≡◌, length}
 use Rattle.s66_model.specs.Timing.{Problem}
-use Rattle.s66_bound.specs.InstructionCosts.{AreEntries}
+use Rattle.s66_bound.specs.InstructionCosts.{AreCosts}
 use Rattle.s66_bound.proofs.WorkTables.{HasFirstWorks}
 use Rattle.s66_bound.proofs.tables.works_by_kind.Given as goal
 
 abbrev pub invariant-loop-place : goal.invariant-loop-place
 invariant-loop-place l = record {
   size : length l.works ≡ 7;
-  known : (b : Problem) → AreEntries b l.entries → HasFirstWorks b l.place l.works;
+  known : (b : Problem) → AreCosts b l.entries → HasFirstWorks b l.place l.works;
 }

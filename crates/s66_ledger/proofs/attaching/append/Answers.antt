@@ -2,7 +2,7 @@ use Rattle.std.proofs.Common.{◌+◌, ◌≡◌, ◌∙◌, ◌++◌, ◌∷◌
 use Rattle.std.proofs.lemmas.List.{length-take, take_all}
 use Rattle.std.specs.List.Sorted.{IsPermutation}
 use Rattle.s66_node.specs.Nodes.{named}
-use Rattle.s66_ledger.specs.Nodes.{node_at}
+use Rattle.s66_ledger.specs.Nodes.{stored_at}
 use Rattle.s66_ledger.specs.Grafting.{Grafts, IsGrafting}
 use Rattle.s66_ledger.proofs.LiveCounts.{counted-push, shut-in}
 use Rattle.s66_ledger.proofs.OpenHeap.{more-open, more-shut}
@@ -19,7 +19,7 @@ loop-i-preserved c =
     let below = c.args.below.now in
     let names = map named c.args.dominances.now in
     let l = c.loop-i in
-    let x = node_at below l.i in
+    let x = stored_at below l.i in
     let y = c.grafted-node.result in
     let new = c.push_reserved.new.self.items in
     let behind : c.len-first.result ≡ length made = omega (arith, c.len-first.ensures, ap length c.reserve-2.ensures.items) in

@@ -4,7 +4,7 @@ use Rattle.s66_model.specs.Later.{later, IsNextReady}
 use Rattle.s66_model.proofs.Later.{next-ready, replaced, dropped}
 use Rattle.s66_node.specs.Walked.{Walked}
 use Rattle.s66_ledger.specs.AnswerLines.{AreOneTree, StandsAt}
-use Rattle.s66_ledger.specs.Nodes.{no_node, node_at}
+use Rattle.s66_ledger.specs.Nodes.{no_stored, stored_at}
 use Rattle.s66_node.specs.declared.node.Node.{Node}
 use Rattle.s66_ledger.proofs.NodePrefixes.{get_or-any}
 use Rattle.s66_ledger.proofs.AnswerLines.{parent-split, up-stands, root-stands}
@@ -15,7 +15,7 @@ go_down-requires-clause-split c =
     let l = c.loop-node in
     let up = c.undo.new.self in
     let xs = c.args.nodes.now in
-    let n = (node_at xs l.node).number in
+    let n = (stored_at xs l.node).number in
     let problem : up.problem ≡ c.args.walk.now.problem = ap (λ (v : Walked). v.problem) c.undo.ensures ∙ l.invariant.problem in
     let (last, stands) = up-stands xs l.node c.up.result n l.walk.numbers up.numbers l.invariant.stands c.up.ensures.before c.up.ensures.prefix (ap (λ (v : Walked). v.numbers) c.undo.ensures) in
     parent-split up.problem xs (subst (λ (p : Problem). AreOneTree p xs) (sym problem) c.requires.tree) l.node n up.numbers (subst (StandsAt xs l.node) last l.invariant.stands)
@@ -29,11 +29,11 @@ returns-in-Some-clause-next c =
     let b = c.args.walk.now.problem in
     let up = c.undo.new.self in
     let xs = c.args.nodes.now in
-    let n = (node_at xs l.node).number in
+    let n = (stored_at xs l.node).number in
     let m : ℕ = c.in-Some.next in
     let problem : up.problem ≡ b = ap (λ (v : Walked). v.problem) c.undo.ensures ∙ l.invariant.problem in
     let (last, stands) = up-stands xs l.node c.up.result n l.walk.numbers up.numbers l.invariant.stands c.up.ensures.before c.up.ensures.prefix (ap (λ (v : Walked). v.numbers) c.undo.ensures) in
-    let next : IsNextReady b.block up.numbers n (Some m) = subst (λ (p : Problem). IsNextReady p.block up.numbers n (Some m)) problem (subst (λ k. IsNextReady up.problem.block up.numbers k (Some m)) (get_or-any xs l.node _ no_node (λ (x : Node). x.number) l.invariant.stands.within) c.in-Some.ensures) in
+    let next : IsNextReady b.block up.numbers n (Some m) = subst (λ (p : Problem). IsNextReady p.block up.numbers n (Some m)) problem (subst (λ k. IsNextReady up.problem.block up.numbers k (Some m)) (get_or-any xs l.node _ no_stored (λ (x : Node). x.number) l.invariant.stands.within) c.in-Some.ensures) in
     let is : c.go_down.new.walk.numbers ≡ up.numbers ++ m ∷ [] = ap (λ (v : Walked). v.numbers) c.go_down.ensures.walk in
     ap (λ (at : List ℕ). at ∷ later b.block [] at) is
     ∙ (replaced b.block up.numbers n m next
@@ -45,10 +45,10 @@ loop-node-preserved c =
     let b = c.args.walk.now.problem in
     let up = c.undo.new.self in
     let xs = c.args.nodes.now in
-    let n = (node_at xs l.node).number in
+    let n = (stored_at xs l.node).number in
     let problem : up.problem ≡ b = ap (λ (v : Walked). v.problem) c.undo.ensures ∙ l.invariant.problem in
     let (last, stands) = up-stands xs l.node c.up.result n l.walk.numbers up.numbers l.invariant.stands c.up.ensures.before c.up.ensures.prefix (ap (λ (v : Walked). v.numbers) c.undo.ensures) in
-    let next : IsNextReady b.block up.numbers n None = subst (λ (p : Problem). IsNextReady p.block up.numbers n None) problem (subst (λ k. IsNextReady up.problem.block up.numbers k None) (get_or-any xs l.node _ no_node (λ (x : Node). x.number) l.invariant.stands.within) c.in_default.ensures) in
+    let next : IsNextReady b.block up.numbers n None = subst (λ (p : Problem). IsNextReady p.block up.numbers n None) problem (subst (λ k. IsNextReady up.problem.block up.numbers k None) (get_or-any xs l.node _ no_stored (λ (x : Node). x.number) l.invariant.stands.within) c.in_default.ensures) in
     record {
       problem = problem;
       same = sym (dropped b.block up.numbers n next) ∙ (ap (λ (at : List ℕ). later b.block [] at) (sym last) ∙ l.invariant.same);

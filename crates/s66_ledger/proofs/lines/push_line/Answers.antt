@@ -6,7 +6,7 @@ use Rattle.s66_model.specs.Tree.{Vertex, AtSplit}
 use Rattle.s66_node.specs.declared.node.Node.{Node}
 use Rattle.s66_node.specs.Walked.{Walked}
 use Rattle.s66_ledger.specs.AnswerLines.{to_come}
-use Rattle.s66_ledger.specs.Nodes.{no_node}
+use Rattle.s66_ledger.specs.Nodes.{no_stored}
 use Rattle.s66_ledger.proofs.AnswerLines.{split-here, split-line, terminal-line, line-appended, one-longer}
 use Rattle.s66_ledger.proofs.NodePrefixes.{get_or-any}
 use Rattle.s66_ledger.proofs.lines.push_line.Goals as goal
@@ -16,7 +16,7 @@ go_below-requires-clause-split c =
     let w = c.args.walk.now in
     let stands = c.requires.stands in
     rw c.ready-numbers.ensures.same
-    (split-here w.problem c.args.nodes.now c.requires.tree c.args.node.now w.numbers stands (get_or-any c.args.nodes.now c.args.node.now no_node _ (λ (x : Node). x.state) stands.within ∙ c.in-Split.is))
+    (split-here w.problem c.args.nodes.now c.requires.tree c.args.node.now w.numbers stands (get_or-any c.args.nodes.now c.args.node.now no_stored _ (λ (x : Node). x.state) stands.within ∙ c.in-Split.is))
 
 split-pushed : (old new : List (Vertex Ending)) (said ns : List ℕ) → new ≡ old ++ AtSplit said ∷ [] → said ≡ ns → new ≡ old ++ AtSplit ns ∷ []
 split-pushed old new said ns pushed is = pushed ∙ ap (λ (numbers : List ℕ). old ++ AtSplit numbers ∷ []) is
@@ -34,12 +34,12 @@ returns-in-Split-clause-rest c =
     c.ready-numbers.ensures.same c.go_below.ensures.next
     in
     line-appended _ _ _ _ _ (split-pushed _ _ _ _ c.in_ok-push.ensures.pushed (c.as_slice.ensures.value ∙ c.numbers.ensures))
-    (split-line w.problem c.args.nodes.now c.requires.tree c.args.node.now w.numbers stands _ _ (get_or-any c.args.nodes.now c.args.node.now no_node _ (λ (x : Node). x.state) stands.within ∙ c.in-Split.is) c.ready-numbers.ensures.ready next)
+    (split-line w.problem c.args.nodes.now c.requires.tree c.args.node.now w.numbers stands _ _ (get_or-any c.args.nodes.now c.args.node.now no_stored _ (λ (x : Node). x.state) stands.within ∙ c.in-Split.is) c.ready-numbers.ensures.ready next)
 
 pub push_terminal-requires-clause-unsplit : goal.push_terminal-requires-clause-unsplit
 push_terminal-requires-clause-unsplit c split =
     let stands = c.requires.stands in
-    c.in_default.not-Split (get_or-any c.args.nodes.now c.args.node.now _ no_node (λ (x : Node). x.state) stands.within ∙ split)
+    c.in_default.not-Split (get_or-any c.args.nodes.now c.args.node.now _ no_stored (λ (x : Node). x.state) stands.within ∙ split)
 
 pub returns-clause-one : goal.returns-clause-one
 returns-clause-one c = one-longer _ _ _ c.in_ok-push_terminal.ensures
@@ -50,4 +50,4 @@ returns-clause-rest c =
     let stands = c.requires.stands in
     line-appended _ _ _ _ _ c.in_ok-push_terminal.ensures
     (terminal-line w.problem c.args.nodes.now c.requires.tree c.args.node.now w.numbers stands _
-    (λ split. c.in_default.not-Split (get_or-any c.args.nodes.now c.args.node.now _ no_node (λ (x : Node). x.state) stands.within ∙ split)) c.go_on.ensures.next)
+    (λ split. c.in_default.not-Split (get_or-any c.args.nodes.now c.args.node.now _ no_stored (λ (x : Node). x.state) stands.within ∙ split)) c.go_on.ensures.next)

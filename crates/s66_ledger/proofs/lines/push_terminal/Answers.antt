@@ -3,7 +3,7 @@ use Rattle.std.proofs.lemmas.Result.{on_ok_weaker}
 use Rattle.s66_model.specs.DominatedLeaves.{Ending, Bounding, Dominated}
 use Rattle.s66_model.specs.Tree.{Vertex, AtTerminal}
 use Rattle.s66_node.specs.declared.node.Node.{Node}
-use Rattle.s66_ledger.specs.Nodes.{no_node}
+use Rattle.s66_ledger.specs.Nodes.{no_stored}
 use Rattle.s66_ledger.proofs.AnswerLines.{floor-here, name-here, name-short}
 use Rattle.s66_ledger.proofs.NodePrefixes.{get_or-any}
 use Rattle.s66_ledger.proofs.lines.push_terminal.Goals as goal
@@ -21,7 +21,7 @@ returns-in-Dominated c =
     let w = c.args.walk.now in
     let xs = c.args.nodes.now in
     let stands = c.requires.stands in
-    let is = get_or-any xs c.args.node no_node _ (λ (x : Node). x.state) stands.within ∙ c.in-Dominated.is in
+    let is = get_or-any xs c.args.node no_stored _ (λ (x : Node). x.state) stands.within ∙ c.in-Dominated.is in
     on_ok_weaker c.push.result
     (ending-pushed c.args.tree.now c.push.new.self (Dominated c.as_slice.result.now) _ (ap Dominated (c.as_slice.ensures.value ∙ c.name_of-name.ensures) ∙ sym (name-here w.problem xs c.requires.tree c.args.node w.numbers stands is)))
     c.push.ensures.pushed
@@ -34,5 +34,5 @@ returns c =
     on_ok_weaker c.push_leaf.result
     (ending-pushed c.args.tree.now c.push_leaf.new.tree _ _
     (ap Bounding c.floor_of_value.ensures.leaf
-    ∙ sym (floor-here w.problem xs c.requires.tree c.args.node w.numbers stands (λ dominated. c.in_default.not-Dominated (get_or-any xs c.args.node _ no_node (λ (x : Node). x.state) stands.within ∙ dominated)))))
+    ∙ sym (floor-here w.problem xs c.requires.tree c.args.node w.numbers stands (λ dominated. c.in_default.not-Dominated (get_or-any xs c.args.node _ no_stored (λ (x : Node). x.state) stands.within ∙ dominated)))))
     c.push_leaf.ensures

@@ -1,5 +1,5 @@
 use Rattle.std.proofs.Common.{◌≡◌, ◌-◌, [], arith, get_or}
-use Rattle.s66_ledger.specs.Nodes.{prefixes, no_node}
+use Rattle.s66_ledger.specs.Nodes.{prefixes, no_stored}
 use Rattle.s66_ledger.proofs.NodePrefixes.{prefix-last}
 use Rattle.s66_ledger.proofs.ParentPaths.{turn-none, turn-not, turn-last}
 use Rattle.s66_ledger.proofs.path.is_over.Goals as goal
@@ -7,7 +7,7 @@ use Rattle.s66_ledger.proofs.path.is_over.Goals as goal
 pub returns-then-rest-eq0 : goal.returns-then-rest-eq0
 returns-then-rest-eq0 c =
     let l = c.loop-i in
-    let (above, is) = prefix-last c.args.nodes.now l.i no_node c.loop-i-test.true l.invariant.within in
+    let (above, is) = prefix-last c.args.nodes.now l.i no_stored c.loop-i-test.true l.invariant.within in
     turn-none (get_or (prefixes c.args.nodes.now) l.i []) above c.args.prefix.now _ l.rest (get_or (prefixes c.args.nodes.now) c.args.node [] ≡ c.args.prefix.now) l.invariant.so is c.if-rest-eq0.true
 
 pub returns-then-nodes-i : goal.returns-then-nodes-i

@@ -1,15 +1,15 @@
 use Rattle.std.proofs.Common.{ℕ, List, ◌≡◌, ◌∷◌, ◌++◌, ◌∙◌, [], ap, sym, arith, get_or, length, length-append, reverse, drop}
 use Rattle.std.proofs.lemmas.List.{length-reverse, take-append-le, take_all}
 use Rattle.std.specs.List.{refill}
-use Rattle.s66_ledger.specs.Nodes.{prefixes, no_node}
+use Rattle.s66_ledger.specs.Nodes.{prefixes, no_stored}
 use Rattle.s66_ledger.proofs.NodePrefixes.{prefix-last, prefix-none}
 use Rattle.s66_ledger.proofs.path.prefix_of.Goals as goal
 
 pub push-requires : goal.push-requires
 push-requires c =
     let l = c.loop-i in
-    let (above, is) = prefix-last c.args.nodes.now l.i no_node c.loop-i-test.true l.invariant.within in
-    let number = (get_or c.args.nodes.now l.i no_node).number in
+    let (above, is) = prefix-last c.args.nodes.now l.i no_stored c.loop-i-test.true l.invariant.within in
+    let number = (get_or c.args.nodes.now l.i no_stored).number in
     (omega arith, omega (arith, c.requires.few, ap length l.invariant.so, length-append (get_or (prefixes c.args.nodes.now) l.i []) (reverse l.prefix.items), length-reverse l.prefix.items, ap length is, length-append above (number ∷ [])))
 
 refill-whole : (xs ws : List ℕ) → length ws ≡ length xs → refill (length xs) xs ws ≡ ws

@@ -15,7 +15,7 @@ use Rattle.s66_node.specs.declared.grow.OpenSplit.{OpenSplit}
 use Rattle.s66_node.specs.declared.grow.Unsplit.{Unsplit}
 use Rattle.s66_node.specs.declared.node.Node.{Node}
 use Rattle.s66_node.specs.declared.node.State.TheVariants as state
-use Rattle.s66_node.specs.Nodes.{named, prefixes_over, lines_at}
+use Rattle.s66_node.specs.Nodes.{named, prefixes_over, node_lines}
 use Rattle.s66_node.specs.Walking.{span, IsLeast, IsDue, IsFound, IsOpen, terminal_by}
 use Rattle.s66_node.proofs.Frontiers.{spent-terminal}
 use Rattle.s66_node.proofs.Growing.{front-push}
@@ -91,8 +91,8 @@ push-requires-in-Some-pop_first g c =
     let b = c.args.walk.now.problem in
     let root = c.args.walk.now.numbers in
     let lf = c.loop-frame in
-    let few = next-few c.args.rule b (span (g.L.Least.kept c.args.incumbent.now) 0) c.args.allowance root lf.walk.numbers lf.frames.items c.pop.new.self.items c.in-Some-pop.frame (lines_at b (map named lf.dominances.items) (prefixes_over root lf.nodes.items) lf.nodes.items) (prefixes_over root lf.nodes.items) lf.splits lf.least (g.N.Naming.names lf.names) (lf.invariant.walk 0 (omega arith)) c.in-Some-pop.ensures.items c.in-Some-pop_first.n (numbers_in c.pop_first.new.self) c.in-Some-pop_first.ensures.some in
-    let room = next-room c.args.rule b (span (g.L.Least.kept c.args.incumbent.now) 0) c.args.allowance root lf.walk.numbers lf.frames.items c.pop.new.self.items c.in-Some-pop.frame (lines_at b (map named lf.dominances.items) (prefixes_over root lf.nodes.items) lf.nodes.items) (prefixes_over root lf.nodes.items) lf.splits lf.least (g.N.Naming.names lf.names) (lf.invariant.walk 0 (omega arith)) c.in-Some-pop.ensures.items in
+    let few = next-few c.args.rule b (span (g.L.Least.kept c.args.incumbent.now) 0) c.args.allowance root lf.walk.numbers lf.frames.items c.pop.new.self.items c.in-Some-pop.frame (node_lines b (map named lf.dominances.items) (prefixes_over root lf.nodes.items) lf.nodes.items) (prefixes_over root lf.nodes.items) lf.splits lf.least (g.N.Naming.names lf.names) (lf.invariant.walk 0 (omega arith)) c.in-Some-pop.ensures.items c.in-Some-pop_first.n (numbers_in c.pop_first.new.self) c.in-Some-pop_first.ensures.some in
+    let room = next-room c.args.rule b (span (g.L.Least.kept c.args.incumbent.now) 0) c.args.allowance root lf.walk.numbers lf.frames.items c.pop.new.self.items c.in-Some-pop.frame (node_lines b (map named lf.dominances.items) (prefixes_over root lf.nodes.items) lf.nodes.items) (prefixes_over root lf.nodes.items) lf.splits lf.least (g.N.Naming.names lf.names) (lf.invariant.walk 0 (omega arith)) c.in-Some-pop.ensures.items in
     (omega arith, omega (arith, few, room, c.numbers.ensures.few))
 
 pub push-requires-in-Some-pop_first-2 : goal.push-requires-in-Some-pop_first-2
@@ -101,7 +101,7 @@ push-requires-in-Some-pop_first-2 g c =
     let root = c.args.walk.now.numbers in
     let lf = c.loop-frame in
     subst (λ (p : Problem). is_ready p.block lf.walk.numbers c.in-Some-pop_first.n ≡ true) (sym lf.invariant.problem)
-    (next-ready c.args.rule b (span (g.L.Least.kept c.args.incumbent.now) 0) c.args.allowance root lf.walk.numbers lf.frames.items c.pop.new.self.items c.in-Some-pop.frame (lines_at b (map named lf.dominances.items) (prefixes_over root lf.nodes.items) lf.nodes.items) (prefixes_over root lf.nodes.items) lf.splits lf.least (g.N.Naming.names lf.names) (lf.invariant.walk 0 (omega arith)) c.in-Some-pop.ensures.items c.in-Some-pop_first.n (numbers_in c.pop_first.new.self) c.in-Some-pop_first.ensures.some)
+    (next-ready c.args.rule b (span (g.L.Least.kept c.args.incumbent.now) 0) c.args.allowance root lf.walk.numbers lf.frames.items c.pop.new.self.items c.in-Some-pop.frame (node_lines b (map named lf.dominances.items) (prefixes_over root lf.nodes.items) lf.nodes.items) (prefixes_over root lf.nodes.items) lf.splits lf.least (g.N.Naming.names lf.names) (lf.invariant.walk 0 (omega arith)) c.in-Some-pop.ensures.items c.in-Some-pop_first.n (numbers_in c.pop_first.new.self) c.in-Some-pop_first.ensures.some)
 
 pub overflow_cast-depth-in-Some-pop_first : goal.overflow_cast-depth-in-Some-pop_first
 overflow_cast-depth-in-Some-pop_first g c =
@@ -127,8 +127,8 @@ loop-frame-preserved-in-Some-child g c =
     let short : length c.numbers-in-Some-pop_first.result.now ≤ 255 =
     omega (arith, ap length c.numbers-in-Some-pop_first.ensures.value, beginning-few now.problem.block now.numbers c.numbers-in-Some-pop_first.ensures.begins, c.numbers-in-Some-pop_first.ensures.few) in
     let prefixes = prefixes_over root lf.nodes.items in
-    let within = frame-within c.args.rule b (span (g.L.Least.kept c.args.incumbent.now) 0) c.args.allowance root lf.walk.numbers lf.frames.items c.pop.new.self.items c.in-Some-pop.frame (lines_at b (map named lf.dominances.items) (prefixes_over root lf.nodes.items) lf.nodes.items) (prefixes_over root lf.nodes.items) lf.splits lf.least (g.N.Naming.names lf.names) (lf.invariant.walk 0 (omega arith)) c.in-Some-pop.ensures.items in
-    let over = frame-over c.args.rule b (span (g.L.Least.kept c.args.incumbent.now) 0) c.args.allowance root lf.walk.numbers lf.frames.items c.pop.new.self.items c.in-Some-pop.frame (lines_at b (map named lf.dominances.items) (prefixes_over root lf.nodes.items) lf.nodes.items) (prefixes_over root lf.nodes.items) lf.splits lf.least (g.N.Naming.names lf.names) (lf.invariant.walk 0 (omega arith)) c.in-Some-pop.ensures.items in
+    let within = frame-within c.args.rule b (span (g.L.Least.kept c.args.incumbent.now) 0) c.args.allowance root lf.walk.numbers lf.frames.items c.pop.new.self.items c.in-Some-pop.frame (node_lines b (map named lf.dominances.items) (prefixes_over root lf.nodes.items) lf.nodes.items) (prefixes_over root lf.nodes.items) lf.splits lf.least (g.N.Naming.names lf.names) (lf.invariant.walk 0 (omega arith)) c.in-Some-pop.ensures.items in
+    let over = frame-over c.args.rule b (span (g.L.Least.kept c.args.incumbent.now) 0) c.args.allowance root lf.walk.numbers lf.frames.items c.pop.new.self.items c.in-Some-pop.frame (node_lines b (map named lf.dominances.items) (prefixes_over root lf.nodes.items) lf.nodes.items) (prefixes_over root lf.nodes.items) lf.splits lf.least (g.N.Naming.names lf.names) (lf.invariant.walk 0 (omega arith)) c.in-Some-pop.ensures.items in
     let high = g.L.Least.kept c.args.incumbent.now in
     let up : c.undo.new.self.numbers ≡ lf.walk.numbers = ap (λ (w : Walked). w.numbers) c.undo.ensures ∙ (ap front next ∙ front-push lf.walk.numbers n) in
     let u = c.in-Some-child.unsplit in
@@ -166,7 +166,7 @@ loop-frame-preserved-in-Some-child g c =
           subst (λ at. IsLeast b (orders ++ whole_at at (terminal_by b at u)) c.keep_whole-in-Some-child.new.least) next
           (subst (λ (p : Problem). IsLeast p orders lf.least → IsLeast p (orders ++ whole_at now.numbers (terminal_by p now.numbers u)) c.keep_whole-in-Some-child.new.least) own
           (c.keep_whole-in-Some-child.ensures c.args.rule (span lf.best c.unsplit_child.new.best) known orders found_now) h) in
-          walk-terminal c.args.rule b (span (g.L.Least.kept c.args.incumbent.now) low) c.args.allowance root lf.walk.numbers lf.frames.items c.pop.new.self.items c.in-Some-pop.frame (lines_at b (map named lf.dominances.items) (prefixes_over root lf.nodes.items) lf.nodes.items) (prefixes_over root lf.nodes.items) lf.splits lf.least (g.N.Naming.names lf.names) (lf.invariant.walk low old_le) c.in-Some-pop.ensures.items
+          walk-terminal c.args.rule b (span (g.L.Least.kept c.args.incumbent.now) low) c.args.allowance root lf.walk.numbers lf.frames.items c.pop.new.self.items c.in-Some-pop.frame (node_lines b (map named lf.dominances.items) (prefixes_over root lf.nodes.items) lf.nodes.items) (prefixes_over root lf.nodes.items) lf.splits lf.least (g.N.Naming.names lf.names) (lf.invariant.walk low old_le) c.in-Some-pop.ensures.items
           n frame c.in-Some-pop_first.ensures.some refl c.push-in-Some-pop_first.new.self.items _ _ c.keep_whole-in-Some-child.new.least (g.N.Naming.names c.keep_terminal-in-Some-child.new.self) (terminal_by b child u) c.undo.new.self.numbers
           (λ by. c.keep_terminal-in-Some-child.ensures.known by ∙ c.unsplit_child.ensures.same) here.knows c.push-in-Some-pop_first.ensures.items up here.left
           pushed.lines
@@ -182,7 +182,7 @@ push-requires-in-None-2 g c =
     let now = c.push-in-Some-pop_first-2.new.self in
     let own : now.problem ≡ b = ap (λ (w : Walked). w.problem) c.push-in-Some-pop_first-2.ensures ∙ lf.invariant.problem in
     let next : now.numbers ≡ lf.walk.numbers ++ c.in-Some-pop_first.n ∷ [] = ap (λ (w : Walked). w.numbers) c.push-in-Some-pop_first-2.ensures in
-    let room = next-room c.args.rule b (span (g.L.Least.kept c.args.incumbent.now) 0) c.args.allowance root lf.walk.numbers lf.frames.items c.pop.new.self.items c.in-Some-pop.frame (lines_at b (map named lf.dominances.items) (prefixes_over root lf.nodes.items) lf.nodes.items) (prefixes_over root lf.nodes.items) lf.splits lf.least (g.N.Naming.names lf.names) (lf.invariant.walk 0 (omega arith)) c.in-Some-pop.ensures.items in
+    let room = next-room c.args.rule b (span (g.L.Least.kept c.args.incumbent.now) 0) c.args.allowance root lf.walk.numbers lf.frames.items c.pop.new.self.items c.in-Some-pop.frame (node_lines b (map named lf.dominances.items) (prefixes_over root lf.nodes.items) lf.nodes.items) (prefixes_over root lf.nodes.items) lf.splits lf.least (g.N.Naming.names lf.names) (lf.invariant.walk 0 (omega arith)) c.in-Some-pop.ensures.items in
     let here : IsDue now.problem c.unsplit_child.new.best now.numbers = subst (λ (o : Option Unsplit). IfNone o (IsDue now.problem c.unsplit_child.new.best now.numbers)) c.in-None.is c.in_ok-child.ensures.due in
     let due : IsDue b c.unsplit_child.new.best now.numbers = subst (λ (p : Problem). IsDue p c.unsplit_child.new.best now.numbers) own here in
     let frame : OpenSplit = record { node = c.in-Some-pop.frame.node; left = c.pop_first.new.self } in
@@ -211,8 +211,8 @@ loop-frame-preserved-in-None g c =
     let short : length c.numbers-in-Some-pop_first.result.now ≤ 255 =
     omega (arith, ap length c.numbers-in-Some-pop_first.ensures.value, beginning-few now.problem.block now.numbers c.numbers-in-Some-pop_first.ensures.begins, c.numbers-in-Some-pop_first.ensures.few) in
     let prefixes = prefixes_over root lf.nodes.items in
-    let within = frame-within c.args.rule b (span (g.L.Least.kept c.args.incumbent.now) 0) c.args.allowance root lf.walk.numbers lf.frames.items c.pop.new.self.items c.in-Some-pop.frame (lines_at b (map named lf.dominances.items) (prefixes_over root lf.nodes.items) lf.nodes.items) (prefixes_over root lf.nodes.items) lf.splits lf.least (g.N.Naming.names lf.names) (lf.invariant.walk 0 (omega arith)) c.in-Some-pop.ensures.items in
-    let over = frame-over c.args.rule b (span (g.L.Least.kept c.args.incumbent.now) 0) c.args.allowance root lf.walk.numbers lf.frames.items c.pop.new.self.items c.in-Some-pop.frame (lines_at b (map named lf.dominances.items) (prefixes_over root lf.nodes.items) lf.nodes.items) (prefixes_over root lf.nodes.items) lf.splits lf.least (g.N.Naming.names lf.names) (lf.invariant.walk 0 (omega arith)) c.in-Some-pop.ensures.items in
+    let within = frame-within c.args.rule b (span (g.L.Least.kept c.args.incumbent.now) 0) c.args.allowance root lf.walk.numbers lf.frames.items c.pop.new.self.items c.in-Some-pop.frame (node_lines b (map named lf.dominances.items) (prefixes_over root lf.nodes.items) lf.nodes.items) (prefixes_over root lf.nodes.items) lf.splits lf.least (g.N.Naming.names lf.names) (lf.invariant.walk 0 (omega arith)) c.in-Some-pop.ensures.items in
+    let over = frame-over c.args.rule b (span (g.L.Least.kept c.args.incumbent.now) 0) c.args.allowance root lf.walk.numbers lf.frames.items c.pop.new.self.items c.in-Some-pop.frame (node_lines b (map named lf.dominances.items) (prefixes_over root lf.nodes.items) lf.nodes.items) (prefixes_over root lf.nodes.items) lf.splits lf.least (g.N.Naming.names lf.names) (lf.invariant.walk 0 (omega arith)) c.in-Some-pop.ensures.items in
     let high = g.L.Least.kept c.args.incumbent.now in
     let nodes = lf.nodes.items in
     let new = c.push-in-None.new.self.items in
@@ -239,7 +239,7 @@ loop-frame-preserved-in-None g c =
       walk = λ low le.
           let old_le : low ≤ lf.best = omega (arith, le, c.unsplit_child.ensures.falls) in
           rw c.ready-ready-in-None.ensures.same
-          (walk-split c.args.rule b (span (g.L.Least.kept c.args.incumbent.now) low) c.args.allowance root lf.walk.numbers lf.frames.items c.pop.new.self.items c.in-Some-pop.frame (lines_at b (map named lf.dominances.items) (prefixes_over root lf.nodes.items) lf.nodes.items) (prefixes_over root lf.nodes.items) lf.splits lf.least (g.N.Naming.names lf.names) (lf.invariant.walk low old_le) c.in-Some-pop.ensures.items
+          (walk-split c.args.rule b (span (g.L.Least.kept c.args.incumbent.now) low) c.args.allowance root lf.walk.numbers lf.frames.items c.pop.new.self.items c.in-Some-pop.frame (node_lines b (map named lf.dominances.items) (prefixes_over root lf.nodes.items) lf.nodes.items) (prefixes_over root lf.nodes.items) lf.splits lf.least (g.N.Naming.names lf.names) (lf.invariant.walk low old_le) c.in-Some-pop.ensures.items
           n frame c.in-Some-pop_first.ensures.some refl below c.push-in-None-2.new.self.items _ _ (g.N.Naming.names c.keep_split-in-None.new.self) now.numbers kept
           (c.push-in-None-2.ensures.items ∙ ap (λ fs. fs ++ below ∷ []) c.push-in-Some-pop_first.ensures.items) next due ready_is last
           pushed.lines
@@ -270,7 +270,7 @@ loop-frame-preserved-then-not-is_empty g c =
       lowest = lf.invariant.lowest;
       suits = lf.invariant.suits;
       nodes = lf.invariant.nodes;
-      walk = λ low le. walk-up c.args.rule b (span (g.L.Least.kept c.args.incumbent.now) low) c.args.allowance root lf.walk.numbers lf.frames.items c.pop.new.self.items c.in-Some-pop.frame (lines_at b (map named lf.dominances.items) (prefixes_over root lf.nodes.items) lf.nodes.items) (prefixes_over root lf.nodes.items) lf.splits lf.least (g.N.Naming.names lf.names) (lf.invariant.walk low le) c.in-Some-pop.ensures.items c.undo-then-not-is_empty.new.self.numbers c.in_default-pop_first.ensures.none (not-empty c.pop.new.self.items (sym c.is_empty.ensures ∙ c.if-not-is_empty.true)) up;
+      walk = λ low le. walk-up c.args.rule b (span (g.L.Least.kept c.args.incumbent.now) low) c.args.allowance root lf.walk.numbers lf.frames.items c.pop.new.self.items c.in-Some-pop.frame (node_lines b (map named lf.dominances.items) (prefixes_over root lf.nodes.items) lf.nodes.items) (prefixes_over root lf.nodes.items) lf.splits lf.least (g.N.Naming.names lf.names) (lf.invariant.walk low le) c.in-Some-pop.ensures.items c.undo-then-not-is_empty.new.self.numbers c.in_default-pop_first.ensures.none (not-empty c.pop.new.self.items (sym c.is_empty.ensures ∙ c.if-not-is_empty.true)) up;
     }
 
 pub loop-frame-preserved : goal.loop-frame-preserved
@@ -285,7 +285,7 @@ loop-frame-preserved g c =
       lowest = lf.invariant.lowest;
       suits = lf.invariant.suits;
       nodes = lf.invariant.nodes;
-      walk = λ low le. walk-last c.args.rule b (span (g.L.Least.kept c.args.incumbent.now) low) c.args.allowance root lf.walk.numbers lf.frames.items c.pop.new.self.items c.in-Some-pop.frame (lines_at b (map named lf.dominances.items) (prefixes_over root lf.nodes.items) lf.nodes.items) (prefixes_over root lf.nodes.items) lf.splits lf.least (g.N.Naming.names lf.names) (lf.invariant.walk low le) c.in-Some-pop.ensures.items c.in_default-pop_first.ensures.none (is-empty c.pop.new.self.items (sym c.is_empty.ensures ∙ c.if-not-is_empty.false));
+      walk = λ low le. walk-last c.args.rule b (span (g.L.Least.kept c.args.incumbent.now) low) c.args.allowance root lf.walk.numbers lf.frames.items c.pop.new.self.items c.in-Some-pop.frame (node_lines b (map named lf.dominances.items) (prefixes_over root lf.nodes.items) lf.nodes.items) (prefixes_over root lf.nodes.items) lf.splits lf.least (g.N.Naming.names lf.names) (lf.invariant.walk low le) c.in-Some-pop.ensures.items c.in_default-pop_first.ensures.none (is-empty c.pop.new.self.items (sym c.is_empty.ensures ∙ c.if-not-is_empty.false));
     }
 
 pub returns-clause-grown : goal.returns-clause-grown
@@ -296,5 +296,5 @@ returns-clause-grown g c =
     let low = g.L.Least.kept lf.incumbent in
     let walk = lf.invariant.walk low (omega (arith, lf.invariant.kept)) in
     let none : lf.frames.items ≡ [] = none-empty lf.frames.items (λ lt. true≢false (sym (c.in_default-pop.ensures.variant.1 lt))) in
-    let (tree, grows, lines, prefixes, splits, least, passed, names) = walk-done c.args.rule b (span (g.L.Least.kept c.args.incumbent.now) low) c.args.allowance root lf.walk.numbers lf.frames.items (lines_at b (map named lf.dominances.items) (prefixes_over root lf.nodes.items) lf.nodes.items) (prefixes_over root lf.nodes.items) lf.splits lf.least (g.N.Naming.names lf.names) none walk in
+    let (tree, grows, lines, prefixes, splits, least, passed, names) = walk-done c.args.rule b (span (g.L.Least.kept c.args.incumbent.now) low) c.args.allowance root lf.walk.numbers lf.frames.items (node_lines b (map named lf.dominances.items) (prefixes_over root lf.nodes.items) lf.nodes.items) (prefixes_over root lf.nodes.items) lf.splits lf.least (g.N.Naming.names lf.names) none walk in
     (tree, record { grows = grows; nodes = lf.invariant.nodes; prefixes = prefixes; lines = lines; splits = splits; least = least; within = walk.within; spent = λ among. walk.spent (subst (Among (AtTerminal Frontier)) lines among); passed = passed; names = names })

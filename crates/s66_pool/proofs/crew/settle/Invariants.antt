@@ -1,12 +1,12 @@
 use Rattle.std.proofs.Common.{◌≡◌, All, length}
-use Rattle.s66_pool.specs.Workers.{AreSameSeats, ArePlaced, locals_of, seats_of}
+use Rattle.s66_pool.specs.Workers.{AreSameSeats, VictimsMatchLanes, locals_of, seats_of}
 use Rattle.s66_pool.proofs.crew.settle.Given as goal
 
 abbrev pub invariant-loop-worker : goal.invariant-loop-worker
 invariant-loop-worker g l = record {
   count : length l.members ≡ length l.fn.members;
   seats : seats_of l.members ≡ seats_of l.fn.members;
-  placed : ArePlaced (locals_of l.members);
+  placed : VictimsMatchLanes (locals_of l.members);
 }
 
 abbrev pub invariant-loop-worker-2 : goal.invariant-loop-worker-2

@@ -2,7 +2,7 @@ use Rattle.std.proofs.Common.{◌∙◌, All, Vec, Global, length-set}
 use Rattle.std.proofs.lemmas.List.{take_at}
 use Rattle.std.proofs.lemmas.List.Elements.{All-same}
 use Rattle.s66_pool.specs.Victims.{VictimOf}
-use Rattle.s66_pool.specs.Workers.{IsPlaced}
+use Rattle.s66_pool.specs.Workers.{MatchesLane}
 use Rattle.s66_pool.proofs.Members.{ids-set, new-after}
 use Rattle.s66_pool.proofs.locals.victims_for.Goals as goal
 
@@ -17,5 +17,5 @@ loop-place-preserved c =
       lanes = length-set _ _ _ ∙ i.lanes;
       ids = ids-set _ _ _ _ c.deal.ensures.lane ∙ i.ids;
       new = new-after _ _ _ i.new;
-      placed = All-same (λ (v : Vec VictimOf Global). All (IsPlaced c.args.thieves.now) v.items) _ _ (take_at c.deal.new.victims _ _ (c.deal.ensures.count ∙ c.as_mut_slice.ensures.len)) c.deal.ensures.placed;
+      placed = All-same (λ (v : Vec VictimOf Global). All (MatchesLane c.args.thieves.now) v.items) _ _ (take_at c.deal.new.victims _ _ (c.deal.ensures.count ∙ c.as_mut_slice.ensures.len)) c.deal.ensures.placed;
     }

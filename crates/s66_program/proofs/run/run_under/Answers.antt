@@ -1,5 +1,5 @@
 use Rattle.std.proofs.Common.{refl, rules, subst, sym}
-use Rattle.s66_program.specs.Kept.{IsKept}
+use Rattle.s66_program.specs.Kept.{IsKeptInput}
 use Rattle.s66_program.proofs.KeptInput.{whole-output, whole-refusal}
 use Rattle.s66_program.proofs.RefusedInput.{refused-input}
 use Rattle.s66_program.proofs.run.run_under.Goals as goal
@@ -7,20 +7,20 @@ use Rattle.s66_program.proofs.run.run_under.Goals as goal
 pub returns-in_err-output : goal.returns-in_err-output
 returns-in_err-output g c =
     let (input, reads, kept) = c.in_ok-held.ensures.ok in
-    let seen = subst (IsKept _ input) (sym c.as_slice.ensures.value) kept in
+    let seen = subst (IsKeptInput _ input) (sym c.as_slice.ensures.value) kept in
     refused-input c.args.profile.now c.args.command _ _ _ input input c.in_err-output.field-0.0 c.from_residual-in_err-output.result
     reads refl (whole-refusal c.args.command _ input _ c.in_err-output.field-0.0 c.most_kept.ensures seen c.in_err-output.ensures.err) c.from_residual-in_err-output.ensures
 
 pub returns-in-Ok : goal.returns-in-Ok
 returns-in-Ok g c =
     let (input, reads, kept) = c.in_ok-held.ensures.ok in
-    let seen = subst (IsKept _ input) (sym c.as_slice.ensures.value) kept in
+    let seen = subst (IsKeptInput _ input) (sym c.as_slice.ensures.value) kept in
     let whole = whole-output c.args.profile.now c.args.command _ input _ _ _ c.most_kept.ensures seen c.in_ok-output.ensures.ok in
     (input, reads, (_, whole, search rules))
 
 pub returns : goal.returns
 returns g c =
     let (input, reads, kept) = c.in_ok-held.ensures.ok in
-    let seen = subst (IsKept _ input) (sym c.as_slice.ensures.value) kept in
+    let seen = subst (IsKeptInput _ input) (sym c.as_slice.ensures.value) kept in
     let whole = whole-output c.args.profile.now c.args.command _ input _ _ _ c.most_kept.ensures seen c.in_ok-output.ensures.ok in
     (input, reads, (_, _, whole, search rules))

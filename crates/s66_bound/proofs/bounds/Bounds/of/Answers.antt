@@ -1,16 +1,16 @@
 use Rattle.std.proofs.Common.{List, sym, subst}
 use Rattle.s66_model.specs.Timing.{Problem}
 use Rattle.s66_bound.specs.declared.entry.Entry.{Entry}
-use Rattle.s66_bound.specs.InstructionCosts.{AreEntries}
+use Rattle.s66_bound.specs.InstructionCosts.{AreCosts}
 use Rattle.s66_bound.specs.TableWords.{timed_by}
 use Rattle.s66_bound.proofs.bounds.Bounds.of.Goals as goal
 
 pub of-tables-requires-clause-known : goal.of-tables-requires-clause-known
 of-tables-requires-clause-known c =
     let b : Problem = timed_by c.args.block.now c.args.profile.now in
-    (b, subst (λ (es : List Entry). AreEntries b es) (sym c.as_slice.ensures.value) c.entries_of-entries.ensures)
+    (b, subst (λ (es : List Entry). AreCosts b es) (sym c.as_slice.ensures.value) c.entries_of-entries.ensures)
 
 pub invariant_of-result : goal.invariant_of-result
 invariant_of-result c =
     let b : Problem = timed_by c.args.block.now c.args.profile.now in
-    (c.entries_of-entries.ensures, c.of-tables.ensures b (subst (λ (es : List Entry). AreEntries b es) (sym c.as_slice.ensures.value) c.entries_of-entries.ensures))
+    (c.entries_of-entries.ensures, c.of-tables.ensures b (subst (λ (es : List Entry). AreCosts b es) (sym c.as_slice.ensures.value) c.entries_of-entries.ensures))

@@ -1,5 +1,5 @@
 use Rattle.std.proofs.Common.{◌≡◌, ◌<◌, [], length, drop}
-use Rattle.s66_model.specs.NodeNames.{node_at}
+use Rattle.s66_model.specs.NodeNames.{node_named}
 use Rattle.s66_cert.specs.DocumentParts.{tree_of_lines}
 use Rattle.s66_cert.specs.NodePlaces.{tree_at}
 use Rattle.s66_cert.proofs.indexed_tree.IndexedTree.node_at.Given as goal
@@ -8,5 +8,5 @@ use Rattle.s66_cert.proofs.indexed_tree.IndexedTree.node_at.Given as goal
 abbrev pub invariant-loop-number : goal.invariant-loop-number
 invariant-loop-number l = record {
   within : l.place < length l.self;
-  rest : node_at [] (tree_at l.self l.place) (drop l.number-index l.name) ≡ node_at [] (tree_of_lines l.self) l.name;
+  rest : node_named [] (tree_at l.self l.place) (drop l.number-index l.name) ≡ node_named [] (tree_of_lines l.self) l.name;
 }

@@ -1,8 +1,8 @@
 use Rattle.std.proofs.Common.{true≢false, ◌∙◌, ap, sym, subst}
 use Rattle.s66_model.specs.Ledger as model
 use Rattle.s66_node.specs.declared.node.State.TheVariants as state
-use Rattle.s66_ledger.specs.Nodes.{lines_of}
-use Rattle.s66_ledger.specs.LedgerMachine.{MachineOf, IsMove, IsKept, machine_of}
+use Rattle.s66_ledger.specs.Nodes.{made_lines}
+use Rattle.s66_ledger.specs.LedgerMachine.{MachineOf, IsMove, IsKeptMachine, machine_of}
 use Rattle.s66_ledger.proofs.Stored.{stored_of}
 use Rattle.s66_ledger.proofs.SeenNodes.{lines-state}
 use Rattle.s66_ledger.proofs.Events.{kept-back, event-back, event-not-out}
@@ -16,7 +16,7 @@ returns-then-not-is_out-clause-not_out c refused =
 pub invariant_of-self-2 : goal.invariant_of-self-2
 invariant_of-self-2 c =
     let m = stored_of c.self.inside in
-    subst (λ ns. IsKept (record m { nodes = ns })) (sym c.in-Ok.ensures.ok)
+    subst (λ ns. IsKeptMachine (record m { nodes = ns })) (sym c.in-Ok.ensures.ok)
     (kept-back m c.self.invariant c.args.self.now c.self.view_is c.args.w c.requires c.args.node (c.is_out.ensures.0 c.if-not-is_out.false))
 
 pub returns-clause-ok : goal.returns-clause-ok
@@ -28,4 +28,4 @@ returns-clause-ok c =
 pub returns-clause-lines : goal.returns-clause-lines
 returns-clause-lines c =
     let m = stored_of c.self.inside in
-    ap (lines_of m.problem) c.in-Ok.ensures.ok ∙ (lines-state m.problem m.nodes c.args.node state.Open ∙ ap (λ (l : MachineOf). l.lines) c.self.view_is)
+    ap (made_lines m.problem) c.in-Ok.ensures.ok ∙ (lines-state m.problem m.nodes c.args.node state.Open ∙ ap (λ (l : MachineOf). l.lines) c.self.view_is)

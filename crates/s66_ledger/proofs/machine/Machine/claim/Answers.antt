@@ -4,9 +4,9 @@ use Rattle.s66_model.specs.Leaves.{floor_value}
 use Rattle.s66_model.specs.Ledger as model
 use Rattle.s66_node.specs.declared.node.Node.{Node}
 use Rattle.s66_node.specs.declared.node.State.TheVariants as state
-use Rattle.s66_ledger.specs.Nodes.{prefixes, lines_of, no_node, node_at}
+use Rattle.s66_ledger.specs.Nodes.{prefixes, made_lines, no_stored, stored_at}
 use Rattle.s66_model.specs.Tickets.{TicketOf}
-use Rattle.s66_ledger.specs.LedgerMachine.{MachineOf, IsMove, IsKept, machine_of}
+use Rattle.s66_ledger.specs.LedgerMachine.{MachineOf, IsMove, IsKeptMachine, machine_of}
 use Rattle.s66_ledger.proofs.Stored.{stored_of}
 use Rattle.s66_ledger.proofs.NodePrefixes.{prefixes-set}
 use Rattle.s66_ledger.proofs.SeenNodes.{lines-state, at-nodes}
@@ -23,13 +23,13 @@ returns-in_default-clause-ok c =
 pub prefix_of-prefix-requires-clause-few : goal.prefix_of-prefix-requires-clause-few
 prefix_of-prefix-requires-clause-few c =
     let m = stored_of c.self.inside in
-    let same = ap prefixes c.in-Some.ensures.moved ∙ prefixes-set m.nodes c.in-Some.node (record (node_at m.nodes c.in-Some.node) { state = state.Out }) no_node refl refl in
+    let same = ap prefixes c.in-Some.ensures.moved ∙ prefixes-set m.nodes c.in-Some.node (record (stored_at m.nodes c.in-Some.node) { state = state.Out }) no_stored refl refl in
     omega (arith, ap (λ ats. length (get_or ats c.in-Some.node [])) same, kept-short m c.self.invariant c.in-Some.node c.in-Some.ensures.within, c.count.ensures.value, c.count.ensures.few)
 
 pub invariant_of-self-2 : goal.invariant_of-self-2
 invariant_of-self-2 c =
     let m = stored_of c.self.inside in
-    subst (λ ns. IsKept (record m { nodes = ns })) (sym c.in-Some.ensures.moved)
+    subst (λ ns. IsKeptMachine (record m { nodes = ns })) (sym c.in-Some.ensures.moved)
     (kept-claim m c.self.invariant c.args.self.now c.self.view_is c.args.w c.requires c.in-Some.node c.in-Some.ensures.within c.in-Some.ensures.was)
 
 pub returns-clause-ok : goal.returns-clause-ok
@@ -42,13 +42,13 @@ returns-clause-ok c =
 pub returns-clause-lines : goal.returns-clause-lines
 returns-clause-lines c =
     let m = stored_of c.self.inside in
-    ap (lines_of m.problem) c.in-Some.ensures.moved ∙ (lines-state m.problem m.nodes c.in-Some.node state.Out ∙ ap (λ (l : MachineOf). l.lines) c.self.view_is)
+    ap (made_lines m.problem) c.in-Some.ensures.moved ∙ (lines-state m.problem m.nodes c.in-Some.node state.Out ∙ ap (λ (l : MachineOf). l.lines) c.self.view_is)
 
 pub returns-clause-ticket : goal.returns-clause-ticket
 returns-clause-ticket c =
     let m = stored_of c.self.inside in
     let i = c.in-Some.node in
-    let same = ap prefixes c.in-Some.ensures.moved ∙ prefixes-set m.nodes i (record (node_at m.nodes i) { state = state.Out }) no_node refl refl in
+    let same = ap prefixes c.in-Some.ensures.moved ∙ prefixes-set m.nodes i (record (stored_at m.nodes i) { state = state.Out }) no_stored refl refl in
     let here : get_or (prefixes m.nodes) i [] ≡ (model.node_at c.args.self.now.state.nodes i).prefix =
     sym (ap (λ (n : model.Node). n.prefix) (at-nodes m.problem m.nodes i c.in-Some.ensures.within)) ∙ ap (λ (l : MachineOf). (model.node_at l.state.nodes i).prefix) c.self.view_is in
     subst (λ (t : TicketOf). t.prefix ≡ (model.node_at c.args.self.now.state.nodes t.node).prefix) (sym c.new.ensures)
@@ -58,7 +58,7 @@ pub returns-clause-least : goal.returns-clause-least
 returns-clause-least c =
     let m = stored_of c.self.inside in
     let i = c.in-Some.node in
-    let same = ap prefixes c.in-Some.ensures.moved ∙ prefixes-set m.nodes i (record (node_at m.nodes i) { state = state.Out }) no_node refl refl in
+    let same = ap prefixes c.in-Some.ensures.moved ∙ prefixes-set m.nodes i (record (stored_at m.nodes i) { state = state.Out }) no_stored refl refl in
     let prefix : c.new.result.prefix ≡ get_or (prefixes m.nodes) i [] = ap (λ (t : TicketOf). t.prefix) c.new.ensures ∙ (c.prefix_of-prefix.ensures ∙ ap (λ ats. get_or ats i []) same) in
     let few : length m.problem.block ≤ BLOCK_LIMIT = omega (arith, c.count.ensures.value, c.count.ensures.few) in
     subst (λ at. (j : ℕ) → model.is_open (model.node_at c.args.self.now.state.nodes j) ≡ true → floor_value c.args.self.now.problem at ≤ floor_value c.args.self.now.problem (model.node_at c.args.self.now.state.nodes j).prefix) (sym prefix)

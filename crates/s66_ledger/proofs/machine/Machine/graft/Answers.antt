@@ -1,5 +1,5 @@
 use Rattle.std.proofs.Common.{◌+◌, ◌-◌, ◌∙◌, true≢false, set, sym, arith, subst}
-use Rattle.s66_ledger.specs.LedgerMachine.{machine_of, IsKept}
+use Rattle.s66_ledger.specs.LedgerMachine.{machine_of, IsKeptMachine}
 use Rattle.s66_ledger.proofs.Stored.{stored_of}
 use Rattle.s66_ledger.specs.GraftMoves.{IsTakenMove}
 use Rattle.s66_ledger.proofs.NodePrefixes.{get_or-any}
@@ -50,7 +50,7 @@ invariant_of-self-2 c =
     let was = c.index.ensures ∙ get_or-any m.allowances (c.args.w - 1) c.index.result.now 0 (λ n. n) lt in
     let now = c.index_mut.ensures.value ∙ get_or-any m.allowances (c.args.w - 1) c.index_mut.result.now 0 (λ n. n) lt in
     let k = c.splits-splits.result in
-    subst (λ n. IsKept (record m { nodes = c.attach.new.self; allowances = set m.allowances (c.args.w - 1) (n - k); spent = m.spent + k })) (sym now)
+    subst (λ n. IsKeptMachine (record m { nodes = c.attach.new.self; allowances = set m.allowances (c.args.w - 1) (n - k); spent = m.spent + k })) (sym now)
     (kept-taken m c.self.invariant c.args.self.now c.self.view_is c.args.w c.requires c.args.node c.args.piece.now c.is_own-own.result c.is_own-own.ensures (c.is_out.ensures.0 c.if-not-is_out.false) c.if-not-own.false c.nodes-nodes.ensures.tree (omega (arith, c.count.ensures.value, c.count.ensures.few))
     c.attach.new.self k (c.is_over.ensures.0 c.if-not-is_over.false ∙ c.prefix.ensures.value) c.splits-splits.ensures (omega (arith, was, c.if-index-splits.false)) c.total-best.result c.total-best.ensures.value c.in-Ok.ensures.ok)
 

@@ -1,5 +1,5 @@
 use Rattle.std.proofs.Common.{◌+◌, ◌-◌, ◌∙◌, arith, sym, subst, set}
-use Rattle.s66_ledger.specs.LedgerMachine.{IsKept}
+use Rattle.s66_ledger.specs.LedgerMachine.{IsKeptMachine}
 use Rattle.s66_ledger.proofs.Stored.{stored_of}
 use Rattle.s66_ledger.proofs.NodePrefixes.{get_or-any}
 use Rattle.s66_ledger.proofs.Events.{kept-room, kept-grant, worker-place}
@@ -16,5 +16,5 @@ invariant_of-self c =
     let m = stored_of c.self.inside in
     let lt = worker-place m c.self.invariant c.args.self.now c.self.view_is c.args.w c.requires in
     let was = c.index_mut.ensures.value ∙ get_or-any m.allowances (c.args.w - 1) c.index_mut.result.now 0 (λ n. n) lt in
-    subst (λ n. IsKept (record m { left = m.left - c.min-share.result; allowances = set m.allowances (c.args.w - 1) (n + c.min-share.result) })) (sym was)
+    subst (λ n. IsKeptMachine (record m { left = m.left - c.min-share.result; allowances = set m.allowances (c.args.w - 1) (n + c.min-share.result) })) (sym was)
     (kept-grant m c.self.invariant c.args.self.now c.self.view_is c.args.w c.requires c.min-share.result (omega (arith, c.min-share.ensures)))

@@ -1,7 +1,7 @@
 use Rattle.std.proofs.Common.{◌∙◌, [], ap, sym, subst}
 use Rattle.s66_model.specs.Timing.{Problem}
 use Rattle.s66_model.specs.Ended.{ended_answer}
-use Rattle.s66_ledger.specs.LedgerMachine.{MachineOf, state_of}
+use Rattle.s66_ledger.specs.LedgerMachine.{MachineOf, ledger_from}
 use Rattle.s66_ledger.proofs.Stored.{stored_of}
 use Rattle.s66_ledger.specs.Answers.{IsKeptAnswer, ended_of}
 use Rattle.s66_ledger.proofs.Ends.{kept-answer}
@@ -16,6 +16,6 @@ invariant_of-result c =
 pub returns-clause-answer : goal.returns-clause-answer
 returns-clause-answer c =
     let m = stored_of c.self.inside in
-    ap (λ nodes. ended_answer m.best.problem (state_of m.best.problem nodes m.best.numbers 0 [] m.spent)) c.into_nodes.ensures
-    ∙ (ap (λ (p : Problem). ended_answer p (state_of p m.nodes m.best.numbers 0 [] m.spent)) c.self.invariant.own
+    ap (λ nodes. ended_answer m.best.problem (ledger_from m.best.problem nodes m.best.numbers 0 [] m.spent)) c.into_nodes.ensures
+    ∙ (ap (λ (p : Problem). ended_answer p (ledger_from p m.nodes m.best.numbers 0 [] m.spent)) c.self.invariant.own
     ∙ ap (λ (l : MachineOf). ended_answer l.problem l.state) c.self.view_is)

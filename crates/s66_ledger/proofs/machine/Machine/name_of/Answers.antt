@@ -8,7 +8,7 @@ use Rattle.s66_node.specs.declared.node.Node.{Node}
 use Rattle.s66_node.specs.declared.node.State.TheVariants as state
 use Rattle.s66_ledger.specs.LedgerMachine.{MachineOf}
 use Rattle.s66_ledger.proofs.Stored.{stored_of}
-use Rattle.s66_ledger.specs.Nodes.{name_at, node_at, nodes_of, prefixes, seen_state}
+use Rattle.s66_ledger.specs.Nodes.{name_at, stored_at, nodes_of, prefixes, seen_state}
 use Rattle.s66_ledger.proofs.Events.{name-short}
 use Rattle.s66_ledger.proofs.NodePrefixes.{get_or-past}
 use Rattle.s66_ledger.proofs.SeenNodes.{at-nodes, length-nodes, dominated-seen}
@@ -28,21 +28,21 @@ none-weaker P Q None f h = f h
 none-weaker P Q (Some x) f h = h
 
 module _ (b : Problem) (xs : List Node) (i : ℕ) (l : MachineOf) (is : nodes_of b xs ≡ l.state.nodes) where
-  seen : i < length xs → (model.node_at l.state.nodes i).state ≡ seen_state b (name_at xs i) (get_or (prefixes xs) i []) (node_at xs i).state
+  seen : i < length xs → (model.node_at l.state.nodes i).state ≡ seen_state b (name_at xs i) (get_or (prefixes xs) i []) (stored_at xs i).state
   seen lt = ap (λ (ns : List model.Node). (model.node_at ns i).state) (sym is) ∙ ap (λ (n : model.Node). n.state) (at-nodes b xs i lt)
 
-  named : (name : List ℕ) → i < length xs → (node_at xs i).state ≡ state.Dominated → name ≡ name_at xs i → (model.node_at l.state.nodes i).state ≡ Closed (Dominated name)
+  named : (name : List ℕ) → i < length xs → (stored_at xs i).state ≡ state.Dominated → name ≡ name_at xs i → (model.node_at l.state.nodes i).state ≡ Closed (Dominated name)
   named name lt dominated same =
       seen lt ∙ (ap (seen_state b (name_at xs i) (get_or (prefixes xs) i [])) dominated ∙ ap (λ ns. Closed (Dominated ns)) (sym same))
 
-  unnamed : (node_at xs i).state ≢ state.Dominated → (name : List ℕ) → (model.node_at l.state.nodes i).state ≢ Closed (Dominated name)
+  unnamed : (stored_at xs i).state ≢ state.Dominated → (name : List ℕ) → (model.node_at l.state.nodes i).state ≢ Closed (Dominated name)
   unnamed other name e =
       elim (cases_le (length xs) i) [
         | inl past ↦
             (let none : Cut ≡ Closed (Dominated name) =
             sym (ap (λ (n : model.Node). n.state) (get_or-past (nodes_of b xs) i model.no_node (omega (arith, past, length-nodes b xs)))) ∙ (ap (λ (ns : List model.Node). (model.node_at ns i).state) is ∙ e) in
             absurd cc)
-        | inr lt ↦ other (dominated-seen b (name_at xs i) (get_or (prefixes xs) i []) (node_at xs i).state name (sym (seen lt) ∙ e))
+        | inr lt ↦ other (dominated-seen b (name_at xs i) (get_or (prefixes xs) i []) (stored_at xs i).state name (sym (seen lt) ∙ e))
       ]
 
 pub returns-clause-some : goal.returns-clause-some

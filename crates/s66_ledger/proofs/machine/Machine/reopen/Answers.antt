@@ -1,6 +1,6 @@
 use Rattle.std.proofs.Common.{arith, true≢false, sym, subst, ◌∙◌}
 use Rattle.s66_model.specs.Ledger as model
-use Rattle.s66_ledger.specs.LedgerMachine.{MachineOf, IsMove, IsKept, machine_of}
+use Rattle.s66_ledger.specs.LedgerMachine.{MachineOf, IsMove, IsKeptMachine, machine_of}
 use Rattle.s66_ledger.proofs.Stored.{stored_of}
 use Rattle.s66_ledger.proofs.Events.{kept-back, event-back, not-out}
 use Rattle.s66_ledger.proofs.TakingBack.{reopened, stayed-in}
@@ -9,7 +9,7 @@ use Rattle.s66_ledger.proofs.machine.Machine.reopen.Goals as goal
 pub invariant_of-self : goal.invariant_of-self
 invariant_of-self c =
     let m = stored_of c.self.inside in
-    subst (λ ns. IsKept (record m { nodes = ns })) (sym c.in_ok-give_back.ensures.ok)
+    subst (λ ns. IsKeptMachine (record m { nodes = ns })) (sym c.in_ok-give_back.ensures.ok)
     (kept-back m c.self.invariant c.args.self.now c.self.view_is 1 (omega arith, c.requires) c.args.node (c.is_out.ensures.0 c.if-is_out.true))
 
 pub returns-in_ok-give_back-clause-ok : goal.returns-in_ok-give_back-clause-ok

@@ -1,5 +1,5 @@
 use Rattle.std.proofs.Common.{◌<◌, ◌≡◌, ◌+◌, ◌-◌, ◌∙◌, arith, length, ap, sym, subst, get_or, set}
-use Rattle.s66_ledger.specs.LedgerMachine.{MachineOf, IsKept}
+use Rattle.s66_ledger.specs.LedgerMachine.{MachineOf, IsKeptMachine}
 use Rattle.s66_ledger.proofs.Stored.{stored_of}
 use Rattle.s66_ledger.proofs.NodePrefixes.{get_or-any}
 use Rattle.s66_ledger.proofs.Events.{kept-room, kept-retire}
@@ -17,6 +17,6 @@ invariant_of-self c =
     let lt : c.args.at < length m.allowances = omega (arith, c.requires, ap (λ (l : MachineOf). l.workers) c.self.view_is) in
     let was = c.index.ensures ∙ get_or-any m.allowances c.args.at c.index.result.now 0 (λ n. n) lt in
     let at : c.args.at + 1 - 1 ≡ c.args.at = omega arith in
-    subst (λ n. IsKept (record m { left = m.left + n; allowances = set m.allowances c.args.at 0 })) (sym was)
-    (subst (λ i. IsKept (record m { left = m.left + get_or m.allowances i 0; allowances = set m.allowances i 0 })) at
+    subst (λ n. IsKeptMachine (record m { left = m.left + n; allowances = set m.allowances c.args.at 0 })) (sym was)
+    (subst (λ i. IsKeptMachine (record m { left = m.left + get_or m.allowances i 0; allowances = set m.allowances i 0 })) at
     (kept-retire m c.self.invariant c.args.self.now c.self.view_is (c.args.at + 1) (omega arith, omega (arith, c.requires))))

@@ -1,5 +1,5 @@
 use Rattle.std.proofs.Common.{◌≡◌}
-use Rattle.s66_ledger.specs.Finishing.{Leads, IsBetween, still_to_go}
+use Rattle.s66_ledger.specs.Finishing.{Leads, IsBetweenRounds, still_to_go}
 use Rattle.s66_ledger.proofs.machine.Machine.search.Given as goal
 
 abbrev pub invariant-loop-rounds : goal.invariant-loop-rounds
@@ -8,7 +8,7 @@ invariant-loop-rounds l =
       walk : l.walk.problem ≡ l.fn.walk.problem;
       marks : l.marks.problem ≡ l.fn.marks.problem;
       leads : Leads l.fn.self l.self;
-      between : IsBetween l.self.problem l.self.state;
+      between : IsBetweenRounds l.self.problem l.self.state;
     }
 
 abbrev pub decreases-loop-rounds : goal.decreases-loop-rounds

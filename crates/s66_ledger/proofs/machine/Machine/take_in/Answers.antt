@@ -6,7 +6,7 @@ use Rattle.s66_node.specs.Pieces.{tree_of, IsBestTimed}
 use Rattle.s66_ledger.specs.declared.reply.GraftError.{GraftError}
 use Rattle.s66_ledger.specs.GraftMoves.{IsTakenMove, IsRefusedMove}
 use Rattle.s66_ledger.specs.PieceSplits.{piece_splits}
-use Rattle.s66_ledger.specs.Finishing.{IsWithin}
+use Rattle.s66_ledger.specs.Finishing.{IsWithinRound}
 use Rattle.s66_ledger.proofs.Leading.{leads-on}
 use Rattle.s66_ledger.proofs.Rounds.{leads-graft, offer-within, graft-between, never-over}
 use Rattle.s66_ledger.proofs.TimedWholes.{least-timed}
@@ -27,7 +27,7 @@ returns-in-Ok-clause-between c =
     let mid = c.offer_best.new.self in
     let new = c.graft.new.self in
     let p = c.args.piece in
-    let within : IsWithin mid.problem mid.state c.args.ticket = offer-within old mid c.offer_best.ensures.offers c.args.ticket c.requires.within in
+    let within : IsWithinRound mid.problem mid.state c.args.ticket = offer-within old mid c.offer_best.ensures.offers c.args.ticket c.requires.within in
     let timed = subst (λ (b : Problem). IsBestTimed b p.prefix (tree_of p) p.timed) (sym c.offer_best.ensures.offers.leads.0) c.requires.timed in
     let each = least-timed mid.problem (best_time mid.problem mid.state) p.prefix (tree_of p) p.timed timed c.offer_best.ensures.at_most in
     graft-between mid new c.args.ticket p within each (subst (λ i. IsTakenMove mid 1 i p new) c.node.ensures c.in-Ok.ensures.ok)

@@ -3,10 +3,10 @@ use Rattle.std.proofs.lemmas.Result.{on_ok_weaker}
 use Rattle.std.proofs.lemmas.List.{length-map}
 use Rattle.s66_node.specs.declared.node.Node.{Node}
 use Rattle.s66_node.specs.declared.node.State.TheVariants as state
-use Rattle.s66_node.specs.Nodes.{is_open_state, Named, named}
-use Rattle.s66_ledger.specs.OpenNodes.{IsOut, AreOpenNodes}
+use Rattle.s66_node.specs.Nodes.{is_stored_open, Named, named}
+use Rattle.s66_ledger.specs.OpenNodes.{StoresOut, AreOpenNodes}
 use Rattle.s66_ledger.specs.LiveNodes.{AreCounted}
-use Rattle.s66_ledger.specs.Nodes.{no_node, node_at, with_state, is_out_state, HaveDepths}
+use Rattle.s66_ledger.specs.Nodes.{no_stored, stored_at, put_state, is_stored_out, HaveDepths}
 use Rattle.s66_ledger.specs.Grafting.{settled_state, IsGrafting, IsSplitUnder, IsAttachedAs, HaveNames}
 use Rattle.s66_ledger.proofs.Attached.{grafting-depths, attached-split, not-open, attached-alone}
 use Rattle.s66_ledger.proofs.Grafting.{below-names}
@@ -42,14 +42,14 @@ pub returns-then-is_open-clause-ok : goal.returns-then-is_open-clause-ok
 returns-then-is_open-clause-ok c =
     let p = c.args.piece.now in
     let first : p.nodes ≡ c.in-Some.first.now ∷ c.in-Some.below.now = sym c.nodes.ensures.value ∙ c.in-Some.ensures.cases.0 in
-    let moved : c.give_back.new.self ≡ with_state c.args.self.now c.args.root (settled_state c.args.best c.in-Some.first.now.value c.in-Some.first.now.state) = c.in_ok-give_back.ensures.ok ∙ ap (with_state c.args.self.now c.args.root) (sym (is-open c.settled_state.result (sym c.is_open.ensures ∙ c.if-is_open.true)) ∙ c.settled_state.ensures) in
+    let moved : c.give_back.new.self ≡ put_state c.args.self.now c.args.root (settled_state c.args.best c.in-Some.first.now.value c.in-Some.first.now.state) = c.in_ok-give_back.ensures.ok ∙ ap (put_state c.args.self.now c.args.root) (sym (is-open c.settled_state.result (sym c.is_open.ensures ∙ c.if-is_open.true)) ∙ c.settled_state.ensures) in
     attached-alone p c.nodes.ensures.tree c.in-Some.first.now c.in-Some.below.now first c.in_default-state.not-Split c.args.best c.args.root c.args.self.now _ c.requires.out c.requires.over moved c.requires.floors
 
 pub returns-clause-ok : goal.returns-clause-ok
 returns-clause-ok c =
     let p = c.args.piece.now in
     let first : p.nodes ≡ c.in-Some.first.now ∷ c.in-Some.below.now = sym c.nodes.ensures.value ∙ c.in-Some.ensures.cases.0 in
-    let moved : c.set_state.new.nodes.items ≡ with_state c.args.self.now c.args.root (settled_state c.args.best c.in-Some.first.now.value c.in-Some.first.now.state) = c.set_state.ensures ∙ (ap (λ (ns : List Node). with_state ns c.args.root state.Closed) c.self.view_is ∙ ap (with_state c.args.self.now c.args.root) (sym (not-open c.args.best c.in-Some.first.now.value c.in-Some.first.now.state c.in_default-state.not-Split (ap is_open_state (sym c.settled_state.ensures) ∙ (sym c.is_open.ensures ∙ c.if-is_open.false))))) in
+    let moved : c.set_state.new.nodes.items ≡ put_state c.args.self.now c.args.root (settled_state c.args.best c.in-Some.first.now.value c.in-Some.first.now.state) = c.set_state.ensures ∙ (ap (λ (ns : List Node). put_state ns c.args.root state.Closed) c.self.view_is ∙ ap (put_state c.args.self.now c.args.root) (sym (not-open c.args.best c.in-Some.first.now.value c.in-Some.first.now.state c.in_default-state.not-Split (ap is_stored_open (sym c.settled_state.ensures) ∙ (sym c.is_open.ensures ∙ c.if-is_open.false))))) in
     attached-alone p c.nodes.ensures.tree c.in-Some.first.now c.in-Some.below.now first c.in_default-state.not-Split c.args.best c.args.root c.args.self.now _ c.requires.out c.requires.over moved c.requires.floors
 
 pub invariant_of-self : goal.invariant_of-self
@@ -57,19 +57,19 @@ invariant_of-self c =
     let t = c.self.inside in
     let nodes = t.nodes.items in
     let i = c.args.root in
-    let out : IsOut nodes i = subst (λ ns. IsOut ns i) (sym c.self.view_is) c.requires.out in
+    let out : StoresOut nodes i = subst (λ ns. StoresOut ns i) (sym c.self.view_is) c.requires.out in
     let moved = c.set_state.ensures in (
       c.self.invariant.0,
       subst (λ ns. AreOpenNodes ns (heap_items t.open)) (sym moved) (still-shut nodes (heap_items t.open) c.self.invariant.1 i _ out.0 (out-shut nodes i out.1) refl refl),
       subst HaveDepths (sym moved) (depths-state nodes i state.Closed out.0 c.self.invariant.2),
       subst (λ ns. AreCounted ns (t.out - 1) t.deepest) (sym moved)
-          (counted-set nodes i (record (node_at nodes i) { state = state.Closed }) no_node t.out (t.out - 1) t.deepest out.0 c.self.invariant.3
-          (omega (arith, one (is_out_state (node_at nodes i).state) true (ap is_out_state out.1), some-out nodes i out, c.self.invariant.3.count))
+          (counted-set nodes i (record (stored_at nodes i) { state = state.Closed }) no_stored t.out (t.out - 1) t.deepest out.0 c.self.invariant.3
+          (omega (arith, one (is_stored_out (stored_at nodes i).state) true (ap is_stored_out out.1), some-out nodes i out, c.self.invariant.3.count))
           (λ live. absurd cc)),
     )
 
 pub overflow_sub-self : goal.overflow_sub-self
 overflow_sub-self c =
     let t = c.self.inside in
-    let out : IsOut t.nodes.items c.args.root = subst (λ ns. IsOut ns c.args.root) (sym c.self.view_is) c.requires.out in
+    let out : StoresOut t.nodes.items c.args.root = subst (λ ns. StoresOut ns c.args.root) (sym c.self.view_is) c.requires.out in
     omega (arith, some-out t.nodes.items c.args.root out, c.self.invariant.3.count)

@@ -1,8 +1,8 @@
 use Rattle.std.proofs.Common.{◌-◌, true, arith, ap, refl, sym, subst, heap_items, map}
 use Rattle.s66_node.specs.declared.node.State.TheVariants as state
 use Rattle.s66_node.specs.Nodes.{named}
-use Rattle.s66_ledger.specs.Nodes.{no_node, node_at, HaveDepths, is_out_state}
-use Rattle.s66_ledger.specs.OpenNodes.{AreOpenNodes, IsOut}
+use Rattle.s66_ledger.specs.Nodes.{no_stored, stored_at, HaveDepths, is_stored_out}
+use Rattle.s66_ledger.specs.OpenNodes.{AreOpenNodes, StoresOut}
 use Rattle.s66_ledger.specs.Grafting.{IsGrafting}
 use Rattle.s66_ledger.proofs.Grafting.{grafting-out}
 use Rattle.s66_ledger.specs.LiveNodes.{AreCounted}
@@ -21,7 +21,7 @@ invariant_of-self-2 c =
     let entries = heap_items c.append.new.heap in
     let grafting : IsGrafting c.args.best root names made below nodes = subst (λ xs. IsGrafting c.args.best root names xs below nodes) c.self.view_is c.in_ok-deepest.ensures.ok in
     let now = c.set_state.ensures in
-    let out : IsOut nodes root = grafting-out c.args.best root names made below nodes grafting root c.requires.out in
+    let out : StoresOut nodes root = grafting-out c.args.best root names made below nodes grafting root c.requires.out in
     let depths : HaveDepths nodes = c.requires.depths nodes grafting in
     let t = c.self.inside in
     let counted : AreCounted nodes t.out c.in_ok-deepest.deepest = c.in_ok-deepest.ensures.counted t.out c.self.invariant.3 in (
@@ -29,8 +29,8 @@ invariant_of-self-2 c =
       subst (λ ns. AreOpenNodes ns entries) (sym now) (still-shut nodes entries c.in_ok-deepest.ensures.open_nodes root _ out.0 (out-shut nodes root out.1) refl refl),
       subst HaveDepths (sym now) (depths-state nodes root state.Split out.0 depths),
       subst (λ ns. AreCounted ns (t.out - 1) c.in_ok-deepest.deepest) (sym now)
-          (counted-set nodes root (record (node_at nodes root) { state = state.Split }) no_node t.out (t.out - 1) c.in_ok-deepest.deepest out.0 counted
-          (omega (arith, one (is_out_state (node_at nodes root).state) true (ap is_out_state out.1), some-out nodes root out, counted.count))
+          (counted-set nodes root (record (stored_at nodes root) { state = state.Split }) no_stored t.out (t.out - 1) c.in_ok-deepest.deepest out.0 counted
+          (omega (arith, one (is_stored_out (stored_at nodes root).state) true (ap is_stored_out out.1), some-out nodes root out, counted.count))
           (λ live. absurd cc)),
     )
 
@@ -45,5 +45,5 @@ returns-clause-ok c =
 pub overflow_sub-self : goal.overflow_sub-self
 overflow_sub-self c =
     let t = c.self.inside in
-    let out : IsOut t.nodes.items c.args.root = subst (λ ns. IsOut ns c.args.root) (sym c.self.view_is) c.requires.out in
+    let out : StoresOut t.nodes.items c.args.root = subst (λ ns. StoresOut ns c.args.root) (sym c.self.view_is) c.requires.out in
     omega (arith, some-out t.nodes.items c.args.root out, c.self.invariant.3.count)

@@ -3,8 +3,8 @@ use Rattle.std.proofs.lemmas.List.Sorted.{first_le_from_greatest}
 use Rattle.std.specs.Ordering.{nat_cmp}
 use Rattle.s66_node.specs.declared.node.Node.{Node}
 use Rattle.s66_node.specs.declared.node.State.TheVariants as state
-use Rattle.s66_node.specs.Nodes.{is_live_state}
-use Rattle.s66_ledger.specs.Nodes.{no_node, node_at, is_open, is_out_state}
+use Rattle.s66_node.specs.Nodes.{is_stored_live}
+use Rattle.s66_ledger.specs.Nodes.{no_stored, stored_at, stores_open, is_stored_out}
 use Rattle.s66_ledger.specs.OpenNodes.{ranked}
 use Rattle.s66_ledger.proofs.Depths.{depths-set}
 use Rattle.s66_ledger.proofs.LiveCounts.{counted-set, room-out, one}
@@ -20,21 +20,21 @@ invariant_of-self-2 c =
     let y : Node = record { parent = node.parent; value = node.value; number = node.number; depth = node.depth; made = node.made; state = state.Out } in
     let within = taken-within t.nodes.items (heap_items t.open) c.self.invariant.1 (heap_items c.pop.new.self) c.in_ok-node.field-0-0 c.in_ok-node.node popped in
     let was = taken-open t.nodes.items (heap_items t.open) c.self.invariant.1 (heap_items c.pop.new.self) c.in_ok-node.field-0-0 c.in_ok-node.node popped in
-    let at : node ≡ node_at t.nodes.items c.in_ok-node.node = c.index_mut.ensures.value ∙ get_or-any t.nodes.items c.in_ok-node.node c.index_mut.result.now no_node (λ x. x) within in (
+    let at : node ≡ stored_at t.nodes.items c.in_ok-node.node = c.index_mut.ensures.value ∙ get_or-any t.nodes.items c.in_ok-node.node c.index_mut.result.now no_stored (λ x. x) within in (
       (c.in_ok-node.ensures.heap_order c.self.invariant.0).0,
       taken t.nodes.items (heap_items t.open) c.self.invariant.1 (heap_items c.pop.new.self) c.in_ok-node.field-0-0 c.in_ok-node.node popped _ refl
-          (ap (λ (x : Node). x.value) c.index_mut.ensures.value ∙ get_or-any t.nodes.items c.in_ok-node.node c.index_mut.result.now no_node (λ x. x.value) within),
+          (ap (λ (x : Node). x.value) c.index_mut.ensures.value ∙ get_or-any t.nodes.items c.in_ok-node.node c.index_mut.result.now no_stored (λ x. x.value) within),
       depths-set t.nodes.items c.in_ok-node.node y node within (ap (λ (x : Node). x.parent) c.index_mut.ensures.value) (ap (λ (x : Node). x.number) c.index_mut.ensures.value) (ap (λ (x : Node). x.depth) c.index_mut.ensures.value) c.self.invariant.2,
-      counted-set t.nodes.items c.in_ok-node.node y no_node t.out _ t.deepest within c.self.invariant.3
-          (omega (arith, one (is_out_state (node_at t.nodes.items c.in_ok-node.node).state) false (ap is_out_state was)))
-          (λ live. omega (arith, ap (λ (x : Node). x.depth) at, c.self.invariant.3.within c.in_ok-node.node (ap is_live_state was))),
+      counted-set t.nodes.items c.in_ok-node.node y no_stored t.out _ t.deepest within c.self.invariant.3
+          (omega (arith, one (is_stored_out (stored_at t.nodes.items c.in_ok-node.node).state) false (ap is_stored_out was)))
+          (λ live. omega (arith, ap (λ (x : Node). x.depth) at, c.self.invariant.3.within c.in_ok-node.node (ap is_stored_live was))),
     )
 
 pub returns-clause-least : goal.returns-clause-least
 returns-clause-least c =
     let t = c.self.inside in
     let popped = c.in_ok-node.ensures.permutation in
-    subst (λ ns. (j : ℕ) → is_open (node_at ns j) ≡ true → ranked (node_at ns c.in_ok-node.node).value ≤ ranked (node_at ns j).value) c.self.view_is
+    subst (λ ns. (j : ℕ) → stores_open (stored_at ns j) ≡ true → ranked (stored_at ns c.in_ok-node.node).value ≤ ranked (stored_at ns j).value) c.self.view_is
     (greatest-least t.nodes.items (heap_items t.open) (heap_items c.pop.new.self) c.in_ok-node.field-0-0 c.in_ok-node.node c.self.invariant.1 popped
     (first_le_from_greatest nat_cmp (c.in_ok-node.field-0-0, c.in_ok-node.node) (heap_items t.open) (c.in_ok-node.ensures.heap_order c.self.invariant.0).1))
 
@@ -45,4 +45,4 @@ prove-unreachable-requires c =
     let popped = c.in_ok-node.ensures.permutation in
     let within = taken-within t.nodes.items (heap_items t.open) c.self.invariant.1 (heap_items c.pop.new.self) c.in_ok-node.field-0-0 i popped in
     let was = taken-open t.nodes.items (heap_items t.open) c.self.invariant.1 (heap_items c.pop.new.self) c.in_ok-node.field-0-0 i popped in
-    omega (arith, room-out t.nodes.items i within (ap is_out_state was), c.self.invariant.3.count, c.len.ensures, c.if-prove.true)
+    omega (arith, room-out t.nodes.items i within (ap is_stored_out was), c.self.invariant.3.count, c.len.ensures, c.if-prove.true)

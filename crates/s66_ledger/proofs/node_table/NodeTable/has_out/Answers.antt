@@ -1,6 +1,6 @@
 use Rattle.std.proofs.Common.{ℕ, ◌∙◌, nat_eq, subst}
 use Rattle.std.proofs.lemmas.Bool.{not-false, eqb-true}
-use Rattle.s66_ledger.specs.OpenNodes.{IsOut}
+use Rattle.s66_ledger.specs.OpenNodes.{StoresOut}
 use Rattle.s66_ledger.proofs.LiveCounts.{none-out}
 use Rattle.s66_ledger.proofs.node_table.NodeTable.has_out.Goals as goal
 
@@ -8,4 +8,4 @@ pub returns : goal.returns
 returns c =
     let t = c.self.inside in
     λ none.
-    subst (λ ns. (i : ℕ) → ¬ IsOut ns i) c.self.view_is (none-out t.nodes.items (c.self.invariant.3.count ∙ eqb-true t.out 0 (not-false (nat_eq t.out 0) none)))
+    subst (λ ns. (i : ℕ) → ¬ StoresOut ns i) c.self.view_is (none-out t.nodes.items (c.self.invariant.3.count ∙ eqb-true t.out 0 (not-false (nat_eq t.out 0) none)))
