@@ -63,16 +63,17 @@ finishes old new reached (problem, budget, workers, (h, r), by) ended =
 -- THE ANSWER of a ledger that has ended
 
 module _ (m : Stored) (kept : IsKeptMachine m) (l : MachineOf) (view : machine_of m ≡ l) where
-  pub kept-answer : (low : ℕ) → IsEnded l.problem l.budget l.state → low ≡ bound_of l.problem l.state → IsKeptAnswer (ended_of m.rule m.best.problem m.budget m.nodes m.best.numbers m.spent) m.nodes low
+  pub kept-answer : (low : ℕ) → IsEnded l.problem l.budget l.state → low ≡ bound_of l.problem l.state → IsKeptAnswer (ended_of m.rule m.best.problem m.budget m.nodes m.best.numbers m.spent) m.nodes low m.source
   kept-answer low ended bound =
       let b = m.problem in
       let state = ledger_of m in
       let ends : IsEnded b m.budget state = subst (λ (l : MachineOf). IsEnded l.problem l.budget l.state) (sym view) ended in
       let table = reached-table m.rule b m.budget (length m.allowances) state kept.reached in
       let done = ended-finishes m.rule b m.budget (length m.allowances) state state [] kept.reached refl ends in
-      subst (λ (p : Problem). IsKeptAnswer (ended_of m.rule p m.budget m.nodes m.best.numbers m.spent) m.nodes low) (sym kept.own)
+      subst (λ (p : Problem). IsKeptAnswer (ended_of m.rule p m.budget m.nodes m.best.numbers m.spent) m.nodes low m.source) (sym kept.own)
       (record {
         answer = done.answer;
+        source = kept.source;
         bound = sym (bound ∙ ap (λ (l : MachineOf). bound_of l.problem l.state) (sym view));
         few = kept.few;
         table = record { root = table.root; children = table.children; others = table.others; splits = table.splits; best = table.best };

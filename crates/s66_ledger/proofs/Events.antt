@@ -11,6 +11,7 @@ use Rattle.s66_model.specs.Leaves.{floor_value}
 use Rattle.s66_model.specs.Ledger as model
 use Rattle.s66_model.specs.Ledger.{best_time, Event, Grant, Claim, Offer, Back, Retire, Reply, Granted, Claimed, NotOut, Lower, NotLower, OtherBlock, Returned, Retired, Moves, Step}
 use Rattle.s66_model.specs.Coverage.{Covers, NodesHold}
+use Rattle.s66_model.specs.Answer.{source_time}
 use Rattle.s66_model.specs.Reached.{IsReached}
 use Rattle.s66_model.specs.Recorded.{IsOfferOf}
 use Rattle.s66_model.proofs.Histories.{reached-step, reached-covers}
@@ -90,6 +91,7 @@ module _ (m : Stored) (h : IsKeptMachine m) where
       let new = ledger_from b nodes best.numbers left allowances spent in
       record {
         reached = subst (λ n. IsReached m.rule b m.budget n new) (sym same) (reached-step m.rule b m.budget (length m.allowances) (ledger_of m) new event reply h.reached step);
+        source = h.source;
         own = own;
         floors = floors;
         room = room;
@@ -216,12 +218,13 @@ module _ (m : Stored) (h : IsKeptMachine m) where
 
 -- THE OPENING
 
-pub kept-opening : (rule : Rule) (b : Problem) (budget workers : ℕ) (best : TimedOrder) (nodes : List Node) (root : Node) (allowances : List ℕ) → best ≡ record { problem = b; numbers = numbers b.block } → nodes ≡ root ∷ [] → root.state ≡ state.Open → root.value ≡ floor_value b [] → allowances ≡ replicate workers 0 → budget ≤ BUDGET_LIMIT → workers ≤ 255 →
-    IsKeptMachine (record { rule = rule; problem = b; budget = budget; nodes = nodes; best = best; left = budget; allowances = allowances; spent = 0 })
-kept-opening rule b budget workers best nodes root allowances is one open-root value all few at_most =
+pub kept-opening : (rule : Rule) (b : Problem) (budget workers source : ℕ) (best : TimedOrder) (nodes : List Node) (root : Node) (allowances : List ℕ) → source ≡ source_time b → best ≡ record { problem = b; numbers = numbers b.block } → nodes ≡ root ∷ [] → root.state ≡ state.Open → root.value ≡ floor_value b [] → allowances ≡ replicate workers 0 → budget ≤ BUDGET_LIMIT → workers ≤ 255 →
+    IsKeptMachine (record { rule = rule; problem = b; budget = budget; nodes = nodes; source = source; best = best; left = budget; allowances = allowances; spent = 0 })
+kept-opening rule b budget workers source best nodes root allowances timed is one open-root value all few at_most =
     rw (is, all, one)
     (record {
       reached = subst (λ n. IsReached rule b budget n (ledger_from b (root ∷ []) (numbers b.block) budget (replicate workers 0) 0)) (sym (length-replicate workers 0)) ([], ap (λ s. record { nodes = record { prefix = []; state = s } ∷ []; best = numbers b.block; left = budget; allowances = replicate workers 0; spent = 0 }) (ap (seen_state b [] []) open-root));
+      source = timed;
       own = refl;
       floors = first;
       room = omega arith;

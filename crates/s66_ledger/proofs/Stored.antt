@@ -10,6 +10,7 @@ stored_of m =
       problem = record { block = instrs_of m.block.now; profile = m.profile };
       budget = m.budget;
       nodes = m.table;
+      source = m.source;
       best = m.best;
       left = m.left;
       allowances = m.allowances.items;

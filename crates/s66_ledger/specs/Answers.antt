@@ -3,7 +3,7 @@ use Rattle.std.specs.Prelude.{ℕ, ◌≡◌, ◌≤◌, ◌<◌, ◌^◌, List,
 use Rattle.s66_isa.specs.Lists.{Among}
 use Rattle.s66_model.specs.declared.rule.Rule.{Rule}
 use Rattle.s66_model.specs.Timing.{Problem}
-use Rattle.s66_model.specs.Answer.{Answer, IsAnswer}
+use Rattle.s66_model.specs.Answer.{Answer, IsAnswer, source_time}
 use Rattle.s66_model.specs.LegalOrder.{IsBeginning}
 use Rattle.s66_model.specs.Ledger.{Ledger, Node}
 use Rattle.s66_model.specs.NodeTable.{IsTable}
@@ -29,9 +29,10 @@ answer_of a = ended_answer a.problem a.state
 abbrev pub ended_of : Rule → Problem → ℕ → List declared.Node → List ℕ → ℕ → AnswerOf
 ended_of rule b budget nodes best spent = record { rule = rule; problem = b; budget = budget; state = ledger_from b nodes best 0 [] spent }
 
-pub record IsKeptAnswer (a : AnswerOf) (nodes : List declared.Node) (low : ℕ) : Type 0 where
+pub record IsKeptAnswer (a : AnswerOf) (nodes : List declared.Node) (low first : ℕ) : Type 0 where
   pub answer : IsAnswer a.rule a.problem a.budget (answer_of a)
   pub bound : (answer_of a).bound ≡ low
+  pub source : first ≡ source_time a.problem
   pub few : a.budget ≤ BUDGET_LIMIT
   -- its nodes are those of one tree
   pub table : IsTable a.problem a.state

@@ -7,6 +7,7 @@ use Rattle.s66_model.specs.Tree.{Vertex, AtTerminal}
 use Rattle.s66_model.specs.Piece.{Terminal, Frontier}
 use Rattle.s66_model.specs.Ledger.{Ledger, Node, node_at, Event, Reply, Step}
 use Rattle.s66_model.specs.Reached.{IsReached}
+use Rattle.s66_model.specs.Answer.{source_time}
 use Rattle.s66_time.specs.TimedOrder.{TimedOrder}
 use Rattle.s66_node.specs.declared.node.Node as code
 use Rattle.s66_node.specs.declared.node.State.{State}
@@ -47,6 +48,8 @@ pub record Stored : Type 0 where
   pub problem : Problem
   pub budget : ℕ
   pub nodes : List code.Node
+  -- the total of the source order
+  pub source : ℕ
   pub best : TimedOrder
   pub left : ℕ
   pub allowances : List ℕ
@@ -62,6 +65,7 @@ machine_of m =
 pub record IsKeptMachine (m : Stored) : Type 0 where
   -- some history leads here from the opening
   pub reached : IsReached m.rule m.problem m.budget (length m.allowances) (ledger_of m)
+  pub source : m.source ≡ source_time m.problem
   pub own : m.best.problem ≡ m.problem
   pub floors : HaveFloors m.problem m.nodes
   -- each split makes a node of each of its children

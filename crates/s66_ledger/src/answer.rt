@@ -14,6 +14,7 @@ use std::marker::Model;
 #[derive(Drop)]
 pub struct Answer {
     pub(crate) rule: Rule,
+    pub(crate) source: u32,
     pub(crate) best: Timed,
     pub(crate) budget: u32,
     pub(crate) nodes: Vec<Node>,
@@ -28,14 +29,14 @@ impl Model for Answer {
 
     ghost view = { λ a. ended_of a.rule a.best.problem a.budget a.nodes.items a.best.numbers a.splits };
 
-    ghost invariant = { λ a. IsKeptAnswer (ended_of a.rule a.best.problem a.budget a.nodes.items a.best.numbers a.splits) a.nodes.items a.bound };
+    ghost invariant = { λ a. IsKeptAnswer (ended_of a.rule a.best.problem a.budget a.nodes.items a.best.numbers a.splits) a.nodes.items a.bound a.source };
 }
 
 impl Answer {
     ghost use Rattle.std.specs.Prelude.{◌≡◌, ◌≤◌, ◌↔◌, IsTrue, IfOk};
     ghost use Rattle.s66_line.specs.Block.{instrs_of};
     ghost use Rattle.s66_model.specs.Tree.{flat};
-    ghost use Rattle.s66_model.specs.Answer.{IsAnswer, IsBestAnswer};
+    ghost use Rattle.s66_model.specs.Answer.{IsAnswer, IsBestAnswer, source_time};
     ghost use Rattle.s66_model.specs.BestAndBound.{IsBound};
     ghost use Rattle.s66_ledger.specs.Answers.{answer_of};
     ghost use Rattle.s66_model.specs.declared.limits.TheConstants.{BUDGET_LIMIT};
@@ -60,6 +61,13 @@ impl Answer {
         ensures answer { IsAnswer self.now.rule self.now.problem self.now.budget (answer_of self.now) }
     {
         self.best.total()
+    }
+
+    /// The total of the source order, in minor cycles.
+    pub fn source(&self) -> u32
+        ensures { result ≡ source_time self.now.problem }
+    {
+        self.source
     }
 
     /// A lower bound of the totals of all legal orders, in minor cycles.

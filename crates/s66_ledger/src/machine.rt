@@ -21,6 +21,8 @@ pub(crate) struct Machine<'a> {
     profile: Profile,
     budget: u32,
     pub(crate) table: NodeTable,
+    /// The total of the source order, in minor cycles.
+    source: u32,
     best: Timed,
     left: u32,
     pub(crate) allowances: Vec<u32>,
@@ -33,9 +35,9 @@ impl<'a> Model for Machine<'a> {
 
     ghost Value = { MachineOf };
 
-    ghost view = { λ l. machine_of (record { rule = l.rule; problem = record { block = instrs_of l.block.now; profile = l.profile }; budget = l.budget; nodes = l.table; best = l.best; left = l.left; allowances = l.allowances.items; spent = l.spent }) };
+    ghost view = { λ l. machine_of (record { rule = l.rule; problem = record { block = instrs_of l.block.now; profile = l.profile }; budget = l.budget; nodes = l.table; source = l.source; best = l.best; left = l.left; allowances = l.allowances.items; spent = l.spent }) };
 
-    ghost invariant = { λ l. IsKeptMachine (record { rule = l.rule; problem = record { block = instrs_of l.block.now; profile = l.profile }; budget = l.budget; nodes = l.table; best = l.best; left = l.left; allowances = l.allowances.items; spent = l.spent }) };
+    ghost invariant = { λ l. IsKeptMachine (record { rule = l.rule; problem = record { block = instrs_of l.block.now; profile = l.profile }; budget = l.budget; nodes = l.table; source = l.source; best = l.best; left = l.left; allowances = l.allowances.items; spent = l.spent }) };
 }
 
 impl<'a> Machine<'a> {
@@ -93,6 +95,7 @@ impl<'a> Machine<'a> {
             profile,
             budget,
             table,
+            source: best.total(),
             best,
             left: budget,
             allowances,
@@ -428,12 +431,14 @@ impl<'a> Machine<'a> {
             rule,
             budget,
             table,
+            source,
             best,
             spent,
             ..
         } = self;
         Answer {
             rule,
+            source,
             best,
             budget,
             nodes: table.into_nodes(),

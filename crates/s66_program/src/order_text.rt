@@ -7,13 +7,11 @@ ghost use Rattle.s66_program.specs.PlacedAnswers.{AreAllPlaced, IsPlacedAnswer, 
 use crate::observer::Observer;
 use crate::outcome::{Output, Status};
 use arrayvec::ArrayVec;
-use s66_dep::Order;
 use s66_isa::Profile;
 use s66_line::Block;
 use s66_model::Options;
 use s66_pool::{Free, run};
 use s66_source::{Placed, Source, print_source};
-use s66_time::time_of;
 use std::alloc::AllocError;
 use std::sync::Wait;
 use std::thread::Threads;
@@ -29,14 +27,13 @@ fn search<R: AllocGlobal + Threads + Wait + Sync>(
     requires { IsSearchWithin options.workers options.nodes }
     ensures { IfOk result (λ found. IsPlacedAnswer options.rule profile.now options.nodes trace block.now found) }
 {
-    let source = time_of(block, profile, &Order::source(block)).total();
     let answer = run(rt, block, profile, options, &Free)?;
     let Ok(order) = ArrayVec::try_from(answer.order().numbers()) else {
         unreachable!()
     };
     Ok(Placed {
         order,
-        source,
+        source: answer.source(),
         time: answer.time(),
         bound: answer.bound(),
         splits: if trace { Some(answer.splits()) } else { None },

@@ -10,7 +10,7 @@ use Rattle.s66_ledger.proofs.machine.Machine.into_answer.Goals as goal
 pub invariant_of-result : goal.invariant_of-result
 invariant_of-result c =
     let m = stored_of c.self.inside in
-    subst (λ nodes. IsKeptAnswer (ended_of m.rule m.best.problem m.budget nodes m.best.numbers m.spent) nodes c.bound-bound.result) (sym c.into_nodes.ensures)
+    subst (λ nodes. IsKeptAnswer (ended_of m.rule m.best.problem m.budget nodes m.best.numbers m.spent) nodes c.bound-bound.result m.source) (sym c.into_nodes.ensures)
     (kept-answer m c.self.invariant c.args.self c.self.view_is c.bound-bound.result c.requires c.bound-bound.ensures.value)
 
 pub returns-clause-answer : goal.returns-clause-answer
