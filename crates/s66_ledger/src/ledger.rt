@@ -125,21 +125,21 @@ impl<'a> Ledger<'a> {
     pub fn block(&self) -> &'a Block<'a>
         ensures { instrs_of result.now ≡ self.now.problem.block }
     {
-        self.machine.block()
+        self.machine.block
     }
 
     /// The rule of dominated leaves.
     pub fn rule(&self) -> Rule
         ensures { result ≡ self.now.rule }
     {
-        self.machine.rule()
+        self.machine.rule
     }
 
     /// The profile.
     pub fn profile(&self) -> &Profile
         ensures { result.now ≡ self.now.problem.profile }
     {
-        self.machine.profile()
+        &self.machine.profile
     }
 
     /// The most splits of the search.
@@ -147,7 +147,7 @@ impl<'a> Ledger<'a> {
         ensures value { result ≡ self.now.budget }
         ensures few { result ≤ BUDGET_LIMIT }
     {
-        self.machine.budget()
+        self.machine.budget
     }
 
     /// How many workers there are.
@@ -189,7 +189,7 @@ impl<'a> Ledger<'a> {
         ensures within { result ≤ self.now.budget }
         ensures accounts { weigh (λ (a : Account). a.splits) (account_summary self.now).accounts ≡ self.now.state.spent }
     {
-        self.machine.splits()
+        self.machine.spent
     }
 
     /// How many nodes it has. They are numbered from 0, in the order in which they are made.

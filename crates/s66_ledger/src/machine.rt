@@ -16,17 +16,17 @@ use std::marker::Model;
 /// `Ledger` has too, is said there.
 #[derive(Drop)]
 pub(crate) struct Machine<'a> {
-    rule: Rule,
-    block: &'a Block<'a>,
-    profile: Profile,
-    budget: u32,
+    pub(crate) rule: Rule,
+    pub(crate) block: &'a Block<'a>,
+    pub(crate) profile: Profile,
+    pub(crate) budget: u32,
     pub(crate) table: NodeTable,
     /// The total of the source order, in minor cycles.
     source: u32,
     best: Timed,
     left: u32,
     pub(crate) allowances: Vec<u32>,
-    spent: u32,
+    pub(crate) spent: u32,
 }
 
 impl<'a> Model for Machine<'a> {
@@ -103,44 +103,6 @@ impl<'a> Machine<'a> {
         })
     }
 
-    /// The block.
-    pub fn block(&self) -> &'a Block<'a>
-        ensures { instrs_of result.now ≡ self.now.problem.block }
-    {
-        self.block
-    }
-
-    /// The rule of dominated leaves.
-    pub fn rule(&self) -> Rule
-        ensures { result ≡ self.now.rule }
-    {
-        self.rule
-    }
-
-    /// The profile.
-    pub fn profile(&self) -> &Profile
-        ensures { result.now ≡ self.now.problem.profile }
-    {
-        &self.profile
-    }
-
-    /// The most splits of the search.
-    pub fn budget(&self) -> u32
-        ensures value { result ≡ self.now.budget }
-        ensures few { result ≤ BUDGET_LIMIT }
-    {
-        self.budget
-    }
-
-    /// How many splits are spent.
-    pub fn splits(&self) -> u32
-        ensures value { result ≡ self.now.state.spent }
-        ensures within { result ≤ self.now.budget }
-    {
-        self.spent
-    }
-
-    /// How many nodes are open.
     pub fn open_nodes(&self) -> usize
         ensures { result ≡ tally is_open self.now.state.nodes }
     {
@@ -206,7 +168,6 @@ impl<'a> Machine<'a> {
         Some(Ticket::new(node, prefix))
     }
 
-    /// Takes a node back that was handed out, so that it is open again.
     pub fn back(&mut self, w: u8, node: u32) -> Result<(), BackError>
         requires { (1 ≤ w) × (w ≤ self.old.workers) }
         ensures ok { OnOk result (IsMove self.old (Back w node) Returned self.new) }
@@ -251,7 +212,6 @@ impl<'a> Machine<'a> {
         !self.table.may_reach(self.block.count())
     }
 
-    /// How many workers there are.
     pub fn workers(&self) -> u8
         ensures value { result ≡ self.now.workers }
         ensures allowances { result ≡ length self.now.state.allowances }
@@ -259,7 +219,6 @@ impl<'a> Machine<'a> {
         self.allowances.len() as u8
     }
 
-    /// How many nodes there are.
     pub(crate) fn node_count(&self) -> u32
         ensures value { result ≡ length self.now.state.nodes }
         ensures lines { result ≡ length self.now.lines }
@@ -301,7 +260,6 @@ impl<'a> Machine<'a> {
         }
     }
 
-    /// Makes an order the best if it is faster.
     pub fn offer(&mut self, w: u8, timed: Timed) -> Offered
         requires { (1 ≤ w) × (w ≤ self.old.workers) }
         ensures offered { (event : Event) × IsOfferOf self.old.problem w timed.problem timed.numbers event × IsMove self.old event (offered_reply result) self.new }

@@ -161,7 +161,7 @@ impl<'a> Machine<'a> {
             alloc,
             walk,
             marks,
-            self.rule(),
+            self.rule,
             prefix,
             best,
             self.allowances[0],

@@ -66,10 +66,10 @@ impl Machine<'_> {
         requires legal { IsLegal self.old.problem.block numbers.now }
         ensures { (event : Event) × IsOfferOf self.old.problem 1 self.old.problem numbers.now event × IsMove self.old event (offered_reply result) self.new }
     {
-        let Ok(order) = Order::new(self.block(), numbers) else {
+        let Ok(order) = Order::new(self.block, numbers) else {
             unreachable!()
         };
-        let timed = time_of(self.block(), self.profile(), &order);
+        let timed = time_of(self.block, &self.profile, &order);
         self.offer(1, timed)
     }
 }
