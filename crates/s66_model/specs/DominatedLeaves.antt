@@ -9,10 +9,17 @@ use Rattle.s66_model.specs.Tree.{Siblings, NoMore, Unsplit, Split, Tree, Alone, 
 use Rattle.s66_model.specs.Dominance.{Dominates, DominatesClamped}
 use Rattle.s66_model.specs.NodeNames.{node_named, is_node}
 
--- what a prefix has that isn't split: a leaf that bounds, or the name of a node that dominates the prefix
+-- what a prefix has that isn't split: a leaf that bounds, or the name of a node that dominates the prefix; or what only the fact lines of a
+-- document, or its lines, give a meaning
 pub data Ending : Type 0 where
   Bounding : Leaf → Ending
   Dominated : (name : List ℕ) → Ending
+  -- the number came too late if it came next
+  Next : (number : ℕ) → Ending
+  -- the second is placed and the first isn't, which stands before it
+  Turned : (first second : ℕ) → Ending
+  -- the node of this line of the document dominates the prefix
+  AtLine : (line : ℕ) → Ending
 
 -- WHICH NODES MAY BE NAMED
 
@@ -22,12 +29,15 @@ IsEarlier [] ms = ⊥
 IsEarlier (n ∷ ns) [] = ⊥
 IsEarlier (n ∷ ns) (m ∷ ms) = (n < m) ⊎ ((n ≡ m) × IsEarlier ns ms)
 
--- it is a node, and no dominated leaf
+-- it is a node, and no leaf that leans on another
 abbrev pub is_standing : Option (Vertex Ending) → Bool
 is_standing None = false
 is_standing (Some (AtSplit numbers)) = true
 is_standing (Some (AtTerminal (Bounding leaf))) = true
 is_standing (Some (AtTerminal (Dominated name))) = false
+is_standing (Some (AtTerminal (Next number))) = true
+is_standing (Some (AtTerminal (Turned first second))) = true
+is_standing (Some (AtTerminal (AtLine line))) = false
 
 -- what may be named if this is found
 abbrev pub may_be_named : Rule → Option (Vertex Ending) → Bool
@@ -45,11 +55,14 @@ DominatesByRule ClampedStanding b name at = IsIncomplete b.block at × Dominates
 abbrev pub MayBeDominated : Rule → Problem → List ℕ → Tree Ending → List ℕ → List ℕ → Type 0
 MayBeDominated rule b prefix tree at name = DominatesByRule rule b name at × (may_be_named rule (node_named prefix tree name) ≡ true)
 
--- WHAT A TREE SHOWS over a prefix: dominated leaves are passed over
+-- WHAT A TREE SHOWS over a prefix: dominated leaves are passed over, and without fact lines the later kinds show nothing
 
 abbrev pub EndingShows : Rule → Problem → ℕ → List ℕ → Tree Ending → List ℕ → Ending → Type 0
 EndingShows rule b low prefix tree at (Bounding leaf) = LeafShows b low at leaf
 EndingShows rule b low prefix tree at (Dominated name) = MayBeDominated rule b prefix tree at name
+EndingShows rule b low prefix tree at (Next number) = ⊥
+EndingShows rule b low prefix tree at (Turned first second) = ⊥
+EndingShows rule b low prefix tree at (AtLine line) = ⊥
 
 abbrev pub ShowsBy : Rule → Problem → ℕ → List ℕ → Tree Ending → Type 0
 ShowsBy rule b low prefix tree = TreeHolds b.block (EndingShows rule b low prefix tree) prefix tree
