@@ -16,6 +16,9 @@ marked-more (mark.Chain count) numbers more h = rw (take-append-le count numbers
 marked-more (mark.Load kind) numbers more h = refl
 marked-more mark.Parcels numbers more h = refl
 marked-more (mark.Dominated count) numbers more h = rw (take-append-le count numbers more h) refl
+marked-more (mark.Next number) numbers more h = refl
+marked-more (mark.Turned first second) numbers more h = refl
+marked-more (mark.AtLine line) numbers more h = refl
 
 -- a leaf is dominated if a mark is
 pub dominated_marks : (ms : List Mark) (numbers : List ℕ) → has_dominated_line (vertices_of ms numbers) ≡ some_of is_dominated ms
@@ -26,6 +29,9 @@ dominated_marks (mark.Chain count ∷ ms) numbers = dominated_marks ms (drop cou
 dominated_marks (mark.Load kind ∷ ms) numbers = dominated_marks ms (drop 0 numbers)
 dominated_marks (mark.Parcels ∷ ms) numbers = dominated_marks ms (drop 0 numbers)
 dominated_marks (mark.Dominated count ∷ ms) numbers = refl
+dominated_marks (mark.Next number ∷ ms) numbers = dominated_marks ms (drop 0 numbers)
+dominated_marks (mark.Turned first second ∷ ms) numbers = dominated_marks ms (drop 0 numbers)
+dominated_marks (mark.AtLine line ∷ ms) numbers = dominated_marks ms (drop 0 numbers)
 
 take-take : (n : ℕ) (xs : List ℕ) → take n (take n xs) ≡ take n xs
 take-take zero xs = refl
@@ -39,6 +45,9 @@ marked-taken (mark.Chain count) numbers = rw (take-take count numbers) refl
 marked-taken (mark.Load kind) numbers = refl
 marked-taken mark.Parcels numbers = refl
 marked-taken (mark.Dominated count) numbers = rw (take-take count numbers) refl
+marked-taken (mark.Next number) numbers = refl
+marked-taken (mark.Turned first second) numbers = refl
+marked-taken (mark.AtLine line) numbers = refl
 
 -- without the first line and its numbers
 pub counted-rest : (m : Mark) (ms : List Mark) (numbers : List ℕ) → HaveTheirNumbers (m ∷ ms) numbers → HaveTheirNumbers ms (drop (number_count m) numbers)

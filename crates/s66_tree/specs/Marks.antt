@@ -3,7 +3,7 @@ use Rattle.std.specs.Prelude.{◌≡◌, ◌+◌, ℕ, Bool, true, false, List, 
 use Rattle.s66_isa.specs.Lists.{weigh}
 use Rattle.s66_model.specs.Leaves.{Whole, Chain, Load, Parcels}
 use Rattle.s66_model.specs.Tree.{Vertex, AtTerminal, AtSplit}
-use Rattle.s66_model.specs.DominatedLeaves.{Ending, Bounding, Dominated}
+use Rattle.s66_model.specs.DominatedLeaves.{Ending, Bounding, Dominated, Next, Turned, AtLine}
 use Rattle.s66_tree.specs.declared.tree.Mark.{Mark}
 use Rattle.s66_tree.specs.declared.tree.Mark.TheVariants as mark
 
@@ -15,6 +15,9 @@ number_count (mark.Chain count) = count
 number_count (mark.Load kind) = 0
 number_count mark.Parcels = 0
 number_count (mark.Dominated count) = count
+number_count (mark.Next number) = 0
+number_count (mark.Turned first second) = 0
+number_count (mark.AtLine line) = 0
 
 abbrev pub is_dominated : Mark → Bool
 is_dominated (mark.Split count) = false
@@ -23,6 +26,9 @@ is_dominated (mark.Chain count) = false
 is_dominated (mark.Load kind) = false
 is_dominated mark.Parcels = false
 is_dominated (mark.Dominated count) = true
+is_dominated (mark.Next number) = false
+is_dominated (mark.Turned first second) = false
+is_dominated (mark.AtLine line) = false
 
 -- with its numbers, the first of these
 abbrev pub marked : Mark → List ℕ → Vertex Ending
@@ -32,6 +38,9 @@ marked (mark.Chain count) numbers = AtTerminal (Bounding (Chain (take count numb
 marked (mark.Load kind) numbers = AtTerminal (Bounding (Load kind))
 marked mark.Parcels numbers = AtTerminal (Bounding Parcels)
 marked (mark.Dominated count) numbers = AtTerminal (Dominated (take count numbers))
+marked (mark.Next number) numbers = AtTerminal (Next number)
+marked (mark.Turned first second) numbers = AtTerminal (Turned first second)
+marked (mark.AtLine line) numbers = AtTerminal (AtLine line)
 
 -- the numbers of the lines come one after the other
 abbrev pub vertices_of : List Mark → List ℕ → List (Vertex Ending)

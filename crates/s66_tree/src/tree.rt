@@ -22,6 +22,12 @@ pub enum TreeLine<'a> {
     Parcels,
     /// The node of this name dominates the prefix.
     Dominated(&'a [u8]),
+    /// The instruction of this number came too late if it came next.
+    Next(u8),
+    /// The second is placed and the first is not, which stands before it.
+    Turned(u8, u8),
+    /// The node of this line of the document, from 1, dominates the prefix.
+    AtLine(u32),
 }
 
 /// What a line of a tree says except its numbers, with how many it has.
@@ -33,6 +39,9 @@ pub(crate) enum Mark {
     Load(Kind),
     Parcels,
     Dominated(u8),
+    Next(u8),
+    Turned(u8, u8),
+    AtLine(u32),
 }
 
 impl Mark {
@@ -46,7 +55,7 @@ impl Mark {
     {
         match self {
             Mark::Split(count) | Mark::Chain(count) | Mark::Dominated(count) => count as usize,
-            Mark::Whole | Mark::Load(_) | Mark::Parcels => 0,
+            _ => 0,
         }
     }
 
@@ -68,6 +77,9 @@ impl Mark {
             Mark::Load(kind) => TreeLine::Load(kind),
             Mark::Parcels => TreeLine::Parcels,
             Mark::Dominated(_) => TreeLine::Dominated(numbers),
+            Mark::Next(number) => TreeLine::Next(number),
+            Mark::Turned(first, second) => TreeLine::Turned(first, second),
+            Mark::AtLine(line) => TreeLine::AtLine(line),
         }
     }
 }
@@ -98,7 +110,7 @@ fn line_at<'a>(marks: &[Mark], numbers: &'a [u8], begins: &[usize], place: usize
     mark.with(own)
 }
 
-/// The lines of a tree in preorder, in ten bytes a line and one a number.
+/// The lines of a tree in preorder, in sixteen bytes a line and one a number.
 #[derive(Debug, Drop)]
 pub struct KeptLines {
     marks: Vec<Mark>,
@@ -166,6 +178,9 @@ impl KeptLines {
             TreeLine::Dominated(numbers) => {
                 self.append(Mark::Dominated(numbers.len() as u8), numbers)
             }
+            TreeLine::Next(number) => self.append(Mark::Next(number), &[]),
+            TreeLine::Turned(first, second) => self.append(Mark::Turned(first, second), &[]),
+            TreeLine::AtLine(line) => self.append(Mark::AtLine(line), &[]),
         }
     }
 
@@ -210,7 +225,7 @@ impl KeptLines {
     }
 }
 
-/// The lines of a tree in preorder, in fourteen bytes a line and one a number.
+/// The lines of a tree in preorder, in twenty bytes a line and one a number.
 #[derive(Debug, Drop)]
 pub struct Tree {
     lines: KeptLines,
@@ -231,7 +246,7 @@ impl Model for Tree {
 }
 
 impl Tree {
-    ghost use Rattle.std.specs.Prelude.{◌≡◌, ◌++◌, [], ◌∷◌, length, OnOk, OnErr};
+    ghost use Rattle.std.specs.Prelude.{◌==◌, ◌≡◌, ◌++◌, [], ◌∷◌, length, OnOk, OnErr};
     ghost use Rattle.s66_tree.specs.Lines.{vertex_of, IsShort, has_dominated_line};
 
     /// No lines.
@@ -254,6 +269,13 @@ impl Tree {
         self.lines.push(line)?;
         self.room.push_reserved(0);
         Ok(())
+    }
+
+    /// Whether there is no line.
+    pub fn is_empty(&self) -> bool
+        ensures { result ≡ (length self.now == 0) }
+    {
+        self.lines.len() == 0
     }
 
     /// Whether a leaf is dominated, in time linear in the lines.
