@@ -16,3 +16,5 @@ pub mod WorkedLines
 pub mod MoreArcs
 pub mod Rings
 pub mod NextLeaves
+pub mod Spans
+pub mod KnownLines

@@ -36,7 +36,7 @@ same_stage-true Free Issue h = absurd (true≢false (sym h))
 same_stage-true Free Start h = absurd (true≢false (sym h))
 same_stage-true Free (Done y) h = absurd (true≢false (sym h))
 
-same_moment-true : (e f : Moment) → same_moment e f ≡ true → e ≡ f
+pub same_moment-true : (e f : Moment) → same_moment e f ≡ true → e ≡ f
 same_moment-true Origin Origin h = refl
 same_moment-true (At m e) (At n f) h =
     let (number, stage) = and_parts _ (same_stage e f) h in
@@ -55,7 +55,7 @@ same_stage-self Start = refl
 same_stage-self (Done x) = same_reg-self x
 same_stage-self Free = refl
 
-same_moment-self : (e : Moment) → same_moment e e ≡ true
+pub same_moment-self : (e : Moment) → same_moment e e ≡ true
 same_moment-self Origin = refl
 same_moment-self (At n e) = and_from (eqb n n) (same_stage e e) (eq-eqb n n refl) (same_stage-self e)
 same_moment-self End = refl
@@ -78,7 +78,7 @@ module _ (arcs : Network) (e : Moment) (w : ℕ) (f : Moment) where
       cond-true {A = Option ℕ} (same_moment e e && same_moment f f) (Some (max w (unwrap_or (arcs e f) 0))) (arcs e f) (and_from (same_moment e e) (same_moment f f) (same_moment-self e) (same_moment-self f))
 
   -- no arc is shorter than before
-  with-longer : (m n : Moment) (u : ℕ) → arcs m n ≡ Some u → (v : ℕ) × (with_arc arcs e w f m n ≡ Some v) × (u ≤ v)
+  pub with-longer : (m n : Moment) (u : ℕ) → arcs m n ≡ Some u → (v : ℕ) × (with_arc arcs e w f m n ≡ Some v) × (u ≤ v)
   with-longer m n u is =
       elim (with-cases m n) [
         | inl at ↦

@@ -28,7 +28,7 @@ module _ (b : Problem) (known : List Fact) (fact : Fact) where
   by-more m [] n by = (first-more m n by.0, by.1)
   by-more m (k ∷ ks) n by = (first-more m k by.0, by.1, by-more k ks n by.2)
 
-  precedes-more : (m n : ℕ) → Precedes b known m n → Precedes b (fact ∷ known) m n
+  pub precedes-more : (m n : ℕ) → Precedes b known m n → Precedes b (fact ∷ known) m n
   precedes-more m n (between, by) = (between, by-more m between n by)
 
   in_order-more : (e f : Moment) → IsInOrder b known e f → IsInOrder b (fact ∷ known) e f
@@ -50,11 +50,11 @@ module _ (b : Problem) (known : List Fact) (fact : Fact) where
 
 -- PATHS
 
-path-join : (Steps : Moment → ℕ → Moment → Type 0) (e f g : Moment) (first second : List Hop) → IsPath Steps e first f → IsPath Steps f second g → IsPath Steps e (first ++ second) g
+pub path-join : (Steps : Moment → ℕ → Moment → Type 0) (e f g : Moment) (first second : List Hop) → IsPath Steps e first f → IsPath Steps f second g → IsPath Steps e (first ++ second) g
 path-join Steps e f g [] second path then = subst (λ m. IsPath Steps m second g) (sym path) then
 path-join Steps e f g (hop ∷ hops) second path then = (path.0, path-join Steps hop.to f g hops second path.1 then)
 
-waits-join : (first second : List Hop) → waits (first ++ second) ≡ waits first + waits second
+pub waits-join : (first second : List Hop) → waits (first ++ second) ≡ waits first + waits second
 waits-join [] second = omega arith
 waits-join (hop ∷ hops) second = omega (arith, waits-join hops second)
 

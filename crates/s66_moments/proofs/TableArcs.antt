@@ -27,7 +27,7 @@ Some-same v w h = ap (λ (o : Option ℕ). unwrap_or o 0) h
 pub None-none : (w : ℕ) → ◌≡◌ {A = Option ℕ} None (Some w) → ⊥
 None-none w h = true≢false (sym (ap (λ (o : Option ℕ). is_some o) h))
 
-only_if-parts : (test : Bool) (v w : ℕ) → only_if test v ≡ Some w → (test ≡ true) × (v ≡ w)
+pub only_if-parts : (test : Bool) (v w : ℕ) → only_if test v ≡ Some w → (test ≡ true) × (v ≡ w)
 only_if-parts true v w h = (refl, Some-same v w h)
 only_if-parts false v w h = absurd (None-none w h)
 

@@ -72,7 +72,7 @@ done-among e n (w ∷ ws) all each h =
 abbrev pub IsOf : Problem → Moment → List ℕ → Type 0
 IsOf b e ns = (n : ℕ) × (stage : Stage) × (e ≡ At n stage) × Among n ns × (has_stage (row_at b n) stage ≡ true)
 
-own-among : (b : Problem) (e : Moment) (n : ℕ) (ns : List ℕ) → Among e (moments_of b n) → IsOf b e (n ∷ ns)
+pub own-among : (b : Problem) (e : Moment) (n : ℕ) (ns : List ℕ) → Among e (moments_of b n) → IsOf b e (n ∷ ns)
 own-among b e n ns h =
     elim h [
       | inl issue ↦ (n, Issue, issue, inl refl, refl)
@@ -87,7 +87,7 @@ own-among b e n ns h =
           ]
     ]
 
-split-among : {X : Type 0} (x : X) (xs ys : List X) → Among x (xs ++ ys) → Among x xs ⊎ Among x ys
+pub split-among : {X : Type 0} (x : X) (xs ys : List X) → Among x (xs ++ ys) → Among x xs ⊎ Among x ys
 split-among x [] ys h = inr h
 split-among x (y ∷ xs) ys h =
     elim h [
@@ -149,7 +149,7 @@ module _ (b : Problem) (arcs : Network) where
     abbrev rank : Moment → ℕ
     rank = rises.0
 
-    path-short : (e : Moment) (hops : List Hop) (f : Moment) → IsNetworkPath arcs e hops f → rank e + length hops ≤ max (rank e) (most_arcs b)
+    pub path-short : (e : Moment) (hops : List Hop) (f : Moment) → IsNetworkPath arcs e hops f → rank e + length hops ≤ max (rank e) (most_arcs b)
     path-short e [] f path = omega arith
     path-short e (hop ∷ hops) f path =
         let (among, up, high) = rises.1 e hop.to (arc-some (arcs e hop.to) hop.wait path.0).0 in

@@ -1,5 +1,5 @@
 -- Used by examples alone: worked blocks, their COMPASS lines above each, paths through their moments, and lines that show their bounds, under the standard profile.
-use Rattle.std.specs.Prelude.{ℕ, List, [], ◌∷◌, Option}
+use Rattle.std.specs.Prelude.{ℕ, Bool, List, [], ◌∷◌, Option}
 use Rattle.s66_isa.specs.declared.instr.Instr.{Instr}
 use Rattle.s66_isa.specs.declared.instr.Kind.TheVariants.{Boolean, Add, Multiply, Increment}
 use Rattle.s66_isa.specs.Table.{instr, x_reg}
@@ -14,6 +14,10 @@ use Rattle.s66_moments.specs.Paths.{Hop}
 use Rattle.s66_moments.specs.Networks.{Network, network, precedes}
 use Rattle.s66_moments.specs.FactLines.{Use, Line, LoadArc}
 use Rattle.s66_moments.specs.LineTrees.{LineEnding, AtLeaf}
+use Rattle.s66_moments.specs.declared.fact_line.FactLine.{FactLine}
+use Rattle.s66_moments.specs.declared.fact_line.FactLine.TheVariants as fact
+use Rattle.s66_moments.specs.Known.{Known, span, known_first, known_after, is_taken, next_value, is_turned}
+use Rattle.s66_moments.specs.Known.{arcs_of as known_arcs}
 
 -- ARCS
 
@@ -87,6 +91,29 @@ first_of_two = instr 0o11 2 4 3 ∷ instr 0o36 1 3 1 ∷ instr 0o40 2 1 4 ∷ []
 -- BX5 X2*X5 / FX2 X4+X4 / FX5 X1+X4: either sum has to leave the Add unit to the other
 abbrev pub two_sums : List Instr
 two_sums = instr 0o11 5 2 5 ∷ instr 0o30 2 4 4 ∷ instr 0o30 5 1 4 ∷ []
+
+-- FACT LINES, as a certificate has them
+
+abbrev pub load_fact : (from to : Moment) → (after wait : ℕ) → List ℕ → FactLine
+load_fact from to after wait numbers =
+    fact.Load (record { from = from; to = to; after = after; wait = wait; numbers = record { items = numbers } })
+
+-- what is known after these lines
+abbrev pub known_of : List Instr → List FactLine → Known
+known_of block lines = known_after (known_first (standard_problem block)) lines
+
+abbrev pub span_after : List Instr → List FactLine → Moment → Moment → Option ℕ
+span_after block lines = span (standard_problem block) (known_arcs (standard_problem block) (known_of block lines))
+
+-- whether it is taken after these lines, for this bound
+abbrev pub is_taken_after : List Instr → ℕ → List FactLine → FactLine → Bool
+is_taken_after block bound lines line = is_taken (standard_problem block) bound (known_of block lines) line
+
+abbrev pub next_after : List Instr → List FactLine → List ℕ → ℕ → ℕ
+next_after block lines prefix n = next_value (standard_problem block) (known_of block lines) prefix n
+
+abbrev pub is_turned_after : List Instr → List FactLine → List ℕ → ℕ → ℕ → Bool
+is_turned_after block lines prefix m n = is_turned (standard_problem block) (known_of block lines) prefix m n
 
 -- TREES
 

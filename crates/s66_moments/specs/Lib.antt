@@ -4,4 +4,5 @@ pub mod Paths
 pub mod FactLines
 pub mod LineTrees
 pub mod Networks
+pub mod Known
 pub mod Examples

@@ -48,7 +48,13 @@ ghost use Rattle.s66_moments.specs.Examples.{
   split_once,
   increments_load,
   increments_tree,
+  load_fact,
+  span_after,
+  is_taken_after,
+  next_after,
+  is_turned_after,
 };
+ghost use Rattle.s66_moments.specs.declared.fact_line.FactLine.TheVariants.{Pair};
 
 /// Which moments have an arc, and of how long.
 pub fn arc_examples()
@@ -136,4 +142,36 @@ pub fn line_tree_examples()
         (increments_tree increments_load (DominatedBy (1 ∷ 2 ∷ []))) }
     ensures dominated_standing { ShowsByLines ClampedStanding (standard_problem three_increments) 7 [] []
         (increments_tree (DominatedBy (2 ∷ 1 ∷ [])) increments_load) }
+{}
+
+/// The longest paths through a block by what is known, before any line and after some.
+pub fn span_examples()
+    ensures of_the_table { span_after two_adds [] (At 1 Start) End ≡ Some 10 }
+    ensures of_a_moment { span_after two_adds [] (At 1 Start) (At 1 Start) ≡ Some 0 }
+    ensures no_path_back { span_after two_adds [] (At 2 Issue) (At 1 Issue) ≡ None }
+    ensures no_path_between_two_that_may_change_places { span_after two_free_adds [] (At 1 Issue) (At 2 Issue) ≡ None }
+    ensures by_a_pair { span_after two_free_adds (Pair 2 1 ∷ []) (At 2 Issue) End ≡ Some 10 }
+    ensures by_a_load { span_after two_free_adds (load_fact Origin End 0 10 (1 ∷ 2 ∷ []) ∷ []) Origin End ≡ Some 10 }
+{}
+
+/// Which fact lines are taken, and which leaves are right by them.
+pub fn fact_line_examples()
+    ensures by_parcels { is_taken_after first_of_two 15 [] (Pair 1 2) ≡ true }
+    ensures not_for_another_bound { is_taken_after first_of_two 16 [] (Pair 1 2) ≡ false }
+    ensures by_the_unit { is_taken_after two_sums 11 [] (Pair 3 2) ≡ true }
+    ensures no_ring { is_taken_after two_sums 11 (Pair 3 2 ∷ []) (Pair 2 3) ≡ false }
+    ensures not_itself { is_taken_after two_sums 1 [] (Pair 2 2) ≡ false }
+    ensures no_number { is_taken_after two_sums 1 [] (Pair 4 2) ≡ false }
+    ensures load { is_taken_after two_free_adds 0 [] (load_fact Origin End 0 10 (1 ∷ 2 ∷ [])) ≡ true }
+    ensures too_long_a_wait { is_taken_after two_free_adds 0 [] (load_fact Origin End 0 11 (1 ∷ 2 ∷ [])) ≡ false }
+    ensures not_so_late { is_taken_after two_free_adds 0 [] (load_fact Origin End 1 10 (1 ∷ 2 ∷ [])) ≡ false }
+    ensures load_of_nothing { is_taken_after two_free_adds 0 [] (load_fact Origin End 0 0 []) ≡ false }
+    ensures number_twice { is_taken_after two_free_adds 0 [] (load_fact Origin End 0 15 (1 ∷ 2 ∷ 2 ∷ [])) ≡ false }
+    ensures of_two_kinds { is_taken_after two_sums 0 [] (load_fact Origin End 0 8 (1 ∷ 2 ∷ [])) ≡ false }
+    ensures load_back { is_taken_after two_adds 0 [] (load_fact (At 2 Issue) (At 1 Issue) 0 0 (1 ∷ [])) ≡ false }
+    ensures next { next_after two_sums (Pair 3 2 ∷ []) [] 1 ≡ 13 }
+    ensures next_without_the_line { next_after two_sums [] [] 1 ≡ 8 }
+    ensures turned { is_turned_after first_of_two (Pair 1 2 ∷ []) (2 ∷ []) 1 2 ≡ true }
+    ensures turned_without_the_line { is_turned_after first_of_two [] (2 ∷ []) 1 2 ≡ false }
+    ensures not_turned { is_turned_after first_of_two (Pair 1 2 ∷ []) (1 ∷ []) 1 2 ≡ false }
 {}

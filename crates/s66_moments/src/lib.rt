@@ -2,14 +2,21 @@
 #![tactic(auto, unfolding(s66_isa::specs::Table::row, s66_model::specs::Timing::issue_of, s66_model::specs::Timing::start_of, s66_model::specs::Timing::point, s66_model::specs::Dependence::conflict))]
 
 mod examples;
+mod fact_line;
 mod facts;
+mod known;
 mod lines;
 mod moment;
 mod networks;
 mod paths;
 
-pub use examples::{arc_examples, line_examples, line_tree_examples, path_examples};
+pub use examples::{
+    arc_examples, fact_line_examples, line_examples, line_tree_examples, path_examples,
+    span_examples,
+};
+pub use fact_line::{FactLine, KnownArc, LoadLine};
 pub use facts::{fact_law, load_arc_law, pair_law, prefix_law};
+pub use known::{fact_lines_law, span_law};
 pub use lines::{line_law, line_tree_law, next_leaf_law};
 pub use moment::{Moment, Stage};
 pub use networks::{

@@ -1,0 +1,43 @@
+use crate::moment::Moment;
+use arrayvec::ArrayVec;
+use s66_isa::BLOCK_LIMIT;
+
+/// A line of a certificate that gives a fact of all legal orders that take less than its bound.
+#[derive(Debug, Drop)]
+pub enum FactLine {
+    /// The first number stands before the second.
+    Pair(u8, u8),
+    /// One moment comes later than another by what units do between.
+    Load(LoadLine),
+}
+
+/// Instructions of one kind of unit begin their use of it at least `after` minor cycles after a moment, and have to be over before
+/// another. So this one comes later, by `wait` minor cycles at least.
+#[derive(Debug, Drop)]
+pub struct LoadLine {
+    pub from: Moment,
+    pub to: Moment,
+    pub after: u32,
+    pub wait: u32,
+    /// The instructions, by their numbers.
+    pub numbers: ArrayVec<u8, BLOCK_LIMIT>,
+}
+
+/// How much later one moment comes at least than another, in minor cycles.
+#[derive(Clone, Copy, Debug)]
+pub struct KnownArc {
+    pub from: Moment,
+    pub wait: u32,
+    pub to: Moment,
+}
+
+impl Default for KnownArc {
+    /// A blank: the end comes after the origin.
+    fn default() -> KnownArc {
+        KnownArc {
+            from: Moment::Origin,
+            wait: 0,
+            to: Moment::End,
+        }
+    }
+}
